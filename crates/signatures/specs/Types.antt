@@ -1,0 +1,17 @@
+-- Types and signatures (docs/language.md, "Signatures").
+use Rattle.std.specs.Prelude.{◌≡◌, ℕ, false, List, ◌++◌, codes}
+use Rattle.signatures.specs.declared.qtype.QType.{QType}
+use Rattle.signatures.specs.declared.sig.Sig.{Sig}
+
+-- the type `int`
+abbrev pub int_type : QType
+int_type = record { name = codes "int"; constant = false; pointer = false }
+
+-- the front is a prefix of the list
+abbrev pub BeginsWith : List QType → List QType → Type 0
+BeginsWith types front = (rest : List QType) × (types ≡ front ++ rest)
+
+-- A slot fits a signal whose types begin with the slot's (Qt 6, "Signals & Slots": a slot may have a shorter
+-- signature than the signal that it receives).
+abbrev pub Fits : Sig → Sig → Type 0
+Fits signal slot = BeginsWith signal.types slot.types

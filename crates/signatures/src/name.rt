@@ -1,0 +1,101 @@
+ghost use Rattle.std.specs.Prelude.{◌≡◌, ◌↔◌, IsTrue, IfOk, MatchOption};
+ghost use Rattle.signatures.specs.Name.{IsName, is_letter, is_digit, is_name_byte};
+
+use std::alloc::{AllocError, Global};
+use std::marker::Model;
+use std::rc::RcSlice;
+
+/// A name: a letter or `_`, then letters, digits and `_`, in ASCII. Copies share its bytes.
+#[derive(Drop)]
+pub struct Name {
+    bytes: RcSlice<u8>,
+}
+
+impl Model for Name {
+    ghost use Rattle.std.specs.Prelude.{List, ℕ};
+    ghost use Rattle.std.specs.Rc.{rc_slice_items};
+    ghost use Rattle.signatures.specs.Name.{IsName};
+
+    ghost Value = { List ℕ };
+
+    ghost view = { λ name. rc_slice_items name.bytes };
+
+    ghost invariant = { λ name. IsName (rc_slice_items name.bytes) };
+}
+
+impl Name {
+    /// The name with these bytes.
+    pub fn new(alloc: Global, bytes: &[u8]) -> Result<Name, AllocError>
+        requires { IsName bytes.now }
+        ensures { IfOk result (λ name. name ≡ bytes.now) }
+    {
+        let bytes = RcSlice::from_slice(alloc, bytes)?;
+        Ok(Name { bytes })
+    }
+
+    /// The name with these bytes, or `None` where they aren't one.
+    pub fn of(alloc: Global, bytes: &[u8]) -> Result<Option<Name>, AllocError>
+        ensures { IfOk result (λ found. MatchOption found (¬ IsName bytes.now) (λ name. (name ≡ bytes.now) × IsName bytes.now)) }
+    {
+        if is_name(bytes) {
+            let name = Name::new(alloc, bytes)?;
+            Ok(Some(name))
+        } else {
+            Ok(None)
+        }
+    }
+
+    /// The name's bytes.
+    pub fn bytes(&self) -> &[u8]
+        ensures value { result.now ≡ self.now }
+        ensures name { IsName self.now }
+    {
+        self.bytes.as_slice()
+    }
+
+    /// The same name, which shares the bytes.
+    pub fn copy(&self) -> Result<Name, AllocError>
+        ensures { IfOk result (λ copy. copy ≡ self.now) }
+    {
+        let bytes = self.bytes.clone()?;
+        Ok(Name { bytes })
+    }
+
+    /// Whether both names have the same bytes.
+    pub fn is_same(&self, other: &Name) -> bool
+        ensures { IsTrue result ↔ (self.now ≡ other.now) }
+    {
+        self.bytes() == other.bytes()
+    }
+}
+
+/// Whether the bytes are a name.
+pub fn is_name(bytes: &[u8]) -> bool
+    ensures { IsTrue result ↔ IsName bytes.now }
+{
+    match bytes.split_first() {
+        Some((first, rest)) => is_letter(*first) && rest.iter().all(|b| is_name_byte(*b)),
+        None => false,
+    }
+}
+
+/// Whether a name may go on with the byte.
+pub fn is_name_byte(byte: u8) -> bool
+    ensures { result ≡ is_name_byte byte }
+{
+    is_letter(byte) || is_digit(byte)
+}
+
+/// `A` to `Z`, `a` to `z` and `_`.
+pub fn is_letter(byte: u8) -> bool
+    ensures { result ≡ is_letter byte }
+{
+    (65 <= byte && byte <= 90) || (97 <= byte && byte <= 122) || byte == 95
+}
+
+/// `0` to `9`.
+pub fn is_digit(byte: u8) -> bool
+    ensures { result ≡ is_digit byte }
+{
+    48 <= byte && byte <= 57
+}

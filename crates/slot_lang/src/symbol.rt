@@ -1,0 +1,28 @@
+/// A token that is neither a word nor a literal.
+#[derive(Clone, Copy, Debug, PartialEq, Eq)]
+pub enum Symbol {
+    OpenBrace,
+    CloseBrace,
+    Open,
+    Close,
+    Semicolon,
+    Comma,
+    Dot,
+    Colon,
+    Assign,
+    Equal,
+    Unequal,
+    Less,
+    AtMost,
+    Greater,
+    AtLeast,
+    Plus,
+    Minus,
+    Star,
+    Not,
+    And,
+    Or,
+    Arrow,
+    Ampersand,
+    Tilde,
+}
