@@ -1,13 +1,10 @@
-// A library with one function.
+//! Class declarations: from a text to a program.
 #![tactic(auto)]
 
-ghost use Rattle.std.specs.Prelude.{◌≡◌};
-ghost use Rattle.class_lang.specs.Echo.{echo_of};
+mod fault;
+mod program;
+mod reader;
 
-// The `ensures` clause is the contract: what `echo` returns is `echo_of` of its argument, a definition
-// in `specs/Echo.antt`, which a caller's clause can cite too.
-pub fn echo(x: usize) -> usize
-    ensures { result ≡ echo_of x }
-{
-    x
-}
+pub use fault::TextFault;
+pub use program::{Class, Parameter, Program, Property, Signal, Slot, Wire};
+pub use reader::read_program;

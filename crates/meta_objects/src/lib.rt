@@ -1,13 +1,10 @@
-// A library with one function.
+//! Meta-objects: a program whose names are resolved to numbers.
 #![tactic(auto)]
 
-ghost use Rattle.std.specs.Prelude.{◌≡◌};
-ghost use Rattle.meta_objects.specs.Echo.{echo_of};
+mod fault;
+mod meta;
+mod object;
 
-// The `ensures` clause is the contract: what `echo` returns is `echo_of` of its argument, a definition
-// in `specs/Echo.antt`, which a caller's clause can cite too.
-pub fn echo(x: usize) -> usize
-    ensures { result ≡ echo_of x }
-{
-    x
-}
+pub use fault::MetaFault;
+pub use meta::{Meta, Wired};
+pub use object::{MetaMethod, MetaObject, MetaProperty, MetaWire, Operand, Statement, Work};

@@ -1,13 +1,15 @@
-// A library with one function.
+//! The object machine: objects, connections and emissions.
 #![tactic(auto)]
 
-ghost use Rattle.std.specs.Prelude.{◌≡◌};
-ghost use Rattle.qt_runtime.specs.Echo.{echo_of};
+mod entry;
+mod fault;
+mod machine;
+mod natives;
+mod world;
 
-// The `ensures` clause is the contract: what `echo` returns is `echo_of` of its argument, a definition
-// in `specs/Echo.antt`, which a caller's clause can cite too.
-pub fn echo(x: usize) -> usize
-    ensures { result ≡ echo_of x }
-{
-    x
-}
+pub use entry::{Entry, Trace};
+pub use fault::{Answer, Fault};
+pub use machine::Machine;
+pub use meta_objects::{Meta, MetaFault};
+pub use natives::Natives;
+pub use script_lang::{Event, ScriptFault, read_script};

@@ -1,13 +1,10 @@
-// A library with one function.
+//! Scripts: one event a line.
 #![tactic(auto)]
 
-ghost use Rattle.std.specs.Prelude.{◌≡◌};
-ghost use Rattle.script_lang.specs.Echo.{echo_of};
+mod event;
+mod fault;
+mod reader;
 
-// The `ensures` clause is the contract: what `echo` returns is `echo_of` of its argument, a definition
-// in `specs/Echo.antt`, which a caller's clause can cite too.
-pub fn echo(x: usize) -> usize
-    ensures { result ≡ echo_of x }
-{
-    x
-}
+pub use event::{Connect, Event, Input};
+pub use fault::ScriptFault;
+pub use reader::read_script;

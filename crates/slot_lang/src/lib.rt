@@ -1,11 +1,11 @@
 //! Tokens, and the language of slot bodies.
 #![tactic(auto)]
 
+mod body;
 mod class;
 mod cursor;
 mod fault;
 mod lexer;
-mod nesting;
 mod symbol;
 mod syntax;
 mod token;
@@ -14,7 +14,6 @@ mod word;
 pub use cursor::Cursor;
 pub use fault::ParseFault;
 pub use lexer::{LexFault, tokens};
-pub use nesting::nesting;
 pub use symbol::Symbol;
 pub use syntax::{Body, Expr, Stmt};
 pub use token::Token;

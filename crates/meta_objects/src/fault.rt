@@ -1,0 +1,48 @@
+ghost use Rattle.std.specs.Prelude.{◌≡◌};
+ghost use Rattle.meta_objects.specs.Builds.{number_of};
+
+use std::alloc::AllocError;
+use thiserror::Error;
+
+/// Why a program doesn't load.
+#[derive(Debug, Drop, Error)]
+pub enum MetaFault {
+    /// A class's name stands twice, or is one that no class may have.
+    #[error("a class name stands twice, or no class may have it")]
+    DuplicateClass,
+    /// Two methods of one name and number of parameters or two properties of one name in a class, or two parameters of
+    /// one name in a method.
+    #[error("a member or a parameter stands twice")]
+    DuplicateMember,
+    /// A class, a member or a parameter that is used isn't there.
+    #[error("a name that is used isn't there")]
+    NoMember,
+    /// A growth of memory was refused.
+    #[error("out of memory")]
+    Memory,
+}
+
+impl From<AllocError> for MetaFault {
+    ghost use Rattle.std.specs.Prelude.{◌≡◌};
+    ghost use Rattle.meta_objects.specs.declared.fault.MetaFault.TheVariants.{Memory};
+
+    ghost from_gives = { λ _ fault. fault ≡ Memory };
+
+    fn from(_: AllocError) -> MetaFault {
+        MetaFault::Memory
+    }
+}
+
+impl MetaFault {
+    /// The refusal's number; want of memory has none.
+    pub fn number(&self) -> Option<u8>
+        ensures { result ≡ number_of self.now }
+    {
+        match self {
+            MetaFault::DuplicateClass => Some(10),
+            MetaFault::DuplicateMember => Some(12),
+            MetaFault::NoMember => Some(13),
+            MetaFault::Memory => None,
+        }
+    }
+}

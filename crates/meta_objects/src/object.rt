@@ -1,0 +1,58 @@
+use signatures::{Kind, Name, Sig};
+use sqlite_items::Items;
+
+/// An expression whose names are resolved.
+#[derive(Drop)]
+pub enum Operand {
+    Number(i32),
+    /// A parameter, by its place from 0.
+    Parameter(usize),
+}
+
+/// A statement whose names are resolved.
+#[derive(Drop)]
+pub enum Statement {
+    /// `set this.p = e;`: the property's number in its class, and the new value.
+    Set(usize, Operand),
+}
+
+/// What a method does.
+#[derive(Drop)]
+pub enum Work {
+    /// A signal is emitted.
+    Signal,
+    /// A slot has a body.
+    Slot(Items<Statement>),
+}
+
+/// A method of a class.
+#[derive(Drop)]
+pub struct MetaMethod {
+    pub sig: Sig,
+    pub work: Work,
+}
+
+/// A property of a class, of type `int`.
+#[derive(Drop)]
+pub struct MetaProperty {
+    pub name: Name,
+}
+
+/// A class. A method's or a property's number is its place here, from 0: the signals come first, then the slots, each
+/// as declared.
+#[derive(Drop)]
+pub struct MetaObject {
+    pub name: Name,
+    pub methods: Items<MetaMethod>,
+    pub properties: Items<MetaProperty>,
+}
+
+/// A wire, by the numbers of its classes and of their methods.
+#[derive(Drop)]
+pub struct MetaWire {
+    pub sender: usize,
+    pub signal: usize,
+    pub receiver: usize,
+    pub method: usize,
+    pub kind: Kind,
+}

@@ -1,0 +1,62 @@
+ghost use Rattle.std.specs.Prelude.{◌≡◌, [], ◌∷◌, ◌++◌, OnOk, OnErr};
+
+use signatures::{Arguments, Name, Value};
+use std::alloc::{AllocError, Global};
+use std::marker::Model;
+
+/// An entry of the trace; a depth is the length of the stack of activations, after what was pushed.
+#[derive(Drop)]
+pub enum Entry {
+    /// The event of this number, counted from 1, was accepted.
+    Accepted(u64),
+    /// The event of this number was refused for the reason of this number.
+    Refused(u64, u8),
+    /// At a depth, a signal of an object is emitted with these arguments.
+    Emitted(usize, Name, Name, Arguments),
+    /// At a depth, a slot of an object is called with these arguments.
+    Called(usize, Name, Name, Arguments),
+    /// At a depth, a property of an object is written.
+    Written(usize, Name, Name, Value),
+}
+
+/// The entries of a run, in their order.
+#[derive(Drop)]
+pub struct Trace {
+    entries: Vec<Entry>,
+}
+
+impl Model for Trace {
+    ghost use Rattle.std.specs.Prelude.{List};
+    ghost use Rattle.qt_runtime.specs.declared.entry.Entry.{Entry};
+
+    ghost Value = { List Entry };
+
+    ghost view = { λ trace. trace.entries.items };
+}
+
+impl Trace {
+    /// A trace with no entry.
+    pub fn new(alloc: Global) -> Trace
+        ensures { result ≡ [] }
+    {
+        Trace {
+            entries: Vec::new(alloc),
+        }
+    }
+
+    /// The entries.
+    pub fn as_slice(&self) -> &[Entry]
+        ensures { result.now ≡ self.now }
+    {
+        self.entries.as_slice()
+    }
+
+    /// Adds an entry; without memory the trace stays as it was.
+    pub fn push(&mut self, entry: Entry) -> Result<(), AllocError>
+        ensures ok { OnOk result (self.new ≡ self.old ++ entry ∷ []) }
+        ensures err { OnErr result (self.new ≡ self.old) }
+    {
+        self.entries.push(entry)?;
+        Ok(())
+    }
+}

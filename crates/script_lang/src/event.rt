@@ -1,0 +1,30 @@
+use signatures::{Kind, Name, Sig, Value};
+use sqlite_items::Items;
+
+/// A value as a script writes it.
+#[derive(Drop)]
+pub enum Input {
+    /// A literal.
+    Literal(Value),
+}
+
+/// `connect A S B M kind`: the sender, its signal, the receiver, its method.
+#[derive(Drop)]
+pub struct Connect {
+    pub sender: Name,
+    pub signal: Sig,
+    pub receiver: Name,
+    pub method: Sig,
+    pub kind: Kind,
+}
+
+/// An event of a script; objects and classes are named.
+#[derive(Drop)]
+pub enum Event {
+    /// `new O C`: the object's name, and its class's.
+    New(Name, Name),
+    /// `connect A S B M kind`
+    Connect(Connect),
+    /// `emit O.M(V,..)`: the object, the signal's name, the arguments.
+    Emit(Name, Name, Items<Input>),
+}
