@@ -48,10 +48,16 @@ tree_of_expression (parameter name) = expr.Parameter name
 pub data Statement : Type 0 where
   set : (property : List ℕ) → Expression → Statement
 
+-- `this . Name`
+abbrev pub spell_target : List ℕ → List Token → List Token
+spell_target property after = token.Word word.This ∷ token.Symbol Dot ∷ token.Name property ∷ after
+
+-- `= expr ;`
+abbrev pub spell_value : Expression → List Token → List Token
+spell_value e after = token.Symbol Assign ∷ spell_expression e (token.Symbol Semicolon ∷ after)
+
 abbrev pub spell_statement : Statement → List Token → List Token
-spell_statement (set property e) after =
-    token.Word word.Set ∷ token.Word word.This ∷ token.Symbol Dot ∷ token.Name property ∷ token.Symbol Assign
-      ∷ spell_expression e (token.Symbol Semicolon ∷ after)
+spell_statement (set property e) after = token.Word word.Set ∷ spell_target property (spell_value e after)
 
 abbrev pub tree_of_statement : Statement → Stmt
 tree_of_statement (set property e) = stmt.Set property (tree_of_expression e)

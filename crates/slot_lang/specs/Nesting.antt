@@ -1,6 +1,5 @@
 -- Texts that nest too deep (docs/language.md, "Nesting").
-use Rattle.std.specs.Prelude.{ℕ, ◌≡◌, ◌≢◌, ◌+◌, ◌-◌, ◌<◌, List, [], ◌∷◌, ◌++◌, length, All, ◌⊎◌}
-use Rattle.slot_lang.specs.declared.symbol.Symbol.{Symbol}
+use Rattle.std.specs.Prelude.{ℕ, ◌≡◌, ◌+◌, ◌-◌, ◌<◌, List, [], ◌∷◌, ◌++◌, length, All, ◌⊎◌}
 use Rattle.slot_lang.specs.declared.symbol.Symbol.TheVariants as s
 use Rattle.slot_lang.specs.declared.token.Token.{Token}
 use Rattle.slot_lang.specs.declared.token.Token.TheVariants as token

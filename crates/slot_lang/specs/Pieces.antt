@@ -1,6 +1,6 @@
 -- The pieces that a text is cut into: blanks, comments and tokens, each the longest at its place
 -- (docs/language.md, "Tokens").
-use Rattle.std.specs.Prelude.{ℕ, ◌≡◌, true, List, [], ◌∷◌, ◌++◌, Option, Some, None}
+use Rattle.std.specs.Prelude.{ℕ, ◌≡◌, true, List, [], ◌∷◌, Option, Some, None}
 use Rattle.slot_lang.specs.declared.class.Run.TheVariants as run
 use Rattle.slot_lang.specs.declared.symbol.Symbol.{Symbol}
 use Rattle.slot_lang.specs.declared.token.Token.{Token}

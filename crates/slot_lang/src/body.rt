@@ -1,20 +1,102 @@
 //! Slot bodies and expressions.
 
-ghost use Rattle.std.specs.Prelude.{◌≡◌, ◌<◌, List, length, IfOk, OnOk, Err};
-ghost use Rattle.slot_lang.specs.Grammar.{IsBody, IsExpr, Numeral, spell_numeral, value_of, spell_expression, tree_of_expression, spell_statement, tree_of_statement, spell_block, tree_of_block};
+ghost use Rattle.std.specs.Prelude.{◌≡◌, ◌<◌, ◌≤◌, List, length, IfOk, OnOk, Err, MatchResult};
+ghost use Rattle.slot_lang.specs.Grammar.{IsBody, IsExpr, Numeral, most_in_expressions, spell_numeral, value_of, spell_expression, tree_of_expression, spell_target, spell_value, spell_statement, tree_of_statement, spell_block, tree_of_block};
 ghost use Rattle.slot_lang.specs.Reading.{Reads, EndsAnywhere};
+ghost use Rattle.slot_lang.specs.declared.fault.ParseFault.TheVariants.{Syntax};
 
 use crate::cursor::Cursor;
 use crate::fault::ParseFault;
+use crate::symbol::Symbol;
 use crate::syntax::{Body, Expr, Stmt};
+use crate::token::Token;
+use crate::word::Word;
+use signatures::Name;
+use sqlite_items::Items;
+
+/// The largest number in an expression.
+const MOST_IN_EXPRESSIONS: u32 = 2147483647;
+
+/// The number that the digits write, if it is at most so much.
+fn value_of(digits: &[u8], most: u32) -> Result<u32, ParseFault>
+    ensures { MatchResult result (λ n. (n ≡ value_of digits.now) × (n ≤ most)) (λ _. most < value_of digits.now) }
+{
+    let mut value = 0u32;
+    for digit in digits {
+        let next = u64::from(value) * 10 + u64::from(digit.saturating_sub(48));
+        if next > u64::from(most) {
+            return Err(ParseFault::Syntax);
+        }
+        value = next as u32;
+    }
+    Ok(value)
+}
 
 impl<'a> Cursor<'a> {
     /// Takes the number that has to come next, and is at most so much.
     pub fn number(&mut self, most: u32) -> Result<u32, ParseFault>
         ensures reads { Reads (spell_numeral most) (λ n. value_of n.digits) EndsAnywhere self.old result self.new }
+        ensures fits { IfOk result (λ n. n ≤ most) }
         ensures shorter { OnOk result (length self.new < length self.old) }
     {
-        Err(ParseFault::Memory)
+        match self.next()? {
+            Token::Number(digits) => {
+                let value = value_of(digits.as_slice(), most)?;
+                Ok(value)
+            }
+            _ => Err(ParseFault::Syntax),
+        }
+    }
+
+    /// `number | Name`
+    fn expression(&mut self) -> Result<Expr, ParseFault>
+        ensures reads { Reads spell_expression tree_of_expression EndsAnywhere self.old result self.new }
+        ensures shorter { OnOk result (length self.new < length self.old) }
+    {
+        match self.next()? {
+            Token::Number(digits) => {
+                let value = value_of(digits.as_slice(), MOST_IN_EXPRESSIONS)?;
+                Ok(Expr::Number(value as i32))
+            }
+            Token::Name(name) => {
+                let name = name.copy()?;
+                Ok(Expr::Parameter(name))
+            }
+            _ => Err(ParseFault::Syntax),
+        }
+    }
+
+    /// `this "." Name`
+    fn target(&mut self) -> Result<Name, ParseFault>
+        ensures reads { Reads spell_target (λ name. name) EndsAnywhere self.old result self.new }
+        ensures shorter { OnOk result (length self.new < length self.old) }
+    {
+        self.expect_word(Word::This)?;
+        self.expect(Symbol::Dot)?;
+        let name = self.name()?;
+        Ok(name)
+    }
+
+    /// `"=" expr ";"`
+    fn value(&mut self) -> Result<Expr, ParseFault>
+        ensures reads { Reads spell_value tree_of_expression EndsAnywhere self.old result self.new }
+        ensures shorter { OnOk result (length self.new < length self.old) }
+    {
+        self.expect(Symbol::Assign)?;
+        let value = self.expression()?;
+        self.expect(Symbol::Semicolon)?;
+        Ok(value)
+    }
+
+    /// `"set" this "." Name "=" expr ";"`
+    fn statement(&mut self) -> Result<Stmt, ParseFault>
+        ensures reads { Reads spell_statement tree_of_statement EndsAnywhere self.old result self.new }
+        ensures shorter { OnOk result (length self.new < length self.old) }
+    {
+        self.expect_word(Word::Set)?;
+        let property = self.target()?;
+        let value = self.value()?;
+        Ok(Stmt::Set(property, value))
     }
 
     /// Takes the block that has to come next.
@@ -22,6 +104,12 @@ impl<'a> Cursor<'a> {
         ensures reads { Reads spell_block tree_of_block EndsAnywhere self.old result self.new }
         ensures shorter { OnOk result (length self.new < length self.old) }
     {
-        Err(ParseFault::Memory)
+        self.expect(Symbol::OpenBrace)?;
+        let mut found = Items::new(self.alloc());
+        while !self.eat(Symbol::CloseBrace) {
+            let statement = self.statement()?;
+            found.push(statement)?;
+        }
+        Ok(found)
     }
 }
