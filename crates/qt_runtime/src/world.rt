@@ -1,10 +1,6 @@
 //! All of the machine's state but the stack, as plain lists.
 
-ghost use Rattle.std.specs.Prelude.{◌≡◌, List, [], ◌∷◌, ◌++◌, length, OnOk, OnErr};
-
 use signatures::{Arguments, Name};
-use std::alloc::Global;
-use std::marker::Model;
 
 /// An object of a run.
 #[derive(Drop)]
