@@ -1,3 +1,9 @@
 pub mod Unique
 pub mod Numbers
 pub mod Bodies
+pub mod Words
+pub mod Runs
+pub mod Table
+pub mod Fronts
+pub mod Only
+pub mod Cut

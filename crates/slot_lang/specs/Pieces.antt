@@ -1,6 +1,6 @@
 -- The pieces that a text is cut into: blanks, comments and tokens, each the longest at its place
 -- (docs/language.md, "Tokens").
-use Rattle.std.specs.Prelude.{ℕ, ◌≡◌, true, List, [], ◌∷◌, Option, Some, None}
+use Rattle.std.specs.Prelude.{ℕ, ◌≡◌, true, List, [], ◌∷◌, Option, Some, None, ◌⊎◌}
 use Rattle.slot_lang.specs.declared.class.Run.TheVariants as run
 use Rattle.slot_lang.specs.declared.symbol.Symbol.{Symbol}
 use Rattle.slot_lang.specs.declared.token.Token.{Token}
@@ -65,6 +65,10 @@ before (Some t) tokens = t ∷ tokens
 abbrev pub tokens_of : List Piece → List Token
 tokens_of [] = []
 tokens_of (piece ∷ pieces) = before (token_of piece) (tokens_of pieces)
+
+-- the token is the reserved word with these letters, or the name where there is none
+abbrev pub AreLettersOf : Token → List ℕ → Type 0
+AreLettersOf t letters = ((word : Word) × (t ≡ token.Word word) × (letters ≡ word_spelling word)) ⊎ ((t ≡ token.Name letters) × IsFree letters)
 
 -- the bytes are cut into these tokens
 pub record AreTokens (bytes : List ℕ) (tokens : List Token) : Type 0 where

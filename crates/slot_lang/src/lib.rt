@@ -13,7 +13,7 @@ mod word;
 
 pub use cursor::Cursor;
 pub use fault::ParseFault;
-pub use lexer::{LexFault, tokens};
+pub use lexer::{LexFault, one_cut, tokens};
 pub use symbol::Symbol;
 pub use syntax::{Body, Expr, Stmt};
 pub use token::Token;
