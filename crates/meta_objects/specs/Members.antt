@@ -1,9 +1,8 @@
 -- Classes and their members, by name, signature and number (Qt 6, "The Meta-Object System"; docs/machine.md,
 -- "Meta-objects").
-use Rattle.std.specs.Prelude.{◌≡◌, ℕ, List, [], ◌∷◌, length, Option, Some, slice_get, ◌⊎◌}
+use Rattle.std.specs.Prelude.{◌≡◌, ℕ, List, [], ◌∷◌, length, Some, slice_get, ◌⊎◌}
 use Rattle.signatures.specs.declared.sig.Sig.{Sig}
 use Rattle.signatures.specs.declared.kind.Kind.{Kind}
-use Rattle.signatures.specs.Types.{Fits}
 use Rattle.meta_objects.specs.declared.object.MetaObject.{MetaObject}
 use Rattle.meta_objects.specs.declared.object.MetaMethod.{MetaMethod}
 use Rattle.meta_objects.specs.declared.object.MetaProperty.{MetaProperty}
@@ -51,12 +50,16 @@ abbrev pub IsIn : {X : Type 0} → X → List X → Type 0
 IsIn x [] = ⊥
 IsIn x (y ∷ ys) = (x ≡ y) ⊎ IsIn x ys
 
--- a wire covers a connection between objects of these two classes, with these signatures and this kind
-pub record Covers (p : Loaded) (c : ℕ) (signal : Sig) (d : ℕ) (method : Sig) (kind : Kind) : Type 0 where
-  pub wire : MetaWire
-  pub declared : IsIn wire p.wires
+-- the wire covers a connection between objects of these two classes, with these signatures and this kind
+pub record CoversBy (p : Loaded) (c : ℕ) (signal : Sig) (d : ℕ) (method : Sig) (kind : Kind) (wire : MetaWire) : Type 0 where
   pub sender : wire.sender ≡ c
   pub receiver : wire.receiver ≡ d
   pub from : HasSig p c signal wire.signal
   pub to : HasSig p d method wire.method
   pub same_kind : wire.kind ≡ kind
+
+-- a wire of the program covers the connection
+pub record Covers (p : Loaded) (c : ℕ) (signal : Sig) (d : ℕ) (method : Sig) (kind : Kind) : Type 0 where
+  pub wire : MetaWire
+  pub declared : IsIn wire p.wires
+  pub by : CoversBy p c signal d method kind wire

@@ -4,6 +4,7 @@
 mod fault;
 mod meta;
 mod object;
+mod places;
 
 pub use fault::MetaFault;
 pub use meta::{Meta, Wired};

@@ -1,11 +1,14 @@
-ghost use Rattle.std.specs.Prelude.{◌≡◌, ℕ, MatchOption};
+ghost use Rattle.std.specs.Prelude.{◌≡◌, ℕ, IsTrue, ◌↔◌, MatchOption, option_copied, slice_get};
 ghost use Rattle.meta_objects.specs.Builds.{Builds};
-ghost use Rattle.meta_objects.specs.Members.{IsClassNamed};
+ghost use Rattle.meta_objects.specs.Members.{IsClassNamed, IsMethod, HasSig, IsMethodNamed, IsPropertyNamed, CoversBy, Covers};
+ghost use Rattle.meta_objects.specs.Wiring.{IsWired};
+ghost use Rattle.meta_objects.specs.declared.object.MetaMethod.{MetaMethod};
 
 use crate::fault::MetaFault;
-use crate::object::{MetaObject, MetaWire};
+use crate::object::{MetaMethod, MetaObject, MetaWire};
+use crate::places::{place_of_class, place_of_method, place_of_property, place_of_sig};
 use class_lang::Program;
-use signatures::{Name, Sig};
+use signatures::{Kind, Name, Sig, fits};
 use sqlite_items::Items;
 use std::alloc::Global;
 use std::marker::Model;
@@ -53,5 +56,109 @@ impl Meta {
         ensures { result.now ≡ self.now.wires }
     {
         self.wires.as_slice()
+    }
+
+    /// The number of the class of this name.
+    pub fn class(&self, name: &Name) -> Option<usize>
+        ensures { MatchOption result ((c : ℕ) → ¬ IsClassNamed self.now name.now c) (λ c. IsClassNamed self.now name.now c) }
+    {
+        place_of_class(self.classes(), name)
+    }
+
+    /// The class of this number.
+    pub fn object(&self, class: usize) -> Option<&MetaObject>
+        ensures { option_copied result ≡ slice_get self.now.classes class }
+    {
+        self.classes.get(class)
+    }
+
+    /// The method of this number, of the class of this number.
+    pub fn method_at(&self, class: usize, method: usize) -> Option<&MetaMethod>
+        ensures { MatchOption result ((m : MetaMethod) → ¬ IsMethod self.now class method m) (λ m. IsMethod self.now class method m.now) }
+    {
+        self.object(class)?.methods.get(method)
+    }
+
+    /// The number of the method of this signature, in the class of this number.
+    pub fn method(&self, class: usize, sig: &Sig) -> Option<usize>
+        ensures { MatchOption result ((m : ℕ) → ¬ HasSig self.now class sig.now m) (λ m. HasSig self.now class sig.now m) }
+    {
+        place_of_sig(self.object(class)?.methods.as_slice(), sig)
+    }
+
+    /// The number of the method of this name with so many parameters, in the class of this number.
+    pub fn by_name(&self, class: usize, name: &Name, count: usize) -> Option<usize>
+        ensures { MatchOption result ((m : ℕ) → ¬ IsMethodNamed self.now class name.now count m) (λ m. IsMethodNamed self.now class name.now count m) }
+    {
+        place_of_method(self.object(class)?.methods.as_slice(), name, count)
+    }
+
+    /// The number of the property of this name, in the class of this number.
+    pub fn property(&self, class: usize, name: &Name) -> Option<usize>
+        ensures { MatchOption result ((q : ℕ) → ¬ IsPropertyNamed self.now class name.now q) (λ q. IsPropertyNamed self.now class name.now q) }
+    {
+        place_of_property(self.object(class)?.properties.as_slice(), name)
+    }
+
+    /// Whether a wire covers the connection of a signal of one class to a method of another, and whether the method
+    /// fits the signal.
+    pub fn wired(
+        &self,
+        sender: usize,
+        signal: &Sig,
+        receiver: usize,
+        method: &Sig,
+        kind: Kind,
+    ) -> Wired
+        ensures { IsWired self.now sender signal.now receiver method.now kind result }
+    {
+        if !self.covers(sender, signal, receiver, method, kind) {
+            Wired::No
+        } else if fits(signal, method) {
+            Wired::Fit
+        } else {
+            Wired::Unfit
+        }
+    }
+
+    /// Whether a wire covers the connection.
+    fn covers(&self, sender: usize, signal: &Sig, receiver: usize, method: &Sig, kind: Kind) -> bool
+        ensures { IsTrue result ↔ Covers self.now sender signal.now receiver method.now kind }
+    {
+        for wire in self.wires() {
+            if self.is_covered_by(sender, signal, receiver, method, kind, wire) {
+                return true;
+            }
+        }
+        false
+    }
+
+    /// Whether this wire covers the connection.
+    fn is_covered_by(
+        &self,
+        sender: usize,
+        signal: &Sig,
+        receiver: usize,
+        method: &Sig,
+        kind: Kind,
+        wire: &MetaWire,
+    ) -> bool
+        ensures { IsTrue result ↔ CoversBy self.now sender signal.now receiver method.now kind wire.now }
+    {
+        wire.sender == sender
+            && wire.receiver == receiver
+            && wire.kind == kind
+            && self.has_sig(sender, wire.signal, signal)
+            && self.has_sig(receiver, wire.method, method)
+    }
+
+    /// Whether the method of this number has this signature.
+    fn has_sig(&self, class: usize, method: usize, sig: &Sig) -> bool
+        ensures { IsTrue result ↔ HasSig self.now class sig.now method }
+    {
+        match self.method_at(class, method) {
+            Some(found) => found.sig.is_same(sig),
+            None => false,
+        }
     }
 }

@@ -1,3 +1,5 @@
+ghost use Rattle.std.specs.Prelude.{◌≡◌, ◌↔◌, IsTrue};
+
 use signatures::{Kind, Name, Sig};
 use sqlite_items::Items;
 
@@ -30,6 +32,15 @@ pub enum Work {
 pub struct MetaMethod {
     pub sig: Sig,
     pub work: Work,
+}
+
+impl MetaMethod {
+    /// Whether it is a signal, and not a slot.
+    pub fn is_signal(&self) -> bool
+        ensures { IsTrue result ↔ (self.now.work ≡ Work.Signal) }
+    {
+        matches!(self.work, Work::Signal)
+    }
 }
 
 /// A property of a class, of type `int`.

@@ -1,0 +1,8 @@
+use Rattle.std.proofs.Common.{ℕ, ◌<◌}
+use Rattle.meta_objects.specs.Members.{CoversBy}
+use Rattle.meta_objects.specs.Places.{StandsAt}
+use Rattle.meta_objects.proofs.meta.Meta.covers.Given as goal
+
+-- no earlier wire covers the connection
+abbrev pub invariant-loop-wire : goal.invariant-loop-wire
+invariant-loop-wire l = (k : ℕ) → k < l.wire-index → ¬ StandsAt (CoversBy l.self l.sender l.signal l.receiver l.method l.kind) l.wire-items k
