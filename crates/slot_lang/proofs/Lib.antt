@@ -7,3 +7,4 @@ pub mod Table
 pub mod Fronts
 pub mod Only
 pub mod Cut
+pub mod Counting

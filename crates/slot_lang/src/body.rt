@@ -3,6 +3,9 @@
 ghost use Rattle.std.specs.Prelude.{◌≡◌, ◌<◌, ◌≤◌, List, length, IfOk, OnOk, Err, MatchResult};
 ghost use Rattle.slot_lang.specs.Grammar.{IsBody, IsExpr, Numeral, most_in_expressions, spell_numeral, value_of, spell_expression, tree_of_expression, spell_target, spell_value, spell_statement, tree_of_statement, spell_block, tree_of_block};
 ghost use Rattle.slot_lang.specs.Reading.{Reads, EndsAnywhere};
+ghost use Rattle.slot_lang.specs.declared.token.Token.{Token};
+ghost use Rattle.slot_lang.specs.declared.syntax.Stmt.{Stmt};
+ghost use Rattle.slot_lang.specs.declared.syntax.Expr.{Expr};
 ghost use Rattle.slot_lang.specs.declared.fault.ParseFault.TheVariants.{Syntax};
 
 use crate::cursor::Cursor;
@@ -13,9 +16,48 @@ use crate::token::Token;
 use crate::word::Word;
 use signatures::Name;
 use sqlite_items::Items;
+use std::alloc::Global;
 
 /// The largest number in an expression.
 const MOST_IN_EXPRESSIONS: u32 = 2147483647;
+
+/// Reads a slot's body, which all of the tokens are. `Syntax` exactly where they aren't one.
+pub fn parse_body(alloc: Global, tokens: &[Token]) -> Result<Body, ParseFault>
+    ensures read { IfOk result (λ body. IsBody tokens.now body) }
+    ensures refused { result ≡ Err Syntax → (body : List Stmt) → IsBody tokens.now body → ⊥ }
+{
+    let mut cursor = Cursor::new(alloc, tokens);
+    let body = cursor.block()?;
+    if cursor.is_empty() {
+        Ok(body)
+    } else {
+        Err(ParseFault::Syntax)
+    }
+}
+
+/// Reads an expression, which all of the tokens are. `Syntax` exactly where they aren't one.
+pub fn parse_expr(alloc: Global, tokens: &[Token]) -> Result<Expr, ParseFault>
+    ensures read { IfOk result (λ e. IsExpr tokens.now e) }
+    ensures refused { result ≡ Err Syntax → (e : Expr) → IsExpr tokens.now e → ⊥ }
+{
+    let mut cursor = Cursor::new(alloc, tokens);
+    let found = cursor.expression()?;
+    if cursor.is_empty() {
+        Ok(found)
+    } else {
+        Err(ParseFault::Syntax)
+    }
+}
+
+/// Tokens are a slot's body in at most one way.
+pub fn one_body()
+    ensures { (tokens : List Token) → (a b : List Stmt) → IsBody tokens a → IsBody tokens b → a ≡ b }
+{}
+
+/// Tokens are an expression in at most one way.
+pub fn one_expression()
+    ensures { (tokens : List Token) → (a b : Expr) → IsExpr tokens a → IsExpr tokens b → a ≡ b }
+{}
 
 /// The number that the digits write, if it is at most so much.
 fn value_of(digits: &[u8], most: u32) -> Result<u32, ParseFault>

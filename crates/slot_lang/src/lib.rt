@@ -4,6 +4,7 @@
 mod body;
 mod class;
 mod cursor;
+mod depth;
 mod fault;
 mod lexer;
 mod symbol;
@@ -11,7 +12,9 @@ mod syntax;
 mod token;
 mod word;
 
+pub use body::{one_body, one_expression, parse_body, parse_expr};
 pub use cursor::Cursor;
+pub use depth::nesting;
 pub use fault::ParseFault;
 pub use lexer::{LexFault, one_cut, tokens};
 pub use symbol::Symbol;
