@@ -1,3 +1,5 @@
+use slot_lang::{LexFault, ParseFault};
+use std::alloc::AllocError;
 use thiserror::Error;
 
 /// Why a text is no script.
@@ -12,4 +14,56 @@ pub enum ScriptFault {
     /// A growth of memory was refused.
     #[error("out of memory")]
     Memory,
+}
+
+impl From<AllocError> for ScriptFault {
+    ghost use Rattle.std.specs.Prelude.{◌≡◌};
+    ghost use Rattle.script_lang.specs.declared.fault.ScriptFault.TheVariants.{Memory};
+
+    ghost from_gives = { λ _ fault. fault ≡ Memory };
+
+    fn from(_: AllocError) -> ScriptFault {
+        ScriptFault::Memory
+    }
+}
+
+/// Why a line isn't read.
+#[derive(Debug, Drop, Error)]
+pub enum LineFault {
+    /// The line is neither empty nor an event.
+    #[error("the line is no event")]
+    NoEvent,
+    /// A growth of memory was refused.
+    #[error("out of memory")]
+    Memory,
+}
+
+impl From<LexFault> for LineFault {
+    ghost use Rattle.std.specs.Prelude.{◌≡◌};
+    ghost use Rattle.script_lang.specs.declared.fault.LineFault.TheVariants.{NoEvent};
+    ghost use Rattle.slot_lang.specs.declared.lexer.LexFault.TheVariants.{BadByte};
+
+    ghost from_gives = { λ lex fault. fault ≡ NoEvent → lex ≡ BadByte };
+
+    fn from(fault: LexFault) -> LineFault {
+        match fault {
+            LexFault::BadByte => LineFault::NoEvent,
+            LexFault::Memory => LineFault::Memory,
+        }
+    }
+}
+
+impl From<ParseFault> for LineFault {
+    ghost use Rattle.std.specs.Prelude.{◌≡◌};
+    ghost use Rattle.script_lang.specs.declared.fault.LineFault.TheVariants.{NoEvent};
+    ghost use Rattle.slot_lang.specs.declared.fault.ParseFault.TheVariants.{Syntax};
+
+    ghost from_gives = { λ parse fault. fault ≡ NoEvent → parse ≡ Syntax };
+
+    fn from(fault: ParseFault) -> LineFault {
+        match fault {
+            ParseFault::Syntax => LineFault::NoEvent,
+            ParseFault::Memory => LineFault::Memory,
+        }
+    }
 }

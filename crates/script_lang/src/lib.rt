@@ -3,7 +3,9 @@
 
 mod event;
 mod fault;
+mod lines;
 mod reader;
+mod syntax;
 
 pub use event::{Connect, Event, Input};
 pub use fault::ScriptFault;

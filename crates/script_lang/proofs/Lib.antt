@@ -1,0 +1,5 @@
+pub mod Lists
+pub mod Unique
+pub mod Events
+pub mod Cuts
+pub mod Scripts

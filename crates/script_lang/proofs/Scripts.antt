@@ -1,0 +1,96 @@
+-- The events of lines, and of a script.
+use Rattle.std.proofs.Common.{◌≡◌, ℕ, ◌≤◌, ◌+◌, List, [], ◌∷◌, ◌++◌, length, refl, ◌∙◌, ap, Option, Some, None, Bool, false, IsTrue, ◌↔◌, arith}
+use Rattle.std.proofs.lemmas.List.{append-nil, length-append}
+use Rattle.slot_lang.proofs.Cut.{same_tokens}
+use Rattle.slot_lang.specs.Pieces.{AreTokens}
+use Rattle.slot_lang.specs.Reading.{Found, EndsAnywhere}
+use Rattle.slot_lang.specs.declared.token.Token.{Token}
+use Rattle.script_lang.specs.declared.event.Event.{Event}
+use Rattle.script_lang.specs.Grammar.{Reading, spell_event, tree_of_event}
+use Rattle.script_lang.specs.Lines.{IsFrontLine, AreFrontLines}
+use Rattle.script_lang.specs.Reads.{IsEmptyLine, IsEventLine, Holds, before, AreEvents, most_bytes, IsScript, IsBadLine}
+use Rattle.script_lang.proofs.Cuts.{one_more_line}
+
+-- ---- one line
+
+pub is_some : {tokens : List Token} (b : Bool) → b ≡ false → (IsTrue b ↔ (tokens ≡ [])) → tokens ≡ [] → ⊥
+is_some b f h e = let t = h.1 e in cc
+
+-- the line is neither empty nor an event
+abbrev pub IsRefused : List ℕ → Type 0
+IsRefused line = (found : Option Event) → Holds line found → ⊥
+
+pub no_tokens : {line : List ℕ} → ((tokens : List Token) → AreTokens line tokens → ⊥) → IsRefused line
+no_tokens none None h = none [] h
+no_tokens none (Some event) h = none h.tokens h.cut
+
+module _ {line : List ℕ} {tokens : List Token} (cut : AreTokens line tokens) (some : tokens ≡ [] → ⊥) where
+  pub no_event : ((r : Reading) (rest : List Token) → EndsAnywhere rest → tokens ≡ spell_event r rest → ⊥) → IsRefused line
+  no_event none None h = some (same_tokens line tokens [] cut h)
+  no_event none (Some event) h = none h.is_event.reading [] tt (same_tokens line tokens h.tokens cut h.cut ∙ h.is_event.spelled)
+
+  pub more_than_event : {event : Event} {after : List Token} → Found spell_event tree_of_event EndsAnywhere tokens event after → (after ≡ [] → ⊥) → IsRefused line
+  more_than_event f more None h = some (same_tokens line tokens [] cut h)
+  more_than_event f more (Some event) h = more (f.only h.is_event.reading [] tt (same_tokens line tokens h.tokens cut h.cut ∙ h.is_event.spelled))
+
+pub event_line : {line : List ℕ} {tokens after : List Token} {event : Event} → AreTokens line tokens → Found spell_event tree_of_event EndsAnywhere tokens event after → after ≡ [] → IsEventLine line event
+event_line {tokens = tokens} cut f e = record {
+  tokens = tokens;
+  cut = cut;
+  is_event = record { reading = f.reading; spelled = f.spelled ∙ ap (spell_event f.reading) e; tree = f.tree_is };
+}
+
+-- ---- the lines so far
+
+events_more : (lines : List (List ℕ)) (events : List Event) (line : List ℕ) (found : Option Event) → AreEvents lines events → Holds line found → AreEvents (lines ++ line ∷ []) (events ++ before found [])
+events_more [] events line found e h = (found, [], h, refl, ap (λ es. es ++ before found []) e)
+events_more (l ∷ lines) events line found w h =
+    (w.0, w.1 ++ before found [], w.2, events_more lines w.1 line found w.3 h, ap (λ es. es ++ before found []) w.4 ∙ joined w.0)
+  where
+    joined : (first : Option Event) → before first (w.1) ++ before found [] ≡ before first (w.1 ++ before found [])
+    joined None = refl
+    joined (Some event) = refl
+
+-- after so many lines, each of them empty or an event
+pub record LinesSoFar (text : List ℕ) (events : List Event) (number : ℕ) (rest : List ℕ) : Type 0 where
+  pub good : List (List ℕ)
+  pub lead : AreFrontLines text good rest
+  pub are_events : AreEvents good events
+  pub counted : number ≡ length good
+
+pub no_line_yet : (text : List ℕ) → LinesSoFar text [] 0 text
+no_line_yet text = record { good = []; lead = refl; are_events = refl; counted = refl }
+
+module _ {text : List ℕ} {events : List Event} {number : ℕ} {rest : List ℕ} (h : LinesSoFar text events number rest) where
+  module _ {line after : List ℕ} (front : IsFrontLine rest line after) where
+    next_line : (found : Option Event) → Holds line found → LinesSoFar text (events ++ before found []) (number + 1) after
+    next_line found holds = record {
+      good = h.good ++ line ∷ [];
+      lead = one_more_line text h.good rest line after h.lead front;
+      are_events = events_more h.good events line found h.are_events holds;
+      counted = omega (arith, h.counted, length-append h.good (line ∷ []));
+    }
+
+    pub event_next : {event : Event} → IsEventLine line event → LinesSoFar text (events ++ event ∷ []) (number + 1) after
+    event_next {event} holds = next_line (Some event) holds
+
+    pub empty_next : IsEmptyLine line → LinesSoFar text events (number + 1) after
+    empty_next holds = rw append-nil at (next_line None holds)
+
+    pub bad_next : length text ≤ most_bytes → IsRefused line → IsBadLine text (number + 1)
+    bad_next fits bad = record {
+      fits = fits;
+      good = h.good;
+      events = events;
+      are_events = h.are_events;
+      line = line;
+      from_line = rest;
+      after = after;
+      lead = h.lead;
+      front = front;
+      bad = bad;
+      counted = ap (λ n. n + 1) h.counted;
+    }
+
+  pub script_read : length text ≤ most_bytes → rest ≡ [] → IsScript text events
+  script_read fits e = record { fits = fits; lines = h.good; cut = rw e at h.lead; are_events = h.are_events }
