@@ -3,3 +3,4 @@ pub mod Unique
 pub mod Events
 pub mod Cuts
 pub mod Scripts
+pub mod OneAnswer

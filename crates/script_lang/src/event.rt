@@ -1,3 +1,5 @@
+//! The events of a script.
+
 use signatures::{Kind, Name, Sig, Value};
 use sqlite_items::Items;
 
@@ -11,10 +13,15 @@ pub enum Input {
 /// `connect A S B M kind`: the sender, its signal, the receiver, its method.
 #[derive(Drop)]
 pub struct Connect {
+    /// The name of the object whose signal is connected.
     pub sender: Name,
+    /// The sender's signal.
     pub signal: Sig,
+    /// The name of the object whose method is called.
     pub receiver: Name,
+    /// The receiver's slot or signal.
     pub method: Sig,
+    /// When the method is called.
     pub kind: Kind,
 }
 

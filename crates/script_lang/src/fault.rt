@@ -1,3 +1,5 @@
+//! Why a script, or a line of it, isn't read.
+
 use slot_lang::{LexFault, ParseFault};
 use std::alloc::AllocError;
 use thiserror::Error;

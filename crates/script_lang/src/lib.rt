@@ -9,4 +9,4 @@ mod syntax;
 
 pub use event::{Connect, Event, Input};
 pub use fault::ScriptFault;
-pub use reader::read_script;
+pub use reader::{one_answer, one_reading, read_script};

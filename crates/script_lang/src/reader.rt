@@ -1,4 +1,10 @@
-ghost use Rattle.script_lang.specs.Reads.{ReadsScript, ReadsLine};
+//! Reads a script, line by line.
+
+ghost use Rattle.std.specs.Prelude.{◌≡◌, ◌≢◌, ℕ, List, Option, Result, Err};
+ghost use Rattle.script_lang.specs.declared.event.Event.{Event};
+ghost use Rattle.script_lang.specs.declared.fault.ScriptFault.TheVariants.{Memory};
+ghost use Rattle.script_lang.specs.declared.fault.ScriptFault.{ScriptFault};
+ghost use Rattle.script_lang.specs.Reads.{Holds, IsScript, ReadsScript, ReadsLine};
 
 use crate::event::Event;
 use crate::fault::{LineFault, ScriptFault};
@@ -11,8 +17,14 @@ use std::alloc::Global;
 /// The most bytes of a script.
 const MOST_BYTES: usize = 1_048_576;
 
-/// Reads the events of a script, in their order. A script has at most 1,048,576 bytes, and each of its lines is an
-/// event, blank, or a comment; the first line that isn't is named by `BadLine`, counted from 1.
+/// Reads the events of a script, in their order.
+///
+/// A line ends at a newline or at the end of the text. It is one event, or it is empty: blanks, or a comment from `//`
+/// on. Time and memory are linear in the text.
+///
+/// - `TooLarge`: the script has more than 1,048,576 bytes.
+/// - `BadLine`: the number of the first line that is neither empty nor an event. Empty lines are counted too.
+/// - `Memory`: a growth of memory was refused.
 pub fn read_script(alloc: Global, bytes: &[u8]) -> Result<Items<Event>, ScriptFault>
     ensures { ReadsScript bytes.now result }
 {
@@ -34,6 +46,17 @@ pub fn read_script(alloc: Global, bytes: &[u8]) -> Result<Items<Event>, ScriptFa
     }
     Ok(events)
 }
+
+/// A line is empty or one event, and a script has one list of events.
+pub fn one_reading()
+    ensures line { (line : List ℕ) → (a b : Option Event) → Holds line a → Holds line b → a ≡ b }
+    ensures script { (text : List ℕ) → (a b : List Event) → IsScript text a → IsScript text b → a ≡ b }
+{}
+
+/// Only one answer fits a text, where memory isn't refused.
+pub fn one_answer()
+    ensures { (text : List ℕ) → (a b : Result (List Event) ScriptFault) → ReadsScript text a → ReadsScript text b → a ≢ Err Memory → b ≢ Err Memory → a ≡ b }
+{}
 
 /// Reads a line: its event, or `None` where it has no tokens.
 fn read_line(alloc: Global, line: &[u8]) -> Result<Option<Event>, LineFault>

@@ -1,7 +1,7 @@
 //! The grammar of events, one function a rule.
 
-ghost use Rattle.std.specs.Prelude.{◌≡◌, ◌↔◌, ◌<◌, ◌≤◌, ◌-ℤ◌, pos, List, length, map, codes, IsTrue, OnOk};
-ghost use Rattle.script_lang.specs.Grammar.{Reading, deepest, spell_type, tree_of_type, spell_items, spell_signature, tree_of_signature, spell_literal, tree_of_literal, spell_event, tree_of_event, spell_connect, tree_of_connect, spell_emit, tree_of_emit, spell_new, tree_of_new};
+ghost use Rattle.std.specs.Prelude.{◌≡◌, ◌↔◌, ◌<◌, ◌≤◌, ◌-ℤ◌, pos, length, map, codes, IsTrue, OnOk};
+ghost use Rattle.script_lang.specs.Grammar.{deepest, spell_type, tree_of_type, spell_items, spell_signature, tree_of_signature, spell_literal, tree_of_literal, spell_event, tree_of_event, spell_connect, tree_of_connect, spell_emit, tree_of_emit, spell_new, tree_of_new};
 ghost use Rattle.slot_lang.specs.Reading.{Reads, EndsAnywhere};
 
 use crate::event::{Connect, Event, Input};
