@@ -1,2 +1,6 @@
 pub mod Searches
 pub mod LookUps
+pub mod Choices
+pub mod Zips
+pub mod Ends
+pub mod Refusals

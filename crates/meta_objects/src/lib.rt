@@ -1,7 +1,11 @@
 //! Meta-objects: a program whose names are resolved to numbers.
 #![tactic(auto)]
 
+mod clashes;
 mod fault;
+mod load_class;
+mod load_slot;
+mod load_wire;
 mod meta;
 mod object;
 mod places;

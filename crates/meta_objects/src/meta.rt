@@ -4,9 +4,12 @@ ghost use Rattle.meta_objects.specs.Members.{IsClassNamed, IsMethod, HasSig, IsM
 ghost use Rattle.meta_objects.specs.Wiring.{IsWired};
 ghost use Rattle.meta_objects.specs.declared.object.MetaMethod.{MetaMethod};
 
+use crate::clashes::{has_duplicate_class, has_duplicate_member};
 use crate::fault::MetaFault;
+use crate::load_class::load_classes;
+use crate::load_wire::load_wires;
 use crate::object::{MetaMethod, MetaObject, MetaWire};
-use crate::places::{place_of_class, place_of_method, place_of_property, place_of_sig};
+use crate::places::{place_of, place_of_method, place_of_sig};
 use class_lang::Program;
 use signatures::{Kind, Name, Sig, fits};
 use sqlite_items::Items;
@@ -41,7 +44,15 @@ impl Meta {
     pub fn build(alloc: Global, program: &Program) -> Result<Meta, MetaFault>
         ensures { Builds program.now result }
     {
-        Err(MetaFault::Memory)
+        if has_duplicate_class(program) {
+            return Err(MetaFault::DuplicateClass);
+        }
+        if has_duplicate_member(program) {
+            return Err(MetaFault::DuplicateMember);
+        }
+        let classes = load_classes(alloc, program.classes.as_slice())?;
+        let wires = load_wires(alloc, classes.as_slice(), program.wires.as_slice())?;
+        Ok(Meta { classes, wires })
     }
 
     /// The classes, as declared.
@@ -62,7 +73,7 @@ impl Meta {
     pub fn class(&self, name: &Name) -> Option<usize>
         ensures { MatchOption result ((c : ℕ) → ¬ IsClassNamed self.now name.now c) (λ c. IsClassNamed self.now name.now c) }
     {
-        place_of_class(self.classes(), name)
+        place_of(self.classes(), name)
     }
 
     /// The class of this number.
@@ -97,7 +108,7 @@ impl Meta {
     pub fn property(&self, class: usize, name: &Name) -> Option<usize>
         ensures { MatchOption result ((q : ℕ) → ¬ IsPropertyNamed self.now class name.now q) (λ q. IsPropertyNamed self.now class name.now q) }
     {
-        place_of_property(self.object(class)?.properties.as_slice(), name)
+        place_of(self.object(class)?.properties.as_slice(), name)
     }
 
     /// Whether a wire covers the connection of a signal of one class to a method of another, and whether the method

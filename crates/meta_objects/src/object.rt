@@ -1,4 +1,5 @@
 ghost use Rattle.std.specs.Prelude.{◌≡◌, ◌↔◌, IsTrue};
+ghost use Rattle.meta_objects.specs.Loading.{IsOfSort};
 
 use signatures::{Kind, Name, Sig};
 use sqlite_items::Items;
@@ -27,6 +28,13 @@ pub enum Work {
     Slot(Items<Statement>),
 }
 
+/// The two sorts of methods.
+#[derive(Clone, Copy, Debug, PartialEq, Eq)]
+pub(crate) enum Sort {
+    Signal,
+    Slot,
+}
+
 /// A method of a class.
 #[derive(Drop)]
 pub struct MetaMethod {
@@ -40,6 +48,16 @@ impl MetaMethod {
         ensures { IsTrue result ↔ (self.now.work ≡ Work.Signal) }
     {
         matches!(self.work, Work::Signal)
+    }
+
+    /// Whether it is a method of this sort.
+    pub(crate) fn is_of(&self, sort: Sort) -> bool
+        ensures { IsTrue result ↔ IsOfSort sort self.now.work }
+    {
+        match sort {
+            Sort::Signal => self.is_signal(),
+            Sort::Slot => !self.is_signal(),
+        }
     }
 }
 

@@ -1,29 +1,62 @@
 //! The places of classes and members in their lists.
 
-ghost use Rattle.std.specs.Prelude.{◌≡◌, length};
+ghost use Rattle.std.specs.Prelude.{◌≡◌, ◌↔◌, ℕ, List, length, IsTrue, Some};
 ghost use Rattle.meta_objects.specs.Places.{IsPlace};
 
 use crate::object::{MetaMethod, MetaObject, MetaProperty};
+use class_lang::{Parameter, Property};
 use signatures::{Name, Sig};
 
-/// The place of a class of this name.
-pub fn place_of_class(classes: &[MetaObject], name: &Name) -> Option<usize>
-    ensures { IsPlace (λ class. class.name ≡ name.now) classes.now result }
-{
-    for (place, class) in classes.iter().enumerate() {
-        if class.name.is_same(name) {
-            return Some(place);
-        }
-    }
-    None
+/// What may have a name.
+pub trait Named {
+    ghost has_name: { Self → List ℕ → Type 0 };
+
+    /// Whether it has this name.
+    fn is_named(&self, name: &Name) -> bool
+        ensures { IsTrue result ↔ has_name self.now name.now };
 }
 
-/// The place of a property of this name.
-pub fn place_of_property(properties: &[MetaProperty], name: &Name) -> Option<usize>
-    ensures { IsPlace (λ property. property.name ≡ name.now) properties.now result }
+impl Named for MetaObject {
+    ghost has_name = { λ class name. class.name ≡ name };
+
+    fn is_named(&self, name: &Name) -> bool {
+        self.name.is_same(name)
+    }
+}
+
+impl Named for MetaProperty {
+    ghost has_name = { λ property name. property.name ≡ name };
+
+    fn is_named(&self, name: &Name) -> bool {
+        self.name.is_same(name)
+    }
+}
+
+impl Named for Property {
+    ghost has_name = { λ property name. property.name ≡ name };
+
+    fn is_named(&self, name: &Name) -> bool {
+        self.name.is_same(name)
+    }
+}
+
+impl Named for Parameter {
+    ghost has_name = { λ parameter name. parameter.name ≡ Some name };
+
+    fn is_named(&self, name: &Name) -> bool {
+        match &self.name {
+            Some(own) => own.is_same(name),
+            None => false,
+        }
+    }
+}
+
+/// The place of an item of this name.
+pub fn place_of<T: Named>(items: &[T], name: &Name) -> Option<usize>
+    ensures { IsPlace (λ item. T.has_name item name.now) items.now result }
 {
-    for (place, property) in properties.iter().enumerate() {
-        if property.name.is_same(name) {
+    for (place, item) in items.iter().enumerate() {
+        if item.is_named(name) {
             return Some(place);
         }
     }
