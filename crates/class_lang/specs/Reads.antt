@@ -1,5 +1,14 @@
--- What the reader answers for a text (docs/language.md).
-use Rattle.std.specs.Prelude.{ℕ, List, Result, Ok, Err, Option, Some, None}
+-- What the reader answers for a text (docs/language.md, "Programs" and "Limits").
+use Rattle.std.specs.Prelude.{ℕ, ◌<◌, ◌≤◌, ◌⊎◌, List, length, Result, Ok, Err, Option, Some, None}
+use Rattle.slot_lang.specs.Nesting.{IsTooDeep}
+use Rattle.slot_lang.specs.Pieces.{AreTokens}
+use Rattle.slot_lang.specs.declared.fault.ParseFault.{ParseFault}
+use Rattle.slot_lang.specs.declared.fault.ParseFault.TheVariants as parse
+use Rattle.slot_lang.specs.declared.lexer.LexFault.{LexFault}
+use Rattle.slot_lang.specs.declared.lexer.LexFault.TheVariants as lex
+use Rattle.slot_lang.specs.declared.token.Token.{Token}
+use Rattle.class_lang.specs.Declarations.{IsProgram}
+use Rattle.class_lang.specs.Limits.{most_bytes, HasFewParameters, IsWithinLimits}
 use Rattle.class_lang.specs.declared.fault.TextFault.{TextFault}
 use Rattle.class_lang.specs.declared.fault.TextFault.TheVariants.{TooLarge, BadByte, TooDeepText, Syntax, TooMany, Memory}
 use Rattle.class_lang.specs.declared.program.Program.{Program}
@@ -13,5 +22,74 @@ number_of Syntax = Some 5
 number_of TooMany = Some 3
 number_of Memory = None
 
+-- a fault of cutting, and one of reading the tokens, as a fault of the text
+abbrev pub fault_of_cutting : LexFault → TextFault
+fault_of_cutting lex.BadByte = BadByte
+fault_of_cutting lex.Memory = Memory
+
+abbrev pub fault_of_parsing : ParseFault → TextFault
+fault_of_parsing parse.Syntax = Syntax
+fault_of_parsing parse.Memory = Memory
+
+abbrev pub IsShortText : List ℕ → Type 0
+IsShortText bytes = length bytes ≤ most_bytes
+
+abbrev pub IsLongText : List ℕ → Type 0
+IsLongText bytes = most_bytes < length bytes
+
+-- the text can't be cut into tokens
+pub record HasBadByte (bytes : List ℕ) : Type 0 where
+  pub short : IsShortText bytes
+  pub uncut : (tokens : List Token) → AreTokens bytes tokens → ⊥
+
+-- its tokens nest too deep
+pub record IsDeepText (bytes : List ℕ) : Type 0 where
+  pub short : IsShortText bytes
+  pub tokens : List Token
+  pub cut : AreTokens bytes tokens
+  pub deep : IsTooDeep tokens
+
+-- its tokens don't nest too deep, and are no program
+pub record IsOutsideGrammar (bytes : List ℕ) : Type 0 where
+  pub short : IsShortText bytes
+  pub tokens : List Token
+  pub cut : AreTokens bytes tokens
+  pub flat : ¬ IsTooDeep tokens
+  pub none : (program : Program) → IsProgram tokens program → ⊥
+
+-- its tokens don't nest too deep, and are this program
+pub record IsProgramText (bytes : List ℕ) (program : Program) : Type 0 where
+  pub short : IsShortText bytes
+  pub tokens : List Token
+  pub cut : AreTokens bytes tokens
+  pub flat : ¬ IsTooDeep tokens
+  pub reads : IsProgram tokens program
+
+-- a program, a signature of which has too many parameters
+pub record HasTooManyParameters (bytes : List ℕ) : Type 0 where
+  pub program : Program
+  pub text : IsProgramText bytes program
+  pub many : ¬ HasFewParameters program
+
+-- a program with few enough parameters, and more of something else than it may have
+pub record IsLargeProgram (bytes : List ℕ) : Type 0 where
+  pub program : Program
+  pub text : IsProgramText bytes program
+  pub few : HasFewParameters program
+  pub large : ¬ IsWithinLimits program
+
+-- the text is this program, which keeps to all limits
+pub record IsAccepted (bytes : List ℕ) (program : Program) : Type 0 where
+  pub text : IsProgramText bytes program
+  pub few : HasFewParameters program
+  pub within : IsWithinLimits program
+
+-- the program of the text, or the first thing that is wrong with it; want of memory says nothing of the text
 abbrev pub ReadsProgram : List ℕ → Result Program TextFault → Type 0
-ReadsProgram bytes result = Unit {0}
+ReadsProgram bytes (Ok program) = IsAccepted bytes program
+ReadsProgram bytes (Err TooLarge) = IsLongText bytes ⊎ IsLargeProgram bytes
+ReadsProgram bytes (Err BadByte) = HasBadByte bytes
+ReadsProgram bytes (Err TooDeepText) = IsDeepText bytes
+ReadsProgram bytes (Err Syntax) = IsOutsideGrammar bytes
+ReadsProgram bytes (Err TooMany) = HasTooManyParameters bytes
+ReadsProgram bytes (Err Memory) = Unit {0}

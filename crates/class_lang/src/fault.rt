@@ -1,6 +1,7 @@
 ghost use Rattle.std.specs.Prelude.{◌≡◌};
 ghost use Rattle.class_lang.specs.Reads.{number_of};
 
+use slot_lang::{LexFault, ParseFault};
 use thiserror::Error;
 
 /// Why a text is no program.
@@ -24,6 +25,34 @@ pub enum TextFault {
     /// A growth of memory was refused.
     #[error("out of memory")]
     Memory,
+}
+
+impl From<LexFault> for TextFault {
+    ghost use Rattle.std.specs.Prelude.{◌≡◌};
+    ghost use Rattle.class_lang.specs.Reads.{fault_of_cutting};
+
+    ghost from_gives = { λ fault made. made ≡ fault_of_cutting fault };
+
+    fn from(fault: LexFault) -> TextFault {
+        match fault {
+            LexFault::BadByte => TextFault::BadByte,
+            LexFault::Memory => TextFault::Memory,
+        }
+    }
+}
+
+impl From<ParseFault> for TextFault {
+    ghost use Rattle.std.specs.Prelude.{◌≡◌};
+    ghost use Rattle.class_lang.specs.Reads.{fault_of_parsing};
+
+    ghost from_gives = { λ fault made. made ≡ fault_of_parsing fault };
+
+    fn from(fault: ParseFault) -> TextFault {
+        match fault {
+            ParseFault::Syntax => TextFault::Syntax,
+            ParseFault::Memory => TextFault::Memory,
+        }
+    }
 }
 
 impl TextFault {

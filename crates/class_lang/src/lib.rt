@@ -1,10 +1,15 @@
 //! Class declarations: from a text to a program.
 #![tactic(auto)]
 
+mod declarations;
 mod fault;
+mod limits;
+mod members;
+mod parser;
 mod program;
 mod reader;
+mod types;
 
 pub use fault::TextFault;
 pub use program::{Class, Parameter, Program, Property, Signal, Slot, Wire};
-pub use reader::read_program;
+pub use reader::{one_answer, one_reading, read_program};

@@ -14,30 +14,40 @@ pub struct Parameter {
 /// `property int p;`
 #[derive(Drop)]
 pub struct Property {
+    /// What it is called in its class.
     pub name: Name,
 }
 
 /// `signal s(..);`
 #[derive(Drop)]
 pub struct Signal {
+    /// What it is called in its class.
     pub name: Name,
+    /// At most 8, in their order.
     pub parameters: Items<Parameter>,
 }
 
 /// `slot m(..) { .. }`
 #[derive(Drop)]
 pub struct Slot {
+    /// What it is called in its class.
     pub name: Name,
+    /// At most 8, in their order, each with its name.
     pub parameters: Items<Parameter>,
+    /// What it does.
     pub body: Body,
 }
 
 /// `class C { .. }`, with the members of each sort in the order in which they are declared.
 #[derive(Drop)]
 pub struct Class {
+    /// The class's name.
     pub name: Name,
+    /// At most 32.
     pub properties: Items<Property>,
+    /// At most 64, together with the slots.
     pub signals: Items<Signal>,
+    /// At most 64, together with the signals.
     pub slots: Items<Slot>,
 }
 
@@ -46,16 +56,21 @@ pub struct Class {
 pub struct Wire {
     /// The class of the sender.
     pub sender: Name,
+    /// The sender's signal, with at most 8 types.
     pub signal: Sig,
     /// The class of the receiver.
     pub receiver: Name,
+    /// The receiver's method, with at most 8 types.
     pub method: Sig,
+    /// How the connection reaches its receiver.
     pub kind: Kind,
 }
 
 /// The declarations of a text, those of each sort in their order.
 #[derive(Drop)]
 pub struct Program {
+    /// At most 64.
     pub classes: Items<Class>,
+    /// At most 1,000.
     pub wires: Items<Wire>,
 }

@@ -1,12 +1,69 @@
-ghost use Rattle.class_lang.specs.Reads.{ReadsProgram};
+//! From a text to its program.
+
+ghost use Rattle.std.specs.Prelude.{◌≡◌, ◌⊎◌, ℕ, List, Result, Err, IfOk};
+ghost use Rattle.slot_lang.specs.declared.fault.ParseFault.TheVariants.{Syntax};
+ghost use Rattle.slot_lang.specs.declared.token.Token.{Token};
+ghost use Rattle.class_lang.specs.Declarations.{IsProgram};
+ghost use Rattle.class_lang.specs.Reads.{IsProgramText, ReadsProgram};
+ghost use Rattle.class_lang.specs.declared.fault.TextFault.{TextFault};
+ghost use Rattle.class_lang.specs.declared.fault.TextFault.TheVariants.{Memory};
+ghost use Rattle.class_lang.specs.declared.program.Program.{Program};
 
 use crate::fault::TextFault;
+use crate::limits::MOST_BYTES;
+use crate::parser::Parser;
 use crate::program::Program;
+use slot_lang::{ParseFault, Token, nesting, tokens};
 use std::alloc::Global;
 
-/// Reads a program from its text.
+/// Reads a program from its text: at most 1,048,576 bytes, in time that grows as the text does.
+///
+/// Of several things that are wrong with a text the first of these is the answer:
+/// - `TooLarge`: it has more than 1,048,576 bytes.
+/// - `BadByte`: a byte begins no token, or a text literal isn't closed in its line.
+/// - `TooDeepText`: more than 32 of `(` and `{` are open at once, or more than 200 tokens stand together without `;`,
+///   `{` or `}`.
+/// - `Syntax`: the tokens are no program.
+/// - `TooMany`: a signal, a slot or a signature of a wire has more than 8 parameters.
+/// - `TooLarge`: there are more than 64 classes or 1,000 wires, or a class has more than 64 signals and slots or more
+///   than 32 properties.
+///
+/// `Memory`, that a growth of memory was refused, can come at any point.
 pub fn read_program(alloc: Global, bytes: &[u8]) -> Result<Program, TextFault>
     ensures { ReadsProgram bytes.now result }
 {
-    Err(TextFault::Memory)
+    if bytes.len() > MOST_BYTES {
+        return Err(TextFault::TooLarge);
+    }
+    let tokens = tokens(alloc, bytes)?;
+    if nesting(tokens.as_slice()) {
+        return Err(TextFault::TooDeepText);
+    }
+    let program = parse(alloc, tokens.as_slice())?;
+    if !program.has_few_parameters() {
+        return Err(TextFault::TooMany);
+    }
+    if !program.is_within_limits() {
+        return Err(TextFault::TooLarge);
+    }
+    Ok(program)
 }
+
+/// The program that the tokens are.
+fn parse(alloc: Global, tokens: &[Token]) -> Result<Program, ParseFault>
+    ensures read { IfOk result (λ program. IsProgram tokens.now program) }
+    ensures refused { result ≡ Err Syntax → (program : Program) → IsProgram tokens.now program → ⊥ }
+{
+    Parser::new(alloc, tokens).program()
+}
+
+/// Tokens, and so a text, are at most one program.
+pub fn one_reading()
+    ensures tokens { (tokens : List Token) → (p q : Program) → IsProgram tokens p → IsProgram tokens q → p ≡ q }
+    ensures text { (bytes : List ℕ) → (p q : Program) → IsProgramText bytes p → IsProgramText bytes q → p ≡ q }
+{}
+
+/// A text has at most one answer, want of memory aside.
+pub fn one_answer()
+    ensures { (bytes : List ℕ) → (a b : Result Program TextFault) → ReadsProgram bytes a → ReadsProgram bytes b → (a ≡ Err Memory) ⊎ (b ≡ Err Memory) ⊎ (a ≡ b) }
+{}

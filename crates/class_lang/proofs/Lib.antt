@@ -1,0 +1,9 @@
+pub mod Underway
+pub mod Listed
+pub mod Parts
+pub mod Sequences
+pub mod MemberLists
+pub mod DeclarationLists
+pub mod OneTree
+pub mod Stages
+pub mod OneAnswer

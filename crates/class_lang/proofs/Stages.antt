@@ -1,0 +1,33 @@
+-- What each stage of the reader settles.
+use Rattle.std.proofs.Common.{◌≡◌, ◌⊎◌, ℕ, List, inr, Err, refl, IsTrue, false, ◌↔◌}
+use Rattle.slot_lang.specs.Nesting.{IsTooDeep}
+use Rattle.slot_lang.specs.Pieces.{AreTokens}
+use Rattle.slot_lang.specs.declared.fault.ParseFault.{ParseFault}
+use Rattle.slot_lang.specs.declared.fault.ParseFault.TheVariants as parse
+use Rattle.slot_lang.specs.declared.lexer.LexFault.{LexFault}
+use Rattle.slot_lang.specs.declared.lexer.LexFault.TheVariants as lex
+use Rattle.slot_lang.specs.declared.token.Token.{Token}
+use Rattle.class_lang.specs.Declarations.{IsProgram}
+use Rattle.class_lang.specs.Limits.{HasFewParameters, IsWithinLimits}
+use Rattle.class_lang.specs.Reads.{fault_of_cutting, fault_of_parsing, IsShortText, IsLargeProgram, IsLongText, ReadsProgram}
+use Rattle.class_lang.specs.declared.program.Program.{Program}
+
+-- what a test that fails tests for doesn't hold
+pub not_true : {P : Type 0} → (IsTrue false ↔ P) → ¬ P
+not_true h p = let e = h.1 p in cc
+
+pub not_cut : (bytes : List ℕ) (fault : LexFault) → IsShortText bytes → (fault ≡ lex.BadByte → (tokens : List Token) → AreTokens bytes tokens → ⊥) → ReadsProgram bytes (Err (fault_of_cutting fault))
+not_cut bytes lex.BadByte short refused = record { short = short; uncut = refused refl }
+not_cut bytes lex.Memory short refused = tt
+
+pub not_parsed : (bytes : List ℕ) (tokens : List Token) (fault : ParseFault) → IsShortText bytes → AreTokens bytes tokens → ¬ IsTooDeep tokens → (fault ≡ parse.Syntax → (program : Program) → IsProgram tokens program → ⊥) → ReadsProgram bytes (Err (fault_of_parsing fault))
+not_parsed bytes tokens parse.Syntax short cut flat refused = record { short = short; tokens = tokens; cut = cut; flat = flat; none = refused refl }
+not_parsed bytes tokens parse.Memory short cut flat refused = tt
+
+pub too_large : (bytes : List ℕ) (tokens : List Token) (program : Program) → IsShortText bytes → AreTokens bytes tokens → ¬ IsTooDeep tokens → IsProgram tokens program → HasFewParameters program → ¬ IsWithinLimits program → IsLongText bytes ⊎ IsLargeProgram bytes
+too_large bytes tokens program short cut flat reads few large = inr (record {
+  program = program;
+  text = record { short = short; tokens = tokens; cut = cut; flat = flat; reads = reads };
+  few = few;
+  large = large;
+})

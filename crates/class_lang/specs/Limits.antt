@@ -1,0 +1,53 @@
+-- How large programs may be (docs/language.md, "Limits").
+use Rattle.std.specs.Prelude.{ℕ, ◌+◌, ◌≤◌, length, All}
+use Rattle.class_lang.specs.declared.program.Class.{Class}
+use Rattle.class_lang.specs.declared.program.Wire.{Wire}
+use Rattle.class_lang.specs.declared.program.Program.{Program}
+
+-- bytes of a text
+abbrev pub most_bytes : ℕ
+most_bytes = 1048576
+
+-- parameters of a signature
+abbrev pub most_parameters : ℕ
+most_parameters = 8
+
+-- classes of a program
+abbrev pub most_classes : ℕ
+most_classes = 64
+
+-- signals and slots of a class, counted together
+abbrev pub most_methods : ℕ
+most_methods = 64
+
+-- properties of a class
+abbrev pub most_properties : ℕ
+most_properties = 32
+
+-- wires of a program
+abbrev pub most_wires : ℕ
+most_wires = 1000
+
+-- no signal and no slot of the class has more parameters than a signature may have
+unfoldable pub ClassHasFewParameters : Class → Type 0
+ClassHasFewParameters class =
+    All (λ signal. length signal.parameters ≤ most_parameters) class.signals
+    × All (λ slot. length slot.parameters ≤ most_parameters) class.slots
+
+pub record WireHasFewParameters (wire : Wire) : Type 0 where
+  pub signal : length wire.signal.types ≤ most_parameters
+  pub method : length wire.method.types ≤ most_parameters
+
+-- no signature of the program has more parameters than one may have
+pub record HasFewParameters (program : Program) : Type 0 where
+  pub classes : All ClassHasFewParameters program.classes
+  pub wires : All WireHasFewParameters program.wires
+
+pub record ClassIsWithinLimits (class : Class) : Type 0 where
+  pub methods : length class.signals + length class.slots ≤ most_methods
+  pub properties : length class.properties ≤ most_properties
+
+pub record IsWithinLimits (program : Program) : Type 0 where
+  pub classes : length program.classes ≤ most_classes
+  pub each_class : All ClassIsWithinLimits program.classes
+  pub wires : length program.wires ≤ most_wires

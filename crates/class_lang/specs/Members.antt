@@ -1,0 +1,95 @@
+-- The grammar of a class's members. A value of a type below is a way to read tokens by its rule
+-- (docs/language.md, "Classes").
+--
+--   member   = "property" property | "signal" signal | "slot" slot
+--   property = type Name ";"
+--   signal   = Name "(" [signal_parameter {"," signal_parameter}] ")" ";"
+--   slot     = Name "(" [slot_parameter {"," slot_parameter}] ")" block
+use Rattle.std.specs.Prelude.{ℕ, List, [], ◌∷◌, ◌++◌, map}
+use Rattle.slot_lang.specs.Grammar.{Statement, spell_block, tree_of_block}
+use Rattle.slot_lang.specs.declared.symbol.Symbol.TheVariants.{Semicolon}
+use Rattle.slot_lang.specs.declared.token.Token.{Token}
+use Rattle.slot_lang.specs.declared.token.Token.TheVariants as token
+use Rattle.slot_lang.specs.declared.word.Word.TheVariants as word
+use Rattle.class_lang.specs.Lists.{spell_listed}
+use Rattle.class_lang.specs.Signatures.{TypeReading, spell_type, SignalParameter, spell_signal_parameter, tree_of_signal_parameter, SlotParameter, spell_slot_parameter, tree_of_slot_parameter}
+use Rattle.class_lang.specs.declared.members.Member.{Member}
+use Rattle.class_lang.specs.declared.members.Member.TheVariants as member
+use Rattle.class_lang.specs.declared.program.Property.{Property}
+use Rattle.class_lang.specs.declared.program.Signal.{Signal}
+use Rattle.class_lang.specs.declared.program.Slot.{Slot}
+use Rattle.class_lang.specs.declared.program.Class.{Class}
+
+pub data PropertyReading : Type 0 where
+  property : TypeReading → (name : List ℕ) → PropertyReading
+
+abbrev pub spell_property : PropertyReading → List Token → List Token
+spell_property (property kind name) after = spell_type kind (token.Name name ∷ token.Symbol Semicolon ∷ after)
+
+abbrev pub tree_of_property : PropertyReading → Property
+tree_of_property (property kind name) = record { name = name }
+
+pub data SignalReading : Type 0 where
+  signal : (name : List ℕ) → List SignalParameter → SignalReading
+
+abbrev pub spell_signal : SignalReading → List Token → List Token
+spell_signal (signal name parameters) after =
+    token.Name name ∷ spell_listed spell_signal_parameter parameters (token.Symbol Semicolon ∷ after)
+
+abbrev pub tree_of_signal : SignalReading → Signal
+tree_of_signal (signal name parameters) = record { name = name; parameters = map tree_of_signal_parameter parameters }
+
+pub data SlotReading : Type 0 where
+  slot : (name : List ℕ) → List SlotParameter → (body : List Statement) → SlotReading
+
+abbrev pub spell_slot : SlotReading → List Token → List Token
+spell_slot (slot name parameters body) after =
+    token.Name name ∷ spell_listed spell_slot_parameter parameters (spell_block body after)
+
+abbrev pub tree_of_slot : SlotReading → Slot
+tree_of_slot (slot name parameters body) =
+    record { name = name; parameters = map tree_of_slot_parameter parameters; body = tree_of_block body }
+
+pub data MemberReading : Type 0 where
+  a_property : PropertyReading → MemberReading
+  a_signal : SignalReading → MemberReading
+  a_slot : SlotReading → MemberReading
+
+abbrev pub spell_member : MemberReading → List Token → List Token
+spell_member (a_property p) after = token.Word word.Property ∷ spell_property p after
+spell_member (a_signal s) after = token.Word word.Signal ∷ spell_signal s after
+spell_member (a_slot s) after = token.Word word.Slot ∷ spell_slot s after
+
+abbrev pub tree_of_member : MemberReading → Member
+tree_of_member (a_property p) = member.Property (tree_of_property p)
+tree_of_member (a_signal s) = member.Signal (tree_of_signal s)
+tree_of_member (a_slot s) = member.Slot (tree_of_slot s)
+
+-- ---- the members of each sort, in their order
+
+abbrev pub properties_in : List Member → List Property
+properties_in [] = []
+properties_in (member.Property p ∷ members) = p ∷ properties_in members
+properties_in (member.Signal s ∷ members) = properties_in members
+properties_in (member.Slot s ∷ members) = properties_in members
+
+abbrev pub signals_in : List Member → List Signal
+signals_in [] = []
+signals_in (member.Property p ∷ members) = signals_in members
+signals_in (member.Signal s ∷ members) = s ∷ signals_in members
+signals_in (member.Slot s ∷ members) = signals_in members
+
+abbrev pub slots_in : List Member → List Slot
+slots_in [] = []
+slots_in (member.Property p ∷ members) = slots_in members
+slots_in (member.Signal s ∷ members) = slots_in members
+slots_in (member.Slot s ∷ members) = s ∷ slots_in members
+
+-- the class, with these members after its own
+abbrev pub with_members : Class → List Member → Class
+with_members class members = record {
+  name = class.name;
+  properties = class.properties ++ properties_in members;
+  signals = class.signals ++ signals_in members;
+  slots = class.slots ++ slots_in members;
+}
