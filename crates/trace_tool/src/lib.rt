@@ -1,13 +1,17 @@
-// A library with one function.
+//! The program's commands: from words and bytes to the bytes that are written and an exit status.
 #![tactic(auto)]
 
-ghost use Rattle.std.specs.Prelude.{◌≡◌};
-ghost use Rattle.trace_tool.specs.Echo.{echo_of};
+mod commands;
+mod cut;
+mod fault;
+mod input;
+mod line;
+mod output;
+mod refusal;
+mod run;
+mod words;
 
-// The `ensures` clause is the contract: what `echo` returns is `echo_of` of its argument, a definition
-// in `specs/Echo.antt`, which a caller's clause can cite too.
-pub fn echo(x: usize) -> usize
-    ensures { result ≡ echo_of x }
-{
-    x
-}
+pub use commands::command;
+pub use fault::WriteFault;
+pub use refusal::Refusal;
+pub use run::run_unchecked;

@@ -1,0 +1,20 @@
+-- One output after another.
+use Rattle.std.proofs.Common.{ℕ, List, [], ◌++◌, Option, Some, None, append_assoc, append-nil, sym, ap, ◌∙◌}
+use Rattle.trace_tool.specs.Sent.{Sends}
+use Rattle.std.specs.Io.KnownBytes.{Appends}
+
+appends : (a b c : Option (List ℕ)) (x y : List ℕ) → Appends a b x → Appends b c y → Appends a c (x ++ y)
+appends None b c x y p q = tt
+appends (Some us) None c x y p q = absurd p
+appends (Some us) (Some bs) None x y p q = absurd q
+appends (Some us) (Some bs) (Some cs) x y p q = q ∙ ap (λ zs. zs ++ y) p ∙ append_assoc us x y
+
+pub sent : {a b c : Option (List ℕ)} {x y : List ℕ} → Sends a b x → Sends b c y → Sends a c (x ++ y)
+sent {a} {b} {c} {x} {y} p q = record { appended = appends a b c x y p.appended q.appended }
+
+appends_none : (a : Option (List ℕ)) → Appends a a []
+appends_none None = tt
+appends_none (Some us) = sym (append-nil us)
+
+pub none_sent : (a : Option (List ℕ)) → Sends a a []
+none_sent a = record { appended = appends_none a }

@@ -1,0 +1,88 @@
+-- What a run and a command line write, and their exit status (docs/commands.md). A definition says which bytes and which
+-- status belong together. Want of memory outside a run may come at any time before the run; that it comes only where a
+-- growth of memory was refused is not stated here.
+use Rattle.std.specs.Prelude.{◌≡◌, ℕ, ◌<◌, ◌≤◌, List, [], ◌∷◌, ◌++◌, length, Option, Result, Ok, Err, IfSome}
+use Rattle.std.specs.Io.KnownBytes.{Appends}
+use Rattle.class_lang.specs.Reads.{ReadsProgram, number_of as text_number}
+use Rattle.class_lang.specs.declared.program.Program.{Program}
+use Rattle.class_lang.specs.declared.fault.TextFault.{TextFault}
+use Rattle.meta_objects.specs.Builds.{Builds, number_of as meta_number}
+use Rattle.meta_objects.specs.Loaded.{Loaded}
+use Rattle.meta_objects.specs.declared.fault.MetaFault.{MetaFault}
+use Rattle.script_lang.specs.Reads.{ReadsScript}
+use Rattle.script_lang.specs.declared.event.Event.{Event}
+use Rattle.script_lang.specs.declared.fault.ScriptFault.{ScriptFault}
+use Rattle.qt_runtime.specs.Seen.{Seen, RunsAll, begun}
+use Rattle.qt_runtime.specs.Faults.{number_of as fault_number}
+use Rattle.qt_runtime.specs.declared.entry.Entry.{Entry}
+use Rattle.qt_runtime.specs.declared.fault.Fault.{Fault}
+use Rattle.trace_tool.specs.declared.refusal.Refusal.{Refusal}
+use Rattle.trace_tool.specs.Cut.{AreTexts}
+use Rattle.trace_tool.specs.Lines.{trace_text}
+use Rattle.trace_tool.specs.Refusals.{numbered, of_script, memory_line, usage_line, fault_line, refusal_line, refusal_status}
+use Rattle.trace_tool.specs.Words.{IsRun}
+
+-- the program's text is read, and the program loads
+pub record Loads (text : List ℕ) (loaded : Loaded) : Type 0 where
+  pub program : Program
+  pub reads : ReadsProgram text (Ok program)
+  pub builds : Builds program (Ok loaded)
+
+-- the program loads and the script is read
+pub record AreRunnable (program script : List ℕ) (loaded : Loaded) (events : List Event) : Type 0 where
+  pub loads : Loads program loaded
+  pub reads : ReadsScript script (Ok events)
+
+-- The first refusal: of the program's text, then of the program, then of the script.
+pub data AreRefused (program script : List ℕ) : Refusal → Type 0 where
+  text : (fault : TextFault) → ReadsProgram program (Err fault) → AreRefused program script (numbered (text_number fault))
+  load : (read : Program) (fault : MetaFault) → ReadsProgram program (Ok read) → Builds read (Err fault) →
+      AreRefused program script (numbered (meta_number fault))
+  script : (loaded : Loaded) (fault : ScriptFault) → Loads program loaded → ReadsScript script (Err fault) →
+      AreRefused program script (of_script fault)
+
+-- the lines of a run's trace, and of the fault that stopped it
+abbrev pub run_text : List Entry → Result (Unit {0}) Fault → List ℕ
+run_text trace (Ok _) = trace_text trace
+run_text trace (Err fault) = trace_text trace ++ fault_line (fault_number fault)
+
+abbrev pub run_status : Result (Unit {0}) Fault → ℕ
+run_status (Ok _) = 0
+run_status (Err fault) = 4
+
+-- `run --unchecked`, from the texts, the depth and the limit of steps: the bytes that are written, and the exit status
+pub data RunWrites (program script : List ℕ) (depth steps : ℕ) : List ℕ → ℕ → Type 0 where
+  refused : (refusal : Refusal) → AreRefused program script refusal →
+      RunWrites program script depth steps (refusal_line refusal) (refusal_status refusal)
+  ran : (loaded : Loaded) (events : List Event) (ended : Result (Unit {0}) Fault) (after : Seen) →
+      AreRunnable program script loaded events → RunsAll (begun loaded depth steps) events ended after →
+      RunWrites program script depth steps (run_text after.world.trace ended) (run_status ended)
+  memory : RunWrites program script depth steps memory_line 1
+
+-- A command line, from its words and its input.
+pub data CommandWrites (words : List (List ℕ)) (input : List ℕ) : List ℕ → ℕ → Type 0 where
+  -- the words are no command
+  unknown : ((depth steps : ℕ) → IsRun words depth steps → ⊥) → CommandWrites words input usage_line 1
+  -- there are more bytes than 64 MiB
+  large : (depth steps : ℕ) → IsRun words depth steps → 67108864 < length input → CommandWrites words input usage_line 1
+  -- there is another number of texts than two
+  texts : (depth steps : ℕ) → IsRun words depth steps → length input ≤ 67108864 →
+      ((program script : List ℕ) → AreTexts input (program ∷ script ∷ []) → ⊥) → CommandWrites words input usage_line 1
+  run : (depth steps : ℕ) (program script bytes : List ℕ) (status : ℕ) → IsRun words depth steps → length input ≤ 67108864 →
+      AreTexts input (program ∷ script ∷ []) → RunWrites program script depth steps bytes status →
+      CommandWrites words input bytes status
+  -- a read fails
+  unread : (depth steps : ℕ) → IsRun words depth steps → CommandWrites words input [] 1
+  memory : (depth steps : ℕ) → IsRun words depth steps → CommandWrites words input memory_line 1
+
+-- Bytes that belong to the status were added to what the writer held.
+pub record Answers (Writes : List ℕ → ℕ → Type 0) (before after : Option (List ℕ)) (status : ℕ) : Type 0 where
+  pub bytes : List ℕ
+  pub appended : Appends before after bytes
+  pub meaning : Writes bytes status
+
+-- A command line is answered for an input, which is all that the reader had left, where that is known.
+pub record AnswersCommand (words : List (List ℕ)) (left before after : Option (List ℕ)) (status : ℕ) : Type 0 where
+  pub input : List ℕ
+  pub all : IfSome left (λ bytes. bytes ≡ input)
+  pub answers : Answers (CommandWrites words input) before after status

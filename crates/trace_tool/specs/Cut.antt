@@ -1,0 +1,30 @@
+-- How an input is cut into texts (docs/commands.md, "The input").
+use Rattle.std.specs.Prelude.{◌≡◌, ℕ, ◌+◌, ◌-◌, ◌⊎◌, List, [], ◌∷◌, ◌++◌, length, codes, slice_index}
+
+-- A line begins at the front and behind each newline (10), and ends at a newline or at the end. At this place begins
+-- one that is exactly `%%` (37, 37).
+pub record IsMarkAt (text : List ℕ) (place : ℕ) : Type 0 where
+  pub begins : (place ≡ 0) ⊎ (slice_index text (place - 1) ≡ 10)
+  pub first : slice_index text place ≡ 37
+  pub second : slice_index text (place + 1) ≡ 37
+  pub ends : (place + 2 ≡ length text) ⊎ (slice_index text (place + 2) ≡ 10)
+
+-- no line of the text is exactly `%%`
+abbrev pub HasNoMark : List ℕ → Type 0
+HasNoMark text = (place : ℕ) → IsMarkAt text place → ⊥
+
+-- each line of the text has its newline
+abbrev pub IsWhole : List ℕ → Type 0
+IsWhole text = (text ≡ []) ⊎ (slice_index text (length text - 1) ≡ 10)
+
+-- The input is a text, the line `%%` and the rest. The line may lack its newline where the input ends with it.
+pub record IsParted (input text rest : List ℕ) : Type 0 where
+  pub joined : (input ≡ text ++ (codes "%%\n" ++ rest)) ⊎ ((input ≡ text ++ codes "%%") × (rest ≡ []))
+  pub whole : IsWhole text
+  pub unmarked : HasNoMark text
+
+-- the input is these texts, with a line `%%` between each and the next one
+abbrev pub AreTexts : List ℕ → List (List ℕ) → Type 0
+AreTexts input [] = ⊥
+AreTexts input (text ∷ []) = (input ≡ text) × HasNoMark text
+AreTexts input (text ∷ next ∷ texts) = (rest : List ℕ) × IsParted input text rest × AreTexts rest (next ∷ texts)

@@ -1,0 +1,29 @@
+-- The words of a command line (docs/commands.md, "Commands").
+use Rattle.std.specs.Prelude.{◌≡◌, ℕ, ◌-◌, ◌^◌, ◌≤◌, ◌⊎◌, List, [], ◌∷◌, codes}
+use Rattle.std.specs.Str.Parse.{AllDigits, digits_value}
+
+-- decimal digits that write a number from 1 to the largest one; leading zeros are allowed, a sign isn't
+pub record IsNumber (largest : ℕ) (word : List ℕ) (n : ℕ) : Type 0 where
+  pub digits : AllDigits 10 word
+  pub value : n ≡ digits_value 10 word
+  pub least : 1 ≤ n
+  pub most : n ≤ largest
+
+-- `--steps M`, or nothing for the limit of 1,000,000 steps
+abbrev pub IsLimit : List (List ℕ) → ℕ → Type 0
+IsLimit words steps = ((words ≡ []) × (steps ≡ 1000000))
+    ⊎ ((word : List ℕ) × (words ≡ codes "--steps" ∷ word ∷ []) × IsNumber (2 ^ 63 - 1) word steps)
+
+-- `run --unchecked N`, and then the limit
+pub record IsRun (words : List (List ℕ)) (depth steps : ℕ) : Type 0 where
+  pub word : List ℕ
+  pub options : List (List ℕ)
+  pub are : words ≡ codes "run" ∷ codes "--unchecked" ∷ word ∷ options
+  pub deep : IsNumber 256 word depth
+  pub limited : IsLimit options steps
+
+-- the first of the words writes this number, and the rest come after it
+pub record IsFirstNumber (largest : ℕ) (words : List (List ℕ)) (n : ℕ) (rest : List (List ℕ)) : Type 0 where
+  pub word : List ℕ
+  pub are : words ≡ word ∷ rest
+  pub is : IsNumber largest word n

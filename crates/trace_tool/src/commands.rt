@@ -1,0 +1,67 @@
+ghost use Rattle.std.specs.Prelude.{◌≡◌, ℕ, map, IfOk};
+ghost use Rattle.trace_tool.specs.Commands.{AnswersCommand};
+ghost use Rattle.trace_tool.specs.Refusals.{usage_line};
+ghost use Rattle.trace_tool.specs.Sent.{SendsWith};
+ghost use Rattle.trace_tool.specs.Words.{IsRun};
+
+use crate::cut::two_texts;
+use crate::fault::WriteFault;
+use crate::input::{InputFault, LARGEST_INPUT, read_input};
+use crate::refusal::{Refusal, UNDONE};
+use crate::run::{refuse, run_unchecked};
+use crate::words::Options;
+use qt_runtime::Natives;
+use std::alloc::Global;
+use std::io::{Read, Write};
+
+/// Does what a command line's words say, on the bytes that the reader has left, and answers the exit status.
+///
+/// The command `run --unchecked N [--steps M]` takes two texts, a program and a script, with a line `%%` between them;
+/// N is from 1 to 256, M from 1 to 2^63 - 1, or 1,000,000 where it isn't given. Other words, another number of texts and
+/// an input of more than 67,108,864 bytes write `usage`; for other words nothing is read. After a read that fails nothing
+/// is written. All of these end with 1.
+///
+/// There is a `WriteFault` only where the writer failed; nothing is written after that.
+pub fn command<R: Read, W: Write>(
+    alloc: Global,
+    words: &[&str],
+    reader: &mut R,
+    natives: Natives,
+    w: &mut W,
+) -> Result<u8, WriteFault>
+    ensures answers { IfOk result (λ status. AnswersCommand (map (λ word. word.now) words.now) (R.remaining reader.old) (W.contents w.old) (W.contents w.new) status) }
+    ensures unread { ((depth steps : ℕ) → IsRun (map (λ word. word.now) words.now) depth steps → ⊥) → reader.new ≡ reader.old }
+{
+    let Some(options) = Options::of(words) else {
+        return refuse_usage(w);
+    };
+    let input = match read_input(alloc, reader) {
+        Ok(input) => input,
+        Err(InputFault::Unread) => return Ok(UNDONE),
+        Err(InputFault::Memory) => return refuse(alloc, &Refusal::Memory, w),
+    };
+    if input.len() > LARGEST_INPUT {
+        return refuse_usage(w);
+    }
+    match two_texts(input.as_slice()) {
+        Some((program, script)) => run_unchecked(
+            alloc,
+            program,
+            script,
+            natives,
+            options.depth,
+            options.steps,
+            w,
+        ),
+        None => refuse_usage(w),
+    }
+}
+
+/// Writes that the command line or its input isn't one that the program takes.
+fn refuse_usage<W: Write>(w: &mut W) -> Result<u8, WriteFault>
+    ensures { IfOk result (λ status. SendsWith (W.contents w.old) (W.contents w.new) usage_line 1 status) }
+{
+    w.write_all(b"usage\n")?;
+    w.flush()?;
+    Ok(UNDONE)
+}

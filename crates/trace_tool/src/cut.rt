@@ -1,0 +1,71 @@
+//! The texts of an input.
+
+ghost use Rattle.std.specs.Prelude.{◌≡◌, ℕ, ◌+◌, ◌-◌, ◌<◌, ◌≤◌, ◌⊎◌, ◌↔◌, List, [], ◌∷◌, length, slice_index, IsTrue, IfSome, MatchOption};
+ghost use Rattle.trace_tool.specs.Cut.{IsMarkAt, HasNoMark, IsParted, AreTexts};
+
+/// The two texts of an input that has just one line `%%`.
+pub fn two_texts(input: &[u8]) -> Option<(&[u8], &[u8])>
+    ensures cut { MatchOption result ((first second : List ℕ) → AreTexts input.now (first ∷ second ∷ []) → ⊥) (λ texts. AreTexts input.now (texts.0.now ∷ texts.1.now ∷ [])) }
+    ensures only { IfSome result (λ texts. (others : List (List ℕ)) → AreTexts input.now others → others ≡ texts.0.now ∷ texts.1.now ∷ []) }
+{
+    let (first, after) = first_text(input);
+    let rest = after?;
+    let (second, beyond) = first_text(rest);
+    if beyond.is_some() {
+        return None;
+    }
+    Some((first, second))
+}
+
+/// The first text, and what comes after the line `%%` that ends it, if one does.
+fn first_text(input: &[u8]) -> (&[u8], Option<&[u8]>)
+    ensures { MatchOption result.1 ((result.0.now ≡ input.now) × HasNoMark input.now) (λ rest. IsParted input.now result.0.now rest.now) }
+{
+    match first_mark(input) {
+        Some(place) => {
+            let after = (place + 3).min(input.len());
+            (&input[..place], Some(&input[after..]))
+        }
+        None => (input, None),
+    }
+}
+
+/// Where the first line begins that is exactly `%%`.
+fn first_mark(input: &[u8]) -> Option<usize>
+    ensures first { MatchOption result (HasNoMark input.now) (λ place. IsMarkAt input.now place × ((k : ℕ) → k < place → IsMarkAt input.now k → ⊥)) }
+    ensures within { IfSome result (λ place. place < length input.now) }
+{
+    for place in 0..input.len() {
+        if is_mark_at(input, place) {
+            return Some(place);
+        }
+    }
+    None
+}
+
+/// Whether a line that is exactly `%%` begins at this place.
+fn is_mark_at(input: &[u8], place: usize) -> bool
+    requires { place < length input.now }
+    ensures { IsTrue result ↔ IsMarkAt input.now place }
+{
+    input[place] == b'%' && is_behind_line(input, place) && ends_line(input, place + 1)
+}
+
+/// Whether a line begins at this place.
+fn is_behind_line(input: &[u8], place: usize) -> bool
+    requires { place < length input.now }
+    ensures { IsTrue result ↔ ((place ≡ 0) ⊎ (slice_index input.now (place - 1) ≡ 10)) }
+{
+    place == 0 || input[place - 1] == b'\n'
+}
+
+/// Whether the byte at this place is `%` and its line's last one.
+fn ends_line(input: &[u8], place: usize) -> bool
+    requires { place ≤ length input.now }
+    ensures { IsTrue result ↔ ((slice_index input.now place ≡ 37) × ((place + 1 ≡ length input.now) ⊎ (slice_index input.now (place + 1) ≡ 10))) }
+{
+    match input[place..].split_first() {
+        Some((byte, rest)) => { *byte == b'%' && (rest.is_empty() || rest[0] == b'\n') }
+        None => false,
+    }
+}

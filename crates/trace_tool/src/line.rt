@@ -1,0 +1,178 @@
+//! The text of the output's lines.
+
+ghost use Rattle.std.specs.Prelude.{◌++◌, OnOk};
+ghost use Rattle.trace_tool.specs.Lines.{newline, value_text, arguments_text, member_text, call_line, written_line, refused_event_line, entry_line, trace_text};
+ghost use Rattle.trace_tool.specs.Refusals.{refusal_line};
+ghost use Rattle.trace_tool.specs.Sent.{Sends, behind};
+
+use crate::fault::WriteFault;
+use crate::output::Output;
+use crate::refusal::Refusal;
+use itoa::{Buffer, Integer};
+use qt_runtime::Entry;
+use signatures::{Name, Value};
+use std::io::Write;
+
+impl Output {
+    /// Adds a number in decimal digits.
+    fn number<W: Write, I: Integer>(&mut self, w: &mut W, number: I) -> Result<(), WriteFault>
+        ensures { OnOk result (Sends (behind (W.contents w.old) self.old) (behind (W.contents w.new) self.new) (I.text number)) }
+    {
+        let mut buffer = Buffer::new();
+        self.put(w, buffer.format(number).as_bytes())?;
+        Ok(())
+    }
+
+    /// Adds a value.
+    fn value<W: Write>(&mut self, w: &mut W, value: &Value) -> Result<(), WriteFault>
+        ensures { OnOk result (Sends (behind (W.contents w.old) self.old) (behind (W.contents w.new) self.new) (value_text value.now)) }
+    {
+        match value {
+            Value::Int(number) => self.number(w, *number)?,
+        }
+        Ok(())
+    }
+
+    /// Adds values, separated by commas.
+    fn arguments<W: Write>(&mut self, w: &mut W, values: &[Value]) -> Result<(), WriteFault>
+        ensures { OnOk result (Sends (behind (W.contents w.old) self.old) (behind (W.contents w.new) self.new) (arguments_text values.now)) }
+    {
+        let Some((first, rest)) = values.split_first() else {
+            return Ok(());
+        };
+        self.value(w, first)?;
+        for value in rest {
+            self.put(w, b",")?;
+            self.value(w, value)?;
+        }
+        Ok(())
+    }
+
+    /// Adds `object.member`.
+    fn member<W: Write>(
+        &mut self,
+        w: &mut W,
+        object: &Name,
+        member: &Name,
+    ) -> Result<(), WriteFault>
+        ensures { OnOk result (Sends (behind (W.contents w.old) self.old) (behind (W.contents w.new) self.new) (member_text object.now member.now)) }
+    {
+        self.put(w, object.bytes())?;
+        self.put(w, b".")?;
+        self.put(w, member.bytes())?;
+        Ok(())
+    }
+
+    /// Adds the line of an emission or a call, as the word says.
+    fn call<W: Write>(
+        &mut self,
+        w: &mut W,
+        depth: usize,
+        word: &[u8],
+        object: &Name,
+        method: &Name,
+        arguments: &[Value],
+    ) -> Result<(), WriteFault>
+        ensures { OnOk result (Sends (behind (W.contents w.old) self.old) (behind (W.contents w.new) self.new) (call_line depth word.now object.now method.now arguments.now)) }
+    {
+        self.number(w, depth)?;
+        self.put(w, word)?;
+        self.member(w, object, method)?;
+        self.put(w, b"(")?;
+        self.arguments(w, arguments)?;
+        self.put(w, b")\n")?;
+        Ok(())
+    }
+
+    /// Adds the line of a write of a property.
+    fn written<W: Write>(
+        &mut self,
+        w: &mut W,
+        depth: usize,
+        object: &Name,
+        property: &Name,
+        value: &Value,
+    ) -> Result<(), WriteFault>
+        ensures { OnOk result (Sends (behind (W.contents w.old) self.old) (behind (W.contents w.new) self.new) (written_line depth object.now property.now value.now)) }
+    {
+        self.number(w, depth)?;
+        self.put(w, b" set ")?;
+        self.member(w, object, property)?;
+        self.put(w, b" ")?;
+        self.value(w, value)?;
+        self.put(w, b"\n")?;
+        Ok(())
+    }
+
+    /// Adds the line of a refused event.
+    fn refused_event<W: Write>(
+        &mut self,
+        w: &mut W,
+        event: u64,
+        refusal: u8,
+    ) -> Result<(), WriteFault>
+        ensures { OnOk result (Sends (behind (W.contents w.old) self.old) (behind (W.contents w.new) self.new) (refused_event_line event refusal)) }
+    {
+        self.put(w, b"event ")?;
+        self.number(w, event)?;
+        self.numbered(w, b" refused ", refusal)?;
+        Ok(())
+    }
+
+    /// Adds a line that ends with a number.
+    pub fn numbered<W: Write, I: Integer>(
+        &mut self,
+        w: &mut W,
+        words: &[u8],
+        number: I,
+    ) -> Result<(), WriteFault>
+        ensures { OnOk result (Sends (behind (W.contents w.old) self.old) (behind (W.contents w.new) self.new) (words.now ++ I.text number ++ newline)) }
+    {
+        self.put(w, words)?;
+        self.number(w, number)?;
+        self.put(w, b"\n")?;
+        Ok(())
+    }
+
+    /// Adds a refusal's line.
+    pub fn refusal<W: Write>(&mut self, w: &mut W, refusal: &Refusal) -> Result<(), WriteFault>
+        ensures { OnOk result (Sends (behind (W.contents w.old) self.old) (behind (W.contents w.new) self.new) (refusal_line refusal.now)) }
+    {
+        match refusal {
+            Refusal::Numbered(number) => self.numbered(w, b"refused ", *number)?,
+            Refusal::BadLine(line) => self.numbered(w, b"refused 16 line ", *line)?,
+            Refusal::Memory => self.put(w, b"memory\n")?,
+        }
+        Ok(())
+    }
+
+    /// Adds an entry's line.
+    fn entry<W: Write>(&mut self, w: &mut W, entry: &Entry) -> Result<(), WriteFault>
+        ensures { OnOk result (Sends (behind (W.contents w.old) self.old) (behind (W.contents w.new) self.new) (entry_line entry.now)) }
+    {
+        match entry {
+            Entry::Accepted(event) => self.numbered(w, b"event ", *event)?,
+            Entry::Refused(event, refusal) => self.refused_event(w, *event, *refusal)?,
+            Entry::Emitted(depth, object, signal, arguments) => {
+                self.call(w, *depth, b" emit ", object, signal, arguments.as_slice())?;
+            }
+            Entry::Called(depth, object, slot, arguments) => {
+                self.call(w, *depth, b" call ", object, slot, arguments.as_slice())?;
+            }
+            Entry::Written(depth, object, property, value) => {
+                self.written(w, *depth, object, property, value)?;
+            }
+        }
+        Ok(())
+    }
+
+    /// Adds the lines of a trace.
+    pub fn entries<W: Write>(&mut self, w: &mut W, entries: &[Entry]) -> Result<(), WriteFault>
+        ensures { OnOk result (Sends (behind (W.contents w.old) self.old) (behind (W.contents w.new) self.new) (trace_text entries.now)) }
+    {
+        for entry in entries {
+            self.entry(w, entry)?;
+        }
+        Ok(())
+    }
+}

@@ -1,0 +1,87 @@
+ghost use Rattle.std.specs.Prelude.{◌≡◌};
+ghost use Rattle.trace_tool.specs.Refusals.{numbered, refusal_status};
+
+use class_lang::TextFault;
+use meta_objects::MetaFault;
+use script_lang::ScriptFault;
+use thiserror::Error;
+
+/// Why a program and its script aren't run.
+#[derive(Debug, Drop, Error)]
+pub enum Refusal {
+    /// The program is refused for the reason of this number, or the script is too large, which is 7.
+    #[error("refused {0}")]
+    Numbered(u8),
+    /// The first line of the script that is no event, counted from 1.
+    #[error("refused 16 line {0}")]
+    BadLine(usize),
+    /// A growth of memory was refused.
+    #[error("out of memory")]
+    Memory,
+}
+
+/// The exit status where nothing was done.
+pub const UNDONE: u8 = 1;
+/// The exit status where a text is refused.
+const REFUSED: u8 = 2;
+
+impl Refusal {
+    /// The exit status.
+    pub fn status(&self) -> u8
+        ensures { result ≡ refusal_status self.now }
+    {
+        match self {
+            Refusal::Numbered(_) | Refusal::BadLine(_) => REFUSED,
+            Refusal::Memory => UNDONE,
+        }
+    }
+
+    /// The refusal of this number, where want of memory has none.
+    fn numbered(number: Option<u8>) -> Refusal
+        ensures { result ≡ numbered number }
+    {
+        match number {
+            Some(number) => Refusal::Numbered(number),
+            None => Refusal::Memory,
+        }
+    }
+}
+
+impl From<TextFault> for Refusal {
+    ghost use Rattle.std.specs.Prelude.{◌≡◌};
+    ghost use Rattle.class_lang.specs.Reads.{number_of};
+    ghost use Rattle.trace_tool.specs.Refusals.{numbered};
+
+    ghost from_gives = { λ fault refusal. refusal ≡ numbered (number_of fault) };
+
+    fn from(fault: TextFault) -> Refusal {
+        Refusal::numbered(fault.number())
+    }
+}
+
+impl From<MetaFault> for Refusal {
+    ghost use Rattle.std.specs.Prelude.{◌≡◌};
+    ghost use Rattle.meta_objects.specs.Builds.{number_of};
+    ghost use Rattle.trace_tool.specs.Refusals.{numbered};
+
+    ghost from_gives = { λ fault refusal. refusal ≡ numbered (number_of fault) };
+
+    fn from(fault: MetaFault) -> Refusal {
+        Refusal::numbered(fault.number())
+    }
+}
+
+impl From<ScriptFault> for Refusal {
+    ghost use Rattle.std.specs.Prelude.{◌≡◌};
+    ghost use Rattle.trace_tool.specs.Refusals.{of_script};
+
+    ghost from_gives = { λ fault refusal. refusal ≡ of_script fault };
+
+    fn from(fault: ScriptFault) -> Refusal {
+        match fault {
+            ScriptFault::TooLarge => Refusal::Numbered(7),
+            ScriptFault::BadLine(line) => Refusal::BadLine(line),
+            ScriptFault::Memory => Refusal::Memory,
+        }
+    }
+}

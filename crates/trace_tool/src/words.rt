@@ -1,0 +1,87 @@
+//! The words of a command line.
+
+ghost use Rattle.std.specs.Prelude.{◌≡◌, ◌≢◌, ◌↔◌, ℕ, ◌≤◌, ◌<◌, ◌^◌, List, [], ◌∷◌, map, codes, IsTrue, IfSome, MatchOption};
+ghost use Rattle.trace_tool.specs.Words.{IsNumber, IsFirstNumber, IsLimit, IsRun};
+
+const LARGEST_DEPTH: u64 = 256;
+
+const LARGEST_STEPS: u64 = 9223372036854775807;
+
+const DEFAULT_STEPS: u64 = 1000000;
+
+/// What the words `run --unchecked N [--steps M]` say.
+#[derive(Clone, Copy)]
+pub struct Options {
+    /// How many activations may nest.
+    pub depth: usize,
+    /// How many rules may be used.
+    pub steps: u64,
+}
+
+impl Options {
+    /// What the words say, if they are those of a run.
+    pub fn of(words: &[&str]) -> Option<Options>
+        ensures said { MatchOption result ((depth steps : ℕ) → IsRun (map (λ w. w.now) words.now) depth steps → ⊥) (λ o. IsRun (map (λ w. w.now) words.now) o.depth o.steps) }
+        ensures depth { IfSome result (λ o. (1 ≤ o.depth) × (o.depth ≤ 256)) }
+        ensures steps { IfSome result (λ o. (1 ≤ o.steps) × (o.steps < 2 ^ 63)) }
+    {
+        let words = after(words, "run")?;
+        let words = after(words, "--unchecked")?;
+        let (depth, words) = number(words, LARGEST_DEPTH)?;
+        let steps = limit(words)?;
+        Some(Options {
+            depth: depth as usize,
+            steps,
+        })
+    }
+}
+
+/// The limit of steps that the last words give.
+fn limit(words: &[&str]) -> Option<u64>
+    ensures said { MatchOption result ((steps : ℕ) → IsLimit (map (λ w. w.now) words.now) steps → ⊥) (λ steps. IsLimit (map (λ w. w.now) words.now) steps) }
+    ensures within { IfSome result (λ steps. (1 ≤ steps) × (steps < 2 ^ 63)) }
+{
+    if are_over(words) {
+        return Some(DEFAULT_STEPS);
+    }
+    let words = after(words, "--steps")?;
+    let (steps, words) = number(words, LARGEST_STEPS)?;
+    if are_over(words) { Some(steps) } else { None }
+}
+
+/// Whether no word is left.
+fn are_over(words: &[&str]) -> bool
+    ensures { IsTrue result ↔ (map (λ w. w.now) words.now ≡ []) }
+{
+    words.is_empty()
+}
+
+/// The words after this one, if it comes first.
+fn after<'a>(words: &'a [&'a str], word: &str) -> Option<&'a [&'a str]>
+    ensures { MatchOption result ((rest : List (List ℕ)) → map (λ w. w.now) words.now ≢ word.now ∷ rest) (λ rest. map (λ w. w.now) words.now ≡ word.now ∷ map (λ w. w.now) rest.now) }
+{
+    let (first, rest) = words.split_first()?;
+    if *first == word { Some(rest) } else { None }
+}
+
+/// The number that comes first, and the words after it.
+fn number<'a>(words: &'a [&'a str], largest: u64) -> Option<(u64, &'a [&'a str])>
+    ensures { MatchOption result ((word : List ℕ) (rest : List (List ℕ)) (n : ℕ) → map (λ w. w.now) words.now ≡ word ∷ rest → IsNumber largest word n → ⊥) (λ r. IsFirstNumber largest (map (λ w. w.now) words.now) r.0 (map (λ w. w.now) r.1.now)) }
+{
+    let (word, rest) = words.split_first()?;
+    let number = number_of(word, largest)?;
+    Some((number, rest))
+}
+
+/// The number that a word writes.
+fn number_of(word: &str, largest: u64) -> Option<u64>
+    ensures { MatchOption result ((n : ℕ) → IsNumber largest word.now n → ⊥) (λ n. IsNumber largest word.now n) }
+{
+    if word.as_bytes().first() == Some(&b'+') {
+        return None;
+    }
+    match word.parse::<u64>() {
+        Ok(number) if 1 <= number && number <= largest => Some(number),
+        _ => None,
+    }
+}
