@@ -26,9 +26,9 @@ abbrev pub StartsWithLetter : List ℕ → Type 0
 StartsWithLetter [] = ⊥
 StartsWithLetter (b ∷ bs) = is_letter b ≡ true
 
-abbrev pub IsSome_byte : List ℕ → Type 0
-IsSome_byte [] = ⊥
-IsSome_byte (b ∷ bs) = Unit {0}
+abbrev pub IsNotEmpty : List ℕ → Type 0
+IsNotEmpty [] = ⊥
+IsNotEmpty (b ∷ bs) = Unit {0}
 
 -- after the first slash of a comment
 abbrev pub IsComment : List ℕ → List ℕ → Type 0
@@ -40,7 +40,7 @@ IsFront (blank b) bytes rest = (is_blank b ≡ true) × (bytes ≡ b ∷ rest)
 IsFront (comment line) bytes rest = (tail : List ℕ) × (bytes ≡ 47 ∷ 47 ∷ tail) × IsRun run.Line tail line rest
 IsFront (name letters) bytes rest = StartsWithLetter letters × IsFree letters × IsRun run.Name bytes letters rest
 IsFront (reserved word) bytes rest = IsRun run.Name bytes (word_spelling word) rest
-IsFront (number digits) bytes rest = IsSome_byte digits × IsRun run.Number bytes digits rest
+IsFront (number digits) bytes rest = IsNotEmpty digits × IsRun run.Number bytes digits rest
 IsFront (text inner) bytes rest = (tail : List ℕ) × (bytes ≡ 34 ∷ tail) × IsRun run.Text tail inner (34 ∷ rest)
 IsFront (symbol s) bytes rest = IsSymbolAt s bytes rest
 

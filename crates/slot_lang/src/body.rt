@@ -21,7 +21,9 @@ use std::alloc::Global;
 /// The largest number in an expression.
 const MOST_IN_EXPRESSIONS: u32 = 2147483647;
 
-/// Reads a slot's body, which all of the tokens are. `Syntax` exactly where they aren't one.
+/// Reads a slot's body, which all of the tokens are: its statements, in their order.
+///
+/// `Syntax` where the tokens aren't a body, and only there; `Memory` where a growth of memory was refused.
 pub fn parse_body(alloc: Global, tokens: &[Token]) -> Result<Body, ParseFault>
     ensures read { IfOk result (λ body. IsBody tokens.now body) }
     ensures refused { result ≡ Err Syntax → (body : List Stmt) → IsBody tokens.now body → ⊥ }
@@ -35,15 +37,17 @@ pub fn parse_body(alloc: Global, tokens: &[Token]) -> Result<Body, ParseFault>
     }
 }
 
-/// Reads an expression, which all of the tokens are. `Syntax` exactly where they aren't one.
+/// Reads an expression, which all of the tokens are. A number in it is at most 2147483647.
+///
+/// `Syntax` where the tokens aren't an expression, and only there; `Memory` where a growth of memory was refused.
 pub fn parse_expr(alloc: Global, tokens: &[Token]) -> Result<Expr, ParseFault>
     ensures read { IfOk result (λ e. IsExpr tokens.now e) }
     ensures refused { result ≡ Err Syntax → (e : Expr) → IsExpr tokens.now e → ⊥ }
 {
     let mut cursor = Cursor::new(alloc, tokens);
-    let found = cursor.expression()?;
+    let expression = cursor.expression()?;
     if cursor.is_empty() {
-        Ok(found)
+        Ok(expression)
     } else {
         Err(ParseFault::Syntax)
     }
@@ -65,7 +69,7 @@ fn value_of(digits: &[u8], most: u32) -> Result<u32, ParseFault>
 {
     let mut value = 0u32;
     for digit in digits {
-        let next = u64::from(value) * 10 + u64::from(digit.saturating_sub(48));
+        let next = u64::from(value) * 10 + u64::from(digit.saturating_sub(b'0'));
         if next > u64::from(most) {
             return Err(ParseFault::Syntax);
         }
@@ -75,7 +79,9 @@ fn value_of(digits: &[u8], most: u32) -> Result<u32, ParseFault>
 }
 
 impl<'a> Cursor<'a> {
-    /// Takes the number that has to come next, and is at most so much.
+    /// Takes the number that has to come next, which is at most `most`; leading zeros are allowed.
+    ///
+    /// `Syntax` where no number comes next or it is larger, and only there.
     pub fn number(&mut self, most: u32) -> Result<u32, ParseFault>
         ensures reads { Reads (spell_numeral most) (λ n. value_of n.digits) EndsAnywhere self.old result self.new }
         ensures fits { IfOk result (λ n. n ≤ most) }
@@ -141,7 +147,9 @@ impl<'a> Cursor<'a> {
         Ok(Stmt::Set(property, value))
     }
 
-    /// Takes the block that has to come next.
+    /// Takes the block that has to come next: `{`, statements and `}`.
+    ///
+    /// `Syntax` where the tokens begin with no block, and only there; `Memory` where a growth of memory was refused.
     pub fn block(&mut self) -> Result<Body, ParseFault>
         ensures reads { Reads spell_block tree_of_block EndsAnywhere self.old result self.new }
         ensures shorter { OnOk result (length self.new < length self.old) }

@@ -41,13 +41,13 @@ pub fn class_of(b: u8) -> Class
 {
     if is_blank(b) {
         Class::Blank
-    } else if b == 47 {
+    } else if b == b'/' {
         Class::Slash
     } else if is_letter(b) {
         Class::Letter
     } else if is_digit(b) {
         Class::Digit
-    } else if b == 34 {
+    } else if b == b'"' {
         Class::Quote
     } else {
         Class::Other
@@ -58,7 +58,7 @@ pub fn class_of(b: u8) -> Class
 pub fn is_blank(b: u8) -> bool
     ensures { result ≡ is_blank b }
 {
-    b == 32 || b == 9 || b == 13 || b == 10
+    b == b' ' || b == b'\t' || b == b'\r' || b == b'\n'
 }
 
 /// Whether the run goes on with the byte.
@@ -68,8 +68,8 @@ pub fn belongs(run: Run, b: u8) -> bool
     match run {
         Run::Name => is_name_byte(b),
         Run::Number => is_digit(b),
-        Run::Text => 32 <= b && b <= 126 && b != 34,
-        Run::Line => b != 10,
+        Run::Text => b' ' <= b && b <= b'~' && b != b'"',
+        Run::Line => b != b'\n',
     }
 }
 

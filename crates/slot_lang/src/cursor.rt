@@ -1,3 +1,5 @@
+//! A place in a list of tokens, and what every reader takes there.
+
 ghost use Rattle.std.specs.Prelude.{◌≡◌, ◌↔◌, ◌<◌, ◌≤◌, List, [], ◌∷◌, length, MatchBool, MatchResult, IsTrue, IfOk, OnOk};
 ghost use Rattle.std.specs.Bool.{OnTrue};
 ghost use Rattle.slot_lang.specs.Cursor.{NotAt, NotAtWord};
@@ -70,7 +72,7 @@ impl<'a> Cursor<'a> {
         }
     }
 
-    /// Takes the reserved word, if it comes next.
+    /// Takes the reserved word, if it comes next, and says whether it did.
     pub fn eat_word(&mut self, word: Word) -> bool
         ensures found { MatchBool result (self.old ≡ token.Word word ∷ self.new) ((self.new ≡ self.old) × NotAtWord word self.old) }
         ensures shorter { OnTrue result (length self.new < length self.old) }
@@ -84,7 +86,7 @@ impl<'a> Cursor<'a> {
         }
     }
 
-    /// Takes the symbol, if it comes next.
+    /// Takes the symbol, if it comes next, and says whether it did.
     pub fn eat(&mut self, symbol: Symbol) -> bool
         ensures found { MatchBool result (self.old ≡ token.Symbol symbol ∷ self.new) ((self.new ≡ self.old) × NotAt symbol self.old) }
         ensures shorter { OnTrue result (length self.new < length self.old) }
@@ -98,7 +100,7 @@ impl<'a> Cursor<'a> {
         }
     }
 
-    /// Takes the symbol, which has to come next.
+    /// Takes the symbol, which has to come next; where it doesn't, that is a fault of syntax.
     pub fn expect(&mut self, symbol: Symbol) -> Result<(), ParseFault>
         ensures found { MatchResult result (λ _. self.old ≡ token.Symbol symbol ∷ self.new) (λ fault. (fault ≡ Syntax) × NotAt symbol self.old) }
         ensures shorter { OnOk result (length self.new < length self.old) }
@@ -110,7 +112,7 @@ impl<'a> Cursor<'a> {
         }
     }
 
-    /// Takes the reserved word, which has to come next.
+    /// Takes the reserved word, which has to come next; where it doesn't, that is a fault of syntax.
     pub fn expect_word(&mut self, word: Word) -> Result<(), ParseFault>
         ensures found { MatchResult result (λ _. self.old ≡ token.Word word ∷ self.new) (λ fault. (fault ≡ Syntax) × NotAtWord word self.old) }
         ensures shorter { OnOk result (length self.new < length self.old) }
@@ -122,7 +124,7 @@ impl<'a> Cursor<'a> {
         }
     }
 
-    /// Takes the name that has to come next.
+    /// Takes the name that has to come next; where none does, that is a fault of syntax.
     pub fn name(&mut self) -> Result<Name, ParseFault>
         ensures reads { Reads spell_name (λ name. name) EndsAnywhere self.old result self.new }
         ensures shorter { OnOk result (length self.new < length self.old) }

@@ -1,3 +1,5 @@
+//! Why tokens aren't read.
+
 use std::alloc::AllocError;
 use thiserror::Error;
 

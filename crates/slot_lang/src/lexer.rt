@@ -39,7 +39,10 @@ impl From<AllocError> for LexFault {
     }
 }
 
-/// The tokens of a text: the longest ones, from its front on.
+/// The tokens of a text: the longest ones, from its front on. Blanks stand between them, and comments, which go from `//`
+/// to the end of the line.
+///
+/// `BadByte` where the text isn't cut into tokens, and only there; `Memory` where a growth of memory was refused.
 pub fn tokens(alloc: Global, bytes: &[u8]) -> Result<Items<Token>, LexFault>
     ensures cut { IfOk result (λ tokens. AreTokens bytes.now tokens) }
     ensures refused { result ≡ Err BadByte → (tokens : List Token) → AreTokens bytes.now tokens → ⊥ }
@@ -116,7 +119,7 @@ fn split_comment(bytes: &[u8]) -> Result<&[u8], LexFault>
     ensures { MatchResult result (λ rest. IsComment bytes.now rest.now) (λ e. (e ≡ BadByte) × ((rest : List ℕ) → IsComment bytes.now rest → ⊥)) }
 {
     match bytes.split_first() {
-        Some((slash, after)) if *slash == 47 => {
+        Some((slash, after)) if *slash == b'/' => {
             let (_, rest) = split_run(after, Run::Line);
             Ok(rest)
         }
@@ -130,7 +133,7 @@ fn split_text(bytes: &[u8]) -> Result<(&[u8], &[u8]), LexFault>
 {
     let (inner, rest) = split_run(bytes, Run::Text);
     match rest.split_first() {
-        Some((quote, after)) if *quote == 34 => Ok((inner, after)),
+        Some((quote, after)) if *quote == b'"' => Ok((inner, after)),
         _ => Err(LexFault::BadByte),
     }
 }

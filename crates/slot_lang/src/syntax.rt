@@ -1,3 +1,5 @@
+//! The trees of slot bodies.
+
 use signatures::Name;
 use sqlite_items::Items;
 

@@ -1,3 +1,5 @@
+//! Tokens.
+
 use crate::symbol::Symbol;
 use crate::word::Word;
 use signatures::Name;
@@ -6,11 +8,14 @@ use sqlite_items::Items;
 /// A token of a text.
 #[derive(Drop)]
 pub enum Token {
+    /// A name, which is no reserved word.
     Name(Name),
+    /// A reserved word.
     Word(Word),
-    /// Its digits.
+    /// A number, by its digits; there may be any number of them.
     Number(Items<u8>),
-    /// What stands between its quotes.
+    /// A text, by what stands between its quotes.
     Text(Items<u8>),
+    /// A symbol.
     Symbol(Symbol),
 }
