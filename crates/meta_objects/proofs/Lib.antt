@@ -4,3 +4,4 @@ pub mod Choices
 pub mod Zips
 pub mod Ends
 pub mod Refusals
+pub mod Unique

@@ -1,5 +1,5 @@
 -- When a program loads, and what its meta-objects are (docs/machine.md, "Loading").
-use Rattle.std.specs.Prelude.{ℕ, Result, Option, Some, None, Ok, Err}
+use Rattle.std.specs.Prelude.{◌≡◌, ℕ, Result, Option, Some, None, Ok, Err}
 use Rattle.class_lang.specs.declared.program.Program.{Program}
 use Rattle.meta_objects.specs.declared.fault.MetaFault.{MetaFault}
 use Rattle.meta_objects.specs.declared.fault.MetaFault.TheVariants as fault
@@ -22,3 +22,7 @@ Builds program (Err fault.DuplicateClass) = DuplicateClass program
 Builds program (Err fault.DuplicateMember) = (¬ DuplicateClass program) × DuplicateMember program
 Builds program (Err fault.NoMember) = (¬ DuplicateClass program) × (¬ DuplicateMember program) × LacksMember program
 Builds program (Err fault.Memory) = Unit {0}
+
+-- a program is loaded in one way at most
+abbrev pub OneLoading : Type 0
+OneLoading = (program : Program) (a b : Loaded) → Builds program (Ok a) → Builds program (Ok b) → a ≡ b

@@ -3,6 +3,7 @@
 
 mod clashes;
 mod fault;
+mod laws;
 mod load_class;
 mod load_slot;
 mod load_wire;
@@ -11,5 +12,6 @@ mod object;
 mod places;
 
 pub use fault::MetaFault;
+pub use laws::one_loading;
 pub use meta::{Meta, Wired};
 pub use object::{MetaMethod, MetaObject, MetaProperty, MetaWire, Operand, Statement, Work};

@@ -34,13 +34,21 @@ impl Model for Meta {
 /// Whether a wire covers a connection, and whether its slot fits its signal.
 #[derive(Clone, Copy, Debug, PartialEq, Eq)]
 pub enum Wired {
+    /// No wire covers the connection.
     No,
+    /// A wire covers it, but the slot's parameter types aren't the signal's first ones.
     Unfit,
+    /// A wire covers it, and the slot fits the signal.
     Fit,
 }
 
 impl Meta {
-    /// Resolves a program's names.
+    /// Resolves a program's names. Each fault is judged over the whole program, and the first of these is answered:
+    /// `DuplicateClass`, where two classes have one name, or one is called `QObject`, `int`, `bool` or `QString`;
+    /// `DuplicateMember`, where two methods of a class have one name and one number of parameters, two of its
+    /// properties one name, or two parameters of a method one name; `NoMember`, where a statement sets what is no
+    /// property of its class, an expression names no parameter of its slot, or a wire's class, signal or slot isn't
+    /// there. `Memory` comes only where a growth of memory was refused.
     pub fn build(alloc: Global, program: &Program) -> Result<Meta, MetaFault>
         ensures { Builds program.now result }
     {
@@ -69,50 +77,51 @@ impl Meta {
         self.wires.as_slice()
     }
 
-    /// The number of the class of this name.
+    /// The number of the class of this name, or `None` where there is none.
     pub fn class(&self, name: &Name) -> Option<usize>
         ensures { MatchOption result ((c : ℕ) → ¬ IsClassNamed self.now name.now c) (λ c. IsClassNamed self.now name.now c) }
     {
         place_of(self.classes(), name)
     }
 
-    /// The class of this number.
+    /// The class of this number, or `None` past the last one.
     pub fn object(&self, class: usize) -> Option<&MetaObject>
         ensures { option_copied result ≡ slice_get self.now.classes class }
     {
         self.classes.get(class)
     }
 
-    /// The method of this number, of the class of this number.
+    /// The method of this number, of the class of this number, or `None` where either isn't there.
     pub fn method_at(&self, class: usize, method: usize) -> Option<&MetaMethod>
         ensures { MatchOption result ((m : MetaMethod) → ¬ IsMethod self.now class method m) (λ m. IsMethod self.now class method m.now) }
     {
         self.object(class)?.methods.get(method)
     }
 
-    /// The number of the method of this signature, in the class of this number.
+    /// The number of the method of this signature, in the class of this number, or `None` where there is none.
     pub fn method(&self, class: usize, sig: &Sig) -> Option<usize>
         ensures { MatchOption result ((m : ℕ) → ¬ HasSig self.now class sig.now m) (λ m. HasSig self.now class sig.now m) }
     {
         place_of_sig(self.object(class)?.methods.as_slice(), sig)
     }
 
-    /// The number of the method of this name with so many parameters, in the class of this number.
+    /// The number of the method of this name with so many parameters, in the class of this number, or `None` where
+    /// there is none.
     pub fn by_name(&self, class: usize, name: &Name, count: usize) -> Option<usize>
         ensures { MatchOption result ((m : ℕ) → ¬ IsMethodNamed self.now class name.now count m) (λ m. IsMethodNamed self.now class name.now count m) }
     {
         place_of_method(self.object(class)?.methods.as_slice(), name, count)
     }
 
-    /// The number of the property of this name, in the class of this number.
+    /// The number of the property of this name, in the class of this number, or `None` where there is none.
     pub fn property(&self, class: usize, name: &Name) -> Option<usize>
         ensures { MatchOption result ((q : ℕ) → ¬ IsPropertyNamed self.now class name.now q) (λ q. IsPropertyNamed self.now class name.now q) }
     {
         place_of(self.object(class)?.properties.as_slice(), name)
     }
 
-    /// Whether a wire covers the connection of a signal of one class to a method of another, and whether the method
-    /// fits the signal.
+    /// Whether a wire covers the connection of a signal of one class to a method of another, by this kind, and whether
+    /// the method fits the signal.
     pub fn wired(
         &self,
         sender: usize,

@@ -7,6 +7,7 @@ use sqlite_items::Items;
 /// An expression whose names are resolved.
 #[derive(Drop)]
 pub enum Operand {
+    /// A number.
     Number(i32),
     /// A parameter, by its place from 0.
     Parameter(usize),
@@ -38,7 +39,9 @@ pub(crate) enum Sort {
 /// A method of a class.
 #[derive(Drop)]
 pub struct MetaMethod {
+    /// Its name and its parameters' types.
     pub sig: Sig,
+    /// What a call of it does.
     pub work: Work,
 }
 
@@ -64,6 +67,7 @@ impl MetaMethod {
 /// A property of a class, of type `int`.
 #[derive(Drop)]
 pub struct MetaProperty {
+    /// Its name.
     pub name: Name,
 }
 
@@ -71,17 +75,25 @@ pub struct MetaProperty {
 /// as declared.
 #[derive(Drop)]
 pub struct MetaObject {
+    /// The class's name.
     pub name: Name,
+    /// Its signals, then its slots.
     pub methods: Items<MetaMethod>,
+    /// Its properties.
     pub properties: Items<MetaProperty>,
 }
 
 /// A wire, by the numbers of its classes and of their methods.
 #[derive(Drop)]
 pub struct MetaWire {
+    /// The class of the sender.
     pub sender: usize,
+    /// The signal, in the sender's class.
     pub signal: usize,
+    /// The class of the receiver.
     pub receiver: usize,
+    /// The slot, in the receiver's class.
     pub method: usize,
+    /// How the connection reaches its receiver.
     pub kind: Kind,
 }

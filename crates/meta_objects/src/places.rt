@@ -20,7 +20,7 @@ impl Named for MetaObject {
     ghost has_name = { λ class name. class.name ≡ name };
 
     fn is_named(&self, name: &Name) -> bool {
-        self.name.is_same(name)
+        name.is_same(&self.name)
     }
 }
 
