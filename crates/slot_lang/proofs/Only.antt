@@ -1,8 +1,9 @@
 -- At most one piece stands at the front of a text.
-use Rattle.std.proofs.Common.{◌≡◌, ℕ, ◌+◌, ◌*◌, List, [], ◌∷◌, ◌++◌, length, refl, sym, ◌∙◌, ap, arith}
+use Rattle.std.proofs.Common.{◌≡◌, ℕ, ◌+◌, ◌*◌, List, [], ◌∷◌, ◌++◌, length, Option, Some, None, cond, nat_eq, refl, sym, ◌∙◌, ap, arith}
 use Rattle.slot_lang.specs.declared.class.Run.TheVariants as run
 use Rattle.slot_lang.specs.declared.symbol.Symbol.{Symbol}
 use Rattle.slot_lang.specs.declared.symbol.Symbol.TheVariants as s
+use Rattle.slot_lang.specs.declared.symbol.TheConstants.{DOUBLES, SINGLES}
 use Rattle.slot_lang.specs.Symbols.{spelling}
 use Rattle.slot_lang.specs.Words.{word_spelling}
 use Rattle.slot_lang.proofs.Words.{one_word}
@@ -12,34 +13,24 @@ use Rattle.slot_lang.proofs.Fronts.{class_at_front, no_front_at_end}
 
 abbrev number_of : List ℕ → ℕ
 number_of [] = 0
-number_of (b ∷ bs) = b + 256 * number_of bs
+number_of (b ∷ bs) = b + 2 * number_of bs
+
+-- the symbol whose bytes have this number
+abbrev symbol_with : ℕ → List Symbol → Option Symbol
+symbol_with n [] = None
+symbol_with n (x ∷ more) = cond (nat_eq n (number_of (spelling x))) (Some x) (symbol_with n more)
+
+-- the numbers of the symbols' bytes differ
+found_again : (x : Symbol) → symbol_with (number_of (spelling x)) (DOUBLES ++ SINGLES) ≡ Some x
+found_again s.Equal = refl
+found_again _ = refl
 
 one_symbol : (a b : Symbol) → spelling a ≡ spelling b → a ≡ b
-one_symbol s.Equal s.Equal e = refl
-one_symbol s.Unequal s.Unequal e = refl
-one_symbol s.AtMost s.AtMost e = refl
-one_symbol s.AtLeast s.AtLeast e = refl
-one_symbol s.And s.And e = refl
-one_symbol s.Or s.Or e = refl
-one_symbol s.Arrow s.Arrow e = refl
-one_symbol s.OpenBrace s.OpenBrace e = refl
-one_symbol s.CloseBrace s.CloseBrace e = refl
-one_symbol s.Open s.Open e = refl
-one_symbol s.Close s.Close e = refl
-one_symbol s.Semicolon s.Semicolon e = refl
-one_symbol s.Comma s.Comma e = refl
-one_symbol s.Dot s.Dot e = refl
-one_symbol s.Colon s.Colon e = refl
-one_symbol s.Assign s.Assign e = refl
-one_symbol s.Less s.Less e = refl
-one_symbol s.Greater s.Greater e = refl
-one_symbol s.Plus s.Plus e = refl
-one_symbol s.Minus s.Minus e = refl
-one_symbol s.Star s.Star e = refl
-one_symbol s.Not s.Not e = refl
-one_symbol s.Ampersand s.Ampersand e = refl
-one_symbol s.Tilde s.Tilde e = refl
-one_symbol _ _ e = let k = ap number_of e in absurd (omega arith)
+one_symbol a b e =
+    let same = ap (λ bytes. symbol_with (number_of bytes) (DOUBLES ++ SINGLES)) e in
+    let p = found_again a in
+    let q = found_again b in
+    cc
 
 same_length : (a b r q : List ℕ) → length a ≡ length b → a ++ r ≡ b ++ q → (a ≡ b) × (r ≡ q)
 same_length [] [] r q h e = (refl, e)

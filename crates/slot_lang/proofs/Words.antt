@@ -1,5 +1,5 @@
 -- Reserved words by their letters.
-use Rattle.std.proofs.Common.{◌≡◌, ℕ, List, sum, refl, ap, arith}
+use Rattle.std.proofs.Common.{◌≡◌, ℕ, List, [], ◌∷◌, Option, Some, None, cond, nat_eq, sum, refl, ap}
 use Rattle.std.specs.Prelude.{◌≢◌}
 use Rattle.std.specs.List.{AllByRecursion}
 use Rattle.slot_lang.specs.Words.{word_spelling, IsFree}
@@ -41,37 +41,20 @@ free letters h w.Queued = h.1.1.1.1.1.1.1.1.1.1.1.1.1.1.1.1.1.1.1.1.1.1.1.1.1.1.
 free letters h w.Unique = h.1.1.1.1.1.1.1.1.1.1.1.1.1.1.1.1.1.1.1.1.1.1.1.1.1.1.1.1.1.0
 free letters h w.Single = h.1.1.1.1.1.1.1.1.1.1.1.1.1.1.1.1.1.1.1.1.1.1.1.1.1.1.1.1.1.1.0
 
--- no two words have the same letters: the sums of their bytes differ
+-- the word whose letters have this sum
+abbrev word_with : ℕ → List Word → Option Word
+word_with n [] = None
+word_with n (word ∷ more) = cond (nat_eq n (sum (word_spelling word))) (Some word) (word_with n more)
+
+-- the sums of the words' letters differ
+found_again : (word : Word) → word_with (sum (word_spelling word)) WORDS ≡ Some word
+found_again w.Class = refl
+found_again _ = refl
+
+-- no two words have the same letters
 pub one_word : (a b : Word) → word_spelling a ≡ word_spelling b → a ≡ b
-one_word w.Class w.Class e = refl
-one_word w.Property w.Property e = refl
-one_word w.Signal w.Signal e = refl
-one_word w.Slot w.Slot e = refl
-one_word w.Native w.Native e = refl
-one_word w.Wire w.Wire e = refl
-one_word w.Owns w.Owns e = refl
-one_word w.Binding w.Binding e = refl
-one_word w.Notify w.Notify e = refl
-one_word w.Reads w.Reads e = refl
-one_word w.Emits w.Emits e = refl
-one_word w.Sets w.Sets e = refl
-one_word w.Set w.Set e = refl
-one_word w.Emit w.Emit e = refl
-one_word w.Call w.Call e = refl
-one_word w.If w.If e = refl
-one_word w.Else w.Else e = refl
-one_word w.Connect w.Connect e = refl
-one_word w.Disconnect w.Disconnect e = refl
-one_word w.Delete w.Delete e = refl
-one_word w.Later w.Later e = refl
-one_word w.This w.This e = refl
-one_word w.True w.True e = refl
-one_word w.False w.False e = refl
-one_word w.Null w.Null e = refl
-one_word w.Const w.Const e = refl
-one_word w.Auto w.Auto e = refl
-one_word w.Direct w.Direct e = refl
-one_word w.Queued w.Queued e = refl
-one_word w.Unique w.Unique e = refl
-one_word w.Single w.Single e = refl
-one_word _ _ e = let k = ap sum e in absurd (omega arith)
+one_word a b e =
+    let same = ap (λ letters. word_with (sum letters) WORDS) e in
+    let p = found_again a in
+    let q = found_again b in
+    cc
