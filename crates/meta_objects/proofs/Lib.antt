@@ -5,3 +5,4 @@ pub mod Zips
 pub mod Ends
 pub mod Refusals
 pub mod Unique
+pub mod Sound

@@ -55,13 +55,13 @@ same_zip R (x ∷ xs) (y ∷ ys) [] f h k = absurd k
 same_zip R (x ∷ xs) (y ∷ ys) (z ∷ zs) f h k =
     ap (λ v. v ∷ ys) (f 0 x refl y z h.0 k.0) ∙ ap (λ vs. z ∷ vs) (same_zip R xs ys zs (λ n. f (suc n)) h.1 k.1)
 
-none_at : {X : Type 0} (P : X → Type 0) (xs : List X) → (¬ Any P xs) → (k : ℕ) (x : X) → slice_get xs k ≡ Some x → ¬ P x
+pub none_at : {X : Type 0} (P : X → Type 0) (xs : List X) → (¬ Any P xs) → (k : ℕ) (x : X) → slice_get xs k ≡ Some x → ¬ P x
 none_at P xs not_twice k x e has = not_twice (any_of P xs k (record { item = x; is = e; has = has }))
 
 abbrev sig_of : List ℕ → List Parameter → Sig
 sig_of name ps = record { name = name; types = map (λ (p : Parameter). p.kind) ps }
 
-length_kinds : (ps : List Parameter) → length (map (λ (p : Parameter). p.kind) ps) ≡ length ps
+pub length_kinds : (ps : List Parameter) → length (map (λ (p : Parameter). p.kind) ps) ≡ length ps
 length_kinds [] = refl
 length_kinds (p ∷ ps) = ap suc (length_kinds ps)
 
@@ -126,7 +126,7 @@ same_object class not_twice a b h k =
     ∙ ap (λ ps. object_of b.name b.methods ps) properties
 
 -- ---- ends of wires
-get_split_at : {A : Type 0} (xs ys : List A) (i : ℕ) (x : A) → slice_get (xs ++ ys) i ≡ Some x → (slice_get xs i ≡ Some x) ⊎ ((j : ℕ) × (i ≡ length xs + j) × (slice_get ys j ≡ Some x))
+pub get_split_at : {A : Type 0} (xs ys : List A) (i : ℕ) (x : A) → slice_get (xs ++ ys) i ≡ Some x → (slice_get xs i ≡ Some x) ⊎ ((j : ℕ) × (i ≡ length xs + j) × (slice_get ys j ≡ Some x))
 get_split_at [] ys i x e = inr (i, omega arith, e)
 get_split_at (a ∷ xs) ys zero x e = inl e
 get_split_at (a ∷ xs) ys (suc i) x e =

@@ -1,8 +1,13 @@
-ghost use Rattle.std.specs.Prelude.{◌≡◌, ℕ, IsTrue, ◌↔◌, MatchOption, option_copied, slice_get};
+ghost use Rattle.std.specs.Prelude.{◌≡◌, ℕ, List, IsTrue, ◌↔◌, IfSome, MatchOption, option_copied, slice_get};
+ghost use Rattle.std.specs.List.{AllByRecursion};
 ghost use Rattle.meta_objects.specs.Builds.{Builds};
-ghost use Rattle.meta_objects.specs.Members.{IsClassNamed, IsMethod, HasSig, IsMethodNamed, IsPropertyNamed, CoversBy, Covers};
+ghost use Rattle.meta_objects.specs.Members.{IsClass, IsClassNamed, IsMethod, HasSig, IsMethodNamed, IsPropertyNamed, CoversBy, Covers};
+ghost use Rattle.meta_objects.specs.Sound.{IsSoundMethod};
 ghost use Rattle.meta_objects.specs.Wiring.{IsWired};
 ghost use Rattle.meta_objects.specs.declared.object.MetaMethod.{MetaMethod};
+ghost use Rattle.meta_objects.specs.declared.object.MetaObject.{MetaObject};
+ghost use Rattle.meta_objects.specs.declared.object.Statement.{Statement};
+ghost use Rattle.meta_objects.specs.declared.object.Work.TheVariants.{Slot};
 
 use crate::clashes::{has_duplicate_class, has_duplicate_member};
 use crate::fault::MetaFault;
@@ -25,10 +30,13 @@ pub struct Meta {
 
 impl Model for Meta {
     ghost use Rattle.meta_objects.specs.Loaded.{Loaded};
+    ghost use Rattle.meta_objects.specs.Sound.{IsSound};
 
     ghost Value = { Loaded };
 
     ghost view = { λ meta. record { classes = meta.classes; wires = meta.wires } };
+
+    ghost invariant = { λ meta. IsSound (record { classes = meta.classes; wires = meta.wires }) };
 }
 
 /// Whether a wire covers a connection, and whether its slot fits its signal.
@@ -79,44 +87,58 @@ impl Meta {
 
     /// The number of the class of this name, or `None` where there is none.
     pub fn class(&self, name: &Name) -> Option<usize>
-        ensures { MatchOption result ((c : ℕ) → ¬ IsClassNamed self.now name.now c) (λ c. IsClassNamed self.now name.now c) }
+        ensures value { MatchOption result ((c : ℕ) → ¬ IsClassNamed self.now name.now c) (λ c. IsClassNamed self.now name.now c) }
+        ensures only { IfSome result (λ c. (j : ℕ) → IsClassNamed self.now name.now j → j ≡ c) }
     {
+        // Reading a field lets the proof use that no two members are alike.
+        let _ = &self.classes;
         place_of(self.classes(), name)
     }
 
     /// The class of this number, or `None` past the last one.
     pub fn object(&self, class: usize) -> Option<&MetaObject>
-        ensures { option_copied result ≡ slice_get self.now.classes class }
+        ensures value { option_copied result ≡ slice_get self.now.classes class }
+        ensures sound { IfSome result (λ k. AllByRecursion (IsSoundMethod k.now) k.now.methods) }
     {
         self.classes.get(class)
     }
 
     /// The method of this number, of the class of this number, or `None` where either isn't there.
     pub fn method_at(&self, class: usize, method: usize) -> Option<&MetaMethod>
-        ensures { MatchOption result ((m : MetaMethod) → ¬ IsMethod self.now class method m) (λ m. IsMethod self.now class method m.now) }
+        ensures value { MatchOption result ((m : MetaMethod) → ¬ IsMethod self.now class method m) (λ m. IsMethod self.now class method m.now) }
+        ensures sound { IfSome result (λ m. (k : MetaObject) × IsClass self.now class k × IsSoundMethod k m.now) }
     {
         self.object(class)?.methods.get(method)
     }
 
     /// The number of the method of this signature, in the class of this number, or `None` where there is none.
     pub fn method(&self, class: usize, sig: &Sig) -> Option<usize>
-        ensures { MatchOption result ((m : ℕ) → ¬ HasSig self.now class sig.now m) (λ m. HasSig self.now class sig.now m) }
+        ensures value { MatchOption result ((m : ℕ) → ¬ HasSig self.now class sig.now m) (λ m. HasSig self.now class sig.now m) }
+        ensures only { IfSome result (λ m. (j : ℕ) → HasSig self.now class sig.now j → j ≡ m) }
     {
+        // Reading a field lets the proof use that no two members are alike.
+        let _ = &self.classes;
         place_of_sig(self.object(class)?.methods.as_slice(), sig)
     }
 
     /// The number of the method of this name with so many parameters, in the class of this number, or `None` where
     /// there is none.
     pub fn by_name(&self, class: usize, name: &Name, count: usize) -> Option<usize>
-        ensures { MatchOption result ((m : ℕ) → ¬ IsMethodNamed self.now class name.now count m) (λ m. IsMethodNamed self.now class name.now count m) }
+        ensures value { MatchOption result ((m : ℕ) → ¬ IsMethodNamed self.now class name.now count m) (λ m. IsMethodNamed self.now class name.now count m) }
+        ensures only { IfSome result (λ m. (j : ℕ) → IsMethodNamed self.now class name.now count j → j ≡ m) }
     {
+        // Reading a field lets the proof use that no two members are alike.
+        let _ = &self.classes;
         place_of_method(self.object(class)?.methods.as_slice(), name, count)
     }
 
     /// The number of the property of this name, in the class of this number, or `None` where there is none.
     pub fn property(&self, class: usize, name: &Name) -> Option<usize>
-        ensures { MatchOption result ((q : ℕ) → ¬ IsPropertyNamed self.now class name.now q) (λ q. IsPropertyNamed self.now class name.now q) }
+        ensures value { MatchOption result ((q : ℕ) → ¬ IsPropertyNamed self.now class name.now q) (λ q. IsPropertyNamed self.now class name.now q) }
+        ensures only { IfSome result (λ q. (j : ℕ) → IsPropertyNamed self.now class name.now j → j ≡ q) }
     {
+        // Reading a field lets the proof use that no two members are alike.
+        let _ = &self.classes;
         place_of(self.object(class)?.properties.as_slice(), name)
     }
 
@@ -130,8 +152,12 @@ impl Meta {
         method: &Sig,
         kind: Kind,
     ) -> Wired
-        ensures { IsWired self.now sender signal.now receiver method.now kind result }
+        ensures value { IsWired self.now sender signal.now receiver method.now kind result }
+        ensures to_slot { (m : ℕ) (k : MetaMethod) → Covers self.now sender signal.now receiver method.now kind
+            → IsMethod self.now receiver m k → k.sig ≡ method.now → (statements : List Statement) × (k.work ≡ Slot statements) }
     {
+        // Reading a field lets the proof use that every wire leads to a slot.
+        let _ = &self.wires;
         if !self.covers(sender, signal, receiver, method, kind) {
             Wired::No
         } else if fits(signal, method) {

@@ -7,6 +7,7 @@ use Rattle.meta_objects.specs.Loading.{IsObject, IsWire, HasNoEnd, IsLoaded}
 use Rattle.meta_objects.proofs.Choices.{fails}
 use Rattle.meta_objects.proofs.Refusals.{refused_by}
 use Rattle.meta_objects.proofs.Ends.{nothing_lacks, wire_lacks}
+use Rattle.meta_objects.proofs.Sound.{sound}
 use Rattle.meta_objects.proofs.meta.Meta.build.Goals as goal
 
 pub returns-in_err-classes : goal.returns-in_err-classes
@@ -34,3 +35,11 @@ returns c =
       nothing_lacks _ _ loaded,
       loaded,
     )
+
+pub invariant_of-result : goal.invariant_of-result
+invariant_of-result c =
+    sound c.args.program.now _ (fails _ c.has_duplicate_class.ensures c.if-has_duplicate_class.false) (fails _ c.has_duplicate_member.ensures c.if-has_duplicate_member.false)
+    (record {
+      objects = rw c.as_slice.ensures at c.in_ok-classes.ensures;
+      wired = rw (c.as_slice-2.ensures, c.as_slice-3.ensures) at c.in_ok-wires.ensures;
+    })
