@@ -41,11 +41,11 @@ pub enum LineFault {
 }
 
 impl From<LexFault> for LineFault {
-    ghost use Rattle.std.specs.Prelude.{◌≡◌};
+    ghost use Rattle.std.specs.Prelude.{◌≡◌, ◌↔◌};
     ghost use Rattle.script_lang.specs.declared.fault.LineFault.TheVariants.{NoEvent};
     ghost use Rattle.slot_lang.specs.declared.lexer.LexFault.TheVariants.{BadByte};
 
-    ghost from_gives = { λ lex fault. fault ≡ NoEvent → lex ≡ BadByte };
+    ghost from_gives = { λ lex fault. (fault ≡ NoEvent) ↔ (lex ≡ BadByte) };
 
     fn from(fault: LexFault) -> LineFault {
         match fault {
@@ -56,11 +56,11 @@ impl From<LexFault> for LineFault {
 }
 
 impl From<ParseFault> for LineFault {
-    ghost use Rattle.std.specs.Prelude.{◌≡◌};
+    ghost use Rattle.std.specs.Prelude.{◌≡◌, ◌↔◌};
     ghost use Rattle.script_lang.specs.declared.fault.LineFault.TheVariants.{NoEvent};
     ghost use Rattle.slot_lang.specs.declared.fault.ParseFault.TheVariants.{Syntax};
 
-    ghost from_gives = { λ parse fault. fault ≡ NoEvent → parse ≡ Syntax };
+    ghost from_gives = { λ parse fault. (fault ≡ NoEvent) ↔ (parse ≡ Syntax) };
 
     fn from(fault: ParseFault) -> LineFault {
         match fault {
