@@ -17,7 +17,7 @@ use Rattle.slot_lang.specs.declared.word.Word.TheVariants as w
 use Rattle.std.proofs.lemmas.List.Elements.{All-from_recursion}
 use Rattle.slot_lang.specs.Words.{word_spelling}
 use Rattle.slot_lang.specs.Symbols.{spelling, IsSymbolAt, Begins}
-use Rattle.slot_lang.specs.Pieces.{Piece, blank, comment, name, reserved, number, text, symbol, IsFront, IsComment, StartsWithLetter, IsNotEmpty, AreLettersOf, Cuts}
+use Rattle.slot_lang.specs.Pieces.{Piece, blank, comment, name, reserved, number, text, symbol, IsFront, IsComment, StartsWithLetter, IsNotEmpty, IsWordOrName, Cuts}
 
 abbrev class_at : List ℕ → Option Class
 class_at [] = None
@@ -136,7 +136,7 @@ module _ (bytes : List ℕ) (b : ℕ) (after : List ℕ) (at : bytes ≡ b ∷ a
   pub are_name : (letters rest : List ℕ) → class_of b ≡ Letter → IsRun run.Name bytes letters rest → IsName letters
   are_name letters rest h r = named letters (letters_first letters rest (letter_if (is_blank b) (nat_eq b 47) (is_letter b) (is_digit b) (nat_eq b 34) h) r) r.each
 
-  pub letters_cut : (t : Token) (letters rest : List ℕ) → class_of b ≡ Letter → IsRun run.Name bytes letters rest → AreLettersOf t letters → Cuts bytes (Some t) rest
+  pub letters_cut : (t : Token) (letters rest : List ℕ) → class_of b ≡ Letter → IsRun run.Name bytes letters rest → IsWordOrName t letters → Cuts bytes (Some t) rest
   letters_cut t letters rest h r (inl a) = let e = a.2 in record { piece = reserved a.0; front = rw (← e) r; token_is = ap Some (sym a.1) }
   letters_cut t letters rest h r (inr a) = record { piece = name letters; front = (letters_first letters rest (letter_if (is_blank b) (nat_eq b 47) (is_letter b) (is_digit b) (nat_eq b 34) h) r, a.1, r); token_is = ap Some (sym a.0) }
 

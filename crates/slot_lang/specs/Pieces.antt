@@ -67,8 +67,8 @@ tokens_of [] = []
 tokens_of (piece ∷ pieces) = before (token_of piece) (tokens_of pieces)
 
 -- the token is the reserved word with these letters, or the name where there is none
-abbrev pub AreLettersOf : Token → List ℕ → Type 0
-AreLettersOf t letters = ((word : Word) × (t ≡ token.Word word) × (letters ≡ word_spelling word)) ⊎ ((t ≡ token.Name letters) × IsFree letters)
+abbrev pub IsWordOrName : Token → List ℕ → Type 0
+IsWordOrName t letters = ((word : Word) × (t ≡ token.Word word) × (letters ≡ word_spelling word)) ⊎ ((t ≡ token.Name letters) × IsFree letters)
 
 -- the bytes are cut into these tokens
 pub record AreTokens (bytes : List ℕ) (tokens : List Token) : Type 0 where

@@ -1,7 +1,7 @@
 //! Cuts a text into tokens.
 
 ghost use Rattle.std.specs.Prelude.{◌≡◌, ◌<◌, ◌∷◌, length, List, ℕ, Err, MatchResult, IfOk, OnOk};
-ghost use Rattle.slot_lang.specs.Pieces.{Piece, IsFront, IsComment, AreLettersOf, AreTokens, Cuts};
+ghost use Rattle.slot_lang.specs.Pieces.{Piece, IsFront, IsComment, IsWordOrName, AreTokens, Cuts};
 ghost use Rattle.signatures.specs.Name.{IsName};
 ghost use Rattle.slot_lang.specs.Bytes.{IsRun};
 ghost use Rattle.slot_lang.specs.declared.class.Run.TheVariants as run;
@@ -103,7 +103,7 @@ fn split_piece(alloc: Global, bytes: &[u8]) -> Result<(Option<Token>, &[u8]), Le
 /// The reserved word or the name with these letters.
 fn word_or_name(alloc: Global, letters: &[u8]) -> Result<Token, AllocError>
     requires { IsName letters.now }
-    ensures { IfOk result (λ token. AreLettersOf token letters.now) }
+    ensures { IfOk result (λ token. IsWordOrName token letters.now) }
 {
     match Word::of(letters) {
         Some(word) => Ok(Token::Word(word)),
