@@ -1,4 +1,4 @@
--- The words of a command line (docs/commands.md, "Commands").
+-- The words of a command line (docs/commands.md, "The command line").
 use Rattle.std.specs.Prelude.{◌≡◌, ℕ, ◌-◌, ◌^◌, ◌≤◌, ◌⊎◌, List, [], ◌∷◌, codes}
 use Rattle.std.specs.Str.Parse.{AllDigits, digits_value}
 

@@ -43,7 +43,7 @@ returns-in-Some-two_texts-clause-answers g c =
     IfOk-weaker c.run_unchecked.result _ _
     (λ status a. record {
       input = input;
-      all = all_read left 67108865 input (rw c.as_slice.ensures.value c.in-Ok.ensures) (omega (arith, short));
+      all = all_read (g.R.Read.remaining c.args.reader.now) 67108865 c.as_slice.result.now (rw c.as_slice.ensures.value c.in-Ok.ensures) (omega (arith, short));
       answers = record {
         bytes = a.bytes;
         appended = a.appended;
