@@ -1,20 +1,19 @@
--- What contracts see of a machine (docs/machine.md, "Runs").
-use Rattle.std.specs.Prelude.{ℕ, Bool, false, List, [], Result}
+-- What contracts see of a machine, and what its calls do (docs/machine.md, "Runs").
+use Rattle.std.specs.Prelude.{◌≡◌, ℕ, ◌⊎◌, Bool, false, true, List, [], ◌∷◌, ◌++◌, Result, Ok, Err}
 use Rattle.script_lang.specs.declared.event.Event.{Event}
 use Rattle.meta_objects.specs.Loaded.{Loaded}
-use Rattle.qt_runtime.specs.declared.world.Object.{Object}
-use Rattle.qt_runtime.specs.declared.world.Connection.{Connection}
-use Rattle.qt_runtime.specs.declared.entry.Entry.{Entry}
+use Rattle.qt_runtime.specs.declared.world.World.{World}
+use Rattle.qt_runtime.specs.declared.fault.Answer.{Answer}
+use Rattle.qt_runtime.specs.declared.fault.Answer.TheVariants as answer
 use Rattle.qt_runtime.specs.declared.fault.Fault.{Fault}
+use Rattle.qt_runtime.specs.declared.fault.Fault.TheVariants as fault
+use Rattle.qt_runtime.specs.State.{State, Activation}
+use Rattle.qt_runtime.specs.Events.{conditions, Pass, Refuse}
+use Rattle.qt_runtime.specs.Runs.{Runs, Reason}
 
--- all of a state but the stack, and how many rules are left
-pub record World : Type 0 where
-  pub objects : List Object
-  pub connections : List Connection
-  pub trace : List Entry
-  pub events : ℕ
-  pub connected : ℕ
-  pub left : ℕ
+-- a world's state with a stack
+abbrev pub at : World → List Activation → State
+at w stack = record { objects = w.objects; connections = w.connections; stack = stack; trace = w.trace; events = w.events; connected = w.connected }
 
 pub record Seen : Type 0 where
   pub program : Loaded
@@ -32,5 +31,38 @@ begun program depth steps = record {
   stopped = false;
 }
 
+-- the machine took these events, each by a run to an empty stack
+pub record Completes (before : Seen) (events : List Event) (after : Seen) : Type 0 where
+  pub went : before.stopped ≡ false
+  pub same : after ≡ record before { world = after.world }
+  pub runs : Runs before.program before.depth (at before.world []) before.world.left events (at after.world []) after.world.left
+
+-- the machine took a front of these events, and stopped on the way
+pub record Halts (before : Seen) (events : List Event) (f : Fault) (after : Seen) : Type 0 where
+  pub went : before.stopped ≡ false
+  pub same : after ≡ record before { world = after.world; stopped = true }
+  pub taken : List Event
+  pub rest : List Event
+  pub split : events ≡ taken ++ rest
+  pub stack : List Activation
+  pub runs : Runs before.program before.depth (at before.world []) before.world.left taken (at after.world stack) after.world.left
+  pub reason : Reason before.program before.depth (at after.world stack) after.world.left rest f
+
+-- a machine that has stopped does nothing more
+pub record Stays (before : Seen) (f : Fault) (after : Seen) : Type 0 where
+  pub stopped : before.stopped ≡ true
+  pub answers : f ≡ fault.Stopped
+  pub same : after ≡ before
+
 abbrev pub RunsAll : Seen → List Event → Result (Unit {0}) Fault → Seen → Type 0
-RunsAll before events result after = Unit {0}
+RunsAll before events (Ok done) after = Completes before events after
+RunsAll before events (Err f) after = Halts before events f after ⊎ Stays before f after
+
+-- the event is refused exactly where its conditions refuse it, for the first that fails
+abbrev pub Answers : Seen → Event → Answer → Type 0
+Answers before e answer.Done = Pass (conditions before.program (at before.world []) e)
+Answers before e (answer.Refused k) = Refuse (conditions before.program (at before.world []) e) k
+
+abbrev pub Applies : Seen → Event → Result Answer Fault → Seen → Type 0
+Applies before e (Ok a) after = Completes before (e ∷ []) after × Answers before e a
+Applies before e (Err f) after = Halts before (e ∷ []) f after ⊎ Stays before f after

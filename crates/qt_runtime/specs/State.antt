@@ -2,8 +2,8 @@
 use Rattle.std.specs.Prelude.{ℕ, List, [], ◌∷◌, length}
 use Rattle.signatures.specs.declared.value.Value.{Value}
 use Rattle.meta_objects.specs.declared.object.Statement.{Statement}
-use Rattle.qt_runtime.specs.declared.world.Object.{Object}
-use Rattle.qt_runtime.specs.declared.world.Connection.{Connection}
+use Rattle.qt_runtime.specs.declared.object_tree.Object.{Object}
+use Rattle.qt_runtime.specs.declared.connections.Connection.{Connection}
 use Rattle.qt_runtime.specs.declared.entry.Entry.{Entry}
 
 -- What is going on. Objects are named by their creation number, methods by their number in the object's class.

@@ -1,4 +1,5 @@
 ghost use Rattle.std.specs.Prelude.{◌≡◌, [], ◌∷◌, ◌++◌, OnOk, OnErr};
+ghost use Rattle.qt_runtime.specs.declared.entry.Entry.{Entry as AnEntry};
 
 use signatures::{Arguments, Name, Value};
 use std::alloc::{AllocError, Global};
@@ -58,5 +59,12 @@ impl Trace {
     {
         self.entries.push(entry)?;
         Ok(())
+    }
+
+    /// Takes the last entry off again.
+    pub fn pop(&mut self)
+        ensures { (front : _) (last : AnEntry) → self.old ≡ front ++ last ∷ [] → self.new ≡ front }
+    {
+        let _last = self.entries.pop();
     }
 }

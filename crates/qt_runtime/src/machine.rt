@@ -1,9 +1,11 @@
 ghost use Rattle.std.specs.Prelude.{◌≡◌, ◌<◌, ◌≤◌, ◌^◌, IfOk};
-ghost use Rattle.qt_runtime.specs.Seen.{RunsAll, begun};
+ghost use Rattle.qt_runtime.specs.Seen.{Applies, RunsAll, begun};
 
-use crate::entry::{Entry, Trace};
-use crate::fault::Fault;
+use crate::entry::Entry;
+use crate::fault::{Answer, Fault};
 use crate::natives::Natives;
+use crate::setting::Setting;
+use crate::world::World;
 use meta_objects::Meta;
 use script_lang::Event;
 use std::alloc::{AllocError, Global};
@@ -12,45 +14,88 @@ use std::marker::Model;
 /// A run of a program, event by event.
 #[derive(Drop)]
 pub struct Machine {
-    meta: Meta,
-    natives: Natives,
-    depth: usize,
-    left: u64,
+    setting: Setting,
+    world: World,
     stopped: bool,
-    trace: Trace,
 }
 
 impl Model for Machine {
-    ghost use Rattle.std.specs.Prelude.{[]};
     ghost use Rattle.qt_runtime.specs.Seen.{Seen};
+    ghost use Rattle.qt_runtime.specs.Taking.{IsKept};
 
     ghost Value = { Seen };
 
-    ghost view = { λ m. record { program = m.meta; depth = m.depth; world = record { objects = []; connections = []; trace = m.trace; events = 0; connected = 0; left = m.left }; stopped = m.stopped } };
+    ghost view = { λ m. record { program = m.setting.meta; depth = m.setting.depth; world = m.world; stopped = m.stopped } };
+
+    ghost invariant = { λ m. IsKept m.setting.meta m.setting.depth m.world };
 }
 
 impl Machine {
-    /// A machine for a program that need not be checked: at most `depth` activations nest, and at most `steps` rules are
-    /// used.
-    pub fn unchecked(alloc: Global, meta: Meta, natives: Natives, depth: usize, steps: u64) -> Result<Machine, AllocError>
+    /// A machine for a program that need not be checked, before anything has happened. At most `depth` activations
+    /// nest, from 1 to 256, and at most `steps` rules are used, from 1 to 2^63 - 1.
+    pub fn unchecked(
+        alloc: Global,
+        meta: Meta,
+        natives: Natives,
+        depth: usize,
+        steps: u64,
+    ) -> Result<Machine, AllocError>
         requires depth { (1 ≤ depth) × (depth ≤ 256) }
         requires steps { (1 ≤ steps) × (steps < 2 ^ 63) }
         ensures { IfOk result (λ machine. machine ≡ begun meta depth steps) }
     {
-        Err(AllocError)
+        Ok(Machine {
+            setting: Setting {
+                alloc,
+                meta,
+                natives,
+                depth,
+            },
+            world: World::new(alloc, steps),
+            stopped: false,
+        })
     }
 
-    /// Applies events in their order until a fault comes.
+    /// Applies an event: takes it, and runs until nothing is going on. `Refused` tells the first of the event's
+    /// conditions that doesn't hold; then only its line is written. A fault stops the machine: `TooDeep` where the next
+    /// rule would nest activations deeper than the depth, `Steps` where a rule is due and none is left, `Memory` where
+    /// a growth of memory was refused; the trace then ends with the last whole rule. On a machine that has stopped the
+    /// answer is `Stopped`, and nothing changes.
+    pub fn apply(&mut self, event: &Event) -> Result<Answer, Fault>
+        ensures { Applies self.old event.now result self.new }
+    {
+        if self.stopped {
+            return Err(Fault::Stopped);
+        }
+        let result = self.setting.take(&mut self.world, event);
+        self.stopped = result.is_err();
+        result
+    }
+
+    /// Applies events in their order until a fault comes, as `apply` does each.
     pub fn run(&mut self, events: &[Event]) -> Result<(), Fault>
         ensures { RunsAll self.old events.now result self.new }
     {
-        Err(Fault::Memory)
+        if self.is_stopped() {
+            return Err(Fault::Stopped);
+        }
+        for event in events {
+            let _answer = self.apply(event)?;
+        }
+        Ok(())
+    }
+
+    /// Whether a fault has stopped the machine.
+    fn is_stopped(&self) -> bool
+        ensures { result ≡ self.now.stopped }
+    {
+        self.stopped
     }
 
     /// What was written down so far.
     pub fn trace(&self) -> &[Entry]
         ensures { result.now ≡ self.now.world.trace }
     {
-        self.trace.as_slice()
+        self.world.trace.as_slice()
     }
 }

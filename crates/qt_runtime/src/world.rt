@@ -1,27 +1,93 @@
-//! All of the machine's state but the stack, as plain lists.
+//! All of the machine's state but the stack.
 
-use signatures::{Arguments, Name};
+ghost use Rattle.std.specs.Prelude.{◌≡◌, [], ◌<◌, length, MatchResult};
+ghost use Rattle.qt_runtime.specs.Goes.{Ticks, MayPush, Writes, noted};
+ghost use Rattle.qt_runtime.specs.declared.fault.Fault.TheVariants.{Memory};
 
-/// An object of a run.
+use crate::connections::Connections;
+use crate::entry::{Entry, Trace};
+use crate::fault::Fault;
+use crate::object_tree::Objects;
+use signatures::Value;
+use std::alloc::Global;
+
+/// All of a machine's state but the stack, and how many rules are left.
 #[derive(Drop)]
-pub struct Object {
-    pub name: Name,
-    /// Its class's number.
-    pub class: usize,
-    /// Its properties' values, by number.
-    pub values: Arguments,
+pub struct World {
+    pub objects: Objects,
+    pub connections: Connections,
+    pub trace: Trace,
+    /// How many events were taken.
+    pub events: u64,
+    /// How many connections were ever numbered.
+    pub connected: u64,
+    pub left: u64,
 }
 
-/// A connection, with the number under which it was made, from 1 on.
-#[derive(Clone, Copy)]
-pub struct Connection {
-    pub number: u64,
-    /// The sender's creation number.
-    pub sender: usize,
-    /// The signal's number in the sender's class.
-    pub signal: usize,
-    /// The receiver's creation number.
-    pub receiver: usize,
-    /// The method's number in the receiver's class.
-    pub method: usize,
+impl World {
+    /// The world before anything has happened, with so many rules to use.
+    pub fn new(alloc: Global, steps: u64) -> World
+        ensures { result ≡ record { objects = []; connections = []; trace = []; events = 0; connected = 0; left = steps } }
+    {
+        World {
+            objects: Objects::new(alloc),
+            connections: Connections::new(alloc),
+            trace: Trace::new(alloc),
+            events: 0,
+            connected: 0,
+            left: steps,
+        }
+    }
+
+    /// A rule that writes nothing down.
+    pub fn tick(&mut self) -> Result<(), Fault>
+        ensures { Ticks self.old self.new result }
+    {
+        if self.left == 0 {
+            return Err(Fault::Steps);
+        }
+        self.left -= 1;
+        Ok(())
+    }
+
+    /// Whether a rule is left, and an activation may stand over the one that stands over `height` others.
+    pub fn may_push(&self, depth: usize, height: usize) -> Result<(), Fault>
+        requires { height < depth }
+        ensures { MayPush depth height self.now result }
+    {
+        if self.left == 0 {
+            Err(Fault::Steps)
+        } else if depth - height == 1 {
+            Err(Fault::TooDeep)
+        } else {
+            Ok(())
+        }
+    }
+
+    /// A rule that writes an entry down; without memory nothing changes.
+    pub fn note(&mut self, entry: Entry) -> Result<(), Fault>
+        requires { 0 < self.old.left }
+        ensures { MatchResult result (λ _. self.new ≡ noted self.old entry) (λ fault. (fault ≡ Memory) × (self.new ≡ self.old)) }
+    {
+        self.trace.push(entry)?;
+        self.left -= 1;
+        Ok(())
+    }
+
+    /// The rule that writes an object's property; without memory nothing changes.
+    pub fn write(
+        &mut self,
+        entry: Entry,
+        object: usize,
+        property: usize,
+        value: Value,
+    ) -> Result<(), Fault>
+        requires left { 0 < self.old.left }
+        requires there { object < length self.old.objects }
+        ensures { Writes self.old entry object property value self.new result }
+    {
+        self.note(entry)?;
+        self.objects.set(object, property, value);
+        Ok(())
+    }
 }

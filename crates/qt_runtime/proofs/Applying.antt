@@ -1,0 +1,76 @@
+-- Events that are applied one after the other.
+use Rattle.std.proofs.Common.{◌≡◌, ℕ, suc, ◌+◌, ◌<◌, ◌⊎◌, Bool, true, false, List, [], ◌∷◌, ◌++◌, length, take, drop, Result, Ok, Err, refl, sym, ap, ◌∙◌, subst, inl, inr, append_assoc, append-nil, take-append-drop, arith}
+use Rattle.std.specs.Result.{IsErrAnd}
+use Rattle.script_lang.specs.declared.event.Event.{Event}
+use Rattle.meta_objects.specs.Loaded.{Loaded}
+use Rattle.qt_runtime.specs.declared.fault.Fault.{Fault}
+use Rattle.qt_runtime.specs.declared.fault.Fault.TheVariants.{TooDeep, Steps, Memory, Stopped}
+use Rattle.qt_runtime.specs.State.{State}
+use Rattle.qt_runtime.specs.Runs.{done, IsDue, by_rule, by_event, Reason}
+use Rattle.qt_runtime.specs.Seen.{Seen, Completes, Halts, Stays, RunsAll, at}
+use Rattle.qt_runtime.proofs.Going.{runs-trans}
+
+pub completes-none : {a : Seen} → a.stopped ≡ false → Completes a [] a
+completes-none went = record { went = went; same = refl; runs = done }
+
+-- a run goes on where another came
+pub completes-then : {a b c : Seen} {es fs : List Event} → Completes a es b → Completes b fs c → Completes a (es ++ fs) c
+completes-then {a} {b} {c} {es} {fs} x y =
+    let Family : Seen → Type 0 = λ s. Completes s fs c in
+    let z : Completes (record a { world = b.world }) fs c = subst Family x.same y in
+    record { went = x.went; same = z.same; runs = runs-trans x.runs z.runs }
+
+pub halts-after : {a b c : Seen} {f : Fault} {es fs : List Event} → Completes a es b → Halts b fs f c → Halts a (es ++ fs) f c
+halts-after {a} {b} {c} {f} {es} {fs} x y =
+    let Family : Seen → Type 0 = λ s. Halts s fs f c in
+    let z : Halts (record a { world = b.world }) fs f c = subst Family x.same y in
+    record {
+      went = x.went;
+      same = z.same;
+      taken = es ++ z.taken;
+      rest = z.rest;
+      split = ap (λ (l : List Event). es ++ l) z.split ∙ sym (append_assoc es z.taken z.rest);
+      stack = z.stack;
+      runs = runs-trans x.runs z.runs;
+      reason = z.reason;
+    }
+
+-- a rule that is due stays due, whatever events follow
+due-more : {p : Loaded} {s : State} {es : List Event} (more : List Event) → IsDue p s es → IsDue p s (es ++ more)
+due-more more (by_rule t x) = by_rule t x
+due-more more (by_event e) = by_event e
+
+reason-more : (p : Loaded) (d left : ℕ) (s : State) (es more : List Event) (f : Fault) → Reason p d s left es f → Reason p d s left (es ++ more) f
+reason-more p d left s es more TooDeep r = r
+reason-more p d left s es more Steps r = (r.0, due-more more r.1)
+reason-more p d left s es more Memory r = r
+reason-more p d left s es more Stopped r = absurd r
+
+-- a run that stopped takes no further event
+pub halts-more : {a c : Seen} {f : Fault} {es : List Event} (more : List Event) → Halts a es f c → Halts a (es ++ more) f c
+halts-more {a} {c} {f} {es} more x = record {
+  went = x.went;
+  same = x.same;
+  taken = x.taken;
+  rest = x.rest ++ more;
+  split = ap (λ (l : List Event). l ++ more) x.split ∙ append_assoc x.taken x.rest more;
+  stack = x.stack;
+  runs = x.runs;
+  reason = reason-more a.program a.depth c.world.left (at c.world x.stack) x.rest more f x.reason;
+}
+
+-- where a run completed the machine has not stopped
+pub still-goes : {a b : Seen} {es : List Event} → Completes a es b → b.stopped ≡ false
+still-goes x = ap (λ (s : Seen). s.stopped) x.same ∙ x.went
+
+-- the events so far were taken, and the next one stopped the machine, behind a `?`
+pub run-stops : {a b c : Seen} {f : Fault} {es : List Event} {e : Event} (more : List Event) (r : Result (Unit {0}) Fault) → Completes a es b → Halts b (e ∷ []) f c ⊎ Stays b f c → IsErrAnd r (λ y. y ≡ f) → RunsAll a (es ++ e ∷ more) r c
+run-stops more (Ok _) x y is = absurd is
+run-stops {a} {b} {c} {f} {es} {e} more (Err g) x y is =
+    let split : (es ++ e ∷ []) ++ more ≡ es ++ e ∷ more = append_assoc es (e ∷ []) more in
+    let Events : List Event → Type 0 = λ l. Halts a l f c in
+    let Named : Fault → Type 0 = λ h. Halts a (es ++ e ∷ more) h c ⊎ Stays a h c in
+    elim y [
+      | inl halts ↦ subst Named (sym is) (inl (subst Events split (halts-more more (halts-after x halts))))
+      | inr stays ↦ let no : true ≡ false = sym stays.stopped ∙ still-goes x in absurd (cc no)
+    ]

@@ -1,0 +1,158 @@
+-- What the taking of an event comes to.
+use Rattle.std.proofs.Common.{◌≡◌, ◌≢◌, ℕ, zero, suc, ◌+◌, ◌-◌, ◌<◌, ◌≤◌, ◌⊎◌, List, [], ◌∷◌, ◌++◌, length, map, Result, Ok, Err, MatchResult, Some, None, slice_get, replicate, pos, refl, sym, ap, ◌∙◌, subst, inl, inr, arith}
+use Rattle.std.specs.Result.{IsErrAnd}
+use Rattle.signatures.specs.declared.value.Value.{Value}
+use Rattle.signatures.specs.declared.value.Value.TheVariants.{Int}
+use Rattle.script_lang.specs.declared.event.Connect.{Connect as Connecting}
+use Rattle.script_lang.specs.declared.event.Input.{Input}
+use Rattle.script_lang.specs.declared.event.Event.{Event}
+use Rattle.script_lang.specs.declared.event.Event.TheVariants.{New, Connect, Emit}
+use Rattle.meta_objects.specs.declared.object.MetaObject.{MetaObject}
+use Rattle.meta_objects.specs.declared.object.MetaMethod.{MetaMethod}
+use Rattle.meta_objects.specs.Loaded.{Loaded}
+use Rattle.meta_objects.specs.Members.{IsClass, IsClassNamed, IsMethod}
+use Rattle.qt_runtime.specs.declared.entry.Entry.{Entry}
+use Rattle.qt_runtime.specs.declared.entry.Entry.TheVariants as entry
+use Rattle.qt_runtime.specs.declared.fault.Answer.{Answer}
+use Rattle.qt_runtime.specs.declared.fault.Answer.TheVariants as answer
+use Rattle.qt_runtime.specs.declared.fault.Fault.{Fault}
+use Rattle.qt_runtime.specs.declared.fault.Fault.TheVariants.{Steps, Memory}
+use Rattle.qt_runtime.specs.declared.judging.Joint.{Joint}
+use Rattle.qt_runtime.specs.declared.judging.Found.{Found}
+use Rattle.qt_runtime.specs.declared.object_tree.Object.{Object}
+use Rattle.qt_runtime.specs.declared.world.World.{World}
+use Rattle.qt_runtime.specs.State.{State, Activation}
+use Rattle.qt_runtime.specs.State.{Emit as Emission}
+use Rattle.qt_runtime.specs.Events.{conditions, Pass, Refuse, Takes, accepts, refuses, Effect, values_of}
+use Rattle.qt_runtime.specs.Runs.{Runs, done, rule, takes, by_event}
+use Rattle.qt_runtime.specs.Seen.{at}
+use Rattle.qt_runtime.specs.Goes.{Ends}
+use Rattle.qt_runtime.specs.Taking.{accepted, refused, Refuses, IsJoint, IsFound, IsBlank, IsEmissionEntry, Halted, Taken, Answered, Took}
+use Rattle.qt_runtime.proofs.Deliveries.{method-unique}
+
+-- an event is taken, and rules follow
+pub runs-taken : {p : Loaded} {d : ℕ} {s m t : State} {n j k : ℕ} (e : Event) → Takes p e s m → length m.stack ≤ d → 0 < n → j ≡ n - 1 → Runs p d m j [] t k → Runs p d s n (e ∷ []) t k
+runs-taken {p} {d} {s} {m} {t} {n} {j} {k} e x ok some less rest =
+    let Family : ℕ → Type 0 = λ a. Runs p d s a (e ∷ []) t k in
+    let suc_is : suc j ≡ n = omega (arith, less, some) in
+    subst Family suc_is (takes x ok rest)
+
+-- memory was refused before anything changed
+pub halted-short : {p : Loaded} {d : ℕ} {w : World} (e : Event) → 0 < w.left → Halted p d w e w Memory
+halted-short e some = record { taken = []; rest = e ∷ []; split = refl; stack = []; runs = done; reason = some }
+
+-- no rule is left for the event
+pub halted-spent : {p : Loaded} {d : ℕ} {w : World} (e : Event) → w.left ≡ 0 → Halted p d w e w Steps
+halted-spent e none = record { taken = []; rest = e ∷ []; split = refl; stack = []; runs = done; reason = (none, by_event refl) }
+
+pub took-unchanged : {p : Loaded} {d : ℕ} {w v : World} {f : Fault} (e : Event) (r : Result Answer Fault) → 0 < w.left → (f ≡ Memory) × (v ≡ w) → IsErrAnd r (λ y. y ≡ f) → Took p d w e v r
+took-unchanged e (Ok a) some same is = absurd is
+took-unchanged {p} {d} {w} {v} {f} e (Err y) some same is =
+    let Family : World → Type 0 = λ u. Halted p d w e u y in
+    let Named : Fault → Type 0 = λ g. Halted p d w e w g in
+    record { cases = subst Family (sym same.1) (subst Named (sym (is ∙ same.0)) (halted-short e some)) }
+
+pub took-short : {p : Loaded} {d : ℕ} {w : World} (e : Event) (r : Result Answer Fault) → 0 < w.left → IsErrAnd r (λ y. y ≡ Memory) → Took p d w e w r
+took-short e r some is = took-unchanged e r some (refl, refl) is
+
+-- the event is refused
+pub took-refused : {p : Loaded} {d : ℕ} {w v : World} (k : ℕ) (e : Event) (r : Result Answer Fault) → Refuse (conditions p (at w []) e) k → 0 < w.left → Refuses w k v r → Took p d w e v r
+took-refused {p} {d} {w} {v} k e (Ok a) refuse some x =
+    let Family : World → Type 0 = λ u. Taken p d w e u in
+    let Answer_is : Answer → Type 0 = λ b. Answered p w e b in
+    let taken : Taken p d w e (refused w k) = record { runs = runs-taken e (refuses k refl refuse) (omega arith) some refl done } in
+    record { cases = (subst Family (sym x.1) taken, subst Answer_is (sym x.0) refuse) }
+took-refused {p} {d} {w} {v} k e (Err f) refuse some x = took-unchanged e (Err f) some x refl
+
+pub class-unique : {p : Loaded} {c : ℕ} {a b : MetaObject} → IsClass p c a → IsClass p c b → a ≡ b
+class-unique {a = a} {b = b} x y = let same : Some a ≡ Some b = sym x.is ∙ y.is in cc same
+
+-- the object is created
+pub took-created : {p : Loaded} {d number : ℕ} {w v : World} {x : Object} (name class : List ℕ) → Pass (conditions p (at w []) (New name class)) → IsClassNamed p class number → IsBlank p name number x → 0 < w.left → v ≡ record (accepted w) { objects = w.objects ++ x ∷ [] } → Took p d w (New name class) v (Ok answer.Done)
+took-created {p} {d} {number} {w} {v} {x} name class pass named blank some is =
+    let Family : World → Type 0 = λ u. Taken p d w (New name class) u in
+    let blank_of : MetaObject → Object = λ k. record { name = name; class = number; values = replicate (length k.properties) (Int (pos 0)) } in
+    let with_object : Object → State = λ y. at (record (accepted w) { objects = w.objects ++ y ∷ [] }) [] in
+    let same : x ≡ blank_of named.class = blank.gives ∙ ap blank_of (class-unique blank.is_class named.is) in
+    let taken : Taken p d w (New name class) (record (accepted w) { objects = w.objects ++ x ∷ [] }) = record {
+      runs = runs-taken (New name class) (accepts refl pass (record { c = number; is_class = named; gives = ap with_object same })) (omega arith) some refl done;
+    } in
+    record { cases = (subst Family (sym is) taken, pass) }
+
+-- the connection is made
+pub took-connected : {p : Loaded} {d : ℕ} {w v : World} {j : Joint} (c : Connecting) → Pass (conditions p (at w []) (Connect c)) → IsJoint p w.objects c j → 0 < w.left → v ≡ record (accepted w) { connections = w.connections ++ record { number = w.connected + 1; sender = j.sender; signal = j.signal; receiver = j.receiver; method = j.method } ∷ []; connected = w.connected + 1 } → Took p d w (Connect c) v (Ok answer.Done)
+took-connected {p} {d} {w} {v} {j} c pass joint some is =
+    let Family : World → Type 0 = λ u. Taken p d w (Connect c) u in
+    let target : World = record (accepted w) { connections = w.connections ++ record { number = w.connected + 1; sender = j.sender; signal = j.signal; receiver = j.receiver; method = j.method } ∷ []; connected = w.connected + 1 } in
+    let taken : Taken p d w (Connect c) target = record {
+      runs = runs-taken (Connect c)
+          (accepts refl pass
+          (record {
+            a = j.sender;
+            sender = joint.sender;
+            is_sender = joint.is_sender;
+            g = j.signal;
+            has_signal = joint.has_signal;
+            b = j.receiver;
+            receiver = joint.receiver;
+            is_receiver = joint.is_receiver;
+            m = j.method;
+            has_method = joint.has_method;
+            gives = refl;
+          }))
+          (omega arith) some refl done;
+    } in
+    record { cases = (subst Family (sym is) taken, pass) }
+
+-- the signal's emission is pushed by the event
+takes-values : {p : Loaded} {v : World} {f : Found} {entry_is : Entry} (w : World) (name signal : List ℕ) (inputs : List Input) → Pass (conditions p (at w []) (Emit name signal inputs)) → IsFound p w.objects name signal (length (values_of inputs)) f → IsEmissionEntry p w.objects f (values_of inputs) entry_is → v ≡ record (accepted w) { trace = (accepted w).trace ++ entry_is ∷ [] } → Takes p (Emit name signal inputs) (at w []) (at v (Emission f.object f.signal (values_of inputs) 0 w.connected ∷ []))
+takes-values {p} {v} {f} {entry_is} w name signal inputs pass found written is =
+    let object_same : Some written.object ≡ Some found.object = sym written.is ∙ found.is.is in
+    let object_is : written.object ≡ found.object = cc object_same in
+    let Class_of : Object → Type 0 = λ x. IsMethod p x.class f.signal written.method in
+    let method_is : written.method ≡ found.method = method-unique (subst Class_of object_is written.has) found.has in
+    let entry_of : Object → MetaMethod → Entry = λ x m. entry.Emitted 1 x.name m.sig.name (values_of inputs) in
+    let gives : entry_is ≡ entry_of found.object found.method = written.gives ∙ ap (λ (x : Object). entry_of x written.method) object_is ∙ ap (entry_of found.object) method_is in
+    let with_entry : Entry → World = λ y. record (accepted w) { trace = (accepted w).trace ++ y ∷ [] } in
+    let stack : List Activation = Emission f.object f.signal (values_of inputs) 0 w.connected ∷ [] in
+    let state_is : at v stack ≡ at (with_entry (entry_of found.object found.method)) stack = ap (λ (u : World). at u stack) (is ∙ ap with_entry gives) in
+    accepts refl pass
+    (record {
+      of = record {
+        o = f.object;
+        x = found.object;
+        is = found.is;
+        m = f.signal;
+        method = found.method;
+        has = found.has;
+        named = found.named;
+        counted = found.counted;
+        signal_is = found.is_signal;
+      };
+      gives = state_is;
+    })
+
+pub takes-emission : {p : Loaded} {v : World} {f : Found} {entry_is : Entry} {values : List Value} (w : World) (name signal : List ℕ) (inputs : List Input) → values ≡ values_of inputs → Pass (conditions p (at w []) (Emit name signal inputs)) → IsFound p w.objects name signal (length values) f → IsEmissionEntry p w.objects f values entry_is → v ≡ record (accepted w) { trace = (accepted w).trace ++ entry_is ∷ [] } → Takes p (Emit name signal inputs) (at w []) (at v (Emission f.object f.signal values 0 w.connected ∷ []))
+takes-emission {p} {v} {f} {entry_is} {values} w name signal inputs values_are pass found written is =
+    let At : List Value → Type 0 = λ l. IsFound p w.objects name signal (length l) f → IsEmissionEntry p w.objects f l entry_is → Takes p (Emit name signal inputs) (at w []) (at v (Emission f.object f.signal l 0 w.connected ∷ [])) in
+    subst At (sym values_are) (λ x y. takes-values w name signal inputs pass x y is) found written
+
+-- the emission runs to its end, or stops on the way
+pub took-emitted : {p : Loaded} {d o g last : ℕ} {w m v : World} {values : List Value} {r : Result (Unit {0}) Fault} (e : Event) → Takes p e (at w []) (at m (Emission o g values 0 last ∷ [])) → Pass (conditions p (at w []) e) → 1 ≤ d → 0 < w.left → m.left ≡ w.left - 1 → Ends p d 0 m (Emission o g values 0 last ∷ []) v [] r → MatchResult r (λ _. Took p d w e v (Ok answer.Done)) (λ f. Halted p d w e v f)
+took-emitted {r = Ok _} e x pass ok some less ends = record { cases = (record { runs = runs-taken e x ok some less (ends.cases.runs [] refl) }, pass) }
+took-emitted {r = Err f} e x pass ok some less ends =
+    let q = ends.cases.breaks [] refl in
+    record { taken = e ∷ []; rest = []; split = refl; stack = q.0; runs = runs-taken e x ok some less q.1; reason = q.2 }
+
+-- a run that stopped, behind a `?`
+pub took-stopped : {p : Loaded} {d : ℕ} {w v : World} {f : Fault} (e : Event) (r : Result Answer Fault) → Halted p d w e v f → IsErrAnd r (λ y. y ≡ f) → Took p d w e v r
+took-stopped e (Ok a) halted is = absurd is
+took-stopped {p} {d} {w} {v} e (Err y) halted is = record { cases = subst (λ (g : Fault). Halted p d w e v g) (sym is) halted }
+
+-- the object of a signal that is found has the signal
+pub found-there : {p : Loaded} {objects : List Object} {name signal : List ℕ} {count : ℕ} {f : Found} {x : Object} (i : IsFound p objects name signal count f) → slice_get objects f.object ≡ Some x → IsMethod p x.class f.signal i.method
+found-there {p} {f = f} {x = x} i is =
+    let same : Some i.object ≡ Some x = sym i.is.is ∙ is in
+    let object_is : i.object ≡ x = cc same in
+    let Class_of : Object → Type 0 = λ y. IsMethod p y.class f.signal i.method in
+    subst Class_of object_is i.has

@@ -1,0 +1,22 @@
+use Rattle.std.proofs.Common.{◌≡◌, ◌+◌, ◌++◌, ◌∷◌, [], List, take, drop, sym, ap, ◌∙◌, subst, take-append-drop}
+use Rattle.std.proofs.lemmas.List.{take_more, drop_more, drop_all}
+use Rattle.script_lang.specs.declared.event.Event.{Event}
+use Rattle.qt_runtime.specs.Seen.{Completes, RunsAll}
+use Rattle.qt_runtime.proofs.Applying.{completes-none, completes-then, run-stops}
+use Rattle.qt_runtime.proofs.machine.Machine.run.Goals as goal
+
+pub loop-event-init : goal.loop-event-init
+loop-event-init c = completes-none (sym c.is_stopped.ensures ∙ c.if-is_stopped.false)
+
+pub loop-event-preserved : goal.loop-event-preserved
+loop-event-preserved c =
+    let more = take_more c.args.events.now c.loop-event.event-index c.event-item.result c.loop-event-test.true in
+    rw (more, ← c.event-item.is) (completes-then c.loop-event.invariant c.in_ok-_answer.ensures.0)
+
+pub returns-in_err-_answer : goal.returns-in_err-_answer
+returns-in_err-_answer c =
+    let more = drop_more c.args.events.now c.loop-event.event-index c.event-item.result c.loop-event-test.true in
+    let rest = drop (c.loop-event.event-index + 1) c.args.events.now in
+    let split : take c.loop-event.event-index c.args.events.now ++ c.event-item.result ∷ rest ≡ c.args.events.now =
+    ap (λ (l : List Event). take c.loop-event.event-index c.args.events.now ++ l) (sym (rw (← c.event-item.is) at more)) ∙ take-append-drop c.loop-event.event-index c.args.events.now in
+    subst (λ (l : List Event). RunsAll c.args.self.now l c.from_residual.result c.apply.new.self) split (run-stops rest _ c.loop-event.invariant c.in_err-_answer.ensures c.from_residual.ensures.1)

@@ -1,0 +1,143 @@
+//! Whether an event is accepted, and the numbers of what it names.
+
+ghost use Rattle.std.specs.Prelude.{◌≡◌, ◌≢◌, ℕ, ◌<◌, [], List, length, IfOk, IfErr, MatchOption};
+ghost use Rattle.script_lang.specs.declared.event.Input.{Input as AnInput};
+ghost use Rattle.script_lang.specs.declared.event.Event.TheVariants.{New, Emit};
+ghost use Rattle.meta_objects.specs.Members.{IsClassNamed, IsMethod};
+ghost use Rattle.meta_objects.specs.declared.object.MetaMethod.{MetaMethod as AMetaMethod};
+ghost use Rattle.meta_objects.specs.declared.object.Work.TheVariants.{Signal};
+ghost use Rattle.qt_runtime.specs.declared.object_tree.Object.{Object as AnObject};
+ghost use Rattle.qt_runtime.specs.Objects.{IsNamed, IsFree};
+ghost use Rattle.qt_runtime.specs.Events.{conditions, Pass, Refuse, values_of};
+ghost use Rattle.qt_runtime.specs.Seen.{at};
+ghost use Rattle.qt_runtime.specs.Taking.{IsJoint, IsFound};
+
+use crate::setting::Setting;
+use crate::world::World;
+use meta_objects::Wired;
+use script_lang::{Connect, Event};
+use signatures::{Name, Sig, Value};
+
+/// The numbers of a connection's objects and methods.
+#[derive(Clone, Copy)]
+pub struct Joint {
+    pub sender: usize,
+    pub signal: usize,
+    pub receiver: usize,
+    pub method: usize,
+}
+
+/// The numbers of an object and of its signal.
+#[derive(Clone, Copy)]
+pub struct Found {
+    pub object: usize,
+    pub signal: usize,
+}
+
+/// How many objects may be created.
+const MOST_OBJECTS: usize = 100_000;
+
+impl Setting {
+    /// The class of a new object, or the reason why the event is refused.
+    pub fn judge_new(&self, world: &World, name: &Name, class: &Name) -> Result<usize, u8>
+        ensures passes { IfOk result (λ c. Pass (conditions self.now.meta (at world.now []) (New name.now class.now)) × IsClassNamed self.now.meta class.now c) }
+        ensures refuses { IfErr result (λ k. Refuse (conditions self.now.meta (at world.now []) (New name.now class.now)) k) }
+    {
+        if world.objects.find(name).is_some() {
+            return Err(30);
+        }
+        let Some(number) = self.meta.class(class) else {
+            return Err(33);
+        };
+        if world.objects.len() >= MOST_OBJECTS {
+            return Err(37);
+        }
+        Ok(number)
+    }
+}
+
+impl Setting {
+    /// The numbers of a connection's objects and methods, or the reason why the event is refused.
+    pub fn judge_connect(&self, world: &World, c: &Connect) -> Result<Joint, u8>
+        ensures passes { IfOk result (λ j. Pass (conditions self.now.meta (at world.now []) (Event.Connect c.now)) × IsJoint self.now.meta world.now.objects c.now j) }
+        ensures refuses { IfErr result (λ k. Refuse (conditions self.now.meta (at world.now []) (Event.Connect c.now)) k) }
+    {
+        let (sender, from) = self.find(world, &c.sender)?;
+        let (receiver, to) = self.find(world, &c.receiver)?;
+        let Some(signal) = self.signal(from, &c.signal) else {
+            return Err(46);
+        };
+        let Some(method) = self.meta.method(to, &c.method) else {
+            return Err(46);
+        };
+        match self.meta.wired(from, &c.signal, to, &c.method, c.kind) {
+            Wired::No => Err(38),
+            Wired::Unfit => Err(39),
+            Wired::Fit => Ok(Joint {
+                sender,
+                signal,
+                receiver,
+                method,
+            }),
+        }
+    }
+
+    /// The numbers of the object of this name and of its class.
+    fn find(&self, world: &World, name: &Name) -> Result<(usize, usize), u8>
+        ensures found { IfOk result (λ f. (x : AnObject) × IsNamed world.now.objects name.now f.0 x × (x.class ≡ f.1)) }
+        ensures free { IfErr result (λ k. IsFree world.now.objects name.now × (k ≡ 31)) }
+    {
+        let Some(number) = world.objects.find(name) else {
+            return Err(31);
+        };
+        match world.objects.get(number) {
+            Some(object) => Ok((number, object.class)),
+            None => unreachable!(),
+        }
+    }
+
+    /// The number of the class's signal of this signature.
+    fn signal(&self, class: usize, sig: &Sig) -> Option<usize>
+        ensures { MatchOption result ((m : ℕ) (method : AMetaMethod) → IsMethod self.now.meta class m method → method.sig ≡ sig.now → method.work ≢ Signal) (λ m. (method : AMetaMethod) × IsMethod self.now.meta class m method × (method.sig ≡ sig.now) × (method.work ≡ Signal)) }
+    {
+        let Some(number) = self.meta.method(class, sig) else {
+            return None;
+        };
+        match self.meta.method_at(class, number) {
+            Some(method) if method.is_signal() => Some(number),
+            _ => None,
+        }
+    }
+}
+
+impl Setting {
+    /// The numbers of an object and of its signal that takes these values, or the reason why the event is refused.
+    pub fn judge_emit(
+        &self,
+        world: &World,
+        name: &Name,
+        signal: &Name,
+        values: &[Value],
+    ) -> Result<Found, u8>
+        ensures passes { IfOk result (λ f. ((inputs : List AnInput) → values_of inputs ≡ values.now → Pass (conditions self.now.meta (at world.now []) (Emit name.now signal.now inputs))) × IsFound self.now.meta world.now.objects name.now signal.now (length values.now) f) }
+        ensures refuses { IfErr result (λ k. (inputs : List AnInput) → values_of inputs ≡ values.now → Refuse (conditions self.now.meta (at world.now []) (Emit name.now signal.now inputs)) k) }
+    {
+        let (object, class) = self.find(world, name)?;
+        let Some(number) = self.meta.by_name(class, signal, values.len()) else {
+            return Err(46);
+        };
+        match self.meta.method_at(class, number) {
+            Some(method) if method.is_signal() => {
+                if Value::have_types(values, method.sig.types.as_slice()) {
+                    Ok(Found {
+                        object,
+                        signal: number,
+                    })
+                } else {
+                    Err(45)
+                }
+            }
+            _ => Err(46),
+        }
+    }
+}

@@ -1,0 +1,97 @@
+//! The objects of a run, as a plain list.
+
+ghost use Rattle.std.specs.Prelude.{◌≡◌, [], ◌∷◌, ◌++◌, ◌<◌, length, slice_get, slice_set, ℕ, OnOk, OnErr, MatchOption, Some};
+ghost use Rattle.std.specs.Option.{option_copied};
+ghost use Rattle.qt_runtime.specs.Objects.{IsNamed, IsFree, written};
+ghost use Rattle.qt_runtime.specs.declared.object_tree.Object.{Object as AnObject};
+
+use crate::values::Values;
+use signatures::{Name, Value};
+use std::alloc::{AllocError, Global};
+use std::marker::Model;
+
+/// An object of a run.
+#[derive(Drop)]
+pub struct Object {
+    pub name: Name,
+    /// Its class's number.
+    pub class: usize,
+    /// Its properties' values.
+    pub values: Values,
+}
+
+/// The objects in the order of their creation; an object's number is its place.
+#[derive(Drop)]
+pub struct Objects {
+    items: Vec<Object>,
+}
+
+impl Model for Objects {
+    ghost use Rattle.std.specs.Prelude.{List};
+    ghost use Rattle.qt_runtime.specs.declared.object_tree.Object.{Object};
+
+    ghost Value = { List Object };
+
+    ghost view = { λ objects. objects.items.items };
+}
+
+impl Objects {
+    /// No objects.
+    pub fn new(alloc: Global) -> Objects
+        ensures { result ≡ [] }
+    {
+        Objects {
+            items: Vec::new(alloc),
+        }
+    }
+
+    /// How many objects were created.
+    pub fn len(&self) -> usize
+        ensures { result ≡ length self.now }
+    {
+        self.items.len()
+    }
+
+    /// The object of this number.
+    pub fn get(&self, object: usize) -> Option<&Object>
+        ensures { option_copied result ≡ slice_get self.now object }
+    {
+        self.items.get(object)
+    }
+
+    /// The number of the object of this name.
+    pub fn find(&self, name: &Name) -> Option<usize>
+        ensures { MatchOption result (IsFree self.now name.now) (λ o. (x : AnObject) × IsNamed self.now name.now o x) }
+    {
+        for (number, object) in self.items.iter().enumerate() {
+            if object.name.is_same(name) {
+                return Some(number);
+            }
+        }
+        None
+    }
+
+    /// Adds an object; without memory nothing changes.
+    pub fn push(&mut self, object: Object) -> Result<(), AllocError>
+        ensures ok { OnOk result (self.new ≡ self.old ++ object ∷ []) }
+        ensures err { OnErr result (self.new ≡ self.old) }
+    {
+        self.items.push(object)?;
+        Ok(())
+    }
+
+    /// Takes the last object off again.
+    pub fn pop(&mut self)
+        ensures { (front : _) (last : AnObject) → self.old ≡ front ++ last ∷ [] → self.new ≡ front }
+    {
+        let _last = self.items.pop();
+    }
+
+    /// Writes a property of an object.
+    pub fn set(&mut self, object: usize, property: usize, value: Value)
+        requires { object < length self.old }
+        ensures { (x : AnObject) → slice_get self.old object ≡ Some x → self.new ≡ slice_set self.old object (written x property value) }
+    {
+        self.items[object].values.set(property, value);
+    }
+}
