@@ -5,7 +5,7 @@ use Rattle.slot_lang.specs.Grammar.{spell_block, tree_of_block}
 use Rattle.slot_lang.specs.Reading.{EndsAnywhere, Found, spell_name}
 use Rattle.slot_lang.specs.declared.symbol.Symbol.TheVariants.{Semicolon, OpenBrace, Arrow}
 use Rattle.slot_lang.specs.declared.syntax.Stmt.{Stmt}
-use Rattle.slot_lang.specs.declared.word.Word.TheVariants as word
+use Rattle.signatures.specs.declared.word.Word.TheVariants as word
 use Rattle.slot_lang.specs.declared.token.Token.{Token}
 use Rattle.slot_lang.specs.declared.token.Token.TheVariants as token
 use Rattle.signatures.specs.declared.qtype.QType.{QType}

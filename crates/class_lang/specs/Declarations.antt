@@ -15,7 +15,7 @@ use Rattle.slot_lang.specs.Cursor.{NotAt}
 use Rattle.slot_lang.specs.declared.symbol.Symbol.TheVariants.{Semicolon, OpenBrace, CloseBrace, Arrow}
 use Rattle.slot_lang.specs.declared.token.Token.{Token}
 use Rattle.slot_lang.specs.declared.token.Token.TheVariants as token
-use Rattle.slot_lang.specs.declared.word.Word.TheVariants as word
+use Rattle.signatures.specs.declared.word.Word.TheVariants as word
 use Rattle.class_lang.specs.Lists.{spell_each}
 use Rattle.class_lang.specs.Members.{MemberReading, spell_member, tree_of_member, properties_in, signals_in, slots_in}
 use Rattle.class_lang.specs.Signatures.{SigReading, spell_sig, tree_of_sig}

@@ -10,7 +10,7 @@ use Rattle.slot_lang.specs.Grammar.{Statement, spell_block, tree_of_block}
 use Rattle.slot_lang.specs.declared.symbol.Symbol.TheVariants.{Semicolon}
 use Rattle.slot_lang.specs.declared.token.Token.{Token}
 use Rattle.slot_lang.specs.declared.token.Token.TheVariants as token
-use Rattle.slot_lang.specs.declared.word.Word.TheVariants as word
+use Rattle.signatures.specs.declared.word.Word.TheVariants as word
 use Rattle.class_lang.specs.Lists.{spell_listed}
 use Rattle.class_lang.specs.Signatures.{TypeReading, spell_type, SignalParameter, spell_signal_parameter, tree_of_signal_parameter, SlotParameter, spell_slot_parameter, tree_of_slot_parameter}
 use Rattle.class_lang.specs.declared.members.Member.{Member}

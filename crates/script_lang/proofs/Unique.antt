@@ -4,7 +4,7 @@ use Rattle.signatures.specs.declared.value.Value.TheVariants.{Int}
 use Rattle.slot_lang.specs.Grammar.{value_of}
 use Rattle.slot_lang.specs.declared.token.Token.{Token}
 use Rattle.slot_lang.specs.declared.token.Token.TheVariants as token
-use Rattle.slot_lang.specs.declared.word.Word.TheVariants as word
+use Rattle.signatures.specs.declared.word.Word.TheVariants as word
 use Rattle.script_lang.specs.declared.event.Event.{Event}
 use Rattle.script_lang.specs.declared.event.Input.TheVariants as input
 use Rattle.script_lang.specs.Grammar.{int, spell_more, spell_items, spell_type, tree_of_type, spell_signature, tree_of_signature, plain, negative, spell_literal, tree_of_literal, spell_new, tree_of_new, spell_connect, tree_of_connect, spell_emit, tree_of_emit, new, connect, emit, spell_event, tree_of_event, IsEvent}

@@ -19,7 +19,7 @@ use Rattle.slot_lang.specs.Grammar.{Numeral, spell_numeral, value_of}
 use Rattle.slot_lang.specs.declared.symbol.Symbol.TheVariants.{Dot, Comma, Minus, Open, Close}
 use Rattle.slot_lang.specs.declared.token.Token.{Token}
 use Rattle.slot_lang.specs.declared.token.Token.TheVariants as token
-use Rattle.slot_lang.specs.declared.word.Word.TheVariants as word
+use Rattle.signatures.specs.declared.word.Word.TheVariants as word
 use Rattle.script_lang.specs.declared.event.Event.{Event}
 use Rattle.script_lang.specs.declared.event.Event.TheVariants as tree
 use Rattle.script_lang.specs.declared.event.Input.{Input}

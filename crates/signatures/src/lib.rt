@@ -3,16 +3,22 @@
 
 mod arguments;
 mod kind;
+mod loop_id;
 mod name;
 mod object_id;
 mod qtype;
 mod sig;
+mod text;
 mod value;
+mod word;
 
 pub use arguments::Arguments;
 pub use kind::Kind;
+pub use loop_id::LoopId;
 pub use name::{Name, is_digit, is_letter, is_name, is_name_byte};
 pub use object_id::ObjectId;
 pub use qtype::{QType, types_are_same, types_begin_with};
 pub use sig::{Sig, fits};
+pub use text::{MOST_BYTES, Text, is_text, is_text_byte};
 pub use value::Value;
+pub use word::Word;

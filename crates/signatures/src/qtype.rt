@@ -1,5 +1,5 @@
-ghost use Rattle.std.specs.Prelude.{◌≡◌, ◌++◌, ◌↔◌, false, IsTrue, IfOk, List};
-ghost use Rattle.signatures.specs.Types.{int_type, BeginsWith};
+ghost use Rattle.std.specs.Prelude.{◌≡◌, ◌++◌, ◌↔◌, IsTrue, IfOk, List};
+ghost use Rattle.signatures.specs.Types.{value_type, BeginsWith};
 
 use crate::name::Name;
 use std::alloc::{AllocError, Global};
@@ -18,7 +18,7 @@ pub struct QType {
 impl QType {
     /// The value type of this name.
     pub fn value(name: Name) -> QType
-        ensures { result ≡ record { name = name; constant = false; pointer = false } }
+        ensures { result ≡ value_type name }
     {
         QType {
             name,
@@ -37,13 +37,6 @@ impl QType {
             constant: self.constant,
             pointer: self.pointer,
         })
-    }
-
-    /// Whether it is `int`.
-    pub fn is_int(&self) -> bool
-        ensures { IsTrue result ↔ (self.now ≡ int_type) }
-    {
-        !self.constant && !self.pointer && self.name.bytes() == b"int".as_slice()
     }
 
     /// Whether both types are the same; `T*` and `const T*` are two types.

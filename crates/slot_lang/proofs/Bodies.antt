@@ -3,7 +3,7 @@ use Rattle.std.proofs.Common.{◌≡◌, ◌<◌, ◌≤◌, ◌∙◌, ℕ, Lis
 use Rattle.std.specs.Prelude.{pos}
 use Rattle.std.proofs.lemmas.List.{append-nil}
 use Rattle.slot_lang.specs.declared.symbol.Symbol.TheVariants.{OpenBrace, CloseBrace}
-use Rattle.slot_lang.specs.declared.word.Word.TheVariants as word
+use Rattle.signatures.specs.declared.word.Word.TheVariants as word
 use Rattle.slot_lang.specs.declared.token.Token.{Token}
 use Rattle.slot_lang.specs.declared.token.Token.TheVariants as token
 use Rattle.slot_lang.specs.declared.syntax.Expr.{Expr}

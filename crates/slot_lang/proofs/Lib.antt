@@ -1,7 +1,6 @@
 pub mod Unique
 pub mod Numbers
 pub mod Bodies
-pub mod Words
 pub mod Runs
 pub mod Table
 pub mod Fronts

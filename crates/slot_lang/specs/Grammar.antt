@@ -6,7 +6,7 @@
 --   expr  = number | Name
 use Rattle.std.specs.Prelude.{ℕ, ◌≡◌, ◌+◌, ◌-◌, ◌*◌, ◌≤◌, List, [], ◌∷◌, map, pos}
 use Rattle.slot_lang.specs.declared.symbol.Symbol.TheVariants.{Dot, Assign, Semicolon, OpenBrace, CloseBrace}
-use Rattle.slot_lang.specs.declared.word.Word.TheVariants as word
+use Rattle.signatures.specs.declared.word.Word.TheVariants as word
 use Rattle.slot_lang.specs.declared.token.Token.{Token}
 use Rattle.slot_lang.specs.declared.token.Token.TheVariants as token
 use Rattle.slot_lang.specs.declared.syntax.Expr.{Expr}

@@ -13,7 +13,6 @@ use crate::fault::ParseFault;
 use crate::symbol::Symbol;
 use crate::syntax::{Body, Expr, Stmt};
 use crate::token::Token;
-use crate::word::Word;
 use signatures::Name;
 use sqlite_items::Items;
 use std::alloc::Global;

@@ -10,7 +10,6 @@ mod lexer;
 mod symbol;
 mod syntax;
 mod token;
-mod word;
 
 pub use body::{one_body, one_expression, parse_body, parse_expr};
 pub use cursor::Cursor;
@@ -20,4 +19,5 @@ pub use lexer::{LexFault, one_cut, tokens};
 pub use symbol::Symbol;
 pub use syntax::{Body, Expr, Stmt};
 pub use token::Token;
-pub use word::Word;
+
+pub use signatures::Word;

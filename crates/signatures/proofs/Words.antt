@@ -2,10 +2,10 @@
 use Rattle.std.proofs.Common.{◌≡◌, ℕ, List, [], ◌∷◌, Option, Some, None, cond, nat_eq, sum, refl, ap}
 use Rattle.std.specs.Prelude.{◌≢◌}
 use Rattle.std.specs.List.{AllByRecursion}
-use Rattle.slot_lang.specs.Words.{word_spelling, IsFree}
-use Rattle.slot_lang.specs.declared.word.Word.{Word}
-use Rattle.slot_lang.specs.declared.word.Word.TheVariants as w
-use Rattle.slot_lang.specs.declared.word.TheConstants.{WORDS}
+use Rattle.signatures.specs.Words.{word_spelling, IsFree}
+use Rattle.signatures.specs.declared.word.Word.{Word}
+use Rattle.signatures.specs.declared.word.Word.TheVariants as w
+use Rattle.signatures.specs.declared.word.TheConstants.{WORDS}
 
 -- the table has every word
 pub free : (letters : List ℕ) → AllByRecursion (λ word. letters ≢ word_spelling word) WORDS → IsFree letters

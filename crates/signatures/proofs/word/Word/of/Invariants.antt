@@ -1,9 +1,9 @@
 use Rattle.std.proofs.Common.{length}
 use Rattle.std.specs.Prelude.{◌≢◌}
 use Rattle.std.specs.List.{AllByRecursion}
-use Rattle.slot_lang.specs.Words.{word_spelling}
-use Rattle.slot_lang.specs.declared.word.TheConstants.{WORDS}
-use Rattle.slot_lang.proofs.word.Word.of.Given as goal
+use Rattle.signatures.specs.Words.{word_spelling}
+use Rattle.signatures.specs.declared.word.TheConstants.{WORDS}
+use Rattle.signatures.proofs.word.Word.of.Given as goal
 
 -- where none of the words that are left has these letters, none of all has
 abbrev pub invariant-loop-word : goal.invariant-loop-word

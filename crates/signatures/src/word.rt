@@ -1,7 +1,7 @@
 //! Reserved words and their spellings.
 
 ghost use Rattle.std.specs.Prelude.{◌≡◌, MatchOption};
-ghost use Rattle.slot_lang.specs.Words.{word_spelling, IsFree};
+ghost use Rattle.signatures.specs.Words.{word_spelling, IsFree};
 
 /// A reserved word, which is no name.
 #[derive(Clone, Copy, Debug, PartialEq, Eq)]

@@ -1,7 +1,7 @@
 -- How reserved words are spelled (docs/language.md, "Tokens").
 use Rattle.std.specs.Prelude.{ℕ, List, codes, ◌≢◌}
-use Rattle.slot_lang.specs.declared.word.Word.{Word}
-use Rattle.slot_lang.specs.declared.word.Word.TheVariants as w
+use Rattle.signatures.specs.declared.word.Word.{Word}
+use Rattle.signatures.specs.declared.word.Word.TheVariants as w
 
 abbrev pub word_spelling : Word → List ℕ
 word_spelling w.Class = codes "class"
