@@ -2,3 +2,4 @@ pub mod Name
 pub mod Words
 pub mod Text
 pub mod Types
+pub mod Normal

@@ -13,7 +13,7 @@ use crate::fault::ParseFault;
 use crate::symbol::Symbol;
 use crate::syntax::{Body, Expr, Stmt};
 use crate::token::Token;
-use signatures::Name;
+use signatures::{Name, Word};
 use sqlite_items::Items;
 use std::alloc::Global;
 
