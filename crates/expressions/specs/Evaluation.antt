@@ -30,3 +30,9 @@ abbrev pub Evaluates : Option Value → Result Value EvalFault → Type 0
 Evaluates found (Ok v) = found ≡ Some v
 Evaluates found (Err BadType) = found ≡ None
 Evaluates found (Err Memory) = Unit {0}
+
+-- the same of the values of a list
+abbrev pub EvaluatesAll : Option (List Value) → Result (List Value) EvalFault → Type 0
+EvaluatesAll found (Ok vs) = found ≡ Some vs
+EvaluatesAll found (Err BadType) = found ≡ None
+EvaluatesAll found (Err Memory) = Unit {0}

@@ -2,10 +2,10 @@
 
 ghost use Rattle.std.specs.Prelude.{◌≡◌, Option, Some, None, MatchResult};
 ghost use Rattle.expressions.specs.declared.evaluation.EvalFault.TheVariants as fault;
-ghost use Rattle.expressions.specs.Evaluation.{value, Evaluates};
+ghost use Rattle.expressions.specs.Evaluation.{value, values, Evaluates, EvaluatesAll};
 ghost use Rattle.signatures.specs.declared.value.Value.{Value as AValue};
 
-use signatures::Value;
+use signatures::{Arguments, Value};
 use slot_lang::Expr;
 use std::alloc::{AllocError, Global};
 use thiserror::Error;
@@ -50,6 +50,17 @@ pub fn eval<P: Drop, W: World<P>>(
     world: &W,
 ) -> Result<Value, EvalFault>
     ensures { Evaluates (value (W.World.read world.now) expression.now) result }
+{
+    Err(EvalFault::Memory)
+}
+
+/// The values of expressions, in their order; `BadType` exactly where one of them has none.
+pub fn eval_all<P: Drop, W: World<P>>(
+    alloc: Global,
+    expressions: &[Expr<P>],
+    world: &W,
+) -> Result<Arguments, EvalFault>
+    ensures { EvaluatesAll (values (W.World.read world.now) expressions.now) result }
 {
     Err(EvalFault::Memory)
 }

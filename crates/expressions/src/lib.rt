@@ -3,4 +3,4 @@
 
 mod evaluation;
 
-pub use evaluation::{EvalFault, World, eval};
+pub use evaluation::{EvalFault, World, eval, eval_all};
