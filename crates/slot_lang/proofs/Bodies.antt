@@ -8,34 +8,17 @@ use Rattle.slot_lang.specs.declared.token.Token.{Token}
 use Rattle.slot_lang.specs.declared.token.Token.TheVariants as token
 use Rattle.slot_lang.specs.declared.syntax.Expr.{Expr}
 use Rattle.slot_lang.specs.declared.syntax.Expr.TheVariants as expr
+use Rattle.slot_lang.specs.declared.syntax.Path.{Path}
+use Rattle.slot_lang.specs.declared.syntax.Root.TheVariants as root
+use Rattle.signatures.specs.declared.value.Value.TheVariants as value
 use Rattle.slot_lang.specs.declared.syntax.Stmt.{Stmt}
 use Rattle.slot_lang.specs.declared.syntax.Stmt.TheVariants as stmt
 use Rattle.slot_lang.specs.Cursor.{NotAt, NotAtWord}
 use Rattle.slot_lang.specs.Reading.{EndsAnywhere, Found}
-use Rattle.slot_lang.specs.Grammar.{Expression, number, parameter, Statement, set, most_in_expressions, value_of, spell_numeral, spell_expression, tree_of_expression, spell_target, spell_value, spell_statement, tree_of_statement, spell_statements, spell_block, tree_of_block}
+use Rattle.slot_lang.specs.Numerals.{value_of, spell_numeral}
+use Rattle.slot_lang.specs.Grammar.{Expression, number, parameter, Statement, set, most_in_expressions, spell_expression, tree_of_expression, spell_target, spell_value, spell_statement, tree_of_statement, spell_statements, spell_block, tree_of_block}
 
--- no tokens begin with a reading of the rule
-abbrev pub None : {R : Type 0} → (R → List Token → List Token) → List Token → Type 0
-None {R} spell now = (r : R) (rest : List Token) → EndsAnywhere rest → now ≡ spell r rest → ⊥
-
--- ---- numbers
-
-pub number_found : {before after : List Token} (most : ℕ) (digits : List ℕ) (n : ℕ) → before ≡ token.Number digits ∷ after → n ≡ value_of digits → n ≤ most → Found (spell_numeral most) (λ m. value_of m.digits) EndsAnywhere before n after
-number_found {before} {after} most digits n e same fits = record {
-  reading = record { digits = digits; fits = omega arith };
-  spelled = e;
-  tree_is = sym same;
-  only = λ r rest ends g. cc;
-}
-
-pub number_too_large : {before after : List Token} (most : ℕ) (digits : List ℕ) → before ≡ token.Number digits ∷ after → most < value_of digits → None (spell_numeral most) before
-number_too_large {before} {after} most digits e large r rest ends g =
-    let same : r.digits ≡ digits = cc in
-    let fits : value_of digits ≤ most = rw same at r.fits in
-    absurd (omega arith)
-
-pub no_number_at : {before after : List Token} (most : ℕ) (t : Token) → ((ds : List ℕ) → t ≡ token.Number ds → ⊥) → before ≡ t ∷ after → None (spell_numeral most) before
-no_number_at {before} {after} most t other e r rest ends g = other r.digits cc
+use Rattle.slot_lang.proofs.Underway.{None, Underway}
 
 -- ---- expressions
 
@@ -43,15 +26,15 @@ after_expression : (e : Expression) (t : Token) (after rest : List Token) → t 
 after_expression (number n) t after rest g = cc
 after_expression (parameter x) t after rest g = cc
 
-pub expression_number : {before after : List Token} (digits : List ℕ) (n : ℕ) → before ≡ token.Number digits ∷ after → n ≡ value_of digits → n ≤ most_in_expressions → Found spell_expression tree_of_expression EndsAnywhere before (expr.Number (pos n)) after
+pub expression_number : {before after : List Token} (digits : List ℕ) (n : ℕ) → before ≡ token.Number digits ∷ after → n ≡ value_of digits → n ≤ most_in_expressions → Found spell_expression tree_of_expression EndsAnywhere before (expr.Literal (value.Int (pos n))) after
 expression_number {before} {after} digits n e same fits = record {
   reading = number (record { digits = digits; fits = omega arith });
   spelled = e;
-  tree_is = ap (λ m. expr.Number (pos m)) (sym same);
+  tree_is = ap (λ m. expr.Literal (value.Int (pos m))) (sym same);
   only = λ r rest ends g. after_expression r (token.Number digits) after rest (sym e ∙ g);
 }
 
-pub expression_parameter : {before after : List Token} (name : List ℕ) → before ≡ token.Name name ∷ after → Found spell_expression tree_of_expression EndsAnywhere before (expr.Parameter name) after
+pub expression_parameter : {before after : List Token} (name : List ℕ) → before ≡ token.Name name ∷ after → Found spell_expression tree_of_expression EndsAnywhere before (expr.Path (record { root = root.Name name; properties = [] })) after
 expression_parameter {before} {after} name e = record {
   reading = parameter name;
   spelled = e;
@@ -59,18 +42,18 @@ expression_parameter {before} {after} name e = record {
   only = λ r rest ends g. after_expression r (token.Name name) after rest (sym e ∙ g);
 }
 
-pub expression_too_large : {before after : List Token} (digits : List ℕ) → before ≡ token.Number digits ∷ after → most_in_expressions < value_of digits → None spell_expression before
+pub expression_too_large : {before after : List Token} (digits : List ℕ) → before ≡ token.Number digits ∷ after → most_in_expressions < value_of digits → None spell_expression EndsAnywhere before
 expression_too_large {before} {after} digits e large (number n) rest ends g =
     let same : n.digits ≡ digits = cc in
     let fits : value_of digits ≤ most_in_expressions = rw same at n.fits in
     absurd (omega arith)
 expression_too_large {before} {after} digits e large (parameter x) rest ends g = cc
 
-pub no_expression_at : {before after : List Token} (t : Token) → ((ds : List ℕ) → t ≡ token.Number ds → ⊥) → ((x : List ℕ) → t ≡ token.Name x → ⊥) → before ≡ t ∷ after → None spell_expression before
+pub no_expression_at : {before after : List Token} (t : Token) → ((ds : List ℕ) → t ≡ token.Number ds → ⊥) → ((x : List ℕ) → t ≡ token.Name x → ⊥) → before ≡ t ∷ after → None spell_expression EndsAnywhere before
 no_expression_at {before} {after} t no_number no_name e (number n) rest ends g = no_number n.digits cc
 no_expression_at {before} {after} t no_number no_name e (parameter x) rest ends g = no_name x cc
 
-pub no_expression_at_end : {before : List Token} → before ≡ [] → None spell_expression before
+pub no_expression_at_end : {before : List Token} → before ≡ [] → None spell_expression EndsAnywhere before
 no_expression_at_end {before} e (number n) rest ends g = cc
 no_expression_at_end {before} e (parameter x) rest ends g = cc
 
@@ -79,21 +62,21 @@ no_expression_at_end {before} e (parameter x) rest ends g = cc
 set_parts : (s : Statement) (between rest : List Token) → token.Word word.Set ∷ between ≡ spell_statement s rest → (x : List ℕ) × (e : Expression) × (between ≡ spell_target x (spell_value e rest))
 set_parts (set x e) between rest g = (x, e, cc)
 
-pub no_statement_at : {before : List Token} → NotAtWord word.Set before → None spell_statement before
+pub no_statement_at : {before : List Token} → NotAtWord word.Set before → None spell_statement EndsAnywhere before
 no_statement_at none (set x e) rest ends g = none _ g
 
 module _ {before between : List Token} (at_set : before ≡ token.Word word.Set ∷ between) where
-  pub no_target : None spell_target between → None spell_statement before
+  pub no_target : None spell_target EndsAnywhere between → None spell_statement EndsAnywhere before
   no_target none s rest ends g =
       let w = set_parts s between rest (sym at_set ∙ g) in none w.0 (spell_value w.1 rest) tt w.2
 
   module _ {property : List ℕ} {at_value : List Token} (p : Found spell_target (λ name. name) EndsAnywhere between property at_value) where
-    pub no_value : None spell_value at_value → None spell_statement before
+    pub no_value : None spell_value EndsAnywhere at_value → None spell_statement EndsAnywhere before
     no_value none s rest ends g =
         let w = set_parts s between rest (sym at_set ∙ g) in
         none w.1 rest tt (p.only w.0 (spell_value w.1 rest) tt w.2)
 
-    pub set_found : {e : Expr} {after : List Token} → Found spell_value tree_of_expression EndsAnywhere at_value e after → Found spell_statement tree_of_statement EndsAnywhere before (stmt.Set property e) after
+    pub set_found : {e : Expr Path} {after : List Token} → Found spell_value tree_of_expression EndsAnywhere at_value e after → Found spell_statement tree_of_statement EndsAnywhere before (stmt.Set (record { root = root.This; properties = [] }) property e) after
     set_found {e} {after} v =
         let s = p.spelled in
         let d = v.spelled in
@@ -110,12 +93,6 @@ module _ {before between : List Token} (at_set : before ≡ token.Word word.Set 
 
 -- ---- blocks
 
--- From `before` on, a part of a rule is read, whose value is `left`. `goes_on`: with what more is read from `now` on, it
--- is the rule. `all`: each reading of the rule goes on so.
-pub record Underway {R M A : Type 0} (spell : R → List Token → List Token) (tree : R → A) (Ends : List Token → Type 0) (more : M → List Token → List Token) (tree_more : M → A → A) (before : List Token) (left : A) (now : List Token) : Type 0 where
-  pub goes_on : (m : M) (rest : List Token) → now ≡ more m rest → (r : R) × (before ≡ spell r rest) × (tree r ≡ tree_more m left)
-  pub all : (r : R) (rest : List Token) → Ends rest → before ≡ spell r rest → (m : M) × (now ≡ more m rest)
-
 -- what is left of a block
 abbrev pub spell_rest : List Statement → List Token → List Token
 spell_rest statements after = spell_statements statements (token.Symbol CloseBrace ∷ after)
@@ -130,7 +107,7 @@ after_statement : (m : List Statement) (now after rest : List Token) {s : Stmt} 
 after_statement [] now after rest unclosed h g = absurd (unclosed rest g)
 after_statement (s ∷ ss) now after rest unclosed h g = (ss, h.only s (spell_rest ss rest) tt g)
 
-no_statement_left : (m : List Statement) (now rest : List Token) → NotAt CloseBrace now → None spell_statement now → now ≡ spell_rest m rest → ⊥
+no_statement_left : (m : List Statement) (now rest : List Token) → NotAt CloseBrace now → None spell_statement EndsAnywhere now → now ≡ spell_rest m rest → ⊥
 no_statement_left [] now rest unclosed none g = unclosed rest g
 no_statement_left (s ∷ ss) now rest unclosed none g = none s (spell_rest ss rest) tt g
 
@@ -153,5 +130,5 @@ module _ {before : List Token} {found : List Stmt} {now : List Token} (h : BodyS
       let w = h.goes_on [] after e in
       record { reading = w.0; spelled = w.1; tree_is = w.2 ∙ append-nil found; only = λ r rest ends g. let v = h.all r rest ends g in closed v.0 now after rest e v.1 }
 
-  pub body_stuck : NotAt CloseBrace now → None spell_statement now → None spell_block before
+  pub body_stuck : NotAt CloseBrace now → None spell_statement EndsAnywhere now → None spell_block EndsAnywhere before
   body_stuck unclosed none r rest ends g = let w = h.all r rest ends g in no_statement_left w.0 now rest unclosed none w.1

@@ -1,3 +1,8 @@
+pub mod Underway
+pub mod Listed
+pub mod Signatures
+pub mod PlainReferences
+pub mod Literals
 pub mod Unique
 pub mod Numbers
 pub mod Bodies

@@ -5,8 +5,11 @@ use Rattle.slot_lang.specs.declared.token.Token.{Token}
 use Rattle.slot_lang.specs.declared.token.Token.TheVariants as token
 use Rattle.slot_lang.specs.declared.syntax.Expr.{Expr}
 use Rattle.slot_lang.specs.declared.syntax.Expr.TheVariants as expr
+use Rattle.slot_lang.specs.declared.syntax.Path.{Path}
+use Rattle.signatures.specs.declared.value.Value.TheVariants as value
 use Rattle.slot_lang.specs.declared.syntax.Stmt.{Stmt}
-use Rattle.slot_lang.specs.Grammar.{Numeral, Expression, number, parameter, Statement, set, value_of, spell_numeral, spell_expression, tree_of_expression, spell_statement, tree_of_statement, spell_statements, spell_block, tree_of_block, IsBody, IsExpr}
+use Rattle.slot_lang.specs.Numerals.{Numeral, value_of, spell_numeral}
+use Rattle.slot_lang.specs.Grammar.{Expression, number, parameter, Statement, set, spell_expression, tree_of_expression, spell_statement, tree_of_statement, spell_statements, spell_block, tree_of_block, IsBody, IsExpr}
 use Rattle.std.specs.Prelude.{pos}
 
 pub unique_numeral : (most : ℕ) (a b : Numeral most) (r s : List Token) → spell_numeral most a r ≡ spell_numeral most b s → (a.digits ≡ b.digits) × (r ≡ s)
@@ -14,7 +17,7 @@ unique_numeral most a b r s e = (cc, cc)
 
 pub unique_expression : (a b : Expression) (r s : List Token) → spell_expression a r ≡ spell_expression b s → (tree_of_expression a ≡ tree_of_expression b) × (r ≡ s)
 unique_expression (number m) (number n) r s e =
-    let h : m.digits ≡ n.digits = cc in (ap (λ ds. expr.Number (pos (value_of ds))) h, cc)
+    let h : m.digits ≡ n.digits = cc in (ap (λ ds. expr.Literal (value.Int (pos (value_of ds)))) h, cc)
 unique_expression (parameter x) (parameter y) r s e = (cc, cc)
 unique_expression (number m) (parameter y) r s e = cc
 unique_expression (parameter x) (number n) r s e = cc
@@ -42,7 +45,7 @@ one_body_tree tokens a b h k =
     let same = unique_block h.reading k.reading [] [] (sym h.spelled ∙ k.spelled) in
     sym h.tree ∙ (same.0 ∙ k.tree)
 
-pub one_expression_tree : (tokens : List Token) (a b : Expr) → IsExpr tokens a → IsExpr tokens b → a ≡ b
+pub one_expression_tree : (tokens : List Token) (a b : Expr Path) → IsExpr tokens a → IsExpr tokens b → a ≡ b
 one_expression_tree tokens a b h k =
     let same = unique_expression h.reading k.reading [] [] (sym h.spelled ∙ k.spelled) in
     sym h.tree ∙ (same.0 ∙ k.tree)

@@ -4,31 +4,19 @@
 --   block = "{" {stmt} "}"
 --   stmt  = "set" "this" "." Name "=" expr ";"
 --   expr  = number | Name
-use Rattle.std.specs.Prelude.{ℕ, ◌≡◌, ◌+◌, ◌-◌, ◌*◌, ◌≤◌, List, [], ◌∷◌, map, pos}
+use Rattle.std.specs.Prelude.{ℕ, ◌≡◌, List, [], ◌∷◌, map, pos}
+use Rattle.slot_lang.specs.Numerals.{Numeral, spell_numeral, value_of}
 use Rattle.slot_lang.specs.declared.symbol.Symbol.TheVariants.{Dot, Assign, Semicolon, OpenBrace, CloseBrace}
 use Rattle.signatures.specs.declared.word.Word.TheVariants as word
 use Rattle.slot_lang.specs.declared.token.Token.{Token}
 use Rattle.slot_lang.specs.declared.token.Token.TheVariants as token
 use Rattle.slot_lang.specs.declared.syntax.Expr.{Expr}
 use Rattle.slot_lang.specs.declared.syntax.Expr.TheVariants as expr
+use Rattle.slot_lang.specs.declared.syntax.Path.{Path}
+use Rattle.slot_lang.specs.declared.syntax.Root.TheVariants as root
+use Rattle.signatures.specs.declared.value.Value.TheVariants as value
 use Rattle.slot_lang.specs.declared.syntax.Stmt.{Stmt}
 use Rattle.slot_lang.specs.declared.syntax.Stmt.TheVariants as stmt
-
--- the number that digits after `n` write, `0` being 48
-abbrev pub value_from : ℕ → List ℕ → ℕ
-value_from n [] = n
-value_from n (d ∷ ds) = value_from (n * 10 + (d - 48)) ds
-
-abbrev pub value_of : List ℕ → ℕ
-value_of digits = value_from 0 digits
-
--- a number that is at most so much, with its digits
-pub record Numeral (most : ℕ) : Type 0 where
-  pub digits : List ℕ
-  pub fits : value_of digits ≤ most
-
-abbrev pub spell_numeral : (most : ℕ) → Numeral most → List Token → List Token
-spell_numeral most n after = token.Number n.digits ∷ after
 
 abbrev pub most_in_expressions : ℕ
 most_in_expressions = 2147483647
@@ -41,9 +29,9 @@ abbrev pub spell_expression : Expression → List Token → List Token
 spell_expression (number n) after = spell_numeral most_in_expressions n after
 spell_expression (parameter name) after = token.Name name ∷ after
 
-abbrev pub tree_of_expression : Expression → Expr
-tree_of_expression (number n) = expr.Number (pos (value_of n.digits))
-tree_of_expression (parameter name) = expr.Parameter name
+abbrev pub tree_of_expression : Expression → Expr Path
+tree_of_expression (number n) = expr.Literal (value.Int (pos (value_of n.digits)))
+tree_of_expression (parameter name) = expr.Path (record { root = root.Name name; properties = [] })
 
 pub data Statement : Type 0 where
   set : (property : List ℕ) → Expression → Statement
@@ -60,7 +48,7 @@ abbrev pub spell_statement : Statement → List Token → List Token
 spell_statement (set property e) after = token.Word word.Set ∷ spell_target property (spell_value e after)
 
 abbrev pub tree_of_statement : Statement → Stmt
-tree_of_statement (set property e) = stmt.Set property (tree_of_expression e)
+tree_of_statement (set property e) = stmt.Set (record { root = root.This; properties = [] }) property (tree_of_expression e)
 
 abbrev pub spell_statements : List Statement → List Token → List Token
 spell_statements [] after = after
@@ -79,7 +67,7 @@ pub record IsBody (tokens : List Token) (body : List Stmt) : Type 0 where
   pub tree : tree_of_block reading ≡ body
 
 -- the tokens are this expression
-pub record IsExpr (tokens : List Token) (e : Expr) : Type 0 where
+pub record IsExpr (tokens : List Token) (e : Expr Path) : Type 0 where
   pub reading : Expression
   pub spelled : tokens ≡ spell_expression reading []
   pub tree : tree_of_expression reading ≡ e

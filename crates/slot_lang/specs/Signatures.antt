@@ -35,6 +35,22 @@ spell_named Nowhere name after = token.Name name ∷ after
 spell_named Before name after = token.Word word.Const ∷ token.Name name ∷ after
 spell_named After name after = token.Name name ∷ token.Word word.Const ∷ after
 
+-- a name, and where `const` stands
+abbrev pub Named : Type 0
+Named = ConstPlace × List ℕ
+
+abbrev pub spell_place : Named → List Token → List Token
+spell_place named after = spell_named named.0 named.1 after
+
+-- no `const` comes next, which may stand behind the name
+abbrev pub EndsNamed : List Token → Type 0
+EndsNamed after = NotAtWord word.Const after
+
+-- what comes next of an ending, as much as there is
+pub record IsEnding (ending : TypeEnding) (before after : List Token) : Type 0 where
+  pub spelled : before ≡ spell_ending ending after
+  pub bare : ending ≡ Bare → NotAt Ampersand before × NotAt Star before
+
 abbrev pub spell_type : TypeReading → List Token → List Token
 spell_type (spelled_type place name ending) after = spell_named place name (spell_ending ending after)
 

@@ -1,19 +1,21 @@
 //! Slot bodies and expressions.
 
-ghost use Rattle.std.specs.Prelude.{◌≡◌, ◌<◌, ◌≤◌, List, length, IfOk, OnOk, Err, MatchResult};
-ghost use Rattle.slot_lang.specs.Grammar.{IsBody, IsExpr, Numeral, most_in_expressions, spell_numeral, value_of, spell_expression, tree_of_expression, spell_target, spell_value, spell_statement, tree_of_statement, spell_block, tree_of_block};
+ghost use Rattle.std.specs.Prelude.{◌≡◌, ◌<◌, List, length, IfOk, OnOk, Err};
+ghost use Rattle.slot_lang.specs.Grammar.{IsBody, IsExpr, spell_expression, tree_of_expression, spell_target, spell_value, spell_statement, tree_of_statement, spell_block, tree_of_block};
 ghost use Rattle.slot_lang.specs.Reading.{Reads, EndsAnywhere};
 ghost use Rattle.slot_lang.specs.declared.token.Token.{Token};
 ghost use Rattle.slot_lang.specs.declared.syntax.Stmt.{Stmt};
 ghost use Rattle.slot_lang.specs.declared.syntax.Expr.{Expr};
+ghost use Rattle.slot_lang.specs.declared.syntax.Path.{Path};
 ghost use Rattle.slot_lang.specs.declared.fault.ParseFault.TheVariants.{Syntax};
 
 use crate::cursor::Cursor;
 use crate::fault::ParseFault;
+use crate::literal::value_of;
 use crate::symbol::Symbol;
-use crate::syntax::{Body, Expr, Stmt};
+use crate::syntax::{Body, Expr, Path, Root, Stmt};
 use crate::token::Token;
-use signatures::{Name, Word};
+use signatures::{Name, Value, Word};
 use sqlite_items::Items;
 use std::alloc::Global;
 
@@ -39,9 +41,9 @@ pub fn parse_body(alloc: Global, tokens: &[Token]) -> Result<Body, ParseFault>
 /// Reads an expression, which all of the tokens are. A number in it is at most 2147483647.
 ///
 /// `Syntax` where the tokens aren't an expression, and only there; `Memory` where a growth of memory was refused.
-pub fn parse_expr(alloc: Global, tokens: &[Token]) -> Result<Expr, ParseFault>
+pub fn parse_expr(alloc: Global, tokens: &[Token]) -> Result<Expr<Path>, ParseFault>
     ensures read { IfOk result (λ e. IsExpr tokens.now e) }
-    ensures refused { result ≡ Err Syntax → (e : Expr) → IsExpr tokens.now e → ⊥ }
+    ensures refused { result ≡ Err Syntax → (e : Expr Path) → IsExpr tokens.now e → ⊥ }
 {
     let mut cursor = Cursor::new(alloc, tokens);
     let expression = cursor.expression()?;
@@ -59,55 +61,26 @@ pub fn one_body()
 
 /// Tokens are an expression in at most one way.
 pub fn one_expression()
-    ensures { (tokens : List Token) → (a b : Expr) → IsExpr tokens a → IsExpr tokens b → a ≡ b }
+    ensures { (tokens : List Token) → (a b : Expr Path) → IsExpr tokens a → IsExpr tokens b → a ≡ b }
 {}
 
-/// The number that the digits write, if it is at most so much.
-fn value_of(digits: &[u8], most: u32) -> Result<u32, ParseFault>
-    ensures { MatchResult result (λ n. (n ≡ value_of digits.now) × (n ≤ most)) (λ _. most < value_of digits.now) }
-{
-    let mut value = 0u32;
-    for digit in digits {
-        let next = u64::from(value) * 10 + u64::from(digit.saturating_sub(b'0'));
-        if next > u64::from(most) {
-            return Err(ParseFault::Syntax);
-        }
-        value = next as u32;
-    }
-    Ok(value)
-}
-
 impl<'a> Cursor<'a> {
-    /// Takes the number that has to come next, which is at most `most`; leading zeros are allowed.
-    ///
-    /// `Syntax` where no number comes next or it is larger, and only there.
-    pub fn number(&mut self, most: u32) -> Result<u32, ParseFault>
-        ensures reads { Reads (spell_numeral most) (λ n. value_of n.digits) EndsAnywhere self.old result self.new }
-        ensures fits { IfOk result (λ n. n ≤ most) }
-        ensures shorter { OnOk result (length self.new < length self.old) }
-    {
-        match self.next()? {
-            Token::Number(digits) => {
-                let value = value_of(digits.as_slice(), most)?;
-                Ok(value)
-            }
-            _ => Err(ParseFault::Syntax),
-        }
-    }
-
     /// `number | Name`
-    fn expression(&mut self) -> Result<Expr, ParseFault>
+    fn expression(&mut self) -> Result<Expr<Path>, ParseFault>
         ensures reads { Reads spell_expression tree_of_expression EndsAnywhere self.old result self.new }
         ensures shorter { OnOk result (length self.new < length self.old) }
     {
         match self.next()? {
             Token::Number(digits) => {
                 let value = value_of(digits.as_slice(), MOST_IN_EXPRESSIONS)?;
-                Ok(Expr::Number(value as i32))
+                Ok(Expr::Literal(Value::Int(value as i32)))
             }
             Token::Name(name) => {
                 let name = name.copy()?;
-                Ok(Expr::Parameter(name))
+                Ok(Expr::Path(Path {
+                    root: Root::Name(name),
+                    properties: Items::new(self.alloc()),
+                }))
             }
             _ => Err(ParseFault::Syntax),
         }
@@ -125,7 +98,7 @@ impl<'a> Cursor<'a> {
     }
 
     /// `"=" expr ";"`
-    fn value(&mut self) -> Result<Expr, ParseFault>
+    fn value(&mut self) -> Result<Expr<Path>, ParseFault>
         ensures reads { Reads spell_value tree_of_expression EndsAnywhere self.old result self.new }
         ensures shorter { OnOk result (length self.new < length self.old) }
     {
@@ -143,7 +116,11 @@ impl<'a> Cursor<'a> {
         self.expect_word(Word::Set)?;
         let property = self.target()?;
         let value = self.value()?;
-        Ok(Stmt::Set(property, value))
+        let path = Path {
+            root: Root::This,
+            properties: Items::new(self.alloc()),
+        };
+        Ok(Stmt::Set(path, property, value))
     }
 
     /// Takes the block that has to come next: `{`, statements and `}`.

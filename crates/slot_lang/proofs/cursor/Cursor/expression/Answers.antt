@@ -11,4 +11,4 @@ returns-in_ok-value-in-Number-clause-reads c =
 
 pub returns-in_ok-name-in-Name-clause-reads : goal.returns-in_ok-name-in-Name-clause-reads
 returns-in_ok-name-in-Name-clause-reads c =
-    rw c.in_ok-name-in-Name.ensures (expression_parameter c.in-Name.name (rw c.in-Name.is at c.in_ok-digits.ensures.found))
+    rw (c.in_ok-name-in-Name.ensures, c.new.ensures) (expression_parameter c.in-Name.name (rw c.in-Name.is at c.in_ok-digits.ensures.found))

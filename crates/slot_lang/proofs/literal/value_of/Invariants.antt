@@ -1,6 +1,6 @@
 use Rattle.std.proofs.Common.{◌≡◌, ◌≤◌, drop}
-use Rattle.slot_lang.specs.Grammar.{value_from, value_of}
-use Rattle.slot_lang.proofs.body.value_of.Given as goal
+use Rattle.slot_lang.specs.Numerals.{value_from, value_of}
+use Rattle.slot_lang.proofs.literal.value_of.Given as goal
 
 abbrev pub invariant-loop-digit : goal.invariant-loop-digit
 invariant-loop-digit l = record {
