@@ -5,6 +5,7 @@ ghost use Rattle.expressions.specs.declared.evaluation.EvalFault.TheVariants as 
 ghost use Rattle.expressions.specs.Evaluation.{value, values, Evaluates, EvaluatesAll};
 ghost use Rattle.signatures.specs.declared.value.Value.{Value as AValue};
 
+use crate::operators::{apply_binary, apply_unary};
 use signatures::{Arguments, Value};
 use slot_lang::Expr;
 use std::alloc::{AllocError, Global};
@@ -42,6 +43,7 @@ pub trait World<P> {
         ensures { Evaluates (read self.now path.now) result };
 }
 
+#[tactic(auto, using(crate::proofs::Evaluating::value_equations))]
 /// The value of an expression, for what its paths lead to. `BadType` exactly where it has none: where an operator meets
 /// a value that it doesn't take. Both operands of an operator are evaluated, the left one first.
 pub fn eval<P: Drop, W: World<P>>(
@@ -51,7 +53,19 @@ pub fn eval<P: Drop, W: World<P>>(
 ) -> Result<Value, EvalFault>
     ensures { Evaluates (value (W.World.read world.now) expression.now) result }
 {
-    Err(EvalFault::Memory)
+    match expression {
+        Expr::Literal(value) => Ok(value.copy()?),
+        Expr::Path(path) => world.value(path),
+        Expr::Unary(operator, operand) => {
+            let operand = eval(alloc, operand.get(), world)?;
+            apply_unary(*operator, &operand).ok_or(EvalFault::BadType)
+        }
+        Expr::Binary(operator, left, right) => {
+            let left = eval(alloc, left.get(), world)?;
+            let right = eval(alloc, right.get(), world)?;
+            apply_binary(alloc, *operator, &left, &right)
+        }
+    }
 }
 
 /// The values of expressions, in their order; `BadType` exactly where one of them has none.
@@ -62,5 +76,10 @@ pub fn eval_all<P: Drop, W: World<P>>(
 ) -> Result<Arguments, EvalFault>
     ensures { EvaluatesAll (values (W.World.read world.now) expressions.now) result }
 {
-    Err(EvalFault::Memory)
+    let mut arguments = Arguments::new(alloc);
+    for expression in expressions {
+        let value = eval(alloc, expression, world)?;
+        arguments.push(value)?;
+    }
+    Ok(arguments)
 }

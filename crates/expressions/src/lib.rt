@@ -2,5 +2,7 @@
 #![tactic(auto)]
 
 mod evaluation;
+mod operators;
 
 pub use evaluation::{EvalFault, World, eval, eval_all};
+pub use operators::{apply_binary, apply_unary, join, negate};
