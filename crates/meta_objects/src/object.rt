@@ -1,3 +1,4 @@
+use crate::slot_body::SlotBody;
 use signatures::{Kind, Name, QType, Sig, Value};
 use slot_lang::Expr;
 use sqlite_items::Items;
@@ -59,7 +60,7 @@ pub enum Work {
     /// A signal is emitted.
     Signal,
     /// A slot has a body.
-    Slot(Items<Statement>),
+    Slot(SlotBody),
 }
 
 /// A method of a class.
