@@ -1,3 +1,4 @@
+pub mod OneTree
 pub mod Underway
 pub mod Listed
 pub mod Signatures

@@ -66,7 +66,7 @@ const_nowhere {before} {after} {name} f none =
 
 -- ---- types
 
-ends_at_ending : (ending : TypeEnding) (rest : List Token) → EndsType rest → EndsNamed (spell_ending ending rest)
+pub ends_at_ending : (ending : TypeEnding) (rest : List Token) → EndsType rest → EndsNamed (spell_ending ending rest)
 ends_at_ending Bare rest ends after e = ends.no_const after e
 ends_at_ending Reference rest ends after e = cc
 ends_at_ending Pointer rest ends after e = cc
