@@ -191,3 +191,5 @@ pub record IsSound (p : Loaded) : Type 0 where
   pub distinct_classes : AreDistinctClasses p.classes
   pub wires : (wire : MetaWire) → IsIn wire p.wires → IsSoundWire p wire
   pub owns : (owns : MetaOwns) → IsIn owns p.owns → IsSoundOwns p owns
+  -- method 1 of every class is `destroyed()`, which has no parameters
+  pub destroyed : (c : ℕ) (method : MetaMethod) → IsMethod p c 1 method → method.sig.types ≡ []
