@@ -1,1 +1,4 @@
 pub mod Words
+pub mod Tokens
+pub mod Reading
+pub mod Unique

@@ -1,5 +1,5 @@
 -- Types and signatures (docs/language.md, "Signatures").
-use Rattle.std.specs.Prelude.{◌≡◌, ℕ, false, List, ◌++◌, codes}
+use Rattle.std.specs.Prelude.{◌≡◌, ℕ, false, List, ◌++◌}
 use Rattle.signatures.specs.declared.qtype.QType.{QType}
 use Rattle.signatures.specs.declared.sig.Sig.{Sig}
 
