@@ -30,9 +30,6 @@ one_declaration_more program (declaration.Owns o) ds = simp (append_assoc, appen
 abbrev pub ProgramSoFar : List Token → Program → List Token → Type 0
 ProgramSoFar before program now = Underway (spell_each spell_declaration) tree_of_program IsAtEnd (spell_each spell_declaration) (λ more program. with_declarations program (map tree_of_declaration more)) before program now
 
-pub program_start : (now : List Token) → ProgramSoFar now (record { classes = []; wires = []; owns = [] }) now
-program_start now = record { goes_on = λ m rest e. (m, e, refl); all = λ r rest ends e. (r, e) }
-
 -- a declaration's end, within a program
 pub ends_next : (ds : List DeclarationReading) (rest : List Token) → IsAtEnd rest → EndsDeclaration (spell_each spell_declaration ds rest)
 ends_next [] rest at_end after e = cc

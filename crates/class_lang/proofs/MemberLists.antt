@@ -32,9 +32,6 @@ one_member_more class (member.Slot s) ms = simp (append_assoc, append-nil)
 abbrev pub MembersSoFar : List ℕ → Option (List ℕ) → List Token → Class → List Token → Type 0
 MembersSoFar name base before class now = Underway spell_members (class_of name base) EndsAnywhere spell_members (λ more class. with_members class (map tree_of_member more)) before class now
 
-pub members_start : (name : List ℕ) (base : Option (List ℕ)) (now : List Token) → MembersSoFar name base now (record { name = name; base = base; properties = []; signals = []; slots = [] }) now
-members_start name base now = record { goes_on = λ m rest e. (m, e, refl); all = λ r rest ends e. (r, e) }
-
 after_member : (ms : List MemberReading) (now after rest : List Token) {m : Member} → NotAt CloseBrace now → Found spell_member tree_of_member EndsAnywhere now m after → now ≡ spell_members ms rest → (more : List MemberReading) × (after ≡ spell_members more rest)
 after_member [] now after rest unclosed f g = absurd (unclosed rest g)
 after_member (r ∷ rs) now after rest unclosed f g = (rs, f.only r (spell_members rs rest) tt g)

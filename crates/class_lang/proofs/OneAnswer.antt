@@ -2,7 +2,6 @@
 use Rattle.std.proofs.Common.{◌≡◌, ◌⊎◌, ℕ, List, Result, Ok, Err, refl, ap, arith, inl, inr}
 use Rattle.slot_lang.specs.Nesting.{IsTooDeep}
 use Rattle.slot_lang.specs.Pieces.{AreTokens}
-use Rattle.slot_lang.specs.Signatures.{HasPlainReference}
 use Rattle.slot_lang.specs.declared.token.Token.{Token}
 use Rattle.slot_lang.proofs.Cut.{same_tokens}
 use Rattle.class_lang.specs.Declarations.{IsProgram}

@@ -7,7 +7,8 @@ use Rattle.slot_lang.specs.declared.token.Token.{Token}
 use Rattle.slot_lang.specs.declared.token.Token.TheVariants as token
 use Rattle.slot_lang.proofs.Listed.{IsPart}
 use Rattle.slot_lang.proofs.Signatures.{types_are_parts}
-use Rattle.class_lang.specs.Parameters.{spell_optional_name, SignalParameter, signal_parameter, spell_signal_parameter, SlotParameter, slot_parameter, spell_slot_parameter, EndsSignalParameter}
+use Rattle.class_lang.specs.Optional.{spell_optional_name}
+use Rattle.class_lang.specs.Parameters.{SignalParameter, signal_parameter, spell_signal_parameter, SlotParameter, slot_parameter, spell_slot_parameter, EndsSignalParameter}
 
 -- ---- what may follow types
 

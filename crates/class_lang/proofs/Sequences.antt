@@ -1,5 +1,5 @@
 -- Rules that are a sequence of others.
-use Rattle.std.proofs.Common.{◌≡◌, List, ◌∷◌, ℕ, refl, sym, ◌∙◌, ap, Option, Some, None, option_map, map, Bool, true, false, MatchBool}
+use Rattle.std.proofs.Common.{◌≡◌, List, ◌∷◌, ℕ, sym, ◌∙◌, ap, Option, Some, None, option_map, map, Bool, true, false, MatchBool}
 use Rattle.signatures.specs.declared.kind.Kind.{Kind}
 use Rattle.signatures.specs.declared.qtype.QType.{QType}
 use Rattle.signatures.specs.declared.sig.Sig.{Sig}
@@ -8,14 +8,15 @@ use Rattle.signatures.specs.declared.word.Word.TheVariants as word
 use Rattle.slot_lang.specs.Cursor.{NotAt, NotAtWord}
 use Rattle.slot_lang.specs.Grammar.{spell_block, tree_of_block}
 use Rattle.slot_lang.specs.Lists.{spell_listed}
-use Rattle.slot_lang.specs.Literals.{LiteralReading, spell_literal, tree_of_literal}
+use Rattle.slot_lang.specs.Literals.{tree_of_literal}
 use Rattle.slot_lang.specs.Reading.{EndsAnywhere, Found, spell_name}
 use Rattle.slot_lang.specs.Signatures.{spell_type, tree_of_type, EndsType, SigReading, spell_sig, tree_of_sig, spell_kind}
 use Rattle.slot_lang.specs.declared.symbol.Symbol.TheVariants.{Semicolon, Colon, Assign, OpenBrace, Arrow}
 use Rattle.slot_lang.specs.declared.syntax.Stmt.{Stmt}
 use Rattle.slot_lang.specs.declared.token.Token.{Token}
 use Rattle.slot_lang.specs.declared.token.Token.TheVariants as token
-use Rattle.class_lang.specs.Parameters.{spell_optional_name, SignalParameter, signal_parameter, spell_signal_parameter, tree_of_signal_parameter, SlotParameter, slot_parameter, spell_slot_parameter, tree_of_slot_parameter, EndsWithoutName, EndsSignalParameter}
+use Rattle.class_lang.specs.Optional.{spell_optional, EndsWithout, spell_optional_name, EndsWithoutName}
+use Rattle.class_lang.specs.Parameters.{SignalParameter, signal_parameter, spell_signal_parameter, tree_of_signal_parameter, SlotParameter, slot_parameter, spell_slot_parameter, tree_of_slot_parameter, EndsSignalParameter}
 use Rattle.class_lang.specs.Members.{spell_initial, spell_notify, PropertyReading, property, spell_property, tree_of_property, SignalReading, signal, spell_signal, tree_of_signal, SlotReading, slot, spell_slot, tree_of_slot, MemberReading, a_property, a_signal, a_slot, spell_member, tree_of_member}
 use Rattle.class_lang.specs.Declarations.{Ending, bare, semicolon, spell_ending, spell_members, spell_base, ClassReading, class, spell_class, tree_of_class, class_of, EndReading, end, spell_end, tree_of_end, WireReading, wire, spell_wire, tree_of_wire, OwnsReading, owns, spell_owns, tree_of_owns, DeclarationReading, a_class, a_wire, an_owns, spell_declaration, tree_of_declaration, EndsDeclaration}
 use Rattle.class_lang.specs.declared.declarations.Declaration.TheVariants as declaration
@@ -31,53 +32,15 @@ use Rattle.class_lang.proofs.Parts.{type_ends_at_name, type_ends_at_optional_nam
 
 -- ---- optional parts
 
-after_assign : (r : Option LiteralReading) {value : Value} (before between after rest : List Token) → before ≡ token.Symbol Assign ∷ between → Found spell_literal tree_of_literal EndsAnywhere between value after → NotAt Assign rest → before ≡ spell_initial r rest → after ≡ rest
-after_assign None before between after rest e f ends g = absurd (ends between (sym g ∙ e))
-after_assign (Some literal) before between after rest e f ends g = f.only literal rest tt cc
+module _ {R A : Type 0} (spell : R → List Token → List Token) (tree : R → A) where
+  optional_only : (r : Option R) {a : A} (first : Token) (before between after rest : List Token) → before ≡ first ∷ between → Found spell tree EndsAnywhere between a after → EndsWithout first rest → before ≡ spell_optional first spell r rest → after ≡ rest
+  optional_only None first before between after rest e f ends g = absurd (ends between (sym g ∙ e))
+  optional_only (Some r) first before between after rest e f ends g = f.only r rest tt cc
 
-pub initial_found : {before between after : List Token} {value : Value} → before ≡ token.Symbol Assign ∷ between → Found spell_literal tree_of_literal EndsAnywhere between value after → Found spell_initial (option_map tree_of_literal) (NotAt Assign) before (Some value) after
-initial_found {before} {between} {after} {value} e f =
-    let a = f.spelled in
-    record { reading = Some f.reading; spelled = cc; tree_is = ap Some f.tree_is; only = λ r rest ends g. after_assign r before between after rest e f ends g }
-
-without_assign : (r : Option LiteralReading) (before rest : List Token) → NotAt Assign before → before ≡ spell_initial r rest → before ≡ rest
-without_assign None before rest none g = g
-without_assign (Some literal) before rest none g = absurd (none (spell_literal literal rest) g)
-
-pub no_initial : {before : List Token} → NotAt Assign before → Found spell_initial (option_map tree_of_literal) (NotAt Assign) before None before
-no_initial {before} none = record { reading = None; spelled = refl; tree_is = refl; only = λ r rest ends g. without_assign r before rest none g }
-
-after_notify : (r : Option SigReading) {s : Sig} (before between after rest : List Token) → before ≡ token.Word word.Notify ∷ between → Found spell_sig tree_of_sig EndsAnywhere between s after → NotAtWord word.Notify rest → before ≡ spell_notify r rest → after ≡ rest
-after_notify None before between after rest e f ends g = absurd (ends between (sym g ∙ e))
-after_notify (Some s) before between after rest e f ends g = f.only s rest tt cc
-
-pub notify_found : {before between after : List Token} {s : Sig} → before ≡ token.Word word.Notify ∷ between → Found spell_sig tree_of_sig EndsAnywhere between s after → Found spell_notify (option_map tree_of_sig) (NotAtWord word.Notify) before (Some s) after
-notify_found {before} {between} {after} {s} e f =
-    let a = f.spelled in
-    record { reading = Some f.reading; spelled = cc; tree_is = ap Some f.tree_is; only = λ r rest ends g. after_notify r before between after rest e f ends g }
-
-without_notify : (r : Option SigReading) (before rest : List Token) → NotAtWord word.Notify before → before ≡ spell_notify r rest → before ≡ rest
-without_notify None before rest none g = g
-without_notify (Some s) before rest none g = absurd (none (spell_sig s rest) g)
-
-pub no_notify : {before : List Token} → NotAtWord word.Notify before → Found spell_notify (option_map tree_of_sig) (NotAtWord word.Notify) before None before
-no_notify {before} none = record { reading = None; spelled = refl; tree_is = refl; only = λ r rest ends g. without_notify r before rest none g }
-
-after_colon : (r : Option (List ℕ)) {name : List ℕ} (before between after rest : List Token) → before ≡ token.Symbol Colon ∷ between → Found spell_name (λ n. n) EndsAnywhere between name after → NotAt Colon rest → before ≡ spell_base r rest → after ≡ rest
-after_colon None before between after rest e f ends g = absurd (ends between (sym g ∙ e))
-after_colon (Some name) before between after rest e f ends g = f.only name rest tt cc
-
-pub base_found : {before between after : List Token} {name : List ℕ} → before ≡ token.Symbol Colon ∷ between → Found spell_name (λ n. n) EndsAnywhere between name after → Found spell_base (λ b. b) (NotAt Colon) before (Some name) after
-base_found {before} {between} {after} {name} e f =
-    let a = f.spelled in
-    record { reading = Some f.reading; spelled = cc; tree_is = ap Some f.tree_is; only = λ r rest ends g. after_colon r before between after rest e f ends g }
-
-without_colon : (r : Option (List ℕ)) (before rest : List Token) → NotAt Colon before → before ≡ spell_base r rest → before ≡ rest
-without_colon None before rest none g = g
-without_colon (Some name) before rest none g = absurd (none (token.Name name ∷ rest) g)
-
-pub no_base : {before : List Token} → NotAt Colon before → Found spell_base (λ b. b) (NotAt Colon) before None before
-no_base {before} none = record { reading = None; spelled = refl; tree_is = refl; only = λ r rest ends g. without_colon r before rest none g }
+  pub optional_found : {first : Token} {before between after : List Token} {a : A} → before ≡ first ∷ between → Found spell tree EndsAnywhere between a after → Found (spell_optional first spell) (option_map tree) (EndsWithout first) before (Some a) after
+  optional_found {first} {before} {between} {after} e f =
+      let s = f.spelled in
+      record { reading = Some f.reading; spelled = cc; tree_is = ap Some f.tree_is; only = λ r rest ends g. optional_only r first before between after rest e f ends g }
 
 -- ---- what begins with a type
 
@@ -116,11 +79,11 @@ module _ {before at_name : List Token} {kind : QType} (k : Found spell_type tree
 
   module _ {name : List ℕ} {initial : Option Value} {notify : Option Sig} {at_initial at_notify at_end : List Token} (n : Found spell_name (λ n. n) EndsAnywhere at_name name at_initial) (i : Found spell_initial (option_map tree_of_literal) (NotAt Assign) at_initial initial at_notify) (s : Found spell_notify (option_map tree_of_sig) (NotAtWord word.Notify) at_notify notify at_end) where
     property_only : (r : PropertyReading) (after rest : List Token) → at_end ≡ token.Symbol Semicolon ∷ after → before ≡ spell_property r rest → after ≡ rest
-    property_only (property t x value sig_) after rest e g =
+    property_only (property t x value changed) after rest e g =
         let last = token.Symbol Semicolon ∷ rest in
-        let tail = spell_initial value (spell_notify sig_ last) in
+        let tail = spell_initial value (spell_notify changed last) in
         let a = n.only x tail tt (k.only t (spell_name x tail) (type_ends_at_name x tail) g) in
-        let b = s.only sig_ last (λ after f. cc) (i.only value (spell_notify sig_ last) (initial_ends_at_notify sig_ rest) a) in
+        let b = s.only changed last (λ after f. cc) (i.only value (spell_notify changed last) (initial_ends_at_notify changed rest) a) in
         cc
 
     pub property_found : {after : List Token} → at_end ≡ token.Symbol Semicolon ∷ after → Found spell_property tree_of_property EndsAnywhere before (record { kind = kind; name = name; initial = initial; notify = notify }) after

@@ -7,16 +7,18 @@
 --   wire        = end "->" end kind ";"
 --   end         = Name sig
 --   owns        = Name Name ";"
-use Rattle.std.specs.Prelude.{ℕ, ◌≡◌, List, [], ◌∷◌, ◌++◌, map, Option, Some, None}
+use Rattle.std.specs.Prelude.{ℕ, ◌≡◌, List, [], ◌∷◌, ◌++◌, map, Option}
 use Rattle.signatures.specs.declared.kind.Kind.{Kind}
 use Rattle.signatures.specs.declared.sig.Sig.{Sig}
 use Rattle.slot_lang.specs.Cursor.{NotAt}
 use Rattle.slot_lang.specs.Lists.{spell_each}
+use Rattle.slot_lang.specs.Reading.{spell_name}
 use Rattle.slot_lang.specs.Signatures.{SigReading, spell_sig, tree_of_sig, spell_kind}
 use Rattle.slot_lang.specs.declared.symbol.Symbol.TheVariants.{Semicolon, Colon, OpenBrace, CloseBrace, Arrow}
 use Rattle.slot_lang.specs.declared.token.Token.{Token}
 use Rattle.slot_lang.specs.declared.token.Token.TheVariants as token
 use Rattle.signatures.specs.declared.word.Word.TheVariants as word
+use Rattle.class_lang.specs.Optional.{spell_optional}
 use Rattle.class_lang.specs.Members.{MemberReading, spell_member, tree_of_member, properties_in, signals_in, slots_in}
 use Rattle.class_lang.specs.declared.declarations.Declaration.{Declaration}
 use Rattle.class_lang.specs.declared.declarations.Declaration.TheVariants as declaration
@@ -40,8 +42,7 @@ spell_members members after = spell_each spell_member members (token.Symbol Clos
 
 -- [":" Name]
 abbrev pub spell_base : Option (List ℕ) → List Token → List Token
-spell_base None after = after
-spell_base (Some base) after = token.Symbol Colon ∷ token.Name base ∷ after
+spell_base base after = spell_optional (token.Symbol Colon) spell_name base after
 
 pub data ClassReading : Type 0 where
   class : (name : List ℕ) → (base : Option (List ℕ)) → List MemberReading → Ending → ClassReading

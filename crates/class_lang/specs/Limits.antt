@@ -1,7 +1,6 @@
 -- How large programs may be (docs/language.md, "Limits").
 use Rattle.std.specs.Prelude.{ℕ, ◌+◌, ◌≤◌, length, All, IfSome}
 use Rattle.signatures.specs.declared.sig.Sig.{Sig}
-use Rattle.class_lang.specs.declared.program.Property.{Property}
 use Rattle.class_lang.specs.declared.program.Class.{Class}
 use Rattle.class_lang.specs.declared.program.Wire.{Wire}
 use Rattle.class_lang.specs.declared.program.Program.{Program}

@@ -5,7 +5,7 @@
 --   property = type Name ["=" literal] ["notify" sig] ";"
 --   signal   = Name "(" [signal_parameter {"," signal_parameter}] ")" ";"
 --   slot     = Name "(" [slot_parameter {"," slot_parameter}] ")" block
-use Rattle.std.specs.Prelude.{ℕ, List, [], ◌∷◌, ◌++◌, map, Option, Some, None, option_map}
+use Rattle.std.specs.Prelude.{ℕ, List, [], ◌∷◌, ◌++◌, map, Option, option_map}
 use Rattle.slot_lang.specs.Grammar.{Statement, spell_block, tree_of_block}
 use Rattle.slot_lang.specs.Lists.{spell_listed}
 use Rattle.slot_lang.specs.Literals.{LiteralReading, spell_literal, tree_of_literal}
@@ -14,6 +14,7 @@ use Rattle.slot_lang.specs.declared.symbol.Symbol.TheVariants.{Semicolon, Assign
 use Rattle.slot_lang.specs.declared.token.Token.{Token}
 use Rattle.slot_lang.specs.declared.token.Token.TheVariants as token
 use Rattle.signatures.specs.declared.word.Word.TheVariants as word
+use Rattle.class_lang.specs.Optional.{spell_optional}
 use Rattle.class_lang.specs.Parameters.{SignalParameter, spell_signal_parameter, tree_of_signal_parameter, SlotParameter, spell_slot_parameter, tree_of_slot_parameter}
 use Rattle.class_lang.specs.declared.members.Member.{Member}
 use Rattle.class_lang.specs.declared.members.Member.TheVariants as member
@@ -24,13 +25,11 @@ use Rattle.class_lang.specs.declared.program.Class.{Class}
 
 -- ["=" literal]
 abbrev pub spell_initial : Option LiteralReading → List Token → List Token
-spell_initial None after = after
-spell_initial (Some literal) after = token.Symbol Assign ∷ spell_literal literal after
+spell_initial initial after = spell_optional (token.Symbol Assign) spell_literal initial after
 
 -- ["notify" sig]
 abbrev pub spell_notify : Option SigReading → List Token → List Token
-spell_notify None after = after
-spell_notify (Some s) after = token.Word word.Notify ∷ spell_sig s after
+spell_notify notify after = spell_optional (token.Word word.Notify) spell_sig notify after
 
 pub data PropertyReading : Type 0 where
   property : TypeReading → (name : List ℕ) → (initial : Option LiteralReading) → (notify : Option SigReading) → PropertyReading

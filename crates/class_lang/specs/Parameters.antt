@@ -3,20 +3,12 @@
 --
 --   signal_parameter = type [Name]
 --   slot_parameter   = type Name
-use Rattle.std.specs.Prelude.{ℕ, ◌≡◌, List, ◌∷◌, Option, Some, None}
+use Rattle.std.specs.Prelude.{ℕ, List, ◌∷◌, Option, Some}
 use Rattle.slot_lang.specs.Signatures.{TypeReading, spell_type, tree_of_type, EndsType}
 use Rattle.slot_lang.specs.declared.token.Token.{Token}
 use Rattle.slot_lang.specs.declared.token.Token.TheVariants as token
+use Rattle.class_lang.specs.Optional.{spell_optional_name, EndsWithoutName}
 use Rattle.class_lang.specs.declared.program.Parameter.{Parameter}
-
--- [Name]
-abbrev pub spell_optional_name : Option (List ℕ) → List Token → List Token
-spell_optional_name None after = after
-spell_optional_name (Some name) after = token.Name name ∷ after
-
--- no name comes next, with which an optional one would go on
-abbrev pub EndsWithoutName : List Token → Type 0
-EndsWithoutName after = (name : List ℕ) (rest : List Token) → after ≡ token.Name name ∷ rest → ⊥
 
 pub data SignalParameter : Type 0 where
   signal_parameter : TypeReading → Option (List ℕ) → SignalParameter

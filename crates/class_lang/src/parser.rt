@@ -7,7 +7,7 @@ ghost use Rattle.slot_lang.specs.Reading.{Reads, EndsAnywhere, spell_name};
 ghost use Rattle.slot_lang.specs.Signatures.{spell_type, tree_of_type, EndsType, spell_sig, tree_of_sig, spell_kind};
 ghost use Rattle.slot_lang.specs.declared.fault.ParseFault.TheVariants.{Syntax};
 ghost use Rattle.slot_lang.specs.declared.token.Token.TheVariants as token;
-ghost use Rattle.class_lang.specs.Parameters.{spell_optional_name, EndsWithoutName};
+ghost use Rattle.class_lang.specs.Optional.{spell_optional_name, EndsWithoutName};
 
 use signatures::{Kind, Name, QType, Sig, Value};
 use slot_lang::{Body, Cursor, ParseFault, Symbol, Token, Word};
