@@ -1,4 +1,7 @@
 pub mod Words
 pub mod Tokens
-pub mod Reading
+pub mod Closed
 pub mod Unique
+pub mod Reading
+pub mod OneAnswer
+pub mod Spelling

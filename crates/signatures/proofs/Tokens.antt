@@ -22,7 +22,7 @@ run_of_length (b ∷ bs) (suc n) le each stop =
 -- ---- words and marks
 
 -- the bytes of a word go to the word so far
-taken : (a so_far rest : List ℕ) → AllByRecursion (λ b. is_name_byte b ≡ true) a → tokens_from so_far (a ++ rest) ≡ tokens_from (so_far ++ a) rest
+pub taken : (a so_far rest : List ℕ) → AllByRecursion (λ b. is_name_byte b ≡ true) a → tokens_from so_far (a ++ rest) ≡ tokens_from (so_far ++ a) rest
 taken [] so_far rest h = ap (λ s. tokens_from s rest) (sym (append-nil so_far))
 taken (b ∷ a) so_far rest h = rw h.0 (taken a (so_far ++ b ∷ []) rest h.1 ∙ ap (λ s. tokens_from s rest) (append_assoc so_far (b ∷ []) a))
 
@@ -31,7 +31,7 @@ choose true so_far t u = refl
 choose false so_far t u = refl
 
 -- a word ends where the run does
-stopped : (so_far rest : List ℕ) → EndsWord rest → tokens_from so_far rest ≡ ended so_far (tokens_of rest)
+pub stopped : (so_far rest : List ℕ) → EndsWord rest → tokens_from so_far rest ≡ ended so_far (tokens_of rest)
 stopped so_far [] h = refl
 stopped so_far (b ∷ rest) h = rw h (choose (is_blank b) so_far (tokens_of rest) (mark (mark_of b) ∷ tokens_of rest))
 

@@ -6,3 +6,5 @@ pub mod Normal
 pub mod Tokens
 pub mod Signatures
 pub mod Reading
+pub mod Spelling
+pub mod Laws

@@ -1,4 +1,5 @@
-ghost use Rattle.std.specs.Prelude.{◌≡◌, ◌++◌, ◌↔◌, IsTrue, IfOk, List};
+ghost use Rattle.std.specs.Prelude.{◌≡◌, ◌++◌, ◌↔◌, IsTrue, IfOk, OnOk, List};
+ghost use Rattle.signatures.specs.Spelling.{const_text, star_text, text_of_type, text_of_types};
 ghost use Rattle.signatures.specs.Types.{value_type, BeginsWith};
 
 use crate::name::Name;
@@ -39,6 +40,25 @@ impl QType {
         })
     }
 
+    /// The type's text: `T`, `T*` or `const T*`.
+    pub fn text(&self, alloc: Global) -> Result<Vec<u8>, AllocError>
+        ensures { IfOk result (λ text. text.items ≡ text_of_type self.now) }
+    {
+        let mut text = Vec::new(alloc);
+        self.push_text(&mut text)?;
+        Ok(text)
+    }
+
+    /// Adds the type's text at the end.
+    pub(crate) fn push_text(&self, text: &mut Vec<u8>) -> Result<(), AllocError>
+        ensures { OnOk result (text.new.items ≡ text.old.items ++ text_of_type self.now) }
+    {
+        text.extend_from_slice(const_text(self.constant))?;
+        text.extend_from_slice(self.name.bytes())?;
+        text.extend_from_slice(star_text(self.pointer))?;
+        Ok(())
+    }
+
     /// Whether both types are the same; `T*` and `const T*` are two types.
     pub fn is_same(&self, other: &QType) -> bool
         ensures { IsTrue result ↔ (self.now ≡ other.now) }
@@ -47,6 +67,37 @@ impl QType {
             && self.pointer == other.pointer
             && self.name.is_same(&other.name)
     }
+}
+
+/// What stands in front of a constant type's name.
+fn const_text(constant: bool) -> &'static [u8]
+    ensures { result.now ≡ const_text constant }
+{
+    if constant { b"const " } else { b"" }
+}
+
+/// What stands behind a pointer's name.
+fn star_text(pointer: bool) -> &'static [u8]
+    ensures { result.now ≡ star_text pointer }
+{
+    if pointer { b"*" } else { b"" }
+}
+
+/// Adds the types' texts at the end, with `,` between them.
+pub(crate) fn push_types(types: &[QType], text: &mut Vec<u8>) -> Result<(), AllocError>
+    ensures { OnOk result (text.new.items ≡ text.old.items ++ text_of_types types.now) }
+{
+    let Some((first, others)) = types.split_first() else {
+        return Ok(());
+    };
+    first.push_text(text)?;
+    let mut left = others;
+    while let Some((kind, more)) = left.split_first() {
+        text.push(b',')?;
+        kind.push_text(text)?;
+        left = more;
+    }
+    Ok(())
 }
 
 /// Whether both lists hold the same types in the same order.

@@ -1,6 +1,7 @@
 //! From a text to its signature.
 
 ghost use Rattle.std.specs.Prelude.{◌≡◌, ◌∷◌, ◌<◌, ℕ, Bool, List, length, MatchBool, MatchOption, OnOk, IsTrue, ◌↔◌};
+ghost use Rattle.signatures.specs.Laws.{AtMostEight, NormalFormsAreNormal, OneAnswer, OneNormalForm, TextsAreNormal};
 ghost use Rattle.signatures.specs.Reading.{NotAt, const_word, separator, NamedAt, NoNamedAt, EndingAt, ReadsType, ReadsTypes};
 ghost use Rattle.signatures.specs.Signatures.{IsClosed, IsFreeName, Normalises};
 ghost use Rattle.signatures.specs.Tokens.{word, mark as mark_token};
@@ -46,6 +47,20 @@ pub fn normalise(alloc: Global, text: &str) -> Result<Sig, SigFault>
     let name = Name::new(alloc, name)?;
     Ok(Sig { name, types })
 }
+
+/// A text has at most one normal form, with at most 8 parameters, and at most one answer, want of memory aside.
+pub fn one_normal_form()
+    ensures one { OneNormalForm }
+    ensures few { AtMostEight }
+    ensures answer { OneAnswer }
+{}
+
+/// The normal forms are the signatures of at most 8 types, each `T`, `T*` or `const T*`, whose names aren't reserved, and
+/// each of them is the normal form of its text.
+pub fn texts_are_normal()
+    ensures forms { NormalFormsAreNormal }
+    ensures texts { TextsAreNormal }
+{}
 
 impl<'a> Scanner<'a> {
     /// Takes the mark, if it comes next, and says whether it did.
