@@ -42,4 +42,3 @@ closed_last None true t now after h e apart k = (λ _. closed_here t now k h.0, 
 closed_last None false t now after h e apart k = cc
 closed_last (Some s) true t now after h e apart k = cc
 closed_last (Some s) false t now after h e apart k = (λ x. absurd (cc), λ x. let d = (closed_end t now apart x).1 in absurd (cc))
-

@@ -1,14 +1,13 @@
 -- The readers of a signature's tokens, step by step.
-use Rattle.std.proofs.Common.{◌≡◌, ◌↔◌, ℕ, Bool, true, false, List, [], ◌∷◌, ◌++◌, refl, sym, ◌∙◌, ap, append_assoc}
+use Rattle.std.proofs.Common.{◌≡◌, ℕ, Bool, true, false, List, [], ◌∷◌, ◌++◌, refl, sym, ◌∙◌, ap, append_assoc}
 use Rattle.std.proofs.lemmas.List.{append-nil}
-use Rattle.std.specs.Prelude.{not, MatchBool, MatchOption, IsTrue, is_some, Option, Some, None, Err}
+use Rattle.std.specs.Prelude.{MatchBool, Err}
 use Rattle.std.specs.List.{AllByRecursion, AllZip}
 use Rattle.signatures.specs.Reading.{NotAt, const_word, separator, NamedAt, NoNamedAt, TypeAt, ReadsType, ReadsTypes}
 use Rattle.signatures.specs.Signatures.{spell_ending, spell_named, spell_type, spell_others, spell_list, TypeReading, IsFreeName, IsTypeOf, AreTypes, IsPart, IsClosed, IsTyped, Normalises}
-use Rattle.signatures.specs.Tokens.{Token, word, mark, token_of, tokens_of}
+use Rattle.signatures.specs.Tokens.{Token, word, mark, tokens_of}
 use Rattle.signatures.specs.declared.fault.SigFault.{SigFault}
 use Rattle.signatures.specs.declared.fault.SigFault.TheVariants.{BadName, BadType, TooMany, Memory}
-use Rattle.signatures.specs.declared.scanner.Scanned.{Scanned}
 use Rattle.signatures.specs.declared.sig.Sig.{Sig}
 use Rattle.signatures.specs.declared.normal.ConstPlace.{ConstPlace}
 use Rattle.signatures.specs.declared.normal.ConstPlace.TheVariants.{Nowhere, Before, After}

@@ -1,5 +1,5 @@
 -- The text of a signature is read as that signature.
-use Rattle.std.proofs.Common.{◌≡◌, ℕ, Bool, true, false, List, [], ◌∷◌, ◌++◌, map, refl, sym, ◌∙◌, ap, append_assoc}
+use Rattle.std.proofs.Common.{◌≡◌, ℕ, Bool, true, false, List, [], ◌∷◌, ◌++◌, map, refl, ◌∙◌, ap, append_assoc}
 use Rattle.std.proofs.lemmas.List.{append-nil}
 use Rattle.std.proofs.lemmas.List.Elements.{recursion_from_All}
 use Rattle.std.specs.Prelude.{codes, Some}
@@ -7,15 +7,15 @@ use Rattle.std.specs.List.{AllByRecursion, AllZip}
 use Rattle.signatures.specs.Laws.{IsNormalType, IsNormalSig}
 use Rattle.signatures.specs.Name.{IsName, is_name_byte}
 use Rattle.signatures.specs.Normal.{normal_of}
-use Rattle.signatures.specs.Signatures.{spell_type, spell_others, spell_list, TypeReading, IsFreeName, IsTypeOf, AreTypes, IsTyped, Normal}
+use Rattle.signatures.specs.Signatures.{spell_type, spell_others, spell_list, TypeReading, IsFreeName, IsTypeOf, Normal}
 use Rattle.signatures.specs.Spelling.{const_text, star_text, text_of_type, text_of_others, text_of_types, text_of_sig}
-use Rattle.signatures.specs.Tokens.{Token, word, mark, tokens_of, EndsWord}
+use Rattle.signatures.specs.Tokens.{word, mark, tokens_of, EndsWord}
 use Rattle.signatures.specs.declared.normal.ConstPlace.{ConstPlace}
 use Rattle.signatures.specs.declared.normal.ConstPlace.TheVariants.{Nowhere, Before, After}
 use Rattle.signatures.specs.declared.normal.TypeEnding.{TypeEnding}
 use Rattle.signatures.specs.declared.normal.TypeEnding.TheVariants.{Bare, Reference, Pointer}
 use Rattle.signatures.specs.declared.qtype.QType.{QType}
-use Rattle.signatures.specs.declared.scanner.Mark.TheVariants.{Open, Close, Comma, Ampersand, Star, Other}
+use Rattle.signatures.specs.declared.scanner.Mark.TheVariants.{Comma}
 use Rattle.signatures.specs.declared.sig.Sig.{Sig}
 use Rattle.signatures.proofs.Tokens.{taken, stopped}
 

@@ -23,7 +23,10 @@ fn texts_have_normal_forms(rt: HostRuntime) -> Result<(), Fail> {
         ("done( const  QString & )", "done(QString)"),
         ("f(Cell const *, int const)", "f(const Cell*,int)"),
         (" f ( ) ", "f()"),
-        ("f(int,int,int,int,int,int,int,int)", "f(int,int,int,int,int,int,int,int)"),
+        (
+            "f(int,int,int,int,int,int,int,int)",
+            "f(int,int,int,int,int,int,int,int)",
+        ),
         ("f\t(\r\nCell\n*,const constant)", "f(Cell*,constant)"),
     ];
     for (text, normal) in cases {
@@ -48,7 +51,9 @@ fn texts_are_refused(rt: HostRuntime) {
         ("f(int,int,int,int,int,int,int,int,int)", 3),
     ];
     for (text, number) in cases {
-        let found = normalise(rt.alloc(), text).err().and_then(|fault| fault.number());
+        let found = normalise(rt.alloc(), text)
+            .err()
+            .and_then(|fault| fault.number());
         assert_eq!(rt; found, Some(number), "for {text}");
     }
 }
