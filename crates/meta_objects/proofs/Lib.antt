@@ -2,3 +2,17 @@ pub mod Searches
 pub mod LookUps
 pub mod OneAnswer
 pub mod Typing
+pub mod Choices
+pub mod Zips
+pub mod Types
+pub mod Named
+pub mod Reading
+pub mod Bodies
+pub mod Unique
+pub mod Once
+pub mod Steps
+pub mod Described
+pub mod Soundness
+pub mod Deciding
+pub mod Whole
+pub mod Refusals

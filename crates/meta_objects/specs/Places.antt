@@ -12,6 +12,11 @@ pub record StandsFirst {X : Type 0} (P : X → Type 0) (xs : List X) (place : �
   pub at : StandsAt P xs place
   pub first : (k : ℕ) → k < place → ¬ StandsAt P xs k
 
+-- .. and it is this element
+pub record Found {X : Type 0} (P : X → Type 0) (xs : List X) (place : ℕ) (item : X) : Type 0 where
+  pub first : StandsFirst P xs place
+  pub is : first.at.item ≡ item
+
 -- the answer is the place of the first element with P, or `None` where there is no such element
 abbrev pub IsPlace : {X : Type 0} → (X → Type 0) → List X → Option ℕ → Type 0
 IsPlace P xs answer = MatchOption answer ((i : ℕ) → ¬ StandsAt P xs i) (λ i. StandsFirst P xs i)

@@ -8,8 +8,14 @@ ghost use Rattle.meta_objects.specs.declared.object.MetaMethod.{MetaMethod};
 ghost use Rattle.meta_objects.specs.declared.object.MetaObject.{MetaObject};
 ghost use Rattle.signatures.specs.declared.value.Value.TheVariants.{Ref};
 
+use crate::clashes::{has_duplicate_class, has_duplicate_member};
 use crate::fault::MetaFault;
+use crate::kinds::has_no_type;
+use crate::load_object::load_objects;
+use crate::load_uses::{Uses, load_uses};
+use crate::notify::has_bad_notify;
 use crate::object::{MetaMethod, MetaObject, MetaOwns, MetaWire, ValueType};
+use crate::outlining::outline_classes;
 use crate::places::{place_of, place_of_method, place_of_sig};
 use class_lang::Program;
 use signatures::{Kind, Name, ObjectId, Sig, Value, fits};
@@ -52,11 +58,43 @@ pub enum Wired {
 }
 
 impl Meta {
-    /// Resolves a program's names.
+    /// Resolves a program's names. Each fault is judged over the whole program, and the first of these is answered:
+    /// `DuplicateClass`, where two classes have one name, or one is called `QObject`, `int`, `bool` or `QString`;
+    /// `NoBase`, where a class's base is neither `QObject` nor a class that stands before it; `DuplicateMember`, where
+    /// two methods of a class, inherited ones too, have one name and one number of parameters, two of its properties one
+    /// name, or two parameters of a method one name; `NoMember`, where a class, a member or a parameter that a body, a
+    /// wire or an owns uses isn't there; `BadNotify`, where a notify signature isn't a signal of the class or of a user
+    /// base, without parameter or with one of the property's type; `NoType`, where the type of a property or a
+    /// parameter isn't there. `Memory` comes only where a growth of memory was refused.
     pub fn build(alloc: Global, program: &Program) -> Result<Meta, MetaFault>
         ensures { Builds program.now result }
     {
-        Err(MetaFault::Memory)
+        if has_duplicate_class(program) {
+            return Err(MetaFault::DuplicateClass);
+        }
+        let declared = program.classes.as_slice();
+        let outlines = outline_classes(alloc, declared)?;
+        let all = outlines.as_slice();
+        if has_duplicate_member(program, all) {
+            return Err(MetaFault::DuplicateMember);
+        }
+        let Uses {
+            bodies,
+            wires,
+            owns,
+        } = load_uses(alloc, program, all)?;
+        if has_bad_notify(all) {
+            return Err(MetaFault::BadNotify);
+        }
+        if has_no_type(all) {
+            return Err(MetaFault::NoType);
+        }
+        let classes = load_objects(alloc, all, bodies.as_slice())?;
+        Ok(Meta {
+            classes,
+            wires,
+            owns,
+        })
     }
 
     /// The classes by their numbers: `QObject`, then the program's as declared.

@@ -1,0 +1,157 @@
+-- A program has at most one loaded form.
+use Rattle.std.proofs.Common.{◌≡◌, ℕ, zero, suc, true, false, List, [], ◌∷◌, ◌++◌, map, length, slice_get, Option, Some, None, MatchOption, ◌⊎◌, inl, inr, refl, sym, ap, ◌∙◌, subst}
+use Rattle.std.specs.Prelude.{codes}
+use Rattle.std.specs.List.{AllZip}
+use Rattle.signatures.specs.declared.qtype.QType.{QType}
+use Rattle.signatures.specs.declared.sig.Sig.{Sig}
+use Rattle.signatures.specs.declared.kind.Kind.{Kind}
+use Rattle.signatures.specs.declared.value.Value.{Value}
+use Rattle.slot_lang.specs.declared.syntax.Expr.{Expr}
+use Rattle.slot_lang.specs.declared.syntax.Root.{Root}
+use Rattle.slot_lang.specs.declared.syntax.Path.{Path}
+use Rattle.class_lang.specs.declared.program.Property.{Property}
+use Rattle.class_lang.specs.declared.program.Class.{Class}
+use Rattle.class_lang.specs.declared.program.Wire.{Wire}
+use Rattle.class_lang.specs.declared.program.Owns.{Owns}
+use Rattle.class_lang.specs.declared.program.Program.{Program}
+use Rattle.meta_objects.specs.declared.object.ValueType.{ValueType}
+use Rattle.meta_objects.specs.declared.object.ValueType.TheVariants.{Int, Bool, Text, Reference}
+use Rattle.meta_objects.specs.declared.object.Statement.{Statement}
+use Rattle.meta_objects.specs.declared.object.Work.{Work}
+use Rattle.meta_objects.specs.declared.object.MetaMethod.{MetaMethod}
+use Rattle.meta_objects.specs.declared.object.MetaProperty.{MetaProperty}
+use Rattle.meta_objects.specs.declared.object.MetaObject.{MetaObject}
+use Rattle.meta_objects.specs.declared.object.MetaWire.{MetaWire}
+use Rattle.meta_objects.specs.declared.object.MetaOwns.{MetaOwns}
+use Rattle.meta_objects.specs.declared.outline.Heading.{Heading}
+use Rattle.meta_objects.specs.declared.outline.Outline.{Outline}
+use Rattle.meta_objects.specs.Loaded.{Loaded}
+use Rattle.meta_objects.specs.Places.{StandsAt, StandsFirst, IsPlace}
+use Rattle.meta_objects.specs.Outlines.{IsOutline, AreOutlines, IsOutlineNamed, base_name, own_methods, qobject}
+use Rattle.meta_objects.specs.Kinds.{IsKindIn, LacksType, IsReadAs}
+use Rattle.meta_objects.specs.Conditions.{IsSignalOf}
+use Rattle.meta_objects.specs.Loading.{IsBody, AreBodies, AllBodies, IsMethodOf, IsNotify, IsPropertyOf, IsObject, IsWire, IsOwns, IsLoaded, work_of, initial_of}
+use Rattle.meta_objects.specs.Builds.{Builds, OneLoading}
+use Rattle.meta_objects.proofs.Searches.{same_first}
+use Rattle.meta_objects.proofs.Named.{first_item, one_end}
+use Rattle.meta_objects.proofs.Bodies.{same_statements}
+use Rattle.meta_objects.proofs.Reading.{same_read}
+
+-- two lists that relate to one list in the same way are the same
+pub same_zip : {A B : Type 0} (R : A → B → Type 0) (xs : List A) (ys zs : List B) → ((x : A) (y z : B) → R x y → R x z → y ≡ z) → AllZip R xs ys → AllZip R xs zs → ys ≡ zs
+same_zip R [] [] [] f h k = refl
+same_zip R [] [] (z ∷ zs) f h k = absurd k
+same_zip R [] (y ∷ ys) zs f h k = absurd h
+same_zip R (x ∷ xs) [] zs f h k = absurd h
+same_zip R (x ∷ xs) (y ∷ ys) [] f h k = absurd k
+same_zip R (x ∷ xs) (y ∷ ys) (z ∷ zs) f h k =
+    ap (λ v. v ∷ ys) (f x y z h.0 k.0) ∙ ap (λ vs. z ∷ vs) (same_zip R xs ys zs f h.1 k.1)
+
+-- ---- outlines
+abbrev outline_by : ℕ → Class → ℕ → Outline → Outline
+outline_by i class number base =
+    record { name = class.name; base = Some number; methods = base.methods ++ own_methods i class; properties = base.properties ++ class.properties }
+
+same_outline : (done : List Outline) (i : ℕ) (class : Class) (o u : Outline) → IsOutline done i class o → IsOutline done i class u → o ≡ u
+same_outline done i class o u h k =
+    h.is
+    ∙ ap (λ n. outline_by i class n h.based.at.item) (same_first (λ (o : Outline). o.name ≡ base_name class.base) done h.number k.number h.based k.based)
+    ∙ ap (λ x. outline_by i class k.number x) (first_item (λ (o : Outline). o.name ≡ base_name class.base) done h.number k.number h.based k.based)
+    ∙ sym k.is
+
+same_outlines : (classes : List Class) (done : List Outline) (i : ℕ) (all more : List Outline) → AreOutlines done i classes all → AreOutlines done i classes more → all ≡ more
+same_outlines [] done i all more h k = h ∙ sym k
+same_outlines (class ∷ classes) done i all more h k =
+    same_outlines classes (done ++ h.0 ∷ []) (suc i) all more h.2
+    (subst (λ o. AreOutlines (done ++ o ∷ []) (suc i) classes more) (sym (same_outline done i class h.0 k.0 h.1 k.1)) k.2)
+
+-- ---- records by their fields
+abbrev method_of : Sig → List ValueType → Work → MetaMethod
+method_of s ks w = record { sig = s; kinds = ks; work = w }
+
+abbrev property_of : List ℕ → QType → ValueType → Value → Option ℕ → MetaProperty
+property_of n t k v m = record { name = n; declared = t; kind = k; initial = v; notify = m }
+
+abbrev object_of : List ℕ → Option ℕ → List MetaMethod → List MetaProperty → MetaObject
+object_of n b ms ps = record { name = n; base = b; methods = ms; properties = ps }
+
+abbrev wire_of : ℕ → ℕ → ℕ → ℕ → Kind → MetaWire
+wire_of c s d m k = record { sender = c; signal = s; receiver = d; method = m; kind = k }
+
+abbrev owns_of : ℕ → ℕ → MetaOwns
+owns_of c d = record { parent = c; child = d }
+
+abbrev loaded_of : List MetaObject → List MetaWire → List MetaOwns → Loaded
+loaded_of cs ws os = record { classes = cs; wires = ws; owns = os }
+
+module _ (outlines : List Outline) where
+  pub same_method : (bodies : List (List (List Statement))) (h : Heading) (m n : MetaMethod) → IsMethodOf outlines bodies h m → IsMethodOf outlines bodies h n → m ≡ n
+  same_method bodies h m n a b =
+      ap (λ s. method_of s m.kinds m.work) (a.signed ∙ sym b.signed)
+      ∙ ap (λ ks. method_of n.sig ks m.work) (same_zip (IsReadAs outlines) h.sig.types m.kinds n.kinds (same_read outlines) a.kinds b.kinds)
+      ∙ ap (λ w. method_of n.sig n.kinds w) (a.work ∙ sym b.work)
+
+  pub same_place : {X : Type 0} (P : X → Type 0) (xs : List X) (a b : Option ℕ) → IsPlace P xs a → IsPlace P xs b → a ≡ b
+  same_place P xs None None h k = refl
+  same_place P xs None (Some j) h k = absurd (h j k.at)
+  same_place P xs (Some i) None h k = absurd (k i h.at)
+  same_place P xs (Some i) (Some j) h k = ap Some (same_first P xs i j h k)
+
+  same_notify : (o : Outline) (s : Option Sig) (a b : Option ℕ) → IsNotify o s a → IsNotify o s b → a ≡ b
+  same_notify o None a b h k = h ∙ sym k
+  same_notify o (Some sig) a b h k = same_place (IsSignalOf sig) o.methods a b h k
+
+  -- two loaded forms of a property that are notified by one signal
+  pub same_property_by : (o u : Outline) (d : Property) (p q : MetaProperty) → IsPropertyOf outlines o d p → IsPropertyOf outlines u d q → p.notify ≡ q.notify → p ≡ q
+  same_property_by o u d p q a b notify =
+      let kind : p.kind ≡ q.kind = same_read outlines d.kind p.kind q.kind a.kind b.kind in
+      ap (λ x. property_of x p.declared p.kind p.initial p.notify) (a.named ∙ sym b.named)
+      ∙ ap (λ x. property_of q.name x p.kind p.initial p.notify) (a.typed ∙ sym b.typed)
+      ∙ ap (λ x. property_of q.name q.declared x p.initial p.notify) kind
+      ∙ ap (λ x. property_of q.name q.declared q.kind x p.notify) (a.initial ∙ ap (λ k. initial_of d.initial k) kind ∙ sym b.initial)
+      ∙ ap (λ x. property_of q.name q.declared q.kind q.initial x) notify
+
+  same_property : (o : Outline) (d : Property) (p q : MetaProperty) → IsPropertyOf outlines o d p → IsPropertyOf outlines o d q → p ≡ q
+  same_property o d p q a b = same_property_by o o d p q a b (same_notify o d.notify p.notify q.notify a.notify b.notify)
+
+  same_object : (bodies : List (List (List Statement))) (o : Outline) (x y : MetaObject) → IsObject outlines bodies o x → IsObject outlines bodies o y → x ≡ y
+  same_object bodies o x y a b =
+      ap (λ n. object_of n x.base x.methods x.properties) (a.named ∙ sym b.named)
+      ∙ ap (λ n. object_of y.name n x.methods x.properties) (a.based ∙ sym b.based)
+      ∙ ap (λ ms. object_of y.name y.base ms x.properties) (same_zip (IsMethodOf outlines bodies) o.methods x.methods y.methods (same_method bodies) a.methods b.methods)
+      ∙ ap (λ ps. object_of y.name y.base y.methods ps) (same_zip (IsPropertyOf outlines o) o.properties x.properties y.properties (same_property o) a.properties b.properties)
+
+  same_bodies : (classes : List Class) (xs ys : List (List (List Statement))) → AllBodies outlines classes xs → AllBodies outlines classes ys → xs ≡ ys
+  same_bodies classes xs ys a b =
+      same_zip (AreBodies outlines) classes xs ys
+      (λ class us vs h k. same_zip (IsBody outlines class) class.slots us vs (λ slot u v p q. same_statements _ slot.body u v p q) h k) a b
+
+  same_wire : (wire : Wire) (v w : MetaWire) → IsWire outlines wire v → IsWire outlines wire w → v ≡ w
+  same_wire wire v w a b =
+      let from = one_end _ outlines wire.sender v.sender v.signal w.sender w.signal a.from b.from in
+      let to = one_end _ outlines wire.receiver v.receiver v.method w.receiver w.method a.to b.to in
+      ap (λ x. wire_of x v.signal v.receiver v.method v.kind) from.0
+      ∙ ap (λ x. wire_of w.sender x v.receiver v.method v.kind) from.1
+      ∙ ap (λ x. wire_of w.sender w.signal x v.method v.kind) to.0
+      ∙ ap (λ x. wire_of w.sender w.signal w.receiver x v.kind) to.1
+      ∙ ap (λ x. wire_of w.sender w.signal w.receiver w.method x) (a.same_kind ∙ sym b.same_kind)
+
+  same_owns : (owns : Owns) (v w : MetaOwns) → IsOwns outlines owns v → IsOwns outlines owns w → v ≡ w
+  same_owns owns v w a b =
+      ap (λ x. owns_of x v.child) (same_first _ outlines v.parent w.parent a.parent b.parent)
+      ∙ ap (λ x. owns_of w.parent x) (same_first _ outlines v.child w.child a.child b.child)
+
+  same_loaded : (program : Program) (a b : Loaded) → IsLoaded program outlines a → IsLoaded program outlines b → a ≡ b
+  same_loaded program a b h k =
+      let bodies = same_bodies program.classes h.bodies k.bodies h.uses.are_bodies k.uses.are_bodies in
+      let classes =
+      same_zip (IsObject outlines h.bodies) outlines a.classes b.classes (same_object h.bodies) h.objects
+      (subst (λ bs. AllZip (IsObject outlines bs) outlines b.classes) (sym bodies) k.objects) in
+      ap (λ x. loaded_of x a.wires a.owns) classes
+      ∙ ap (λ x. loaded_of b.classes x a.owns) (same_zip (IsWire outlines) program.wires a.wires b.wires same_wire h.uses.wired k.uses.wired)
+      ∙ ap (λ x. loaded_of b.classes b.wires x) (same_zip (IsOwns outlines) program.owns a.owns b.owns same_owns h.uses.owned k.uses.owned)
+
+pub one_loading : OneLoading
+one_loading program a b h k =
+    let outlines = same_outlines program.classes (qobject ∷ []) 0 h.0 k.0 h.1.are k.1.are in
+    same_loaded h.0 program a b h.3 (subst (λ o. IsLoaded program o b) (sym outlines) k.3)

@@ -1,0 +1,6 @@
+use Rattle.std.proofs.Common.{◌≡◌, take, map}
+use Rattle.meta_objects.specs.Outlines.{signal_heading}
+use Rattle.meta_objects.proofs.outlining.copy_properties.Given as goal
+
+abbrev pub invariant-loop-property : goal.invariant-loop-property
+invariant-loop-property l = l.copy ≡ take l.property-index l.properties
