@@ -9,6 +9,7 @@ use Rattle.slot_lang.specs.Cursor.{NotAt}
 use Rattle.slot_lang.specs.Literals.{greatest, deepest, Quoted, UnsignedReading, plain, truth, quoted, null, token_of_unsigned, tree_of_unsigned, LiteralReading, unsigned, negative, spell_literal, tree_of_literal, IsUnsigned}
 use Rattle.slot_lang.specs.Numerals.{value_of, spell_numeral}
 use Rattle.slot_lang.specs.Reading.{EndsAnywhere, Found}
+use Rattle.slot_lang.specs.declared.symbol.Symbol.{Symbol}
 use Rattle.slot_lang.specs.declared.symbol.Symbol.TheVariants.{Minus}
 use Rattle.slot_lang.specs.declared.token.Token.{Token}
 use Rattle.slot_lang.specs.declared.token.Token.TheVariants as token
@@ -103,15 +104,15 @@ pub no_literal_at_end : {before : List Token} → before ≡ [] → None spell_l
 no_literal_at_end {before} e (unsigned u) rest ends g = cc
 no_literal_at_end {before} e (negative n) rest ends g = cc
 
-not_negative : (u : UnsignedReading) (between rest : List Token) → token.Symbol Minus ∷ between ≡ spell_literal (unsigned u) rest → ⊥
-not_negative (plain n) between rest g = cc
-not_negative (truth true) between rest g = cc
-not_negative (truth false) between rest g = cc
-not_negative (quoted q) between rest g = cc
-not_negative null between rest g = cc
+pub no_symbol : (u : UnsignedReading) (s : Symbol) → token_of_unsigned u ≡ token.Symbol s → ⊥
+no_symbol (plain n) s e = cc
+no_symbol (truth true) s e = cc
+no_symbol (truth false) s e = cc
+no_symbol (quoted q) s e = cc
+no_symbol null s e = cc
 
 negative_only : (r : LiteralReading) (before between after rest : List Token) {n : ℕ} → before ≡ token.Symbol Minus ∷ between → Found (spell_numeral deepest) (λ m. value_of m.digits) EndsAnywhere between n after → before ≡ spell_literal r rest → after ≡ rest
-negative_only (unsigned u) before between after rest e h g = absurd (not_negative u between rest (sym e ∙ g))
+negative_only (unsigned u) before between after rest e h g = absurd (no_symbol u Minus cc)
 negative_only (negative m) before between after rest e h g = h.only m rest tt cc
 
 pub negative_found : {before between after : List Token} {n : ℕ} → before ≡ token.Symbol Minus ∷ between → Found (spell_numeral deepest) (λ m. value_of m.digits) EndsAnywhere between n after → Found spell_literal tree_of_literal EndsAnywhere before (value.Int (pos 0 -ℤ pos n)) after
@@ -123,5 +124,5 @@ negative_found {before} {between} {after} e h = record {
 }
 
 pub no_negative : {before between : List Token} → before ≡ token.Symbol Minus ∷ between → None (spell_numeral deepest) EndsAnywhere between → None spell_literal EndsAnywhere before
-no_negative {before} {between} e none (unsigned u) rest ends g = not_negative u between rest (sym e ∙ g)
+no_negative {before} {between} e none (unsigned u) rest ends g = no_symbol u Minus cc
 no_negative {before} {between} e none (negative m) rest ends g = none m rest tt cc

@@ -15,6 +15,7 @@ use Rattle.slot_lang.specs.declared.symbol.Symbol.TheVariants.{Minus}
 use Rattle.slot_lang.specs.declared.token.Token.{Token}
 use Rattle.slot_lang.specs.declared.token.Token.TheVariants as token
 use Rattle.slot_lang.proofs.Listed.{IsPart, ends_others}
+use Rattle.slot_lang.proofs.Literals.{no_symbol}
 use Rattle.slot_lang.proofs.Signatures.{types_are_parts, ends_at_ending}
 
 -- the tokens up to where the rule may end settle its tree, and where it ends
@@ -108,16 +109,9 @@ one_unsigned (truth true) _ e = cc
 one_unsigned (truth false) _ e = cc
 one_unsigned _ _ e = cc
 
-pub no_minus : (u : UnsignedReading) → token_of_unsigned u ≡ token.Symbol Minus → ⊥
-no_minus (plain n) e = cc
-no_minus (truth true) e = cc
-no_minus (truth false) e = cc
-no_minus (quoted q) e = cc
-no_minus null e = cc
-
 pub one_tree_of_literal : HasOneTree spell_literal tree_of_literal EndsAnywhere
 one_tree_of_literal (unsigned a) (unsigned b) r s er es e = (one_unsigned a b cc, cc)
 one_tree_of_literal (negative m) (negative n) r s er es e =
     let h : m.digits ≡ n.digits = cc in (ap (λ ds. value.Int (pos 0 -ℤ pos (value_of ds))) h, cc)
-one_tree_of_literal (unsigned a) (negative n) r s er es e = absurd (no_minus a cc)
-one_tree_of_literal (negative m) (unsigned b) r s er es e = absurd (no_minus b cc)
+one_tree_of_literal (unsigned a) (negative n) r s er es e = absurd (no_symbol a Minus cc)
+one_tree_of_literal (negative m) (unsigned b) r s er es e = absurd (no_symbol b Minus cc)
