@@ -1,9 +1,7 @@
 -- Expressions as the parts of a list in parentheses.
-use Rattle.std.proofs.Common.{◌≡◌, List, ◌∷◌, true, false, refl}
+use Rattle.std.proofs.Common.{◌≡◌, List, ◌∷◌, refl}
 use Rattle.slot_lang.specs.Expressions.{Expression, expression, conjunction, alone, compared, Sum, sum, term, Factor, prefixed, literal, path, grouped, spell_expression, spell_sum, spell_factor, spell_names, EndsExpression}
-use Rattle.slot_lang.specs.Precedence.{prefix_symbol_of}
-use Rattle.slot_lang.specs.declared.symbol.Symbol.TheVariants.{Open, Close, Comma}
-use Rattle.slot_lang.specs.declared.syntax.Unary.{Unary}
+use Rattle.slot_lang.specs.declared.symbol.Symbol.TheVariants.{Close, Comma}
 use Rattle.slot_lang.specs.declared.syntax.Unary.TheVariants as unary
 use Rattle.slot_lang.specs.declared.token.Token.{Token}
 use Rattle.slot_lang.specs.declared.token.Token.TheVariants as token

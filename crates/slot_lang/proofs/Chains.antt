@@ -1,5 +1,5 @@
 -- Rules of the form `part {operator part}`, one set of lemmas for all of them.
-use Rattle.std.proofs.Common.{◌≡◌, ◌∙◌, ◌⊎◌, List, [], ◌∷◌, inl, inr, refl, sym, ap}
+use Rattle.std.proofs.Common.{◌≡◌, ◌∙◌, ◌⊎◌, List, ◌∷◌, inl, inr, sym, ap}
 use Rattle.slot_lang.specs.Expressions.{EndsChain}
 use Rattle.slot_lang.specs.Precedence.{symbol_of, precedence_of, Operator, NoOperator}
 use Rattle.slot_lang.specs.Reading.{Found}

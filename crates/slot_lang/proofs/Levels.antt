@@ -1,5 +1,5 @@
 -- The rules of expressions between operands.
-use Rattle.std.proofs.Common.{◌≡◌, ◌∙◌, ◌⊎◌, List, [], ◌∷◌, inl, inr, refl, sym, ap}
+use Rattle.std.proofs.Common.{◌≡◌, ◌∙◌, ◌⊎◌, List, ◌∷◌, inl, inr, refl, sym}
 use Rattle.slot_lang.specs.Expressions.{Expression, expression, Conjunctions, no_conjunction, or_else, Conjunction, conjunction, Comparisons, no_comparison, and_also, Comparison, alone, compared, Sum, sum, Terms, no_term, signed, Term, term, Factors, no_factor, times, Factor, spell_expression, spell_conjunctions, spell_conjunction, spell_comparisons, spell_comparison, spell_sum, spell_terms, spell_term, spell_factors, spell_factor, tree_of_expression, tree_of_conjunctions, tree_of_conjunction, tree_of_comparisons, tree_of_comparison, tree_of_sum, tree_of_terms, tree_of_term, tree_of_factors, tree_of_factor, EndsFactor, EndsTerm, EndsSum, EndsComparison, EndsConjunction}
 use Rattle.slot_lang.specs.Precedence.{symbol_of, precedence_of, Operator, NoOperator}
 use Rattle.slot_lang.specs.Reading.{Found}

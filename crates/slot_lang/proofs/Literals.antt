@@ -1,12 +1,12 @@
 -- Numbers and literals.
-use Rattle.std.proofs.Common.{◌≡◌, ◌<◌, ◌≤◌, ◌∙◌, ℕ, List, [], ◌∷◌, Bool, true, false, pos, ◌-ℤ◌, refl, sym, ap, arith}
+use Rattle.std.proofs.Common.{◌≡◌, ◌<◌, ◌≤◌, ◌∙◌, ℕ, List, [], ◌∷◌, true, false, pos, ◌-ℤ◌, refl, sym, ap, arith}
 use Rattle.signatures.specs.Text.{IsText}
 use Rattle.signatures.specs.declared.value.Value.{Value}
 use Rattle.signatures.specs.declared.value.Value.TheVariants as value
 use Rattle.signatures.specs.declared.word.Word.{Word}
 use Rattle.signatures.specs.declared.word.Word.TheVariants as word
 use Rattle.slot_lang.specs.Cursor.{NotAt}
-use Rattle.slot_lang.specs.Literals.{greatest, deepest, Quoted, UnsignedReading, plain, truth, quoted, null, token_of_unsigned, tree_of_unsigned, LiteralReading, unsigned, negative, spell_literal, tree_of_literal, IsUnsigned}
+use Rattle.slot_lang.specs.Literals.{greatest, deepest, UnsignedReading, plain, truth, quoted, null, token_of_unsigned, LiteralReading, unsigned, negative, spell_literal, tree_of_literal, IsUnsigned}
 use Rattle.slot_lang.specs.Numerals.{value_of, spell_numeral}
 use Rattle.slot_lang.specs.Reading.{EndsAnywhere, Found}
 use Rattle.slot_lang.specs.declared.symbol.Symbol.{Symbol}

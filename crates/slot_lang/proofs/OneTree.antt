@@ -1,5 +1,5 @@
 -- No two readings with the same tokens stand for different trees: lists, types, signatures, kinds and literals.
-use Rattle.std.proofs.Common.{◌≡◌, ◌∙◌, ℕ, List, [], ◌∷◌, Bool, true, false, pos, ◌-ℤ◌, map, refl, sym, ap}
+use Rattle.std.proofs.Common.{◌≡◌, ℕ, List, [], ◌∷◌, true, false, pos, ◌-ℤ◌, map, refl, sym, ap}
 use Rattle.signatures.specs.declared.kind.Kind.TheVariants.{Auto, Direct, Queued}
 use Rattle.signatures.specs.declared.normal.ConstPlace.{ConstPlace}
 use Rattle.signatures.specs.declared.normal.ConstPlace.TheVariants.{Nowhere, Before, After}
@@ -13,7 +13,6 @@ use Rattle.slot_lang.specs.Reading.{EndsAnywhere}
 use Rattle.slot_lang.specs.Signatures.{spelled_type, spell_ending, Named, spell_place, EndsNamed, spell_type, tree_of_type, EndsType, sig, spell_sig, tree_of_sig, spell_kind}
 use Rattle.slot_lang.specs.declared.symbol.Symbol.TheVariants.{Minus}
 use Rattle.slot_lang.specs.declared.token.Token.{Token}
-use Rattle.slot_lang.specs.declared.token.Token.TheVariants as token
 use Rattle.slot_lang.proofs.Listed.{IsPart, ends_others}
 use Rattle.slot_lang.proofs.Literals.{no_symbol}
 use Rattle.slot_lang.proofs.Signatures.{types_are_parts, ends_at_ending}

@@ -1,7 +1,6 @@
 -- Paths, and the member at the end of one.
 use Rattle.std.proofs.Common.{◌≡◌, ◌∙◌, ℕ, List, [], ◌∷◌, ◌++◌, refl, sym, ap, append_assoc}
 use Rattle.std.proofs.lemmas.List.{append-nil}
-use Rattle.signatures.specs.declared.word.Word.{Word}
 use Rattle.signatures.specs.declared.word.Word.TheVariants as word
 use Rattle.slot_lang.specs.Cursor.{NotAt, NotAtWord}
 use Rattle.slot_lang.specs.Expressions.{spell_root, spell_names, spell_path, EndsFactor}

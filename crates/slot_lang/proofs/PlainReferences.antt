@@ -1,5 +1,5 @@
 -- References that aren't const, from a place among the tokens on.
-use Rattle.std.proofs.Common.{◌≡◌, ◌≢◌, ◌∙◌, ℕ, List, [], ◌∷◌, ◌++◌, Bool, true, false, IsTrue, ◌↔◌, refl, sym, ap}
+use Rattle.std.proofs.Common.{◌≡◌, ◌≢◌, ◌∙◌, ℕ, List, [], ◌∷◌, ◌++◌, Bool, true, false, IsTrue, ◌↔◌, refl, ap}
 use Rattle.signatures.specs.declared.word.Word.TheVariants as word
 use Rattle.slot_lang.specs.Signatures.{HasPlainReference}
 use Rattle.slot_lang.specs.declared.symbol.Symbol.TheVariants.{Ampersand}

@@ -1,8 +1,8 @@
 -- Operators by their symbols.
-use Rattle.std.proofs.Common.{◌≡◌, ◌∙◌, List, [], ◌∷◌, Option, Some, None, refl, sym, ap}
+use Rattle.std.proofs.Common.{◌≡◌, ◌∙◌, List, [], ◌∷◌, Option, Some, None, refl, ap}
 use Rattle.slot_lang.specs.Cursor.{NotAt}
-use Rattle.slot_lang.specs.Expressions.{EndsChain, EndsFactor, EndsTerm, EndsSum, EndsComparison, EndsConjunction, EndsExpression}
-use Rattle.slot_lang.specs.Precedence.{symbol_of, precedence_of, Operator, NoOperator}
+use Rattle.slot_lang.specs.Expressions.{EndsTerm, EndsSum, EndsComparison, EndsConjunction, EndsExpression}
+use Rattle.slot_lang.specs.Precedence.{symbol_of, precedence_of, NoOperator}
 use Rattle.slot_lang.specs.declared.precedence.Precedence.{Precedence}
 use Rattle.slot_lang.specs.declared.precedence.Precedence.TheVariants as precedence
 use Rattle.slot_lang.specs.declared.symbol.Symbol.{Symbol}

@@ -1,5 +1,5 @@
 -- Types, signatures and kinds from their parts.
-use Rattle.std.proofs.Common.{◌≡◌, ◌∙◌, ℕ, List, [], ◌∷◌, Bool, true, false, map, refl, sym, ap}
+use Rattle.std.proofs.Common.{◌≡◌, ◌∙◌, ℕ, List, ◌∷◌, map, refl, sym}
 use Rattle.signatures.specs.declared.kind.Kind.{Kind}
 use Rattle.signatures.specs.declared.kind.Kind.TheVariants.{Auto, Direct, Queued}
 use Rattle.signatures.specs.declared.normal.ConstPlace.{ConstPlace}
@@ -7,13 +7,12 @@ use Rattle.signatures.specs.declared.normal.ConstPlace.TheVariants.{Nowhere, Bef
 use Rattle.signatures.specs.declared.normal.TypeEnding.{TypeEnding}
 use Rattle.signatures.specs.declared.normal.TypeEnding.TheVariants.{Bare, Reference, Pointer}
 use Rattle.signatures.specs.declared.qtype.QType.{QType}
-use Rattle.signatures.specs.declared.sig.Sig.{Sig}
 use Rattle.signatures.specs.declared.word.Word.TheVariants as word
-use Rattle.slot_lang.specs.Cursor.{NotAt, NotAtWord}
+use Rattle.slot_lang.specs.Cursor.{NotAtWord}
 use Rattle.slot_lang.specs.Lists.{spell_listed}
 use Rattle.slot_lang.specs.Reading.{EndsAnywhere, Found, spell_name}
-use Rattle.slot_lang.specs.Signatures.{TypeReading, spelled_type, spell_ending, spell_named, Named, spell_place, EndsNamed, IsEnding, spell_type, tree_of_type, EndsType, SigReading, sig, spell_sig, tree_of_sig, spell_kind}
-use Rattle.slot_lang.specs.declared.symbol.Symbol.TheVariants.{Close, Ampersand, Star}
+use Rattle.slot_lang.specs.Signatures.{TypeReading, spelled_type, spell_ending, Named, spell_place, EndsNamed, IsEnding, spell_type, tree_of_type, EndsType, SigReading, sig, spell_sig, tree_of_sig, spell_kind}
+use Rattle.slot_lang.specs.declared.symbol.Symbol.TheVariants.{Close}
 use Rattle.slot_lang.specs.declared.token.Token.{Token}
 use Rattle.slot_lang.specs.declared.token.Token.TheVariants as token
 use Rattle.slot_lang.proofs.Listed.{IsPart}

@@ -1,9 +1,8 @@
 -- No two readings of a block with the same tokens stand for different trees.
 use Rattle.std.proofs.Common.{◌≡◌, ◌∙◌, ℕ, List, [], ◌∷◌, ◌++◌, map, refl, sym, ap}
-use Rattle.slot_lang.specs.Expressions.{Expression, spell_expression, spell_path, tree_of_expression, EndsFactor}
+use Rattle.slot_lang.specs.Expressions.{Expression, spell_expression, tree_of_expression, EndsFactor}
 use Rattle.slot_lang.specs.Grammar.{Target, spell_target, spell_value, spell_arguments, Assignment, spell_assignment, tree_of_assignment, Emission, spell_emission, tree_of_emission, Call, spell_call, tree_of_call, spell_condition, Body, no_more, more, Statement, set, emit, call, choice, Else, no_else, else_block, spell_statements, spell_statement, spell_else, spell_block, tree_of_block, tree_of_statement, tree_of_else, EndsStatement, IsBody}
-use Rattle.slot_lang.specs.Lists.{spell_listed}
-use Rattle.slot_lang.specs.declared.symbol.Symbol.TheVariants.{Semicolon, OpenBrace, CloseBrace}
+use Rattle.slot_lang.specs.declared.symbol.Symbol.TheVariants.{Semicolon, CloseBrace}
 use Rattle.slot_lang.specs.declared.syntax.Path.{Path}
 use Rattle.slot_lang.specs.declared.syntax.Stmt.{Stmt}
 use Rattle.slot_lang.specs.declared.syntax.Stmt.TheVariants as stmt

@@ -1,5 +1,5 @@
 -- Operators: how they are spelled, and how tight they bind (docs/language.md, "Expressions").
-use Rattle.std.specs.Prelude.{◌≡◌, List, Option, Some, None}
+use Rattle.std.specs.Prelude.{◌≡◌, List}
 use Rattle.slot_lang.specs.Cursor.{NotAt}
 use Rattle.slot_lang.specs.declared.precedence.Precedence.{Precedence}
 use Rattle.slot_lang.specs.declared.precedence.Precedence.TheVariants as precedence

@@ -185,7 +185,12 @@ impl<'a> Cursor<'a> {
     }
 
     /// The operator between its operands.
-    fn binary(&self, operator: Binary, left: Expr<Path>, right: Expr<Path>) -> Result<Expr<Path>, AllocError>
+    fn binary(
+        &self,
+        operator: Binary,
+        left: Expr<Path>,
+        right: Expr<Path>,
+    ) -> Result<Expr<Path>, AllocError>
         ensures { IfOk result (λ e. e ≡ tree.Binary operator left right) }
     {
         let left = Boxed::new(self.alloc(), left)?;

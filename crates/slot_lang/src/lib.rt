@@ -22,10 +22,9 @@ pub use depth::nesting;
 pub use expression::{one_expression, parse_expr};
 pub use fault::ParseFault;
 pub use lexer::{LexFault, one_cut, tokens};
-pub use signature::has_plain_reference;
-pub use symbol::Symbol;
 pub use precedence::Precedence;
+pub use signature::has_plain_reference;
+pub use signatures::Word;
+pub use symbol::Symbol;
 pub use syntax::{Binary, Body, Expr, Path, Root, Stmt, Unary};
 pub use token::Token;
-
-pub use signatures::Word;

@@ -1,4 +1,4 @@
-use Rattle.std.proofs.Common.{◌≡◌, ◌<◌, ◌≤◌, List, [], ◌∷◌, length, arith, ap, sym, ◌∙◌}
+use Rattle.std.proofs.Common.{length, arith, ap, sym, ◌∙◌}
 use Rattle.std.proofs.lemmas.Result.{err_from_is_err_and}
 use Rattle.slot_lang.proofs.Bodies.{body_step, body_done, body_stuck, else_found, no_else_block, nothing_found, choice_found, set_reads, emit_reads, call_reads, choice_reads, no_statement_at}
 use Rattle.slot_lang.proofs.cursor.Cursor.+block.Goals as goal

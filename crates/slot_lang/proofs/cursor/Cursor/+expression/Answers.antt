@@ -1,4 +1,4 @@
-use Rattle.std.proofs.Common.{◌≡◌, ◌<◌, List, [], ◌∷◌, length, ap, sym, ◌∙◌, arith}
+use Rattle.std.proofs.Common.{length, ap, arith}
 use Rattle.std.proofs.lemmas.Result.{err_from_is_err_and}
 use Rattle.slot_lang.proofs.Chains.{chain_no_first, chain_start, chain_step, chain_stuck, chain_done}
 use Rattle.slot_lang.proofs.Factors.{prefix_reads, group_reads, path_reads, literal_found, no_factor_at_symbol, no_factor_at_token, no_factor_at_end}

@@ -1,9 +1,9 @@
 use Rattle.std.proofs.Common.{map}
-use Rattle.slot_lang.specs.Expressions.{tree_of_expression, EndsFactor}
-use Rattle.slot_lang.specs.Grammar.{Target, spell_target, spell_value, spell_arguments}
+use Rattle.slot_lang.specs.Expressions.{tree_of_expression}
+use Rattle.slot_lang.specs.Grammar.{spell_arguments}
 use Rattle.slot_lang.specs.Reading.{EndsAnywhere, spell_name}
 use Rattle.slot_lang.specs.declared.syntax.Stmt.TheVariants as stmt
-use Rattle.slot_lang.proofs.Bodies.{both_found, value_meets, arguments_meet}
+use Rattle.slot_lang.proofs.Bodies.{both_found}
 use Rattle.slot_lang.proofs.cursor.Cursor.emission.Goals as goal
 
 pub returns-clause-reads : goal.returns-clause-reads

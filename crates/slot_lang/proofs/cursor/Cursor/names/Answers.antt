@@ -1,4 +1,4 @@
-use Rattle.std.proofs.Common.{◌≡◌, ◌≤◌, length, ap, arith}
+use Rattle.std.proofs.Common.{arith}
 use Rattle.std.proofs.lemmas.Result.{err_from_is_err_and}
 use Rattle.slot_lang.proofs.Paths.{names_step, names_done, names_stuck}
 use Rattle.slot_lang.proofs.cursor.Cursor.names.Goals as goal
