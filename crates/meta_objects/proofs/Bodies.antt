@@ -24,7 +24,7 @@ use Rattle.meta_objects.specs.declared.outline.Outline.{Outline}
 use Rattle.meta_objects.specs.Places.{StandsAt, StandsFirst}
 use Rattle.meta_objects.specs.Outlines.{IsOutlineNamed, reference_to}
 use Rattle.meta_objects.specs.Kinds.{IsReadAs}
-use Rattle.meta_objects.specs.Bodies.{Scope, IsRoot, this_root, parameter_root, PointsTo, HasMember, IsStep, AreSteps, IsPath, IsExpr, literal_is, path_is, unary_is, binary_is, AreExprs, IsSet, IsCallOf, IsEmit, IsCall, AreStatements, none_are, set_is, emit_is, call_is, if_is}
+use Rattle.meta_objects.specs.Bodies.{Scope, IsRoot, this_root, parameter_root, PointsTo, HasMember, IsStep, AreSteps, IsPath, IsExpr, literal_is, path_is, unary_is, binary_is, AreExprs, IsSet, IsCallOf, IsEmit, IsCall, AreStatements, none_are, set_is, emit_is, call_is, if_is, IsStatement}
 use Rattle.meta_objects.proofs.Searches.{same_first}
 use Rattle.meta_objects.proofs.Named.{first_item}
 use Rattle.meta_objects.proofs.Reading.{same_read}
@@ -56,7 +56,7 @@ same_named outlines a b e c d h k =
     same_Some _ _ (sym h.at.is ∙ ap (λ n. slice_get outlines n) same ∙ k.at.is)
 
 module _ (s : Scope) where
-  same_root : (r : Root) (f g : MetaRoot) (T U : QType) → IsRoot s r f T → IsRoot s r g U → (f ≡ g) × (T ≡ U)
+  pub same_root : (r : Root) (f g : MetaRoot) (T U : QType) → IsRoot s r f T → IsRoot s r g U → (f ≡ g) × (T ≡ U)
   same_root r f g T U this_root this_root = (refl, refl)
   same_root r f g T U (parameter_root at) (parameter_root at2) =
       (ap (λ k. resolved.Parameter k) (same_first _ s.parameters _ _ at at2), ap (λ (p : Parameter). p.kind) (first_item _ s.parameters _ _ at at2))
@@ -65,7 +65,7 @@ module _ (s : Scope) where
   same_class T c d h k =
       (same_first (λ (o : Outline). o.name ≡ T.name) s.outlines c d h.class k.class, first_item (λ (o : Outline). o.name ≡ T.name) s.outlines c d h.class k.class)
 
-  same_member : (T : QType) (name : List ℕ) (q r : ℕ) (x y : Property) → HasMember s.outlines T name q x → HasMember s.outlines T name r y → (q ≡ r) × (x ≡ y)
+  pub same_member : (T : QType) (name : List ℕ) (q r : ℕ) (x y : Property) → HasMember s.outlines T name q x → HasMember s.outlines T name r y → (q ≡ r) × (x ≡ y)
   same_member T name q r x y h k =
       let class = same_class T h.number k.number h.points k.points in
       let at = same_in (λ (o : Outline). o.properties) (λ (p : Property). p.name ≡ name) h.points.class.at.item k.points.class.at.item class.1 q r h.place k.place in
@@ -153,7 +153,7 @@ module _ (s : Scope) where
       let at = same_in (λ (o : Outline). o.methods) (IsCallOf name (length es)) h.points.class.at.item k.points.class.at.item item m n h.method k.method in
       (object.0, at.0, same_all_exprs es fs gs h.values k.values)
 
-  abbrev set_layer : stmt.Stmt-F Stmt → MetaPath → ℕ → Expr MetaPath → Type 0
+  abbrev pub set_layer : stmt.Stmt-F Stmt → MetaPath → ℕ → Expr MetaPath → Type 0
   set_layer (stmt.Set p n e) x q f = IsSet s p n e x q f
   set_layer (stmt.Emit n es) x q f = ⊥
   set_layer (stmt.Call p n es) x q f = ⊥
@@ -214,3 +214,24 @@ module _ (s : Scope) where
       let same_1 : b1 ≡ c1 = same_statements a1 b1 c1 h1 part.1 in
       let same_2 : b2 ≡ c2 = same_statements a2 b2 c2 h2 part.2 in
       ap (λ v. v ∷ vs) (same_statement y z (cc)) ∙ ap (λ v. z ∷ v) (same_statements us vs ws t u)
+
+-- ---- made of parts
+module _ (s : Scope) where
+  pub join : (x : Stmt) (y : Statement) (xs : List Stmt) (ys : List Statement) → IsStatement s x y → AreStatements s xs ys → AreStatements s (x ∷ xs) (y ∷ ys)
+  join x y xs ys (set_is a b h t) rest = set_is a b h rest
+  join x y xs ys (emit_is a b h t) rest = emit_is a b h rest
+  join x y xs ys (call_is a b h t) rest = call_is a b h rest
+  join x y xs ys (if_is a b h k l t) rest = if_is a b h k l rest
+
+  pub record Parted (x : Stmt) (xs : List Stmt) (zs : List Statement) : Type 0 where
+    pub first : Statement
+    pub rest : List Statement
+    pub is : zs ≡ first ∷ rest
+    pub one : IsStatement s x first
+    pub more : AreStatements s xs rest
+
+  pub part : (x : Stmt) (xs : List Stmt) (zs : List Statement) → AreStatements s (x ∷ xs) zs → Parted x xs zs
+  part x xs zs (set_is {y = y} {ys = ys} a b h t) = record { first = y; rest = ys; is = refl; one = set_is a b h none_are; more = t }
+  part x xs zs (emit_is {y = y} {ys = ys} a b h t) = record { first = y; rest = ys; is = refl; one = emit_is a b h none_are; more = t }
+  part x xs zs (call_is {y = y} {ys = ys} a b h t) = record { first = y; rest = ys; is = refl; one = call_is a b h none_are; more = t }
+  part x xs zs (if_is {y = y} {ys = ys} a b h k l t) = record { first = y; rest = ys; is = refl; one = if_is a b h k l none_are; more = t }

@@ -16,3 +16,4 @@ pub mod Soundness
 pub mod Deciding
 pub mod Whole
 pub mod Refusals
+pub mod Pieces

@@ -35,12 +35,12 @@ names_more : (os : List Outline) (o : Outline) → names (os ++ o ∷ []) ≡ na
 names_more [] o = refl
 names_more (u ∷ os) o = ap (λ ns. u.name ∷ ns) (names_more os o)
 
-drop_at : {A : Type 0} (xs : List A) (i : ℕ) (x : A) → slice_get xs i ≡ Some x → drop i xs ≡ x ∷ drop (suc i) xs
+pub drop_at : {A : Type 0} (xs : List A) (i : ℕ) (x : A) → slice_get xs i ≡ Some x → drop i xs ≡ x ∷ drop (suc i) xs
 drop_at [] i x e = absurd (none-some x e)
 drop_at (y ∷ xs) zero x e = ap (λ z. z ∷ xs) (same_Some _ _ e)
 drop_at (y ∷ xs) (suc i) x e = drop_at xs i x e
 
-drop_end : {A : Type 0} (xs : List A) (i : ℕ) → length xs ≤ i → drop i xs ≡ []
+pub drop_end : {A : Type 0} (xs : List A) (i : ℕ) → length xs ≤ i → drop i xs ≡ []
 drop_end [] zero past = refl
 drop_end [] (suc i) past = refl
 drop_end (y ∷ xs) zero past = absurd (omega arith)

@@ -36,6 +36,9 @@ pub record Scope : Type 0 where
   pub me : List ℕ
   pub parameters : List Parameter
 
+abbrev pub scope : List Outline → List ℕ → List Parameter → Scope
+scope outlines me parameters = record { outlines = outlines; me = me; parameters = parameters }
+
 -- ---- paths
 -- `this` has the declaring class as a pointer, a parameter its declared type
 pub data IsRoot (s : Scope) : Root → MetaRoot → QType → Type 0 where
@@ -48,6 +51,11 @@ pub data IsRoot (s : Scope) : Root → MetaRoot → QType → Type 0 where
 pub record PointsTo (outlines : List Outline) (T : QType) (c : ℕ) : Type 0 where
   pub pointer : T.pointer ≡ true
   pub class : IsOutlineNamed outlines T.name c
+
+-- .. which is this one
+pub record PointsToThis (outlines : List Outline) (T : QType) (c : ℕ) (o : Outline) : Type 0 where
+  pub points : PointsTo outlines T c
+  pub is : points.class.at.item ≡ o
 
 -- the class that it points to has a property of this name
 pub record HasMember (outlines : List Outline) (T : QType) (name : List ℕ) (q : ℕ) (property : Property) : Type 0 where
@@ -138,6 +146,10 @@ pub data AreStatements (s : Scope) : List Stmt → List Statement → Type 0 whe
   if_is : {x : Stmt} {e : Expr Path} {then_x else_x : List Stmt} {y : Statement} {f : Expr MetaPath} {then_y else_y : List Statement} {xs : List Stmt} {ys : List Statement}
       → out-Stmt x ≡ stmt.If e then_x else_x → out-Statement y ≡ statement.If f then_y else_y
       → IsExpr s e f → AreStatements s then_x then_y → AreStatements s else_x else_y → AreStatements s xs ys → AreStatements s (x ∷ xs) (y ∷ ys)
+
+-- one statement
+abbrev pub IsStatement : Scope → Stmt → Statement → Type 0
+IsStatement s x y = AreStatements s (x ∷ []) (y ∷ [])
 
 -- a name in the body isn't there
 abbrev pub LacksInBody : Scope → List Stmt → Type 0

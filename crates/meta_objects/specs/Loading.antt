@@ -31,11 +31,11 @@ use Rattle.meta_objects.specs.Places.{StandsFirst, IsPlace}
 use Rattle.meta_objects.specs.Outlines.{IsOutlineNamed}
 use Rattle.meta_objects.specs.Kinds.{IsReadAs}
 use Rattle.meta_objects.specs.Conditions.{IsSignalOf}
-use Rattle.meta_objects.specs.Bodies.{Scope, AreStatements, LacksInBody}
+use Rattle.meta_objects.specs.Bodies.{Scope, scope, AreStatements, LacksInBody}
 
 -- ---- bodies
 abbrev pub scope_of : List Outline → Class → Slot → Scope
-scope_of outlines class slot = record { outlines = outlines; me = class.name; parameters = slot.parameters }
+scope_of outlines class slot = scope outlines class.name slot.parameters
 
 abbrev pub IsBody : List Outline → Class → Slot → List Statement → Type 0
 IsBody outlines class slot body = AreStatements (scope_of outlines class slot) slot.body body

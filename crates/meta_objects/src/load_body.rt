@@ -7,6 +7,7 @@ ghost use Rattle.meta_objects.specs.Parts.{Loads};
 ghost use Rattle.meta_objects.specs.declared.fault.MetaFault.TheVariants as fault;
 
 use crate::fault::MetaFault;
+use crate::load_block::load_block;
 use crate::outline::Outline;
 use crate::slot_body::SlotBody;
 use class_lang::{Class, Slot};
@@ -54,5 +55,14 @@ fn load_slot_body(
 ) -> Result<SlotBody, MetaFault>
     ensures { Loads fault.NoMember (LacksInSlot outlines.now class.now slot.now) (λ body. IsBody outlines.now class.now slot.now body) result }
 {
-    Err(MetaFault::Memory)
+    let parameters = slot.parameters.as_slice();
+    let statements = load_block(
+        alloc,
+        outlines,
+        &class.name,
+        parameters,
+        slot.body.as_slice(),
+    )?;
+    let body = SlotBody::new(alloc, statements)?;
+    Ok(body)
 }

@@ -75,7 +75,7 @@ fn sig_of_one(alloc: Global, name: &[u8], kind: QType) -> Result<Sig, AllocError
 }
 
 /// `C*`
-fn reference_to(class: &Name) -> Result<QType, AllocError>
+pub fn reference_to(class: &Name) -> Result<QType, AllocError>
     ensures { IfOk result (λ kind. kind ≡ reference_to class.now) }
 {
     let name = class.copy()?;

@@ -1,0 +1,52 @@
+//! Expressions whose names are resolved.
+
+ghost use Rattle.slot_lang.specs.declared.syntax.Expr.{Expr as AnExpr};
+ghost use Rattle.meta_objects.specs.Bodies.{scope, IsExpr};
+ghost use Rattle.meta_objects.specs.Parts.{Loads};
+ghost use Rattle.meta_objects.specs.declared.fault.MetaFault.TheVariants as fault;
+ghost use Rattle.meta_objects.specs.declared.object.MetaPath.{MetaPath as AMetaPath};
+
+use crate::fault::MetaFault;
+use crate::load_path::{Led, load_path};
+use crate::object::MetaPath;
+use crate::outline::Outline;
+use class_lang::Parameter;
+use signatures::Name;
+use slot_lang::{Expr, Path};
+use sqlite_items::Boxed;
+use std::alloc::Global;
+
+/// The expression in a body of this class whose slot has these parameters; `NoMember` where a name in it isn't there.
+pub fn load_expr(
+    alloc: Global,
+    outlines: &[Outline],
+    me: &Name,
+    parameters: &[Parameter],
+    expression: &Expr<Path>,
+) -> Result<Expr<MetaPath>, MetaFault>
+    ensures { Loads fault.NoMember ((loaded : AnExpr AMetaPath) → ¬ IsExpr (scope outlines.now me.now parameters.now) expression.now loaded)
+        (λ loaded. IsExpr (scope outlines.now me.now parameters.now) expression.now loaded) result }
+{
+    match expression {
+        Expr::Literal(value) => {
+            let value = value.copy()?;
+            Ok(Expr::Literal(value))
+        }
+        Expr::Path(path) => {
+            let Led { path, kind: _ } = load_path(alloc, outlines, me, parameters, path)?;
+            Ok(Expr::Path(path))
+        }
+        Expr::Unary(operator, operand) => {
+            let operand = load_expr(alloc, outlines, me, parameters, operand.get())?;
+            let operand = Boxed::new(alloc, operand)?;
+            Ok(Expr::Unary(*operator, operand))
+        }
+        Expr::Binary(operator, left, right) => {
+            let left = load_expr(alloc, outlines, me, parameters, left.get())?;
+            let left = Boxed::new(alloc, left)?;
+            let right = load_expr(alloc, outlines, me, parameters, right.get())?;
+            let right = Boxed::new(alloc, right)?;
+            Ok(Expr::Binary(*operator, left, right))
+        }
+    }
+}
