@@ -6,7 +6,7 @@
 --   signal   = Name "(" [signal_parameter {"," signal_parameter}] ")" ";"
 --   slot     = Name "(" [slot_parameter {"," slot_parameter}] ")" block
 use Rattle.std.specs.Prelude.{ℕ, List, [], ◌∷◌, ◌++◌, map, Option, option_map}
-use Rattle.slot_lang.specs.Grammar.{Statement, spell_block, tree_of_block}
+use Rattle.slot_lang.specs.Grammar.{Body, spell_block, tree_of_block}
 use Rattle.slot_lang.specs.Lists.{spell_listed}
 use Rattle.slot_lang.specs.Literals.{LiteralReading, spell_literal, tree_of_literal}
 use Rattle.slot_lang.specs.Signatures.{TypeReading, spell_type, tree_of_type, SigReading, spell_sig, tree_of_sig}
@@ -57,7 +57,7 @@ abbrev pub tree_of_signal : SignalReading → Signal
 tree_of_signal (signal name parameters) = record { name = name; parameters = map tree_of_signal_parameter parameters }
 
 pub data SlotReading : Type 0 where
-  slot : (name : List ℕ) → List SlotParameter → (body : List Statement) → SlotReading
+  slot : (name : List ℕ) → List SlotParameter → (body : Body) → SlotReading
 
 abbrev pub spell_slot : SlotReading → List Token → List Token
 spell_slot (slot name parameters body) after =
