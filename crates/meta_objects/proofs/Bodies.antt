@@ -50,7 +50,7 @@ module _ {X : Type 0} (list : Outline → List X) (P : X → Type 0) where
       let same : q ≡ r = same_first P (list o) q r h (subst (λ (v : Outline). StandsFirst P (list v) r) (sym e) k) in
       (same, same_Some _ _ (sym h.at.is ∙ ap (λ n. slice_get (list o) n) same ∙ ap (λ v. slice_get (list v) r) e ∙ k.at.is))
 
-same_named : (outlines : List Outline) (a b : List ℕ) → a ≡ b → (c d : ℕ) (h : IsOutlineNamed outlines a c) (k : IsOutlineNamed outlines b d) → h.at.item ≡ k.at.item
+pub same_named : (outlines : List Outline) (a b : List ℕ) → a ≡ b → (c d : ℕ) (h : IsOutlineNamed outlines a c) (k : IsOutlineNamed outlines b d) → h.at.item ≡ k.at.item
 same_named outlines a b e c d h k =
     let same : c ≡ d = same_first (λ (o : Outline). o.name ≡ a) outlines c d h (subst (λ n. IsOutlineNamed outlines n d) (sym e) k) in
     same_Some _ _ (sym h.at.is ∙ ap (λ n. slice_get outlines n) same ∙ k.at.is)
@@ -159,13 +159,13 @@ module _ (s : Scope) where
   set_layer (stmt.Call p n es) x q f = ⊥
   set_layer (stmt.If e a b) x q f = ⊥
 
-  abbrev emit_layer : stmt.Stmt-F Stmt → ℕ → List (Expr MetaPath) → Type 0
+  abbrev pub emit_layer : stmt.Stmt-F Stmt → ℕ → List (Expr MetaPath) → Type 0
   emit_layer (stmt.Set p n e) m fs = ⊥
   emit_layer (stmt.Emit n es) m fs = IsEmit s n es m fs
   emit_layer (stmt.Call p n es) m fs = ⊥
   emit_layer (stmt.If e a b) m fs = ⊥
 
-  abbrev call_layer : stmt.Stmt-F Stmt → MetaPath → ℕ → List (Expr MetaPath) → Type 0
+  abbrev pub call_layer : stmt.Stmt-F Stmt → MetaPath → ℕ → List (Expr MetaPath) → Type 0
   call_layer (stmt.Set p n e) x m fs = ⊥
   call_layer (stmt.Emit n es) x m fs = ⊥
   call_layer (stmt.Call p n es) x m fs = IsCall s p n es x m fs

@@ -17,3 +17,4 @@ pub mod Deciding
 pub mod Whole
 pub mod Refusals
 pub mod Pieces
+pub mod Calls

@@ -32,7 +32,7 @@ use Rattle.meta_objects.specs.declared.object.Statement.TheVariants as statement
 use Rattle.meta_objects.specs.declared.outline.Outline.{Outline}
 use Rattle.meta_objects.specs.Places.{StandsAt, StandsFirst, Found}
 use Rattle.meta_objects.specs.Kinds.{IsReadAs}
-use Rattle.meta_objects.specs.Bodies.{Scope, IsRoot, this_root, parameter_root, IsSet, PointsTo, PointsToThis, HasMember, IsStep, AreSteps, IsPath, IsExpr, literal_is, path_is, unary_is, binary_is, IsStatement, AreStatements, none_are, set_is, emit_is, call_is, if_is, LacksInBody}
+use Rattle.meta_objects.specs.Bodies.{Scope, IsRoot, this_root, parameter_root, IsSet, PointsTo, PointsToThis, HasMember, IsStep, AreSteps, IsPath, IsExpr, literal_is, path_is, unary_is, binary_is, AreExprs, IsStatement, AreStatements, none_are, set_is, emit_is, call_is, if_is, LacksInBody}
 use Rattle.meta_objects.proofs.Steps.{drop_at, drop_end}
 use Rattle.meta_objects.proofs.Named.{first_item}
 use Rattle.meta_objects.proofs.Bodies.{join, part, same_in, same_member, same_root, same_path, set_layer}
@@ -227,3 +227,33 @@ module _ (s : Scope) where
     pub set_piece : (g : MetaPath) (T : QType) (q : ℕ) (x : Property) (f : Expr MetaPath) → IsPath s p g T → HasMember s.outlines T n q x → IsExpr s v f → IsStatement s (stmt_by.Set p n v) (statement_by.Set g q f)
     set_piece g T q x f to member value =
         set_is (stmt_by.outs-Set p n v) (statement_by.outs-Set g q f) (record { kind = T; object = to; property = x; member = member; value = value }) none_are
+
+  -- ---- lists of expressions
+  part_of : (x : Expr Path) (xs : List (Expr Path)) (fs : List (Expr MetaPath)) → AreExprs s (x ∷ xs) fs → (f : Expr MetaPath) × (gs : List (Expr MetaPath)) × IsExpr s x f × AreExprs s xs gs
+  part_of x xs [] h = absurd h
+  part_of x xs (f ∷ fs) h = (f, fs, h.0, h.1)
+
+  module _ (all : List (Expr Path)) where
+    pub exprs_left : (i : ℕ) (x : Expr Path) (y : Expr MetaPath) (done after : List (Expr MetaPath)) → slice_get all i ≡ Some x → IsExpr s x y → after ≡ done ++ y ∷ [] → ((more : List (Expr MetaPath)) → AreExprs s (drop i all) more → AreExprs s all (done ++ more)) → (more : List (Expr MetaPath)) → AreExprs s (drop (i + 1) all) more → AreExprs s all (after ++ more)
+    exprs_left i x y done after at one pushed left more h =
+        let number : suc i ≡ i + 1 = omega arith in
+        let h1 = subst (λ n. AreExprs s (drop n all) more) (sym number) h in
+        let h2 = left (y ∷ more) (subst (λ xs. AreExprs s xs (y ∷ more)) (sym (drop_at all i x at)) (one, h1)) in
+        subst (λ ys. AreExprs s all ys) (sym (append_assoc done (y ∷ []) more) ∙ ap (λ ys. ys ++ more) (sym pushed)) h2
+
+    pub exprs_only : (i : ℕ) (x : Expr Path) → slice_get all i ≡ Some x → ((fs : List (Expr MetaPath)) → AreExprs s all fs → (more : List (Expr MetaPath)) × AreExprs s (drop i all) more) → (fs : List (Expr MetaPath)) → AreExprs s all fs → (more : List (Expr MetaPath)) × AreExprs s (drop (i + 1) all) more
+    exprs_only i x at only fs h =
+        let number : suc i ≡ i + 1 = omega arith in
+        let more = only fs h in
+        let parts = part_of x (drop (suc i) all) more.0 (subst (λ xs. AreExprs s xs more.0) (drop_at all i x at) more.1) in
+        (parts.1, subst (λ n. AreExprs s (drop n all) parts.1) number parts.3)
+
+    pub exprs_stuck : (i : ℕ) (x : Expr Path) → slice_get all i ≡ Some x → ((fs : List (Expr MetaPath)) → AreExprs s all fs → (more : List (Expr MetaPath)) × AreExprs s (drop i all) more) → ((f : Expr MetaPath) → ¬ IsExpr s x f) → (fs : List (Expr MetaPath)) → ¬ AreExprs s all fs
+    exprs_stuck i x at only none fs h =
+        let more = only fs h in
+        let parts = part_of x (drop (suc i) all) more.0 (subst (λ xs. AreExprs s xs more.0) (drop_at all i x at) more.1) in
+        none parts.0 parts.2
+
+    pub exprs_end : (i : ℕ) (done : List (Expr MetaPath)) → length all ≤ i → ((more : List (Expr MetaPath)) → AreExprs s (drop i all) more → AreExprs s all (done ++ more)) → AreExprs s all done
+    exprs_end i done past left =
+        subst (λ ys. AreExprs s all ys) (append_none done) (left [] (subst (λ xs. AreExprs s xs []) (sym (drop_end all i past)) tt))

@@ -1,16 +1,20 @@
 //! The statements of bodies, whose names are resolved.
 
+ghost use Rattle.std.specs.Prelude.{◌≢◌, ◌↔◌, ℕ, IsTrue, MatchOption};
 ghost use Rattle.slot_lang.specs.declared.syntax.Stmt.TheVariants.{Set, Emit, Call};
-ghost use Rattle.meta_objects.specs.Bodies.{scope, IsStatement, AreStatements, LacksInBody};
+ghost use Rattle.meta_objects.specs.Bodies.{scope, IsStatement, AreStatements, IsCallOf, LacksInBody};
 ghost use Rattle.meta_objects.specs.Parts.{Loads};
+ghost use Rattle.meta_objects.specs.Places.{StandsAt, Found};
 ghost use Rattle.meta_objects.specs.declared.fault.MetaFault.TheVariants as fault;
+ghost use Rattle.meta_objects.specs.declared.outline.Sort.TheVariants.{Signal, DeleteLater};
 ghost use Rattle.meta_objects.specs.declared.object.Statement.{Statement as AStatement};
 
 use crate::fault::MetaFault;
-use crate::load_expr::load_expr;
-use crate::load_path::{Led, find_member, load_path};
+use crate::load_expr::{load_expr, load_exprs};
+use crate::load_path::{Led, find_class, find_member, load_path};
 use crate::object::Statement;
-use crate::outline::Outline;
+use crate::outline::{Heading, Outline, Sort};
+use crate::places::find;
 use class_lang::Parameter;
 use signatures::Name;
 use slot_lang::{Expr, Path, Stmt};
@@ -106,7 +110,17 @@ fn load_emit(
 ) -> Result<Statement, MetaFault>
     ensures { Loads fault.NoMember ((loaded : AStatement) → ¬ IsStatement (scope outlines.now me.now parameters.now) (Emit name.now values.now) loaded) (λ loaded. IsStatement (scope outlines.now me.now parameters.now) (Emit name.now values.now) loaded) result }
 {
-    Err(MetaFault::Memory)
+    let Some((_, class)) = find(outlines, me) else {
+        return Err(MetaFault::NoMember);
+    };
+    let Some((signal, heading)) = find_call(class.methods.as_slice(), name, values.len()) else {
+        return Err(MetaFault::NoMember);
+    };
+    if signal < 3 || !heading.is_signal() {
+        return Err(MetaFault::NoMember);
+    }
+    let values = load_exprs(alloc, outlines, me, parameters, values)?;
+    Ok(Statement::Emit(signal, values))
 }
 
 /// `call path.m(e, ..);`
@@ -121,5 +135,37 @@ fn load_call(
 ) -> Result<Statement, MetaFault>
     ensures { Loads fault.NoMember ((loaded : AStatement) → ¬ IsStatement (scope outlines.now me.now parameters.now) (Call path.now name.now values.now) loaded) (λ loaded. IsStatement (scope outlines.now me.now parameters.now) (Call path.now name.now values.now) loaded) result }
 {
-    Err(MetaFault::Memory)
+    let Led { path, kind } = load_path(alloc, outlines, me, parameters, path)?;
+    let Some((_, class)) = find_class(outlines, &kind) else {
+        return Err(MetaFault::NoMember);
+    };
+    let Some((slot, heading)) = find_call(class.methods.as_slice(), name, values.len()) else {
+        return Err(MetaFault::NoMember);
+    };
+    if !heading.may_be_called() {
+        return Err(MetaFault::NoMember);
+    }
+    let values = load_exprs(alloc, outlines, me, parameters, values)?;
+    Ok(Statement::Call(path, slot, values))
+}
+
+/// The first method of this name with so many parameters, with its number.
+fn find_call<'a>(methods: &'a [Heading], name: &Name, count: usize) -> Option<(usize, &'a Heading)>
+    ensures { MatchOption result ((k : ℕ) → ¬ StandsAt (IsCallOf name.now count) methods.now k) (λ found. Found (IsCallOf name.now count) methods.now found.0 found.1.now) }
+{
+    for (place, method) in methods.iter().enumerate() {
+        if method.sig.types.len() == count && method.sig.name.is_same(name) {
+            return Some((place, method));
+        }
+    }
+    None
+}
+
+impl Heading {
+    /// Whether a body may call it: a slot, but for `deleteLater()`.
+    fn may_be_called(&self) -> bool
+        ensures { IsTrue result ↔ ((self.now.sort ≢ Signal) × (self.now.sort ≢ DeleteLater)) }
+    {
+        matches!(self.sort, Sort::Slot(_, _))
+    }
 }

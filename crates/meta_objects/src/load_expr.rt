@@ -1,7 +1,8 @@
 //! Expressions whose names are resolved.
 
+ghost use Rattle.std.specs.Prelude.{◌≡◌, List};
 ghost use Rattle.slot_lang.specs.declared.syntax.Expr.{Expr as AnExpr};
-ghost use Rattle.meta_objects.specs.Bodies.{scope, IsExpr};
+ghost use Rattle.meta_objects.specs.Bodies.{scope, IsExpr, AreExprs};
 ghost use Rattle.meta_objects.specs.Parts.{Loads};
 ghost use Rattle.meta_objects.specs.declared.fault.MetaFault.TheVariants as fault;
 ghost use Rattle.meta_objects.specs.declared.object.MetaPath.{MetaPath as AMetaPath};
@@ -13,8 +14,27 @@ use crate::outline::Outline;
 use class_lang::Parameter;
 use signatures::Name;
 use slot_lang::{Expr, Path};
-use sqlite_items::Boxed;
+use sqlite_items::{Boxed, Items};
 use std::alloc::Global;
+
+/// The expressions in their order; `NoMember` where a name in one of them isn't there.
+pub fn load_exprs(
+    alloc: Global,
+    outlines: &[Outline],
+    me: &Name,
+    parameters: &[Parameter],
+    expressions: &[Expr<Path>],
+) -> Result<Items<Expr<MetaPath>>, MetaFault>
+    ensures { Loads fault.NoMember ((loaded : List (AnExpr AMetaPath)) → ¬ AreExprs (scope outlines.now me.now parameters.now) expressions.now loaded)
+        (λ loaded. AreExprs (scope outlines.now me.now parameters.now) expressions.now loaded) result }
+{
+    let mut loaded = Items::new(alloc);
+    for expression in expressions {
+        let expression = load_expr(alloc, outlines, me, parameters, expression)?;
+        loaded.push(expression)?;
+    }
+    Ok(loaded)
+}
 
 /// The expression in a body of this class whose slot has these parameters; `NoMember` where a name in it isn't there.
 pub fn load_expr(
