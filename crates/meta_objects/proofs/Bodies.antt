@@ -1,15 +1,13 @@
 -- A body is resolved in one way at most.
-use Rattle.std.proofs.Common.{◌≡◌, ℕ, List, [], ◌∷◌, length, slice_get, Some, refl, sym, ap, ◌∙◌, subst}
+use Rattle.std.proofs.Common.{◌≡◌, ℕ, List, [], ◌∷◌, length, slice_get, refl, sym, ap, ◌∙◌, subst}
 use Rattle.std.proofs.lemmas.Option.{same_Some}
 use Rattle.signatures.specs.declared.qtype.QType.{QType}
 use Rattle.slot_lang.specs.declared.syntax.Expr.{Expr}
-use Rattle.slot_lang.specs.declared.syntax.Expr.TheOpen as expr
 use Rattle.slot_lang.specs.declared.syntax.Expr.TheViews.{out-Expr, roll-Expr, roll-out-Expr}
 use Rattle.slot_lang.specs.declared.syntax.Root.{Root}
 use Rattle.slot_lang.specs.declared.syntax.Path.{Path}
 use Rattle.slot_lang.specs.declared.syntax.Stmt.{Stmt}
 use Rattle.slot_lang.specs.declared.syntax.Stmt.TheOpen as stmt
-use Rattle.slot_lang.specs.declared.syntax.Stmt.TheViews.{out-Stmt}
 use Rattle.class_lang.specs.declared.program.Parameter.{Parameter}
 use Rattle.class_lang.specs.declared.program.Property.{Property}
 use Rattle.meta_objects.specs.declared.object.MetaRoot.{MetaRoot}
@@ -18,11 +16,10 @@ use Rattle.meta_objects.specs.declared.object.Step.{Step}
 use Rattle.meta_objects.specs.declared.object.MetaPath.{MetaPath}
 use Rattle.meta_objects.specs.declared.object.ValueType.{ValueType}
 use Rattle.meta_objects.specs.declared.object.Statement.{Statement}
-use Rattle.meta_objects.specs.declared.object.Statement.TheOpen as statement
 use Rattle.meta_objects.specs.declared.object.Statement.TheViews.{out-Statement, roll-Statement, roll-out-Statement}
 use Rattle.meta_objects.specs.declared.outline.Outline.{Outline}
-use Rattle.meta_objects.specs.Places.{StandsAt, StandsFirst}
-use Rattle.meta_objects.specs.Outlines.{IsOutlineNamed, reference_to}
+use Rattle.meta_objects.specs.Places.{StandsFirst}
+use Rattle.meta_objects.specs.Outlines.{IsOutlineNamed}
 use Rattle.meta_objects.specs.Kinds.{IsReadAs}
 use Rattle.meta_objects.specs.Bodies.{Scope, IsRoot, this_root, parameter_root, PointsTo, HasMember, IsStep, AreSteps, IsPath, IsExpr, literal_is, path_is, unary_is, binary_is, AreExprs, IsSet, IsCallOf, IsEmit, IsCall, AreStatements, none_are, set_is, emit_is, call_is, if_is, IsStatement}
 use Rattle.meta_objects.proofs.Searches.{same_first}

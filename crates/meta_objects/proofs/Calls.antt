@@ -15,7 +15,7 @@ use Rattle.meta_objects.specs.declared.outline.Outline.{Outline}
 use Rattle.meta_objects.specs.declared.outline.Sort.TheVariants as sort
 use Rattle.meta_objects.specs.Places.{StandsAt, StandsFirst, Found}
 use Rattle.meta_objects.specs.Bodies.{Scope, PointsTo, PointsToThis, IsPath, AreExprs, IsCallOf, IsEmit, IsCall, IsStatement, AreStatements, none_are, set_is, emit_is, call_is, if_is}
-use Rattle.meta_objects.proofs.Named.{first_item, found_item}
+use Rattle.meta_objects.proofs.Named.{found_item}
 use Rattle.meta_objects.proofs.Bodies.{same_in, same_path, same_named, emit_layer, call_layer}
 
 -- what is found in an outline stands in an equal one

@@ -1,5 +1,5 @@
 -- What each class of an outlined program is: `QObject`, or a declared class with its base's members and its own.
-use Rattle.std.proofs.Common.{◌≡◌, ◌≢◌, ℕ, zero, suc, ◌+◌, ◌<◌, ◌≤◌, List, [], ◌∷◌, ◌++◌, map, length, slice_get, Some, Any, ◌⊎◌, inl, inr, refl, sym, ap, ◌∙◌, subst, arith, length-append, append_assoc}
+use Rattle.std.proofs.Common.{◌≡◌, ◌≢◌, ℕ, zero, suc, ◌+◌, ◌<◌, List, [], ◌∷◌, ◌++◌, map, length, slice_get, Some, ◌⊎◌, inl, inr, refl, sym, ap, ◌∙◌, subst, arith, length-append, append_assoc}
 use Rattle.std.specs.Prelude.{codes}
 use Rattle.std.proofs.lemmas.Option.{slice_get_within, none-some, same_Some}
 use Rattle.class_lang.specs.declared.program.Signal.{Signal}
@@ -9,7 +9,7 @@ use Rattle.class_lang.specs.declared.program.Program.{Program}
 use Rattle.meta_objects.specs.declared.outline.Heading.{Heading}
 use Rattle.meta_objects.specs.declared.outline.Outline.{Outline}
 use Rattle.meta_objects.specs.declared.outline.Sort.TheVariants as sort
-use Rattle.meta_objects.specs.Outlines.{kinds_of, sig_of, signal_heading, slot_headings, own_methods, qobject, IsOutline, AreOutlines, Outlines}
+use Rattle.meta_objects.specs.Outlines.{kinds_of, sig_of, signal_heading, slot_headings, own_methods, qobject, AreOutlines, Outlines}
 use Rattle.meta_objects.specs.Conditions.{DuplicateClass, IsTaken}
 use Rattle.meta_objects.proofs.Zips.{get_front, any_of}
 use Rattle.meta_objects.proofs.Once.{once, get_split_at}

@@ -1,10 +1,9 @@
 -- The first of a name, and what is found in it.
-use Rattle.std.proofs.Common.{◌≡◌, ℕ, List, slice_get, Some, sym, ap, ◌∙◌, subst}
+use Rattle.std.proofs.Common.{◌≡◌, ℕ, List, slice_get, sym, ap, ◌∙◌, subst}
 use Rattle.std.proofs.lemmas.Option.{same_Some}
 use Rattle.meta_objects.specs.declared.outline.Heading.{Heading}
 use Rattle.meta_objects.specs.declared.outline.Outline.{Outline}
 use Rattle.meta_objects.specs.Places.{StandsAt, StandsFirst, Found}
-use Rattle.meta_objects.specs.Outlines.{IsOutlineNamed}
 use Rattle.meta_objects.specs.Loading.{IsEnd}
 use Rattle.meta_objects.proofs.Searches.{same_first}
 

@@ -6,7 +6,7 @@ use Rattle.signatures.specs.declared.sig.Sig.{Sig}
 use Rattle.meta_objects.specs.declared.object.MetaMethod.{MetaMethod}
 use Rattle.meta_objects.specs.declared.object.MetaObject.{MetaObject}
 use Rattle.meta_objects.specs.Loaded.{Loaded}
-use Rattle.meta_objects.specs.Members.{IsClass, IsClassNamed, IsMethod, HasSig, IsMethodNamed, IsPropertyNamed, base_of, Below, same, under}
+use Rattle.meta_objects.specs.Members.{IsClassNamed, IsMethod, HasSig, IsMethodNamed, IsPropertyNamed, base_of, Below, same, under}
 use Rattle.meta_objects.specs.Sound.{IsSound, IsSoundClass}
 
 pub only_of : (N : Type 0) (Q : ℕ → Type 0) → ((i j : ℕ) → Q i → Q j → j ≡ i) → (r : Option ℕ) → MatchOption r N Q → IfSome r (λ i. (j : ℕ) → Q j → j ≡ i)

@@ -1,5 +1,5 @@
 -- Resolving bodies piece by piece.
-use Rattle.std.proofs.Common.{◌≡◌, ℕ, zero, suc, ◌+◌, ◌<◌, ◌≤◌, Bool, true, false, List, [], ◌∷◌, ◌++◌, ◌⊎◌, inl, inr, drop, length, slice_get, Some, refl, sym, ap, ◌∙◌, subst, arith, append_assoc}
+use Rattle.std.proofs.Common.{◌≡◌, ℕ, suc, ◌+◌, ◌≤◌, true, List, [], ◌∷◌, ◌++◌, inl, inr, drop, length, slice_get, Some, refl, sym, ap, ◌∙◌, subst, arith, append_assoc}
 use Rattle.signatures.specs.declared.qtype.QType.{QType}
 use Rattle.signatures.specs.declared.value.Value.{Value}
 use Rattle.slot_lang.specs.declared.syntax.Unary.{Unary}
@@ -32,7 +32,7 @@ use Rattle.meta_objects.specs.declared.object.Statement.TheVariants as statement
 use Rattle.meta_objects.specs.declared.outline.Outline.{Outline}
 use Rattle.meta_objects.specs.Places.{StandsAt, StandsFirst, Found}
 use Rattle.meta_objects.specs.Kinds.{IsReadAs}
-use Rattle.meta_objects.specs.Bodies.{Scope, IsRoot, this_root, parameter_root, IsSet, PointsTo, PointsToThis, HasMember, IsStep, AreSteps, IsPath, IsExpr, literal_is, path_is, unary_is, binary_is, AreExprs, IsStatement, AreStatements, none_are, set_is, emit_is, call_is, if_is, LacksInBody}
+use Rattle.meta_objects.specs.Bodies.{Scope, IsRoot, this_root, parameter_root, IsSet, PointsTo, PointsToThis, HasMember, AreSteps, IsPath, IsExpr, literal_is, path_is, unary_is, binary_is, AreExprs, IsStatement, AreStatements, none_are, set_is, emit_is, call_is, if_is, LacksInBody}
 use Rattle.meta_objects.proofs.Steps.{drop_at, drop_end}
 use Rattle.meta_objects.proofs.Named.{first_item}
 use Rattle.meta_objects.proofs.Bodies.{join, part, same_in, same_member, same_root, same_path, set_layer}

@@ -1,10 +1,10 @@
 -- What a type is read as is one.
-use Rattle.std.proofs.Common.{◌≡◌, ℕ, true, false, List, ◌⊎◌, inl, inr, refl, sym, ap, ◌∙◌}
+use Rattle.std.proofs.Common.{◌≡◌, ℕ, true, false, List, inl, inr, refl, sym, ap, ◌∙◌}
 use Rattle.signatures.specs.declared.qtype.QType.{QType}
 use Rattle.meta_objects.specs.declared.object.ValueType.{ValueType}
 use Rattle.meta_objects.specs.declared.object.ValueType.TheVariants.{Int, Bool, Text, Reference}
 use Rattle.meta_objects.specs.declared.outline.Outline.{Outline}
-use Rattle.meta_objects.specs.Kinds.{IsKindIn, LacksType, IsReadAs}
+use Rattle.meta_objects.specs.Kinds.{IsKindIn, IsReadAs}
 use Rattle.meta_objects.proofs.Searches.{same_first}
 
 module _ (outlines : List Outline) (T : QType) where

@@ -1,6 +1,5 @@
 -- What refuses a program, and what a program that isn't refused has.
-use Rattle.std.proofs.Common.{◌≡◌, List, [], ◌∷◌, Result, Ok, Err, IsErr, IsErrAnd, inl, inr, sym, ◌∙◌, subst}
-use Rattle.std.specs.List.{AllZip}
+use Rattle.std.proofs.Common.{◌≡◌, List, [], ◌∷◌, Result, Ok, Err, IsErr, IsErrAnd, inl, inr, sym, subst}
 use Rattle.class_lang.specs.declared.program.Program.{Program}
 use Rattle.meta_objects.specs.declared.fault.MetaFault.{MetaFault}
 use Rattle.meta_objects.specs.declared.fault.MetaFault.TheVariants as fault

@@ -1,52 +1,38 @@
 -- What is loaded is sound.
-use Rattle.std.proofs.Common.{◌≡◌, ◌≢◌, ℕ, zero, suc, ◌+◌, ◌<◌, Bool, true, false, List, [], ◌∷◌, ◌++◌, map, length, slice_get, Option, Some, None, Any, ◌⊎◌, inl, inr, refl, sym, ap, ◌∙◌, subst, arith}
-use Rattle.std.specs.Prelude.{codes}
+use Rattle.std.proofs.Common.{◌≡◌, ◌≢◌, ℕ, zero, suc, false, List, [], ◌∷◌, map, length, slice_get, Some, inl, refl, sym, ap, ◌∙◌, subst}
 use Rattle.std.specs.List.{AllZip}
-use Rattle.std.specs.Option.{option_and_then}
-use Rattle.std.proofs.lemmas.Option.{slice_get_within, none-some, same_Some}
+use Rattle.std.proofs.lemmas.Option.{none-some, same_Some}
 use Rattle.signatures.specs.declared.qtype.QType.{QType}
-use Rattle.signatures.specs.declared.sig.Sig.{Sig}
 use Rattle.slot_lang.specs.declared.syntax.Expr.{Expr}
 use Rattle.slot_lang.specs.declared.syntax.Root.{Root}
 use Rattle.slot_lang.specs.declared.syntax.Path.{Path}
 use Rattle.slot_lang.specs.declared.syntax.Stmt.{Stmt}
 use Rattle.class_lang.specs.declared.program.Parameter.{Parameter}
 use Rattle.class_lang.specs.declared.program.Property.{Property}
-use Rattle.class_lang.specs.declared.program.Slot.{Slot}
-use Rattle.class_lang.specs.declared.program.Class.{Class}
-use Rattle.class_lang.specs.declared.program.Wire.{Wire}
-use Rattle.class_lang.specs.declared.program.Owns.{Owns}
-use Rattle.class_lang.specs.declared.program.Program.{Program}
 use Rattle.meta_objects.specs.declared.object.ValueType.{ValueType}
 use Rattle.meta_objects.specs.declared.object.ValueType.TheVariants as type
 use Rattle.meta_objects.specs.declared.object.MetaRoot.{MetaRoot}
 use Rattle.meta_objects.specs.declared.object.Step.{Step}
 use Rattle.meta_objects.specs.declared.object.MetaPath.{MetaPath}
 use Rattle.meta_objects.specs.declared.object.Statement.{Statement}
-use Rattle.meta_objects.specs.declared.object.Work.{Work}
 use Rattle.meta_objects.specs.declared.object.Work.TheVariants as work
 use Rattle.meta_objects.specs.declared.object.MetaMethod.{MetaMethod}
 use Rattle.meta_objects.specs.declared.object.MetaProperty.{MetaProperty}
 use Rattle.meta_objects.specs.declared.object.MetaObject.{MetaObject}
-use Rattle.meta_objects.specs.declared.object.MetaWire.{MetaWire}
-use Rattle.meta_objects.specs.declared.object.MetaOwns.{MetaOwns}
 use Rattle.meta_objects.specs.declared.outline.Sort.{Sort}
 use Rattle.meta_objects.specs.declared.outline.Sort.TheVariants as sort
 use Rattle.meta_objects.specs.declared.outline.Heading.{Heading}
 use Rattle.meta_objects.specs.declared.outline.Outline.{Outline}
 use Rattle.meta_objects.specs.Loaded.{Loaded}
-use Rattle.meta_objects.specs.Places.{StandsAt, StandsFirst}
-use Rattle.meta_objects.specs.Members.{IsClass, IsClassNamed, IsMethod, IsProperty, base_of, Below, same, under, IsIn}
-use Rattle.meta_objects.specs.Sound.{IsKind, HasRoot, this_has, parameter_has, Leads, here, on, LeadsTo, LeadsToClass, IsSoundExpr, literal_sound, path_sound, unary_sound, binary_sound, AreSoundExprs, IsSoundSet, IsSoundEmit, IsSoundCall, AreSound, none_sound, set_sound, emit_sound, call_sound, if_sound, IsSoundBody, IsSoundWork, IsSoundMethod}
-use Rattle.meta_objects.specs.Outlines.{IsOutlineNamed, Outlines, reference_to, kinds_of}
-use Rattle.meta_objects.specs.Kinds.{IsKindIn, LacksType, IsReadAs}
-use Rattle.meta_objects.specs.Conditions.{NoType, LacksTypes}
-use Rattle.meta_objects.specs.Bodies.{Scope, IsRoot, this_root, parameter_root, PointsTo, HasMember, IsStep, AreSteps, IsPath, IsExpr, literal_is, path_is, unary_is, binary_is, AreExprs, IsSet, IsEmit, IsCall, AreStatements, none_are, set_is, emit_is, call_is, if_is}
-use Rattle.meta_objects.specs.Loading.{scope_of, IsBody, AreBodies, AllBodies, body_at, found_body, work_of, IsMethodOf, IsPropertyOf, IsObject}
-use Rattle.meta_objects.proofs.Zips.{zip_left, zip_right}
+use Rattle.meta_objects.specs.Members.{IsClassNamed, IsMethod, IsProperty}
+use Rattle.meta_objects.specs.Sound.{IsKind, HasRoot, this_has, parameter_has, Leads, here, on, LeadsTo, LeadsToClass, IsSoundExpr, literal_sound, path_sound, unary_sound, binary_sound, AreSoundExprs, IsSoundSet, IsSoundEmit, IsSoundCall, AreSound, none_sound, set_sound, emit_sound, call_sound, if_sound}
+use Rattle.meta_objects.specs.Outlines.{IsOutlineNamed, kinds_of}
+use Rattle.meta_objects.specs.Kinds.{IsKindIn, IsReadAs}
+use Rattle.meta_objects.specs.Bodies.{Scope, IsRoot, this_root, parameter_root, PointsTo, HasMember, AreSteps, IsPath, IsExpr, literal_is, path_is, unary_is, binary_is, AreExprs, IsSet, IsEmit, IsCall, AreStatements, none_are, set_is, emit_is, call_is, if_is}
+use Rattle.meta_objects.specs.Loading.{body_at, found_body, work_of, IsMethodOf, IsPropertyOf, IsObject}
+use Rattle.meta_objects.proofs.Zips.{zip_left}
 use Rattle.meta_objects.proofs.Searches.{same_first}
 use Rattle.meta_objects.proofs.Reading.{same_read}
-use Rattle.meta_objects.proofs.Described.{Reaches, here as arrived, up, HasSlot}
 
 zip_length : {A B : Type 0} (R : A → B → Type 0) (xs : List A) (ys : List B) → AllZip R xs ys → length xs ≡ length ys
 zip_length R [] [] h = refl

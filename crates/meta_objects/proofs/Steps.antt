@@ -1,15 +1,14 @@
 -- Outlining classes one after the other.
-use Rattle.std.proofs.Common.{◌≡◌, ℕ, zero, suc, ◌+◌, ◌<◌, ◌≤◌, List, [], ◌∷◌, ◌++◌, map, drop, length, get_or, slice_get, Some, Any, ◌⊎◌, inl, inr, refl, sym, ap, ◌∙◌, subst, arith}
-use Rattle.std.specs.Prelude.{Result, Ok, Err, IsErr, IsErrAnd, codes}
-use Rattle.std.proofs.lemmas.Option.{slice_get_within, none-some, same_Some}
+use Rattle.std.proofs.Common.{◌≡◌, ℕ, zero, suc, ◌+◌, ◌≤◌, List, [], ◌∷◌, ◌++◌, map, drop, length, slice_get, Some, Any, inl, inr, refl, sym, ap, ◌∙◌, subst, arith}
+use Rattle.std.specs.Prelude.{Result, Ok, Err, IsErr, IsErrAnd}
+use Rattle.std.proofs.lemmas.Option.{none-some, same_Some}
 use Rattle.class_lang.specs.declared.program.Property.{Property}
 use Rattle.class_lang.specs.declared.program.Class.{Class}
 use Rattle.meta_objects.specs.declared.fault.MetaFault.{MetaFault}
-use Rattle.meta_objects.specs.declared.fault.MetaFault.TheVariants.{Memory}
 use Rattle.meta_objects.specs.declared.outline.Heading.{Heading}
 use Rattle.meta_objects.specs.declared.outline.Outline.{Outline}
 use Rattle.meta_objects.specs.Places.{StandsAt, Found}
-use Rattle.meta_objects.specs.Outlines.{base_name, own_methods, qobject, IsOutline, AreOutlines, Outlines}
+use Rattle.meta_objects.specs.Outlines.{base_name, own_methods, IsOutline, AreOutlines, Outlines}
 use Rattle.meta_objects.specs.Conditions.{LacksBase}
 use Rattle.meta_objects.specs.Parts.{Loads}
 use Rattle.meta_objects.proofs.Zips.{any_of, place_of_any}

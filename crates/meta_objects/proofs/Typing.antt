@@ -2,7 +2,6 @@
 use Rattle.std.proofs.Common.{◌≡◌, ℕ, Bool, true, Option, Some, None, IsTrue, ◌↔◌, refl, sym, subst, ◌∙◌}
 use Rattle.std.proofs.lemmas.Option.{none-some, same_Some}
 use Rattle.signatures.specs.declared.value.Value.TheVariants as value
-use Rattle.meta_objects.specs.declared.object.ValueType.{ValueType}
 use Rattle.meta_objects.specs.declared.object.ValueType.TheVariants as type
 use Rattle.meta_objects.specs.Loaded.{Loaded}
 use Rattle.meta_objects.specs.Members.{Below}

@@ -1,21 +1,16 @@
 -- A program has at most one loaded form.
-use Rattle.std.proofs.Common.{◌≡◌, ℕ, zero, suc, true, false, List, [], ◌∷◌, ◌++◌, map, length, slice_get, Option, Some, None, MatchOption, ◌⊎◌, inl, inr, refl, sym, ap, ◌∙◌, subst}
-use Rattle.std.specs.Prelude.{codes}
+use Rattle.std.proofs.Common.{◌≡◌, ℕ, suc, List, [], ◌∷◌, ◌++◌, Option, Some, None, refl, sym, ap, ◌∙◌, subst}
 use Rattle.std.specs.List.{AllZip}
 use Rattle.signatures.specs.declared.qtype.QType.{QType}
 use Rattle.signatures.specs.declared.sig.Sig.{Sig}
 use Rattle.signatures.specs.declared.kind.Kind.{Kind}
 use Rattle.signatures.specs.declared.value.Value.{Value}
-use Rattle.slot_lang.specs.declared.syntax.Expr.{Expr}
-use Rattle.slot_lang.specs.declared.syntax.Root.{Root}
-use Rattle.slot_lang.specs.declared.syntax.Path.{Path}
 use Rattle.class_lang.specs.declared.program.Property.{Property}
 use Rattle.class_lang.specs.declared.program.Class.{Class}
 use Rattle.class_lang.specs.declared.program.Wire.{Wire}
 use Rattle.class_lang.specs.declared.program.Owns.{Owns}
 use Rattle.class_lang.specs.declared.program.Program.{Program}
 use Rattle.meta_objects.specs.declared.object.ValueType.{ValueType}
-use Rattle.meta_objects.specs.declared.object.ValueType.TheVariants.{Int, Bool, Text, Reference}
 use Rattle.meta_objects.specs.declared.object.Statement.{Statement}
 use Rattle.meta_objects.specs.declared.object.Work.{Work}
 use Rattle.meta_objects.specs.declared.object.MetaMethod.{MetaMethod}
@@ -26,12 +21,12 @@ use Rattle.meta_objects.specs.declared.object.MetaOwns.{MetaOwns}
 use Rattle.meta_objects.specs.declared.outline.Heading.{Heading}
 use Rattle.meta_objects.specs.declared.outline.Outline.{Outline}
 use Rattle.meta_objects.specs.Loaded.{Loaded}
-use Rattle.meta_objects.specs.Places.{StandsAt, StandsFirst, IsPlace}
-use Rattle.meta_objects.specs.Outlines.{IsOutline, AreOutlines, IsOutlineNamed, base_name, own_methods, qobject}
-use Rattle.meta_objects.specs.Kinds.{IsKindIn, LacksType, IsReadAs}
+use Rattle.meta_objects.specs.Places.{IsPlace}
+use Rattle.meta_objects.specs.Outlines.{IsOutline, AreOutlines, base_name, own_methods, qobject}
+use Rattle.meta_objects.specs.Kinds.{IsReadAs}
 use Rattle.meta_objects.specs.Conditions.{IsSignalOf}
-use Rattle.meta_objects.specs.Loading.{IsBody, AreBodies, AllBodies, IsMethodOf, IsNotify, IsPropertyOf, IsObject, IsWire, IsOwns, IsLoaded, work_of, initial_of}
-use Rattle.meta_objects.specs.Builds.{Builds, OneLoading}
+use Rattle.meta_objects.specs.Loading.{IsBody, AreBodies, AllBodies, IsMethodOf, IsNotify, IsPropertyOf, IsObject, IsWire, IsOwns, IsLoaded, initial_of}
+use Rattle.meta_objects.specs.Builds.{OneLoading}
 use Rattle.meta_objects.proofs.Searches.{same_first}
 use Rattle.meta_objects.proofs.Named.{first_item, one_end}
 use Rattle.meta_objects.proofs.Bodies.{same_statements}

@@ -1,16 +1,13 @@
 -- A loaded program is sound.
-use Rattle.std.proofs.Common.{◌≡◌, ◌≢◌, ℕ, zero, suc, ◌+◌, ◌<◌, List, [], ◌∷◌, ◌++◌, map, length, slice_get, Option, Some, None, Any, ◌⊎◌, inl, inr, refl, sym, ap, ◌∙◌, subst, arith}
+use Rattle.std.proofs.Common.{◌≡◌, ℕ, suc, ◌<◌, List, [], ◌∷◌, ◌++◌, length, slice_get, Option, Some, None, Any, ◌⊎◌, inl, inr, refl, sym, ap, ◌∙◌, subst, arith}
 use Rattle.std.specs.List.{AllZip}
 use Rattle.std.specs.Option.{option_and_then}
 use Rattle.std.proofs.lemmas.Option.{slice_get_within, none-some, same_Some}
 use Rattle.signatures.specs.declared.qtype.QType.{QType}
 use Rattle.signatures.specs.declared.sig.Sig.{Sig}
 use Rattle.class_lang.specs.declared.program.Property.{Property}
-use Rattle.class_lang.specs.declared.program.Class.{Class}
 use Rattle.class_lang.specs.declared.program.Program.{Program}
 use Rattle.meta_objects.specs.declared.object.ValueType.{ValueType}
-use Rattle.meta_objects.specs.declared.object.Statement.{Statement}
-use Rattle.meta_objects.specs.declared.object.Work.TheVariants as work
 use Rattle.meta_objects.specs.declared.object.MetaMethod.{MetaMethod}
 use Rattle.meta_objects.specs.declared.object.MetaProperty.{MetaProperty}
 use Rattle.meta_objects.specs.declared.object.MetaObject.{MetaObject}
@@ -21,16 +18,16 @@ use Rattle.meta_objects.specs.declared.outline.Sort.TheVariants as sort
 use Rattle.meta_objects.specs.declared.outline.Heading.{Heading}
 use Rattle.meta_objects.specs.declared.outline.Outline.{Outline}
 use Rattle.meta_objects.specs.Loaded.{Loaded}
-use Rattle.meta_objects.specs.Places.{StandsAt, StandsFirst, IsPlace}
+use Rattle.meta_objects.specs.Places.{StandsAt, StandsFirst}
 use Rattle.meta_objects.specs.Members.{IsClass, IsMethod, base_of, Below, same, under, IsIn}
 use Rattle.meta_objects.specs.Sound.{IsKind, AreSound, none_sound, IsSoundBody, IsSoundWork, IsSoundMethod, IsNotifier, IsSoundProperty, IsUnder, HasDistinctMethods, HasDistinctProperties, IsSoundClass, IsSoundWire, IsSoundOwns, IsSound}
 use Rattle.meta_objects.specs.Outlines.{IsOutlineNamed, kinds_of, own_methods, heading, destroyed_alone}
 use Rattle.meta_objects.specs.Kinds.{LacksType, IsReadAs}
-use Rattle.meta_objects.specs.Conditions.{AreOneCall, HasTwoMembers, DuplicateMember, IsSignalOf, LacksNotifier, BadNotify, LacksTypes, NoType}
-use Rattle.meta_objects.specs.Loading.{IsBody, AreBodies, AllBodies, body_at, found_body, work_of, IsMethodOf, IsNotify, IsPropertyOf, IsObject, IsWire, IsOwns, IsLoaded}
+use Rattle.meta_objects.specs.Conditions.{AreOneCall, HasTwoMembers, IsSignalOf, LacksNotifier, LacksTypes}
+use Rattle.meta_objects.specs.Loading.{IsBody, AreBodies, body_at, found_body, work_of, IsMethodOf, IsNotify, IsPropertyOf, IsObject, IsWire, IsOwns, IsLoaded}
 use Rattle.meta_objects.specs.Builds.{HasOutlines, IsClean}
 use Rattle.meta_objects.proofs.Zips.{zip_left, zip_right, get_front}
-use Rattle.meta_objects.proofs.Searches.{same_first, place_in}
+use Rattle.meta_objects.proofs.Searches.{place_in}
 use Rattle.meta_objects.proofs.Once.{once, none_at, get_split_at}
 use Rattle.meta_objects.proofs.Reading.{same_read}
 use Rattle.meta_objects.proofs.Deciding.{carries}

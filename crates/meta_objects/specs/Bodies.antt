@@ -26,7 +26,7 @@ use Rattle.meta_objects.specs.declared.object.Statement.TheViews.{out-Statement}
 use Rattle.meta_objects.specs.declared.outline.Heading.{Heading}
 use Rattle.meta_objects.specs.declared.outline.Outline.{Outline}
 use Rattle.meta_objects.specs.declared.outline.Sort.TheVariants as sort
-use Rattle.meta_objects.specs.Places.{StandsAt, StandsFirst}
+use Rattle.meta_objects.specs.Places.{StandsFirst}
 use Rattle.meta_objects.specs.Outlines.{IsOutlineNamed, reference_to}
 use Rattle.meta_objects.specs.Kinds.{IsReadAs}
 

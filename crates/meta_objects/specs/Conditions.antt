@@ -1,7 +1,6 @@
 -- The conditions under which a program doesn't load, but for names in bodies, wires and owns that aren't there
 -- (docs/language.md, "Names").
-use Rattle.std.specs.Prelude.{◌≡◌, ℕ, ◌<◌, List, [], ◌∷◌, ◌++◌, length, Option, None, Some, Any, ◌⊎◌, MatchOption, codes}
-use Rattle.signatures.specs.declared.qtype.QType.{QType}
+use Rattle.std.specs.Prelude.{◌≡◌, ℕ, ◌<◌, List, [], ◌∷◌, ◌++◌, length, Option, None, Some, Any, ◌⊎◌, codes}
 use Rattle.signatures.specs.declared.sig.Sig.{Sig}
 use Rattle.class_lang.specs.declared.program.Parameter.{Parameter}
 use Rattle.class_lang.specs.declared.program.Property.{Property}

@@ -1,5 +1,5 @@
 -- What declared types stand for, their classes replaced by numbers (docs/language.md, "Types").
-use Rattle.std.specs.Prelude.{◌≡◌, ℕ, ◌⊎◌, true, List, codes}
+use Rattle.std.specs.Prelude.{◌≡◌, ◌⊎◌, true, List, codes}
 use Rattle.signatures.specs.declared.qtype.QType.{QType}
 use Rattle.signatures.specs.Types.{value_type}
 use Rattle.meta_objects.specs.declared.object.ValueType.{ValueType}

@@ -13,7 +13,7 @@ use Rattle.meta_objects.specs.declared.outline.Sort.{Sort}
 use Rattle.meta_objects.specs.declared.outline.Sort.TheVariants as sort
 use Rattle.meta_objects.specs.declared.outline.Heading.{Heading}
 use Rattle.meta_objects.specs.declared.outline.Outline.{Outline}
-use Rattle.meta_objects.specs.Places.{StandsAt, StandsFirst}
+use Rattle.meta_objects.specs.Places.{StandsFirst}
 
 abbrev pub reference_to : List ℕ → QType
 reference_to class = record { name = class; constant = false; pointer = true }

@@ -1,4 +1,4 @@
-use Rattle.std.proofs.Common.{List, refl}
+use Rattle.std.proofs.Common.{refl}
 use Rattle.std.proofs.lemmas.Option.{slice_get_read}
 use Rattle.meta_objects.specs.declared.object.Statement.{Statement}
 use Rattle.meta_objects.specs.declared.fault.MetaFault.TheVariants as fault

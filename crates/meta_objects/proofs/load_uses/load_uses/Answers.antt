@@ -1,9 +1,5 @@
 use Rattle.std.proofs.Common.{inl, inr}
 use Rattle.meta_objects.specs.declared.load_uses.Uses.{Uses}
-use Rattle.meta_objects.specs.declared.object.MetaWire.{MetaWire}
-use Rattle.meta_objects.specs.declared.object.MetaOwns.{MetaOwns}
-use Rattle.meta_objects.specs.declared.object.Statement.{Statement}
-use Rattle.std.proofs.Common.{List}
 use Rattle.std.specs.List.{AllZip}
 use Rattle.meta_objects.specs.Loading.{AllBodies, IsWire, IsOwns, HasUses}
 use Rattle.meta_objects.proofs.Steps.{failed}

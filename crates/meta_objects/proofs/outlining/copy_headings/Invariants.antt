@@ -1,5 +1,4 @@
-use Rattle.std.proofs.Common.{◌≡◌, take, map}
-use Rattle.meta_objects.specs.Outlines.{signal_heading}
+use Rattle.std.proofs.Common.{◌≡◌, take}
 use Rattle.meta_objects.proofs.outlining.copy_headings.Given as goal
 
 abbrev pub invariant-loop-heading : goal.invariant-loop-heading

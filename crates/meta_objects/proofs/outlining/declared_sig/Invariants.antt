@@ -1,5 +1,4 @@
 use Rattle.std.proofs.Common.{◌≡◌, take, map}
-use Rattle.meta_objects.specs.Outlines.{signal_heading}
 use Rattle.meta_objects.proofs.outlining.declared_sig.Given as goal
 
 abbrev pub invariant-loop-parameter : goal.invariant-loop-parameter

@@ -1,4 +1,4 @@
-use Rattle.std.proofs.Common.{ℕ, refl, subst, sym, List, ◌∷◌, [], ◌≡◌, map}
+use Rattle.std.proofs.Common.{ℕ, refl, subst, ◌∷◌, [], ◌≡◌, map}
 use Rattle.std.specs.Prelude.{codes}
 use Rattle.std.proofs.lemmas.Option.{slice_get_read}
 use Rattle.meta_objects.specs.declared.outline.Outline.{Outline}

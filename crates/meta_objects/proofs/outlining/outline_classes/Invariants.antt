@@ -1,4 +1,4 @@
-use Rattle.std.proofs.Common.{◌≡◌, List, [], ◌∷◌, map, drop}
+use Rattle.std.proofs.Common.{List, [], ◌∷◌, map, drop}
 use Rattle.std.specs.Prelude.{codes}
 use Rattle.meta_objects.specs.declared.outline.Outline.{Outline}
 use Rattle.meta_objects.specs.Conditions.{LacksBase}

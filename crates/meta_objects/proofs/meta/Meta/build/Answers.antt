@@ -1,5 +1,5 @@
 use Rattle.meta_objects.specs.Outlines.{Outlines}
-use Rattle.meta_objects.specs.Loading.{IsLoaded, HasUses}
+use Rattle.meta_objects.specs.Loading.{HasUses}
 use Rattle.meta_objects.specs.declared.load_uses.Uses.{Uses}
 use Rattle.meta_objects.proofs.Choices.{fails}
 use Rattle.meta_objects.proofs.Refusals.{outlined, nothing_lacks, answers, refused_base, refused_use}

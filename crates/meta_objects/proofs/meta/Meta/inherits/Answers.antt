@@ -1,4 +1,4 @@
-use Rattle.std.proofs.Common.{refl, sym, ◌∙◌}
+use Rattle.std.proofs.Common.{refl, sym}
 use Rattle.meta_objects.specs.Members.{same, under}
 use Rattle.meta_objects.proofs.OneAnswer.{below_base, below_none}
 use Rattle.meta_objects.proofs.meta.Meta.inherits.Goals as goal

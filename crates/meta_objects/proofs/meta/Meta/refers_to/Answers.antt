@@ -1,4 +1,4 @@
-use Rattle.std.proofs.Common.{sym, ◌∙◌}
+use Rattle.std.proofs.Common.{◌∙◌}
 use Rattle.meta_objects.proofs.Typing.{null_typed, object_typed}
 use Rattle.meta_objects.proofs.meta.Meta.refers_to.Goals as goal
 
