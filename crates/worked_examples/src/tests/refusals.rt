@@ -29,7 +29,10 @@ fn programs_are_refused(rt: HostRuntime) -> Result<(), Fail> {
         ("class A { property int p = 2147483648; }", "refused 5\n"),
         ("class A { property int p = this; }", "refused 5\n"),
         ("class A { signal s(int const const); }", "refused 5\n"),
-        ("class A { slot f() { set this.p = -2147483648; } }", "refused 5\n"),
+        (
+            "class A { slot f() { set this.p = -2147483648; } }",
+            "refused 5\n",
+        ),
         ("class A { slot f() { if (1 < 2 < 3) { } } }", "refused 5\n"),
         ("class A { native f(); }", "refused 5\n"),
         ("class A { slot p(int) { } }", "refused 5\n"),
@@ -60,7 +63,7 @@ fn programs_are_refused(rt: HostRuntime) -> Result<(), Fail> {
             "refused 13\n",
         ),
         (
-            "class A { signal s(); signal t(); } wire A s() -> A t() direct;",
+            "class A { signal s(); slot t() { } } wire A t() -> A t() direct;",
             "refused 13\n",
         ),
         ("class A { slot s() { set this.p = 1; } }", "refused 13\n"),
@@ -76,7 +79,10 @@ fn programs_are_refused(rt: HostRuntime) -> Result<(), Fail> {
             "refused 13\n",
         ),
         ("class A { slot s() { call this.s(1); } }", "refused 13\n"),
-        ("class A { slot s() { call this.deleteLater(); } }", "refused 13\n"),
+        (
+            "class A { slot s() { call this.deleteLater(); } }",
+            "refused 13\n",
+        ),
         (
             "class A { signal s(); } wire A s() -> A destroyed() direct;",
             "refused 13\n",
