@@ -39,13 +39,13 @@ abbrev pub begun_world : World → ℕ → Object → MetaMethod → List Value 
 begun_world w depth x method arguments = noted w (begin_entry depth x.name method.sig.name (all_shown w.objects arguments) method.work)
 
 begun-is : (w : World) (stack : List Activation) (to : Activation) (below : List Activation) (o : ℕ) (x : Object) (m : ℕ) (method : MetaMethod) (arguments : List Value) (work : Work) →
-  at (noted w (begin_entry (suc (suc (length below))) x.name method.sig.name (all_shown w.objects arguments) work)) (top_of o m arguments w.connected work ∷ to ∷ below) ≡ begun (at w stack) (to ∷ below) o x m method arguments work
+    at (noted w (begin_entry (suc (suc (length below))) x.name method.sig.name (all_shown w.objects arguments) work)) (top_of o m arguments w.connected work ∷ to ∷ below) ≡ begun (at w stack) (to ∷ below) o x m method arguments work
 begun-is w stack to below o x m method arguments Signal = refl
 begun-is w stack to below o x m method arguments (Slot statements) = refl
 
 -- a method that is there begins
 begins-there : {p : Loaded} {h o m : ℕ} {x : Object} {method : MetaMethod} (w : World) (arguments : List Value) (from to : Activation) (below : List Activation) → IsMember p w.objects o m x method → length below ≡ h →
-  Begins p (at w (from ∷ below)) (to ∷ below) o m arguments (at (begun_world w (h + 2) x method arguments) (top_of o m arguments w.connected method.work ∷ to ∷ below))
+    Begins p (at w (from ∷ below)) (to ∷ below) o m arguments (at (begun_world w (h + 2) x method arguments) (top_of o m arguments w.connected method.work ∷ to ∷ below))
 begins-there {h = h} {o = o} {m = m} {x = x} {method = method} w arguments from to below is e =
     let depth_is : h + 2 ≡ suc (suc (length below)) = omega (arith, e) in
     let with_depth : ℕ → State = λ n. at (begun_world w n x method arguments) (top_of o m arguments w.connected method.work ∷ to ∷ below) in
@@ -66,35 +66,35 @@ fits-top last Signal below fit = fit
 fits-top last (Slot statements) below fit = fit
 
 goes-begun : {p : Loaded} {d h o m : ℕ} {w v : World} {from to : Activation} {x : Object} {method : MetaMethod} {arguments : List Value} {entry : Entry} →
-  Calls p w from to o m arguments → IsMember p w.objects o m x method → ArgumentsFit p w.objects o m arguments → AreTyped p w.objects → h + 1 < d → 0 < w.left →
-  entry ≡ begin_entry (h + 2) x.name method.sig.name (all_shown w.objects arguments) method.work → v ≡ noted w entry →
-  Goes p d h w (from ∷ []) v (top_of o m arguments w.connected method.work ∷ to ∷ [])
+    Calls p w from to o m arguments → IsMember p w.objects o m x method → ArgumentsFit p w.objects o m arguments → AreTyped p w.objects → h + 1 < d → 0 < w.left →
+    entry ≡ begin_entry (h + 2) x.name method.sig.name (all_shown w.objects arguments) method.work → v ≡ noted w entry →
+    Goes p d h w (from ∷ []) v (top_of o m arguments w.connected method.work ∷ to ∷ [])
 goes-begun {p} {d} {h} {o} {m} {w} {v} {from} {to} {x} {method} {arguments} {entry} calls is fit typed room some entry_is v_is =
     let Family : World → Type 0 = λ u. Goes p d h w (from ∷ []) u (top_of o m arguments w.connected method.work ∷ to ∷ []) in
     let target : World = begun_world w (h + 2) x method arguments in
     let target_is : v ≡ target = v_is ∙ ap (noted w) entry_is in
     let went : Goes p d h w (from ∷ []) target (top_of o m arguments w.connected method.work ∷ to ∷ []) =
-      goes-high (λ below e. calls.gives below _ (begins-there w arguments from to below is e)) (λ below. top-fits w.connected method.work (to ∷ below) fit) room typed refl some in
+    goes-high (λ below e. calls.gives below _ (begins-there w arguments from to below is e)) (λ below. top-fits w.connected method.work (to ∷ below) fit) room typed refl some in
     subst Family (sym target_is) went
 
 -- a method begins, and what it pushed runs
 pub ends-begun : {p : Loaded} {d h o m : ℕ} {w v u : World} {from to : Activation} {x : Object} {method : MetaMethod} {arguments : List Value} {entry : Entry} {work : Work} {r : Result (Unit {0}) Fault} →
-  Calls p w from to o m arguments → IsMember p w.objects o m x method → ArgumentsFit p w.objects o m arguments → AreTyped p w.objects → h + 1 < d → 0 < w.left →
-  entry ≡ begin_entry (h + 2) x.name method.sig.name (all_shown w.objects arguments) method.work → v ≡ noted w entry → method.work ≡ work →
-  Ends p d (h + 1) v (top_of o m arguments w.connected work ∷ []) u [] r → Ends p d h w (from ∷ []) u (to ∷ []) r
+    Calls p w from to o m arguments → IsMember p w.objects o m x method → ArgumentsFit p w.objects o m arguments → AreTyped p w.objects → h + 1 < d → 0 < w.left →
+    entry ≡ begin_entry (h + 2) x.name method.sig.name (all_shown w.objects arguments) method.work → v ≡ noted w entry → method.work ≡ work →
+    Ends p d (h + 1) v (top_of o m arguments w.connected work ∷ []) u [] r → Ends p d h w (from ∷ []) u (to ∷ []) r
 ends-begun {p} {d} {h} {o} {m} {w} {v} {u} {arguments = arguments} {r = r} calls is fit typed room some entry_is v_is work_is x =
     let Run : Work → Type 0 = λ k. Ends p d (h + 1) v (top_of o m arguments w.connected k ∷ []) u [] r in
     ends-after (goes-begun calls is fit typed room some entry_is v_is) (ends-lifted (subst Run (sym work_is) x))
 
 -- activations would nest too deep
 pub breaks-begin : {p : Loaded} {d h o m : ℕ} {w : World} {from to : Activation} {x : Object} {method : MetaMethod} {arguments : List Value} →
-  Calls p w from to o m arguments → IsMember p w.objects o m x method → ArgumentsFit p w.objects o m arguments → AreTyped p w.objects → 0 < w.left → d ≡ h + 1 → Breaks p d h w (from ∷ []) w TooDeep
+    Calls p w from to o m arguments → IsMember p w.objects o m x method → ArgumentsFit p w.objects o m arguments → AreTyped p w.objects → 0 < w.left → d ≡ h + 1 → Breaks p d h w (from ∷ []) w TooDeep
 breaks-begin {h = h} {o = o} {m = m} {w = w} {from = from} {to = to} {x = x} {method = method} {arguments = arguments} calls is fit typed some deep =
     breaks-deep some (λ below e. (at (begun_world w (h + 2) x method arguments) (top_of o m arguments w.connected method.work ∷ to ∷ below), calls.gives below _ (begins-there w arguments from to below is e), record { arguments = λ higher. top-fits w.connected method.work (to ∷ below) fit; values = typed }, omega (arith, e, deep)))
 
 -- there is no such method
 pub breaks-no-member : {p : Loaded} {d h o m : ℕ} {w : World} {from to : Activation} {arguments : List Value} →
-  OnlyCalls p w from to o m arguments → ((x : Object) (method : MetaMethod) → ¬ IsMember p w.objects o m x method) → 0 < w.left → Breaks p d h w (from ∷ []) w BadType
+    OnlyCalls p w from to o m arguments → ((x : Object) (method : MetaMethod) → ¬ IsMember p w.objects o m x method) → 0 < w.left → Breaks p d h w (from ∷ []) w BadType
 breaks-no-member only none some = breaks-stuck some (λ below t r. let b = only.begins below t r in none b.object b.method (record { is_object = b.is_object; is_method = b.is_method }))
 
 -- the arguments that fit are of the method's types
@@ -108,12 +108,14 @@ fit-typed {p} {objects} {o} {m} {x} {method} {arguments} is fit =
 
 -- the arguments aren't of the method's types
 pub breaks-ill-typed : {p : Loaded} {d h o m : ℕ} {w : World} {from to : Activation} {x : Object} {method : MetaMethod} {arguments : List Value} →
-  Calls p w from to o m arguments → IsMember p w.objects o m x method → (¬ HaveTypes p (class_of w.objects) arguments method.kinds) → 0 < w.left → Breaks p d h w (from ∷ []) w BadType
+    Calls p w from to o m arguments → IsMember p w.objects o m x method → (¬ HaveTypes p (class_of w.objects) arguments method.kinds) → 0 < w.left → Breaks p d h w (from ∷ []) w BadType
 breaks-ill-typed {p} {o = o} {m = m} {w = w} {from = from} {to = to} {x = x} {method = method} {arguments = arguments} calls is ill some =
     breaks-ill some (λ below.
-        let t : State = at (begun_world w (length below + 2) x method arguments) (top_of o m arguments w.connected method.work ∷ to ∷ below) in
-        (t, calls.gives below t (begins-there w arguments from to below is refl),
-        λ (well : IsWell p (at w (from ∷ below)) t). ill (fit-typed is (fits-top w.connected method.work (to ∷ below) (well.arguments (omega arith))))))
+    let t : State = at (begun_world w (length below + 2) x method arguments) (top_of o m arguments w.connected method.work ∷ to ∷ below) in (
+      t,
+      calls.gives below t (begins-there w arguments from to below is refl),
+      λ (well : IsWell p (at w (from ∷ below)) t). ill (fit-typed is (fits-top w.connected method.work (to ∷ below) (well.arguments (omega arith)))),
+    ))
 
 pub fit-of : {p : Loaded} {objects : List Object} {o m : ℕ} {x : Object} {method : MetaMethod} {arguments : List Value} → IsMember p objects o m x method → HaveTypes p (class_of objects) arguments method.kinds → ArgumentsFit p objects o m arguments
 fit-of {x = x} {method = method} is typed = record { object = x; is_object = is.is_object; method = method; is_method = is.is_method; typed = typed }

@@ -86,13 +86,13 @@ set-sets {p} {w} {o} {q} {x} {arguments} {path} {e} {new} m rest found gives = r
 pub set-null : {p : Loaded} {d h o q : ℕ} {w v : World} {arguments : List Value} {path : MetaPath} {e : Expr MetaPath} {r : Result (Unit {0}) Fault} (m : ℕ) (rest : List Statement) → path_value w.objects o arguments path ≡ Some (value.Ref None) → h < d → AreTyped p w.objects → 0 < w.left → Notes w (noted w (OnNull (h + 1))) v r → Ends p d h w (Body o m arguments (Set path q e ∷ rest) ∷ []) v (Body o m arguments rest ∷ []) r
 set-null {p} {d} {h} {o} {q} {w} {v} {arguments} {path} {e} {r} m rest found room typed some x =
     ends-noted (noted w (OnNull (h + 1))) r
-      (λ below k.
-          let s : State = at w (Body o m arguments (Set path q e ∷ rest) ∷ below) in
-          let t : State = at (noted w (OnNull (h + 1))) (Body o m arguments rest ∷ below) in
-          let depth_is : h + 1 ≡ suc (length below) = omega (arith, k) in
-          let null_is : t ≡ on_null s (Body o m arguments rest ∷ below) = ap (λ (n : ℕ). at (noted w (OnNull n)) (Body o m arguments rest ∷ below)) depth_is in
-          set-rule p w o m arguments path q e rest below t (at-null (SetAct p s o m arguments rest below t q e) (t ≡ on_null s (Body o m arguments rest ∷ below)) found null_is))
-      room typed refl some x
+    (λ below k.
+    let s : State = at w (Body o m arguments (Set path q e ∷ rest) ∷ below) in
+    let t : State = at (noted w (OnNull (h + 1))) (Body o m arguments rest ∷ below) in
+    let depth_is : h + 1 ≡ suc (length below) = omega (arith, k) in
+    let null_is : t ≡ on_null s (Body o m arguments rest ∷ below) = ap (λ (n : ℕ). at (noted w (OnNull n)) (Body o m arguments rest ∷ below)) depth_is in
+    set-rule p w o m arguments path q e rest below t (at-null (SetAct p s o m arguments rest below t q e) (t ≡ on_null s (Body o m arguments rest ∷ below)) found null_is))
+    room typed refl some x
 
 -- the path leads to no object
 pub set-stuck-path : {p : Loaded} {d h o q : ℕ} {w : World} {arguments : List Value} {path : MetaPath} {e : Expr MetaPath} {f : EvalFault} {a : List Object} {i : ℕ} {l : List Value} (m : ℕ) (rest : List Statement) → 0 < w.left → a ≡ w.objects → i ≡ o → l ≡ arguments → Finds (path_value a i l path) (Err f) → f ≡ eval.BadType → Breaks p d h w (Body o m arguments (Set path q e ∷ rest) ∷ []) w BadType
@@ -100,8 +100,8 @@ set-stuck-path {p} {o = o} {q = q} {w = w} {arguments = arguments} {path = path}
     let F : EvalFault → Type 0 = λ g. Finds (path_value a i l path) (Err g) in
     let none : (r : Option ℕ) → path_value w.objects o arguments path ≢ Some (value.Ref r) = moved (λ b j k. (r : Option ℕ) → path_value b j k path ≢ Some (value.Ref r)) objects this given (subst F is finds) in
     breaks-stuck some (λ below t r.
-        let s : State = at w (Body o m arguments (Set path q e ∷ rest) ∷ below) in
-        not-object (SetAct p s o m arguments rest below t q e) (t ≡ on_null s (Body o m arguments rest ∷ below)) (path_value w.objects o arguments path) none (rule-set p w o m arguments path q e rest below t r))
+    let s : State = at w (Body o m arguments (Set path q e ∷ rest) ∷ below) in
+    not-object (SetAct p s o m arguments rest below t q e) (t ≡ on_null s (Body o m arguments rest ∷ below)) (path_value w.objects o arguments path) none (rule-set p w o m arguments path q e rest below t r))
 
 -- the expression has no value
 pub set-stuck-value : {p : Loaded} {d h o q x : ℕ} {w : World} {arguments : List Value} {path : MetaPath} {e : Expr MetaPath} {f : EvalFault} {a : List Object} {i : ℕ} {l : List Value} (m : ℕ) (rest : List Statement) → 0 < w.left → path_value w.objects o arguments path ≡ Some (value.Ref (Some x)) → a ≡ w.objects → i ≡ o → l ≡ arguments → Evaluates (value_of a i l e) (Err f) → f ≡ eval.BadType → Breaks p d h w (Body o m arguments (Set path q e ∷ rest) ∷ []) w BadType
@@ -109,10 +109,10 @@ set-stuck-value {p} {o = o} {q = q} {w = w} {arguments = arguments} {path = path
     let F : EvalFault → Type 0 = λ g. Evaluates (value_of a i l e) (Err g) in
     let none : value_of w.objects o arguments e ≡ None = moved (λ b j k. value_of b j k e ≡ None) objects this given (subst F is evaluates) in
     breaks-stuck some (λ below t r.
-        let s : State = at w (Body o m arguments (Set path q e ∷ rest) ∷ below) in
-        let q3 = of-object (SetAct p s o m arguments rest below t q e) (t ≡ on_null s (Body o m arguments rest ∷ below)) found (rule-set p w o m arguments path q e rest below t r) in
-        let both : None ≡ Some q3.0 = sym none ∙ q3.1 in
-        absurd (cc both))
+    let s : State = at w (Body o m arguments (Set path q e ∷ rest) ∷ below) in
+    let q3 = of-object (SetAct p s o m arguments rest below t q e) (t ≡ on_null s (Body o m arguments rest ∷ below)) found (rule-set p w o m arguments path q e rest below t r) in
+    let both : None ≡ Some q3.0 = sym none ∙ q3.1 in
+    absurd (cc both))
 
 -- ---- `emit`
 
@@ -146,9 +146,9 @@ emit-stuck {p} {o = o} {g = g} {w = w} {arguments = arguments} {es = es} {a = a}
     let F : EvalFault → Type 0 = λ k. EvaluatesAll (values_of a i l es) (Err k) in
     let none : values_of w.objects o arguments es ≡ None = moved (λ b j k. values_of b j k es ≡ None) objects this given (subst F is evaluates) in
     breaks-stuck some (λ below t r.
-        let q = rule-emit p w o m arguments g es rest below t r in
-        let both : None ≡ Some q.0 = sym none ∙ q.1 in
-        absurd (cc both))
+    let q = rule-emit p w o m arguments g es rest below t r in
+    let both : None ≡ Some q.0 = sym none ∙ q.1 in
+    absurd (cc both))
 
 -- ---- `call`
 
@@ -188,31 +188,31 @@ call-only {p} {w} {o} {n} {x} {arguments} {given} {path} {es} m rest found gives
 pub call-null : {p : Loaded} {d h o n : ℕ} {w v : World} {arguments : List Value} {path : MetaPath} {es : List (Expr MetaPath)} {r : Result (Unit {0}) Fault} (m : ℕ) (rest : List Statement) → path_value w.objects o arguments path ≡ Some (value.Ref None) → h < d → AreTyped p w.objects → 0 < w.left → Notes w (noted w (OnNull (h + 1))) v r → Ends p d h w (Body o m arguments (Call path n es ∷ rest) ∷ []) v (Body o m arguments rest ∷ []) r
 call-null {p} {d} {h} {o} {n} {w} {v} {arguments} {path} {es} {r} m rest found room typed some x =
     ends-noted (noted w (OnNull (h + 1))) r
-      (λ below k.
-          let s : State = at w (Body o m arguments (Call path n es ∷ rest) ∷ below) in
-          let t : State = at (noted w (OnNull (h + 1))) (Body o m arguments rest ∷ below) in
-          let depth_is : h + 1 ≡ suc (length below) = omega (arith, k) in
-          let null_is : t ≡ on_null s (Body o m arguments rest ∷ below) = ap (λ (i : ℕ). at (noted w (OnNull i)) (Body o m arguments rest ∷ below)) depth_is in
-          call-rule p w o m arguments path n es rest below t (at-null (CallAct p s o m arguments rest below t n es) (t ≡ on_null s (Body o m arguments rest ∷ below)) found null_is))
-      room typed refl some x
+    (λ below k.
+    let s : State = at w (Body o m arguments (Call path n es ∷ rest) ∷ below) in
+    let t : State = at (noted w (OnNull (h + 1))) (Body o m arguments rest ∷ below) in
+    let depth_is : h + 1 ≡ suc (length below) = omega (arith, k) in
+    let null_is : t ≡ on_null s (Body o m arguments rest ∷ below) = ap (λ (i : ℕ). at (noted w (OnNull i)) (Body o m arguments rest ∷ below)) depth_is in
+    call-rule p w o m arguments path n es rest below t (at-null (CallAct p s o m arguments rest below t n es) (t ≡ on_null s (Body o m arguments rest ∷ below)) found null_is))
+    room typed refl some x
 
 pub call-stuck-path : {p : Loaded} {d h o n : ℕ} {w : World} {arguments : List Value} {path : MetaPath} {es : List (Expr MetaPath)} {f : EvalFault} {a : List Object} {i : ℕ} {l : List Value} (m : ℕ) (rest : List Statement) → 0 < w.left → a ≡ w.objects → i ≡ o → l ≡ arguments → Finds (path_value a i l path) (Err f) → f ≡ eval.BadType → Breaks p d h w (Body o m arguments (Call path n es ∷ rest) ∷ []) w BadType
 call-stuck-path {p} {o = o} {n = n} {w = w} {arguments = arguments} {path = path} {es = es} {a = a} {i = i} {l = l} m rest some objects this given finds is =
     let F : EvalFault → Type 0 = λ g. Finds (path_value a i l path) (Err g) in
     let none : (r : Option ℕ) → path_value w.objects o arguments path ≢ Some (value.Ref r) = moved (λ b j k. (r : Option ℕ) → path_value b j k path ≢ Some (value.Ref r)) objects this given (subst F is finds) in
     breaks-stuck some (λ below t r.
-        let s : State = at w (Body o m arguments (Call path n es ∷ rest) ∷ below) in
-        not-object (CallAct p s o m arguments rest below t n es) (t ≡ on_null s (Body o m arguments rest ∷ below)) (path_value w.objects o arguments path) none (rule-call p w o m arguments path n es rest below t r))
+    let s : State = at w (Body o m arguments (Call path n es ∷ rest) ∷ below) in
+    not-object (CallAct p s o m arguments rest below t n es) (t ≡ on_null s (Body o m arguments rest ∷ below)) (path_value w.objects o arguments path) none (rule-call p w o m arguments path n es rest below t r))
 
 pub call-stuck-values : {p : Loaded} {d h o n x : ℕ} {w : World} {arguments : List Value} {path : MetaPath} {es : List (Expr MetaPath)} {f : EvalFault} {a : List Object} {i : ℕ} {l : List Value} (m : ℕ) (rest : List Statement) → 0 < w.left → path_value w.objects o arguments path ≡ Some (value.Ref (Some x)) → a ≡ w.objects → i ≡ o → l ≡ arguments → EvaluatesAll (values_of a i l es) (Err f) → f ≡ eval.BadType → Breaks p d h w (Body o m arguments (Call path n es ∷ rest) ∷ []) w BadType
 call-stuck-values {p} {o = o} {n = n} {w = w} {arguments = arguments} {path = path} {es = es} {a = a} {i = i} {l = l} m rest some found objects this given evaluates is =
     let F : EvalFault → Type 0 = λ g. EvaluatesAll (values_of a i l es) (Err g) in
     let none : values_of w.objects o arguments es ≡ None = moved (λ b j k. values_of b j k es ≡ None) objects this given (subst F is evaluates) in
     breaks-stuck some (λ below t r.
-        let s : State = at w (Body o m arguments (Call path n es ∷ rest) ∷ below) in
-        let q = of-object (CallAct p s o m arguments rest below t n es) (t ≡ on_null s (Body o m arguments rest ∷ below)) found (rule-call p w o m arguments path n es rest below t r) in
-        let both : None ≡ Some q.0 = sym none ∙ q.1 in
-        absurd (cc both))
+    let s : State = at w (Body o m arguments (Call path n es ∷ rest) ∷ below) in
+    let q = of-object (CallAct p s o m arguments rest below t n es) (t ≡ on_null s (Body o m arguments rest ∷ below)) found (rule-call p w o m arguments path n es rest below t r) in
+    let both : None ≡ Some q.0 = sym none ∙ q.1 in
+    absurd (cc both))
 
 -- ---- `if`
 
@@ -239,7 +239,7 @@ if-goes {p} {d} {h} {o} {w} {v} {arguments} {e} {chosen} {holds} block other m r
     let chooses : Chooses (value_of w.objects o arguments e) block other (chosen_of holds block other) = subst F (sym gives) (chooses-is holds block other) in
     let Chosen : List Statement → Type 0 = λ l. Goes p d h w (Body o m arguments (If e block other ∷ rest) ∷ []) v (Body o m arguments (l ++ rest) ∷ []) in
     let went : Chosen (chosen_of holds block other) =
-      goes-ticked {b = Body o m arguments (chosen_of holds block other ++ rest) ∷ []} (λ below k. if-rule p w o m arguments e block other rest below _ (chosen_of holds block other, chooses, refl)) (omega arith) room typed x in
+    goes-ticked {b = Body o m arguments (chosen_of holds block other ++ rest) ∷ []} (λ below k. if-rule p w o m arguments e block other rest below _ (chosen_of holds block other, chooses, refl)) (omega arith) room typed x in
     subst Chosen (sym chosen_is) went
 
 not-chosen : (found : Option Value) (block other chosen : List Statement) → ((b : Bool) → found ≢ Some (value.Bool b)) → ¬ Chooses found block other chosen

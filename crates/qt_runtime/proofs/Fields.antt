@@ -126,10 +126,10 @@ typed-written {p} {objects} {o} {q} {x} {property} {new} f typed has = λ k y is
     elim (set-other objects o k (written x q new) y is) as (λ r. IsTyped p after y) [
       | inl a ↦ subst (λ (z : Object). IsTyped p after z) (sym a.0) at_written
       | inr b ↦ (let t = typed k y b in record {
-          class = t.class;
-          is_class = t.is_class;
-          typed = subst (λ (c : ℕ → Option ℕ). HaveTypes p c y.values (map kind_of t.class.properties)) classes t.typed;
-        })
+        class = t.class;
+        is_class = t.is_class;
+        typed = subst (λ (c : ℕ → Option ℕ). HaveTypes p c y.values (map kind_of t.class.properties)) classes t.typed;
+      })
     ]
 
 -- a value that is written and stays of its type had it
@@ -138,7 +138,7 @@ written-typed {p} {objects} {o} {q} {x} {property} {new} f typed after =
     let old = old-there f typed in
     let t = after o (written x q new) (set-get objects o x (written x q new) f.is_object) in
     let kinds : HaveTypes p (class_of (slice_set objects o (written x q new))) (slice_set x.values q new) (map kind_of f.class.properties) =
-      subst (λ (c : MetaObject). HaveTypes p (class_of (slice_set objects o (written x q new))) (slice_set x.values q new) (map kind_of c.properties)) (class-unique t.is_class f.is_class) t.typed in
+    subst (λ (c : MetaObject). HaveTypes p (class_of (slice_set objects o (written x q new))) (slice_set x.values q new) (map kind_of c.properties)) (class-unique t.is_class f.is_class) t.typed in
     let has = types-get p _ _ _ q new property.kind kinds (set-get x.values q old.0 new old.1) (map-get kind_of f.class.properties q property f.is_property) in
     subst (λ (c : ℕ → Option ℕ). Has p c new property.kind) (classes-written new f) has
 

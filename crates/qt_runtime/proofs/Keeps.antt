@@ -63,13 +63,13 @@ on-object Act Nothing K None act nothing r = absurd r
 statement-kept : (p : Loaded) (s : State) (o m : ℕ) (arguments : List Value) (rest : List Statement) (below : List Activation) (t : State) (x : layer.Statement-F Statement) → StatementRule p s o m arguments rest below t x → Kept s t
 statement-kept p s o m arguments rest below t (layer.Set path q e) r =
     on-object (λ x. (new : Value) × (value_of s.objects o arguments e ≡ Some new) × Writes p s (Body o m arguments rest ∷ below) x q new t)
-      (t ≡ on_null s (Body o m arguments rest ∷ below)) (Kept s t) (path_value s.objects o arguments path)
-      (λ x w. writes-kept w.2) (λ e. kept-is e (record { objects = refl; connections = refl; connected = refl; events = refl })) r
+    (t ≡ on_null s (Body o m arguments rest ∷ below)) (Kept s t) (path_value s.objects o arguments path)
+    (λ x w. writes-kept w.2) (λ e. kept-is e (record { objects = refl; connections = refl; connected = refl; events = refl })) r
 statement-kept p s o m arguments rest below t (layer.Emit g es) r = begins-kept r.2
 statement-kept p s o m arguments rest below t (layer.Call path n es) r =
     on-object (λ x. (given : List Value) × (values_of s.objects o arguments es ≡ Some given) × Begins p s (Body o m arguments rest ∷ below) x n given t)
-      (t ≡ on_null s (Body o m arguments rest ∷ below)) (Kept s t) (path_value s.objects o arguments path)
-      (λ x w. begins-kept w.2) (λ e. kept-is e (record { objects = refl; connections = refl; connected = refl; events = refl })) r
+    (t ≡ on_null s (Body o m arguments rest ∷ below)) (Kept s t) (path_value s.objects o arguments path)
+    (λ x w. begins-kept w.2) (λ e. kept-is e (record { objects = refl; connections = refl; connected = refl; events = refl })) r
 statement-kept p s o m arguments rest below t (layer.If e block other) r = kept-is r.2 (record { objects = refl; connections = refl; connected = refl; events = refl })
 
 body-kept : (p : Loaded) (s : State) (o m : ℕ) (arguments : List Value) (below : List Activation) (t : State) (left : List Statement) → BodyRule p s o m arguments below t left → Kept s t
@@ -112,7 +112,6 @@ pub some-stack : (h : ℕ) → (below : List Activation) × (length below ≡ h)
 some-stack zero = ([], refl)
 some-stack (suc h) = let q = some-stack h in (Update [] ∷ q.0, ap suc q.1)
 
-
 pub goes-same-world : {p : Loaded} {d h : ℕ} {w v : World} {a b : List Activation} → Goes p d h w a v b → Same w v
 goes-same-world {h = h} {w = w} {v = v} x =
     let q = some-stack h in
@@ -142,9 +141,9 @@ ends-typed {h = h} (Err f) x typed = let q = some-stack h in runs-typed ((x.case
 joined-still : {p : Loaded} {old new : List Object} (c : Connection) → shapes_of new ≡ shapes_of old → Joined p old c → Joined p new c
 joined-still {p} {old} {new} c same j =
     let at_new : (o : ℕ) (x : Object) → slice_get old o ≡ Some x → (y : Object) × (slice_get new o ≡ Some y) × (y.class ≡ x.class) = λ o x is.
-        let moved : slice_get (shapes_of new) o ≡ Some _ = ap (λ (l : List Shape). slice_get l o) same ∙ shape-of-there old o x is in
-        let q = shape-there new o _ moved in
-        (q.0, q.1, ap (λ (a : Shape). a.class) q.2) in
+    let moved : slice_get (shapes_of new) o ≡ Some _ = ap (λ (l : List Shape). slice_get l o) same ∙ shape-of-there old o x is in
+    let q = shape-there new o _ moved in
+    (q.0, q.1, ap (λ (a : Shape). a.class) q.2) in
     let sender = at_new c.sender j.sender j.is_sender in
     let receiver = at_new c.receiver j.receiver j.is_receiver in
     let Signals : ℕ → Type 0 = λ k. IsMethod p k c.signal j.signal in

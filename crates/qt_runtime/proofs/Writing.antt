@@ -43,7 +43,7 @@ abbrev pub written_world : World → ℕ → ℕ → Object → ℕ → MetaProp
 written_world w depth o x q property new = set_in w (Written depth x.name property.name (shown w.objects new)) o x q new
 
 writes-there : {p : Loaded} {h o q : ℕ} {x : Object} {property : MetaProperty} {new old : Value} {result : Option ℕ} (w : World) (from to : Activation) (below : List Activation) → (f : IsField p w.objects o q x property) → slice_get x.values q ≡ Some old → Changes old new property.notify result → length below ≡ h →
-  Writes p (at w (from ∷ below)) (to ∷ below) o q new (at (written_world w (h + 2) o x q property new) (Update (places_of o q result) ∷ to ∷ below))
+    Writes p (at w (from ∷ below)) (to ∷ below) o q new (at (written_world w (h + 2) o x q property new) (Update (places_of o q result) ∷ to ∷ below))
 writes-there {h = h} {o = o} {q = q} {x = x} {property = property} {new = new} {old = old} {result = result} w from to below f is_old changes e =
     let depth_is : h + 2 ≡ suc (suc (length below)) = omega (arith, e) in
     let with_depth : ℕ → State = λ n. at (written_world w n o x q property new) (Update (places_of o q result) ∷ to ∷ below) in
@@ -63,23 +63,23 @@ writes-there {h = h} {o = o} {q = q} {x = x} {property = property} {new = new} {
 
 -- a property is written, and its update runs
 pub ends-written : {p : Loaded} {d h o q : ℕ} {w v u : World} {from to : Activation} {x : Object} {property : MetaProperty} {new : Value} {entry : Entry} {result : Option ℕ} {r : Result (Unit {0}) Fault} →
-  Sets p w from to o q new → (f : IsField p w.objects o q x property) → AreTyped p w.objects → Has p (class_of w.objects) new property.kind → h + 1 < d → 0 < w.left →
-  ((old : Value) → slice_get x.values q ≡ Some old → Changes old new property.notify result) →
-  entry ≡ Written (h + 2) x.name property.name (shown w.objects new) → v ≡ set_in w entry o x q new →
-  Ends p d (h + 1) v (Update (places_of o q result) ∷ []) u [] r → Ends p d h w (from ∷ []) u (to ∷ []) r
+    Sets p w from to o q new → (f : IsField p w.objects o q x property) → AreTyped p w.objects → Has p (class_of w.objects) new property.kind → h + 1 < d → 0 < w.left →
+    ((old : Value) → slice_get x.values q ≡ Some old → Changes old new property.notify result) →
+    entry ≡ Written (h + 2) x.name property.name (shown w.objects new) → v ≡ set_in w entry o x q new →
+    Ends p d (h + 1) v (Update (places_of o q result) ∷ []) u [] r → Ends p d h w (from ∷ []) u (to ∷ []) r
 ends-written {p} {d} {h} {o} {q} {w} {v} {u} {from} {to} {x} {property} {new} {entry} {result} {r} sets f typed has room some changes entry_is v_is rest =
     let old = old-there f typed in
     let target : World = written_world w (h + 2) o x q property new in
     let target_is : v ≡ target = v_is ∙ ap (λ (e : Entry). set_in w e o x q new) entry_is in
     let Family : World → Type 0 = λ k. Goes p d h w (from ∷ []) k (Update (places_of o q result) ∷ to ∷ []) in
     let went : Goes p d h w (from ∷ []) target (Update (places_of o q result) ∷ to ∷ []) =
-      goes-high (λ below e. sets.gives below _ (writes-there w from to below f old.1 (changes old.0 old.1) e)) (λ below. tt) room (typed-written f typed has) refl some in
+    goes-high (λ below e. sets.gives below _ (writes-there w from to below f old.1 (changes old.0 old.1) e)) (λ below. tt) room (typed-written f typed has) refl some in
     ends-after (subst Family (sym target_is) went) (ends-lifted rest)
 
 -- activations would nest too deep
 pub breaks-write-deep : {p : Loaded} {d h o q : ℕ} {w : World} {from to : Activation} {x : Object} {property : MetaProperty} {new : Value} {result : Option ℕ} →
-  Sets p w from to o q new → (f : IsField p w.objects o q x property) → AreTyped p w.objects → Has p (class_of w.objects) new property.kind → 0 < w.left → d ≡ h + 1 →
-  ((old : Value) → slice_get x.values q ≡ Some old → Changes old new property.notify result) → Breaks p d h w (from ∷ []) w TooDeep
+    Sets p w from to o q new → (f : IsField p w.objects o q x property) → AreTyped p w.objects → Has p (class_of w.objects) new property.kind → 0 < w.left → d ≡ h + 1 →
+    ((old : Value) → slice_get x.values q ≡ Some old → Changes old new property.notify result) → Breaks p d h w (from ∷ []) w TooDeep
 breaks-write-deep {h = h} {o = o} {q = q} {w = w} {from = from} {to = to} {x = x} {property = property} {new = new} {result = result} sets f typed has some deep changes =
     let old = old-there f typed in
     let change = changes old.0 old.1 in
@@ -87,14 +87,14 @@ breaks-write-deep {h = h} {o = o} {q = q} {w = w} {from = from} {to = to} {x = x
 
 -- the value isn't of the property's type
 pub breaks-write-ill : {p : Loaded} {d h o q : ℕ} {w : World} {from to : Activation} {x : Object} {property : MetaProperty} {new : Value} {result : Option ℕ} →
-  Sets p w from to o q new → (f : IsField p w.objects o q x property) → AreTyped p w.objects → (¬ Has p (class_of w.objects) new property.kind) → 0 < w.left →
-  ((old : Value) → slice_get x.values q ≡ Some old → Changes old new property.notify result) → Breaks p d h w (from ∷ []) w BadType
+    Sets p w from to o q new → (f : IsField p w.objects o q x property) → AreTyped p w.objects → (¬ Has p (class_of w.objects) new property.kind) → 0 < w.left →
+    ((old : Value) → slice_get x.values q ≡ Some old → Changes old new property.notify result) → Breaks p d h w (from ∷ []) w BadType
 breaks-write-ill {p} {o = o} {q = q} {w = w} {from = from} {to = to} {x = x} {property = property} {new = new} {result = result} sets f typed ill some changes =
     let old = old-there f typed in
     let change = changes old.0 old.1 in
     breaks-ill some (λ below.
-        let t : State = at (written_world w (length below + 2) o x q property new) (Update (places_of o q result) ∷ to ∷ below) in
-        (t, sets.gives below t (writes-there w from to below f old.1 change refl), λ (well : IsWell p (at w (from ∷ below)) t). ill (written-typed f typed well.values)))
+    let t : State = at (written_world w (length below + 2) o x q property new) (Update (places_of o q result) ∷ to ∷ below) in
+    (t, sets.gives below t (writes-there w from to below f old.1 change refl), λ (well : IsWell p (at w (from ∷ below)) t). ill (written-typed f typed well.values)))
 
 -- there is no such property
 pub breaks-no-field : {p : Loaded} {d h o q : ℕ} {w : World} {from to : Activation} {new : Value} → Sets p w from to o q new → ((x : Object) (property : MetaProperty) → ¬ IsField p w.objects o q x property) → 0 < w.left → Breaks p d h w (from ∷ []) w BadType

@@ -115,12 +115,12 @@ Chooses None block other chosen = ⊥
 abbrev pub StatementRule : Loaded → State → ℕ → ℕ → List Value → List Statement → List Activation → State → layer.Statement-F Statement → Type 0
 StatementRule p s o m arguments rest below t (layer.Set path q e) =
     OnObject (λ x. (new : Value) × (value_of s.objects o arguments e ≡ Some new) × Writes p s (Body o m arguments rest ∷ below) x q new t)
-      (t ≡ on_null s (Body o m arguments rest ∷ below)) (path_value s.objects o arguments path)
+    (t ≡ on_null s (Body o m arguments rest ∷ below)) (path_value s.objects o arguments path)
 StatementRule p s o m arguments rest below t (layer.Emit g es) =
     (given : List Value) × (values_of s.objects o arguments es ≡ Some given) × Begins p s (Body o m arguments rest ∷ below) o g given t
 StatementRule p s o m arguments rest below t (layer.Call path n es) =
     OnObject (λ x. (given : List Value) × (values_of s.objects o arguments es ≡ Some given) × Begins p s (Body o m arguments rest ∷ below) x n given t)
-      (t ≡ on_null s (Body o m arguments rest ∷ below)) (path_value s.objects o arguments path)
+    (t ≡ on_null s (Body o m arguments rest ∷ below)) (path_value s.objects o arguments path)
 StatementRule p s o m arguments rest below t (layer.If e block other) =
     (chosen : List Statement) × Chooses (value_of s.objects o arguments e) block other chosen
     × (t ≡ record s { stack = Body o m arguments (chosen ++ rest) ∷ below })

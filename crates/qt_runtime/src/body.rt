@@ -79,7 +79,15 @@ impl Setting {
                 self.run_emit(world, height, object, arguments, *signal, given.as_slice())
             }
             Statement::Call(path, method, given) => {
-                self.run_call(world, height, object, arguments, path, *method, given.as_slice())
+                self.run_call(
+                    world,
+                    height,
+                    object,
+                    arguments,
+                    path,
+                    *method,
+                    given.as_slice(),
+                )
             }
             Statement::If(condition, block, other) => {
                 let (block, other) = (block.as_slice(), other.as_slice());

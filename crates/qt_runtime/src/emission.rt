@@ -84,7 +84,12 @@ impl Setting {
         let Some((_, declared)) = self.member(world, object, method) else {
             return Err(Fault::BadType);
         };
-        if !have_types(&self.meta, &world.objects, arguments, declared.kinds.as_slice()) {
+        if !have_types(
+            &self.meta,
+            &world.objects,
+            arguments,
+            declared.kinds.as_slice(),
+        ) {
             return Err(Fault::BadType);
         }
         self.begin(world, height, object, method, arguments)
@@ -116,7 +121,14 @@ impl Setting {
         match &declared.work {
             Work::Signal => self.run_emission(world, height + 1, object, method, arguments, last),
             Work::Slot(body) => {
-                self.run_body(world, height + 1, object, method, arguments, body.as_slice())
+                self.run_body(
+                    world,
+                    height + 1,
+                    object,
+                    method,
+                    arguments,
+                    body.as_slice(),
+                )
             }
         }
     }

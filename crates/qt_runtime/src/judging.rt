@@ -14,8 +14,8 @@ ghost use Rattle.qt_runtime.specs.Events.{MayBeEmitted, named_signal};
 ghost use Rattle.qt_runtime.specs.Taking.{IsJoint, IsFound};
 
 use crate::setting::Setting;
-use crate::world::World;
 use crate::typing::have_types;
+use crate::world::World;
 use meta_objects::{MetaMethod, Wired, Work};
 use script_lang::{Connect, Event};
 use signatures::{Kind, Name, Sig, Value};

@@ -105,7 +105,9 @@ impl<'w> Scope<'w> {
                 let value = default(self.alloc, step.kind)?;
                 Ok(value)
             }
-            Value::Ref(Some(object)) => copy_found(self.objects.stored(object.number(), step.property)),
+            Value::Ref(Some(object)) => copy_found(
+                self.objects.stored(object.number(), step.property),
+            ),
             _ => Err(EvalFault::BadType),
         }
     }

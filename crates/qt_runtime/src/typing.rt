@@ -30,9 +30,7 @@ pub fn have_types(meta: &Meta, objects: &Objects, values: &[Value], kinds: &[Val
 pub fn begin_well(meta: &Meta, objects: &Objects, properties: &[MetaProperty]) -> bool
     ensures { IsTrue result ↔ All (λ q. Has meta.now (class_of objects.now) q.initial q.kind) properties.now }
 {
-    properties
-        .iter()
-        .all(|property| has_type(meta, objects, &property.initial, property.kind))
+    properties.iter().all(|property| has_type(meta, objects, &property.initial, property.kind))
 }
 
 /// Whether the value is of the type, for objects of these classes.

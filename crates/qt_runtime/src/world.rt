@@ -54,7 +54,11 @@ impl World {
     pub fn is_due(&self) -> Result<(), Fault>
         ensures { IsLeft self.now result }
     {
-        if self.left == 0 { Err(Fault::Steps) } else { Ok(()) }
+        if self.left == 0 {
+            Err(Fault::Steps)
+        } else {
+            Ok(())
+        }
     }
 
     /// A rule that writes an entry down; without memory nothing changes.
