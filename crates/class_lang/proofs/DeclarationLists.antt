@@ -1,15 +1,15 @@
 -- The declarations of a program, one after another.
 use Rattle.std.proofs.Common.{◌≡◌, List, [], ◌∷◌, refl, sym, ◌∙◌, ap, append_assoc, map, Result, Ok, Err, IfOk, OnOk}
 use Rattle.std.proofs.lemmas.List.{append-nil}
+use Rattle.slot_lang.specs.Lists.{spell_each}
 use Rattle.slot_lang.specs.Reading.{Found, Reads}
 use Rattle.slot_lang.specs.declared.fault.ParseFault.{ParseFault}
 use Rattle.slot_lang.specs.declared.token.Token.{Token}
-use Rattle.class_lang.specs.Lists.{spell_each}
-use Rattle.class_lang.specs.Declarations.{DeclarationReading, a_class, a_wire, spell_declaration, tree_of_declaration, tree_of_program, with_declarations, EndsDeclaration, IsAtEnd, IsProgram}
+use Rattle.class_lang.specs.Declarations.{DeclarationReading, a_class, a_wire, an_owns, spell_declaration, tree_of_declaration, tree_of_program, with_declarations, EndsDeclaration, IsAtEnd, IsProgram}
 use Rattle.class_lang.specs.declared.declarations.Declaration.{Declaration}
 use Rattle.class_lang.specs.declared.declarations.Declaration.TheVariants as declaration
 use Rattle.class_lang.specs.declared.program.Program.{Program}
-use Rattle.class_lang.proofs.Underway.{None, Underway}
+use Rattle.slot_lang.proofs.Underway.{None, Underway}
 
 -- ---- adding declarations one at a time
 
@@ -17,25 +17,25 @@ pub no_declarations : (program : Program) → with_declarations program [] ≡ p
 no_declarations program =
     let c = append-nil program.classes in
     let w = append-nil program.wires in
-    rw (c, w) refl
+    let o = append-nil program.owns in
+    rw (c, w, o) refl
 
 pub one_declaration_more : (program : Program) (d : Declaration) (ds : List Declaration) → with_declarations program (d ∷ ds) ≡ with_declarations (with_declarations program (d ∷ [])) ds
 one_declaration_more program (declaration.Class c) ds = simp (append_assoc, append-nil)
 one_declaration_more program (declaration.Wire w) ds = simp (append_assoc, append-nil)
+one_declaration_more program (declaration.Owns o) ds = simp (append_assoc, append-nil)
 
 -- ---- {declaration}
 
 abbrev pub ProgramSoFar : List Token → Program → List Token → Type 0
 ProgramSoFar before program now = Underway (spell_each spell_declaration) tree_of_program IsAtEnd (spell_each spell_declaration) (λ more program. with_declarations program (map tree_of_declaration more)) before program now
 
-pub program_start : (now : List Token) → ProgramSoFar now (record { classes = []; wires = [] }) now
-program_start now = record { goes_on = λ m rest e. (m, e, refl); all = λ r rest ends e. (r, e) }
-
 -- a declaration's end, within a program
 pub ends_next : (ds : List DeclarationReading) (rest : List Token) → IsAtEnd rest → EndsDeclaration (spell_each spell_declaration ds rest)
 ends_next [] rest at_end after e = cc
 ends_next (a_class c ∷ ds) rest at_end after e = cc
 ends_next (a_wire w ∷ ds) rest at_end after e = cc
+ends_next (an_owns o ∷ ds) rest at_end after e = cc
 
 after_declaration : (ds : List DeclarationReading) (now after rest : List Token) {d : Declaration} → IsAtEnd rest → ¬ (now ≡ []) → Found spell_declaration tree_of_declaration EndsDeclaration now d after → now ≡ spell_each spell_declaration ds rest → (more : List DeclarationReading) × (after ≡ spell_each spell_declaration more rest)
 after_declaration [] now after rest at_end some f g = absurd (some cc)

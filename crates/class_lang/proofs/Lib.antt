@@ -1,5 +1,3 @@
-pub mod Underway
-pub mod Listed
 pub mod Parts
 pub mod Sequences
 pub mod MemberLists

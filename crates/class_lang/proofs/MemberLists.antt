@@ -1,5 +1,5 @@
 -- The members of a class, one after another.
-use Rattle.std.proofs.Common.{◌≡◌, List, [], ◌∷◌, ℕ, refl, ◌∙◌, ap, append_assoc, map}
+use Rattle.std.proofs.Common.{◌≡◌, List, [], ◌∷◌, ℕ, Option, refl, ◌∙◌, ap, append_assoc, map}
 use Rattle.std.proofs.lemmas.List.{append-nil}
 use Rattle.slot_lang.specs.Cursor.{NotAt}
 use Rattle.slot_lang.specs.Reading.{EndsAnywhere, Found}
@@ -11,7 +11,7 @@ use Rattle.class_lang.specs.Declarations.{spell_members, class_of}
 use Rattle.class_lang.specs.declared.members.Member.{Member}
 use Rattle.class_lang.specs.declared.members.Member.TheVariants as member
 use Rattle.class_lang.specs.declared.program.Class.{Class}
-use Rattle.class_lang.proofs.Underway.{None, Underway}
+use Rattle.slot_lang.proofs.Underway.{None, Underway}
 
 -- ---- adding members one at a time
 
@@ -29,11 +29,8 @@ one_member_more class (member.Slot s) ms = simp (append_assoc, append-nil)
 
 -- ---- {member} "}"
 
-abbrev pub MembersSoFar : List ℕ → List Token → Class → List Token → Type 0
-MembersSoFar name before class now = Underway spell_members (class_of name) EndsAnywhere spell_members (λ more class. with_members class (map tree_of_member more)) before class now
-
-pub members_start : (name : List ℕ) (now : List Token) → MembersSoFar name now (record { name = name; properties = []; signals = []; slots = [] }) now
-members_start name now = record { goes_on = λ m rest e. (m, e, refl); all = λ r rest ends e. (r, e) }
+abbrev pub MembersSoFar : List ℕ → Option (List ℕ) → List Token → Class → List Token → Type 0
+MembersSoFar name base before class now = Underway spell_members (class_of name base) EndsAnywhere spell_members (λ more class. with_members class (map tree_of_member more)) before class now
 
 after_member : (ms : List MemberReading) (now after rest : List Token) {m : Member} → NotAt CloseBrace now → Found spell_member tree_of_member EndsAnywhere now m after → now ≡ spell_members ms rest → (more : List MemberReading) × (after ≡ spell_members more rest)
 after_member [] now after rest unclosed f g = absurd (unclosed rest g)
@@ -49,8 +46,8 @@ closed (a_property p ∷ ms) now after rest e g = cc
 closed (a_signal s ∷ ms) now after rest e g = cc
 closed (a_slot s ∷ ms) now after rest e g = cc
 
-module _ {name : List ℕ} {before : List Token} {class : Class} {now : List Token} (h : MembersSoFar name before class now) where
-  pub members_step : {m : Member} {after : List Token} → NotAt CloseBrace now → Found spell_member tree_of_member EndsAnywhere now m after → MembersSoFar name before (with_members class (m ∷ [])) after
+module _ {name : List ℕ} {base : Option (List ℕ)} {before : List Token} {class : Class} {now : List Token} (h : MembersSoFar name base before class now) where
+  pub members_step : {m : Member} {after : List Token} → NotAt CloseBrace now → Found spell_member tree_of_member EndsAnywhere now m after → MembersSoFar name base before (with_members class (m ∷ [])) after
   members_step {m} {after} unclosed f = record {
     goes_on = λ ms rest g.
         let s = f.spelled in
@@ -59,7 +56,7 @@ module _ {name : List ℕ} {before : List Token} {class : Class} {now : List Tok
     all = λ r rest ends g. let w = h.all r rest ends g in after_member w.0 now after rest unclosed f w.1;
   }
 
-  pub members_done : {after : List Token} → now ≡ token.Symbol CloseBrace ∷ after → Found spell_members (class_of name) EndsAnywhere before class after
+  pub members_done : {after : List Token} → now ≡ token.Symbol CloseBrace ∷ after → Found spell_members (class_of name base) EndsAnywhere before class after
   members_done {after} e =
       let w = h.goes_on [] after e in
       record { reading = w.0; spelled = w.1; tree_is = w.2 ∙ no_members class; only = λ r rest ends g. let v = h.all r rest ends g in closed v.0 now after rest e v.1 }

@@ -2,6 +2,7 @@
 use Rattle.std.proofs.Common.{◌≡◌, ◌⊎◌, ℕ, List, inr, Err, refl, IsTrue, false, ◌↔◌}
 use Rattle.slot_lang.specs.Nesting.{IsTooDeep}
 use Rattle.slot_lang.specs.Pieces.{AreTokens}
+use Rattle.slot_lang.specs.Signatures.{HasPlainReference}
 use Rattle.slot_lang.specs.declared.fault.ParseFault.{ParseFault}
 use Rattle.slot_lang.specs.declared.fault.ParseFault.TheVariants as parse
 use Rattle.slot_lang.specs.declared.lexer.LexFault.{LexFault}
@@ -9,7 +10,7 @@ use Rattle.slot_lang.specs.declared.lexer.LexFault.TheVariants as lex
 use Rattle.slot_lang.specs.declared.token.Token.{Token}
 use Rattle.class_lang.specs.Declarations.{IsProgram}
 use Rattle.class_lang.specs.Limits.{HasFewParameters, IsWithinLimits}
-use Rattle.class_lang.specs.Reads.{fault_of_cutting, fault_of_parsing, IsShortText, IsLargeProgram, IsLongText, ReadsProgram}
+use Rattle.class_lang.specs.Reads.{fault_of_cutting, fault_of_parsing, IsShortText, IsProgramText, HasTooManyParameters, IsLargeProgram, IsLongText, ReadsProgram}
 use Rattle.class_lang.specs.declared.program.Program.{Program}
 
 -- what a test that fails tests for doesn't hold
@@ -24,10 +25,12 @@ pub not_parsed : (bytes : List ℕ) (tokens : List Token) (fault : ParseFault) �
 not_parsed bytes tokens parse.Syntax short cut flat refused = record { short = short; tokens = tokens; cut = cut; flat = flat; none = refused refl }
 not_parsed bytes tokens parse.Memory short cut flat refused = tt
 
-pub too_large : (bytes : List ℕ) (tokens : List Token) (program : Program) → IsShortText bytes → AreTokens bytes tokens → ¬ IsTooDeep tokens → IsProgram tokens program → HasFewParameters program → ¬ IsWithinLimits program → IsLongText bytes ⊎ IsLargeProgram bytes
-too_large bytes tokens program short cut flat reads few large = inr (record {
-  program = program;
-  text = record { short = short; tokens = tokens; cut = cut; flat = flat; reads = reads };
-  few = few;
-  large = large;
-})
+module _ (bytes : List ℕ) (tokens : List Token) (program : Program) (short : IsShortText bytes) (cut : AreTokens bytes tokens) (flat : ¬ IsTooDeep tokens) (reads : IsProgram tokens program) (constant : ¬ HasPlainReference tokens) where
+  text : IsProgramText bytes program
+  text = record { short = short; tokens = tokens; cut = cut; flat = flat; reads = reads; constant = constant }
+
+  pub too_many : ¬ HasFewParameters program → HasTooManyParameters bytes
+  too_many many = record { program = program; text = text; many = many }
+
+  pub too_large : HasFewParameters program → ¬ IsWithinLimits program → IsLongText bytes ⊎ IsLargeProgram bytes
+  too_large few large = inr (record { program = program; text = text; few = few; large = large })

@@ -2,27 +2,29 @@
 -- (docs/language.md, "Programs").
 --
 --   program     = {declaration}
---   declaration = "class" class | "wire" wire
---   class       = Name "{" {member} "}" [";"]
+--   declaration = "class" class | "wire" wire | "owns" owns
+--   class       = Name [":" Name] "{" {member} "}" [";"]
 --   wire        = end "->" end kind ";"
 --   end         = Name sig
---   kind        = "direct"
-use Rattle.std.specs.Prelude.{ℕ, ◌≡◌, List, [], ◌∷◌, ◌++◌, map}
+--   owns        = Name Name ";"
+use Rattle.std.specs.Prelude.{ℕ, ◌≡◌, List, [], ◌∷◌, ◌++◌, map, Option}
 use Rattle.signatures.specs.declared.kind.Kind.{Kind}
-use Rattle.signatures.specs.declared.kind.Kind.TheVariants as kind
 use Rattle.signatures.specs.declared.sig.Sig.{Sig}
 use Rattle.slot_lang.specs.Cursor.{NotAt}
-use Rattle.slot_lang.specs.declared.symbol.Symbol.TheVariants.{Semicolon, OpenBrace, CloseBrace, Arrow}
+use Rattle.slot_lang.specs.Lists.{spell_each}
+use Rattle.slot_lang.specs.Reading.{spell_name}
+use Rattle.slot_lang.specs.Signatures.{SigReading, spell_sig, tree_of_sig, spell_kind}
+use Rattle.slot_lang.specs.declared.symbol.Symbol.TheVariants.{Semicolon, Colon, OpenBrace, CloseBrace, Arrow}
 use Rattle.slot_lang.specs.declared.token.Token.{Token}
 use Rattle.slot_lang.specs.declared.token.Token.TheVariants as token
-use Rattle.slot_lang.specs.declared.word.Word.TheVariants as word
-use Rattle.class_lang.specs.Lists.{spell_each}
+use Rattle.signatures.specs.declared.word.Word.TheVariants as word
+use Rattle.class_lang.specs.Optional.{spell_optional}
 use Rattle.class_lang.specs.Members.{MemberReading, spell_member, tree_of_member, properties_in, signals_in, slots_in}
-use Rattle.class_lang.specs.Signatures.{SigReading, spell_sig, tree_of_sig}
 use Rattle.class_lang.specs.declared.declarations.Declaration.{Declaration}
 use Rattle.class_lang.specs.declared.declarations.Declaration.TheVariants as declaration
 use Rattle.class_lang.specs.declared.program.Class.{Class}
 use Rattle.class_lang.specs.declared.program.Wire.{Wire}
+use Rattle.class_lang.specs.declared.program.Owns.{Owns}
 use Rattle.class_lang.specs.declared.program.Program.{Program}
 
 -- [";"]
@@ -38,33 +40,29 @@ spell_ending semicolon after = token.Symbol Semicolon ∷ after
 abbrev pub spell_members : List MemberReading → List Token → List Token
 spell_members members after = spell_each spell_member members (token.Symbol CloseBrace ∷ after)
 
+-- [":" Name]
+abbrev pub spell_base : Option (List ℕ) → List Token → List Token
+spell_base base after = spell_optional (token.Symbol Colon) spell_name base after
+
 pub data ClassReading : Type 0 where
-  class : (name : List ℕ) → List MemberReading → Ending → ClassReading
+  class : (name : List ℕ) → (base : Option (List ℕ)) → List MemberReading → Ending → ClassReading
 
 abbrev pub spell_class : ClassReading → List Token → List Token
-spell_class (class name members ending) after =
-    token.Name name ∷ token.Symbol OpenBrace ∷ spell_members members (spell_ending ending after)
+spell_class (class name base members ending) after =
+    token.Name name ∷ spell_base base (token.Symbol OpenBrace ∷ spell_members members (spell_ending ending after))
 
 -- the members of each sort in their order
-abbrev pub class_of : List ℕ → List MemberReading → Class
-class_of name members = record {
+abbrev pub class_of : List ℕ → Option (List ℕ) → List MemberReading → Class
+class_of name base members = record {
   name = name;
+  base = base;
   properties = properties_in (map tree_of_member members);
   signals = signals_in (map tree_of_member members);
   slots = slots_in (map tree_of_member members);
 }
 
 abbrev pub tree_of_class : ClassReading → Class
-tree_of_class (class name members ending) = class_of name members
-
-pub data KindReading : Type 0 where
-  direct : KindReading
-
-abbrev pub spell_kind : KindReading → List Token → List Token
-spell_kind direct after = token.Word word.Direct ∷ after
-
-abbrev pub tree_of_kind : KindReading → Kind
-tree_of_kind direct = kind.Direct
+tree_of_class (class name base members ending) = class_of name base members
 
 -- a class and a method of it
 pub data EndReading : Type 0 where
@@ -77,32 +75,45 @@ abbrev pub tree_of_end : EndReading → List ℕ × Sig
 tree_of_end (end owner s) = (owner, tree_of_sig s)
 
 pub data WireReading : Type 0 where
-  wire : (sender receiver : EndReading) → KindReading → WireReading
+  wire : (sender receiver : EndReading) → Kind → WireReading
 
 abbrev pub spell_wire : WireReading → List Token → List Token
-spell_wire (wire sender receiver k) after =
-    spell_end sender (token.Symbol Arrow ∷ spell_end receiver (spell_kind k (token.Symbol Semicolon ∷ after)))
+spell_wire (wire sender receiver kind) after =
+    spell_end sender (token.Symbol Arrow ∷ spell_end receiver (spell_kind kind (token.Symbol Semicolon ∷ after)))
 
 abbrev pub tree_of_wire : WireReading → Wire
-tree_of_wire (wire sender receiver k) = record {
+tree_of_wire (wire sender receiver kind) = record {
   sender = (tree_of_end sender).0;
   signal = (tree_of_end sender).1;
   receiver = (tree_of_end receiver).0;
   method = (tree_of_end receiver).1;
-  kind = tree_of_kind k;
+  kind = kind;
 }
+
+-- a class of parents and one of children
+pub data OwnsReading : Type 0 where
+  owns : (parent child : List ℕ) → OwnsReading
+
+abbrev pub spell_owns : OwnsReading → List Token → List Token
+spell_owns (owns parent child) after = token.Name parent ∷ token.Name child ∷ token.Symbol Semicolon ∷ after
+
+abbrev pub tree_of_owns : OwnsReading → Owns
+tree_of_owns (owns parent child) = record { parent = parent; child = child }
 
 pub data DeclarationReading : Type 0 where
   a_class : ClassReading → DeclarationReading
   a_wire : WireReading → DeclarationReading
+  an_owns : OwnsReading → DeclarationReading
 
 abbrev pub spell_declaration : DeclarationReading → List Token → List Token
 spell_declaration (a_class c) after = token.Word word.Class ∷ spell_class c after
 spell_declaration (a_wire w) after = token.Word word.Wire ∷ spell_wire w after
+spell_declaration (an_owns o) after = token.Word word.Owns ∷ spell_owns o after
 
 abbrev pub tree_of_declaration : DeclarationReading → Declaration
 tree_of_declaration (a_class c) = declaration.Class (tree_of_class c)
 tree_of_declaration (a_wire w) = declaration.Wire (tree_of_wire w)
+tree_of_declaration (an_owns o) = declaration.Owns (tree_of_owns o)
 
 -- no semicolon comes next, with which a class would go on
 abbrev pub EndsDeclaration : List Token → Type 0
@@ -118,23 +129,33 @@ abbrev pub classes_in : List Declaration → List Class
 classes_in [] = []
 classes_in (declaration.Class c ∷ declarations) = c ∷ classes_in declarations
 classes_in (declaration.Wire w ∷ declarations) = classes_in declarations
+classes_in (declaration.Owns o ∷ declarations) = classes_in declarations
 
 abbrev pub wires_in : List Declaration → List Wire
 wires_in [] = []
 wires_in (declaration.Class c ∷ declarations) = wires_in declarations
 wires_in (declaration.Wire w ∷ declarations) = w ∷ wires_in declarations
+wires_in (declaration.Owns o ∷ declarations) = wires_in declarations
+
+abbrev pub owns_in : List Declaration → List Owns
+owns_in [] = []
+owns_in (declaration.Class c ∷ declarations) = owns_in declarations
+owns_in (declaration.Wire w ∷ declarations) = owns_in declarations
+owns_in (declaration.Owns o ∷ declarations) = o ∷ owns_in declarations
 
 -- the program, with these declarations after its own
 abbrev pub with_declarations : Program → List Declaration → Program
 with_declarations program declarations = record {
   classes = program.classes ++ classes_in declarations;
   wires = program.wires ++ wires_in declarations;
+  owns = program.owns ++ owns_in declarations;
 }
 
 abbrev pub tree_of_program : List DeclarationReading → Program
 tree_of_program declarations = record {
   classes = classes_in (map tree_of_declaration declarations);
   wires = wires_in (map tree_of_declaration declarations);
+  owns = owns_in (map tree_of_declaration declarations);
 }
 
 -- the tokens are this program

@@ -1,5 +1,6 @@
 -- How large programs may be (docs/language.md, "Limits").
-use Rattle.std.specs.Prelude.{ℕ, ◌+◌, ◌≤◌, length, All}
+use Rattle.std.specs.Prelude.{ℕ, ◌+◌, ◌≤◌, length, All, IfSome}
+use Rattle.signatures.specs.declared.sig.Sig.{Sig}
 use Rattle.class_lang.specs.declared.program.Class.{Class}
 use Rattle.class_lang.specs.declared.program.Wire.{Wire}
 use Rattle.class_lang.specs.declared.program.Program.{Program}
@@ -28,17 +29,25 @@ most_properties = 32
 abbrev pub most_wires : ℕ
 most_wires = 1000
 
--- no signal and no slot of the class has more parameters than a signature may have
+-- declarations of ownership of a program
+abbrev pub most_owns : ℕ
+most_owns = 1000
+
+abbrev pub HasFewTypes : Sig → Type 0
+HasFewTypes sig = length sig.types ≤ most_parameters
+
+-- no signature of the class has more parameters than one may have
 unfoldable pub ClassHasFewParameters : Class → Type 0
 ClassHasFewParameters class =
-    All (λ signal. length signal.parameters ≤ most_parameters) class.signals
+    All (λ property. IfSome property.notify HasFewTypes) class.properties
+    × All (λ signal. length signal.parameters ≤ most_parameters) class.signals
     × All (λ slot. length slot.parameters ≤ most_parameters) class.slots
 
 pub record WireHasFewParameters (wire : Wire) : Type 0 where
-  pub signal : length wire.signal.types ≤ most_parameters
-  pub method : length wire.method.types ≤ most_parameters
+  pub signal : HasFewTypes wire.signal
+  pub method : HasFewTypes wire.method
 
--- no signature of the program has more parameters than one may have
+-- nor has one of the program
 pub record HasFewParameters (program : Program) : Type 0 where
   pub classes : All ClassHasFewParameters program.classes
   pub wires : All WireHasFewParameters program.wires
@@ -51,3 +60,4 @@ pub record IsWithinLimits (program : Program) : Type 0 where
   pub classes : length program.classes ≤ most_classes
   pub each_class : All ClassIsWithinLimits program.classes
   pub wires : length program.wires ≤ most_wires
+  pub owns : length program.owns ≤ most_owns

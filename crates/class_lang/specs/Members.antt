@@ -2,17 +2,20 @@
 -- (docs/language.md, "Classes").
 --
 --   member   = "property" property | "signal" signal | "slot" slot
---   property = type Name ";"
+--   property = type Name ["=" literal] ["notify" sig] ";"
 --   signal   = Name "(" [signal_parameter {"," signal_parameter}] ")" ";"
 --   slot     = Name "(" [slot_parameter {"," slot_parameter}] ")" block
-use Rattle.std.specs.Prelude.{ℕ, List, [], ◌∷◌, ◌++◌, map}
-use Rattle.slot_lang.specs.Grammar.{Statement, spell_block, tree_of_block}
-use Rattle.slot_lang.specs.declared.symbol.Symbol.TheVariants.{Semicolon}
+use Rattle.std.specs.Prelude.{ℕ, List, [], ◌∷◌, ◌++◌, map, Option, option_map}
+use Rattle.slot_lang.specs.Grammar.{Body, spell_block, tree_of_block}
+use Rattle.slot_lang.specs.Lists.{spell_listed}
+use Rattle.slot_lang.specs.Literals.{LiteralReading, spell_literal, tree_of_literal}
+use Rattle.slot_lang.specs.Signatures.{TypeReading, spell_type, tree_of_type, SigReading, spell_sig, tree_of_sig}
+use Rattle.slot_lang.specs.declared.symbol.Symbol.TheVariants.{Semicolon, Assign}
 use Rattle.slot_lang.specs.declared.token.Token.{Token}
 use Rattle.slot_lang.specs.declared.token.Token.TheVariants as token
-use Rattle.slot_lang.specs.declared.word.Word.TheVariants as word
-use Rattle.class_lang.specs.Lists.{spell_listed}
-use Rattle.class_lang.specs.Signatures.{TypeReading, spell_type, SignalParameter, spell_signal_parameter, tree_of_signal_parameter, SlotParameter, spell_slot_parameter, tree_of_slot_parameter}
+use Rattle.signatures.specs.declared.word.Word.TheVariants as word
+use Rattle.class_lang.specs.Optional.{spell_optional}
+use Rattle.class_lang.specs.Parameters.{SignalParameter, spell_signal_parameter, tree_of_signal_parameter, SlotParameter, spell_slot_parameter, tree_of_slot_parameter}
 use Rattle.class_lang.specs.declared.members.Member.{Member}
 use Rattle.class_lang.specs.declared.members.Member.TheVariants as member
 use Rattle.class_lang.specs.declared.program.Property.{Property}
@@ -20,14 +23,28 @@ use Rattle.class_lang.specs.declared.program.Signal.{Signal}
 use Rattle.class_lang.specs.declared.program.Slot.{Slot}
 use Rattle.class_lang.specs.declared.program.Class.{Class}
 
+-- ["=" literal]
+abbrev pub spell_initial : Option LiteralReading → List Token → List Token
+spell_initial initial after = spell_optional (token.Symbol Assign) spell_literal initial after
+
+-- ["notify" sig]
+abbrev pub spell_notify : Option SigReading → List Token → List Token
+spell_notify notify after = spell_optional (token.Word word.Notify) spell_sig notify after
+
 pub data PropertyReading : Type 0 where
-  property : TypeReading → (name : List ℕ) → PropertyReading
+  property : TypeReading → (name : List ℕ) → (initial : Option LiteralReading) → (notify : Option SigReading) → PropertyReading
 
 abbrev pub spell_property : PropertyReading → List Token → List Token
-spell_property (property kind name) after = spell_type kind (token.Name name ∷ token.Symbol Semicolon ∷ after)
+spell_property (property kind name initial notify) after =
+    spell_type kind (token.Name name ∷ spell_initial initial (spell_notify notify (token.Symbol Semicolon ∷ after)))
 
 abbrev pub tree_of_property : PropertyReading → Property
-tree_of_property (property kind name) = record { name = name }
+tree_of_property (property kind name initial notify) = record {
+  kind = tree_of_type kind;
+  name = name;
+  initial = option_map tree_of_literal initial;
+  notify = option_map tree_of_sig notify;
+}
 
 pub data SignalReading : Type 0 where
   signal : (name : List ℕ) → List SignalParameter → SignalReading
@@ -40,7 +57,7 @@ abbrev pub tree_of_signal : SignalReading → Signal
 tree_of_signal (signal name parameters) = record { name = name; parameters = map tree_of_signal_parameter parameters }
 
 pub data SlotReading : Type 0 where
-  slot : (name : List ℕ) → List SlotParameter → (body : List Statement) → SlotReading
+  slot : (name : List ℕ) → List SlotParameter → (body : Body) → SlotReading
 
 abbrev pub spell_slot : SlotReading → List Token → List Token
 spell_slot (slot name parameters body) after =
@@ -89,6 +106,7 @@ slots_in (member.Slot s ∷ members) = s ∷ slots_in members
 abbrev pub with_members : Class → List Member → Class
 with_members class members = record {
   name = class.name;
+  base = class.base;
   properties = class.properties ++ properties_in members;
   signals = class.signals ++ signals_in members;
   slots = class.slots ++ slots_in members;

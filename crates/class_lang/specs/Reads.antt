@@ -2,6 +2,7 @@
 use Rattle.std.specs.Prelude.{ℕ, ◌<◌, ◌≤◌, ◌⊎◌, List, length, Result, Ok, Err, Option, Some, None}
 use Rattle.slot_lang.specs.Nesting.{IsTooDeep}
 use Rattle.slot_lang.specs.Pieces.{AreTokens}
+use Rattle.slot_lang.specs.Signatures.{HasPlainReference}
 use Rattle.slot_lang.specs.declared.fault.ParseFault.{ParseFault}
 use Rattle.slot_lang.specs.declared.fault.ParseFault.TheVariants as parse
 use Rattle.slot_lang.specs.declared.lexer.LexFault.{LexFault}
@@ -10,7 +11,7 @@ use Rattle.slot_lang.specs.declared.token.Token.{Token}
 use Rattle.class_lang.specs.Declarations.{IsProgram}
 use Rattle.class_lang.specs.Limits.{most_bytes, HasFewParameters, IsWithinLimits}
 use Rattle.class_lang.specs.declared.fault.TextFault.{TextFault}
-use Rattle.class_lang.specs.declared.fault.TextFault.TheVariants.{TooLarge, BadByte, TooDeepText, Syntax, TooMany, Memory}
+use Rattle.class_lang.specs.declared.fault.TextFault.TheVariants.{TooLarge, BadByte, TooDeepText, Syntax, BadType, TooMany, Memory}
 use Rattle.class_lang.specs.declared.program.Program.{Program}
 
 -- the number of a refusal; want of memory has none
@@ -19,6 +20,7 @@ number_of TooLarge = Some 7
 number_of BadByte = Some 4
 number_of TooDeepText = Some 6
 number_of Syntax = Some 5
+number_of BadType = Some 2
 number_of TooMany = Some 3
 number_of Memory = None
 
@@ -57,13 +59,24 @@ pub record IsOutsideGrammar (bytes : List ℕ) : Type 0 where
   pub flat : ¬ IsTooDeep tokens
   pub none : (program : Program) → IsProgram tokens program → ⊥
 
--- its tokens don't nest too deep, and are this program
+-- its tokens don't nest too deep, and are a program with a reference somewhere that isn't const
+pub record HasBadType (bytes : List ℕ) : Type 0 where
+  pub short : IsShortText bytes
+  pub tokens : List Token
+  pub cut : AreTokens bytes tokens
+  pub flat : ¬ IsTooDeep tokens
+  pub program : Program
+  pub reads : IsProgram tokens program
+  pub plain : HasPlainReference tokens
+
+-- its tokens don't nest too deep, are this program, and every reference in them is const
 pub record IsProgramText (bytes : List ℕ) (program : Program) : Type 0 where
   pub short : IsShortText bytes
   pub tokens : List Token
   pub cut : AreTokens bytes tokens
   pub flat : ¬ IsTooDeep tokens
   pub reads : IsProgram tokens program
+  pub constant : ¬ HasPlainReference tokens
 
 -- a program, a signature of which has too many parameters
 pub record HasTooManyParameters (bytes : List ℕ) : Type 0 where
@@ -91,5 +104,6 @@ ReadsProgram bytes (Err TooLarge) = IsLongText bytes ⊎ IsLargeProgram bytes
 ReadsProgram bytes (Err BadByte) = HasBadByte bytes
 ReadsProgram bytes (Err TooDeepText) = IsDeepText bytes
 ReadsProgram bytes (Err Syntax) = IsOutsideGrammar bytes
+ReadsProgram bytes (Err BadType) = HasBadType bytes
 ReadsProgram bytes (Err TooMany) = HasTooManyParameters bytes
 ReadsProgram bytes (Err Memory) = Unit {0}

@@ -1,15 +1,17 @@
 //! The declarations of a program.
 
 ghost use Rattle.std.specs.Prelude.{◌≡◌, ◌<◌, ◌≤◌, [], ◌∷◌, length, OnOk};
+ghost use Rattle.slot_lang.specs.Cursor.{NotAt};
+ghost use Rattle.slot_lang.specs.Lists.{spell_each};
 ghost use Rattle.slot_lang.specs.Reading.{Reads, EndsAnywhere};
-ghost use Rattle.class_lang.specs.Lists.{spell_each};
+ghost use Rattle.slot_lang.specs.declared.symbol.Symbol.TheVariants.{Colon};
 ghost use Rattle.class_lang.specs.Members.{with_members};
-ghost use Rattle.class_lang.specs.Declarations.{spell_ending, spell_members, spell_class, tree_of_class, class_of, spell_kind, tree_of_kind, spell_end, tree_of_end, spell_wire, tree_of_wire, spell_declaration, tree_of_declaration, tree_of_program, with_declarations, EndsDeclaration, IsAtEnd};
+ghost use Rattle.class_lang.specs.Declarations.{spell_ending, spell_members, spell_class, tree_of_class, spell_base, class_of, spell_end, tree_of_end, spell_wire, tree_of_wire, spell_owns, tree_of_owns, spell_declaration, tree_of_declaration, tree_of_program, with_declarations, EndsDeclaration, IsAtEnd};
 
 use crate::members::Member;
 use crate::parser::Parser;
-use crate::program::{Class, Program, Wire};
-use signatures::{Kind, Name, Sig};
+use crate::program::{Class, Owns, Program, Wire};
+use signatures::{Name, Sig};
 use slot_lang::{ParseFault, Symbol, Word};
 use sqlite_items::Items;
 use std::alloc::{AllocError, Global};
@@ -19,15 +21,17 @@ use std::alloc::{AllocError, Global};
 pub enum Declaration {
     Class(Class),
     Wire(Wire),
+    Owns(Owns),
 }
 
 impl Class {
-    /// The class of this name without members.
-    fn new(alloc: Global, name: Name) -> Class
-        ensures { result ≡ record { name = name; properties = []; signals = []; slots = [] } }
+    /// The class of this name and base without members.
+    fn new(alloc: Global, name: Name, base: Option<Name>) -> Class
+        ensures { result ≡ record { name = name; base = base; properties = []; signals = []; slots = [] } }
     {
         Class {
             name,
+            base,
             properties: Items::new(alloc),
             signals: Items::new(alloc),
             slots: Items::new(alloc),
@@ -38,11 +42,12 @@ impl Class {
 impl Program {
     /// The program without declarations.
     fn new(alloc: Global) -> Program
-        ensures { result ≡ record { classes = []; wires = [] } }
+        ensures { result ≡ record { classes = []; wires = []; owns = [] } }
     {
         Program {
             classes: Items::new(alloc),
             wires: Items::new(alloc),
+            owns: Items::new(alloc),
         }
     }
 
@@ -53,17 +58,31 @@ impl Program {
         match declaration {
             Declaration::Class(class) => self.classes.push(class),
             Declaration::Wire(wire) => self.wires.push(wire),
+            Declaration::Owns(owns) => self.owns.push(owns),
         }
     }
 }
 
 impl<'a> Parser<'a> {
-    /// `{member} "}"`, the members of a class with this name.
-    fn members(&mut self, name: Name) -> Result<Class, ParseFault>
-        ensures reads { Reads spell_members (class_of name) EndsAnywhere self.old result self.new }
+    /// `[":" Name]`
+    fn base(&mut self) -> Result<Option<Name>, ParseFault>
+        ensures reads { Reads spell_base (λ base. base) (NotAt Colon) self.old result self.new }
+        ensures no_longer { OnOk result (length self.new ≤ length self.old) }
+    {
+        if self.eat(Symbol::Colon) {
+            let base = self.name()?;
+            Ok(Some(base))
+        } else {
+            Ok(None)
+        }
+    }
+
+    /// `{member} "}"`, the members of a class with this name and base.
+    fn members(&mut self, name: Name, base: Option<Name>) -> Result<Class, ParseFault>
+        ensures reads { Reads spell_members (class_of name base) EndsAnywhere self.old result self.new }
         ensures shorter { OnOk result (length self.new < length self.old) }
     {
-        let mut class = Class::new(self.alloc(), name);
+        let mut class = Class::new(self.alloc(), name, base);
         while !self.eat(Symbol::CloseBrace) {
             let member = self.member()?;
             class.add(member)?;
@@ -71,25 +90,17 @@ impl<'a> Parser<'a> {
         Ok(class)
     }
 
-    /// `Name "{" {member} "}" [";"]`
+    /// `Name [":" Name] "{" {member} "}" [";"]`
     fn class(&mut self) -> Result<Class, ParseFault>
         ensures reads { Reads spell_class tree_of_class EndsDeclaration self.old result self.new }
         ensures shorter { OnOk result (length self.new < length self.old) }
     {
         let name = self.name()?;
+        let base = self.base()?;
         self.expect(Symbol::OpenBrace)?;
-        let class = self.members(name)?;
+        let class = self.members(name, base)?;
         self.eat(Symbol::Semicolon);
         Ok(class)
-    }
-
-    /// `"direct"`
-    fn connection_kind(&mut self) -> Result<Kind, ParseFault>
-        ensures reads { Reads spell_kind tree_of_kind EndsAnywhere self.old result self.new }
-        ensures shorter { OnOk result (length self.new < length self.old) }
-    {
-        self.expect_word(Word::Direct)?;
-        Ok(Kind::Direct)
     }
 
     /// `Name sig`
@@ -121,7 +132,18 @@ impl<'a> Parser<'a> {
         })
     }
 
-    /// `"class" class | "wire" wire`
+    /// `Name Name ";"`
+    fn owns(&mut self) -> Result<Owns, ParseFault>
+        ensures reads { Reads spell_owns tree_of_owns EndsAnywhere self.old result self.new }
+        ensures shorter { OnOk result (length self.new < length self.old) }
+    {
+        let parent = self.name()?;
+        let child = self.name()?;
+        self.expect(Symbol::Semicolon)?;
+        Ok(Owns { parent, child })
+    }
+
+    /// `"class" class | "wire" wire | "owns" owns`
     fn declaration(&mut self) -> Result<Declaration, ParseFault>
         ensures reads { Reads spell_declaration tree_of_declaration EndsDeclaration self.old result self.new }
         ensures shorter { OnOk result (length self.new < length self.old) }
@@ -130,6 +152,8 @@ impl<'a> Parser<'a> {
             Ok(Declaration::Class(self.class()?))
         } else if self.eat_word(Word::Wire) {
             Ok(Declaration::Wire(self.wire()?))
+        } else if self.eat_word(Word::Owns) {
+            Ok(Declaration::Owns(self.owns()?))
         } else {
             Err(ParseFault::Syntax)
         }

@@ -19,6 +19,9 @@ pub enum TextFault {
     /// The tokens aren't in the grammar.
     #[error("the tokens aren't in the grammar")]
     Syntax,
+    /// A reference isn't const.
+    #[error("a reference that isn't const")]
+    BadType,
     /// A signature has more than 8 parameters.
     #[error("more than 8 parameters")]
     TooMany,
@@ -65,6 +68,7 @@ impl TextFault {
             TextFault::BadByte => Some(4),
             TextFault::TooDeepText => Some(6),
             TextFault::Syntax => Some(5),
+            TextFault::BadType => Some(2),
             TextFault::TooMany => Some(3),
             TextFault::Memory => None,
         }

@@ -5,11 +5,11 @@ mod declarations;
 mod fault;
 mod limits;
 mod members;
+mod parameters;
 mod parser;
 mod program;
 mod reader;
-mod types;
 
 pub use fault::TextFault;
-pub use program::{Class, Parameter, Program, Property, Signal, Slot, Wire};
+pub use program::{Class, Owns, Parameter, Program, Property, Signal, Slot, Wire};
 pub use reader::{one_answer, one_reading, read_program};

@@ -1,9 +1,10 @@
 //! How large programs may be.
 
-ghost use Rattle.std.specs.Prelude.{◌↔◌, IsTrue};
-ghost use Rattle.class_lang.specs.Limits.{ClassHasFewParameters, WireHasFewParameters, HasFewParameters, ClassIsWithinLimits, IsWithinLimits};
+ghost use Rattle.std.specs.Prelude.{◌↔◌, IsTrue, IfSome};
+ghost use Rattle.class_lang.specs.Limits.{HasFewTypes, ClassHasFewParameters, WireHasFewParameters, HasFewParameters, ClassIsWithinLimits, IsWithinLimits};
 
-use crate::program::{Class, Program, Wire};
+use crate::program::{Class, Program, Property, Wire};
+use signatures::Sig;
 
 /// Bytes of a text.
 pub const MOST_BYTES: usize = 1_048_576;
@@ -17,16 +18,42 @@ const MOST_METHODS: usize = 64;
 const MOST_PROPERTIES: usize = 32;
 /// Wires of a program.
 const MOST_WIRES: usize = 1000;
+/// Declarations of ownership of a program.
+const MOST_OWNS: usize = 1000;
+
+/// Whether the signature has at most 8 parameters.
+fn has_few_types(sig: &Sig) -> bool
+    ensures { IsTrue result ↔ HasFewTypes sig.now }
+{
+    sig.types.len() <= MOST_PARAMETERS
+}
+
+impl Property {
+    /// Whether its signal's signature has at most 8 parameters, if it names one.
+    fn has_few_parameters(&self) -> bool
+        ensures { IsTrue result ↔ IfSome self.now.notify HasFewTypes }
+    {
+        match &self.notify {
+            Some(sig) => has_few_types(sig),
+            None => true,
+        }
+    }
+}
 
 impl Class {
     #[tactic(auto, unfolding(crate::specs::Limits::ClassHasFewParameters))]
     fn has_few_parameters(&self) -> bool
         ensures { IsTrue result ↔ ClassHasFewParameters self.now }
     {
-        self.signals
+        self.properties
             .as_slice()
             .iter()
-            .all(|signal| signal.parameters.len() <= MOST_PARAMETERS)
+            .all(|property| property.has_few_parameters())
+            && self
+                .signals
+                .as_slice()
+                .iter()
+                .all(|signal| signal.parameters.len() <= MOST_PARAMETERS)
             && self
                 .slots
                 .as_slice()
@@ -47,7 +74,7 @@ impl Wire {
     fn has_few_parameters(&self) -> bool
         ensures { IsTrue result ↔ WireHasFewParameters self.now }
     {
-        self.signal.types.len() <= MOST_PARAMETERS && self.method.types.len() <= MOST_PARAMETERS
+        has_few_types(&self.signal) && has_few_types(&self.method)
     }
 }
 
@@ -67,12 +94,13 @@ impl Program {
                 .all(|wire| wire.has_few_parameters())
     }
 
-    /// Whether there are at most 64 classes, 64 methods and 32 properties in each, and 1,000 wires.
+    /// Whether there are at most 64 classes, 64 methods and 32 properties in each, 1,000 wires and 1,000 owns.
     pub fn is_within_limits(&self) -> bool
         ensures { IsTrue result ↔ IsWithinLimits self.now }
     {
         self.classes.len() <= MOST_CLASSES
             && self.wires.len() <= MOST_WIRES
+            && self.owns.len() <= MOST_OWNS
             && self
                 .classes
                 .as_slice()

@@ -1,11 +1,17 @@
 //! The members of a class.
 
-ghost use Rattle.std.specs.Prelude.{◌≡◌, ◌<◌, [], ◌∷◌, length, OnOk};
+ghost use Rattle.std.specs.Prelude.{◌≡◌, ◌<◌, ◌≤◌, [], ◌∷◌, length, OnOk, option_map};
+ghost use Rattle.signatures.specs.declared.word.Word.TheVariants as word;
+ghost use Rattle.slot_lang.specs.Cursor.{NotAt, NotAtWord};
+ghost use Rattle.slot_lang.specs.Literals.{tree_of_literal};
 ghost use Rattle.slot_lang.specs.Reading.{Reads, EndsAnywhere};
-ghost use Rattle.class_lang.specs.Members.{spell_property, tree_of_property, spell_signal, tree_of_signal, spell_slot, tree_of_slot, spell_member, tree_of_member, with_members};
+ghost use Rattle.slot_lang.specs.Signatures.{tree_of_sig};
+ghost use Rattle.slot_lang.specs.declared.symbol.Symbol.TheVariants.{Assign};
+ghost use Rattle.class_lang.specs.Members.{spell_initial, spell_notify, spell_property, tree_of_property, spell_signal, tree_of_signal, spell_slot, tree_of_slot, spell_member, tree_of_member, with_members};
 
 use crate::parser::Parser;
 use crate::program::{Class, Property, Signal, Slot};
+use signatures::{Sig, Value};
 use slot_lang::{ParseFault, Symbol, Word};
 use std::alloc::AllocError;
 
@@ -31,15 +37,48 @@ impl Class {
 }
 
 impl<'a> Parser<'a> {
-    /// `type Name ";"`
+    /// `["=" literal]`
+    fn initial(&mut self) -> Result<Option<Value>, ParseFault>
+        ensures reads { Reads spell_initial (option_map tree_of_literal) (NotAt Assign) self.old result self.new }
+        ensures no_longer { OnOk result (length self.new ≤ length self.old) }
+    {
+        if self.eat(Symbol::Assign) {
+            let value = self.literal()?;
+            Ok(Some(value))
+        } else {
+            Ok(None)
+        }
+    }
+
+    /// `["notify" sig]`
+    fn notify(&mut self) -> Result<Option<Sig>, ParseFault>
+        ensures reads { Reads spell_notify (option_map tree_of_sig) (NotAtWord word.Notify) self.old result self.new }
+        ensures no_longer { OnOk result (length self.new ≤ length self.old) }
+    {
+        if self.eat_word(Word::Notify) {
+            let sig = self.sig()?;
+            Ok(Some(sig))
+        } else {
+            Ok(None)
+        }
+    }
+
+    /// `type Name ["=" literal] ["notify" sig] ";"`
     fn property(&mut self) -> Result<Property, ParseFault>
         ensures reads { Reads spell_property tree_of_property EndsAnywhere self.old result self.new }
         ensures shorter { OnOk result (length self.new < length self.old) }
     {
-        self.kind()?;
+        let kind = self.kind()?;
         let name = self.name()?;
+        let initial = self.initial()?;
+        let notify = self.notify()?;
         self.expect(Symbol::Semicolon)?;
-        Ok(Property { name })
+        Ok(Property {
+            kind,
+            name,
+            initial,
+            notify,
+        })
     }
 
     /// `Name "(" [signal_parameter {"," signal_parameter}] ")" ";"`

@@ -2,12 +2,14 @@ ghost use Rattle.std.specs.Prelude.{◌≡◌, ◌↔◌, ◌<◌, ◌≤◌, []
 ghost use Rattle.std.specs.Bool.{OnTrue};
 ghost use Rattle.slot_lang.specs.Cursor.{NotAt, NotAtWord};
 ghost use Rattle.slot_lang.specs.Grammar.{spell_block, tree_of_block};
+ghost use Rattle.slot_lang.specs.Literals.{spell_literal, tree_of_literal};
 ghost use Rattle.slot_lang.specs.Reading.{Reads, EndsAnywhere, spell_name};
+ghost use Rattle.slot_lang.specs.Signatures.{spell_type, tree_of_type, EndsType, spell_sig, tree_of_sig, spell_kind};
 ghost use Rattle.slot_lang.specs.declared.fault.ParseFault.TheVariants.{Syntax};
 ghost use Rattle.slot_lang.specs.declared.token.Token.TheVariants as token;
-ghost use Rattle.class_lang.specs.Signatures.{spell_optional_name, EndsWithoutName};
+ghost use Rattle.class_lang.specs.Optional.{spell_optional_name, EndsWithoutName};
 
-use signatures::Name;
+use signatures::{Kind, Name, QType, Sig, Value};
 use slot_lang::{Body, Cursor, ParseFault, Symbol, Token, Word};
 use std::alloc::Global;
 use std::marker::Model;
@@ -57,14 +59,6 @@ impl<'a> Parser<'a> {
         self.cursor.eat_word(word)
     }
 
-    /// Takes the reserved word, which has to come next.
-    pub fn expect_word(&mut self, word: Word) -> Result<(), ParseFault>
-        ensures found { MatchResult result (λ _. self.old ≡ token.Word word ∷ self.new) (λ fault. (fault ≡ Syntax) × NotAtWord word self.old) }
-        ensures shorter { OnOk result (length self.new < length self.old) }
-    {
-        self.cursor.expect_word(word)
-    }
-
     /// Takes the symbol, if it comes next.
     pub fn eat(&mut self, symbol: Symbol) -> bool
         ensures found { MatchBool result (self.old ≡ token.Symbol symbol ∷ self.new) ((self.new ≡ self.old) × NotAt symbol self.old) }
@@ -98,6 +92,38 @@ impl<'a> Parser<'a> {
             Some(Token::Name(_)) => Ok(Some(self.cursor.name()?)),
             _ => Ok(None),
         }
+    }
+
+    /// `type`, in its normal form.
+    pub fn kind(&mut self) -> Result<QType, ParseFault>
+        ensures reads { Reads spell_type tree_of_type EndsType self.old result self.new }
+        ensures shorter { OnOk result (length self.new < length self.old) }
+    {
+        self.cursor.kind()
+    }
+
+    /// `sig`
+    pub fn sig(&mut self) -> Result<Sig, ParseFault>
+        ensures reads { Reads spell_sig tree_of_sig EndsAnywhere self.old result self.new }
+        ensures shorter { OnOk result (length self.new < length self.old) }
+    {
+        self.cursor.sig()
+    }
+
+    /// `kind`
+    pub fn connection_kind(&mut self) -> Result<Kind, ParseFault>
+        ensures reads { Reads spell_kind (λ kind. kind) EndsAnywhere self.old result self.new }
+        ensures shorter { OnOk result (length self.new < length self.old) }
+    {
+        self.cursor.connection_kind()
+    }
+
+    /// `literal`
+    pub fn literal(&mut self) -> Result<Value, ParseFault>
+        ensures reads { Reads spell_literal tree_of_literal EndsAnywhere self.old result self.new }
+        ensures shorter { OnOk result (length self.new < length self.old) }
+    {
+        self.cursor.literal()
     }
 
     /// `block`, a slot's body.

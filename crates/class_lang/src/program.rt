@@ -1,4 +1,4 @@
-use signatures::{Kind, Name, QType, Sig};
+use signatures::{Kind, Name, QType, Sig, Value};
 use slot_lang::Body;
 use sqlite_items::Items;
 
@@ -11,11 +11,17 @@ pub struct Parameter {
     pub name: Option<Name>,
 }
 
-/// `property int p;`
+/// `property T p = v notify s(..);`
 #[derive(Drop)]
 pub struct Property {
+    /// Its type, in its normal form.
+    pub kind: QType,
     /// What it is called in its class.
     pub name: Name,
+    /// The literal that it starts with, if one is given.
+    pub initial: Option<Value>,
+    /// The signal that is emitted when its value changes, if one is given; with at most 8 types.
+    pub notify: Option<Sig>,
 }
 
 /// `signal s(..);`
@@ -38,11 +44,13 @@ pub struct Slot {
     pub body: Body,
 }
 
-/// `class C { .. }`, with the members of each sort in the order in which they are declared.
+/// `class C : B { .. }`, with the members of each sort in the order in which they are declared.
 #[derive(Drop)]
 pub struct Class {
     /// The class's name.
     pub name: Name,
+    /// The base's name, if one is given; else the base is `QObject`.
+    pub base: Option<Name>,
     /// At most 32.
     pub properties: Items<Property>,
     /// At most 64, together with the slots.
@@ -66,6 +74,15 @@ pub struct Wire {
     pub kind: Kind,
 }
 
+/// `owns C D;`
+#[derive(Drop)]
+pub struct Owns {
+    /// The class of the parent.
+    pub parent: Name,
+    /// The class of the child.
+    pub child: Name,
+}
+
 /// The declarations of a text, those of each sort in their order.
 #[derive(Drop)]
 pub struct Program {
@@ -73,4 +90,6 @@ pub struct Program {
     pub classes: Items<Class>,
     /// At most 1,000.
     pub wires: Items<Wire>,
+    /// At most 1,000.
+    pub owns: Items<Owns>,
 }

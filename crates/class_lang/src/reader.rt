@@ -13,7 +13,7 @@ use crate::fault::TextFault;
 use crate::limits::MOST_BYTES;
 use crate::parser::Parser;
 use crate::program::Program;
-use slot_lang::{ParseFault, Token, nesting, tokens};
+use slot_lang::{ParseFault, Token, has_plain_reference, nesting, tokens};
 use std::alloc::Global;
 
 /// Reads a program from its text: at most 1,048,576 bytes, in time that grows as the text does.
@@ -24,9 +24,10 @@ use std::alloc::Global;
 /// - `TooDeepText`: more than 32 of `(` and `{` are open at once, or more than 200 tokens stand together without `;`,
 ///   `{` or `}`.
 /// - `Syntax`: the tokens are no program.
-/// - `TooMany`: a signal, a slot or a signature of a wire has more than 8 parameters.
-/// - `TooLarge`: there are more than 64 classes or 1,000 wires, or a class has more than 64 signals and slots or more
-///   than 32 properties.
+/// - `BadType`: a reference isn't const, as `T &`.
+/// - `TooMany`: a signal, a slot, a signature of a wire or one after `notify` has more than 8 parameters.
+/// - `TooLarge`: there are more than 64 classes, 1,000 wires or 1,000 owns, or a class has more than 64 signals and
+///   slots or more than 32 properties.
 ///
 /// `Memory`, that a growth of memory was refused, can come at any point.
 pub fn read_program(alloc: Global, bytes: &[u8]) -> Result<Program, TextFault>
@@ -40,6 +41,9 @@ pub fn read_program(alloc: Global, bytes: &[u8]) -> Result<Program, TextFault>
         return Err(TextFault::TooDeepText);
     }
     let program = parse(alloc, tokens.as_slice())?;
+    if has_plain_reference(tokens.as_slice()) {
+        return Err(TextFault::BadType);
+    }
     if !program.has_few_parameters() {
         return Err(TextFault::TooMany);
     }

@@ -9,7 +9,8 @@ use Rattle.meta_objects.specs.declared.object.MetaProperty.{MetaProperty}
 use Rattle.meta_objects.specs.declared.object.MetaWire.{MetaWire}
 use Rattle.meta_objects.specs.Loaded.{Loaded}
 use Rattle.meta_objects.specs.Places.{StandsAt, IsPlace}
-use Rattle.meta_objects.specs.Members.{IsClass, IsClassNamed, HasSig, IsMethodNamed, IsPropertyNamed, CoversBy, Covers, IsIn}
+use Rattle.meta_objects.specs.declared.object.MetaOwns.{MetaOwns}
+use Rattle.meta_objects.specs.Members.{IsClass, IsClassNamed, HasSig, IsMethodNamed, IsPropertyNamed, CoversBy, Covers, OwnsBy, Owns, IsIn}
 use Rattle.meta_objects.proofs.Searches.{answer_of, in_list, place_in}
 
 module _ (p : Loaded) where
@@ -55,3 +56,13 @@ module _ (p : Loaded) where
   pub covered : (c : ℕ) (signal : Sig) (d : ℕ) (method : Sig) (kind : Kind) (ws : List MetaWire) → ws ≡ p.wires → (k : ℕ) (wire : MetaWire) → k < length ws → wire ≡ get_or ws k wire → CoversBy p c signal d method kind wire → Covers p c signal d method kind
   covered c signal d method kind ws e k wire inside is by =
       record { wire = wire; declared = subst (λ ys. IsIn wire ys) e (in_list ws k wire (slice_get_read ws (length ws) k wire refl inside is)); by = by }
+
+  -- .. and an object may be a parent where one of the declarations says so
+  pub not_owned : (c d : ℕ) (os : List MetaOwns) → os ≡ p.owns → ((k : ℕ) → ¬ StandsAt (OwnsBy p c d) os k) → ¬ Owns p c d
+  not_owned c d os e none owned =
+      let found = place_in p.owns owned.owns owned.declared in
+      none found.0 (record { item = owned.owns; is = ap (λ ys. slice_get ys found.0) e ∙ found.1; has = owned.by })
+
+  pub owned_by : (c d : ℕ) (os : List MetaOwns) → os ≡ p.owns → (k : ℕ) (owns : MetaOwns) → k < length os → owns ≡ get_or os k owns → OwnsBy p c d owns → Owns p c d
+  owned_by c d os e k owns inside is by =
+      record { owns = owns; declared = subst (λ ys. IsIn owns ys) e (in_list os k owns (slice_get_read os (length os) k owns refl inside is)); by = by }

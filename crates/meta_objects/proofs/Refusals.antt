@@ -1,20 +1,43 @@
--- A part of a program that isn't loaded refuses the whole.
-use Rattle.std.proofs.Common.{◌≡◌, Ok, Err, Result, IsErr, IsErrAnd, sym, subst}
-use Rattle.meta_objects.specs.Loaded.{Loaded}
+-- What refuses a program, and what a program that isn't refused has.
+use Rattle.std.proofs.Common.{◌≡◌, List, [], ◌∷◌, Result, Ok, Err, IsErr, IsErrAnd, inl, inr, sym, subst}
 use Rattle.class_lang.specs.declared.program.Program.{Program}
 use Rattle.meta_objects.specs.declared.fault.MetaFault.{MetaFault}
-use Rattle.meta_objects.specs.declared.fault.MetaFault.TheVariants.{DuplicateClass, DuplicateMember, NoMember, Memory}
-use Rattle.meta_objects.specs.Conditions as condition
-use Rattle.meta_objects.specs.Loading.{Loads}
-use Rattle.meta_objects.specs.Builds.{Builds}
+use Rattle.meta_objects.specs.declared.fault.MetaFault.TheVariants as fault
+use Rattle.meta_objects.specs.declared.object.Statement.{Statement}
+use Rattle.meta_objects.specs.declared.object.MetaWire.{MetaWire}
+use Rattle.meta_objects.specs.declared.object.MetaOwns.{MetaOwns}
+use Rattle.meta_objects.specs.declared.outline.Outline.{Outline}
+use Rattle.meta_objects.specs.Loaded.{Loaded}
+use Rattle.meta_objects.specs.Outlines.{Outlines, qobject}
+use Rattle.meta_objects.specs.Conditions.{DuplicateClass, NoBase, DuplicateMember}
+use Rattle.meta_objects.specs.Loading.{IsBody, AreBodies, LacksInSlot, LacksInClass, IsWire, LacksEnd, IsOwns, LacksClass, LacksMember, HasUses}
+use Rattle.meta_objects.specs.Parts.{Loads}
+use Rattle.meta_objects.specs.Builds.{HasOutlines, Builds}
+use Rattle.meta_objects.proofs.Zips.{none_of_zip}
+use Rattle.meta_objects.proofs.Steps.{none_lack}
 
-pub refused : (program : Program) → (¬ condition.DuplicateClass program) → (¬ condition.DuplicateMember program) → {Y : Type 0} (Lacks : Type 0) (Is : Y → Type 0) (fault : MetaFault) → (Lacks → condition.LacksMember program) → Loads Lacks Is (Err fault) → Builds program (Err fault)
-refused program classes members Lacks Is DuplicateClass to h = absurd h
-refused program classes members Lacks Is DuplicateMember to h = absurd h
-refused program classes members Lacks Is NoMember to h = (classes, members, to h)
-refused program classes members Lacks Is Memory to h = tt
+pub outlined : (program : Program) (o : List Outline) → (¬ DuplicateClass program) → Outlines program.classes o → HasOutlines program o
+outlined program o distinct are = record { distinct = distinct; based = none_lack program.classes (qobject ∷ []) 0 o are; are = are }
 
-pub refused_by : (program : Program) → (¬ condition.DuplicateClass program) → (¬ condition.DuplicateMember program) → {Y : Type 0} (Lacks : Type 0) (Is : Y → Type 0) (fault : MetaFault) → (Lacks → condition.LacksMember program) → Loads Lacks Is (Err fault) → (r : Result Loaded MetaFault) → IsErr r → IsErrAnd r (λ e. e ≡ fault) → Builds program r
-refused_by program classes members Lacks Is fault to h (Ok loaded) is same = absurd (cc)
-refused_by program classes members Lacks Is fault to h (Err e) is same =
-    subst (λ f. Builds program (Err f)) (sym same) (refused program classes members Lacks Is fault to h)
+-- what is resolved lacks no member
+pub nothing_lacks : (program : Program) (o : List Outline) (bodies : List (List (List Statement))) (wires : List MetaWire) (owns : List MetaOwns) → HasUses program o bodies wires owns → ¬ LacksMember program o
+nothing_lacks program o bodies wires owns h (inl any) =
+    none_of_zip (AreBodies o) (LacksInClass o) program.classes bodies h.are_bodies
+    (λ class bs are. none_of_zip (IsBody o class) (LacksInSlot o class) class.slots bs are (λ slot b is lacks. lacks b is)) any
+nothing_lacks program o bodies wires owns h (inr (inl any)) =
+    none_of_zip (IsWire o) (LacksEnd o) program.wires wires h.wired (λ wire w is lacks. lacks w is) any
+nothing_lacks program o bodies wires owns h (inr (inr any)) =
+    none_of_zip (IsOwns o) (LacksClass o) program.owns owns h.owned (λ one w is lacks. lacks w is) any
+
+-- an answer that is this fault
+pub answers : (program : Program) (e : MetaFault) → Builds program (Err e) → (r : Result Loaded MetaFault) → IsErr r → IsErrAnd r (λ x. x ≡ e) → Builds program r
+answers program e h (Ok loaded) is same = absurd (cc)
+answers program e h (Err x) is same = subst (λ f. Builds program (Err f)) (sym same) h
+
+pub refused_base : (program : Program) (e : MetaFault) → (¬ DuplicateClass program) → {Y : Type 0} (Is : Y → Type 0) → Loads fault.NoBase (NoBase program) Is (Err e) → Builds program (Err e)
+refused_base program e distinct Is (inl m) = subst (λ f. Builds program (Err f)) (sym m) tt
+refused_base program e distinct Is (inr n) = subst (λ f. Builds program (Err f)) (sym n.0) (distinct, n.1)
+
+pub refused_use : (program : Program) (o : List Outline) (e : MetaFault) → HasOutlines program o → (¬ DuplicateMember program o) → {Y : Type 0} (Is : Y → Type 0) → Loads fault.NoMember (LacksMember program o) Is (Err e) → Builds program (Err e)
+refused_use program o e are members Is (inl m) = subst (λ f. Builds program (Err f)) (sym m) tt
+refused_use program o e are members Is (inr n) = subst (λ f. Builds program (Err f)) (sym n.0) (o, are, members, n.1)

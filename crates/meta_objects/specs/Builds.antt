@@ -1,26 +1,50 @@
 -- When a program loads, and what its meta-objects are (docs/machine.md, "Loading").
-use Rattle.std.specs.Prelude.{◌≡◌, ℕ, Result, Option, Some, None, Ok, Err}
+use Rattle.std.specs.Prelude.{◌≡◌, ℕ, List, Result, Option, Some, None, Ok, Err}
 use Rattle.class_lang.specs.declared.program.Program.{Program}
 use Rattle.meta_objects.specs.declared.fault.MetaFault.{MetaFault}
 use Rattle.meta_objects.specs.declared.fault.MetaFault.TheVariants as fault
+use Rattle.meta_objects.specs.declared.outline.Outline.{Outline}
 use Rattle.meta_objects.specs.Loaded.{Loaded}
-use Rattle.meta_objects.specs.Conditions.{DuplicateClass, DuplicateMember, LacksMember}
-use Rattle.meta_objects.specs.Loading.{IsLoaded}
+use Rattle.meta_objects.specs.Outlines.{Outlines}
+use Rattle.meta_objects.specs.Conditions.{DuplicateClass, NoBase, DuplicateMember, BadNotify, NoType}
+use Rattle.meta_objects.specs.Loading.{LacksMember, IsLoaded}
 
 -- the number of a refusal; want of memory has none
 abbrev pub number_of : MetaFault → Option ℕ
 number_of fault.DuplicateClass = Some 10
+number_of fault.NoBase = Some 11
 number_of fault.DuplicateMember = Some 12
 number_of fault.NoMember = Some 13
+number_of fault.BadNotify = Some 14
+number_of fault.NoType = Some 15
 number_of fault.Memory = None
+
+-- class names and bases are as they are to be, so that the classes have these members
+pub record HasOutlines (program : Program) (outlines : List Outline) : Type 0 where
+  pub distinct : ¬ DuplicateClass program
+  pub based : ¬ NoBase program
+  pub are : Outlines program.classes outlines
+
+-- .. no two members are alike, the names that are used are there, notify signals fit, types are there
+pub record IsClean (program : Program) (outlines : List Outline) : Type 0 where
+  pub members : ¬ DuplicateMember program outlines
+  pub names : ¬ LacksMember program outlines
+  pub notifiers : ¬ BadNotify outlines
+  pub types : ¬ NoType outlines
 
 -- the first condition that holds, over the whole program, refuses it; where none holds, the program is loaded
 abbrev pub Builds : Program → Result Loaded MetaFault → Type 0
 Builds program (Ok loaded) =
-    (¬ DuplicateClass program) × (¬ DuplicateMember program) × (¬ LacksMember program) × IsLoaded program loaded
+    (o : List Outline) × HasOutlines program o × IsClean program o × IsLoaded program o loaded
 Builds program (Err fault.DuplicateClass) = DuplicateClass program
-Builds program (Err fault.DuplicateMember) = (¬ DuplicateClass program) × DuplicateMember program
-Builds program (Err fault.NoMember) = (¬ DuplicateClass program) × (¬ DuplicateMember program) × LacksMember program
+Builds program (Err fault.NoBase) = (¬ DuplicateClass program) × NoBase program
+Builds program (Err fault.DuplicateMember) = (o : List Outline) × HasOutlines program o × DuplicateMember program o
+Builds program (Err fault.NoMember) =
+    (o : List Outline) × HasOutlines program o × (¬ DuplicateMember program o) × LacksMember program o
+Builds program (Err fault.BadNotify) =
+    (o : List Outline) × HasOutlines program o × (¬ DuplicateMember program o) × (¬ LacksMember program o) × BadNotify o
+Builds program (Err fault.NoType) =
+    (o : List Outline) × HasOutlines program o × (¬ DuplicateMember program o) × (¬ LacksMember program o) × (¬ BadNotify o) × NoType o
 Builds program (Err fault.Memory) = Unit {0}
 
 -- a program is loaded in one way at most

@@ -1,19 +1,22 @@
--- The conditions under which a program doesn't load (docs/language.md, "Names").
-use Rattle.std.specs.Prelude.{◌≡◌, ℕ, List, length, map, Some, Any, ◌⊎◌, codes}
+-- The conditions under which a program doesn't load, but for names in bodies, wires and owns that aren't there
+-- (docs/language.md, "Names").
+use Rattle.std.specs.Prelude.{◌≡◌, ℕ, ◌<◌, List, [], ◌∷◌, ◌++◌, length, Option, None, Some, Any, ◌⊎◌, codes}
 use Rattle.signatures.specs.declared.sig.Sig.{Sig}
-use Rattle.slot_lang.specs.declared.syntax.Expr.{Expr}
-use Rattle.slot_lang.specs.declared.syntax.Expr.TheVariants as expr
-use Rattle.slot_lang.specs.declared.syntax.Stmt.{Stmt}
-use Rattle.slot_lang.specs.declared.syntax.Stmt.TheVariants as stmt
 use Rattle.class_lang.specs.declared.program.Parameter.{Parameter}
 use Rattle.class_lang.specs.declared.program.Property.{Property}
 use Rattle.class_lang.specs.declared.program.Signal.{Signal}
 use Rattle.class_lang.specs.declared.program.Slot.{Slot}
 use Rattle.class_lang.specs.declared.program.Class.{Class}
-use Rattle.class_lang.specs.declared.program.Wire.{Wire}
 use Rattle.class_lang.specs.declared.program.Program.{Program}
+use Rattle.meta_objects.specs.declared.outline.Heading.{Heading}
+use Rattle.meta_objects.specs.declared.outline.Outline.{Outline}
+use Rattle.meta_objects.specs.declared.outline.Sort.TheVariants as sort
+use Rattle.meta_objects.specs.Places.{StandsFirst}
 use Rattle.meta_objects.specs.Twice.{StandsTwice}
+use Rattle.meta_objects.specs.Outlines.{base_name}
+use Rattle.meta_objects.specs.Kinds.{LacksType}
 
+-- ---- names of classes
 -- no class may have this name
 abbrev pub IsTaken : List ℕ → Type 0
 IsTaken name = (name ≡ codes "QObject") ⊎ (name ≡ codes "int") ⊎ (name ≡ codes "bool") ⊎ (name ≡ codes "QString")
@@ -23,70 +26,63 @@ abbrev pub DuplicateClass : Program → Type 0
 DuplicateClass program =
     StandsTwice (λ (a b : Class). a.name ≡ b.name) program.classes ⊎ Any (λ (class : Class). IsTaken class.name) program.classes
 
+-- ---- bases
+-- the base of one of the classes isn't among the names of those before it
+abbrev pub LacksBase : List (List ℕ) → List Class → Type 0
+LacksBase before [] = ⊥
+LacksBase before (class ∷ classes) =
+    (¬ Any (λ name. name ≡ base_name class.base) before) ⊎ LacksBase (before ++ class.name ∷ []) classes
+
+abbrev pub NoBase : Program → Type 0
+NoBase program = LacksBase (codes "QObject" ∷ []) program.classes
+
+-- ---- members that stand twice
 -- both parameters have a name, and it is the same
 abbrev pub AreOneParameter : Parameter → Parameter → Type 0
 AreOneParameter a b = (name : List ℕ) × (a.name ≡ Some name) × (b.name ≡ Some name)
 
-abbrev pub IsOneCall : Signal → Slot → Type 0
-IsOneCall signal slot = (signal.name ≡ slot.name) × (length signal.parameters ≡ length slot.parameters)
+-- one name and one number of parameters
+abbrev pub AreOneCall : Heading → Heading → Type 0
+AreOneCall a b = (a.sig.name ≡ b.sig.name) × (length a.sig.types ≡ length b.sig.types)
 
--- two methods of the class, signals and slots together, have one name and one number of parameters
-abbrev pub HasTwoOfOneCall : Class → Type 0
-HasTwoOfOneCall class =
-    StandsTwice (λ (a b : Signal). (a.name ≡ b.name) × (length a.parameters ≡ length b.parameters)) class.signals
-    ⊎ StandsTwice (λ (a b : Slot). (a.name ≡ b.name) × (length a.parameters ≡ length b.parameters)) class.slots
-    ⊎ Any (λ (signal : Signal). Any (λ (slot : Slot). IsOneCall signal slot) class.slots) class.signals
+-- two methods or two properties of the class, inherited ones too, are one
+abbrev pub HasTwoMembers : Outline → Type 0
+HasTwoMembers outline =
+    StandsTwice AreOneCall outline.methods ⊎ StandsTwice (λ (a b : Property). a.name ≡ b.name) outline.properties
 
--- besides such methods: two properties of one name, or two parameters of one name in a method
-abbrev pub HasDuplicate : Class → Type 0
-HasDuplicate class =
-    HasTwoOfOneCall class
-    ⊎ StandsTwice (λ (a b : Property). a.name ≡ b.name) class.properties
-    ⊎ Any (λ (signal : Signal). StandsTwice AreOneParameter signal.parameters) class.signals
+-- two parameters of one name in a method of the class
+abbrev pub RepeatsParameter : Class → Type 0
+RepeatsParameter class =
+    Any (λ (signal : Signal). StandsTwice AreOneParameter signal.parameters) class.signals
     ⊎ Any (λ (slot : Slot). StandsTwice AreOneParameter slot.parameters) class.slots
 
-abbrev pub DuplicateMember : Program → Type 0
-DuplicateMember program = Any HasDuplicate program.classes
+abbrev pub DuplicateMember : Program → List Outline → Type 0
+DuplicateMember program outlines = Any HasTwoMembers outlines ⊎ Any RepeatsParameter program.classes
 
--- the signatures that are declared
-abbrev pub signal_sig : Signal → Sig
-signal_sig signal = record { name = signal.name; types = map (λ (p : Parameter). p.kind) signal.parameters }
+-- ---- notify signals
+abbrev pub IsSignalOf : Sig → Heading → Type 0
+IsSignalOf sig h = (h.sig ≡ sig) × (h.sort ≡ sort.Signal)
 
-abbrev pub slot_sig : Slot → Sig
-slot_sig slot = record { name = slot.name; types = map (λ (p : Parameter). p.kind) slot.parameters }
+-- The notify signature is that of signal m of the class, without parameter or with one of the property's type. Of
+-- QObject's own signals, which have the first numbers, only `objectName` may be notified by one.
+pub record IsNotifiedBy (outline : Outline) (property : Property) (sig : Sig) (m : ℕ) : Type 0 where
+  pub signal : StandsFirst (IsSignalOf sig) outline.methods m
+  pub fits : (sig.types ≡ []) ⊎ (sig.types ≡ property.kind ∷ [])
+  pub own : (3 < m) ⊎ (property.name ≡ codes "objectName")
 
--- the class has a property of this name
-abbrev pub HasProperty : Class → List ℕ → Type 0
-HasProperty class name = Any (λ (p : Property). p.name ≡ name) class.properties
+abbrev pub LacksNotifier : Outline → Property → Option Sig → Type 0
+LacksNotifier outline property None = ⊥
+LacksNotifier outline property (Some sig) = (m : ℕ) → ¬ IsNotifiedBy outline property sig m
 
--- the expression names no parameter of these
-abbrev pub LacksParameter : List Parameter → Expr → Type 0
-LacksParameter parameters (expr.Number n) = ⊥
-LacksParameter parameters (expr.Parameter name) = ¬ Any (λ (p : Parameter). p.name ≡ Some name) parameters
+abbrev pub BadNotify : List Outline → Type 0
+BadNotify outlines =
+    Any (λ (outline : Outline). Any (λ (property : Property). LacksNotifier outline property property.notify) outline.properties) outlines
 
--- the statement sets what is no property of the class, or its expression names no parameter
-abbrev pub LacksName : Class → List Parameter → Stmt → Type 0
-LacksName class parameters (stmt.Set property e) = (¬ HasProperty class property) ⊎ LacksParameter parameters e
+-- ---- types
+abbrev pub LacksTypes : List Outline → Outline → Type 0
+LacksTypes outlines outline =
+    Any (λ (property : Property). LacksType outlines property.kind) outline.properties
+    ⊎ Any (λ (h : Heading). Any (LacksType outlines) h.sig.types) outline.methods
 
-abbrev pub LacksInSlot : Class → Slot → Type 0
-LacksInSlot class slot = Any (LacksName class slot.parameters) slot.body
-
-abbrev pub LacksInClass : Class → Type 0
-LacksInClass class = Any (LacksInSlot class) class.slots
-
--- a class of this name is there, and has a signal, or a slot, of this signature
-abbrev pub HasSignal : List Class → List ℕ → Sig → Type 0
-HasSignal classes name sig =
-    Any (λ (class : Class). (class.name ≡ name) × Any (λ signal. signal_sig signal ≡ sig) class.signals) classes
-
-abbrev pub HasSlot : List Class → List ℕ → Sig → Type 0
-HasSlot classes name sig =
-    Any (λ (class : Class). (class.name ≡ name) × Any (λ slot. slot_sig slot ≡ sig) class.slots) classes
-
--- the wire names no signal of a class, or no slot of a class
-abbrev pub LacksEnd : List Class → Wire → Type 0
-LacksEnd classes wire = (¬ HasSignal classes wire.sender wire.signal) ⊎ (¬ HasSlot classes wire.receiver wire.method)
-
--- a class, a member or a parameter that is used isn't there
-abbrev pub LacksMember : Program → Type 0
-LacksMember program = Any LacksInClass program.classes ⊎ Any (LacksEnd program.classes) program.wires
+abbrev pub NoType : List Outline → Type 0
+NoType outlines = Any (LacksTypes outlines) outlines

@@ -1,107 +1,148 @@
 -- How a program and its meta-objects correspond: names are replaced by numbers, which are places in lists
 -- (docs/machine.md, "Loading").
-use Rattle.std.specs.Prelude.{◌≡◌, ℕ, List, ◌++◌, ◌⊎◌, Some, Result, Ok, Err}
+use Rattle.std.specs.Prelude.{◌≡◌, ℕ, ◌<◌, ◌⊎◌, false, pos, List, [], Option, None, Some, slice_get, Any}
 use Rattle.std.specs.List.{AllZip}
+use Rattle.std.specs.Option.{option_and_then}
 use Rattle.signatures.specs.declared.sig.Sig.{Sig}
-use Rattle.slot_lang.specs.declared.syntax.Expr.{Expr}
-use Rattle.slot_lang.specs.declared.syntax.Expr.TheVariants as expr
-use Rattle.slot_lang.specs.declared.syntax.Stmt.{Stmt}
-use Rattle.slot_lang.specs.declared.syntax.Stmt.TheVariants as stmt
-use Rattle.class_lang.specs.declared.program.Parameter.{Parameter}
+use Rattle.signatures.specs.declared.value.Value.{Value}
+use Rattle.signatures.specs.declared.value.Value.TheVariants as value
 use Rattle.class_lang.specs.declared.program.Property.{Property}
-use Rattle.class_lang.specs.declared.program.Signal.{Signal}
 use Rattle.class_lang.specs.declared.program.Slot.{Slot}
 use Rattle.class_lang.specs.declared.program.Class.{Class}
 use Rattle.class_lang.specs.declared.program.Wire.{Wire}
+use Rattle.class_lang.specs.declared.program.Owns.{Owns}
 use Rattle.class_lang.specs.declared.program.Program.{Program}
-use Rattle.meta_objects.specs.declared.fault.MetaFault.{MetaFault}
-use Rattle.meta_objects.specs.declared.fault.MetaFault.TheVariants.{DuplicateClass, DuplicateMember, NoMember, Memory}
-use Rattle.meta_objects.specs.declared.object.Operand.{Operand}
-use Rattle.meta_objects.specs.declared.object.Operand.TheVariants as operand
+use Rattle.meta_objects.specs.declared.object.ValueType.{ValueType}
+use Rattle.meta_objects.specs.declared.object.ValueType.TheVariants as type
 use Rattle.meta_objects.specs.declared.object.Statement.{Statement}
-use Rattle.meta_objects.specs.declared.object.Statement.TheVariants as statement
 use Rattle.meta_objects.specs.declared.object.Work.{Work}
 use Rattle.meta_objects.specs.declared.object.Work.TheVariants as work
-use Rattle.meta_objects.specs.declared.object.Sort.{Sort}
-use Rattle.meta_objects.specs.declared.object.Sort.TheVariants as sort
 use Rattle.meta_objects.specs.declared.object.MetaMethod.{MetaMethod}
 use Rattle.meta_objects.specs.declared.object.MetaProperty.{MetaProperty}
 use Rattle.meta_objects.specs.declared.object.MetaObject.{MetaObject}
 use Rattle.meta_objects.specs.declared.object.MetaWire.{MetaWire}
+use Rattle.meta_objects.specs.declared.object.MetaOwns.{MetaOwns}
+use Rattle.meta_objects.specs.declared.outline.Sort.{Sort}
+use Rattle.meta_objects.specs.declared.outline.Sort.TheVariants as sort
+use Rattle.meta_objects.specs.declared.outline.Heading.{Heading}
+use Rattle.meta_objects.specs.declared.outline.Outline.{Outline}
 use Rattle.meta_objects.specs.Loaded.{Loaded}
-use Rattle.meta_objects.specs.Places.{StandsAt}
-use Rattle.meta_objects.specs.Conditions.{signal_sig, slot_sig}
+use Rattle.meta_objects.specs.Places.{StandsFirst, IsPlace}
+use Rattle.meta_objects.specs.Outlines.{IsOutlineNamed}
+use Rattle.meta_objects.specs.Kinds.{IsReadAs}
+use Rattle.meta_objects.specs.Conditions.{IsSignalOf}
+use Rattle.meta_objects.specs.Bodies.{Scope, scope, AreStatements, LacksInBody}
 
--- a number stays, and a parameter is replaced by its place
-abbrev pub IsOperand : List Parameter → Expr → Operand → Type 0
-IsOperand parameters (expr.Number n) o = o ≡ operand.Number n
-IsOperand parameters (expr.Parameter name) o =
-    (place : ℕ) × (o ≡ operand.Parameter place) × StandsAt (λ (p : Parameter). p.name ≡ Some name) parameters place
+-- ---- bodies
+abbrev pub scope_of : List Outline → Class → Slot → Scope
+scope_of outlines class slot = scope outlines class.name slot.parameters
 
--- a property is replaced by its place in the class
-abbrev pub IsStatement : Class → List Parameter → Stmt → Statement → Type 0
-IsStatement class parameters (stmt.Set property e) s =
-    (place : ℕ) × (o : Operand) × (s ≡ statement.Set place o)
-    × StandsAt (λ (p : Property). p.name ≡ property) class.properties place × IsOperand parameters e o
+abbrev pub IsBody : List Outline → Class → Slot → List Statement → Type 0
+IsBody outlines class slot body = AreStatements (scope_of outlines class slot) slot.body body
 
-abbrev pub IsSignal : Signal → MetaMethod → Type 0
-IsSignal signal method = (method.sig ≡ signal_sig signal) × (method.work ≡ work.Signal)
+-- the bodies of a class's slots, and of the slots of all classes
+abbrev pub AreBodies : List Outline → Class → List (List Statement) → Type 0
+AreBodies outlines class bodies = AllZip (IsBody outlines class) class.slots bodies
 
-abbrev pub IsSlot : Class → Slot → MetaMethod → Type 0
-IsSlot class slot method =
-    (method.sig ≡ slot_sig slot)
-    × ((body : List Statement) × (method.work ≡ work.Slot body) × AllZip (IsStatement class slot.parameters) slot.body body)
+abbrev pub AllBodies : List Outline → List Class → List (List (List Statement)) → Type 0
+AllBodies outlines classes bodies = AllZip (AreBodies outlines) classes bodies
 
--- the signals come first, then the slots
-abbrev pub AreMethods : Class → List MetaMethod → Type 0
-AreMethods class methods =
-    (signals : List MetaMethod) × (slots : List MetaMethod) × (methods ≡ signals ++ slots)
-    × AllZip IsSignal class.signals signals × AllZip (IsSlot class) class.slots slots
+abbrev pub LacksInSlot : List Outline → Class → Slot → Type 0
+LacksInSlot outlines class slot = LacksInBody (scope_of outlines class slot) slot.body
 
-abbrev pub IsProperty : Property → MetaProperty → Type 0
-IsProperty property loaded = loaded.name ≡ property.name
+abbrev pub LacksInClass : List Outline → Class → Type 0
+LacksInClass outlines class = Any (LacksInSlot outlines class) class.slots
 
-pub record IsObject (class : Class) (object : MetaObject) : Type 0 where
-  pub named : object.name ≡ class.name
-  pub own_properties : AllZip IsProperty class.properties object.properties
-  pub own_methods : AreMethods class object.methods
+-- ---- methods
+-- the body of slot j of class i
+abbrev pub body_at : List (List (List Statement)) → ℕ → ℕ → Option (List Statement)
+body_at bodies i j = option_and_then (λ of_class. slice_get of_class j) (slice_get bodies i)
 
--- what a method is of this sort does
-abbrev pub IsOfSort : Sort → Work → Type 0
-IsOfSort sort.Signal w = w ≡ work.Signal
-IsOfSort sort.Slot w = ¬ (w ≡ work.Signal)
+abbrev pub found_body : Option (List Statement) → List Statement
+found_body None = []
+found_body (Some body) = body
 
--- the class has this name, and its method m has this signature and is of this sort
-abbrev pub IsEndOf : MetaObject → List ℕ → Sig → Sort → ℕ → Type 0
-IsEndOf object name sig s m =
-    (object.name ≡ name)
-    × StandsAt (λ (method : MetaMethod). (method.sig ≡ sig) × IsOfSort s method.work) object.methods m
+abbrev pub work_of : List (List (List Statement)) → Sort → Work
+work_of bodies sort.Signal = work.Signal
+work_of bodies sort.DeleteLater = work.Slot []
+work_of bodies (sort.Slot i j) = work.Slot (found_body (body_at bodies i j))
 
--- class c is such a class
-abbrev pub IsEnd : List MetaObject → List ℕ → Sig → Sort → ℕ → ℕ → Type 0
-IsEnd objects name sig s c m = StandsAt (λ (object : MetaObject). IsEndOf object name sig s m) objects c
+pub record IsMethodOf (outlines : List Outline) (bodies : List (List (List Statement))) (h : Heading) (method : MetaMethod) : Type 0 where
+  pub signed : method.sig ≡ h.sig
+  pub kinds : AllZip (IsReadAs outlines) h.sig.types method.kinds
+  pub work : method.work ≡ work_of bodies h.sort
 
--- classes and methods are replaced by their numbers
-pub record IsWire (objects : List MetaObject) (wire : Wire) (loaded : MetaWire) : Type 0 where
-  pub from : IsEnd objects wire.sender wire.signal sort.Signal loaded.sender loaded.signal
-  pub to : IsEnd objects wire.receiver wire.method sort.Slot loaded.receiver loaded.method
+-- ---- properties
+-- what a property is at first where no literal is given: 0, false, `""` or null
+abbrev pub default : ValueType → Value
+default type.Int = value.Int (pos 0)
+default type.Bool = value.Bool false
+default type.Text = value.Text []
+default (type.Reference c constant) = value.Ref None
+
+abbrev pub initial_of : Option Value → ValueType → Value
+initial_of None kind = default kind
+initial_of (Some v) kind = v
+
+-- the number of the notify signal, if one is given and is there
+abbrev pub IsNotify : Outline → Option Sig → Option ℕ → Type 0
+IsNotify outline None number = number ≡ None
+IsNotify outline (Some sig) number = IsPlace (IsSignalOf sig) outline.methods number
+
+pub record IsPropertyOf (outlines : List Outline) (outline : Outline) (declared : Property) (property : MetaProperty) : Type 0 where
+  pub named : property.name ≡ declared.name
+  pub typed : property.declared ≡ declared.kind
+  pub kind : IsReadAs outlines declared.kind property.kind
+  pub initial : property.initial ≡ initial_of declared.initial property.kind
+  pub notify : IsNotify outline declared.notify property.notify
+
+-- ---- classes
+pub record IsObject (outlines : List Outline) (bodies : List (List (List Statement))) (outline : Outline) (object : MetaObject) : Type 0 where
+  pub named : object.name ≡ outline.name
+  pub based : object.base ≡ outline.base
+  pub methods : AllZip (IsMethodOf outlines bodies) outline.methods object.methods
+  pub properties : AllZip (IsPropertyOf outlines outline) outline.properties object.properties
+
+-- ---- wires and owns
+-- a method of this signature, of any sort, in the class of this name
+pub record IsEnd (P : Heading → Type 0) (outlines : List Outline) (name : List ℕ) (c m : ℕ) : Type 0 where
+  pub class : IsOutlineNamed outlines name c
+  pub method : StandsFirst P class.at.item.methods m
+
+abbrev pub IsSigned : Sig → Heading → Type 0
+IsSigned sig h = h.sig ≡ sig
+
+-- a wire leads from a signal to a signal or slot that isn't one of `QObject`'s
+pub record IsWire (outlines : List Outline) (wire : Wire) (loaded : MetaWire) : Type 0 where
+  pub from : IsEnd (IsSignalOf wire.signal) outlines wire.sender loaded.sender loaded.signal
+  pub to : IsEnd (IsSigned wire.method) outlines wire.receiver loaded.receiver loaded.method
+  pub called : 3 < loaded.method
   pub same_kind : loaded.kind ≡ wire.kind
 
--- an end of the wire isn't there
-abbrev pub HasNoEnd : List MetaObject → Wire → Type 0
-HasNoEnd objects wire =
-    ((c m : ℕ) → ¬ IsEnd objects wire.sender wire.signal sort.Signal c m)
-    ⊎ ((c m : ℕ) → ¬ IsEnd objects wire.receiver wire.method sort.Slot c m)
+pub record IsOwns (outlines : List Outline) (owns : Owns) (loaded : MetaOwns) : Type 0 where
+  pub parent : IsOutlineNamed outlines owns.parent loaded.parent
+  pub child : IsOutlineNamed outlines owns.child loaded.child
 
--- the classes and the wires of the program, in its order
-pub record IsLoaded (program : Program) (loaded : Loaded) : Type 0 where
-  pub objects : AllZip IsObject program.classes loaded.classes
-  pub wired : AllZip (IsWire loaded.classes) program.wires loaded.wires
+abbrev pub LacksEnd : List Outline → Wire → Type 0
+LacksEnd outlines wire = (loaded : MetaWire) → ¬ IsWire outlines wire loaded
 
--- a part is loaded, or uses a name that isn't there
-abbrev pub Loads : {Y : Type 0} → Type 0 → (Y → Type 0) → Result Y MetaFault → Type 0
-Loads Lacks Is (Ok y) = Is y
-Loads Lacks Is (Err DuplicateClass) = ⊥
-Loads Lacks Is (Err DuplicateMember) = ⊥
-Loads Lacks Is (Err NoMember) = Lacks
-Loads Lacks Is (Err Memory) = Unit {0}
+abbrev pub LacksClass : List Outline → Owns → Type 0
+LacksClass outlines owns = (loaded : MetaOwns) → ¬ IsOwns outlines owns loaded
+
+-- ---- the program
+-- a name that is used in a body, a wire or an owns isn't there
+abbrev pub LacksMember : Program → List Outline → Type 0
+LacksMember program outlines =
+    Any (LacksInClass outlines) program.classes ⊎ Any (LacksEnd outlines) program.wires ⊎ Any (LacksClass outlines) program.owns
+
+-- the bodies, the wires and the owns of the program, in its order
+pub record HasUses (program : Program) (outlines : List Outline) (bodies : List (List (List Statement))) (wires : List MetaWire) (owns : List MetaOwns) : Type 0 where
+  pub are_bodies : AllBodies outlines program.classes bodies
+  pub wired : AllZip (IsWire outlines) program.wires wires
+  pub owned : AllZip (IsOwns outlines) program.owns owns
+
+-- the program's meta-objects are those of its outlines, with these
+pub record IsLoaded (program : Program) (outlines : List Outline) (loaded : Loaded) : Type 0 where
+  pub bodies : List (List (List Statement))
+  pub uses : HasUses program outlines bodies loaded.wires loaded.owns
+  pub objects : AllZip (IsObject outlines bodies) outlines loaded.classes

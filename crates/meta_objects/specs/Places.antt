@@ -1,5 +1,5 @@
 -- The elements of lists by their places, from 0 (docs/machine.md, "Meta-objects").
-use Rattle.std.specs.Prelude.{◌≡◌, ℕ, List, Option, Some, slice_get, MatchOption}
+use Rattle.std.specs.Prelude.{◌≡◌, ℕ, ◌<◌, List, Option, Some, slice_get, MatchOption}
 
 -- an element with P stands at this place
 pub record StandsAt {X : Type 0} (P : X → Type 0) (xs : List X) (place : ℕ) : Type 0 where
@@ -7,6 +7,16 @@ pub record StandsAt {X : Type 0} (P : X → Type 0) (xs : List X) (place : ℕ) 
   pub is : slice_get xs place ≡ Some item
   pub has : P item
 
--- the answer is the place of an element with P, or `None` where there is no such element
+-- .. and none before it
+pub record StandsFirst {X : Type 0} (P : X → Type 0) (xs : List X) (place : ℕ) : Type 0 where
+  pub at : StandsAt P xs place
+  pub first : (k : ℕ) → k < place → ¬ StandsAt P xs k
+
+-- .. and it is this element
+pub record Found {X : Type 0} (P : X → Type 0) (xs : List X) (place : ℕ) (item : X) : Type 0 where
+  pub first : StandsFirst P xs place
+  pub is : first.at.item ≡ item
+
+-- the answer is the place of the first element with P, or `None` where there is no such element
 abbrev pub IsPlace : {X : Type 0} → (X → Type 0) → List X → Option ℕ → Type 0
-IsPlace P xs answer = MatchOption answer ((i : ℕ) → ¬ StandsAt P xs i) (λ i. StandsAt P xs i)
+IsPlace P xs answer = MatchOption answer ((i : ℕ) → ¬ StandsAt P xs i) (λ i. StandsFirst P xs i)

@@ -2,8 +2,9 @@
 
 ghost use Rattle.std.specs.Prelude.{◌≡◌, ◌↔◌, ℕ, List, length, IsTrue, Some, Any};
 ghost use Rattle.meta_objects.specs.Twice.{StandsTwice};
-ghost use Rattle.meta_objects.specs.Conditions.{IsTaken, DuplicateClass, HasTwoOfOneCall, HasDuplicate, DuplicateMember, AreOneParameter, IsOneCall};
+ghost use Rattle.meta_objects.specs.Conditions.{IsTaken, DuplicateClass, AreOneCall, HasTwoMembers, RepeatsParameter, DuplicateMember, AreOneParameter};
 
+use crate::outline::{Heading, Outline};
 use class_lang::{Class, Parameter, Program, Property, Signal, Slot};
 use signatures::Name;
 
@@ -32,19 +33,11 @@ impl Alike for Property {
     }
 }
 
-impl Alike for Signal {
-    ghost alike = { λ a b. (a.name ≡ b.name) × (length a.parameters ≡ length b.parameters) };
+impl Alike for Heading {
+    ghost alike = { AreOneCall };
 
-    fn is_alike(&self, other: &Signal) -> bool {
-        self.parameters.len() == other.parameters.len() && self.name.is_same(&other.name)
-    }
-}
-
-impl Alike for Slot {
-    ghost alike = { λ a b. (a.name ≡ b.name) × (length a.parameters ≡ length b.parameters) };
-
-    fn is_alike(&self, other: &Slot) -> bool {
-        self.parameters.len() == other.parameters.len() && self.name.is_same(&other.name)
+    fn is_alike(&self, other: &Heading) -> bool {
+        self.sig.types.len() == other.sig.types.len() && self.sig.name.is_same(&other.sig.name)
     }
 }
 
@@ -99,46 +92,31 @@ fn is_taken(name: &Name) -> bool
         || bytes == b"QString".as_slice()
 }
 
-/// Whether a member of a class, or a parameter of a method, stands twice.
-pub fn has_duplicate_member(program: &Program) -> bool
-    ensures { IsTrue result ↔ DuplicateMember program.now }
+/// Whether a member of a class stands twice, inherited ones too, or a parameter of a method.
+pub fn has_duplicate_member(program: &Program, outlines: &[Outline]) -> bool
+    ensures { IsTrue result ↔ DuplicateMember program.now outlines.now }
 {
     let classes = program.classes.as_slice();
-    classes.iter().any(|class| has_duplicate(class))
+    outlines.iter().any(|outline| has_two_members(outline))
+        || classes.iter().any(|class| repeats_parameter(class))
 }
 
-/// Whether a member of the class, or a parameter of one of its methods, stands twice.
-fn has_duplicate(class: &Class) -> bool
-    ensures { IsTrue result ↔ HasDuplicate class.now }
+/// Whether two methods or two properties of the class are one.
+fn has_two_members(outline: &Outline) -> bool
+    ensures { IsTrue result ↔ HasTwoMembers outline.now }
 {
-    has_two_of_one_call(class)
-        || stands_twice(class.properties.as_slice())
-        || repeats_signal_parameter(class.signals.as_slice())
-        || repeats_slot_parameter(class.slots.as_slice())
+    let methods = outline.methods.as_slice();
+    let properties = outline.properties.as_slice();
+    stands_twice(methods) || stands_twice(properties)
 }
 
-/// Whether two methods of the class have one name and one number of parameters.
-fn has_two_of_one_call(class: &Class) -> bool
-    ensures { IsTrue result ↔ HasTwoOfOneCall class.now }
+/// Whether a parameter stands twice in a method of the class.
+fn repeats_parameter(class: &Class) -> bool
+    ensures { IsTrue result ↔ RepeatsParameter class.now }
 {
     let signals = class.signals.as_slice();
     let slots = class.slots.as_slice();
-    stands_twice(signals) || stands_twice(slots) || share_a_call(signals, slots)
-}
-
-/// Whether a signal and a slot have one name and one number of parameters.
-fn share_a_call(signals: &[Signal], slots: &[Slot]) -> bool
-    ensures { IsTrue result ↔ Any (λ signal. Any (λ slot. IsOneCall signal slot) slots.now) signals.now }
-{
-    signals.iter().any(|signal| has_call_of(slots, signal))
-}
-
-/// Whether one of the slots has the signal's name and number of parameters.
-fn has_call_of(slots: &[Slot], signal: &Signal) -> bool
-    ensures { IsTrue result ↔ Any (λ slot. IsOneCall signal.now slot) slots.now }
-{
-    let count = signal.parameters.len();
-    slots.iter().any(|slot| count == slot.parameters.len() && signal.name.is_same(&slot.name))
+    repeats_signal_parameter(signals) || repeats_slot_parameter(slots)
 }
 
 /// Whether a parameter stands twice in a signal.

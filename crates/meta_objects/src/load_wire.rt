@@ -1,81 +1,129 @@
-//! Wires whose names are replaced by numbers.
+//! Wires and owns whose names are replaced by numbers.
 
 ghost use Rattle.std.specs.Prelude.{◌≡◌, ℕ, Any, MatchOption};
 ghost use Rattle.std.specs.List.{AllZip};
-ghost use Rattle.meta_objects.specs.Loading.{IsOfSort, IsEndOf, IsEnd, IsWire, HasNoEnd, Loads};
+ghost use Rattle.meta_objects.specs.Conditions.{IsSignalOf};
+ghost use Rattle.meta_objects.specs.Loading.{IsSigned, IsEnd, IsWire, IsOwns, LacksEnd, LacksClass};
+ghost use Rattle.meta_objects.specs.Parts.{Loads};
 ghost use Rattle.meta_objects.specs.Places.{IsPlace};
+ghost use Rattle.meta_objects.specs.declared.fault.MetaFault.TheVariants as fault;
 
 use crate::fault::MetaFault;
-use crate::object::{MetaMethod, MetaObject, MetaWire, Sort};
-use class_lang::Wire;
+use crate::notify::place_of_signal;
+use crate::object::{MetaOwns, MetaWire};
+use crate::outline::{Heading, Outline};
+use crate::places::{find, place_of};
+use class_lang::{Owns, Wire};
 use signatures::{Name, Sig};
 use sqlite_items::Items;
 use std::alloc::Global;
 
-/// The wires in their order, by the classes that are loaded.
+/// The wires in their order; `NoMember` where an end of one isn't there.
 pub fn load_wires(
     alloc: Global,
-    objects: &[MetaObject],
+    outlines: &[Outline],
     wires: &[Wire],
 ) -> Result<Items<MetaWire>, MetaFault>
-    ensures { Loads (Any (HasNoEnd objects.now) wires.now) (λ loaded. AllZip (IsWire objects.now) wires.now loaded) result }
+    ensures { Loads fault.NoMember (Any (LacksEnd outlines.now) wires.now) (λ loaded. AllZip (IsWire outlines.now) wires.now loaded) result }
 {
     let mut loaded = Items::new(alloc);
     for wire in wires {
-        let wire = load_wire(objects, wire).ok_or(MetaFault::NoMember)?;
+        let Some(wire) = load_wire(outlines, wire) else {
+            return Err(MetaFault::NoMember);
+        };
         loaded.push(wire)?;
     }
     Ok(loaded)
 }
 
-/// The wire, if its signal and its slot are there.
-fn load_wire(objects: &[MetaObject], wire: &Wire) -> Option<MetaWire>
-    ensures { MatchOption result (HasNoEnd objects.now wire.now) (λ loaded. IsWire objects.now wire.now loaded) }
+/// The wire, if its ends are there.
+fn load_wire(outlines: &[Outline], wire: &Wire) -> Option<MetaWire>
+    ensures { MatchOption result (LacksEnd outlines.now wire.now) (λ loaded. IsWire outlines.now wire.now loaded) }
 {
-    let (sender, signal) = find_end(objects, &wire.sender, &wire.signal, Sort::Signal)?;
-    let (receiver, method) = find_end(objects, &wire.receiver, &wire.method, Sort::Slot)?;
-    Some(MetaWire {
-        sender,
-        signal,
-        receiver,
-        method,
-        kind: wire.kind,
-    })
-}
-
-/// The numbers of a class of this name and of its method of this signature and sort.
-fn find_end(objects: &[MetaObject], name: &Name, sig: &Sig, sort: Sort) -> Option<(usize, usize)>
-    ensures { MatchOption result ((c m : ℕ) → ¬ IsEnd objects.now name.now sig.now sort c m)
-        (λ found. IsEnd objects.now name.now sig.now sort found.0 found.1) }
-{
-    for (number, object) in objects.iter().enumerate() {
-        if let Some(method) = find_method(object, name, sig, sort) {
-            return Some((number, method));
-        }
-    }
-    None
-}
-
-/// The number of the class's method of this signature and sort, if the class has this name.
-fn find_method(object: &MetaObject, name: &Name, sig: &Sig, sort: Sort) -> Option<usize>
-    ensures { MatchOption result ((m : ℕ) → ¬ IsEndOf object.now name.now sig.now sort m)
-        (λ m. IsEndOf object.now name.now sig.now sort m) }
-{
-    if object.name.is_same(name) {
-        place_of_sort(object.methods.as_slice(), sig, sort)
+    let Some((sender, signal)) = signal_end(outlines, &wire.sender, &wire.signal) else {
+        return None;
+    };
+    let Some((receiver, method)) = method_end(outlines, &wire.receiver, &wire.method) else {
+        return None;
+    };
+    if 3 < method {
+        Some(MetaWire {
+            sender,
+            signal,
+            receiver,
+            method,
+            kind: wire.kind,
+        })
     } else {
         None
     }
 }
 
-/// The place of a method of this signature and sort.
-fn place_of_sort(methods: &[MetaMethod], sig: &Sig, sort: Sort) -> Option<usize>
-    ensures { IsPlace (λ method. (method.sig ≡ sig.now) × IsOfSort sort method.work) methods.now result }
+/// The numbers of the class of this name and of its signal of this signature.
+fn signal_end(outlines: &[Outline], name: &Name, sig: &Sig) -> Option<(usize, usize)>
+    ensures { MatchOption result ((c m : ℕ) → ¬ IsEnd (IsSignalOf sig.now) outlines.now name.now c m) (λ found. IsEnd (IsSignalOf sig.now) outlines.now name.now found.0 found.1) }
+{
+    let Some((class, found)) = find(outlines, name) else {
+        return None;
+    };
+    match place_of_signal(found.methods.as_slice(), sig) {
+        Some(method) => Some((class, method)),
+        None => None,
+    }
+}
+
+/// The numbers of the class of this name and of its method of this signature.
+fn method_end(outlines: &[Outline], name: &Name, sig: &Sig) -> Option<(usize, usize)>
+    ensures { MatchOption result ((c m : ℕ) → ¬ IsEnd (IsSigned sig.now) outlines.now name.now c m) (λ found. IsEnd (IsSigned sig.now) outlines.now name.now found.0 found.1) }
+{
+    let Some((class, found)) = find(outlines, name) else {
+        return None;
+    };
+    match place_of_signed(found.methods.as_slice(), sig) {
+        Some(method) => Some((class, method)),
+        None => None,
+    }
+}
+
+/// The place of a method of this signature.
+fn place_of_signed(methods: &[Heading], sig: &Sig) -> Option<usize>
+    ensures { IsPlace (IsSigned sig.now) methods.now result }
 {
     for (place, method) in methods.iter().enumerate() {
-        if method.is_of(sort) && method.sig.is_same(sig) {
+        if method.sig.is_same(sig) {
             return Some(place);
         }
     }
     None
+}
+
+/// The declarations of owners in their order; `NoMember` where a class isn't there.
+pub fn load_owns(
+    alloc: Global,
+    outlines: &[Outline],
+    owns: &[Owns],
+) -> Result<Items<MetaOwns>, MetaFault>
+    ensures { Loads fault.NoMember (Any (LacksClass outlines.now) owns.now) (λ loaded. AllZip (IsOwns outlines.now) owns.now loaded) result }
+{
+    let mut loaded = Items::new(alloc);
+    for one in owns {
+        let Some(one) = load_one_owns(outlines, one) else {
+            return Err(MetaFault::NoMember);
+        };
+        loaded.push(one)?;
+    }
+    Ok(loaded)
+}
+
+/// The declaration, if its classes are there.
+fn load_one_owns(outlines: &[Outline], owns: &Owns) -> Option<MetaOwns>
+    ensures { MatchOption result (LacksClass outlines.now owns.now) (λ loaded. IsOwns outlines.now owns.now loaded) }
+{
+    let Some(parent) = place_of(outlines, &owns.parent) else {
+        return None;
+    };
+    let Some(child) = place_of(outlines, &owns.child) else {
+        return None;
+    };
+    Some(MetaOwns { parent, child })
 }

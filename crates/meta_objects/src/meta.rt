@@ -1,79 +1,106 @@
-ghost use Rattle.std.specs.Prelude.{◌≡◌, ℕ, List, IsTrue, ◌↔◌, IfSome, MatchOption, option_copied, slice_get};
-ghost use Rattle.std.specs.List.{AllByRecursion};
+ghost use Rattle.std.specs.Prelude.{◌≡◌, ◌<◌, ℕ, List, IsTrue, ◌↔◌, IfSome, MatchOption, option_copied, slice_get, Option, Some};
 ghost use Rattle.meta_objects.specs.Builds.{Builds};
-ghost use Rattle.meta_objects.specs.Members.{IsClass, IsClassNamed, IsMethod, HasSig, IsMethodNamed, IsPropertyNamed, CoversBy, Covers};
-ghost use Rattle.meta_objects.specs.Sound.{IsSoundMethod};
+ghost use Rattle.meta_objects.specs.Members.{IsClass, IsClassNamed, IsMethod, HasSig, IsMethodNamed, IsPropertyNamed, base_of, method_count, method_offset, Below, CoversBy, Covers, OwnsBy, Owns};
+ghost use Rattle.meta_objects.specs.Sound.{IsSound, IsSoundClass, IsSoundMethod};
+ghost use Rattle.meta_objects.specs.Values.{Has};
 ghost use Rattle.meta_objects.specs.Wiring.{IsWired};
 ghost use Rattle.meta_objects.specs.declared.object.MetaMethod.{MetaMethod};
 ghost use Rattle.meta_objects.specs.declared.object.MetaObject.{MetaObject};
-ghost use Rattle.meta_objects.specs.declared.object.Statement.{Statement};
-ghost use Rattle.meta_objects.specs.declared.object.Work.TheVariants.{Slot};
+ghost use Rattle.signatures.specs.declared.value.Value.TheVariants.{Ref};
 
 use crate::clashes::{has_duplicate_class, has_duplicate_member};
 use crate::fault::MetaFault;
-use crate::load_class::load_classes;
-use crate::load_wire::load_wires;
-use crate::object::{MetaMethod, MetaObject, MetaWire};
+use crate::kinds::has_no_type;
+use crate::load_object::load_objects;
+use crate::load_uses::{Uses, load_uses};
+use crate::notify::has_bad_notify;
+use crate::object::{MetaMethod, MetaObject, MetaOwns, MetaWire, ValueType};
+use crate::outlining::outline_classes;
 use crate::places::{place_of, place_of_method, place_of_sig};
 use class_lang::Program;
-use signatures::{Kind, Name, Sig, fits};
+use signatures::{Kind, Name, ObjectId, Sig, Value, fits};
 use sqlite_items::Items;
 use std::alloc::Global;
 use std::marker::Model;
 
-/// The meta-objects of a program that loads.
+/// The meta-objects of a program that loads. Class 0 is `QObject`; the program's own classes follow as declared.
 #[derive(Drop)]
 pub struct Meta {
     classes: Items<MetaObject>,
     wires: Items<MetaWire>,
+    owns: Items<MetaOwns>,
 }
 
 impl Model for Meta {
     ghost use Rattle.meta_objects.specs.Loaded.{Loaded};
     ghost use Rattle.meta_objects.specs.Sound.{IsSound};
+    ghost use Rattle.meta_objects.specs.contracts.object.Statement as statement;
+    ghost use Rattle.std.specs.Coded.{codes};
 
     ghost Value = { Loaded };
 
-    ghost view = { λ meta. record { classes = meta.classes; wires = meta.wires } };
+    ghost coded = { Prim.hlevel (codes, statement.the_row.coded) };
 
-    ghost invariant = { λ meta. IsSound (record { classes = meta.classes; wires = meta.wires }) };
+    ghost view = { λ meta. record { classes = meta.classes; wires = meta.wires; owns = meta.owns } };
+
+    ghost invariant = { λ meta. IsSound (record { classes = meta.classes; wires = meta.wires; owns = meta.owns }) };
 }
 
-/// Whether a wire covers a connection, and whether its slot fits its signal.
+/// Whether a wire covers a connection, and whether its method fits its signal.
 #[derive(Clone, Copy, Debug, PartialEq, Eq)]
 pub enum Wired {
     /// No wire covers the connection.
     No,
-    /// A wire covers it, but the slot's parameter types aren't the signal's first ones.
+    /// A wire covers it, but the method's parameter types aren't the signal's first ones.
     Unfit,
-    /// A wire covers it, and the slot fits the signal.
+    /// A wire covers it, and the method fits the signal.
     Fit,
 }
 
 impl Meta {
     /// Resolves a program's names. Each fault is judged over the whole program, and the first of these is answered:
     /// `DuplicateClass`, where two classes have one name, or one is called `QObject`, `int`, `bool` or `QString`;
-    /// `DuplicateMember`, where two methods of a class have one name and one number of parameters, two of its
-    /// properties one name, or two parameters of a method one name; `NoMember`, where a statement sets what is no
-    /// property of its class, an expression names no parameter of its slot, or a wire's class, signal or slot isn't
-    /// there. `Memory` comes only where a growth of memory was refused.
+    /// `NoBase`, where a class's base is neither `QObject` nor a class that stands before it; `DuplicateMember`, where
+    /// two methods of a class, inherited ones too, have one name and one number of parameters, two of its properties one
+    /// name, or two parameters of a method one name; `NoMember`, where a class, a member or a parameter that a body, a
+    /// wire or an owns uses isn't there; `BadNotify`, where a notify signature isn't a signal of the class or of a user
+    /// base, without parameter or with one of the property's type; `NoType`, where the type of a property or a
+    /// parameter isn't there. `Memory` comes only where a growth of memory was refused.
     pub fn build(alloc: Global, program: &Program) -> Result<Meta, MetaFault>
         ensures { Builds program.now result }
     {
         if has_duplicate_class(program) {
             return Err(MetaFault::DuplicateClass);
         }
-        if has_duplicate_member(program) {
+        let declared = program.classes.as_slice();
+        let outlines = outline_classes(alloc, declared)?;
+        let all = outlines.as_slice();
+        if has_duplicate_member(program, all) {
             return Err(MetaFault::DuplicateMember);
         }
-        let classes = load_classes(alloc, program.classes.as_slice())?;
-        let wires = load_wires(alloc, classes.as_slice(), program.wires.as_slice())?;
-        Ok(Meta { classes, wires })
+        let Uses {
+            bodies,
+            wires,
+            owns,
+        } = load_uses(alloc, program, all)?;
+        if has_bad_notify(all) {
+            return Err(MetaFault::BadNotify);
+        }
+        if has_no_type(all) {
+            return Err(MetaFault::NoType);
+        }
+        let classes = load_objects(alloc, all, bodies.as_slice())?;
+        Ok(Meta {
+            classes,
+            wires,
+            owns,
+        })
     }
 
-    /// The classes, as declared.
+    /// The classes by their numbers: `QObject`, then the program's as declared.
     pub fn classes(&self) -> &[MetaObject]
-        ensures { result.now ≡ self.now.classes }
+        ensures value { result.now ≡ self.now.classes }
+        ensures sound { IsSound self.now }
     {
         self.classes.as_slice()
     }
@@ -83,6 +110,13 @@ impl Meta {
         ensures { result.now ≡ self.now.wires }
     {
         self.wires.as_slice()
+    }
+
+    /// The declarations of owners, as declared.
+    pub fn owned(&self) -> &[MetaOwns]
+        ensures { result.now ≡ self.now.owns }
+    {
+        self.owns.as_slice()
     }
 
     /// The number of the class of this name, or `None` where there is none.
@@ -98,15 +132,60 @@ impl Meta {
     /// The class of this number, or `None` past the last one.
     pub fn object(&self, class: usize) -> Option<&MetaObject>
         ensures value { option_copied result ≡ slice_get self.now.classes class }
-        ensures sound { IfSome result (λ k. AllByRecursion (IsSoundMethod k.now) k.now.methods) }
+        ensures sound { IfSome result (λ k. IsSoundClass self.now class k.now) }
     {
         self.classes.get(class)
+    }
+
+    /// The number of the class's base, or `None` for `QObject` and past the last class.
+    pub fn base(&self, class: usize) -> Option<usize>
+        ensures value { result ≡ base_of self.now class }
+        ensures smaller { IfSome result (λ b. b < class) }
+    {
+        match self.object(class) {
+            Some(found) => found.base,
+            None => None,
+        }
+    }
+
+    /// Whether the class is the other or below it.
+    pub fn inherits(&self, class: usize, other: usize) -> bool
+        ensures { IsTrue result ↔ Below self.now class other }
+    {
+        let mut below = class;
+        while below != other {
+            match self.base(below) {
+                Some(base) => below = base,
+                None => return false,
+            }
+        }
+        true
+    }
+
+    /// How many methods the class has, inherited ones too; 0 past the last class.
+    pub fn method_count(&self, class: usize) -> usize
+        ensures { result ≡ method_count self.now class }
+    {
+        match self.object(class) {
+            Some(found) => found.methods.len(),
+            None => 0,
+        }
+    }
+
+    /// How many of the class's methods are inherited, which have the first numbers; 0 for `QObject`.
+    pub fn method_offset(&self, class: usize) -> usize
+        ensures { result ≡ method_offset self.now class }
+    {
+        match self.base(class) {
+            Some(base) => self.method_count(base),
+            None => 0,
+        }
     }
 
     /// The method of this number, of the class of this number, or `None` where either isn't there.
     pub fn method_at(&self, class: usize, method: usize) -> Option<&MetaMethod>
         ensures value { MatchOption result ((m : MetaMethod) → ¬ IsMethod self.now class method m) (λ m. IsMethod self.now class method m.now) }
-        ensures sound { IfSome result (λ m. (k : MetaObject) × IsClass self.now class k × IsSoundMethod k m.now) }
+        ensures sound { IfSome result (λ m. IsSoundMethod self.now class m.now) }
     {
         self.object(class)?.methods.get(method)
     }
@@ -143,7 +222,7 @@ impl Meta {
     }
 
     /// Whether a wire covers the connection of a signal of one class to a method of another, by this kind, and whether
-    /// the method fits the signal.
+    /// the method fits the signal. A wire covers its own classes and those below them; `destroyed()` is as spelled here.
     pub fn wired(
         &self,
         sender: usize,
@@ -152,12 +231,8 @@ impl Meta {
         method: &Sig,
         kind: Kind,
     ) -> Wired
-        ensures value { IsWired self.now sender signal.now receiver method.now kind result }
-        ensures to_slot { (m : ℕ) (k : MetaMethod) → Covers self.now sender signal.now receiver method.now kind
-            → IsMethod self.now receiver m k → k.sig ≡ method.now → (statements : List Statement) × (k.work ≡ Slot statements) }
+        ensures { IsWired self.now sender signal.now receiver method.now kind result }
     {
-        // Reading a field lets the proof use that every wire leads to a slot.
-        let _ = &self.wires;
         if !self.covers(sender, signal, receiver, method, kind) {
             Wired::No
         } else if fits(signal, method) {
@@ -191,11 +266,11 @@ impl Meta {
     ) -> bool
         ensures { IsTrue result ↔ CoversBy self.now sender signal.now receiver method.now kind wire.now }
     {
-        wire.sender == sender
-            && wire.receiver == receiver
-            && wire.kind == kind
-            && self.has_sig(sender, wire.signal, signal)
-            && self.has_sig(receiver, wire.method, method)
+        wire.kind == kind
+            && self.inherits(sender, wire.sender)
+            && self.inherits(receiver, wire.receiver)
+            && self.has_sig(wire.sender, wire.signal, signal)
+            && self.has_sig(wire.receiver, wire.method, method)
     }
 
     /// Whether the method of this number has this signature.
@@ -205,6 +280,54 @@ impl Meta {
         match self.method_at(class, method) {
             Some(found) => found.sig.is_same(sig),
             None => false,
+        }
+    }
+
+    /// Whether an object of the first class may be the parent of one of the second: by a declaration of these classes
+    /// or of classes above them.
+    pub fn owns(&self, parent: usize, child: usize) -> bool
+        ensures { IsTrue result ↔ Owns self.now parent child }
+    {
+        for owns in self.owned() {
+            if self.is_owned_by(parent, child, owns) {
+                return true;
+            }
+        }
+        false
+    }
+
+    /// Whether this declaration is of these classes or of classes above them.
+    fn is_owned_by(&self, parent: usize, child: usize, owns: &MetaOwns) -> bool
+        ensures { IsTrue result ↔ OwnsBy self.now parent child owns.now }
+    {
+        self.inherits(parent, owns.parent) && self.inherits(child, owns.child)
+    }
+
+    /// Whether the value has the type. Where the value refers to an object, `class` is that object's class, or `None`
+    /// where the object is dead; else it plays no part.
+    pub fn has_type(&self, value: &Value, class: Option<usize>, kind: ValueType) -> bool
+        ensures { (classes : ℕ → Option ℕ) → ((o : ℕ) → value.now ≡ Ref (Some o) → classes o ≡ class) → IsTrue result ↔ Has self.now classes value.now kind }
+    {
+        match (value, kind) {
+            (Value::Int(_), ValueType::Int) => true,
+            (Value::Bool(_), ValueType::Bool) => true,
+            (Value::Text(_), ValueType::Text) => true,
+            (Value::Ref(object), _) => self.refers_to(*object, class, kind),
+            _ => false,
+        }
+    }
+
+    /// Whether null, or a reference to an object of this class, has the type.
+    fn refers_to(&self, object: Option<ObjectId>, class: Option<usize>, kind: ValueType) -> bool
+        ensures { (classes : ℕ → Option ℕ) → ((o : ℕ) → object ≡ Some o → classes o ≡ class) → IsTrue result ↔ Has self.now classes (Ref object) kind }
+    {
+        let ValueType::Reference(wanted, _) = kind else {
+            return false;
+        };
+        match (object, class) {
+            (None, _) => true,
+            (Some(_), Some(class)) => self.inherits(class, wanted),
+            (Some(_), None) => false,
         }
     }
 }

@@ -1,23 +1,57 @@
-ghost use Rattle.std.specs.Prelude.{◌≡◌, ◌↔◌, IsTrue};
-ghost use Rattle.meta_objects.specs.Loading.{IsOfSort};
-
-use signatures::{Kind, Name, Sig};
+use crate::slot_body::SlotBody;
+use signatures::{Kind, Name, QType, Sig, Value};
+use slot_lang::Expr;
 use sqlite_items::Items;
 
-/// An expression whose names are resolved.
-#[derive(Drop)]
-pub enum Operand {
-    /// A number.
-    Number(i32),
+/// The type of a property or a parameter, its class replaced by its number.
+#[derive(Clone, Copy, Debug, PartialEq, Eq)]
+pub enum ValueType {
+    /// `int`
+    Int,
+    /// `bool`
+    Bool,
+    /// `QString`
+    Text,
+    /// `C*`, or `const C*` where the second part is true: the class's number.
+    Reference(usize, bool),
+}
+
+/// Where a path begins.
+#[derive(Clone, Copy, Debug, PartialEq, Eq)]
+pub enum MetaRoot {
+    /// `this`
+    This,
     /// A parameter, by its place from 0.
     Parameter(usize),
+}
+
+/// A property that leads on from an object in a path.
+#[derive(Clone, Copy, Debug, PartialEq, Eq)]
+pub struct Step {
+    /// Its number, in the class that the path so far is declared to lead to and in every class below that.
+    pub property: usize,
+    /// Its declared type, which says what it reads as where the path so far leads to null.
+    pub kind: ValueType,
+}
+
+/// A path whose names are resolved.
+#[derive(Drop)]
+pub struct MetaPath {
+    pub root: MetaRoot,
+    pub steps: Items<Step>,
 }
 
 /// A statement whose names are resolved.
 #[derive(Drop)]
 pub enum Statement {
-    /// `set this.p = e;`: the property's number in its class, and the new value.
-    Set(usize, Operand),
+    /// `set path.p = e;`: the object's path, the property's number and the new value.
+    Set(MetaPath, usize, Expr<MetaPath>),
+    /// `emit s(e, ..);`: the signal's number in the body's class, and the arguments.
+    Emit(usize, Items<Expr<MetaPath>>),
+    /// `call path.m(e, ..);`: the object's path, the method's number and the arguments.
+    Call(MetaPath, usize, Items<Expr<MetaPath>>),
+    /// `if (e) { .. } else { .. }`
+    If(Expr<MetaPath>, Items<Statement>, Items<Statement>),
 }
 
 /// What a method does.
@@ -26,64 +60,50 @@ pub enum Work {
     /// A signal is emitted.
     Signal,
     /// A slot has a body.
-    Slot(Items<Statement>),
-}
-
-/// The two sorts of methods.
-#[derive(Clone, Copy, Debug, PartialEq, Eq)]
-pub(crate) enum Sort {
-    Signal,
-    Slot,
+    Slot(SlotBody),
 }
 
 /// A method of a class.
 #[derive(Drop)]
 pub struct MetaMethod {
-    /// Its name and its parameters' types.
+    /// Its name and its parameters' types, as declared.
     pub sig: Sig,
+    /// Its parameters' types, by the numbers of their classes.
+    pub kinds: Items<ValueType>,
     /// What a call of it does.
     pub work: Work,
 }
 
-impl MetaMethod {
-    /// Whether it is a signal, and not a slot.
-    pub fn is_signal(&self) -> bool
-        ensures { IsTrue result ↔ (self.now.work ≡ Work.Signal) }
-    {
-        matches!(self.work, Work::Signal)
-    }
-
-    /// Whether it is a method of this sort.
-    pub(crate) fn is_of(&self, sort: Sort) -> bool
-        ensures { IsTrue result ↔ IsOfSort sort self.now.work }
-    {
-        match sort {
-            Sort::Signal => self.is_signal(),
-            Sort::Slot => !self.is_signal(),
-        }
-    }
-}
-
-/// A property of a class, of type `int`.
+/// A property of a class.
 #[derive(Drop)]
 pub struct MetaProperty {
     /// Its name.
     pub name: Name,
+    /// Its type, as declared.
+    pub declared: QType,
+    /// Its type, by the number of its class.
+    pub kind: ValueType,
+    /// The value that it has at first, which may be of another type where a literal is given.
+    pub initial: Value,
+    /// The number of the signal that is emitted when its value changes, if it has one.
+    pub notify: Option<usize>,
 }
 
-/// A class. A method's or a property's number is its place here, from 0: the signals come first, then the slots, each
-/// as declared.
+/// A class. A method's or a property's number is its place here, from 0: the base's members come first, then the
+/// class's own, signals before slots, each as declared.
 #[derive(Drop)]
 pub struct MetaObject {
     /// The class's name.
     pub name: Name,
-    /// Its signals, then its slots.
+    /// The number of its base; only `QObject`, which has the number 0, has none.
+    pub base: Option<usize>,
+    /// The base's methods, then its own signals, then its own slots.
     pub methods: Items<MetaMethod>,
-    /// Its properties.
+    /// The base's properties, then its own.
     pub properties: Items<MetaProperty>,
 }
 
-/// A wire, by the numbers of its classes and of their methods.
+/// A wire, by the numbers of its classes and of their methods; `destroyed()` has the number 1 here.
 #[derive(Drop)]
 pub struct MetaWire {
     /// The class of the sender.
@@ -92,8 +112,17 @@ pub struct MetaWire {
     pub signal: usize,
     /// The class of the receiver.
     pub receiver: usize,
-    /// The slot, in the receiver's class.
+    /// The slot or signal, in the receiver's class.
     pub method: usize,
     /// How the connection reaches its receiver.
     pub kind: Kind,
+}
+
+/// A declaration of which class's objects may be parents of which class's, by the numbers of the two.
+#[derive(Clone, Copy, Debug, PartialEq, Eq)]
+pub struct MetaOwns {
+    /// The class of the parent.
+    pub parent: usize,
+    /// The class of the child.
+    pub child: usize,
 }

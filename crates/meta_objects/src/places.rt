@@ -1,9 +1,10 @@
 //! The places of classes and members in their lists.
 
-ghost use Rattle.std.specs.Prelude.{◌≡◌, ◌↔◌, ℕ, List, length, IsTrue, Some};
-ghost use Rattle.meta_objects.specs.Places.{IsPlace};
+ghost use Rattle.std.specs.Prelude.{◌≡◌, ◌↔◌, ℕ, List, length, IsTrue, Some, MatchOption};
+ghost use Rattle.meta_objects.specs.Places.{StandsAt, Found, IsPlace};
 
 use crate::object::{MetaMethod, MetaObject, MetaProperty};
+use crate::outline::Outline;
 use class_lang::{Parameter, Property};
 use signatures::{Name, Sig};
 
@@ -32,6 +33,14 @@ impl Named for MetaProperty {
     }
 }
 
+impl Named for Outline {
+    ghost has_name = { λ class name. class.name ≡ name };
+
+    fn is_named(&self, name: &Name) -> bool {
+        self.name.is_same(name)
+    }
+}
+
 impl Named for Property {
     ghost has_name = { λ property name. property.name ≡ name };
 
@@ -49,6 +58,18 @@ impl Named for Parameter {
             None => false,
         }
     }
+}
+
+/// The first item of this name, with its place.
+pub fn find<'a, T: Named>(items: &'a [T], name: &Name) -> Option<(usize, &'a T)>
+    ensures { MatchOption result ((k : ℕ) → ¬ StandsAt (λ item. T.has_name item name.now) items.now k) (λ found. Found (λ item. T.has_name item name.now) items.now found.0 found.1.now) }
+{
+    for (place, item) in items.iter().enumerate() {
+        if item.is_named(name) {
+            return Some((place, item));
+        }
+    }
+    None
 }
 
 /// The place of an item of this name.

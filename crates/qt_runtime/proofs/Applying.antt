@@ -4,9 +4,9 @@ use Rattle.std.specs.Result.{IsErrAnd}
 use Rattle.script_lang.specs.declared.event.Event.{Event}
 use Rattle.meta_objects.specs.Loaded.{Loaded}
 use Rattle.qt_runtime.specs.declared.fault.Fault.{Fault}
-use Rattle.qt_runtime.specs.declared.fault.Fault.TheVariants.{TooDeep, Steps, Memory, Stopped}
+use Rattle.qt_runtime.specs.declared.fault.Fault.TheVariants.{BadType, TooDeep, Steps, Memory, Stopped}
 use Rattle.qt_runtime.specs.State.{State}
-use Rattle.qt_runtime.specs.Runs.{done, IsDue, by_rule, by_event, Reason}
+use Rattle.qt_runtime.specs.Runs.{done, Follows, by_rule, by_event, IsDue, goes_on, is_next, Reason}
 use Rattle.qt_runtime.specs.Seen.{Seen, Completes, Halts, Stays, RunsAll, at}
 use Rattle.qt_runtime.proofs.Going.{runs-trans}
 
@@ -35,13 +35,24 @@ halts-after {a} {b} {c} {f} {es} {fs} x y =
       reason = z.reason;
     }
 
--- a rule that is due stays due, whatever events follow
-due-more : {p : Loaded} {s : State} {es : List Event} (more : List Event) → IsDue p s es → IsDue p s (es ++ more)
-due-more more (by_rule t x) = by_rule t x
-due-more more (by_event e) = by_event e
+-- a rule that is due stays due, and one that follows still follows, whatever events come after
+due-more : {s : State} {es : List Event} (more : List Event) → IsDue s es → IsDue s (es ++ more)
+due-more more (goes_on x) = goes_on x
+due-more more (is_next x) = is_next x
+
+follows-more : {p : Loaded} {s t : State} {es rest : List Event} (more : List Event) → Follows p s t es rest → Follows p s t (es ++ more) (rest ++ more)
+follows-more more (by_rule x) = by_rule x
+follows-more more (by_event x) = by_event x
 
 reason-more : (p : Loaded) (d left : ℕ) (s : State) (es more : List Event) (f : Fault) → Reason p d s left es f → Reason p d s left (es ++ more) f
-reason-more p d left s es more TooDeep r = r
+reason-more p d left s es more BadType r =
+    elim r.1 [
+      | inl stuck ↦ (r.0, inl stuck)
+      | inr ill ↦ (r.0, inr (record { t = ill.t; rest = ill.rest ++ more; follows = follows-more more ill.follows; ill = ill.ill }))
+    ]
+reason-more p d left s es more TooDeep r =
+    let deep = r.1 in
+    (r.0, record { t = deep.t; rest = deep.rest ++ more; follows = follows-more more deep.follows; well = deep.well; deep = deep.deep })
 reason-more p d left s es more Steps r = (r.0, due-more more r.1)
 reason-more p d left s es more Memory r = r
 reason-more p d left s es more Stopped r = absurd r

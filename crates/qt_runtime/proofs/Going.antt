@@ -1,32 +1,35 @@
 -- How runs are put together.
-use Rattle.std.proofs.Common.{◌≡◌, ℕ, zero, suc, ◌+◌, ◌-◌, ◌<◌, ◌≤◌, List, [], ◌∷◌, ◌++◌, length, take, Result, Ok, Err, Option, Some, None, slice_get, slice_set, refl, sym, ap, ◌∙◌, subst, arith, length-append}
+use Rattle.std.proofs.Common.{◌≡◌, ◌≢◌, ℕ, zero, suc, ◌+◌, ◌-◌, ◌<◌, ◌≤◌, ◌⊎◌, inl, inr, List, [], ◌∷◌, ◌++◌, length, Result, Ok, Err, Option, Some, None, refl, sym, ap, ◌∙◌, subst, arith, length-append}
 use Rattle.std.specs.Result.{IsErrAnd}
 use Rattle.signatures.specs.declared.value.Value.{Value}
 use Rattle.script_lang.specs.declared.event.Event.{Event}
 use Rattle.meta_objects.specs.Loaded.{Loaded}
+use Rattle.expressions.specs.declared.evaluation.EvalFault.{EvalFault}
+use Rattle.expressions.specs.declared.evaluation.EvalFault.TheVariants as eval
 use Rattle.qt_runtime.specs.declared.fault.Fault.{Fault}
-use Rattle.qt_runtime.specs.declared.fault.Fault.TheVariants.{TooDeep, Steps, Memory, Stopped}
+use Rattle.qt_runtime.specs.declared.fault.Fault.TheVariants.{BadType, TooDeep, Steps, Memory}
 use Rattle.qt_runtime.specs.declared.entry.Entry.{Entry}
 use Rattle.qt_runtime.specs.declared.world.World.{World}
 use Rattle.qt_runtime.specs.State.{State, Activation}
-use Rattle.qt_runtime.specs.declared.connections.Connection.{Connection}
-use Rattle.qt_runtime.specs.Objects.{Shape, shapes_of}
-use Rattle.qt_runtime.specs.Sound.{Sound, IsEmission}
 use Rattle.qt_runtime.specs.Rules.{Rule}
-use Rattle.qt_runtime.specs.Runs.{Runs, done, rule, takes, IsDue, by_rule}
+use Rattle.qt_runtime.specs.Good.{AreTyped, IsWell, IsGood, TopFits}
+use Rattle.qt_runtime.specs.Runs.{Runs, done, then, Follows, by_rule, by_event, IsDue, goes_on, IsStuck, GoesIll, GoesDeep}
 use Rattle.qt_runtime.specs.Seen.{at}
-use Rattle.qt_runtime.specs.Goes.{ticked, noted, Ticks, MayPush, Goes, Breaks, Ends, CanPush, Same}
+use Rattle.qt_runtime.specs.Goes.{ticked, noted, Ticks, Goes, Breaks, Ends, Notes, IsFaultOf}
+
+follows-on : {p : Loaded} {s m : State} {es gs : List Event} (fs : List Event) → Follows p s m es gs → Follows p s m (es ++ fs) (gs ++ fs)
+follows-on fs (by_rule r) = by_rule r
+follows-on fs (by_event x) = by_event x
 
 pub runs-trans : {p : Loaded} {d : ℕ} {s m t : State} {n k j : ℕ} {es fs : List Event} → Runs p d s n es m k → Runs p d m k fs t j → Runs p d s n (es ++ fs) t j
 runs-trans done r = r
-runs-trans (rule x ok rest) r = rule x ok (runs-trans rest r)
-runs-trans (takes x ok rest) r = takes x ok (runs-trans rest r)
+runs-trans {fs = fs} (then x ok rest) r = then (follows-on fs x) ok (runs-trans rest r)
 
-pub runs-one : {p : Loaded} {d : ℕ} {s t : State} {n k : ℕ} → Rule p s t → length t.stack ≤ d → 0 < n → k ≡ n - 1 → Runs p d s n [] t k
+pub runs-one : {p : Loaded} {d : ℕ} {s t : State} {n k : ℕ} → Rule p s t → IsGood p d s t → 0 < n → k ≡ n - 1 → Runs p d s n [] t k
 runs-one {p} {d} {s} {t} {n} {k} x ok some e =
     let Family : ℕ → Type 0 = λ a. Runs p d s a [] t k in
     let suc_is : suc k ≡ n = omega (arith, e) in
-    subst Family suc_is (rule x ok done)
+    subst Family suc_is (then (by_rule x) ok done)
 
 pub goes-same : {p : Loaded} {d h : ℕ} {w : World} {top : List Activation} → Goes p d h w top w top
 goes-same = record { runs = λ below e. done }
@@ -42,86 +45,119 @@ pub ends-after : {p : Loaded} {d h : ℕ} {w v u : World} {a b c : List Activati
 ends-after {r = Ok _} x y = record { cases = goes-then x y.cases }
 ends-after {r = Err f} x y = record { cases = breaks-after x y.cases }
 
--- one rule, to a world with one rule fewer left
-pub goes-one : {p : Loaded} {d h : ℕ} {w v : World} {a b : List Activation} → ((below : List Activation) → length below ≡ h → Rule p (at w (a ++ below)) (at v (b ++ below))) → length b + h ≤ d → v.left ≡ w.left - 1 → 0 < w.left → Goes p d h w a v b
-goes-one {d = d} {b = b} step fits less some = record {
+-- one rule that pushes nothing, to a world with one rule fewer left
+pub goes-low : {p : Loaded} {d h : ℕ} {w v : World} {a b : List Activation} → ((below : List Activation) → length below ≡ h → Rule p (at w (a ++ below)) (at v (b ++ below))) → length b ≤ length a → length b + h ≤ d → AreTyped p v.objects → v.left ≡ w.left - 1 → 0 < w.left → Goes p d h w a v b
+goes-low {p} {d} {h} {w} {v} {a} {b} step low fits typed less some = record {
   runs = λ below e.
-      let ok : length (b ++ below) ≤ d = omega (arith, length-append b below, e, fits) in
-      runs-one (step below e) ok some less;
+      let shallow : length (b ++ below) ≤ d = omega (arith, length-append b below, e, fits) in
+      let no_higher : length (b ++ below) ≤ length (a ++ below) = omega (arith, length-append b below, length-append a below, low) in
+      let good : IsGood p d (at w (a ++ below)) (at v (b ++ below)) = record { well = record { arguments = λ higher. absurd (omega (arith, higher, no_higher)); values = typed }; shallow = shallow } in
+      runs-one (step below e) good some less;
 }
 
--- what a call that failed leaves behind a `?`
-pub ends-left : {p : Loaded} {d h : ℕ} {w v : World} {a b : List Activation} {f : Fault} (r : Result (Unit {0}) Fault) → Breaks p d h w a v f → IsErrAnd r (λ y. y ≡ f) → Ends p d h w a v b r
-ends-left (Ok _) x is = absurd is
-ends-left {p} {d} {h} {w} {v} {a} (Err y) x is = record { cases = subst (λ (q : Fault). Breaks p d h w a v q) (sym is) x }
+-- one rule that pushes an activation
+pub goes-high : {p : Loaded} {d h : ℕ} {w v : World} {from top to : Activation} → ((below : List Activation) → length below ≡ h → Rule p (at w (from ∷ below)) (at v (top ∷ to ∷ below))) → ((below : List Activation) → TopFits p v.objects (top ∷ to ∷ below)) → h + 1 < d → AreTyped p v.objects → v.left ≡ w.left - 1 → 0 < w.left → Goes p d h w (from ∷ []) v (top ∷ to ∷ [])
+goes-high {p} {d} {h} {w} {v} {from} {top} {to} step fit room typed less some = record {
+  runs = λ below e.
+      let shallow : length (top ∷ to ∷ below) ≤ d = omega (arith, e, room) in
+      let good : IsGood p d (at w (from ∷ below)) (at v (top ∷ to ∷ below)) = record { well = record { arguments = λ higher. fit below; values = typed }; shallow = shallow } in
+      runs-one (step below e) good some less;
+}
+
+-- ---- why a run stops
 
 -- no rule is left where one is due
-pub breaks-steps : {p : Loaded} {d h : ℕ} {w : World} {a : List Activation} → ((below : List Activation) → length below ≡ h → (t : State) × Rule p (at w (a ++ below)) t) → w.left ≡ 0 → Breaks p d h w a w Steps
-breaks-steps {a = a} step none = record { breaks = λ below e. let q = step below e in (a ++ below, done, (none, by_rule q.0 q.1)) }
+pub breaks-steps : {p : Loaded} {d h : ℕ} {w : World} {a : Activation} → w.left ≡ 0 → Breaks p d h w (a ∷ []) w Steps
+breaks-steps {a = a} none = record { breaks = λ below e. (a ∷ below, done, (none, goes_on (λ (empty : (a ∷ below) ≡ []). absurd (cc empty)))) }
 
 -- memory was refused
 pub breaks-memory : {p : Loaded} {d h : ℕ} {w : World} {a : List Activation} → 0 < w.left → Breaks p d h w a w Memory
 breaks-memory {a = a} some = record { breaks = λ below e. (a ++ below, done, some) }
 
--- memory was refused, behind a `?`
+-- no rule leads on
+pub breaks-stuck : {p : Loaded} {d h : ℕ} {w : World} {a : Activation} → 0 < w.left → ((below : List Activation) (t : State) → ¬ Rule p (at w (a ∷ below)) t) → Breaks p d h w (a ∷ []) w BadType
+breaks-stuck {p} {w = w} {a = a} some stuck = record {
+  breaks = λ below e.
+      let is : IsStuck p (at w (a ∷ below)) = record { goes_on = λ (empty : (a ∷ below) ≡ []). absurd (cc empty); stuck = stuck below } in
+      (a ∷ below, done, (some, inl is));
+}
+
+-- the next rule gives a value that is not of its type
+pub breaks-ill : {p : Loaded} {d h : ℕ} {w : World} {a : Activation} → 0 < w.left → ((below : List Activation) → (t : State) × Rule p (at w (a ∷ below)) t × (¬ IsWell p (at w (a ∷ below)) t)) → Breaks p d h w (a ∷ []) w BadType
+breaks-ill {p} {w = w} {a = a} some next = record {
+  breaks = λ below e.
+      let q = next below in
+      let is : GoesIll p (at w (a ∷ below)) [] = record { t = q.0; rest = []; follows = by_rule q.1; ill = q.2 } in
+      (a ∷ below, done, (some, inr is));
+}
+
+-- the next rule nests too deep
+pub breaks-deep : {p : Loaded} {d h : ℕ} {w : World} {a : Activation} → 0 < w.left → ((below : List Activation) → length below ≡ h → (t : State) × Rule p (at w (a ∷ below)) t × IsWell p (at w (a ∷ below)) t × (d < length t.stack)) → Breaks p d h w (a ∷ []) w TooDeep
+breaks-deep {p} {d} {w = w} {a = a} some next = record {
+  breaks = λ below e.
+      let q = next below e in
+      let is : GoesDeep p d (at w (a ∷ below)) [] = record { t = q.0; rest = []; follows = by_rule q.1; well = q.2; deep = q.3 } in
+      (a ∷ below, done, (some, is));
+}
+
+-- ---- what is left behind a `?`
+
+-- what a call that failed leaves
+pub ends-left : {p : Loaded} {d h : ℕ} {w v : World} {a b : List Activation} {f : Fault} (r : Result (Unit {0}) Fault) → Breaks p d h w a v f → IsErrAnd r (λ y. y ≡ f) → Ends p d h w a v b r
+ends-left (Ok _) x is = absurd is
+ends-left {p} {d} {h} {w} {v} {a} (Err y) x is = record { cases = subst (λ (q : Fault). Breaks p d h w a v q) (sym is) x }
+
+-- a fault that is known to be another one
+pub breaks-as : {p : Loaded} {d h : ℕ} {w v : World} {a : List Activation} {f g : Fault} → f ≡ g → Breaks p d h w a v g → Breaks p d h w a v f
+breaks-as {p} {d} {h} {w} {v} {a} is x = let Named : Fault → Type 0 = λ q. Breaks p d h w a v q in subst Named (sym is) x
+
+-- no rule was left
+pub ends-undue : {p : Loaded} {d h : ℕ} {w : World} {a : Activation} {b : List Activation} {f : Fault} (r : Result (Unit {0}) Fault) → (w.left ≡ 0) × (f ≡ Steps) → IsErrAnd r (λ y. y ≡ f) → Ends p d h w (a ∷ []) w b r
+ends-undue r none is = ends-left r (breaks-as none.1 (breaks-steps none.0)) is
+
+-- memory was refused
 pub ends-short : {p : Loaded} {d h : ℕ} {w : World} {a b : List Activation} (r : Result (Unit {0}) Fault) → 0 < w.left → IsErrAnd r (λ y. y ≡ Memory) → Ends p d h w a w b r
 ends-short r some is = ends-left r (breaks-memory some) is
 
--- .. where nothing had changed
+-- .. to a function that then changed nothing
 pub ends-unchanged : {p : Loaded} {d h : ℕ} {w v : World} {a b : List Activation} {f : Fault} (r : Result (Unit {0}) Fault) → 0 < w.left → (f ≡ Memory) × (v ≡ w) → IsErrAnd r (λ y. y ≡ f) → Ends p d h w a v b r
 ends-unchanged {p} {d} {h} {w} {v} {a} {b} {f} r some same is =
     let Family : World → Type 0 = λ u. Breaks p d h w a u f in
-    let Named : Fault → Type 0 = λ g. Breaks p d h w a w g in
-    ends-left r (subst Family (sym same.1) (subst Named (sym same.0) (breaks-memory some))) is
+    ends-left r (subst Family (sym same.1) (breaks-as same.0 (breaks-memory some))) is
 
--- a push that was refused
-pub breaks-barred : {p : Loaded} {d h : ℕ} {w : World} {from to top : Activation} (f : Fault) → CanPush p h w from to top → MayPush d h w (Err f) → Breaks p d h w (from ∷ []) w f
-breaks-barred {p} {d} {h} {w} {from} {to} {top} TooDeep push x = record {
-  breaks = λ below e.
-      let q = push.rule below e in
-      let long : length q.0.stack ≡ length (top ∷ to ∷ below) = ap (λ (l : List Activation). length l) q.2 in
-      (from ∷ below, done, (x.0, (q.0, q.1, omega (arith, long, e, x.1))));
-}
-breaks-barred Steps push x = breaks-steps (λ below e. let q = push.rule below e in (q.0, q.1)) x
-breaks-barred Memory push x = absurd x
-breaks-barred Stopped push x = absurd x
+-- an expression had no value, or memory was refused
+pub breaks-faulted : {p : Loaded} {d h : ℕ} {w : World} {a : List Activation} {f : Fault} (e : EvalFault) → 0 < w.left → (e ≡ eval.BadType → Breaks p d h w a w BadType) → IsFaultOf e f → Breaks p d h w a w f
+breaks-faulted eval.BadType some ill is = breaks-as is (ill refl)
+breaks-faulted eval.Memory some ill is = breaks-as is (breaks-memory some)
 
--- a call that carries out a rule that writes nothing down
-pub ends-ticked : {p : Loaded} {d h : ℕ} {w v : World} {a b : List Activation} {r : Result (Unit {0}) Fault} → ((below : List Activation) → length below ≡ h → Rule p (at w (a ++ below)) (at w (b ++ below))) → length b + h ≤ d → Ticks w v r → Ends p d h w a v b r
-ends-ticked {p} {d} {h} {w} {v} {a} {b} {r = Ok _} step fits x =
-    let Family : World → Type 0 = λ u. Goes p d h w a u b in
-    record { cases = subst Family (sym x.1) (goes-one step fits refl x.0) }
-ends-ticked {p} {d} {h} {w} {v} {a} {b} {r = Err f} step fits x =
-    let Family : World → Type 0 = λ u. Breaks p d h w a u f in
-    let Named : Fault → Type 0 = λ g. Breaks p d h w a w g in
-    record { cases = subst Family (sym x.2) (subst Named (sym x.1) (breaks-steps (λ below e. (at w (b ++ below), step below e)) x.0)) }
+pub ends-faulted : {p : Loaded} {d h : ℕ} {w : World} {a b : List Activation} {e : EvalFault} (r : Result (Unit {0}) Fault) → 0 < w.left → (e ≡ eval.BadType → Breaks p d h w a w BadType) → IsErrAnd r (λ y. IsFaultOf e y) → Ends p d h w a w b r
+ends-faulted (Ok _) some ill is = absurd is
+ends-faulted {e = e} (Err f) some ill is = record { cases = breaks-faulted e some ill is }
+
+-- ---- calls that carry out one rule
+
+-- .. which writes nothing down
+pub goes-ticked : {p : Loaded} {d h : ℕ} {w v : World} {a : Activation} {b : List Activation} → ((below : List Activation) → length below ≡ h → Rule p (at w (a ∷ below)) (at w (b ++ below))) → length b ≤ 1 → h < d → AreTyped p w.objects → Ticks w v (Ok tt) → Goes p d h w (a ∷ []) v b
+goes-ticked {p} {d} {h} {w} {v} {a} {b} step low room typed x =
+    let Family : World → Type 0 = λ u. Goes p d h w (a ∷ []) u b in
+    subst Family (sym x.1) (goes-low step low (omega (arith, low, room)) typed refl x.0)
+
+pub ends-ticked : {p : Loaded} {d h : ℕ} {w v : World} {a : Activation} {b : List Activation} (r : Result (Unit {0}) Fault) → ((below : List Activation) → length below ≡ h → Rule p (at w (a ∷ below)) (at w (b ++ below))) → length b ≤ 1 → h < d → AreTyped p w.objects → Ticks w v r → Ends p d h w (a ∷ []) v b r
+ends-ticked (Ok _) step low room typed x = record { cases = goes-ticked step low room typed x }
+ends-ticked {p} {d} {h} {w} {v} {a} {b} (Err f) step low room typed x =
+    let Family : World → Type 0 = λ u. Breaks p d h w (a ∷ []) u f in
+    record { cases = subst Family (sym x.2) (breaks-as x.1 (breaks-steps x.0)) }
+
+-- .. which writes an entry down, and leaves the stack as high as it was
+pub ends-noted : {p : Loaded} {d h : ℕ} {w v : World} {a b : Activation} (target : World) (r : Result (Unit {0}) Fault) → ((below : List Activation) → length below ≡ h → Rule p (at w (a ∷ below)) (at target (b ∷ below))) → h < d → AreTyped p target.objects → target.left ≡ w.left - 1 → 0 < w.left → Notes w target v r → Ends p d h w (a ∷ []) v (b ∷ []) r
+ends-noted {p} {d} {h} {w} {v} {a} {b} target (Ok _) step room typed less some x =
+    let Family : World → Type 0 = λ u. Goes p d h w (a ∷ []) u (b ∷ []) in
+    record { cases = subst Family (sym x) (goes-low {b = b ∷ []} step (omega arith) (omega (arith, room)) typed less some) }
+ends-noted {p} {d} {h} {w} {v} {a} {b} target (Err f) step room typed less some x =
+    let Family : World → Type 0 = λ u. Breaks p d h w (a ∷ []) u f in
+    record { cases = subst Family (sym x.1) (breaks-as x.0 (breaks-memory some)) }
 
 -- what runs over one more activation
 pub ends-lifted : {p : Loaded} {d h : ℕ} {w v : World} {top to : Activation} {r : Result (Unit {0}) Fault} → Ends p d (h + 1) w (top ∷ []) v [] r → Ends p d h w (top ∷ to ∷ []) v (to ∷ []) r
 ends-lifted {to = to} {r = Ok _} x = record { cases = record { runs = λ below e. x.cases.runs (to ∷ below) (omega (arith, e)) } }
 ends-lifted {to = to} {r = Err f} x = record { cases = record { breaks = λ below e. x.cases.breaks (to ∷ below) (omega (arith, e)) } }
-
-pub same-trans : {w v u : World} → Same w v → Same v u → Same w u
-same-trans x y = record { objects = y.objects ∙ x.objects; connections = y.connections ∙ x.connections; connected = y.connected ∙ x.connected; events = y.events ∙ x.events; fewer = omega (arith, x.fewer, y.fewer) }
-
-pub same-is : {w v : World} → v ≡ w → Same w v
-same-is {w} e = let Family : World → Type 0 = λ u. Same w u in subst Family (sym e) (record { objects = refl; connections = refl; connected = refl; events = refl; fewer = omega arith })
-
-pub same-ticked : {w v : World} (r : Result (Unit {0}) Fault) → Ticks w v r → Same w v
-same-ticked {w} (Ok _) x = let Family : World → Type 0 = λ u. Same w u in subst Family (sym x.1) (record { objects = refl; connections = refl; connected = refl; events = refl; fewer = omega arith })
-same-ticked (Err f) x = same-is x.2
-
-pub same-noted : {w v : World} (entry : Entry) → v ≡ noted w entry → Same w v
-same-noted {w} entry e = let Family : World → Type 0 = λ u. Same w u in subst Family (sym e) (record { objects = refl; connections = refl; connected = refl; events = refl; fewer = omega arith })
-
--- what every machine keeps, where the objects and connections are those that they were
-pub sound-still : {p : Loaded} {w v : World} → Same w v → Sound p (shapes_of w.objects) w.connections → Sound p (shapes_of v.objects) v.connections
-sound-still {p} {w} {v} same sound =
-    let Shapes : List Shape → Type 0 = λ l. Sound p l w.connections in
-    let Made : List Connection → Type 0 = λ l. Sound p (shapes_of v.objects) l in
-    subst Made (sym same.connections) (subst Shapes (sym same.objects) sound)
-
-pub emission-still : {p : Loaded} {w v : World} {o g count : ℕ} → Same w v → IsEmission p (shapes_of w.objects) o g count → IsEmission p (shapes_of v.objects) o g count
-emission-still {p} {w} {v} {o} {g} {count} same emission =
-    let Shapes : List Shape → Type 0 = λ l. IsEmission p l o g count in
-    subst Shapes (sym same.objects) emission

@@ -4,21 +4,22 @@ use Rattle.std.proofs.lemmas.Bool.{cases_order}
 use Rattle.signatures.specs.declared.sig.Sig.{Sig}
 use Rattle.signatures.specs.declared.value.Value.{Value}
 use Rattle.signatures.specs.Types.{Fits}
-use Rattle.signatures.specs.Value.{HaveTypes}
 use Rattle.script_lang.specs.declared.event.Connect.{Connect as Connecting}
 use Rattle.script_lang.specs.declared.event.Input.{Input}
 use Rattle.script_lang.specs.declared.event.Event.TheVariants.{Connect, Emit}
 use Rattle.meta_objects.specs.declared.object.MetaMethod.{MetaMethod}
-use Rattle.meta_objects.specs.declared.object.Statement.{Statement}
-use Rattle.meta_objects.specs.declared.object.Work.TheVariants.{Signal, Slot}
+use Rattle.meta_objects.specs.declared.object.Work.TheVariants.{Signal}
 use Rattle.meta_objects.specs.Loaded.{Loaded}
 use Rattle.meta_objects.specs.Members.{IsMethod, IsMethodNamed, HasSig, Covers}
 use Rattle.qt_runtime.specs.declared.object_tree.Object.{Object}
-use Rattle.qt_runtime.specs.Objects.{IsNamed, IsFree}
+use Rattle.meta_objects.specs.Values.{HaveTypes}
+use Rattle.qt_runtime.specs.Objects.{IsNamed, IsFree, class_of}
 use Rattle.qt_runtime.specs.State.{State}
-use Rattle.qt_runtime.specs.Events.{conditions, Pass, Refuse, IsThere, HasSignal, HasMethod, IsWired, HasSignalNamed, TakesValues, values_of}
+use Rattle.qt_runtime.specs.Events.{conditions, Pass, Refuse, IsThere, HasSignal, HasMethod, IsWired, HasSignalNamed, MayBeEmitted, TakesValues, named_signal, values_of}
 use Rattle.qt_runtime.specs.Taking.{IsJoint, IsFound}
-use Rattle.qt_runtime.proofs.Deliveries.{method-unique}
+use Rattle.meta_objects.specs.Sound.{IsSound}
+use Rattle.qt_runtime.proofs.Fields.{method-unique}
+use Rattle.qt_runtime.proofs.Fitting.{kinds-fit}
 
 -- one object has a name
 pub named-unique : {objects : List Object} {name : List ℕ} {o k : ℕ} {x y : Object} → IsNamed objects name o x → IsNamed objects name k y → (o ≡ k) × (x ≡ y)
@@ -99,21 +100,21 @@ module _ {p : Loaded} {s : State} {o k from to : ℕ} {x y : Object} (c : Connec
 
 -- ---- emissions
 module _ {p : Loaded} {s : State} {o class : ℕ} {x : Object} (name signal : List ℕ) (inputs : List Input) (a : IsNamed s.objects name o x) (class_is : x.class ≡ class) where
-  -- 46: the object has no signal of this name and number of parameters
-  pub refuse-unnamed : ((m : ℕ) (method : MetaMethod) → IsMethod p class m method → method.sig.name ≡ signal → length method.sig.types ≡ length (values_of inputs) → method.work ≡ Signal → ⊥) → Refuse (conditions p s (Emit name signal inputs)) 46
+  -- 46: the object has no signal of this name and number of parameters, which may be emitted
+  pub refuse-unnamed : ((m : ℕ) (method : MetaMethod) → IsMethod p class m method → method.sig.name ≡ signal → length method.sig.types ≡ length (values_of inputs) → MayBeEmitted m × (method.work ≡ Signal) → ⊥) → Refuse (conditions p s (Emit name signal inputs)) 46
   refuse-unnamed none =
       let no : HasSignalNamed p s name signal (length (values_of inputs)) → ⊥ = λ h.
       let Class : ℕ → Type 0 = λ n. IsMethod p n h.m h.method in
-      none h.m h.method (subst Class (class-named a class_is h.is) h.has) h.named h.counted h.signal_is in
+      none h.m h.method (subst Class (class-named a class_is h.is) h.has) h.named h.counted (h.emitted, h.signal_is) in
       inr (there a, inl (no, refl))
 
-  abbrev pub has-named : {m : ℕ} {method : MetaMethod} → IsMethod p class m method → method.sig.name ≡ signal → length method.sig.types ≡ length (values_of inputs) → method.work ≡ Signal → HasSignalNamed p s name signal (length (values_of inputs))
+  abbrev pub has-named : {m : ℕ} {method : MetaMethod} → IsMethod p class m method → method.sig.name ≡ signal → length method.sig.types ≡ length (values_of inputs) → MayBeEmitted m × (method.work ≡ Signal) → HasSignalNamed p s name signal (length (values_of inputs))
   has-named {m} {method} is named counted work =
       let Class : ℕ → Type 0 = λ n. IsMethod p n m method in
-      record { o = o; x = x; is = a; m = m; method = method; has = subst Class (sym class_is) is; named = named; counted = counted; signal_is = work }
+      record { o = o; x = x; is = a; m = m; method = method; has = subst Class (sym class_is) is; named = named; counted = counted; signal_is = work.1; emitted = work.0 }
 
   -- 45: the values aren't of its types
-  pub refuse-untyped : {m : ℕ} {method : MetaMethod} → ((j : ℕ) → IsMethodNamed p class signal (length (values_of inputs)) j → j ≡ m) → IsMethod p class m method → method.sig.name ≡ signal → length method.sig.types ≡ length (values_of inputs) → method.work ≡ Signal → (HaveTypes (values_of inputs) method.sig.types → ⊥) → Refuse (conditions p s (Emit name signal inputs)) 45
+  pub refuse-untyped : {m : ℕ} {method : MetaMethod} → ((j : ℕ) → IsMethodNamed p class signal (length (values_of inputs)) j → j ≡ m) → IsMethod p class m method → method.sig.name ≡ signal → length method.sig.types ≡ length (values_of inputs) → MayBeEmitted m × (method.work ≡ Signal) → (HaveTypes p (class_of s.objects) (values_of inputs) method.kinds → ⊥) → Refuse (conditions p s (Emit name signal inputs)) 45
   refuse-untyped {m} {method} only is named counted work untyped =
       let no : TakesValues p s name signal (values_of inputs) → ⊥ = λ t.
       let h = t.of in
@@ -121,19 +122,19 @@ module _ {p : Loaded} {s : State} {o class : ℕ} {x : Object} (name signal : Li
       let at : IsMethod p class h.m h.method = subst Class (class-named a class_is h.is) h.has in
       let number_is : h.m ≡ m = only h.m (record { method = h.method; is = at; named = h.named; counted = h.counted }) in
       let there_too : IsMethod p class m h.method = subst (λ (n : ℕ). IsMethod p class n h.method) number_is at in
-      let Typed : MetaMethod → Type 0 = λ k. HaveTypes (values_of inputs) k.sig.types in
+      let Typed : MetaMethod → Type 0 = λ k. HaveTypes p (class_of s.objects) (values_of inputs) k.kinds in
       untyped (subst Typed (method-unique there_too is) t.typed) in
       inr (there a, inr (has-named is named counted work, inl (no, refl)))
 
-  pub pass-emit : {m : ℕ} {method : MetaMethod} (is : IsMethod p class m method) (named : method.sig.name ≡ signal) (counted : length method.sig.types ≡ length (values_of inputs)) (work : method.work ≡ Signal) → HaveTypes (values_of inputs) method.sig.types → Pass (conditions p s (Emit name signal inputs))
+  pub pass-emit : {m : ℕ} {method : MetaMethod} (is : IsMethod p class m method) (named : method.sig.name ≡ signal) (counted : length method.sig.types ≡ length (values_of inputs)) (work : MayBeEmitted m × (method.work ≡ Signal)) → HaveTypes p (class_of s.objects) (values_of inputs) method.kinds → Pass (conditions p s (Emit name signal inputs))
   pass-emit is named counted work typed = (there a, (has-named is named counted work, (record { of = has-named is named counted work; typed = typed }, tt)))
 
--- a look-up's only answer of a name and number of parameters isn't a signal, so none is
-pub not-signal-named : {p : Loaded} {class number count : ℕ} {signal : List ℕ} {found : MetaMethod} → ((j : ℕ) → IsMethodNamed p class signal count j → j ≡ number) → IsMethod p class number found → (found.work ≡ Signal → ⊥) → (m : ℕ) (method : MetaMethod) → IsMethod p class m method → method.sig.name ≡ signal → length method.sig.types ≡ count → method.work ≡ Signal → ⊥
+-- a look-up's only answer of a name and number of parameters isn't a signal that may be emitted, so none is
+pub not-signal-named : {p : Loaded} {class number count : ℕ} {signal : List ℕ} {found : MetaMethod} → ((j : ℕ) → IsMethodNamed p class signal count j → j ≡ number) → IsMethod p class number found → (MayBeEmitted number × (found.work ≡ Signal) → ⊥) → (m : ℕ) (method : MetaMethod) → IsMethod p class m method → method.sig.name ≡ signal → length method.sig.types ≡ count → MayBeEmitted m × (method.work ≡ Signal) → ⊥
 not-signal-named {p} {class} {number} {count} {signal} {found} only at unlike m method is named counted work =
     let number_is : m ≡ number = only m (record { method = method; is = is; named = named; counted = counted }) in
     let there_too : IsMethod p class number method = subst (λ (k : ℕ). IsMethod p class k method) number_is is in
-    unlike (subst (λ (k : MetaMethod). k.work ≡ Signal) (method-unique there_too at) work)
+    unlike (subst (λ (k : ℕ). MayBeEmitted k) number_is work.0, subst (λ (k : MetaMethod). k.work ≡ Signal) (method-unique there_too at) work.1)
 
 -- what a look-up by name and number of parameters says of the method of its number
 pub named-facts : {p : Loaded} {class number count : ℕ} {signal : List ℕ} {found : MetaMethod} → IsMethodNamed p class signal count number → IsMethod p class number found → (found.sig.name ≡ signal) × (length found.sig.types ≡ count)
@@ -142,25 +143,32 @@ named-facts {found = found} h at =
     (ap (λ (k : MetaMethod). k.sig.name) (sym one) ∙ h.named, ap (λ (k : MetaMethod). length k.sig.types) (sym one) ∙ h.counted)
 
 -- the numbers of a connection that passes
-pub joint-of : {p : Loaded} {objects : List Object} {o k from to g m : ℕ} {x y : Object} {method : MetaMethod} (c : Connecting) → IsNamed objects c.sender o x → x.class ≡ from → IsNamed objects c.receiver k y → y.class ≡ to → IsMethod p from g method → method.sig ≡ c.signal → (has : HasSig p to c.method m) → ((n : ℕ) (l : MetaMethod) → IsMethod p to n l → l.sig ≡ c.method → (statements : List Statement) × (l.work ≡ Slot statements)) → Fits c.signal c.method → IsJoint p objects c (record { sender = o; signal = g; receiver = k; method = m })
-joint-of {p} {objects} {o} {k} {from} {to} {g} {m} {x} {y} {method} c a from_is b to_is is signed has slots fits =
+pub joint-of : {p : Loaded} {objects : List Object} {o k from to g m : ℕ} {x y : Object} {method : MetaMethod} (c : Connecting) → IsSound p → IsNamed objects c.sender o x → x.class ≡ from → IsNamed objects c.receiver k y → y.class ≡ to → IsMethod p from g method → method.sig ≡ c.signal → HasSig p to c.method m → Fits c.signal c.method → IsJoint p objects c (record { sender = o; signal = named_signal g; receiver = k; method = m; kind = c.kind })
+joint-of {p} {objects} {o} {k} {from} {to} {g} {m} {x} {y} {method} c sound a from_is b to_is is signed has fits =
     let From : ℕ → Type 0 = λ n. IsMethod p n g method in
     let To : ℕ → Type 0 = λ n. IsMethod p n m has.method in
-    let slot = slots m has.method has.is has.signed in
+    let signal_is : IsMethod p x.class g method = subst From (sym from_is) is in
+    let Signal_types : Sig → Type 0 = λ t. Fits t c.method in
+    let Method_types : Sig → Type 0 = λ t. Fits method.sig t in
+    let front = kinds-fit sound signal_is has.is (subst Method_types (sym has.signed) (subst Signal_types (sym signed) fits)) in
     record {
       sender = x;
       is_sender = a;
-      has_signal = record { method = method; is = subst From (sym from_is) is; signed = signed };
+      spelled = g;
+      has_signal = record { method = method; is = signal_is; signed = signed };
+      names = refl;
       receiver = y;
       is_receiver = b;
       has_method = record { method = has.method; is = subst To (sym to_is) has.is; signed = has.signed };
-      statements = slot.0;
-      work = slot.1;
-      fits = fits;
+      same_kind = refl;
+      signal = front.0;
+      is_signal = front.1;
+      rest = front.2.0;
+      fits = front.2.1;
     }
 
 -- the numbers of an emission that passes
-pub found-of : {p : Loaded} {objects : List Object} {o class number count : ℕ} {name signal : List ℕ} {x : Object} {method : MetaMethod} → IsNamed objects name o x → x.class ≡ class → IsMethod p class number method → method.sig.name ≡ signal → length method.sig.types ≡ count → method.work ≡ Signal → IsFound p objects name signal count (record { object = o; signal = number })
-found-of {p} {number = number} {x = x} {method = method} a class_is is named counted work =
+pub found-of : {p : Loaded} {objects : List Object} {o class number : ℕ} {values : List Value} {name signal : List ℕ} {x : Object} {method : MetaMethod} → IsNamed objects name o x → x.class ≡ class → IsMethod p class number method → method.sig.name ≡ signal → length method.sig.types ≡ length values → MayBeEmitted number × (method.work ≡ Signal) → HaveTypes p (class_of objects) values method.kinds → IsFound p objects name signal values (record { object = o; signal = number })
+found-of {p} {number = number} {x = x} {method = method} a class_is is named counted work typed =
     let Class : ℕ → Type 0 = λ n. IsMethod p n number method in
-    record { object = x; is = a; method = method; has = subst Class (sym class_is) is; named = named; counted = counted; is_signal = work }
+    record { object = x; is = a; method = method; has = subst Class (sym class_is) is; named = named; counted = counted; is_signal = work.1; emitted = work.0; typed = typed }

@@ -1,15 +1,15 @@
 -- What an event asks for, and what it does (docs/machine.md, "Events").
-use Rattle.std.specs.Prelude.{◌≡◌, ℕ, ◌+◌, ◌<◌, ◌⊎◌, List, [], ◌∷◌, ◌++◌, length, map, replicate, pos}
+use Rattle.std.specs.Prelude.{◌≡◌, ℕ, zero, suc, ◌+◌, ◌<◌, ◌⊎◌, List, [], ◌∷◌, ◌++◌, length, map}
 use Rattle.signatures.specs.declared.sig.Sig.{Sig}
 use Rattle.signatures.specs.declared.value.Value.{Value}
-use Rattle.signatures.specs.declared.value.Value.TheVariants.{Int}
 use Rattle.signatures.specs.Types.{Fits}
-use Rattle.signatures.specs.Value.{HaveTypes}
 use Rattle.meta_objects.specs.declared.object.MetaObject.{MetaObject}
 use Rattle.meta_objects.specs.declared.object.MetaMethod.{MetaMethod}
+use Rattle.meta_objects.specs.declared.object.MetaProperty.{MetaProperty}
 use Rattle.meta_objects.specs.declared.object.Work.TheVariants.{Signal}
 use Rattle.meta_objects.specs.Loaded.{Loaded}
 use Rattle.meta_objects.specs.Members.{IsClass, IsClassNamed, IsMethod, IsMethodNamed, HasSig, Covers}
+use Rattle.meta_objects.specs.Values.{HaveTypes}
 use Rattle.script_lang.specs.declared.event.Connect.{Connect as Connecting}
 use Rattle.script_lang.specs.declared.event.Event.{Event}
 use Rattle.script_lang.specs.declared.event.Event.TheVariants.{New, Connect, Emit}
@@ -17,7 +17,7 @@ use Rattle.script_lang.specs.declared.event.Input.{Input}
 use Rattle.script_lang.specs.declared.event.Input.TheVariants.{Literal}
 use Rattle.qt_runtime.specs.declared.object_tree.Object.{Object}
 use Rattle.qt_runtime.specs.declared.entry.Entry.TheVariants as entry
-use Rattle.qt_runtime.specs.Objects.{IsNamed, IsFree}
+use Rattle.qt_runtime.specs.Objects.{IsNamed, IsFree, class_of}
 use Rattle.qt_runtime.specs.State.{State}
 use Rattle.qt_runtime.specs.Rules.{begun}
 
@@ -75,7 +75,11 @@ pub record IsWired (p : Loaded) (s : State) (c : Connecting) : Type 0 where
   pub is_receiver : IsNamed s.objects c.receiver b receiver
   pub covered : Covers p sender.class c.signal receiver.class c.method c.kind
 
--- the object of this name has a signal of this name and number of parameters
+-- QObject's own signals have the numbers 0 to 2 in every class, and only the runtime emits them
+abbrev pub MayBeEmitted : ℕ → Type 0
+MayBeEmitted m = 2 < m
+
+-- the object of this name has a signal of this name and number of parameters, which may be emitted
 pub record HasSignalNamed (p : Loaded) (s : State) (name signal : List ℕ) (count : ℕ) : Type 0 where
   pub o : ℕ
   pub x : Object
@@ -86,6 +90,7 @@ pub record HasSignalNamed (p : Loaded) (s : State) (name signal : List ℕ) (cou
   pub named : method.sig.name ≡ signal
   pub counted : length method.sig.types ≡ count
   pub signal_is : method.work ≡ Signal
+  pub emitted : MayBeEmitted m
 
 abbrev pub value_of : Input → Value
 value_of (Literal v) = v
@@ -96,7 +101,7 @@ values_of inputs = map value_of inputs
 -- .. and the values are of its types
 pub record TakesValues (p : Loaded) (s : State) (name signal : List ℕ) (values : List Value) : Type 0 where
   pub of : HasSignalNamed p s name signal (length values)
-  pub typed : HaveTypes values of.method.sig.types
+  pub typed : HaveTypes p (class_of s.objects) values of.method.kinds
 
 abbrev pub most_objects : ℕ
 most_objects = 100000
@@ -131,11 +136,16 @@ accepted s = record s { events = s.events + 1; trace = s.trace ++ entry.Accepted
 abbrev pub refused : State → ℕ → State
 refused s k = record s { events = s.events + 1; trace = s.trace ++ entry.Refused (s.events + 1) k ∷ [] }
 
--- an object of the class, whose properties are 0
+-- an object of the class, whose properties have the values that they start with
 pub record Creates (p : Loaded) (s : State) (name class : List ℕ) (t : State) : Type 0 where
   pub c : ℕ
   pub is_class : IsClassNamed p class c
-  pub gives : t ≡ record s { objects = s.objects ++ record { name = name; class = c; values = replicate (length is_class.class.properties) (Int (pos 0)) } ∷ [] }
+  pub gives : t ≡ record s { objects = s.objects ++ record { name = name; class = c; values = map (λ (q : MetaProperty). q.initial) is_class.class.properties } ∷ [] }
+
+-- the signal that a spelling names: `destroyed()`, which has the number 1, is `destroyed(QObject*)`
+abbrev pub named_signal : ℕ → ℕ
+named_signal (suc zero) = 0
+named_signal g = g
 
 -- a connection with the next number
 pub record Connects (p : Loaded) (s : State) (e : Connecting) (t : State) : Type 0 where
@@ -150,7 +160,7 @@ pub record Connects (p : Loaded) (s : State) (e : Connecting) (t : State) : Type
   pub m : ℕ
   pub has_method : HasSig p receiver.class e.method m
   pub gives : t ≡ record s {
-    connections = s.connections ++ record { number = s.connected + 1; sender = a; signal = g; receiver = b; method = m } ∷ [];
+    connections = s.connections ++ record { number = s.connected + 1; sender = a; signal = named_signal g; receiver = b; method = m; kind = e.kind } ∷ [];
     connected = s.connected + 1;
   }
 

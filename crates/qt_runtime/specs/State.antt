@@ -6,14 +6,19 @@ use Rattle.qt_runtime.specs.declared.object_tree.Object.{Object}
 use Rattle.qt_runtime.specs.declared.connections.Connection.{Connection}
 use Rattle.qt_runtime.specs.declared.entry.Entry.{Entry}
 
+-- a property of an object, both by number
+pub record Place : Type 0 where
+  pub object : ℕ
+  pub property : ℕ
+
 -- What is going on. Objects are named by their creation number, methods by their number in the object's class.
 pub data Activation : Type 0 where
   -- a slot's body, with the statements that are left of it
   Body : (object method : ℕ) (arguments : List Value) (left : List Statement) → Activation
   -- an emission, with the last connection used and the last one made when it began
   Emit : (object signal : ℕ) (arguments : List Value) (used last : ℕ) → Activation
-  -- the notifications that follow a write; there are none yet
-  Update : Activation
+  -- the notifications that follow a write, with the properties that are still to be notified
+  Update : (notify : List Place) → Activation
 
 pub record State : Type 0 where
   -- in the order of creation

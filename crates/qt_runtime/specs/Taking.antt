@@ -1,36 +1,35 @@
 -- What the machine's code does with an event.
-use Rattle.std.specs.Prelude.{◌≡◌, ℕ, ◌+◌, ◌-◌, ◌<◌, ◌^◌, List, [], ◌∷◌, ◌++◌, length, Result, Ok, Err, Some, slice_get, replicate, pos}
+use Rattle.std.specs.Prelude.{◌≡◌, ℕ, ◌+◌, ◌-◌, ◌<◌, ◌^◌, All, List, [], ◌∷◌, ◌++◌, length, Result, Ok, Err, Some, slice_get}
 use Rattle.signatures.specs.declared.value.Value.{Value}
-use Rattle.signatures.specs.declared.value.Value.TheVariants.{Int}
-use Rattle.signatures.specs.Types.{Fits}
 use Rattle.script_lang.specs.declared.event.Connect.{Connect as Connecting}
 use Rattle.script_lang.specs.declared.event.Event.{Event}
-use Rattle.meta_objects.specs.declared.object.MetaObject.{MetaObject}
 use Rattle.meta_objects.specs.declared.object.MetaMethod.{MetaMethod}
-use Rattle.meta_objects.specs.declared.object.Statement.{Statement}
-use Rattle.meta_objects.specs.declared.object.Work.TheVariants.{Signal, Slot}
+use Rattle.meta_objects.specs.declared.object.MetaProperty.{MetaProperty}
+use Rattle.meta_objects.specs.declared.object.ValueType.{ValueType}
+use Rattle.meta_objects.specs.declared.object.Work.TheVariants.{Signal}
 use Rattle.meta_objects.specs.Loaded.{Loaded}
-use Rattle.meta_objects.specs.Members.{IsClass, IsMethod, HasSig}
+use Rattle.meta_objects.specs.Members.{IsMethod, HasSig}
+use Rattle.meta_objects.specs.Values.{Has, HaveTypes}
 use Rattle.qt_runtime.specs.declared.entry.Entry.{Entry}
 use Rattle.qt_runtime.specs.declared.entry.Entry.TheVariants as entry
 use Rattle.qt_runtime.specs.declared.fault.Answer.{Answer}
 use Rattle.qt_runtime.specs.declared.fault.Answer.TheVariants as answer
 use Rattle.qt_runtime.specs.declared.fault.Fault.{Fault}
-use Rattle.qt_runtime.specs.declared.fault.Fault.TheVariants.{Memory}
+use Rattle.qt_runtime.specs.declared.fault.Fault.TheVariants.{BadType, TooDeep, Steps, Memory, Stopped}
 use Rattle.qt_runtime.specs.declared.object_tree.Object.{Object}
 use Rattle.qt_runtime.specs.declared.judging.Joint.{Joint}
 use Rattle.qt_runtime.specs.declared.judging.Found.{Found}
 use Rattle.qt_runtime.specs.declared.world.World.{World}
-use Rattle.qt_runtime.specs.Objects.{IsNamed, shapes_of}
+use Rattle.qt_runtime.specs.Objects.{IsNamed, class_of, all_shown}
 use Rattle.qt_runtime.specs.State.{Activation}
-use Rattle.qt_runtime.specs.Events.{conditions, Pass, Refuse}
+use Rattle.qt_runtime.specs.Events.{conditions, Pass, Refuse, MayBeEmitted, named_signal}
 use Rattle.qt_runtime.specs.Runs.{Runs, Reason}
 use Rattle.qt_runtime.specs.Seen.{at}
 use Rattle.qt_runtime.specs.Sound.{Sound}
 
 -- what every machine's world keeps: its parts fit together, and no count is near its limit
 pub record Keeps (p : Loaded) (w : World) : Type 0 where
-  pub sound : Sound p (shapes_of w.objects) w.connections
+  pub sound : Sound p w.objects w.connections
   pub events : w.events + w.left < 2 ^ 63
   pub connected : w.connected + w.left < 2 ^ 63
 
@@ -51,27 +50,47 @@ abbrev pub Refuses : World → ℕ → World → Result Answer Fault → Type 0
 Refuses w k v (Ok a) = (a ≡ answer.Refused k) × (v ≡ refused w k)
 Refuses w k v (Err fault) = (fault ≡ Memory) × (v ≡ w)
 
--- the numbers of a connection's objects and methods
+-- each property has at first a value of its type, for these objects
+abbrev pub BeginWell : Loaded → List Object → List MetaProperty → Type 0
+BeginWell p objects properties = All (λ (q : MetaProperty). Has p (class_of objects) q.initial q.kind) properties
+
+-- an object whose class has these properties was added where it begins well; nothing changed where it doesn't, and
+-- where memory was refused
+abbrev pub Adds : Loaded → World → Object → List MetaProperty → World → Result (Unit {0}) Fault → Type 0
+Adds p w x properties v (Ok done) = BeginWell p (w.objects ++ x ∷ []) properties × (v ≡ record (accepted w) { objects = w.objects ++ x ∷ [] })
+Adds p w x properties v (Err BadType) = (¬ BeginWell p (w.objects ++ x ∷ []) properties) × (v ≡ w)
+Adds p w x properties v (Err Memory) = v ≡ w
+Adds p w x properties v (Err TooDeep) = ⊥
+Adds p w x properties v (Err Steps) = ⊥
+Adds p w x properties v (Err Stopped) = ⊥
+
+-- the numbers of a connection's objects and methods; the method takes the first arguments of the signal
 pub record IsJoint (p : Loaded) (objects : List Object) (c : Connecting) (j : Joint) : Type 0 where
   pub sender : Object
   pub is_sender : IsNamed objects c.sender j.sender sender
-  pub has_signal : HasSig p sender.class c.signal j.signal
+  pub spelled : ℕ
+  pub has_signal : HasSig p sender.class c.signal spelled
+  pub names : j.signal ≡ named_signal spelled
   pub receiver : Object
   pub is_receiver : IsNamed objects c.receiver j.receiver receiver
   pub has_method : HasSig p receiver.class c.method j.method
-  pub statements : List Statement
-  pub work : has_method.method.work ≡ Slot statements
-  pub fits : Fits c.signal c.method
+  pub same_kind : j.kind ≡ c.kind
+  pub signal : MetaMethod
+  pub is_signal : IsMethod p sender.class j.signal signal
+  pub rest : List ValueType
+  pub fits : signal.kinds ≡ has_method.method.kinds ++ rest
 
--- the numbers of an object and of its signal, which takes these values
-pub record IsFound (p : Loaded) (objects : List Object) (name signal : List ℕ) (count : ℕ) (f : Found) : Type 0 where
+-- the numbers of an object and of its signal, which may be emitted with these values
+pub record IsFound (p : Loaded) (objects : List Object) (name signal : List ℕ) (values : List Value) (f : Found) : Type 0 where
   pub object : Object
   pub is : IsNamed objects name f.object object
   pub method : MetaMethod
   pub has : IsMethod p object.class f.signal method
   pub named : method.sig.name ≡ signal
-  pub counted : length method.sig.types ≡ count
+  pub counted : length method.sig.types ≡ length values
   pub is_signal : method.work ≡ Signal
+  pub emitted : MayBeEmitted f.signal
+  pub typed : HaveTypes p (class_of objects) values method.kinds
 
 -- the entry of the emission of the signal with these values, at depth 1
 pub record IsEmissionEntry (p : Loaded) (objects : List Object) (f : Found) (values : List Value) (e : Entry) : Type 0 where
@@ -79,13 +98,7 @@ pub record IsEmissionEntry (p : Loaded) (objects : List Object) (f : Found) (val
   pub is : slice_get objects f.object ≡ Some object
   pub method : MetaMethod
   pub has : IsMethod p object.class f.signal method
-  pub gives : e ≡ entry.Emitted 1 object.name method.sig.name values
-
--- an object of the class, whose properties are 0
-pub record IsBlank (p : Loaded) (name : List ℕ) (c : ℕ) (x : Object) : Type 0 where
-  pub class : MetaObject
-  pub is_class : IsClass p c class
-  pub gives : x ≡ record { name = name; class = c; values = replicate (length class.properties) (Int (pos 0)) }
+  pub gives : e ≡ entry.Emitted 1 object.name method.sig.name (all_shown objects values)
 
 -- the machine stopped before or after it took the event
 pub record Halted (p : Loaded) (depth : ℕ) (w : World) (e : Event) (v : World) (f : Fault) : Type 0 where

@@ -4,6 +4,7 @@ ghost use Rattle.std.specs.Prelude.{◌≡◌, [], ◌∷◌, ◌++◌, ◌<◌,
 ghost use Rattle.qt_runtime.specs.Rules.{next_connection, is_next};
 ghost use Rattle.qt_runtime.specs.declared.connections.Connection.{Connection as AConnection};
 
+use signatures::Kind;
 use std::alloc::{AllocError, Global};
 use std::marker::Model;
 
@@ -19,6 +20,8 @@ pub struct Connection {
     pub receiver: usize,
     /// The method's number in the receiver's class.
     pub method: usize,
+    /// How it reaches its receiver.
+    pub kind: Kind,
 }
 
 /// The connections in the order in which they were made.

@@ -1,9 +1,27 @@
+//! What a run writes down.
+
 ghost use Rattle.std.specs.Prelude.{◌≡◌, [], ◌∷◌, ◌++◌, OnOk, OnErr};
 ghost use Rattle.qt_runtime.specs.declared.entry.Entry.{Entry as AnEntry};
 
-use signatures::{Arguments, Name, Value};
+use signatures::{Name, Text};
+use sqlite_items::Items;
 use std::alloc::{AllocError, Global};
 use std::marker::Model;
+
+/// A value as it is written down.
+#[derive(Drop)]
+pub enum Shown {
+    /// A number.
+    Int(i32),
+    /// A truth value.
+    Bool(bool),
+    /// A text.
+    Text(Text),
+    /// A reference to the object of this name.
+    Object(Name),
+    /// A reference to no object.
+    Null,
+}
 
 /// An entry of the trace; a depth is the length of the stack of activations, after what was pushed.
 #[derive(Drop)]
@@ -13,11 +31,13 @@ pub enum Entry {
     /// The event of this number was refused for the reason of this number.
     Refused(u64, u8),
     /// At a depth, a signal of an object is emitted with these arguments.
-    Emitted(usize, Name, Name, Arguments),
+    Emitted(usize, Name, Name, Items<Shown>),
     /// At a depth, a slot of an object is called with these arguments.
-    Called(usize, Name, Name, Arguments),
+    Called(usize, Name, Name, Items<Shown>),
     /// At a depth, a property of an object is written.
-    Written(usize, Name, Name, Value),
+    Written(usize, Name, Name, Shown),
+    /// At a depth, a statement does nothing, since a path leads to null.
+    OnNull(usize),
 }
 
 /// The entries of a run, in their order.

@@ -16,6 +16,9 @@ pub enum Answer {
 /// Why a run stops.
 #[derive(Clone, Copy, Debug, Error, PartialEq, Eq)]
 pub enum Fault {
+    /// A value isn't of the type that an operator, a statement, a property or a method asks.
+    #[error("a value isn't of the type that is asked")]
+    BadType,
     /// The stack of activations would pass the depth.
     #[error("activations nest too deep")]
     TooDeep,
@@ -36,6 +39,7 @@ impl Fault {
         ensures { result ≡ number_of self }
     {
         match self {
+            Fault::BadType => 60,
             Fault::TooDeep => 61,
             Fault::Steps => 64,
             Fault::Memory => 65,

@@ -1,6 +1,6 @@
 //! Whether an event is accepted, and the numbers of what it names.
 
-ghost use Rattle.std.specs.Prelude.{◌≡◌, ◌≢◌, ℕ, ◌<◌, [], List, length, IfOk, IfErr, MatchOption};
+ghost use Rattle.std.specs.Prelude.{◌≡◌, ◌≢◌, ◌↔◌, ℕ, [], List, length, IfOk, IfErr, IsTrue, MatchOption};
 ghost use Rattle.script_lang.specs.declared.event.Input.{Input as AnInput};
 ghost use Rattle.script_lang.specs.declared.event.Event.TheVariants.{New, Emit};
 ghost use Rattle.meta_objects.specs.Members.{IsClassNamed, IsMethod};
@@ -10,21 +10,24 @@ ghost use Rattle.qt_runtime.specs.declared.object_tree.Object.{Object as AnObjec
 ghost use Rattle.qt_runtime.specs.Objects.{IsNamed, IsFree};
 ghost use Rattle.qt_runtime.specs.Events.{conditions, Pass, Refuse, values_of};
 ghost use Rattle.qt_runtime.specs.Seen.{at};
+ghost use Rattle.qt_runtime.specs.Events.{MayBeEmitted, named_signal};
 ghost use Rattle.qt_runtime.specs.Taking.{IsJoint, IsFound};
 
 use crate::setting::Setting;
+use crate::typing::have_types;
 use crate::world::World;
-use meta_objects::Wired;
+use meta_objects::{MetaMethod, Wired, Work};
 use script_lang::{Connect, Event};
-use signatures::{Name, Sig, Value};
+use signatures::{Kind, Name, Sig, Value};
 
-/// The numbers of a connection's objects and methods.
+/// The numbers of a connection's objects and methods, and its kind.
 #[derive(Clone, Copy)]
 pub struct Joint {
     pub sender: usize,
     pub signal: usize,
     pub receiver: usize,
     pub method: usize,
+    pub kind: Kind,
 }
 
 /// The numbers of an object and of its signal.
@@ -70,14 +73,17 @@ impl Setting {
         let Some(method) = self.meta.method(to, &c.method) else {
             return Err(46);
         };
+        // The contract of `classes` says that equal types have equal kinds.
+        let _ = self.meta.classes();
         match self.meta.wired(from, &c.signal, to, &c.method, c.kind) {
             Wired::No => Err(38),
             Wired::Unfit => Err(39),
             Wired::Fit => Ok(Joint {
                 sender,
-                signal,
+                signal: named_signal(signal),
                 receiver,
                 method,
+                kind: c.kind,
             }),
         }
     }
@@ -104,9 +110,33 @@ impl Setting {
             return None;
         };
         match self.meta.method_at(class, number) {
-            Some(method) if method.is_signal() => Some(number),
+            Some(method) if is_signal(method) => Some(number),
             _ => None,
         }
+    }
+}
+
+/// Whether the method is a signal.
+fn is_signal(method: &MetaMethod) -> bool
+    ensures { IsTrue result ↔ (method.now.work ≡ Signal) }
+{
+    matches!(method.work, Work::Signal)
+}
+
+/// Whether the method of this number is a signal that an event may emit.
+fn may_be_emitted(number: usize, method: &MetaMethod) -> bool
+    ensures { IsTrue result ↔ (MayBeEmitted number × (method.now.work ≡ Signal)) }
+{
+    number > 2 && is_signal(method)
+}
+
+/// The signal that a spelling names: `destroyed()` is `destroyed(QObject*)`.
+fn named_signal(signal: usize) -> usize
+    ensures { result ≡ named_signal signal }
+{
+    match signal {
+        1 => 0,
+        _ => signal,
     }
 }
 
@@ -119,7 +149,7 @@ impl Setting {
         signal: &Name,
         values: &[Value],
     ) -> Result<Found, u8>
-        ensures passes { IfOk result (λ f. ((inputs : List AnInput) → values_of inputs ≡ values.now → Pass (conditions self.now.meta (at world.now []) (Emit name.now signal.now inputs))) × IsFound self.now.meta world.now.objects name.now signal.now (length values.now) f) }
+        ensures passes { IfOk result (λ f. ((inputs : List AnInput) → values_of inputs ≡ values.now → Pass (conditions self.now.meta (at world.now []) (Emit name.now signal.now inputs))) × IsFound self.now.meta world.now.objects name.now signal.now values.now f) }
         ensures refuses { IfErr result (λ k. (inputs : List AnInput) → values_of inputs ≡ values.now → Refuse (conditions self.now.meta (at world.now []) (Emit name.now signal.now inputs)) k) }
     {
         let (object, class) = self.find(world, name)?;
@@ -127,8 +157,8 @@ impl Setting {
             return Err(46);
         };
         match self.meta.method_at(class, number) {
-            Some(method) if method.is_signal() => {
-                if Value::have_types(values, method.sig.types.as_slice()) {
+            Some(method) if may_be_emitted(number, method) => {
+                if have_types(&self.meta, &world.objects, values, method.kinds.as_slice()) {
                     Ok(Found {
                         object,
                         signal: number,

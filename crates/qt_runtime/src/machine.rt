@@ -20,10 +20,14 @@ pub struct Machine {
 }
 
 impl Model for Machine {
+    ghost use Rattle.std.specs.Coded.{codes};
+    ghost use Rattle.meta_objects.specs.contracts.object.Statement as statement;
     ghost use Rattle.qt_runtime.specs.Seen.{Seen};
     ghost use Rattle.qt_runtime.specs.Taking.{IsKept};
 
     ghost Value = { Seen };
+
+    ghost coded = { Prim.hlevel (codes, statement.the_row.coded) };
 
     ghost view = { λ m. record { program = m.setting.meta; depth = m.setting.depth; world = m.world; stopped = m.stopped } };
 
@@ -57,8 +61,8 @@ impl Machine {
     }
 
     /// Applies an event: takes it, and runs until nothing is going on. `Refused` tells the first of the event's
-    /// conditions that doesn't hold; then only its line is written. A fault stops the machine: `TooDeep` where the next
-    /// rule would nest activations deeper than the depth, `Steps` where a rule is due and none is left, `Memory` where
+    /// conditions that doesn't hold; then only its line is written. A fault stops the machine: `BadType` where the next
+    /// rule would use or give a value of a wrong type, `TooDeep` where it would nest activations deeper than the depth, `Steps` where a rule is due and none is left, `Memory` where
     /// a growth of memory was refused; the trace then ends with the last whole rule. On a machine that has stopped the
     /// answer is `Stopped`, and nothing changes.
     pub fn apply(&mut self, event: &Event) -> Result<Answer, Fault>

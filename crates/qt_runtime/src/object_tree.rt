@@ -1,12 +1,14 @@
 //! The objects of a run, as a plain list.
 
-ghost use Rattle.std.specs.Prelude.{◌≡◌, [], ◌∷◌, ◌++◌, ◌<◌, length, slice_get, slice_set, ℕ, OnOk, OnErr, MatchOption, Some};
+ghost use Rattle.std.specs.Prelude.{◌≡◌, [], ◌∷◌, ◌++◌, ◌<◌, length, slice_get, slice_set, ℕ, OnOk, OnErr, IfOk, MatchOption, Some};
 ghost use Rattle.std.specs.Option.{option_copied};
-ghost use Rattle.qt_runtime.specs.Objects.{IsNamed, IsFree, written};
+ghost use Rattle.qt_runtime.specs.Objects.{IsNamed, IsFree, stored, written, shown, shown_object, all_shown};
 ghost use Rattle.qt_runtime.specs.declared.object_tree.Object.{Object as AnObject};
 
+use crate::entry::Shown;
 use crate::values::Values;
 use signatures::{Name, Value};
+use sqlite_items::Items;
 use std::alloc::{AllocError, Global};
 use std::marker::Model;
 
@@ -59,6 +61,13 @@ impl Objects {
         self.items.get(object)
     }
 
+    /// The value of an object's property.
+    pub fn stored(&self, object: usize, property: usize) -> Option<&Value>
+        ensures { option_copied result ≡ stored self.now object property }
+    {
+        self.items.get(object)?.values.get(property)
+    }
+
     /// The number of the object of this name.
     pub fn find(&self, name: &Name) -> Option<usize>
         ensures { MatchOption result (IsFree self.now name.now) (λ o. (x : AnObject) × IsNamed self.now name.now o x) }
@@ -93,5 +102,46 @@ impl Objects {
         ensures { (x : AnObject) → slice_get self.old object ≡ Some x → self.new ≡ slice_set self.old object (written x property value) }
     {
         self.items[object].values.set(property, value);
+    }
+
+    /// A value as it is written down: a reference as the object's name, or as null where there is no such object.
+    pub fn show(&self, value: &Value) -> Result<Shown, AllocError>
+        ensures { IfOk result (λ text. text ≡ shown self.now value.now) }
+    {
+        match value {
+            Value::Int(number) => Ok(Shown::Int(*number)),
+            Value::Bool(truth) => Ok(Shown::Bool(*truth)),
+            Value::Text(text) => {
+                let copy = text.copy()?;
+                Ok(Shown::Text(copy))
+            }
+            Value::Ref(None) => Ok(Shown::Null),
+            Value::Ref(Some(object)) => self.show_object(object.number()),
+        }
+    }
+
+    /// The name of an object, or null where there is no such object.
+    fn show_object(&self, object: usize) -> Result<Shown, AllocError>
+        ensures { IfOk result (λ text. text ≡ shown_object (slice_get self.now object)) }
+    {
+        match self.items.get(object) {
+            Some(found) => {
+                let name = found.name.copy()?;
+                Ok(Shown::Object(name))
+            }
+            None => Ok(Shown::Null),
+        }
+    }
+
+    /// Values as they are written down.
+    pub fn show_all(&self, alloc: Global, values: &[Value]) -> Result<Items<Shown>, AllocError>
+        ensures { IfOk result (λ texts. texts ≡ all_shown self.now values.now) }
+    {
+        let mut texts = Vec::with_capacity(alloc, values.len())?;
+        for value in values {
+            let text = self.show(value)?;
+            texts.push(text)?;
+        }
+        Ok(Items::from_vec(texts))
     }
 }

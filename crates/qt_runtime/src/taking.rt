@@ -1,11 +1,11 @@
 //! The taking of events.
 
-ghost use Rattle.std.specs.Prelude.{◌≡◌, ◌+◌, ◌-◌, ◌<◌, ◌^◌, ◌∷◌, [], ◌++◌, List, ℕ, length, IfOk};
+ghost use Rattle.std.specs.Prelude.{◌≡◌, ◌+◌, ◌-◌, ◌<◌, ◌^◌, ◌∷◌, [], ◌++◌, List, ℕ, IfOk};
 ghost use Rattle.script_lang.specs.declared.event.Event.TheVariants.{New, Emit};
 ghost use Rattle.meta_objects.specs.Members.{IsClassNamed};
-ghost use Rattle.qt_runtime.specs.declared.entry.Entry.TheVariants.{Emitted};
-ghost use Rattle.qt_runtime.specs.Events.{value_of, values_of};
-ghost use Rattle.qt_runtime.specs.Taking.{Keeps, accepted, Becomes, Refuses, IsFound, IsBlank, IsEmissionEntry, Took};
+ghost use Rattle.qt_runtime.specs.Events.{conditions, Pass, value_of, values_of};
+ghost use Rattle.qt_runtime.specs.Seen.{at};
+ghost use Rattle.qt_runtime.specs.Taking.{Keeps, accepted, Becomes, Adds, Refuses, IsFound, IsEmissionEntry, Took};
 
 use crate::connections::Connection;
 use crate::entry::Entry;
@@ -13,8 +13,10 @@ use crate::fault::{Answer, Fault};
 use crate::judging::{Found, Joint};
 use crate::object_tree::Object;
 use crate::setting::Setting;
+use crate::typing::begin_well;
 use crate::values::Values;
 use crate::world::World;
+use meta_objects::{Meta, MetaProperty};
 use script_lang::{Connect, Event, Input};
 use signatures::{Arguments, Name, Value};
 use std::alloc::AllocError;
@@ -48,13 +50,23 @@ impl World {
         Ok(())
     }
 
-    /// Adds the object of an accepted event; without memory nothing changes.
-    fn accept_object(&mut self, object: Object) -> Result<(), Fault>
+    /// Adds the object of an accepted event, whose class has these properties. Where it doesn't begin well, and without
+    /// memory, nothing changes.
+    fn accept_object(
+        &mut self,
+        meta: &Meta,
+        object: Object,
+        properties: &[MetaProperty],
+    ) -> Result<(), Fault>
         requires left { 0 < self.old.left }
         requires few { self.old.events < 2 ^ 63 }
-        ensures { Becomes self.old (record (accepted self.old) { objects = self.old.objects ++ object ∷ [] }) self.new result }
+        ensures { Adds meta.now self.old object properties.now self.new result }
     {
         self.objects.push(object)?;
+        if !begin_well(meta, &self.objects, properties) {
+            self.objects.pop();
+            return Err(Fault::BadType);
+        }
         if self.trace.push(Entry::Accepted(self.events + 1)).is_err() {
             self.objects.pop();
             return Err(Fault::Memory);
@@ -69,7 +81,7 @@ impl World {
         requires left { 0 < self.old.left }
         requires few { self.old.events < 2 ^ 63 }
         requires few_connected { self.old.connected < 2 ^ 63 }
-        ensures { Becomes self.old (record (accepted self.old) { connections = self.old.connections ++ record { number = self.old.connected + 1; sender = j.sender; signal = j.signal; receiver = j.receiver; method = j.method } ∷ []; connected = self.old.connected + 1 }) self.new result }
+        ensures { Becomes self.old (record (accepted self.old) { connections = self.old.connections ++ record { number = self.old.connected + 1; sender = j.sender; signal = j.signal; receiver = j.receiver; method = j.method; kind = j.kind } ∷ []; connected = self.old.connected + 1 }) self.new result }
     {
         let number = self.connected + 1;
         self.connections.push(Connection {
@@ -78,6 +90,7 @@ impl World {
             signal: j.signal,
             receiver: j.receiver,
             method: j.method,
+            kind: j.kind,
         })?;
         if self.trace.push(Entry::Accepted(self.events + 1)).is_err() {
             self.connections.pop();
@@ -119,29 +132,31 @@ impl Setting {
     {
         match self.judge_new(world, name, class) {
             Err(reason) => world.refuse(reason),
-            Ok(number) => {
-                let object = self.blank(name, number)?;
-                world.accept_object(object)?;
-                Ok(Answer::Done)
-            }
+            Ok(number) => self.add_object(world, name, number),
         }
     }
 
-    /// An object of a class, whose properties are 0.
-    fn blank(&self, name: &Name, class: usize) -> Result<Object, AllocError>
-        requires { (n : List ℕ) × IsClassNamed self.now.meta n class }
-        ensures { IfOk result (λ x. IsBlank self.now.meta name.now class x) }
+    /// Adds an object of a class, for an event that is accepted.
+    fn add_object(&self, world: &mut World, name: &Name, class: usize) -> Result<Answer, Fault>
+        requires left { 0 < world.old.left }
+        requires keeps { Keeps self.now.meta world.old }
+        requires class { (n : List ℕ) × IsClassNamed self.now.meta n class }
+        ensures took { (n : List ℕ) → IsClassNamed self.now.meta n class → Pass (conditions self.now.meta (at world.old []) (New name.now n)) → Took self.now.meta self.now.depth world.old (New name.now n) world.new result }
+        ensures keeps { Keeps self.now.meta world.new }
     {
         let Some(found) = self.meta.object(class) else {
             unreachable!()
         };
+        let properties = found.properties.as_slice();
         let name = name.copy()?;
-        let values = Values::zeros(self.alloc, found.properties.len())?;
-        Ok(Object {
+        let values = Values::initial(self.alloc, properties)?;
+        let object = Object {
             name,
             class,
             values,
-        })
+        };
+        world.accept_object(&self.meta, object, properties)?;
+        Ok(Answer::Done)
     }
 
     /// Takes the making of a connection.
@@ -211,7 +226,7 @@ impl Setting {
         ensures { IfOk result (λ value. value ≡ value_of input.now) }
     {
         match input {
-            Input::Literal(value) => value.copy(self.alloc),
+            Input::Literal(value) => value.copy(),
         }
     }
 
@@ -222,7 +237,7 @@ impl Setting {
         found: Found,
         arguments: &[Value],
     ) -> Result<Entry, AllocError>
-        requires { (name : List ℕ) × (signal : List ℕ) × IsFound self.now.meta world.now.objects name signal (length arguments.now) found }
+        requires { (name : List ℕ) × (signal : List ℕ) × IsFound self.now.meta world.now.objects name signal arguments.now found }
         ensures { IfOk result (λ entry. IsEmissionEntry self.now.meta world.now.objects found arguments.now entry) }
     {
         let Some(object) = world.objects.get(found.object) else {
@@ -233,7 +248,7 @@ impl Setting {
         };
         let name = object.name.copy()?;
         let signal = method.sig.name.copy()?;
-        let arguments = Arguments::copy_of(self.alloc, arguments)?;
+        let arguments = world.objects.show_all(self.alloc, arguments)?;
         Ok(Entry::Emitted(1, name, signal, arguments))
     }
 }

@@ -1,6 +1,8 @@
-ghost use Rattle.std.specs.Prelude.{◌≡◌, ◌<◌, length, slice_set, replicate, pos, IfOk};
-ghost use Rattle.signatures.specs.declared.value.Value.TheVariants.{Int};
+ghost use Rattle.std.specs.Prelude.{◌≡◌, ◌↔◌, map, slice_get, slice_set, IfOk, IsTrue};
+ghost use Rattle.std.specs.Option.{option_copied};
+ghost use Rattle.meta_objects.specs.declared.object.MetaProperty.{MetaProperty as AMetaProperty};
 
+use meta_objects::MetaProperty;
 use signatures::Value;
 use std::alloc::{AllocError, Global};
 use std::marker::Model;
@@ -21,15 +23,30 @@ impl Model for Values {
 }
 
 impl Values {
-    /// So many values, each 0.
-    pub fn zeros(alloc: Global, count: usize) -> Result<Values, AllocError>
-        ensures { IfOk result (λ values. values ≡ replicate count (Int (pos 0))) }
+    /// The values that these properties have at first.
+    pub fn initial(alloc: Global, properties: &[MetaProperty]) -> Result<Values, AllocError>
+        ensures { IfOk result (λ values. values ≡ map (λ (q : AMetaProperty). q.initial) properties.now) }
     {
-        let mut items = Vec::with_capacity(alloc, count)?;
-        for _place in 0..count {
-            items.push(Value::Int(0))?;
+        let mut items = Vec::with_capacity(alloc, properties.len())?;
+        for property in properties {
+            let value = property.initial.copy()?;
+            items.push(value)?;
         }
         Ok(Values { items })
+    }
+
+    /// The value of the property of this number.
+    pub fn get(&self, property: usize) -> Option<&Value>
+        ensures { option_copied result ≡ slice_get self.now property }
+    {
+        self.items.get(property)
+    }
+
+    /// The values in their order.
+    pub fn as_slice(&self) -> &[Value]
+        ensures { result.now ≡ self.now }
+    {
+        self.items.as_slice()
     }
 
     /// Puts a value in place of that of a property; a number of no property changes nothing.
@@ -39,5 +56,18 @@ impl Values {
         if property < self.items.len() {
             self.items[property] = value;
         }
+    }
+}
+
+/// Whether two values are equal; texts are compared by their bytes.
+pub fn same_value(one: &Value, other: &Value) -> bool
+    ensures { IsTrue result ↔ (one.now ≡ other.now) }
+{
+    match (one, other) {
+        (Value::Int(a), Value::Int(b)) => *a == *b,
+        (Value::Bool(a), Value::Bool(b)) => *a == *b,
+        (Value::Text(a), Value::Text(b)) => a.is_same(b),
+        (Value::Ref(a), Value::Ref(b)) => *a == *b,
+        _ => false,
     }
 }

@@ -1,8 +1,8 @@
 //! All of the machine's state but the stack.
 
-ghost use Rattle.std.specs.Prelude.{◌≡◌, [], ◌<◌, length, MatchResult};
-ghost use Rattle.qt_runtime.specs.Goes.{Ticks, MayPush, Writes, noted};
-ghost use Rattle.qt_runtime.specs.declared.fault.Fault.TheVariants.{Memory};
+ghost use Rattle.std.specs.Prelude.{◌≡◌, [], ◌<◌, length, slice_get, Some};
+ghost use Rattle.qt_runtime.specs.Goes.{Ticks, IsLeft, MayNest, Notes, noted, set_in};
+ghost use Rattle.qt_runtime.specs.declared.object_tree.Object.{Object as AnObject};
 
 use crate::connections::Connections;
 use crate::entry::{Entry, Trace};
@@ -50,15 +50,12 @@ impl World {
         Ok(())
     }
 
-    /// Whether a rule is left, and an activation may stand over the one that stands over `height` others.
-    pub fn may_push(&self, depth: usize, height: usize) -> Result<(), Fault>
-        requires { height < depth }
-        ensures { MayPush depth height self.now result }
+    /// Whether a rule is left.
+    pub fn is_due(&self) -> Result<(), Fault>
+        ensures { IsLeft self.now result }
     {
         if self.left == 0 {
             Err(Fault::Steps)
-        } else if depth - height == 1 {
-            Err(Fault::TooDeep)
         } else {
             Ok(())
         }
@@ -67,7 +64,7 @@ impl World {
     /// A rule that writes an entry down; without memory nothing changes.
     pub fn note(&mut self, entry: Entry) -> Result<(), Fault>
         requires { 0 < self.old.left }
-        ensures { MatchResult result (λ _. self.new ≡ noted self.old entry) (λ fault. (fault ≡ Memory) × (self.new ≡ self.old)) }
+        ensures { Notes self.old (noted self.old entry) self.new result }
     {
         self.trace.push(entry)?;
         self.left -= 1;
@@ -84,10 +81,22 @@ impl World {
     ) -> Result<(), Fault>
         requires left { 0 < self.old.left }
         requires there { object < length self.old.objects }
-        ensures { Writes self.old entry object property value self.new result }
+        ensures { (x : AnObject) → slice_get self.old.objects object ≡ Some x → Notes self.old (set_in self.old entry object x property value) self.new result }
     {
         self.note(entry)?;
         self.objects.set(object, property, value);
+        Ok(())
+    }
+}
+
+/// Whether an activation may stand over the one that stands over `height` others.
+pub fn may_nest(depth: usize, height: usize) -> Result<(), Fault>
+    requires { height < depth }
+    ensures { MayNest depth height result }
+{
+    if depth - height == 1 {
+        Err(Fault::TooDeep)
+    } else {
         Ok(())
     }
 }

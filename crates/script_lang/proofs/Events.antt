@@ -1,76 +1,36 @@
--- Reading literals, signatures and events from their parts.
-use Rattle.std.proofs.Common.{ℕ, ◌≡◌, ◌≤◌, ◌<◌, Result, Ok, Err, List, ◌∷◌, map, length, pos, ◌-ℤ◌, refl, sym, ◌∙◌, ap, codes, arith}
-use Rattle.std.proofs.lemmas.List.{length-map}
-use Rattle.signatures.specs.declared.kind.Kind.TheVariants.{Direct}
-use Rattle.signatures.specs.declared.qtype.QType.{QType}
+-- Reading events from their parts.
+use Rattle.std.proofs.Common.{ℕ, ◌≡◌, Result, Ok, Err, List, ◌∷◌, map, refl, ◌∙◌, ap, codes}
+use Rattle.signatures.specs.declared.kind.Kind.{Kind}
+use Rattle.signatures.specs.declared.value.Value.{Value}
 use Rattle.signatures.specs.declared.sig.Sig.{Sig}
-use Rattle.signatures.specs.declared.value.Value.TheVariants.{Int}
-use Rattle.slot_lang.specs.Cursor.{NotAt, NotAtWord}
-use Rattle.slot_lang.specs.Grammar.{spell_numeral, value_of}
+use Rattle.slot_lang.specs.Cursor.{NotAtWord}
+use Rattle.slot_lang.specs.Lists.{spell_listed}
+use Rattle.slot_lang.specs.Literals.{spell_literal, tree_of_literal}
 use Rattle.slot_lang.specs.Reading.{Found, Reads, EndsAnywhere, spell_name}
+use Rattle.slot_lang.specs.Signatures.{spell_sig, tree_of_sig, spell_kind}
 use Rattle.slot_lang.specs.declared.fault.ParseFault.{ParseFault}
-use Rattle.slot_lang.specs.declared.symbol.Symbol.TheVariants.{Dot, Minus, Open}
+use Rattle.slot_lang.specs.declared.symbol.Symbol.TheVariants.{Dot}
 use Rattle.slot_lang.specs.declared.token.Token.{Token}
 use Rattle.slot_lang.specs.declared.token.Token.TheVariants as token
-use Rattle.slot_lang.specs.declared.word.Word.TheVariants as word
+use Rattle.signatures.specs.declared.word.Word.TheVariants as word
 use Rattle.script_lang.specs.declared.event.Event.{Event}
 use Rattle.script_lang.specs.declared.event.Event.TheVariants as tree
 use Rattle.script_lang.specs.declared.event.Input.{Input}
 use Rattle.script_lang.specs.declared.event.Input.TheVariants as input
-use Rattle.script_lang.specs.Grammar.{spell_items, spell_type, tree_of_type, Signature, spell_signature, tree_of_signature, greatest, deepest, Literal, plain, negative, spell_literal, tree_of_literal, New, spell_new, tree_of_new, Connect, spell_connect, tree_of_connect, Emit, spell_emit, tree_of_emit, Reading, new, connect, emit, spell_event, tree_of_event}
-use Rattle.script_lang.proofs.Unique.{unique_items, unique_type, type_opens}
+use Rattle.script_lang.specs.Grammar.{InputReading, literal, spell_input, tree_of_input, New, spell_new, tree_of_new, Connect, spell_connect, tree_of_connect, Emit, spell_emit, tree_of_emit, Reading, new, connect, emit, spell_event, tree_of_event}
 
--- ---- literals
+-- ---- values
 
-plain_only : (r : Literal) (before after rest : List Token) {n : ℕ} → NotAt Minus before → Found (spell_numeral greatest) (λ m. value_of m.digits) EndsAnywhere before n after → before ≡ spell_literal r rest → after ≡ rest
-plain_only (plain m) before after rest unsigned h g = h.only m rest tt g
-plain_only (negative m) before after rest unsigned h g = absurd (unsigned (spell_numeral deepest m rest) g)
+literal_only : {before after : List Token} (r : InputReading) (rest : List Token) {v : Value} → Found spell_literal tree_of_literal EndsAnywhere before v after → before ≡ spell_input r rest → after ≡ rest
+literal_only (literal l) rest f g = f.only l rest tt g
 
-pub plain_found : {before after : List Token} {n : ℕ} → NotAt Minus before → Found (spell_numeral greatest) (λ m. value_of m.digits) EndsAnywhere before n after → Found spell_literal tree_of_literal EndsAnywhere before (input.Literal (Int (pos n))) after
-plain_found {before} {after} unsigned h = record {
-  reading = plain h.reading;
-  spelled = h.spelled;
-  tree_is = ap (λ n. input.Literal (Int (pos n))) h.tree_is;
-  only = λ r rest ends g. plain_only r before after rest unsigned h g;
+pub literal_found : {before after : List Token} {v : Value} → Found spell_literal tree_of_literal EndsAnywhere before v after → Found spell_input tree_of_input EndsAnywhere before (input.Literal v) after
+literal_found f = record {
+  reading = literal f.reading;
+  spelled = f.spelled;
+  tree_is = ap input.Literal f.tree_is;
+  only = λ r rest ends g. literal_only r rest f g;
 }
-
-negative_only : (r : Literal) (before between after rest : List Token) {n : ℕ} → before ≡ token.Symbol Minus ∷ between → Found (spell_numeral deepest) (λ m. value_of m.digits) EndsAnywhere between n after → before ≡ spell_literal r rest → after ≡ rest
-negative_only (plain m) before between after rest e h g = cc
-negative_only (negative m) before between after rest e h g = h.only m rest tt (cc)
-
-pub negative_found : {before between after : List Token} {n : ℕ} → before ≡ token.Symbol Minus ∷ between → Found (spell_numeral deepest) (λ m. value_of m.digits) EndsAnywhere between n after → Found spell_literal tree_of_literal EndsAnywhere before (input.Literal (Int (pos 0 -ℤ pos n))) after
-negative_found {before} {between} {after} e h = record {
-  reading = negative h.reading;
-  spelled = e ∙ ap (λ ts. token.Symbol Minus ∷ ts) h.spelled;
-  tree_is = ap (λ n. input.Literal (Int (pos 0 -ℤ pos n))) h.tree_is;
-  only = λ r rest ends g. negative_only r before between after rest e h g;
-}
-
-pub numeral_fits : {most n : ℕ} {before after : List Token} → Found (spell_numeral most) (λ m. value_of m.digits) EndsAnywhere before n after → n ≤ most
-numeral_fits h = omega (arith, h.tree_is, h.reading.fits)
-
--- ---- signatures
-
-module _ {before at_open at_types after : List Token} {name : List ℕ} {types : List QType} (n : Found spell_name (λ name. name) EndsAnywhere before name at_open) (o : at_open ≡ token.Symbol Open ∷ at_types) (t : Found (spell_items spell_type) (map tree_of_type) EndsAnywhere at_types types after) where
-  types_at : (r : Signature) (rest : List Token) → before ≡ spell_signature r rest → at_types ≡ spell_items spell_type r.types rest
-  types_at r rest g = let s = n.spelled in cc
-
-  pub signature_found : length types ≤ 8 → Found spell_signature tree_of_signature EndsAnywhere before (let s : Sig = record { name = name; types = types } in s) after
-  signature_found few =
-      let s = n.spelled in
-      let x = n.tree_is in
-      let y = t.spelled in
-      record {
-        reading = record { name = name; types = t.reading; few = omega (arith, few, ap length t.tree_is, length-map t.reading tree_of_type) };
-        spelled = cc;
-        tree_is = ap (λ ts. let s : Sig = record { name = name; types = ts } in s) t.tree_is;
-        only = λ r rest ends g. t.only r.types rest tt (types_at r rest g);
-      }
-
-  pub too_many : 8 < length types → (r : Signature) (rest : List Token) → EndsAnywhere rest → before ≡ spell_signature r rest → ⊥
-  too_many many r rest ends g =
-      let same = unique_items spell_type tree_of_type type_opens unique_type t.reading r.types after rest (sym t.spelled ∙ types_at r rest g) in
-      absurd (omega (arith, many, r.few, ap length t.tree_is, ap length same.0, length-map r.types tree_of_type))
 
 -- ---- events
 
@@ -85,24 +45,24 @@ new_found {before} {at_object} {at_class} {after} {word} {object} {class} w is_n
       only = λ e rest ends g. cc;
     }
 
-pub connect_found : {before at_signal at_receiver at_method at_kind after : List Token} {sender receiver : List ℕ} {signal method : Sig} → Found spell_name (λ name. name) EndsAnywhere before sender at_signal → Found spell_signature tree_of_signature EndsAnywhere at_signal signal at_receiver → Found spell_name (λ name. name) EndsAnywhere at_receiver receiver at_method → Found spell_signature tree_of_signature EndsAnywhere at_method method at_kind → at_kind ≡ token.Word word.Direct ∷ after → Found spell_connect tree_of_connect EndsAnywhere before (tree.Connect record { sender = sender; signal = signal; receiver = receiver; method = method; kind = Direct }) after
-connect_found {before} {at_signal} {at_receiver} {at_method} {at_kind} {after} {sender} {receiver} {signal} {method} n s m t e =
-    let n_is = n.spelled in let s_is = s.spelled in let m_is = m.spelled in let t_is = t.spelled in
-    let n_tree = n.tree_is in let s_tree = s.tree_is in let m_tree = m.tree_is in let t_tree = t.tree_is in
+pub connect_found : {before at_signal at_receiver at_method at_kind after : List Token} {sender receiver : List ℕ} {signal method : Sig} {kind : Kind} → Found spell_name (λ name. name) EndsAnywhere before sender at_signal → Found spell_sig tree_of_sig EndsAnywhere at_signal signal at_receiver → Found spell_name (λ name. name) EndsAnywhere at_receiver receiver at_method → Found spell_sig tree_of_sig EndsAnywhere at_method method at_kind → Found spell_kind (λ kind. kind) EndsAnywhere at_kind kind after → Found spell_connect tree_of_connect EndsAnywhere before (tree.Connect record { sender = sender; signal = signal; receiver = receiver; method = method; kind = kind }) after
+connect_found {before} {at_signal} {at_receiver} {at_method} {at_kind} {after} {sender} {receiver} {signal} {method} {kind} n s m t k =
+    let n_is = n.spelled in let s_is = s.spelled in let m_is = m.spelled in let t_is = t.spelled in let k_is = k.spelled in
+    let n_tree = n.tree_is in let s_tree = s.tree_is in let m_tree = m.tree_is in let t_tree = t.tree_is in let k_tree = k.tree_is in
     record {
-      reading = record { sender = sender; signal = s.reading; receiver = receiver; method = t.reading };
+      reading = record { sender = sender; signal = s.reading; receiver = receiver; method = t.reading; kind = kind };
       spelled = cc;
       tree_is = cc;
       only = λ r rest ends g.
-          let first : at_signal ≡ spell_signature r.signal (token.Name r.receiver ∷ spell_signature r.method (token.Word word.Direct ∷ rest)) = cc in
-          let second : at_receiver ≡ token.Name r.receiver ∷ spell_signature r.method (token.Word word.Direct ∷ rest) = s.only r.signal (token.Name r.receiver ∷ spell_signature r.method (token.Word word.Direct ∷ rest)) tt first in
-          let third : at_method ≡ spell_signature r.method (token.Word word.Direct ∷ rest) = cc in
-          let fourth : at_kind ≡ token.Word word.Direct ∷ rest = t.only r.method (token.Word word.Direct ∷ rest) tt third in
-          cc;
+          let last : List Token = spell_kind r.kind rest in
+          let first : at_signal ≡ spell_sig r.signal (token.Name r.receiver ∷ spell_sig r.method last) = cc in
+          let second : at_receiver ≡ token.Name r.receiver ∷ spell_sig r.method last = s.only r.signal (token.Name r.receiver ∷ spell_sig r.method last) tt first in
+          let third : at_method ≡ spell_sig r.method last = cc in
+          k.only r.kind rest tt (t.only r.method last tt third);
     }
 
-pub emit_found : {before at_dot at_signal at_open at_arguments after : List Token} {sender signal : List ℕ} {arguments : List Input} → Found spell_name (λ name. name) EndsAnywhere before sender at_dot → at_dot ≡ token.Symbol Dot ∷ at_signal → Found spell_name (λ name. name) EndsAnywhere at_signal signal at_open → at_open ≡ token.Symbol Open ∷ at_arguments → Found (spell_items spell_literal) (map tree_of_literal) EndsAnywhere at_arguments arguments after → Found spell_emit tree_of_emit EndsAnywhere before (tree.Emit sender signal arguments) after
-emit_found {before} {at_dot} {at_signal} {at_open} {at_arguments} {after} {sender} {signal} {arguments} n d s o a =
+pub emit_found : {before at_dot at_signal at_arguments after : List Token} {sender signal : List ℕ} {arguments : List Input} → Found spell_name (λ name. name) EndsAnywhere before sender at_dot → at_dot ≡ token.Symbol Dot ∷ at_signal → Found spell_name (λ name. name) EndsAnywhere at_signal signal at_arguments → Found (spell_listed spell_input) (map tree_of_input) EndsAnywhere at_arguments arguments after → Found spell_emit tree_of_emit EndsAnywhere before (tree.Emit sender signal arguments) after
+emit_found {before} {at_dot} {at_signal} {at_arguments} {after} {sender} {signal} {arguments} n d s a =
     let n_is = n.spelled in let s_is = s.spelled in let a_is = a.spelled in
     let n_tree = n.tree_is in let s_tree = s.tree_is in let a_tree = a.tree_is in
     record {
@@ -110,7 +70,7 @@ emit_found {before} {at_dot} {at_signal} {at_open} {at_arguments} {after} {sende
       spelled = cc;
       tree_is = cc;
       only = λ r rest ends g.
-          let last : at_arguments ≡ spell_items spell_literal r.arguments rest = cc in
+          let last : at_arguments ≡ spell_listed spell_input r.arguments rest = cc in
           a.only r.arguments rest tt last;
     }
 

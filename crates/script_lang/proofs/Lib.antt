@@ -1,5 +1,4 @@
-pub mod Lists
-pub mod Unique
+pub mod OneTree
 pub mod Events
 pub mod Cuts
 pub mod Scripts

@@ -10,7 +10,7 @@ use Rattle.script_lang.specs.Lines.{IsFrontLine, AreFrontLines, AreLines}
 use Rattle.script_lang.specs.Reads.{Holds, AreEvents, IsScript, IsBadLine, ReadsScript}
 use Rattle.script_lang.proofs.Cuts.{one_front_line, no_line_at_end}
 use Rattle.script_lang.proofs.Scripts.{IsRefused}
-use Rattle.script_lang.proofs.Unique.{one_event}
+use Rattle.script_lang.proofs.OneTree.{one_event}
 
 -- ---- one line
 
@@ -28,7 +28,8 @@ one_content line None (Some b) h k = absurd (no_tokens_no_event k.tokens b (same
 one_content line (Some a) None h k = absurd (no_tokens_no_event h.tokens a (same_tokens line h.tokens [] h.cut k) h.is_event)
 one_content line (Some a) (Some b) h k =
     let same = same_tokens line h.tokens k.tokens h.cut k.cut in
-    ap Some (one_event k.tokens a b (rw same at h.is_event) k.is_event)
+    let one = one_event k.tokens h.is_event.reading k.is_event.reading (sym same ∙ h.is_event.spelled) k.is_event.spelled in
+    ap Some (sym h.is_event.tree ∙ (one ∙ k.is_event.tree))
 
 -- ---- the events of a text
 

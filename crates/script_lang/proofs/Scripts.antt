@@ -1,20 +1,25 @@
 -- The events of lines, and of a script.
-use Rattle.std.proofs.Common.{◌≡◌, ℕ, ◌≤◌, ◌+◌, List, [], ◌∷◌, ◌++◌, length, refl, ◌∙◌, ap, Option, Some, None, Bool, false, IsTrue, ◌↔◌, arith}
+use Rattle.std.proofs.Common.{◌≡◌, ℕ, ◌≤◌, ◌+◌, List, [], ◌∷◌, ◌++◌, length, refl, sym, ◌∙◌, ap, Option, Some, None, Bool, true, false, IsTrue, ◌↔◌, arith}
 use Rattle.std.proofs.lemmas.List.{append-nil, length-append}
 use Rattle.slot_lang.proofs.Cut.{same_tokens}
 use Rattle.slot_lang.specs.Pieces.{AreTokens}
 use Rattle.slot_lang.specs.Reading.{Found, EndsAnywhere}
+use Rattle.slot_lang.specs.Signatures.{HasPlainReference}
 use Rattle.slot_lang.specs.declared.token.Token.{Token}
 use Rattle.script_lang.specs.declared.event.Event.{Event}
-use Rattle.script_lang.specs.Grammar.{Reading, spell_event, tree_of_event}
+use Rattle.script_lang.specs.Grammar.{Reading, spell_event, tree_of_event, IsWithinLimits}
 use Rattle.script_lang.specs.Lines.{IsFrontLine, AreFrontLines}
 use Rattle.script_lang.specs.Reads.{IsEmptyLine, IsEventLine, Holds, before, AreEvents, most_bytes, IsScript, IsBadLine}
 use Rattle.script_lang.proofs.Cuts.{one_more_line}
+use Rattle.script_lang.proofs.OneTree.{one_event}
 
 -- ---- one line
 
-pub is_some : {tokens : List Token} (b : Bool) → b ≡ false → (IsTrue b ↔ (tokens ≡ [])) → tokens ≡ [] → ⊥
-is_some b f h e = let t = h.1 e in cc
+pub is_so : {P : Type 0} (b : Bool) → b ≡ true → (IsTrue b ↔ P) → P
+is_so b f h = h.0 f
+
+pub is_not_so : {P : Type 0} (b : Bool) → b ≡ false → (IsTrue b ↔ P) → ¬ P
+is_not_so b f h p = let t = h.1 p in cc
 
 -- the line is neither empty nor an event
 abbrev pub IsRefused : List ℕ → Type 0
@@ -29,16 +34,28 @@ module _ {line : List ℕ} {tokens : List Token} (cut : AreTokens line tokens) (
   no_event none None h = some (same_tokens line tokens [] cut h)
   no_event none (Some event) h = none h.is_event.reading [] tt (same_tokens line tokens h.tokens cut h.cut ∙ h.is_event.spelled)
 
+  pub no_normal_form : HasPlainReference tokens → IsRefused line
+  no_normal_form plain None h = some (same_tokens line tokens [] cut h)
+  no_normal_form plain (Some event) h = h.is_event.normal (rw (same_tokens line tokens h.tokens cut h.cut) at plain)
+
   pub more_than_event : {event : Event} {after : List Token} → Found spell_event tree_of_event EndsAnywhere tokens event after → (after ≡ [] → ⊥) → IsRefused line
   more_than_event f more None h = some (same_tokens line tokens [] cut h)
   more_than_event f more (Some event) h = more (f.only h.is_event.reading [] tt (same_tokens line tokens h.tokens cut h.cut ∙ h.is_event.spelled))
 
-pub event_line : {line : List ℕ} {tokens after : List Token} {event : Event} → AreTokens line tokens → Found spell_event tree_of_event EndsAnywhere tokens event after → after ≡ [] → IsEventLine line event
-event_line {tokens = tokens} cut f e = record {
-  tokens = tokens;
-  cut = cut;
-  is_event = record { reading = f.reading; spelled = f.spelled ∙ ap (spell_event f.reading) e; tree = f.tree_is };
-}
+module _ {line : List ℕ} {tokens after : List Token} {event : Event} (cut : AreTokens line tokens) (f : Found spell_event tree_of_event EndsAnywhere tokens event after) (end : after ≡ []) where
+  pub event_line : IsWithinLimits event → ¬ HasPlainReference tokens → IsEventLine line event
+  event_line within normal = record {
+    tokens = tokens;
+    cut = cut;
+    is_event = record { reading = f.reading; spelled = f.spelled ∙ ap (spell_event f.reading) end; tree = f.tree_is; within = within; normal = normal };
+  }
+
+  pub beyond_limits : (tokens ≡ [] → ⊥) → ¬ IsWithinLimits event → IsRefused line
+  beyond_limits some beyond None h = some (same_tokens line tokens [] cut h)
+  beyond_limits some beyond (Some other) h =
+      let same = same_tokens line tokens h.tokens cut h.cut in
+      let one = one_event tokens f.reading h.is_event.reading (f.spelled ∙ ap (spell_event f.reading) end) (same ∙ h.is_event.spelled) in
+      beyond (rw (← (sym f.tree_is ∙ (one ∙ h.is_event.tree))) at h.is_event.within)
 
 -- ---- the lines so far
 

@@ -10,7 +10,8 @@ pub enum Input {
     Literal(Value),
 }
 
-/// `connect A S B M kind`: the sender, its signal, the receiver, its method.
+/// `connect A S B M kind`: the sender, its signal, the receiver, its method. Each signature has at most 8 types, and the
+/// kind isn't `Queued`.
 #[derive(Drop)]
 pub struct Connect {
     /// The name of the object whose signal is connected.

@@ -3,6 +3,7 @@
 
 mod event;
 mod fault;
+mod limits;
 mod lines;
 mod reader;
 mod syntax;

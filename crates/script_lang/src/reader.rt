@@ -8,9 +8,10 @@ ghost use Rattle.script_lang.specs.Reads.{Holds, IsScript, ReadsScript, ReadsLin
 
 use crate::event::Event;
 use crate::fault::{LineFault, ScriptFault};
+use crate::limits::is_within_limits;
 use crate::lines::split_line;
 use crate::syntax::event;
-use slot_lang::{Cursor, tokens};
+use slot_lang::{Cursor, has_plain_reference, tokens};
 use sqlite_items::Items;
 use std::alloc::Global;
 
@@ -67,8 +68,14 @@ fn read_line(alloc: Global, line: &[u8]) -> Result<Option<Event>, LineFault>
     if cursor.is_empty() {
         return Ok(None);
     }
+    if has_plain_reference(tokens.as_slice()) {
+        return Err(LineFault::NoEvent);
+    }
     let event = event(&mut cursor)?;
-    if cursor.is_empty() {
+    if !cursor.is_empty() {
+        return Err(LineFault::NoEvent);
+    }
+    if is_within_limits(&event) {
         Ok(Some(event))
     } else {
         Err(LineFault::NoEvent)

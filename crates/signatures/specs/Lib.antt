@@ -1,3 +1,10 @@
 pub mod Name
+pub mod Words
+pub mod Text
 pub mod Types
-pub mod Value
+pub mod Normal
+pub mod Tokens
+pub mod Signatures
+pub mod Reading
+pub mod Spelling
+pub mod Laws

@@ -1,11 +1,11 @@
 -- Types and signatures (docs/language.md, "Signatures").
-use Rattle.std.specs.Prelude.{◌≡◌, ℕ, false, List, ◌++◌, codes}
+use Rattle.std.specs.Prelude.{◌≡◌, ℕ, false, List, ◌++◌}
 use Rattle.signatures.specs.declared.qtype.QType.{QType}
 use Rattle.signatures.specs.declared.sig.Sig.{Sig}
 
--- the type `int`
-abbrev pub int_type : QType
-int_type = record { name = codes "int"; constant = false; pointer = false }
+-- the value type of a name
+abbrev pub value_type : List ℕ → QType
+value_type name = record { name = name; constant = false; pointer = false }
 
 -- the front is a prefix of the list
 abbrev pub BeginsWith : List QType → List QType → Type 0

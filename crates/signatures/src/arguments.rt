@@ -36,7 +36,7 @@ impl Arguments {
     {
         let mut copies = Arguments::new(alloc);
         for value in values {
-            let copy = value.copy(alloc)?;
+            let copy = value.copy()?;
             copies.push(copy)?;
         }
         Ok(copies)

@@ -2,17 +2,32 @@
 #![tactic(auto)]
 
 mod arguments;
+mod fault;
 mod kind;
+mod loop_id;
 mod name;
+mod normal;
 mod object_id;
 mod qtype;
+mod reader;
+mod scanner;
 mod sig;
+#[cfg(test)]
+mod tests;
+mod text;
 mod value;
+mod word;
 
 pub use arguments::Arguments;
+pub use fault::SigFault;
 pub use kind::Kind;
+pub use loop_id::LoopId;
 pub use name::{Name, is_digit, is_letter, is_name, is_name_byte};
+pub use normal::{ConstPlace, TypeEnding};
 pub use object_id::ObjectId;
 pub use qtype::{QType, types_are_same, types_begin_with};
-pub use sig::{Sig, fits};
+pub use reader::{MOST_PARAMETERS, normalise, one_normal_form, texts_are_normal};
+pub use sig::{Sig, fits, fits_in_order};
+pub use text::{MOST_BYTES, Text, is_text, is_text_byte};
 pub use value::Value;
+pub use word::Word;

@@ -1,5 +1,6 @@
-ghost use Rattle.std.specs.Prelude.{◌≡◌, ◌++◌, ◌↔◌, false, IsTrue, IfOk, List};
-ghost use Rattle.signatures.specs.Types.{int_type, BeginsWith};
+ghost use Rattle.std.specs.Prelude.{◌≡◌, ◌++◌, ◌↔◌, IsTrue, IfOk, OnOk, List};
+ghost use Rattle.signatures.specs.Spelling.{const_text, star_text, text_of_type, text_of_types};
+ghost use Rattle.signatures.specs.Types.{value_type, BeginsWith};
 
 use crate::name::Name;
 use std::alloc::{AllocError, Global};
@@ -18,7 +19,7 @@ pub struct QType {
 impl QType {
     /// The value type of this name.
     pub fn value(name: Name) -> QType
-        ensures { result ≡ record { name = name; constant = false; pointer = false } }
+        ensures { result ≡ value_type name }
     {
         QType {
             name,
@@ -39,11 +40,23 @@ impl QType {
         })
     }
 
-    /// Whether it is `int`.
-    pub fn is_int(&self) -> bool
-        ensures { IsTrue result ↔ (self.now ≡ int_type) }
+    /// The type's text: `T`, `T*` or `const T*`.
+    pub fn text(&self, alloc: Global) -> Result<Vec<u8>, AllocError>
+        ensures { IfOk result (λ text. text.items ≡ text_of_type self.now) }
     {
-        !self.constant && !self.pointer && self.name.bytes() == b"int".as_slice()
+        let mut text = Vec::new(alloc);
+        self.push_text(&mut text)?;
+        Ok(text)
+    }
+
+    /// Adds the type's text at the end.
+    pub(crate) fn push_text(&self, text: &mut Vec<u8>) -> Result<(), AllocError>
+        ensures { OnOk result (text.new.items ≡ text.old.items ++ text_of_type self.now) }
+    {
+        text.extend_from_slice(const_text(self.constant))?;
+        text.extend_from_slice(self.name.bytes())?;
+        text.extend_from_slice(star_text(self.pointer))?;
+        Ok(())
     }
 
     /// Whether both types are the same; `T*` and `const T*` are two types.
@@ -54,6 +67,37 @@ impl QType {
             && self.pointer == other.pointer
             && self.name.is_same(&other.name)
     }
+}
+
+/// What stands in front of a constant type's name.
+fn const_text(constant: bool) -> &'static [u8]
+    ensures { result.now ≡ const_text constant }
+{
+    if constant { b"const " } else { b"" }
+}
+
+/// What stands behind a pointer's name.
+fn star_text(pointer: bool) -> &'static [u8]
+    ensures { result.now ≡ star_text pointer }
+{
+    if pointer { b"*" } else { b"" }
+}
+
+/// Adds the types' texts at the end, with `,` between them.
+pub(crate) fn push_types(types: &[QType], text: &mut Vec<u8>) -> Result<(), AllocError>
+    ensures { OnOk result (text.new.items ≡ text.old.items ++ text_of_types types.now) }
+{
+    let Some((first, others)) = types.split_first() else {
+        return Ok(());
+    };
+    first.push_text(text)?;
+    let mut left = others;
+    while let Some((kind, more)) = left.split_first() {
+        text.push(b',')?;
+        kind.push_text(text)?;
+        left = more;
+    }
+    Ok(())
 }
 
 /// Whether both lists hold the same types in the same order.

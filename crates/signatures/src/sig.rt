@@ -1,8 +1,10 @@
 ghost use Rattle.std.specs.Prelude.{◌≡◌, ◌↔◌, IsTrue, IfOk};
+ghost use Rattle.signatures.specs.Laws.{FitsItself, FitsAlong};
+ghost use Rattle.signatures.specs.Spelling.{text_of_sig};
 ghost use Rattle.signatures.specs.Types.{Fits};
 
 use crate::name::Name;
-use crate::qtype::{QType, types_are_same, types_begin_with};
+use crate::qtype::{QType, push_types, types_are_same, types_begin_with};
 use sqlite_items::Items;
 use std::alloc::{AllocError, Global};
 
@@ -27,6 +29,17 @@ impl Sig {
         Ok(Sig { name, types })
     }
 
+    /// The signature's text: `f(const Cell*,int)`. It has no blank but the one behind `const`.
+    pub fn text(&self, alloc: Global) -> Result<Vec<u8>, AllocError>
+        ensures { IfOk result (λ text. text.items ≡ text_of_sig self.now) }
+    {
+        let mut text = Vec::from_slice(alloc, self.name.bytes())?;
+        text.push(b'(')?;
+        push_types(self.types.as_slice(), &mut text)?;
+        text.push(b')')?;
+        Ok(text)
+    }
+
     /// Whether both signatures have one name and the same types.
     pub fn is_same(&self, other: &Sig) -> bool
         ensures { IsTrue result ↔ (self.now ≡ other.now) }
@@ -42,3 +55,9 @@ pub fn fits(signal: &Sig, slot: &Sig) -> bool
 {
     types_begin_with(signal.types.as_slice(), slot.types.as_slice())
 }
+
+/// A signature fits itself, and what fits a signature that fits another one fits that one too.
+pub fn fits_in_order()
+    ensures itself { FitsItself }
+    ensures along { FitsAlong }
+{}

@@ -1,15 +1,20 @@
-ghost use Rattle.std.specs.Prelude.{◌≡◌, ◌↔◌, IsTrue, IfOk};
-ghost use Rattle.signatures.specs.Types.{int_type};
-ghost use Rattle.signatures.specs.Value.{Has, HaveTypes};
+ghost use Rattle.std.specs.Prelude.{◌≡◌, IfOk};
 
-use crate::qtype::QType;
-use std::alloc::{AllocError, Global};
+use crate::object_id::ObjectId;
+use crate::text::Text;
+use std::alloc::AllocError;
 
 /// The value of a property, a parameter or an expression.
-#[derive(Debug, Drop)]
+#[derive(Drop)]
 pub enum Value {
     /// A number of 32 bits.
     Int(i32),
+    /// A truth value.
+    Bool(bool),
+    /// A text.
+    Text(Text),
+    /// A reference to an object, or null.
+    Ref(Option<ObjectId>),
 }
 
 /// The value 0.
@@ -25,36 +30,15 @@ impl Default for Value {
 }
 
 impl Value {
-    /// An equal value.
-    pub fn copy(&self, _alloc: Global) -> Result<Value, AllocError>
+    /// An equal value, which takes no memory: a text is shared.
+    pub fn copy(&self) -> Result<Value, AllocError>
         ensures { IfOk result (λ copy. copy ≡ self.now) }
     {
         match self {
             Value::Int(number) => Ok(Value::Int(*number)),
+            Value::Bool(truth) => Ok(Value::Bool(*truth)),
+            Value::Text(text) => Ok(Value::Text(text.copy()?)),
+            Value::Ref(object) => Ok(Value::Ref(*object)),
         }
-    }
-
-    /// Whether the value is of the type.
-    pub fn has_type(&self, kind: &QType) -> bool
-        ensures { IsTrue result ↔ Has self.now kind.now }
-    {
-        match self {
-            Value::Int(_) => kind.is_int(),
-        }
-    }
-
-    /// Whether there are as many values as types, each of its type.
-    pub fn have_types(values: &[Value], kinds: &[QType]) -> bool
-        ensures { IsTrue result ↔ HaveTypes values.now kinds.now }
-    {
-        let (mut rest, mut left) = (kinds, values);
-        while let Some((value, more)) = left.split_first() {
-            match rest.split_first() {
-                Some((kind, after)) if value.has_type(kind) => rest = after,
-                _ => return false,
-            }
-            left = more;
-        }
-        rest.is_empty()
     }
 }

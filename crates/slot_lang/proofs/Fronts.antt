@@ -12,10 +12,10 @@ use Rattle.slot_lang.specs.declared.token.Token.TheVariants as token
 use Rattle.slot_lang.specs.Bytes.{is_blank, class_by, class_of, belongs, IsRun}
 use Rattle.signatures.specs.Name.{is_letter, is_digit, is_name_byte, IsName}
 use Rattle.slot_lang.specs.declared.token.Token.{Token}
-use Rattle.slot_lang.specs.declared.word.Word.{Word}
-use Rattle.slot_lang.specs.declared.word.Word.TheVariants as w
+use Rattle.signatures.specs.declared.word.Word.{Word}
+use Rattle.signatures.specs.declared.word.Word.TheVariants as w
 use Rattle.std.proofs.lemmas.List.Elements.{All-from_recursion}
-use Rattle.slot_lang.specs.Words.{word_spelling}
+use Rattle.signatures.specs.Words.{word_spelling}
 use Rattle.slot_lang.specs.Symbols.{spelling, IsSymbolAt, Begins}
 use Rattle.slot_lang.specs.Pieces.{Piece, blank, comment, name, reserved, number, text, symbol, IsFront, IsComment, StartsWithLetter, IsNotEmpty, IsWordOrName, Cuts}
 

@@ -1,6 +1,6 @@
 -- Numbers by their digits.
 use Rattle.std.proofs.Common.{◌≡◌, ◌<◌, ◌∙◌, ℕ, ◌+◌, ◌*◌, ◌-◌, ◌≤◌, List, [], ◌∷◌, length, drop, get_or, add-one, drop-cons, arith}
-use Rattle.slot_lang.specs.Grammar.{value_from, value_of}
+use Rattle.slot_lang.specs.Numerals.{value_from, value_of}
 
 -- more digits make no smaller number
 pub at_least : (n : ℕ) (digits : List ℕ) → n ≤ value_from n digits

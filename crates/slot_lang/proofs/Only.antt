@@ -5,8 +5,8 @@ use Rattle.slot_lang.specs.declared.symbol.Symbol.{Symbol}
 use Rattle.slot_lang.specs.declared.symbol.Symbol.TheVariants as s
 use Rattle.slot_lang.specs.declared.symbol.TheConstants.{DOUBLES, SINGLES}
 use Rattle.slot_lang.specs.Symbols.{spelling}
-use Rattle.slot_lang.specs.Words.{word_spelling}
-use Rattle.slot_lang.proofs.Words.{one_word}
+use Rattle.signatures.specs.Words.{word_spelling}
+use Rattle.signatures.proofs.Words.{one_word}
 use Rattle.slot_lang.specs.Pieces.{Piece, blank, comment, name, reserved, number, text, symbol, IsFront, IsCut}
 use Rattle.slot_lang.proofs.Runs.{one_run}
 use Rattle.slot_lang.proofs.Fronts.{class_at_front, no_front_at_end}

@@ -1,7 +1,7 @@
 -- What comes next in a list of tokens.
 use Rattle.std.specs.Prelude.{◌≡◌, List, ◌∷◌}
 use Rattle.slot_lang.specs.declared.symbol.Symbol.{Symbol}
-use Rattle.slot_lang.specs.declared.word.Word.{Word}
+use Rattle.signatures.specs.declared.word.Word.{Word}
 use Rattle.slot_lang.specs.declared.token.Token.{Token}
 use Rattle.slot_lang.specs.declared.token.Token.TheVariants as token
 

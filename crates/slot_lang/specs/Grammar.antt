@@ -2,84 +2,143 @@
 -- "Slot bodies").
 --
 --   block = "{" {stmt} "}"
---   stmt  = "set" "this" "." Name "=" expr ";"
---   expr  = number | Name
-use Rattle.std.specs.Prelude.{ℕ, ◌≡◌, ◌+◌, ◌-◌, ◌*◌, ◌≤◌, List, [], ◌∷◌, map, pos}
-use Rattle.slot_lang.specs.declared.symbol.Symbol.TheVariants.{Dot, Assign, Semicolon, OpenBrace, CloseBrace}
-use Rattle.slot_lang.specs.declared.word.Word.TheVariants as word
-use Rattle.slot_lang.specs.declared.token.Token.{Token}
-use Rattle.slot_lang.specs.declared.token.Token.TheVariants as token
-use Rattle.slot_lang.specs.declared.syntax.Expr.{Expr}
-use Rattle.slot_lang.specs.declared.syntax.Expr.TheVariants as expr
+--   stmt  = "set" path "." Name "=" expr ";"
+--         | "emit" Name "(" [expr {"," expr}] ")" ";"
+--         | "call" path "." Name "(" [expr {"," expr}] ")" ";"
+--         | "if" "(" expr ")" block ["else" block]
+use Rattle.std.specs.Prelude.{ℕ, ◌≡◌, List, [], ◌∷◌, map}
+use Rattle.signatures.specs.declared.word.Word.TheVariants as word
+use Rattle.slot_lang.specs.Cursor.{NotAtWord}
+use Rattle.slot_lang.specs.Expressions.{Expression, spell_expression, spell_group, spell_path, tree_of_expression}
+use Rattle.slot_lang.specs.Lists.{spell_listed}
+use Rattle.slot_lang.specs.declared.symbol.Symbol.TheVariants.{Dot, Assign, Semicolon, Open, OpenBrace, CloseBrace}
+use Rattle.slot_lang.specs.declared.syntax.Path.{Path}
 use Rattle.slot_lang.specs.declared.syntax.Stmt.{Stmt}
 use Rattle.slot_lang.specs.declared.syntax.Stmt.TheVariants as stmt
+use Rattle.slot_lang.specs.declared.token.Token.{Token}
+use Rattle.slot_lang.specs.declared.token.Token.TheVariants as token
 
--- the number that digits after `n` write, `0` being 48
-abbrev pub value_from : ℕ → List ℕ → ℕ
-value_from n [] = n
-value_from n (d ∷ ds) = value_from (n * 10 + (d - 48)) ds
+-- ---- the parts of statements
 
-abbrev pub value_of : List ℕ → ℕ
-value_of digits = value_from 0 digits
+-- path "." Name
+abbrev pub Target : Type 0
+Target = Path × List ℕ
 
--- a number that is at most so much, with its digits
-pub record Numeral (most : ℕ) : Type 0 where
-  pub digits : List ℕ
-  pub fits : value_of digits ≤ most
+abbrev pub spell_target : Target → List Token → List Token
+spell_target t after = spell_path t.0 (token.Symbol Dot ∷ token.Name t.1 ∷ after)
 
-abbrev pub spell_numeral : (most : ℕ) → Numeral most → List Token → List Token
-spell_numeral most n after = token.Number n.digits ∷ after
-
-abbrev pub most_in_expressions : ℕ
-most_in_expressions = 2147483647
-
-pub data Expression : Type 0 where
-  number : Numeral most_in_expressions → Expression
-  parameter : List ℕ → Expression
-
-abbrev pub spell_expression : Expression → List Token → List Token
-spell_expression (number n) after = spell_numeral most_in_expressions n after
-spell_expression (parameter name) after = token.Name name ∷ after
-
-abbrev pub tree_of_expression : Expression → Expr
-tree_of_expression (number n) = expr.Number (pos (value_of n.digits))
-tree_of_expression (parameter name) = expr.Parameter name
-
-pub data Statement : Type 0 where
-  set : (property : List ℕ) → Expression → Statement
-
--- `this . Name`
-abbrev pub spell_target : List ℕ → List Token → List Token
-spell_target property after = token.Word word.This ∷ token.Symbol Dot ∷ token.Name property ∷ after
-
--- `= expr ;`
+-- "=" expr ";"
 abbrev pub spell_value : Expression → List Token → List Token
 spell_value e after = token.Symbol Assign ∷ spell_expression e (token.Symbol Semicolon ∷ after)
 
-abbrev pub spell_statement : Statement → List Token → List Token
-spell_statement (set property e) after = token.Word word.Set ∷ spell_target property (spell_value e after)
+-- "(" [expr {"," expr}] ")" ";"
+abbrev pub spell_arguments : List Expression → List Token → List Token
+spell_arguments es after = spell_listed spell_expression es (token.Symbol Semicolon ∷ after)
 
-abbrev pub tree_of_statement : Statement → Stmt
-tree_of_statement (set property e) = stmt.Set property (tree_of_expression e)
+-- "(" expr ")"
+abbrev pub spell_condition : Expression → List Token → List Token
+spell_condition e after = token.Symbol Open ∷ spell_group e after
 
-abbrev pub spell_statements : List Statement → List Token → List Token
-spell_statements [] after = after
-spell_statements (s ∷ ss) after = spell_statement s (spell_statements ss after)
+-- what follows "set"
+abbrev pub Assignment : Type 0
+Assignment = Target × Expression
 
-abbrev pub spell_block : List Statement → List Token → List Token
-spell_block statements after = token.Symbol OpenBrace ∷ spell_statements statements (token.Symbol CloseBrace ∷ after)
+abbrev pub spell_assignment : Assignment → List Token → List Token
+spell_assignment a after = spell_target a.0 (spell_value a.1 after)
 
-abbrev pub tree_of_block : List Statement → List Stmt
-tree_of_block statements = map tree_of_statement statements
+abbrev pub tree_of_assignment : Assignment → Stmt
+tree_of_assignment a = stmt.Set a.0.0 a.0.1 (tree_of_expression a.1)
+
+-- what follows "emit"
+abbrev pub Emission : Type 0
+Emission = List ℕ × List Expression
+
+abbrev pub spell_emission : Emission → List Token → List Token
+spell_emission e after = token.Name e.0 ∷ spell_arguments e.1 after
+
+abbrev pub tree_of_emission : Emission → Stmt
+tree_of_emission e = stmt.Emit e.0 (map tree_of_expression e.1)
+
+-- what follows "call"
+abbrev pub Call : Type 0
+Call = Target × List Expression
+
+abbrev pub spell_call : Call → List Token → List Token
+spell_call c after = spell_target c.0 (spell_arguments c.1 after)
+
+abbrev pub tree_of_call : Call → Stmt
+tree_of_call c = stmt.Call c.0.0 c.0.1 (map tree_of_expression c.1)
+
+-- ---- statements and blocks
+
+mutual
+  -- {stmt}
+  pub data Body : Type 0 where
+    no_more : Body
+    more : Statement → Body → Body
+
+  pub data Statement : Type 0 where
+    set : Assignment → Statement
+    emit : Emission → Statement
+    call : Call → Statement
+    choice : Expression → Body → Else → Statement
+
+  -- ["else" block]
+  pub data Else : Type 0 where
+    no_else : Else
+    else_block : Body → Else
+
+abbrev mutual
+  pub spell_statements : Body → List Token → List Token
+  spell_statements no_more after = after
+  spell_statements (more s body) after = spell_statement s (spell_statements body after)
+
+  pub spell_statement : Statement → List Token → List Token
+  spell_statement (set a) after = token.Word word.Set ∷ spell_assignment a after
+  spell_statement (emit e) after = token.Word word.Emit ∷ spell_emission e after
+  spell_statement (call c) after = token.Word word.Call ∷ spell_call c after
+  spell_statement (choice e body other) after =
+      token.Word word.If ∷ spell_condition e (token.Symbol OpenBrace ∷ spell_statements body (token.Symbol CloseBrace ∷ spell_else other after))
+
+  pub spell_else : Else → List Token → List Token
+  spell_else no_else after = after
+  spell_else (else_block body) after = token.Word word.Else ∷ token.Symbol OpenBrace ∷ spell_statements body (token.Symbol CloseBrace ∷ after)
+
+abbrev pub spell_block : Body → List Token → List Token
+spell_block body after = token.Symbol OpenBrace ∷ spell_statements body (token.Symbol CloseBrace ∷ after)
+
+-- what follows "if"
+abbrev pub Choice : Type 0
+Choice = Expression × Body × Else
+
+abbrev pub spell_choice : Choice → List Token → List Token
+spell_choice c after = spell_condition c.0 (spell_block c.1 (spell_else c.2 after))
+
+abbrev mutual
+  pub tree_of_block : Body → List Stmt
+  tree_of_block no_more = []
+  tree_of_block (more s body) = tree_of_statement s ∷ tree_of_block body
+
+  pub tree_of_statement : Statement → Stmt
+  tree_of_statement (set a) = tree_of_assignment a
+  tree_of_statement (emit e) = tree_of_emission e
+  tree_of_statement (call c) = tree_of_call c
+  tree_of_statement (choice e body other) = stmt.If (tree_of_expression e) (tree_of_block body) (tree_of_else other)
+
+  -- a missing `else` is an empty one
+  pub tree_of_else : Else → List Stmt
+  tree_of_else no_else = []
+  tree_of_else (else_block body) = tree_of_block body
+
+abbrev pub tree_of_choice : Choice → Stmt
+tree_of_choice c = stmt.If (tree_of_expression c.0) (tree_of_block c.1) (tree_of_else c.2)
+
+-- what can't follow a statement
+abbrev pub EndsStatement : List Token → Type 0
+EndsStatement after = NotAtWord word.Else after
 
 -- the tokens are a block with these statements
 pub record IsBody (tokens : List Token) (body : List Stmt) : Type 0 where
-  pub reading : List Statement
+  pub reading : Body
   pub spelled : tokens ≡ spell_block reading []
   pub tree : tree_of_block reading ≡ body
-
--- the tokens are this expression
-pub record IsExpr (tokens : List Token) (e : Expr) : Type 0 where
-  pub reading : Expression
-  pub spelled : tokens ≡ spell_expression reading []
-  pub tree : tree_of_expression reading ≡ e

@@ -5,10 +5,10 @@ use Rattle.slot_lang.specs.declared.class.Run.TheVariants as run
 use Rattle.slot_lang.specs.declared.symbol.Symbol.{Symbol}
 use Rattle.slot_lang.specs.declared.token.Token.{Token}
 use Rattle.slot_lang.specs.declared.token.Token.TheVariants as token
-use Rattle.slot_lang.specs.declared.word.Word.{Word}
+use Rattle.signatures.specs.declared.word.Word.{Word}
 use Rattle.signatures.specs.Name.{is_letter}
 use Rattle.slot_lang.specs.Bytes.{is_blank, IsRun}
-use Rattle.slot_lang.specs.Words.{word_spelling, IsFree}
+use Rattle.signatures.specs.Words.{word_spelling, IsFree}
 use Rattle.slot_lang.specs.Symbols.{IsSymbolAt}
 
 pub data Piece : Type 0 where

@@ -10,8 +10,7 @@ ghost use Rattle.slot_lang.specs.declared.token.Token.TheVariants as token;
 use crate::fault::ParseFault;
 use crate::symbol::Symbol;
 use crate::token::Token;
-use crate::word::Word;
-use signatures::Name;
+use signatures::{Name, Word};
 use std::alloc::Global;
 use std::marker::Model;
 

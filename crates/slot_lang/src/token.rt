@@ -1,8 +1,7 @@
 //! Tokens.
 
 use crate::symbol::Symbol;
-use crate::word::Word;
-use signatures::Name;
+use signatures::{Name, Word};
 use sqlite_items::Items;
 
 /// A token of a text.

@@ -1,5 +1,5 @@
 -- One output after another.
-use Rattle.std.proofs.Common.{ℕ, List, [], ◌++◌, Option, Some, None, append_assoc, append-nil, sym, ap, ◌∙◌}
+use Rattle.std.proofs.Common.{ℕ, ◌≡◌, List, [], ◌++◌, Option, Some, None, append_assoc, append-nil, refl, sym, ap, subst, ◌∙◌}
 use Rattle.trace_tool.specs.Sent.{Sends}
 use Rattle.std.specs.Io.KnownBytes.{Appends}
 
@@ -18,3 +18,22 @@ appends_none (Some us) = sym (append-nil us)
 
 pub none_sent : (a : Option (List ℕ)) → Sends a a []
 none_sent a = record { appended = appends_none a }
+
+-- Some bytes were sent, and with what is left to be sent they are the whole.
+pub record SentSoFar (before after : Option (List ℕ)) (left whole : List ℕ) : Type 0 where
+  pub bytes : List ℕ
+  pub sends : Sends before after bytes
+  pub whole_is : bytes ++ left ≡ whole
+
+pub nothing_so_far : (a : Option (List ℕ)) (whole : List ℕ) → SentSoFar a a whole whole
+nothing_so_far a whole = record { bytes = []; sends = none_sent a; whole_is = refl }
+
+pub more_so_far : {a b c : Option (List ℕ)} {part left whole : List ℕ} → SentSoFar a b (part ++ left) whole → Sends b c part → SentSoFar a c left whole
+more_so_far {part} {left} s p = record {
+  bytes = s.bytes ++ part;
+  sends = sent s.sends p;
+  whole_is = append_assoc s.bytes part left ∙ s.whole_is;
+}
+
+pub all_so_far : {a b : Option (List ℕ)} {whole : List ℕ} → SentSoFar a b [] whole → Sends a b whole
+all_so_far {a} {b} s = subst (Sends a b) (sym (append-nil s.bytes) ∙ s.whole_is) s.sends

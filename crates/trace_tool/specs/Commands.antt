@@ -19,8 +19,11 @@ use Rattle.qt_runtime.specs.declared.fault.Fault.{Fault}
 use Rattle.trace_tool.specs.declared.refusal.Refusal.{Refusal}
 use Rattle.trace_tool.specs.Cut.{AreTexts}
 use Rattle.trace_tool.specs.Lines.{trace_text}
+use Rattle.trace_tool.specs.MetaLines.{meta_text}
 use Rattle.trace_tool.specs.Refusals.{numbered, of_script, memory_line, usage_line, fault_line, refusal_line, refusal_status}
-use Rattle.trace_tool.specs.Words.{IsRun}
+use Rattle.trace_tool.specs.Words.{IsCommand}
+use Rattle.trace_tool.specs.declared.words.Command.{Command}
+use Rattle.trace_tool.specs.declared.words.Command.TheVariants.{Meta, Run}
 
 -- the program's text is read, and the program loads
 pub record Loads (text : List ℕ) (loaded : Loaded) : Type 0 where
@@ -33,13 +36,23 @@ pub record AreRunnable (program script : List ℕ) (loaded : Loaded) (events : L
   pub loads : Loads program loaded
   pub reads : ReadsScript script (Ok events)
 
--- The first refusal: of the program's text, then of the program, then of the script.
-pub data AreRefused (program script : List ℕ) : Refusal → Type 0 where
-  text : (fault : TextFault) → ReadsProgram program (Err fault) → AreRefused program script (numbered (text_number fault))
+-- The program is refused: its text, or else what it says.
+pub data IsRefused (program : List ℕ) : Refusal → Type 0 where
+  text : (fault : TextFault) → ReadsProgram program (Err fault) → IsRefused program (numbered (text_number fault))
   load : (read : Program) (fault : MetaFault) → ReadsProgram program (Ok read) → Builds read (Err fault) →
-      AreRefused program script (numbered (meta_number fault))
+      IsRefused program (numbered (meta_number fault))
+
+-- The first refusal: of the program, then of the script.
+pub data AreRefused (program script : List ℕ) : Refusal → Type 0 where
+  of_program : (refusal : Refusal) → IsRefused program refusal → AreRefused program script refusal
   script : (loaded : Loaded) (fault : ScriptFault) → Loads program loaded → ReadsScript script (Err fault) →
       AreRefused program script (of_script fault)
+
+-- `meta`, from the program's text: the bytes that are written, and the exit status
+pub data MetaWrites (program : List ℕ) : List ℕ → ℕ → Type 0 where
+  refused : (refusal : Refusal) → IsRefused program refusal → MetaWrites program (refusal_line refusal) (refusal_status refusal)
+  wrote : (loaded : Loaded) → Loads program loaded → MetaWrites program (meta_text loaded) 0
+  memory : MetaWrites program memory_line 1
 
 -- the lines of a run's trace, and of the fault that stopped it
 abbrev pub run_text : List Entry → Result (Unit {0}) Fault → List ℕ
@@ -59,21 +72,36 @@ pub data RunWrites (program script : List ℕ) (depth steps : ℕ) : List ℕ �
       RunWrites program script depth steps (run_text after.world.trace ended) (run_status ended)
   memory : RunWrites program script depth steps memory_line 1
 
+-- how many texts a command takes
+abbrev pub texts_of : Command → ℕ
+texts_of Meta = 1
+texts_of (Run options) = 2
+
+-- what a command writes for its texts
+abbrev pub Does : Command → List (List ℕ) → List ℕ → ℕ → Type 0
+Does Meta (program ∷ []) bytes status = MetaWrites program bytes status
+Does (Run options) (program ∷ events ∷ []) bytes status = RunWrites program events options.depth options.steps bytes status
+Does command texts bytes status = ⊥
+
+-- what a command writes for its input
+pub data InputWrites (command : Command) (input : List ℕ) : List ℕ → ℕ → Type 0 where
+  -- there is another number of texts than the command's
+  other_texts : ((texts : List (List ℕ)) → AreTexts input texts → length texts ≡ texts_of command → ⊥) →
+      InputWrites command input usage_line 1
+  does : (texts : List (List ℕ)) (bytes : List ℕ) (status : ℕ) → AreTexts input texts → Does command texts bytes status →
+      InputWrites command input bytes status
+
 -- A command line, from its words and its input.
 pub data CommandWrites (words : List (List ℕ)) (input : List ℕ) : List ℕ → ℕ → Type 0 where
   -- the words are no command
-  unknown : ((depth steps : ℕ) → IsRun words depth steps → ⊥) → CommandWrites words input usage_line 1
+  unknown : ((command : Command) → IsCommand words command → ⊥) → CommandWrites words input usage_line 1
   -- there are more bytes than 64 MiB
-  large : (depth steps : ℕ) → IsRun words depth steps → 67108864 < length input → CommandWrites words input usage_line 1
-  -- there is another number of texts than two
-  texts : (depth steps : ℕ) → IsRun words depth steps → length input ≤ 67108864 →
-      ((program script : List ℕ) → AreTexts input (program ∷ script ∷ []) → ⊥) → CommandWrites words input usage_line 1
-  run : (depth steps : ℕ) (program script bytes : List ℕ) (status : ℕ) → IsRun words depth steps → length input ≤ 67108864 →
-      AreTexts input (program ∷ script ∷ []) → RunWrites program script depth steps bytes status →
-      CommandWrites words input bytes status
+  large : (command : Command) → IsCommand words command → 67108864 < length input → CommandWrites words input usage_line 1
+  read : (command : Command) (bytes : List ℕ) (status : ℕ) → IsCommand words command → length input ≤ 67108864 →
+      InputWrites command input bytes status → CommandWrites words input bytes status
   -- a read fails
-  unread : (depth steps : ℕ) → IsRun words depth steps → CommandWrites words input [] 1
-  memory : (depth steps : ℕ) → IsRun words depth steps → CommandWrites words input memory_line 1
+  unread : (command : Command) → IsCommand words command → CommandWrites words input [] 1
+  memory : (command : Command) → IsCommand words command → CommandWrites words input memory_line 1
 
 -- Bytes that belong to the status were added to what the writer held.
 pub record Answers (Writes : List ℕ → ℕ → Type 0) (before after : Option (List ℕ)) (status : ℕ) : Type 0 where

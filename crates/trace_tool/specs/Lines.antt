@@ -1,20 +1,29 @@
 -- The text of the trace, line by line (docs/commands.md, "The trace").
-use Rattle.std.specs.Prelude.{ℕ, List, [], ◌∷◌, ◌++◌, codes, decimal}
+use Rattle.std.specs.Prelude.{ℕ, Bool, true, false, List, [], ◌∷◌, ◌++◌, codes, decimal}
 use Rattle.std.specs.Fmt.{signed_decimal}
 use Rattle.std.specs.List.{flat_map}
-use Rattle.signatures.specs.declared.value.Value.{Value}
-use Rattle.signatures.specs.declared.value.Value.TheVariants.{Int}
+use Rattle.qt_runtime.specs.declared.entry.Shown.{Shown}
+use Rattle.qt_runtime.specs.declared.entry.Shown.TheVariants as show
 use Rattle.qt_runtime.specs.declared.entry.Entry.{Entry}
-use Rattle.qt_runtime.specs.declared.entry.Entry.TheVariants.{Accepted, Refused, Emitted, Called, Written}
+use Rattle.qt_runtime.specs.declared.entry.Entry.TheVariants.{Accepted, Refused, Emitted, Called, Written, OnNull}
 
 abbrev pub newline : List ℕ
 newline = codes "\n"
 
-abbrev pub value_text : Value → List ℕ
-value_text (Int n) = signed_decimal n
+abbrev pub truth_text : Bool → List ℕ
+truth_text true = codes "true"
+truth_text false = codes "false"
+
+-- a text in quotes, and an object by its name
+abbrev pub value_text : Shown → List ℕ
+value_text (show.Int n) = signed_decimal n
+value_text (show.Bool b) = truth_text b
+value_text (show.Text t) = codes "\"" ++ t ++ codes "\""
+value_text (show.Object name) = name
+value_text show.Null = codes "null"
 
 -- separated by `,` without blanks
-abbrev pub arguments_text : List Value → List ℕ
+abbrev pub arguments_text : List Shown → List ℕ
 arguments_text [] = []
 arguments_text (v ∷ vs) = value_text v ++ flat_map (λ w. codes "," ++ value_text w) vs
 
@@ -27,12 +36,12 @@ abbrev pub refused_event_line : ℕ → ℕ → List ℕ
 refused_event_line event refusal = codes "event " ++ decimal event ++ (codes " refused " ++ decimal refusal ++ newline)
 
 -- `d`, the word, `o.m(args)`
-abbrev pub call_line : ℕ → List ℕ → List ℕ → List ℕ → List Value → List ℕ
+abbrev pub call_line : ℕ → List ℕ → List ℕ → List ℕ → List Shown → List ℕ
 call_line depth word object method arguments =
     decimal depth ++ word ++ member_text object method ++ codes "(" ++ arguments_text arguments ++ (codes ")" ++ newline)
 
 -- `d set o.p v`
-abbrev pub written_line : ℕ → List ℕ → List ℕ → Value → List ℕ
+abbrev pub written_line : ℕ → List ℕ → List ℕ → Shown → List ℕ
 written_line depth object property value =
     decimal depth ++ codes " set " ++ member_text object property ++ codes " " ++ value_text value ++ newline
 
@@ -42,6 +51,7 @@ entry_line (Refused event refusal) = refused_event_line event refusal
 entry_line (Emitted depth object signal arguments) = call_line depth (codes " emit ") object signal arguments
 entry_line (Called depth object slot arguments) = call_line depth (codes " call ") object slot arguments
 entry_line (Written depth object property value) = written_line depth object property value
+entry_line (OnNull depth) = decimal depth ++ codes " null\n"
 
 -- the lines of the entries, in their order
 abbrev pub trace_text : List Entry → List ℕ

@@ -1,6 +1,8 @@
 -- The words of a command line (docs/commands.md, "The command line").
 use Rattle.std.specs.Prelude.{◌≡◌, ℕ, ◌-◌, ◌^◌, ◌≤◌, ◌⊎◌, List, [], ◌∷◌, codes}
 use Rattle.std.specs.Str.Parse.{AllDigits, digits_value}
+use Rattle.trace_tool.specs.declared.words.Command.{Command}
+use Rattle.trace_tool.specs.declared.words.Command.TheVariants.{Meta, Run}
 
 -- decimal digits that write a number from 1 to the largest one; leading zeros are allowed, a sign isn't
 pub record IsNumber (largest : ℕ) (word : List ℕ) (n : ℕ) : Type 0 where
@@ -27,3 +29,8 @@ pub record IsFirstNumber (largest : ℕ) (words : List (List ℕ)) (n : ℕ) (re
   pub word : List ℕ
   pub are : words ≡ word ∷ rest
   pub is : IsNumber largest word n
+
+-- the words are this command's
+abbrev pub IsCommand : List (List ℕ) → Command → Type 0
+IsCommand words Meta = words ≡ codes "meta" ∷ []
+IsCommand words (Run options) = IsRun words options.depth options.steps

@@ -1,25 +1,30 @@
-ghost use Rattle.std.specs.Prelude.{◌≡◌, ℕ, map, IfOk};
-ghost use Rattle.trace_tool.specs.Commands.{AnswersCommand};
+ghost use Rattle.std.specs.Prelude.{◌≡◌, ◌≤◌, ◌<◌, ◌^◌, map, IfOk};
+ghost use Rattle.trace_tool.specs.Commands.{Answers, AnswersCommand, InputWrites};
 ghost use Rattle.trace_tool.specs.Refusals.{usage_line};
 ghost use Rattle.trace_tool.specs.Sent.{SendsWith};
-ghost use Rattle.trace_tool.specs.Words.{IsRun};
+ghost use Rattle.trace_tool.specs.Words.{IsCommand};
+ghost use Rattle.trace_tool.specs.declared.words.Command.{Command as ACommand};
+ghost use Rattle.trace_tool.specs.declared.words.Command.TheVariants.{Run};
 
-use crate::cut::two_texts;
+use crate::cut::{one_text, two_texts};
+use crate::description::meta;
 use crate::fault::WriteFault;
 use crate::input::{InputFault, LARGEST_INPUT, read_input};
 use crate::refusal::{Refusal, UNDONE};
 use crate::run::{refuse, run_unchecked};
-use crate::words::Options;
+use crate::words::Command;
 use qt_runtime::Natives;
 use std::alloc::Global;
 use std::io::{Read, Write};
 
 /// Does what a command line's words say, on the bytes that the reader has left, and answers the exit status.
 ///
-/// The command `run --unchecked N [--steps M]` takes two texts, a program and a script, with a line `%%` between them;
-/// N is from 1 to 256, M from 1 to 2^63 - 1, or 1,000,000 where it isn't given. Other words, another number of texts and
-/// an input of more than 67,108,864 bytes write `usage`; for other words nothing is read. After a read that fails nothing
-/// is written. All of these end with 1.
+/// - `meta` takes one text, a program, and writes its classes.
+/// - `run --unchecked N [--steps M]` takes two texts, a program and a script, with a line `%%` between them, and runs
+///   the one on the other; N is from 1 to 256, M from 1 to 2^63 - 1, or 1,000,000 where it isn't given.
+///
+/// Other words, another number of texts and an input of more than 67,108,864 bytes write `usage`; for other words
+/// nothing is read. After a read that fails nothing is written. All of these end with 1.
 ///
 /// There is a `WriteFault` only where the writer failed; nothing is written after that.
 pub fn command<R: Read, W: Write>(
@@ -30,9 +35,9 @@ pub fn command<R: Read, W: Write>(
     w: &mut W,
 ) -> Result<u8, WriteFault>
     ensures answers { IfOk result (λ status. AnswersCommand (map (λ word. word.now) words.now) (R.remaining reader.old) (W.contents w.old) (W.contents w.new) status) }
-    ensures unread { ((depth steps : ℕ) → IsRun (map (λ word. word.now) words.now) depth steps → ⊥) → reader.new ≡ reader.old }
+    ensures unread { ((c : ACommand) → IsCommand (map (λ word. word.now) words.now) c → ⊥) → reader.new ≡ reader.old }
 {
-    let Some(options) = Options::of(words) else {
+    let Some(command) = Command::of(words) else {
         return refuse_usage(w);
     };
     let input = match read_input(alloc, reader) {
@@ -43,17 +48,38 @@ pub fn command<R: Read, W: Write>(
     if input.len() > LARGEST_INPUT {
         return refuse_usage(w);
     }
-    match two_texts(input.as_slice()) {
-        Some((program, script)) => run_unchecked(
-            alloc,
-            program,
-            script,
-            natives,
-            options.depth,
-            options.steps,
-            w,
-        ),
-        None => refuse_usage(w),
+    perform(alloc, command, input.as_slice(), natives, w)
+}
+
+/// Does what a command says on its input.
+fn perform<W: Write>(
+    alloc: Global,
+    command: Command,
+    input: &[u8],
+    natives: Natives,
+    w: &mut W,
+) -> Result<u8, WriteFault>
+    requires depth { (o : _) → command ≡ Run o → (1 ≤ o.depth) × (o.depth ≤ 256) }
+    requires steps { (o : _) → command ≡ Run o → (1 ≤ o.steps) × (o.steps < 2 ^ 63) }
+    ensures { IfOk result (λ status. Answers (InputWrites command input.now) (W.contents w.old) (W.contents w.new) status) }
+{
+    match command {
+        Command::Meta => match one_text(input) {
+            Some(program) => meta(alloc, program, w),
+            None => refuse_usage(w),
+        },
+        Command::Run(options) => match two_texts(input) {
+            Some((program, script)) => run_unchecked(
+                alloc,
+                program,
+                script,
+                natives,
+                options.depth,
+                options.steps,
+                w,
+            ),
+            None => refuse_usage(w),
+        },
     }
 }
 

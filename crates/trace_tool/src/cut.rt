@@ -3,6 +3,18 @@
 ghost use Rattle.std.specs.Prelude.{◌≡◌, ℕ, ◌+◌, ◌-◌, ◌<◌, ◌≤◌, ◌⊎◌, ◌↔◌, List, [], ◌∷◌, length, slice_index, IsTrue, IfSome, MatchOption};
 ghost use Rattle.trace_tool.specs.Cut.{IsMarkAt, HasNoMark, IsParted, AreTexts};
 
+/// The one text of an input that has no line `%%`.
+pub fn one_text(input: &[u8]) -> Option<&[u8]>
+    ensures cut { MatchOption result ((text : List ℕ) → AreTexts input.now (text ∷ []) → ⊥) (λ text. AreTexts input.now (text.now ∷ [])) }
+    ensures only { IfSome result (λ text. (others : List (List ℕ)) → AreTexts input.now others → others ≡ text.now ∷ []) }
+{
+    let (text, after) = first_text(input);
+    match after {
+        Some(_) => None,
+        None => Some(text),
+    }
+}
+
 /// The two texts of an input that has just one line `%%`.
 pub fn two_texts(input: &[u8]) -> Option<(&[u8], &[u8])>
     ensures cut { MatchOption result ((first second : List ℕ) → AreTexts input.now (first ∷ second ∷ []) → ⊥) (λ texts. AreTexts input.now (texts.0.now ∷ texts.1.now ∷ [])) }

@@ -3,15 +3,18 @@
 
 mod commands;
 mod cut;
+mod description;
 mod fault;
 mod input;
 mod line;
+mod meta_line;
 mod output;
 mod refusal;
 mod run;
 mod words;
 
 pub use commands::command;
+pub use description::meta;
 pub use fault::WriteFault;
 pub use refusal::Refusal;
 pub use run::run_unchecked;

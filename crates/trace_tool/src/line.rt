@@ -1,6 +1,6 @@
 //! The text of the output's lines.
 
-ghost use Rattle.std.specs.Prelude.{◌++◌, OnOk};
+ghost use Rattle.std.specs.Prelude.{◌++◌, codes, decimal, OnOk};
 ghost use Rattle.trace_tool.specs.Lines.{newline, value_text, arguments_text, member_text, call_line, written_line, refused_event_line, entry_line, trace_text};
 ghost use Rattle.trace_tool.specs.Refusals.{refusal_line};
 ghost use Rattle.trace_tool.specs.Sent.{Sends, behind};
@@ -9,13 +9,13 @@ use crate::fault::WriteFault;
 use crate::output::Output;
 use crate::refusal::Refusal;
 use itoa::{Buffer, Integer};
-use qt_runtime::Entry;
-use signatures::{Name, Value};
+use qt_runtime::{Entry, Shown};
+use signatures::{Name, Text};
 use std::io::Write;
 
 impl Output {
     /// Adds a number in decimal digits.
-    fn number<W: Write, I: Integer>(&mut self, w: &mut W, number: I) -> Result<(), WriteFault>
+    pub fn number<W: Write, I: Integer>(&mut self, w: &mut W, number: I) -> Result<(), WriteFault>
         ensures { OnOk result (Sends (behind (W.contents w.old) self.old) (behind (W.contents w.new) self.new) (I.text number)) }
     {
         let mut buffer = Buffer::new();
@@ -24,17 +24,32 @@ impl Output {
     }
 
     /// Adds a value.
-    fn value<W: Write>(&mut self, w: &mut W, value: &Value) -> Result<(), WriteFault>
+    fn value<W: Write>(&mut self, w: &mut W, value: &Shown) -> Result<(), WriteFault>
         ensures { OnOk result (Sends (behind (W.contents w.old) self.old) (behind (W.contents w.new) self.new) (value_text value.now)) }
     {
         match value {
-            Value::Int(number) => self.number(w, *number)?,
+            Shown::Int(number) => self.number(w, *number)?,
+            Shown::Bool(true) => self.put(w, b"true")?,
+            Shown::Bool(false) => self.put(w, b"false")?,
+            Shown::Text(text) => self.quoted(w, text)?,
+            Shown::Object(name) => self.put(w, name.bytes())?,
+            Shown::Null => self.put(w, b"null")?,
         }
         Ok(())
     }
 
+    /// Adds a text in quotes.
+    fn quoted<W: Write>(&mut self, w: &mut W, text: &Text) -> Result<(), WriteFault>
+        ensures { OnOk result (Sends (behind (W.contents w.old) self.old) (behind (W.contents w.new) self.new) (codes "\"" ++ text.now ++ codes "\"")) }
+    {
+        self.put(w, b"\"")?;
+        self.put(w, text.bytes())?;
+        self.put(w, b"\"")?;
+        Ok(())
+    }
+
     /// Adds values, separated by commas.
-    fn arguments<W: Write>(&mut self, w: &mut W, values: &[Value]) -> Result<(), WriteFault>
+    fn arguments<W: Write>(&mut self, w: &mut W, values: &[Shown]) -> Result<(), WriteFault>
         ensures { OnOk result (Sends (behind (W.contents w.old) self.old) (behind (W.contents w.new) self.new) (arguments_text values.now)) }
     {
         let Some((first, rest)) = values.split_first() else {
@@ -71,7 +86,7 @@ impl Output {
         word: &[u8],
         object: &Name,
         method: &Name,
-        arguments: &[Value],
+        arguments: &[Shown],
     ) -> Result<(), WriteFault>
         ensures { OnOk result (Sends (behind (W.contents w.old) self.old) (behind (W.contents w.new) self.new) (call_line depth word.now object.now method.now arguments.now)) }
     {
@@ -91,7 +106,7 @@ impl Output {
         depth: usize,
         object: &Name,
         property: &Name,
-        value: &Value,
+        value: &Shown,
     ) -> Result<(), WriteFault>
         ensures { OnOk result (Sends (behind (W.contents w.old) self.old) (behind (W.contents w.new) self.new) (written_line depth object.now property.now value.now)) }
     {
@@ -101,6 +116,15 @@ impl Output {
         self.put(w, b" ")?;
         self.value(w, value)?;
         self.put(w, b"\n")?;
+        Ok(())
+    }
+
+    /// Adds the line of a statement on null.
+    fn on_null<W: Write>(&mut self, w: &mut W, depth: usize) -> Result<(), WriteFault>
+        ensures { OnOk result (Sends (behind (W.contents w.old) self.old) (behind (W.contents w.new) self.new) (decimal depth ++ codes " null\n")) }
+    {
+        self.number(w, depth)?;
+        self.put(w, b" null\n")?;
         Ok(())
     }
 
@@ -162,6 +186,7 @@ impl Output {
             Entry::Written(depth, object, property, value) => {
                 self.written(w, *depth, object, property, value)?;
             }
+            Entry::OnNull(depth) => self.on_null(w, *depth)?,
         }
         Ok(())
     }

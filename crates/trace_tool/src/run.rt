@@ -1,5 +1,5 @@
 ghost use Rattle.std.specs.Prelude.{◌<◌, ◌≤◌, ◌^◌, IfOk, MatchResult};
-ghost use Rattle.trace_tool.specs.Commands.{AreRunnable, AreRefused, RunWrites, Answers, run_text, run_status};
+ghost use Rattle.trace_tool.specs.Commands.{Loads, IsRefused, AreRunnable, AreRefused, RunWrites, Answers, run_text, run_status};
 ghost use Rattle.trace_tool.specs.Refusals.{refusal_line, refusal_status};
 ghost use Rattle.trace_tool.specs.Sent.{SendsWith};
 
@@ -48,10 +48,18 @@ pub fn run_unchecked<W: Write>(
 fn load(alloc: Global, program: &[u8], script: &[u8]) -> Result<(Meta, Items<Event>), Refusal>
     ensures { MatchResult result (λ loaded. AreRunnable program.now script.now loaded.0 loaded.1) (AreRefused program.now script.now) }
 {
-    let program = read_program(alloc, program)?;
-    let meta = Meta::build(alloc, &program)?;
+    let meta = load_program(alloc, program)?;
     let events = read_script(alloc, script)?;
     Ok((meta, events))
+}
+
+/// Reads and loads a program.
+pub fn load_program(alloc: Global, program: &[u8]) -> Result<Meta, Refusal>
+    ensures { MatchResult result (Loads program.now) (IsRefused program.now) }
+{
+    let program = read_program(alloc, program)?;
+    let meta = Meta::build(alloc, &program)?;
+    Ok(meta)
 }
 
 /// Writes a refusal's line.

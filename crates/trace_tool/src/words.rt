@@ -1,7 +1,9 @@
 //! The words of a command line.
 
-ghost use Rattle.std.specs.Prelude.{◌≡◌, ◌≢◌, ◌↔◌, ℕ, ◌≤◌, ◌<◌, ◌^◌, List, [], ◌∷◌, map, codes, IsTrue, IfSome, MatchOption};
-ghost use Rattle.trace_tool.specs.Words.{IsNumber, IsFirstNumber, IsLimit, IsRun};
+ghost use Rattle.std.specs.Prelude.{◌≡◌, ◌≢◌, ◌↔◌, Some, ℕ, ◌≤◌, ◌<◌, ◌^◌, List, [], ◌∷◌, map, codes, IsTrue, IfSome, MatchOption};
+ghost use Rattle.trace_tool.specs.Words.{IsNumber, IsFirstNumber, IsLimit, IsRun, IsCommand};
+ghost use Rattle.trace_tool.specs.declared.words.Command.{Command as ACommand};
+ghost use Rattle.trace_tool.specs.declared.words.Command.TheVariants.{Run};
 
 const LARGEST_DEPTH: u64 = 256;
 
@@ -9,7 +11,43 @@ const LARGEST_STEPS: u64 = 9223372036854775807;
 
 const DEFAULT_STEPS: u64 = 1000000;
 
-/// What the words `run --unchecked N [--steps M]` say.
+/// A command of the program.
+#[derive(Clone, Copy)]
+pub enum Command {
+    /// `meta`: the classes of a program are written.
+    Meta,
+    /// `run --unchecked N [--steps M]`: a program runs on a script.
+    Run(Options),
+}
+
+impl Command {
+    /// What the words say, if they are a command.
+    pub fn of(words: &[&str]) -> Option<Command>
+        ensures said { MatchOption result ((c : ACommand) → IsCommand (map (λ w. w.now) words.now) c → ⊥) (λ c. IsCommand (map (λ w. w.now) words.now) c) }
+        ensures depth { (o : _) → result ≡ Some (Run o) → (1 ≤ o.depth) × (o.depth ≤ 256) }
+        ensures steps { (o : _) → result ≡ Some (Run o) → (1 ≤ o.steps) × (o.steps < 2 ^ 63) }
+    {
+        if is_meta(words) {
+            return Some(Command::Meta);
+        }
+        match Options::of(words) {
+            Some(options) => Some(Command::Run(options)),
+            None => None,
+        }
+    }
+}
+
+/// Whether the only word is `meta`.
+fn is_meta(words: &[&str]) -> bool
+    ensures { IsTrue result ↔ (map (λ w. w.now) words.now ≡ codes "meta" ∷ []) }
+{
+    match after(words, "meta") {
+        Some(rest) => are_over(rest),
+        None => false,
+    }
+}
+
+/// How a run is limited.
 #[derive(Clone, Copy)]
 pub struct Options {
     /// How many activations may nest.
@@ -19,7 +57,7 @@ pub struct Options {
 }
 
 impl Options {
-    /// What the words say, if they are those of a run.
+    /// What the words `run --unchecked N [--steps M]` say, if they are those of a run.
     pub fn of(words: &[&str]) -> Option<Options>
         ensures said { MatchOption result ((depth steps : ℕ) → IsRun (map (λ w. w.now) words.now) depth steps → ⊥) (λ o. IsRun (map (λ w. w.now) words.now) o.depth o.steps) }
         ensures depth { IfSome result (λ o. (1 ≤ o.depth) × (o.depth ≤ 256)) }

@@ -1,5 +1,7 @@
 //! Expected texts are worked out by hand from the documents.
 
+mod bodies;
+mod classes;
 mod ends;
 mod refusals;
 mod rows;

@@ -1,6 +1,6 @@
 use Rattle.std.proofs.Common.{◌∙◌, ap, Err}
 use Rattle.std.proofs.lemmas.Result.{err_from_is_err_and}
-use Rattle.script_lang.proofs.Scripts.{no_tokens, no_event, more_than_event, is_some}
+use Rattle.script_lang.proofs.Scripts.{no_tokens, no_event, no_normal_form, more_than_event, beyond_limits, is_so, is_not_so}
 use Rattle.script_lang.proofs.reader.read_line.Goals as goal
 
 pub returns-in_err-tokens : goal.returns-in_err-tokens
@@ -12,12 +12,27 @@ pub returns-in_err-event : goal.returns-in_err-event
 returns-in_err-event c =
     let p = err_from_is_err_and c.from_residual-in_err-event.result c.from_residual-in_err-event.ensures.1 in
     let same = c.new-cursor.ensures ∙ c.as_slice.ensures in
-    let some = is_some c.is_empty.result c.if-is_empty.false c.is_empty.ensures in
+    let some = is_not_so c.is_empty.result c.if-is_empty.false c.is_empty.ensures in
     rw p.1 (λ k. no_event c.in_ok-tokens.ensures.cut (rw same at some) (rw same at (c.in_err-event.ensures (p.2.0 k))))
+
+pub returns-then-has_plain_reference : goal.returns-then-has_plain_reference
+returns-then-has_plain_reference c =
+    let same = c.new-cursor.ensures ∙ c.as_slice.ensures in
+    let some = is_not_so c.is_empty.result c.if-is_empty.false c.is_empty.ensures in
+    let plain = is_so c.has_plain_reference.result c.if-has_plain_reference.true c.has_plain_reference.ensures in
+    λ k. no_normal_form c.in_ok-tokens.ensures.cut (rw same at some) (rw c.as_slice-2.ensures at plain)
+
+pub returns-then-not-is_empty : goal.returns-then-not-is_empty
+returns-then-not-is_empty c =
+    let same = c.new-cursor.ensures ∙ c.as_slice.ensures in
+    let some = is_not_so c.is_empty.result c.if-is_empty.false c.is_empty.ensures in
+    let more = is_not_so c.is_empty-2.result (c.if-not-is_empty.true) c.is_empty-2.ensures in
+    λ k. more_than_event c.in_ok-tokens.ensures.cut (rw same at some) (rw same at c.in_ok-event.ensures) more
 
 pub returns : goal.returns
 returns c =
     let same = c.new-cursor.ensures ∙ c.as_slice.ensures in
-    let some = is_some c.is_empty.result c.if-is_empty.false c.is_empty.ensures in
-    let more = is_some c.is_empty-2.result c.if-is_empty-2.false c.is_empty-2.ensures in
-    λ k. more_than_event c.in_ok-tokens.ensures.cut (rw same at some) (rw same at c.in_ok-event.ensures) more
+    let some = is_not_so c.is_empty.result c.if-is_empty.false c.is_empty.ensures in
+    let end = is_so c.is_empty-2.result c.if-not-is_empty.false c.is_empty-2.ensures in
+    let beyond = is_not_so c.is_within_limits.result c.if-is_within_limits.false c.is_within_limits.ensures in
+    λ k. beyond_limits c.in_ok-tokens.ensures.cut (rw same at c.in_ok-event.ensures) end (rw same at some) beyond

@@ -1,4 +1,4 @@
-use Rattle.std.proofs.Common.{◌≡◌, ℕ, List, [], ◌∷◌, length, refl, arith, rules}
+use Rattle.std.proofs.Common.{◌≡◌, List, [], ◌∷◌, length, refl, arith, rules}
 use Rattle.signatures.specs.declared.qtype.QType.{QType}
 use Rattle.signatures.specs.Types.{BeginsWith}
 use Rattle.signatures.proofs.qtype.types_begin_with.Goals as goal

@@ -3,7 +3,7 @@ use Rattle.std.proofs.lemmas.Result.{IfOk-weaker}
 use Rattle.trace_tool.proofs.Answering.{answered_command}
 use Rattle.trace_tool.proofs.Inputs.{all_read, at_least, known}
 use Rattle.trace_tool.proofs.Sending.{none_sent}
-use Rattle.trace_tool.specs.Commands.{unknown, large, texts, run, unread, memory}
+use Rattle.trace_tool.specs.Commands.{unknown, large, read, unread, memory}
 use Rattle.trace_tool.proofs.commands.command.Goals as goal
 
 pub returns-in_default-clause-answers : goal.returns-in_default-clause-answers
@@ -15,14 +15,14 @@ returns-in_default-clause-answers g c =
 pub returns-in-Err-Unread-clause-answers : goal.returns-in-Err-Unread-clause-answers
 returns-in-Err-Unread-clause-answers g c =
     answered_command (unwrap_or (g.R.Read.remaining c.args.reader.now) []) (known _ [])
-    (unread c.in-Some.options.depth c.in-Some.options.steps c.in-Some.ensures.said)
+    (unread c.in-Some.command c.in-Some.ensures.said)
     (record { sends = none_sent _; is = refl })
 
 pub returns-in-Err-Memory-clause-answers : goal.returns-in-Err-Memory-clause-answers
 returns-in-Err-Memory-clause-answers g c =
     IfOk-weaker c.refuse.result _ _
     (λ status s. answered_command (unwrap_or (g.R.Read.remaining c.args.reader.now) []) (known _ [])
-    (memory c.in-Some.options.depth c.in-Some.options.steps c.in-Some.ensures.said) s)
+    (memory c.in-Some.command c.in-Some.ensures.said) s)
     c.refuse.ensures
 
 pub returns-then-len-gt-LARGEST_INPUT-clause-answers : goal.returns-then-len-gt-LARGEST_INPUT-clause-answers
@@ -32,33 +32,22 @@ returns-then-len-gt-LARGEST_INPUT-clause-answers g c =
     let long : 67108864 < length items = omega (arith, c.in-Ok.input.ok.0, c.len.ensures, c.if-len-gt-LARGEST_INPUT.true) in
     IfOk-weaker c.refuse_usage-then-len-gt-LARGEST_INPUT.result _ _
     (λ status s. answered_command (unwrap_or left items) (known left items)
-    (large c.in-Some.options.depth c.in-Some.options.steps c.in-Some.ensures.said (at_least left 67108865 67108864 items c.in-Ok.ensures long)) s)
+    (large c.in-Some.command c.in-Some.ensures.said (at_least left 67108865 67108864 items c.in-Ok.ensures long)) s)
     c.refuse_usage-then-len-gt-LARGEST_INPUT.ensures
-
-pub returns-in-Some-two_texts-clause-answers : goal.returns-in-Some-two_texts-clause-answers
-returns-in-Some-two_texts-clause-answers g c =
-    let left = g.R.Read.remaining c.args.reader.now in
-    let input = c.as_slice.result.now in
-    let short : length input ≤ 67108864 = omega (arith, c.as_slice.ensures.len, c.len.ensures, c.if-len-gt-LARGEST_INPUT.false) in
-    IfOk-weaker c.run_unchecked.result _ _
-    (λ status a. record {
-      input = input;
-      all = all_read (g.R.Read.remaining c.args.reader.now) 67108865 c.as_slice.result.now (rw c.as_slice.ensures.value c.in-Ok.ensures) (omega (arith, short));
-      answers = record {
-        bytes = a.bytes;
-        appended = a.appended;
-        meaning = run c.in-Some.options.depth c.in-Some.options.steps c.in-Some-two_texts.program.now c.in-Some-two_texts.script.now a.bytes status
-            c.in-Some.ensures.said short c.in-Some-two_texts.ensures.cut a.meaning;
-      };
-    })
-    c.run_unchecked.ensures
 
 pub returns-clause-answers : goal.returns-clause-answers
 returns-clause-answers g c =
     let left = g.R.Read.remaining c.args.reader.now in
     let input = c.as_slice.result.now in
     let short : length input ≤ 67108864 = omega (arith, c.as_slice.ensures.len, c.len.ensures, c.if-len-gt-LARGEST_INPUT.false) in
-    IfOk-weaker c.refuse_usage-in-None.result _ _
-    (λ status s. answered_command input (all_read left 67108865 input (rw c.as_slice.ensures.value c.in-Ok.ensures) (omega (arith, short)))
-    (texts c.in-Some.options.depth c.in-Some.options.steps c.in-Some.ensures.said short c.in-None.ensures.cut) s)
-    c.refuse_usage-in-None.ensures
+    IfOk-weaker c.perform.result _ _
+    (λ status a. record {
+      input = input;
+      all = all_read left 67108865 input (rw c.as_slice.ensures.value c.in-Ok.ensures) (omega (arith, short));
+      answers = record {
+        bytes = a.bytes;
+        appended = a.appended;
+        meaning = read c.in-Some.command a.bytes status c.in-Some.ensures.said short a.meaning;
+      };
+    })
+    c.perform.ensures

@@ -1,12 +1,12 @@
 use Rattle.std.proofs.Common.{◌<◌, length}
-use Rattle.class_lang.specs.Signatures.{spell_signal_parameter, tree_of_signal_parameter, EndsWithoutName}
-use Rattle.class_lang.proofs.Listed.{ListedSoFar}
+use Rattle.class_lang.specs.Parameters.{spell_signal_parameter, tree_of_signal_parameter, EndsSignalParameter}
+use Rattle.slot_lang.proofs.Listed.{ListedSoFar}
 use Rattle.class_lang.proofs.Parts.{signal_parameters_are_parts}
 use Rattle.class_lang.proofs.parser.Parser.signal_parameters.Given as goal
 
 abbrev pub invariant-loop-self : goal.invariant-loop-self
 invariant-loop-self l = record {
-  so_far : ListedSoFar spell_signal_parameter tree_of_signal_parameter EndsWithoutName signal_parameters_are_parts l.fn.self l.parameters l.self;
+  so_far : ListedSoFar spell_signal_parameter tree_of_signal_parameter EndsSignalParameter signal_parameters_are_parts l.fn.self l.parameters l.self;
   shorter : length l.self < length l.fn.self;
 }
 

@@ -1,45 +1,76 @@
-use Rattle.std.proofs.Common.{List, Any, inl, inr}
-use Rattle.std.specs.List.{AllZip}
-use Rattle.meta_objects.specs.declared.object.MetaObject.{MetaObject}
-use Rattle.meta_objects.specs.declared.object.MetaWire.{MetaWire}
-use Rattle.meta_objects.specs.Conditions.{LacksInClass}
-use Rattle.meta_objects.specs.Loading.{IsObject, IsWire, HasNoEnd, IsLoaded}
+use Rattle.meta_objects.specs.Outlines.{Outlines}
+use Rattle.meta_objects.specs.Loading.{HasUses}
+use Rattle.meta_objects.specs.declared.load_uses.Uses.{Uses}
 use Rattle.meta_objects.proofs.Choices.{fails}
-use Rattle.meta_objects.proofs.Refusals.{refused_by}
-use Rattle.meta_objects.proofs.Ends.{nothing_lacks, wire_lacks}
-use Rattle.meta_objects.proofs.Sound.{sound}
+use Rattle.meta_objects.proofs.Refusals.{outlined, nothing_lacks, answers, refused_base, refused_use}
+use Rattle.meta_objects.proofs.Whole.{sound}
 use Rattle.meta_objects.proofs.meta.Meta.build.Goals as goal
 
-pub returns-in_err-classes : goal.returns-in_err-classes
-returns-in_err-classes c =
-    refused_by _ (fails _ c.has_duplicate_class.ensures c.if-has_duplicate_class.false) (fails _ c.has_duplicate_member.ensures c.if-has_duplicate_member.false)
-    {Y = List MetaObject} (Any LacksInClass c.as_slice.result.now) (λ objects. AllZip IsObject c.as_slice.result.now objects) _
-    (λ any. inl (rw c.as_slice.ensures at any)) c.in_err-classes.ensures _ c.from_residual.ensures.0 c.from_residual.ensures.1
+pub returns-in_err-outlines : goal.returns-in_err-outlines
+returns-in_err-outlines c =
+    answers _ _
+    (refused_base _ _ (fails _ c.has_duplicate_class.ensures c.if-has_duplicate_class.false) (λ o. Outlines c.args.program.now.classes o)
+    (rw c.as_slice-declared.ensures at c.in_err-outlines.ensures))
+    _ c.from_residual.ensures.0 c.from_residual.ensures.1
 
-pub returns-in_err-wires : goal.returns-in_err-wires
-returns-in_err-wires c =
-    let objects = rw c.as_slice.ensures at c.in_ok-classes.ensures in
-    refused_by _ (fails _ c.has_duplicate_class.ensures c.if-has_duplicate_class.false) (fails _ c.has_duplicate_member.ensures c.if-has_duplicate_member.false)
-    {Y = List MetaWire} (Any (HasNoEnd c.as_slice-2.result.now) c.as_slice-3.result.now) (λ loaded. AllZip (IsWire c.as_slice-2.result.now) c.as_slice-3.result.now loaded) _
-    (λ any. inr (wire_lacks _ _ objects _ (rw (c.as_slice-2.ensures, c.as_slice-3.ensures) at any))) c.in_err-wires.ensures _
-    c.from_residual-in_err-wires.ensures.0 c.from_residual-in_err-wires.ensures.1
+pub returns-then-has_duplicate_member : goal.returns-then-has_duplicate_member
+returns-then-has_duplicate_member c = (
+  _,
+  outlined _ _ (fails _ c.has_duplicate_class.ensures c.if-has_duplicate_class.false) (rw c.as_slice-declared.ensures at c.in_ok-outlines.ensures),
+  rw c.as_slice-all.ensures at (c.has_duplicate_member.ensures.0 c.if-has_duplicate_member.true),
+)
+
+pub returns-in_err-bodies : goal.returns-in_err-bodies
+returns-in_err-bodies c =
+    answers _ _
+    (refused_use _ _ _ (outlined _ _ (fails _ c.has_duplicate_class.ensures c.if-has_duplicate_class.false) (rw c.as_slice-declared.ensures at c.in_ok-outlines.ensures))
+    (rw c.as_slice-all.ensures at (fails _ c.has_duplicate_member.ensures c.if-has_duplicate_member.false))
+    (λ (uses : Uses). HasUses c.args.program.now c.in_ok-outlines.outlines uses.bodies uses.wires uses.owns)
+    (rw c.as_slice-all.ensures at c.in_err-bodies.ensures))
+    _ c.from_residual-in_err-bodies.ensures.0 c.from_residual-in_err-bodies.ensures.1
+
+pub returns-then-has_bad_notify : goal.returns-then-has_bad_notify
+returns-then-has_bad_notify c = (
+  _,
+  outlined _ _ (fails _ c.has_duplicate_class.ensures c.if-has_duplicate_class.false) (rw c.as_slice-declared.ensures at c.in_ok-outlines.ensures),
+  rw c.as_slice-all.ensures at (fails _ c.has_duplicate_member.ensures c.if-has_duplicate_member.false),
+  nothing_lacks _ _ _ _ _ (rw c.as_slice-all.ensures at c.in_ok-bodies.ensures),
+  rw c.as_slice-all.ensures at (c.has_bad_notify.ensures.0 c.if-has_bad_notify.true),
+)
+
+pub returns-then-has_no_type : goal.returns-then-has_no_type
+returns-then-has_no_type c = (
+  _,
+  outlined _ _ (fails _ c.has_duplicate_class.ensures c.if-has_duplicate_class.false) (rw c.as_slice-declared.ensures at c.in_ok-outlines.ensures),
+  rw c.as_slice-all.ensures at (fails _ c.has_duplicate_member.ensures c.if-has_duplicate_member.false),
+  nothing_lacks _ _ _ _ _ (rw c.as_slice-all.ensures at c.in_ok-bodies.ensures),
+  rw c.as_slice-all.ensures at (fails _ c.has_bad_notify.ensures c.if-has_bad_notify.false),
+  rw c.as_slice-all.ensures at (c.has_no_type.ensures.0 c.if-has_no_type.true),
+)
 
 pub returns : goal.returns
 returns c =
-    let loaded : IsLoaded c.args.program.now _ = record {
-      objects = rw c.as_slice.ensures at c.in_ok-classes.ensures;
-      wired = rw (c.as_slice-2.ensures, c.as_slice-3.ensures) at c.in_ok-wires.ensures;
-    } in (
-      fails _ c.has_duplicate_class.ensures c.if-has_duplicate_class.false,
-      fails _ c.has_duplicate_member.ensures c.if-has_duplicate_member.false,
-      nothing_lacks _ _ loaded,
-      loaded,
+    let uses = rw c.as_slice-all.ensures at c.in_ok-bodies.ensures in (
+      _,
+      outlined _ _ (fails _ c.has_duplicate_class.ensures c.if-has_duplicate_class.false) (rw c.as_slice-declared.ensures at c.in_ok-outlines.ensures),
+      record {
+        members = rw c.as_slice-all.ensures at (fails _ c.has_duplicate_member.ensures c.if-has_duplicate_member.false);
+        names = nothing_lacks _ _ _ _ _ uses;
+        notifiers = rw c.as_slice-all.ensures at (fails _ c.has_bad_notify.ensures c.if-has_bad_notify.false);
+        types = rw c.as_slice-all.ensures at (fails _ c.has_no_type.ensures c.if-has_no_type.false);
+      },
+      record { bodies = _; uses = uses; objects = rw (c.as_slice-all.ensures, c.as_slice.ensures) at c.in_ok-classes.ensures },
     )
 
 pub invariant_of-result : goal.invariant_of-result
 invariant_of-result c =
-    sound c.args.program.now _ (fails _ c.has_duplicate_class.ensures c.if-has_duplicate_class.false) (fails _ c.has_duplicate_member.ensures c.if-has_duplicate_member.false)
+    let uses = rw c.as_slice-all.ensures at c.in_ok-bodies.ensures in
+    sound c.args.program.now _
+    (outlined _ _ (fails _ c.has_duplicate_class.ensures c.if-has_duplicate_class.false) (rw c.as_slice-declared.ensures at c.in_ok-outlines.ensures))
     (record {
-      objects = rw c.as_slice.ensures at c.in_ok-classes.ensures;
-      wired = rw (c.as_slice-2.ensures, c.as_slice-3.ensures) at c.in_ok-wires.ensures;
+      members = rw c.as_slice-all.ensures at (fails _ c.has_duplicate_member.ensures c.if-has_duplicate_member.false);
+      names = nothing_lacks _ _ _ _ _ uses;
+      notifiers = rw c.as_slice-all.ensures at (fails _ c.has_bad_notify.ensures c.if-has_bad_notify.false);
+      types = rw c.as_slice-all.ensures at (fails _ c.has_no_type.ensures c.if-has_no_type.false);
     })
+    _ (record { bodies = _; uses = uses; objects = rw (c.as_slice-all.ensures, c.as_slice.ensures) at c.in_ok-classes.ensures })

@@ -19,21 +19,21 @@ returns-in-No-clause-refuses c =
     let a = c.in_ok-sender.ensures.found in
     let b = c.in_ok-receiver.ensures.found in
     let g = c.in-Some.ensures in
-    refuse-unwired c.args.c.now a.1 a.2 b.1 b.2 (has-signal c.args.c.now a.1 a.2 b.1 b.2 g.1 g.2 g.3) (has-method c.args.c.now a.1 a.2 b.1 b.2 c.in-Some-method.ensures.value) c.in-No.ensures.value
+    refuse-unwired c.args.c.now a.1 a.2 b.1 b.2 (has-signal c.args.c.now a.1 a.2 b.1 b.2 g.1 g.2 g.3) (has-method c.args.c.now a.1 a.2 b.1 b.2 c.in-Some-method.ensures.value) c.in-No.ensures
 
 pub returns-in-Unfit-clause-refuses : goal.returns-in-Unfit-clause-refuses
 returns-in-Unfit-clause-refuses c =
     let a = c.in_ok-sender.ensures.found in
     let b = c.in_ok-receiver.ensures.found in
     let g = c.in-Some.ensures in
-    refuse-unfit c.args.c.now a.1 a.2 b.1 b.2 (has-signal c.args.c.now a.1 a.2 b.1 b.2 g.1 g.2 g.3) (has-method c.args.c.now a.1 a.2 b.1 b.2 c.in-Some-method.ensures.value) (is-wired c.args.c.now a.1 a.2 b.1 b.2 c.in-Unfit.ensures.value.0) c.in-Unfit.ensures.value.1
+    refuse-unfit c.args.c.now a.1 a.2 b.1 b.2 (has-signal c.args.c.now a.1 a.2 b.1 b.2 g.1 g.2 g.3) (has-method c.args.c.now a.1 a.2 b.1 b.2 c.in-Some-method.ensures.value) (is-wired c.args.c.now a.1 a.2 b.1 b.2 c.in-Unfit.ensures.0) c.in-Unfit.ensures.1
 
 pub returns-in-Fit-clause-passes : goal.returns-in-Fit-clause-passes
 returns-in-Fit-clause-passes c =
     let a = c.in_ok-sender.ensures.found in
     let b = c.in_ok-receiver.ensures.found in
     let g = c.in-Some.ensures in
-    let fit = c.in-Fit.ensures.value in (
+    let fit = c.in-Fit.ensures in (
       pass-connect c.args.c.now a.1 a.2 b.1 b.2 (has-signal c.args.c.now a.1 a.2 b.1 b.2 g.1 g.2 g.3) (has-method c.args.c.now a.1 a.2 b.1 b.2 c.in-Some-method.ensures.value) (is-wired c.args.c.now a.1 a.2 b.1 b.2 fit.0) fit.1,
-      joint-of c.args.c.now a.1 a.2 b.1 b.2 g.1 g.2 c.in-Some-method.ensures.value (λ n l is signed. c.in-Fit.ensures.to_slot n l fit.0 is signed) fit.1,
+      rw c.named_signal.ensures (joint-of c.args.c.now c.classes.ensures.sound a.1 a.2 b.1 b.2 g.1 g.2 c.in-Some-method.ensures.value fit.1),
     )

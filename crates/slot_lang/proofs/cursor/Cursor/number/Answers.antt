@@ -1,4 +1,4 @@
-use Rattle.slot_lang.proofs.Bodies.{number_found}
+use Rattle.slot_lang.proofs.Literals.{number_found}
 use Rattle.slot_lang.proofs.cursor.Cursor.number.Goals as goal
 
 pub returns-in_ok-value-in-Number-clause-reads : goal.returns-in_ok-value-in-Number-clause-reads

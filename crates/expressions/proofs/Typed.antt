@@ -1,0 +1,137 @@
+-- The type of an expression from those of its parts, and its value.
+use Rattle.std.proofs.Common.{◌≡◌, not, Option, Some, None, ap, sym, ◌∙◌, subst, refl}
+use Rattle.std.specs.Option.{option_and_then, option_map}
+use Rattle.std.specs.Prelude.{neg_ℤ}
+use Rattle.std.specs.Int.{saturate_signed, w32}
+use Rattle.std.proofs.lemmas.Option.{same_Some}
+use Rattle.signatures.specs.declared.value.Value.{Value}
+use Rattle.signatures.specs.declared.value.Value.TheVariants as value
+use Rattle.signatures.specs.declared.qtype.QType.{QType}
+use Rattle.slot_lang.specs.declared.syntax.Unary.{Unary}
+use Rattle.slot_lang.specs.declared.syntax.Unary.TheVariants.{Not, Minus}
+use Rattle.slot_lang.specs.declared.syntax.Binary.{Binary}
+use Rattle.slot_lang.specs.declared.syntax.Binary.TheVariants.{Add, Subtract, Multiply, Less, AtMost, Greater, AtLeast, Equal, Different, And, Or}
+use Rattle.slot_lang.specs.declared.syntax.Expr.{Expr}
+use Rattle.slot_lang.specs.declared.syntax.Expr.TheVariants as e
+use Rattle.slot_lang.specs.declared.syntax.Expr.TheOpen as layer
+use Rattle.slot_lang.specs.declared.syntax.Expr.TheViews.{roll-Expr}
+use Rattle.slot_lang.specs.declared.syntax.Expr.TheFolds.{fold-roll-Expr, ind-Expr, map-Expr}
+use Rattle.expressions.specs.declared.sort.Sort.{Sort}
+use Rattle.expressions.specs.declared.sort.Sort.TheVariants as sort
+use Rattle.expressions.specs.declared.typing.ExprType.{ExprType}
+use Rattle.expressions.specs.declared.typing.ExprType.TheVariants.{Null, Of}
+use Rattle.expressions.specs.Operators.{unary, binary}
+use Rattle.expressions.specs.Evaluation.{value, value_step}
+use Rattle.expressions.specs.Typing.{value_sort, sort_of, type_of_sort, unary_sort, binary_sort, literal_type, type_step, type_of, IsOf, HasValueOf, TypedPaths}
+
+pub type_of-Literal : {P : Type 0} (kinds : P → Option QType) (v : Value) → type_of kinds (e.Literal v) ≡ literal_type v
+type_of-Literal {P} kinds v = ap (type_of kinds) (sym (e.rolls-Literal v)) ∙ fold-roll-Expr P (Option ExprType) (type_step kinds) (layer.Literal v)
+
+pub type_of-Path : {P : Type 0} (kinds : P → Option QType) (p : P) → type_of kinds (e.Path p) ≡ option_map (λ t. Of t) (kinds p)
+type_of-Path {P} kinds p = ap (type_of kinds) (sym (e.rolls-Path p)) ∙ fold-roll-Expr P (Option ExprType) (type_step kinds) (layer.Path p)
+
+pub type_of-Unary : {P : Type 0} (kinds : P → Option QType) (op : Unary) (z : Expr P) → type_of kinds (e.Unary op z) ≡ option_map type_of_sort (option_and_then (unary_sort op) (option_and_then sort_of (type_of kinds z)))
+type_of-Unary {P} kinds op z = ap (type_of kinds) (sym (e.rolls-Unary op z)) ∙ fold-roll-Expr P (Option ExprType) (type_step kinds) (layer.Unary op z)
+
+pub type_of-Binary : {P : Type 0} (kinds : P → Option QType) (op : Binary) (x y : Expr P) → type_of kinds (e.Binary op x y) ≡ option_map type_of_sort (option_and_then (λ a. option_and_then (binary_sort op a) (option_and_then sort_of (type_of kinds y))) (option_and_then sort_of (type_of kinds x)))
+type_of-Binary {P} kinds op x y = ap (type_of kinds) (sym (e.rolls-Binary op x y)) ∙ fold-roll-Expr P (Option ExprType) (type_step kinds) (layer.Binary op x y)
+
+pub ruleset type_equations = (type_of-Literal, type_of-Path, type_of-Unary, type_of-Binary)
+
+-- the value of a part that has a type
+has_sort : (v : Value) (t : ExprType) → IsOf v t → sort_of t ≡ Some (value_sort v)
+has_sort v Null is = ap (λ w. Some (value_sort w)) (sym is)
+has_sort v (Of t) is = is
+
+unary_has : (op : Unary) (v : Value) (t : ExprType) → option_map type_of_sort (unary_sort op (value_sort v)) ≡ Some t → HasValueOf t (unary op v)
+unary_has Not (value.Bool b) t is = subst (λ s. HasValueOf s (unary Not (value.Bool b))) (same_Some (type_of_sort sort.Bool) t is) (value.Bool (not b), refl, refl)
+unary_has Minus (value.Int z) t is = subst (λ s. HasValueOf s (unary Minus (value.Int z))) (same_Some (type_of_sort sort.Int) t is) (value.Int (saturate_signed w32 (neg_ℤ z)), refl, refl)
+unary_has Not (value.Int z) t is = cc
+unary_has Not (value.Text s) t is = cc
+unary_has Not (value.Ref r) t is = cc
+unary_has Minus (value.Bool b) t is = cc
+unary_has Minus (value.Text s) t is = cc
+unary_has Minus (value.Ref r) t is = cc
+
+-- an answer of a sort is of its type
+given : (s : Sort) (t : ExprType) (v : Value) (o : Option Value) → o ≡ Some v → IsOf v (type_of_sort s) → option_map type_of_sort (Some s) ≡ Some t → HasValueOf t o
+given s t v o found of is = subst (λ u. HasValueOf u o) (same_Some (type_of_sort s) t is) (v, found, of)
+
+binary_has : (op : Binary) (v w : Value) (t : ExprType) → option_map type_of_sort (binary_sort op (value_sort v) (value_sort w)) ≡ Some t → HasValueOf t (binary op v w)
+binary_has Add (value.Int a) (value.Int b) t is = given sort.Int t _ (binary Add (value.Int a) (value.Int b)) refl refl is
+binary_has Add (value.Text a) (value.Text b) t is = given sort.Text t _ (binary Add (value.Text a) (value.Text b)) refl refl is
+binary_has Subtract (value.Int a) (value.Int b) t is = given sort.Int t _ (binary Subtract (value.Int a) (value.Int b)) refl refl is
+binary_has Multiply (value.Int a) (value.Int b) t is = given sort.Int t _ (binary Multiply (value.Int a) (value.Int b)) refl refl is
+binary_has Less (value.Int a) (value.Int b) t is = given sort.Bool t _ (binary Less (value.Int a) (value.Int b)) refl refl is
+binary_has AtMost (value.Int a) (value.Int b) t is = given sort.Bool t _ (binary AtMost (value.Int a) (value.Int b)) refl refl is
+binary_has Greater (value.Int a) (value.Int b) t is = given sort.Bool t _ (binary Greater (value.Int a) (value.Int b)) refl refl is
+binary_has AtLeast (value.Int a) (value.Int b) t is = given sort.Bool t _ (binary AtLeast (value.Int a) (value.Int b)) refl refl is
+binary_has Equal (value.Int a) (value.Int b) t is = given sort.Bool t _ (binary Equal (value.Int a) (value.Int b)) refl refl is
+binary_has Equal (value.Bool a) (value.Bool b) t is = given sort.Bool t _ (binary Equal (value.Bool a) (value.Bool b)) refl refl is
+binary_has Equal (value.Text a) (value.Text b) t is = given sort.Bool t _ (binary Equal (value.Text a) (value.Text b)) refl refl is
+binary_has Equal (value.Ref a) (value.Ref b) t is = given sort.Bool t _ (binary Equal (value.Ref a) (value.Ref b)) refl refl is
+binary_has Different (value.Int a) (value.Int b) t is = given sort.Bool t _ (binary Different (value.Int a) (value.Int b)) refl refl is
+binary_has Different (value.Bool a) (value.Bool b) t is = given sort.Bool t _ (binary Different (value.Bool a) (value.Bool b)) refl refl is
+binary_has Different (value.Text a) (value.Text b) t is = given sort.Bool t _ (binary Different (value.Text a) (value.Text b)) refl refl is
+binary_has Different (value.Ref a) (value.Ref b) t is = given sort.Bool t _ (binary Different (value.Ref a) (value.Ref b)) refl refl is
+binary_has And (value.Bool a) (value.Bool b) t is = given sort.Bool t _ (binary And (value.Bool a) (value.Bool b)) refl refl is
+binary_has Or (value.Bool a) (value.Bool b) t is = given sort.Bool t _ (binary Or (value.Bool a) (value.Bool b)) refl refl is
+binary_has op v w t is = cc
+
+-- a part that has a type has a value of its sort
+part : (found : Option Value) (kind : Option ExprType) (s : Sort) → ((t : ExprType) → kind ≡ Some t → HasValueOf t found) → option_and_then sort_of kind ≡ Some s → (v : Value) × (found ≡ Some v) × (value_sort v ≡ s)
+part found None s has is = cc
+part found (Some t) s has is =
+    let h = has t refl in
+    (h.0, h.1, same_Some (value_sort h.0) s (sym (has_sort h.0 t h.2) ∙ is))
+
+one_sort : (f : Sort → Option Sort) (o : Option Sort) (t : ExprType) → option_map type_of_sort (option_and_then f o) ≡ Some t → (s : Sort) × (o ≡ Some s) × (option_map type_of_sort (f s) ≡ Some t)
+one_sort f None t is = cc
+one_sort f (Some s) t is = (s, refl, is)
+
+two_sorts : (f : Sort → Sort → Option Sort) (o r : Option Sort) (t : ExprType) → option_map type_of_sort (option_and_then (λ a. option_and_then (f a) r) o) ≡ Some t → (s : Sort) × (u : Sort) × (o ≡ Some s) × (r ≡ Some u) × (option_map type_of_sort (f s u) ≡ Some t)
+two_sorts f None r t is = cc
+two_sorts f (Some s) None t is = cc
+two_sorts f (Some s) (Some u) t is = (s, u, refl, refl, is)
+
+unary_typed : (op : Unary) (found : Option Value) (kind : Option ExprType) (t : ExprType) → ((s : ExprType) → kind ≡ Some s → HasValueOf s found) → option_map type_of_sort (option_and_then (unary_sort op) (option_and_then sort_of kind)) ≡ Some t → HasValueOf t (option_and_then (unary op) found)
+unary_typed op found kind t has is =
+    let s = one_sort (unary_sort op) (option_and_then sort_of kind) t is in
+    let v = part found kind s.0 has s.1 in
+    rw v.1 (unary_has op v.0 t (rw v.2 s.2))
+
+binary_typed : (op : Binary) (left right : Option Value) (kind type : Option ExprType) (t : ExprType) → ((s : ExprType) → kind ≡ Some s → HasValueOf s left) → ((s : ExprType) → type ≡ Some s → HasValueOf s right) → option_map type_of_sort (option_and_then (λ a. option_and_then (binary_sort op a) (option_and_then sort_of type)) (option_and_then sort_of kind)) ≡ Some t → HasValueOf t (option_and_then (λ a. option_and_then (binary op a) right) left)
+binary_typed op left right kind type t first second is =
+    let s = two_sorts (binary_sort op) (option_and_then sort_of kind) (option_and_then sort_of type) t is in
+    let v = part left kind s.0 first s.2 in
+    let w = part right type s.1 second s.3 in
+    rw (v.1, w.1) (binary_has op v.0 w.0 t (rw (v.2, w.2) s.4))
+
+literal_typed : (v : Value) (t : ExprType) → literal_type v ≡ Some t → IsOf v t
+literal_typed (value.Int z) t is = subst (λ s. IsOf (value.Int z) s) (same_Some (type_of_sort sort.Int) t is) refl
+literal_typed (value.Bool b) t is = subst (λ s. IsOf (value.Bool b) s) (same_Some (type_of_sort sort.Bool) t is) refl
+literal_typed (value.Text s) t is = subst (λ u. IsOf (value.Text s) u) (same_Some (type_of_sort sort.Text) t is) refl
+literal_typed (value.Ref None) t is = subst (λ s. IsOf (value.Ref None) s) (same_Some (type_of_sort sort.Reference) t is) refl
+literal_typed (value.Ref (Some o)) t is = cc
+
+path_typed : (found : Option Value) (kind : Option QType) (t : ExprType) → ((s : QType) → kind ≡ Some s → HasValueOf (Of s) found) → option_map (λ s. Of s) kind ≡ Some t → HasValueOf t found
+path_typed found None t has is = cc
+path_typed found (Some s) t has is = subst (λ u. HasValueOf u found) (same_Some (Of s) t is) (has s refl)
+
+abbrev IsTyped : {P : Type 0} → (P → Option Value) → (P → Option QType) → Expr P → Type 0
+IsTyped read kinds z = (t : ExprType) → type_of kinds z ≡ Some t → HasValueOf t (value read z)
+
+opened : {P : Type 0} (read : P → Option Value) (kinds : P → Option QType) (l : layer.Expr-F P (Expr P)) (t : ExprType) → (type_step kinds (map-Expr P (Expr P) (Option ExprType) (type_of kinds) l) ≡ Some t → HasValueOf t (value_step read (map-Expr P (Expr P) (Option Value) (value read) l))) → type_of kinds (roll-Expr P l) ≡ Some t → HasValueOf t (value read (roll-Expr P l))
+opened {P} read kinds l t has is =
+    let at = fold-roll-Expr P (Option Value) (value_step read) l in
+    subst (λ found. HasValueOf t found) (sym at) (has (sym (fold-roll-Expr P (Option ExprType) (type_step kinds) l) ∙ is))
+
+typed_layer : {P : Type 0} (read : P → Option Value) (kinds : P → Option QType) → TypedPaths read kinds → (y : layer.Expr-F P ((z : Expr P) × IsTyped read kinds z)) → IsTyped read kinds (roll-Expr P (map-Expr P ((z : Expr P) × IsTyped read kinds z) (Expr P) (λ e. e.0) y))
+typed_layer read kinds paths (layer.Literal v) t is = opened read kinds (layer.Literal v) t (λ typed. (v, refl, literal_typed v t typed)) is
+typed_layer read kinds paths (layer.Path p) t is = opened read kinds (layer.Path p) t (path_typed (read p) (kinds p) t (paths p)) is
+typed_layer read kinds paths (layer.Unary op x) t is = opened read kinds (layer.Unary op x.0) t (unary_typed op (value read x.0) (type_of kinds x.0) t x.1) is
+typed_layer read kinds paths (layer.Binary op x y) t is = opened read kinds (layer.Binary op x.0 y.0) t (binary_typed op (value read x.0) (value read y.0) (type_of kinds x.0) (type_of kinds y.0) t x.1 y.1) is
+
+-- by induction on the expression
+pub typed_has_value : {P : Type 0} (read : P → Option Value) (kinds : P → Option QType) → TypedPaths read kinds → (z : Expr P) (t : ExprType) → type_of kinds z ≡ Some t → HasValueOf t (value read z)
+typed_has_value {P} read kinds paths = ind-Expr P (IsTyped read kinds) (λ x y is. subst (λ l. IsTyped read kinds (roll-Expr P l)) is (typed_layer read kinds paths y))

@@ -1,0 +1,66 @@
+-- What the operators of expressions do (docs/language.md, "Expressions").
+use Rattle.std.specs.Prelude.{ℕ, ℤ, ◌+ℤ◌, ◌-ℤ◌, ◌*ℤ◌, neg_ℤ, Bool, true, false, not, ◌&&◌, ◌||◌, eqb, int_lt, List, [], ◌∷◌, ◌++◌, take, Option, Some, None}
+use Rattle.std.specs.Option.{option_map}
+use Rattle.std.specs.Ordering.{int_eq}
+use Rattle.std.specs.Int.{saturate_signed, w32}
+use Rattle.signatures.specs.declared.value.Value.{Value}
+use Rattle.signatures.specs.declared.value.Value.TheVariants.{Int, Bool as Truth, Text, Ref}
+use Rattle.slot_lang.specs.declared.syntax.Unary.{Unary}
+use Rattle.slot_lang.specs.declared.syntax.Unary.TheVariants.{Not, Minus}
+use Rattle.slot_lang.specs.declared.syntax.Binary.{Binary}
+use Rattle.slot_lang.specs.declared.syntax.Binary.TheVariants.{Add, Subtract, Multiply, Less, AtMost, Greater, AtLeast, Equal, Different, And, Or}
+
+-- a number of 32 bits; one that is too large becomes the greatest, one that is too small the least
+abbrev pub number : ℤ → Option Value
+number z = Some (Int (saturate_signed w32 z))
+
+abbrev pub unary : Unary → Value → Option Value
+unary Not (Truth b) = Some (Truth (not b))
+unary Minus (Int z) = number (neg_ℤ z)
+unary op v = None
+
+abbrev pub same_text : List ℕ → List ℕ → Bool
+same_text [] [] = true
+same_text [] (y ∷ ys) = false
+same_text (x ∷ xs) [] = false
+same_text (x ∷ xs) (y ∷ ys) = eqb x y && same_text xs ys
+
+abbrev pub same_reference : Option ℕ → Option ℕ → Bool
+same_reference None None = true
+same_reference (Some a) (Some b) = eqb a b
+same_reference a b = false
+
+-- whether two values of one sort are the same
+abbrev pub equal : Value → Value → Option Bool
+equal (Int a) (Int b) = Some (int_eq a b)
+equal (Truth a) (Truth b) = Some ((a && b) || (not a && not b))
+equal (Text a) (Text b) = Some (same_text a b)
+equal (Ref a) (Ref b) = Some (same_reference a b)
+equal a b = None
+
+abbrev pub on_numbers : (ℤ → ℤ → Value) → Value → Value → Option Value
+on_numbers f (Int a) (Int b) = Some (f a b)
+on_numbers f v w = None
+
+abbrev pub on_truths : (Bool → Bool → Bool) → Value → Value → Option Value
+on_truths f (Truth a) (Truth b) = Some (Truth (f a b))
+on_truths f v w = None
+
+-- texts are joined, and the first 255 bytes kept
+abbrev pub plus : Value → Value → Option Value
+plus (Int a) (Int b) = number (a +ℤ b)
+plus (Text a) (Text b) = Some (Text (take 255 (a ++ b)))
+plus v w = None
+
+abbrev pub binary : Binary → Value → Value → Option Value
+binary Add v w = plus v w
+binary Subtract v w = on_numbers (λ a b. Int (saturate_signed w32 (a -ℤ b))) v w
+binary Multiply v w = on_numbers (λ a b. Int (saturate_signed w32 (a *ℤ b))) v w
+binary Less v w = on_numbers (λ a b. Truth (int_lt a b)) v w
+binary AtMost v w = on_numbers (λ a b. Truth (not (int_lt b a))) v w
+binary Greater v w = on_numbers (λ a b. Truth (int_lt b a)) v w
+binary AtLeast v w = on_numbers (λ a b. Truth (not (int_lt a b))) v w
+binary Equal v w = option_map (λ b. Truth b) (equal v w)
+binary Different v w = option_map (λ b. Truth (not b)) (equal v w)
+binary And v w = on_truths (λ a b. a && b) v w
+binary Or v w = on_truths (λ a b. a || b) v w

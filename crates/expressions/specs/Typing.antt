@@ -1,0 +1,114 @@
+-- The types of expressions (docs/language.md, "Types").
+use Rattle.std.specs.Prelude.{◌≡◌, ◌⊎◌, if◌then◌else◌, ℕ, Bool, true, false, List, Option, Some, None, codes}
+use Rattle.std.specs.Option.{option_and_then, option_map}
+use Rattle.signatures.specs.declared.value.Value.{Value}
+use Rattle.signatures.specs.declared.value.Value.TheVariants as value
+use Rattle.signatures.specs.declared.qtype.QType.{QType}
+use Rattle.signatures.specs.Types.{value_type}
+use Rattle.slot_lang.specs.declared.syntax.Unary.{Unary}
+use Rattle.slot_lang.specs.declared.syntax.Unary.TheVariants.{Not, Minus}
+use Rattle.slot_lang.specs.declared.syntax.Binary.{Binary}
+use Rattle.slot_lang.specs.declared.syntax.Binary.TheVariants.{Add, Subtract, Multiply, Less, AtMost, Greater, AtLeast, Equal, Different, And, Or}
+use Rattle.slot_lang.specs.declared.syntax.Expr.{Expr}
+use Rattle.slot_lang.specs.declared.syntax.Expr.TheOpen as layer
+use Rattle.slot_lang.specs.declared.syntax.Expr.TheFolds.{fold-Expr}
+use Rattle.expressions.specs.declared.sort.Sort.{Sort}
+use Rattle.expressions.specs.declared.sort.Sort.TheVariants.{Int, Bool as Truth, Text, Reference}
+use Rattle.expressions.specs.declared.typing.ExprType.{ExprType}
+use Rattle.expressions.specs.declared.typing.ExprType.TheVariants.{Null, Of}
+use Rattle.expressions.specs.Operators.{same_text}
+
+-- the sort of a value
+abbrev pub value_sort : Value → Sort
+value_sort (value.Int z) = Int
+value_sort (value.Bool b) = Truth
+value_sort (value.Text s) = Text
+value_sort (value.Ref r) = Reference
+
+-- the sort of the values of a type: three value types have one, by their names, and pointers are references
+abbrev pub named_sort : List ℕ → Option Sort
+named_sort name =
+    if same_text name (codes "int") then Some Int
+    else if same_text name (codes "bool") then Some Truth
+    else if same_text name (codes "QString") then Some Text
+    else None
+
+abbrev pub declared_sort : QType → Option Sort
+declared_sort t = if t.pointer then Some Reference else named_sort t.name
+
+abbrev pub sort_of : ExprType → Option Sort
+sort_of Null = Some Reference
+sort_of (Of t) = declared_sort t
+
+-- the type of the values of a sort; of references it is null's, which names no class
+abbrev pub type_of_sort : Sort → ExprType
+type_of_sort Int = Of (value_type (codes "int"))
+type_of_sort Truth = Of (value_type (codes "bool"))
+type_of_sort Text = Of (value_type (codes "QString"))
+type_of_sort Reference = Null
+
+-- what the operators take, and what they give
+abbrev pub unary_sort : Unary → Sort → Option Sort
+unary_sort Not Truth = Some Truth
+unary_sort Minus Int = Some Int
+unary_sort op s = None
+
+abbrev pub binary_sort : Binary → Sort → Sort → Option Sort
+binary_sort Add Int Int = Some Int
+binary_sort Add Text Text = Some Text
+binary_sort Subtract Int Int = Some Int
+binary_sort Multiply Int Int = Some Int
+binary_sort Less Int Int = Some Truth
+binary_sort AtMost Int Int = Some Truth
+binary_sort Greater Int Int = Some Truth
+binary_sort AtLeast Int Int = Some Truth
+binary_sort Equal Int Int = Some Truth
+binary_sort Equal Truth Truth = Some Truth
+binary_sort Equal Text Text = Some Truth
+binary_sort Equal Reference Reference = Some Truth
+binary_sort Different Int Int = Some Truth
+binary_sort Different Truth Truth = Some Truth
+binary_sort Different Text Text = Some Truth
+binary_sort Different Reference Reference = Some Truth
+binary_sort And Truth Truth = Some Truth
+binary_sort Or Truth Truth = Some Truth
+binary_sort op s t = None
+
+-- a literal's type; no literal names an object
+abbrev pub literal_type : Value → Option ExprType
+literal_type (value.Ref (Some o)) = None
+literal_type v = Some (type_of_sort (value_sort v))
+
+-- the type of an expression from those of its parts, where `kinds` gives the declared types of its paths
+abbrev pub type_step : {P : Type 0} → (P → Option QType) → layer.Expr-F P (Option ExprType) → Option ExprType
+type_step kinds (layer.Literal v) = literal_type v
+type_step kinds (layer.Path p) = option_map (λ t. Of t) (kinds p)
+type_step kinds (layer.Unary op t) = option_map type_of_sort (option_and_then (unary_sort op) (option_and_then sort_of t))
+type_step kinds (layer.Binary op t u) = option_map type_of_sort (option_and_then (λ a. option_and_then (binary_sort op a) (option_and_then sort_of u)) (option_and_then sort_of t))
+
+abbrev pub type_of : {P : Type 0} → (P → Option QType) → Expr P → Option ExprType
+type_of {P} kinds = fold-Expr P (Option ExprType) (type_step kinds)
+
+-- A declared type accepts the same value type; a reference type accepts the references to its class or one below it,
+-- but a const one only if it is const itself, and null.
+abbrev pub AcceptsValue : QType → QType → Type 0
+AcceptsValue declared given = (declared.pointer ≡ false) × (declared ≡ given)
+
+abbrev pub AcceptsReference : (List ℕ → List ℕ → Type 0) → QType → QType → Type 0
+AcceptsReference below declared given = (declared.pointer ≡ true) × (given.pointer ≡ true) × below given.name declared.name × ((declared.constant ≡ true) ⊎ (given.constant ≡ false))
+
+abbrev pub Accepts : (List ℕ → List ℕ → Type 0) → QType → ExprType → Type 0
+Accepts below declared Null = declared.pointer ≡ true
+Accepts below declared (Of given) = AcceptsValue declared given ⊎ AcceptsReference below declared given
+
+-- a value is of a type: only null is of null's
+abbrev pub IsOf : Value → ExprType → Type 0
+IsOf v Null = v ≡ value.Ref None
+IsOf v (Of t) = declared_sort t ≡ Some (value_sort v)
+
+abbrev pub HasValueOf : ExprType → Option Value → Type 0
+HasValueOf t found = (v : Value) × (found ≡ Some v) × IsOf v t
+
+-- every path with a type leads to a value of that type
+abbrev pub TypedPaths : {P : Type 0} → (P → Option Value) → (P → Option QType) → Type 0
+TypedPaths {P} read kinds = (p : P) (t : QType) → kinds p ≡ Some t → HasValueOf (Of t) (read p)

@@ -1,0 +1,316 @@
+-- A loaded program is sound.
+use Rattle.std.proofs.Common.{◌≡◌, ℕ, suc, ◌<◌, List, [], ◌∷◌, ◌++◌, length, slice_get, Option, Some, None, Any, ◌⊎◌, inl, inr, refl, sym, ap, ◌∙◌, subst, arith}
+use Rattle.std.specs.List.{AllZip}
+use Rattle.std.specs.Option.{option_and_then}
+use Rattle.std.proofs.lemmas.Option.{slice_get_within, none-some, same_Some}
+use Rattle.signatures.specs.declared.qtype.QType.{QType}
+use Rattle.signatures.specs.declared.sig.Sig.{Sig}
+use Rattle.class_lang.specs.declared.program.Property.{Property}
+use Rattle.class_lang.specs.declared.program.Program.{Program}
+use Rattle.meta_objects.specs.declared.object.ValueType.{ValueType}
+use Rattle.meta_objects.specs.declared.object.MetaMethod.{MetaMethod}
+use Rattle.meta_objects.specs.declared.object.MetaProperty.{MetaProperty}
+use Rattle.meta_objects.specs.declared.object.MetaObject.{MetaObject}
+use Rattle.meta_objects.specs.declared.object.MetaWire.{MetaWire}
+use Rattle.meta_objects.specs.declared.object.MetaOwns.{MetaOwns}
+use Rattle.meta_objects.specs.declared.outline.Sort.{Sort}
+use Rattle.meta_objects.specs.declared.outline.Sort.TheVariants as sort
+use Rattle.meta_objects.specs.declared.outline.Heading.{Heading}
+use Rattle.meta_objects.specs.declared.outline.Outline.{Outline}
+use Rattle.meta_objects.specs.Loaded.{Loaded}
+use Rattle.meta_objects.specs.Places.{StandsAt, StandsFirst}
+use Rattle.meta_objects.specs.Members.{IsClass, IsMethod, base_of, Below, same, under, IsIn}
+use Rattle.meta_objects.specs.Sound.{IsKind, AreSound, none_sound, IsSoundBody, IsSoundWork, IsSoundMethod, IsNotifier, IsSoundProperty, IsUnder, HasDistinctMethods, HasDistinctProperties, IsSoundClass, IsSoundWire, IsSoundOwns, IsSound}
+use Rattle.meta_objects.specs.Outlines.{IsOutlineNamed, kinds_of, own_methods, heading, destroyed_alone}
+use Rattle.meta_objects.specs.Kinds.{LacksType, IsReadAs}
+use Rattle.meta_objects.specs.Conditions.{AreOneCall, HasTwoMembers, IsSignalOf, LacksNotifier, LacksTypes}
+use Rattle.meta_objects.specs.Loading.{IsBody, AreBodies, body_at, found_body, work_of, IsMethodOf, IsNotify, IsPropertyOf, IsObject, IsWire, IsOwns, IsLoaded}
+use Rattle.meta_objects.specs.Builds.{HasOutlines, IsClean}
+use Rattle.meta_objects.proofs.Zips.{zip_left, zip_right, get_front}
+use Rattle.meta_objects.proofs.Searches.{place_in}
+use Rattle.meta_objects.proofs.Once.{once, none_at, get_split_at}
+use Rattle.meta_objects.proofs.Reading.{same_read}
+use Rattle.meta_objects.proofs.Deciding.{carries}
+use Rattle.meta_objects.proofs.Unique.{same_zip, same_method, same_property_by, same_place}
+use Rattle.meta_objects.proofs.Described.{Declared, Reaches, here, up, HasSlot, outline_of, slot_of, begins, distinct_outlines}
+use Rattle.meta_objects.proofs.Soundness.{object_at, kind_in, method_at, sound_statements}
+
+module _ {A B : Type 0} (R : A → B → Type 0) where
+  -- a list that relates to two lists in a row
+  zip_split : (xs us : List A) (zs : List B) → AllZip R (xs ++ us) zs → (ys : List B) × (vs : List B) × (zs ≡ ys ++ vs) × AllZip R xs ys × AllZip R us vs
+  zip_split [] us zs h = ([], zs, refl, tt, h)
+  zip_split (x ∷ xs) us [] h = absurd h
+  zip_split (x ∷ xs) us (z ∷ zs) h =
+      let rest = zip_split xs us zs h.1 in
+      (z ∷ rest.0, rest.1, ap (λ r. z ∷ r) rest.2, (h.0, rest.3), rest.4)
+
+-- two relations that give the same for each element
+same_zip_by : {A B : Type 0} (R S : A → B → Type 0) (xs : List A) (ys zs : List B) → ((i : ℕ) (x : A) → slice_get xs i ≡ Some x → (y z : B) → R x y → S x z → y ≡ z) → AllZip R xs ys → AllZip S xs zs → ys ≡ zs
+same_zip_by R S [] [] [] f h k = refl
+same_zip_by R S [] [] (z ∷ zs) f h k = absurd k
+same_zip_by R S [] (y ∷ ys) zs f h k = absurd h
+same_zip_by R S (x ∷ xs) [] zs f h k = absurd h
+same_zip_by R S (x ∷ xs) (y ∷ ys) [] f h k = absurd k
+same_zip_by R S (x ∷ xs) (y ∷ ys) (z ∷ zs) f h k =
+    ap (λ v. v ∷ ys) (f 0 x refl y z h.0 k.0) ∙ ap (λ vs. z ∷ vs) (same_zip_by R S xs ys zs (λ i. f (suc i)) h.1 k.1)
+
+-- an element of a front
+in_front : {X : Type 0} (P : X → Type 0) (xs ys : List X) (m k : ℕ) → k < m → m < length xs → StandsAt P (xs ++ ys) k → StandsAt P xs k
+in_front P xs ys m k less inside at =
+    elim (get_split_at xs ys k at.item at.is) [
+      | inl e ↦ record { item = at.item; is = e; has = at.has }
+      | inr r ↦ absurd (omega (arith, r.1))
+    ]
+
+no_kinds : (o : List Outline) (types : List QType) (kinds : List ValueType) → AllZip (IsReadAs o) types kinds → types ≡ [] → kinds ≡ []
+no_kinds o [] [] h e = refl
+no_kinds o [] (k ∷ ks) h e = absurd h
+no_kinds o (T ∷ Ts) ks h e = absurd (cc)
+
+one_kind : (o : List Outline) (types : List QType) (kinds : List ValueType) → AllZip (IsReadAs o) types kinds → (T : QType) (kind : ValueType) → IsReadAs o T kind → types ≡ T ∷ [] → kinds ≡ kind ∷ []
+one_kind o [] ks h T kind read e = absurd (cc)
+one_kind o (U ∷ Us) [] h T kind read e = absurd h
+one_kind o (U ∷ []) (k ∷ []) h T kind read e =
+    let same_type : U ≡ T = cc in
+    ap (λ x. x ∷ []) (same_read o U k kind h.0 (subst (λ V. IsReadAs o V kind) (sym same_type) read))
+one_kind o (U ∷ []) (k ∷ l ∷ ks) h T kind read e = absurd h.1
+one_kind o (U ∷ V ∷ Us) (k ∷ ks) h T kind read e = absurd (cc)
+
+-- the first in a front is the first
+first_in_front : {X : Type 0} (P : X → Type 0) (xs ys : List X) (m : ℕ) → StandsFirst P xs m → StandsFirst P (xs ++ ys) m
+first_in_front P xs ys m h = record {
+  at = record { item = h.at.item; is = get_front xs ys m h.at.item h.at.is; has = h.at.has };
+  first = λ k below at. h.first k below (in_front P xs ys m k below (slice_get_within xs m h.at.item h.at.is) at);
+}
+
+module _ (program : Program) (o : List Outline) (outlined : HasOutlines program o) (clean : IsClean program o) (p : Loaded) (loaded : IsLoaded program o p) where
+  -- a class and its outline
+  record OutlineOf (c : ℕ) (class : MetaObject) : Type 0 where
+    pub outline : Outline
+    pub is : slice_get o c ≡ Some outline
+    pub by : IsObject o loaded.bodies outline class
+
+  outline_at : (c : ℕ) (class : MetaObject) → slice_get p.classes c ≡ Some class → OutlineOf c class
+  outline_at c class e =
+      let x = zip_right (IsObject o loaded.bodies) o p.classes loaded.objects c class e in
+      record { outline = x.0; is = x.1; by = x.2 }
+
+  base_is : (c : ℕ) (u : Outline) → slice_get o c ≡ Some u → base_of p c ≡ u.base
+  base_is c u e =
+      let x = object_at o loaded.bodies p loaded.objects c u e in
+      ap (λ found. option_and_then (λ (class : MetaObject). class.base) found) x.1 ∙ x.2.based
+
+  below : (c d : ℕ) → Reaches o c d → Below p c d
+  below c d here = same
+  below c d (up u e based rest) = under (base_is c u e ∙ based) (below _ d rest)
+
+  -- ---- types
+  has_types : (c : ℕ) (u : Outline) → slice_get o c ≡ Some u → ¬ LacksTypes o u
+  has_types c u e = none_at (LacksTypes o) o clean.types c u e
+
+  kind_sound : (T : QType) (k : ValueType) → (¬ LacksType o T) → IsReadAs o T k → IsKind p T k
+  kind_sound T k has (inl h) = kind_in o loaded.bodies p loaded.objects T k h
+  kind_sound T k has (inr h) = absurd (has h.0)
+
+  kinds_sound : (types : List QType) (kinds : List ValueType) → ((i : ℕ) (T : QType) → slice_get types i ≡ Some T → ¬ LacksType o T) → AllZip (IsReadAs o) types kinds → AllZip (IsKind p) types kinds
+  kinds_sound [] [] has h = tt
+  kinds_sound [] (k ∷ ks) has h = absurd h
+  kinds_sound (T ∷ Ts) [] has h = absurd h
+  kinds_sound (T ∷ Ts) (k ∷ ks) has h = (kind_sound T k (has 0 T refl) h.0, kinds_sound Ts ks (λ i. has (suc i)) h.1)
+
+  -- ---- methods
+  is_first : (name : List ℕ) (c : ℕ) (u : Outline) → slice_get o c ≡ Some u → u.name ≡ name → IsOutlineNamed o name c
+  is_first name c u e named = record {
+    at = record { item = u; is = e; has = named };
+    first = λ k less at. let same_place : k ≡ c = distinct_outlines program o outlined.are outlined.distinct k c at.item u at.is e (at.has ∙ sym named) in absurd (omega (arith, same_place));
+  }
+
+  slot_sound : (c i j : ℕ) (h : Heading) (kinds : List ValueType) → HasSlot program.classes o c i j h → AllZip (IsReadAs o) h.sig.types kinds → IsSoundBody p c kinds (found_body (body_at loaded.bodies i j))
+  slot_sound c i j h kinds slot typed =
+      let of_class = zip_left (AreBodies o) program.classes loaded.bodies loaded.uses.are_bodies i slot.class slot.is_class in
+      let body = zip_left (IsBody o slot.class) slot.class.slots of_class.0 of_class.2 j slot.slot slot.is_slot in
+      let found : found_body (body_at loaded.bodies i j) ≡ body.0 =
+      ap (λ bs. found_body (option_and_then (λ of_class. slice_get of_class j) bs)) of_class.1 ∙ ap found_body body.1 in
+      let types : AllZip (IsReadAs o) (kinds_of slot.slot.parameters) kinds = subst (λ (s : Sig). AllZip (IsReadAs o) s.types kinds) slot.signed typed in
+      record {
+        declaring = suc i;
+        below = below c (suc i) slot.reaches;
+        sound =
+            subst (λ b. AreSound p (suc i) kinds b) (sym found)
+            (sound_statements o loaded.bodies p loaded.objects slot.class.name slot.slot.parameters (suc i)
+            (is_first slot.class.name (suc i) slot.outline slot.is_outline slot.named) kinds types slot.slot.body body.0 body.2);
+      }
+
+  work_sound : (c : ℕ) (u : Outline) → slice_get o c ≡ Some u → (m : ℕ) (h : Heading) → slice_get u.methods m ≡ Some h → (kinds : List ValueType) → AllZip (IsReadAs o) h.sig.types kinds → (s : Sort) → h.sort ≡ s → IsSoundWork p c kinds (work_of loaded.bodies s)
+  work_sound c u e m h at kinds typed sort.Signal is = tt
+  work_sound c u e m h at kinds typed sort.DeleteLater is = record { declaring = c; below = same; sound = none_sound }
+  work_sound c u e m h at kinds typed (sort.Slot i j) is = slot_sound c i j h kinds (slot_of program.classes o outlined.are c u e m h at i j is) typed
+
+  method_sound : (c : ℕ) (class : MetaObject) (u : OutlineOf c class) (m : ℕ) (method : MetaMethod) → slice_get class.methods m ≡ Some method → IsSoundMethod p c method
+  method_sound c class u m method at =
+      let h = zip_right (IsMethodOf o loaded.bodies) u.outline.methods class.methods u.by.methods m method at in
+      record {
+        kinds =
+            subst (λ (s : Sig). AllZip (IsKind p) s.types method.kinds) (sym h.2.signed)
+            (kinds_sound h.0.sig.types method.kinds
+            (λ i T e. none_at (LacksType o) h.0.sig.types (none_at (λ (x : Heading). Any (LacksType o) x.sig.types) u.outline.methods (λ any. has_types c u.outline u.is (inr any)) m h.0 h.1) i T e)
+            h.2.kinds);
+        work = subst (λ w. IsSoundWork p c method.kinds w) (sym h.2.work) (work_sound c u.outline u.is m h.0 h.1 method.kinds h.2.kinds h.0.sort refl);
+      }
+
+  -- ---- properties
+  notifier : (c : ℕ) (class : MetaObject) (u : OutlineOf c class) (q : ℕ) (d : Property) → slice_get u.outline.properties q ≡ Some d → (property : MetaProperty) → IsPropertyOf o u.outline d property → (s : Option Sig) → d.notify ≡ s → (m : ℕ) → property.notify ≡ Some m → IsNotify u.outline s (Some m) → IsNotifier class property m
+  notifier c class u q d at property by None given m is notify = absurd (none-some m (sym notify))
+  notifier c class u q d at property by (Some sig) given m is notify =
+      let h = notify.at in
+      let x = zip_left (IsMethodOf o loaded.bodies) u.outline.methods class.methods u.by.methods m h.item h.is in
+      let typed : AllZip (IsReadAs o) sig.types x.0.kinds = subst (λ (s : Sig). AllZip (IsReadAs o) s.types x.0.kinds) h.has.0 x.2.kinds in
+      let fits : (sig.types ≡ []) ⊎ (sig.types ≡ d.kind ∷ []) =
+      elim (carries sig.types d.kind) [
+        | inl fit ↦ fit
+        | inr unfit ↦
+            absurd (none_at (λ (y : Property). LacksNotifier u.outline y y.notify) u.outline.properties
+            (none_at (λ (v : Outline). Any (λ (y : Property). LacksNotifier v y y.notify) v.properties) o clean.notifiers c u.outline u.is)
+            q d at (subst (λ g. LacksNotifier u.outline d g) (sym given) (λ n by_it. unfit by_it.fits)))
+      ] in
+      record {
+        signal = x.0;
+        is = x.1;
+        signals = x.2.work ∙ ap (λ s. work_of loaded.bodies s) h.has.1;
+        fits = elim fits [
+          | inl none ↦ inl (no_kinds o sig.types x.0.kinds typed none)
+          | inr one ↦ inr (one_kind o sig.types x.0.kinds typed d.kind property.kind by.kind one)
+        ];
+      }
+
+  property_sound : (c : ℕ) (class : MetaObject) (u : OutlineOf c class) (q : ℕ) (property : MetaProperty) → slice_get class.properties q ≡ Some property → IsSoundProperty p class property
+  property_sound c class u q property at =
+      let d = zip_right (IsPropertyOf o u.outline) u.outline.properties class.properties u.by.properties q property at in
+      record {
+        kind =
+            subst (λ T. IsKind p T property.kind) (sym d.2.typed)
+            (kind_sound d.0.kind property.kind (none_at (λ (y : Property). LacksType o y.kind) u.outline.properties (λ any. has_types c u.outline u.is (inl any)) q d.0 d.1) d.2.kind);
+        notifies = λ m is. notifier c class u q d.0 d.1 property d.2 d.0.notify refl m is (subst (λ n. IsNotify u.outline d.0.notify n) is d.2.notify);
+      }
+
+  -- ---- bases
+  -- a signal of the base is found under the same number in the class
+  same_notified : (b : ℕ) (base u : Outline) (own : List Heading) → slice_get o b ≡ Some base → u.methods ≡ base.methods ++ own → (q : ℕ) (d : Property) → slice_get base.properties q ≡ Some d → (s : Option Sig) → d.notify ≡ s → (x y : Option ℕ) → IsNotify u s x → IsNotify base s y → x ≡ y
+  same_notified b base u own e methods q d at None given x y h k = h ∙ sym k
+  same_notified b base u own e methods q d at (Some sig) given x None h k =
+      absurd (none_at (λ (z : Property). LacksNotifier base z z.notify) base.properties
+      (none_at (λ (v : Outline). Any (λ (z : Property). LacksNotifier v z z.notify) v.properties) o clean.notifiers b base e)
+      q d at (subst (λ g. LacksNotifier base d g) (sym given) (λ n by_it. k n by_it.signal.at)))
+  same_notified b base u own e methods q d at (Some sig) given x (Some m) h k =
+      let first : StandsFirst (IsSignalOf sig) u.methods m = subst (λ ms. StandsFirst (IsSignalOf sig) ms m) (sym methods) (first_in_front (IsSignalOf sig) base.methods own m k) in
+      same_place o (IsSignalOf sig) u.methods x (Some m) h first
+
+  under_declared : (c : ℕ) (class : MetaObject) (u : OutlineOf c class) (b : ℕ) → class.base ≡ Some b → Declared program.classes o c u.outline → IsUnder p c class b
+  under_declared c class u b based d =
+      let same_base : d.base_number ≡ b = same_Some _ _ (sym (ap (λ (x : Outline). x.base) d.shape) ∙ sym u.by.based ∙ based) in
+      let base = object_at o loaded.bodies p loaded.objects d.base_number d.base d.is_base in
+      let methods = zip_split (IsMethodOf o loaded.bodies) d.base.methods (own_methods d.i d.class) class.methods
+      (subst (λ (v : Outline). AllZip (IsMethodOf o loaded.bodies) v.methods class.methods) d.shape u.by.methods) in
+      let properties = zip_split (IsPropertyOf o u.outline) d.base.properties d.class.properties class.properties
+      (subst (λ ps. AllZip (IsPropertyOf o u.outline) ps class.properties) (ap (λ (v : Outline). v.properties) d.shape) u.by.properties) in
+      let same_methods = same_zip (IsMethodOf o loaded.bodies) d.base.methods methods.0 base.0.methods (same_method o loaded.bodies) methods.3 base.2.methods in
+      let same_properties =
+      same_zip_by (IsPropertyOf o u.outline) (IsPropertyOf o d.base) d.base.properties properties.0 base.0.properties
+      (λ i y e v w h k. same_property_by o u.outline d.base y v w h k
+      (same_notified d.base_number d.base u.outline (own_methods d.i d.class) d.is_base (ap (λ (v : Outline). v.methods) d.shape) i y e y.notify refl v.notify w.notify h.notify k.notify))
+      properties.3 base.2.properties in
+      record {
+        smaller = subst (λ n. n < c) same_base d.smaller;
+        base = base.0;
+        is = record { is = subst (λ n. slice_get p.classes n ≡ Some base.0) same_base base.1 };
+        own_methods = methods.1;
+        methods = methods.2 ∙ ap (λ ms. ms ++ methods.1) same_methods;
+        own_properties = properties.1;
+        properties = properties.2 ∙ ap (λ ps. ps ++ properties.1) same_properties;
+      }
+
+  is_under : (c : ℕ) (class : MetaObject) (u : OutlineOf c class) (b : ℕ) → class.base ≡ Some b → IsUnder p c class b
+  is_under c class u b based =
+      elim (outline_of program.classes o outlined.are c u.outline u.is) [
+        | inl q ↦ absurd (none-some b (sym (ap (λ (x : Outline). x.base) q.1) ∙ sym u.by.based ∙ based))
+        | inr d ↦ under_declared c class u b based d
+      ]
+
+  -- ---- members that stand once
+  has_one : (c : ℕ) (u : Outline) → slice_get o c ≡ Some u → ¬ HasTwoMembers u
+  has_one c u e = none_at HasTwoMembers o (λ any. clean.members (inl any)) c u e
+
+  distinct_methods : (c : ℕ) (class : MetaObject) → OutlineOf c class → HasDistinctMethods class
+  distinct_methods c class u i j a b ea eb name count =
+      let h = zip_right (IsMethodOf o loaded.bodies) u.outline.methods class.methods u.by.methods i a ea in
+      let k = zip_right (IsMethodOf o loaded.bodies) u.outline.methods class.methods u.by.methods j b eb in
+      let n : h.0.sig.name ≡ k.0.sig.name = sym (ap (λ (s : Sig). s.name) h.2.signed) ∙ name ∙ ap (λ (s : Sig). s.name) k.2.signed in
+      let m : length h.0.sig.types ≡ length k.0.sig.types = sym (ap (λ (s : Sig). length s.types) h.2.signed) ∙ count ∙ ap (λ (s : Sig). length s.types) k.2.signed in
+      once AreOneCall u.outline.methods (λ t. has_one c u.outline u.is (inl t)) i j h.0 k.0 h.1 k.1 (n, m) (sym n, sym m)
+
+  distinct_properties : (c : ℕ) (class : MetaObject) → OutlineOf c class → HasDistinctProperties class
+  distinct_properties c class u i j a b ea eb name =
+      let h = zip_right (IsPropertyOf o u.outline) u.outline.properties class.properties u.by.properties i a ea in
+      let k = zip_right (IsPropertyOf o u.outline) u.outline.properties class.properties u.by.properties j b eb in
+      let n : h.0.name ≡ k.0.name = sym h.2.named ∙ name ∙ k.2.named in
+      once (λ (x y : Property). x.name ≡ y.name) u.outline.properties (λ t. has_one c u.outline u.is (inr t)) i j h.0 k.0 h.1 k.1 n (sym n)
+
+  class_sound : (c : ℕ) (class : MetaObject) → IsClass p c class → IsSoundClass p c class
+  class_sound c class is =
+      let u = outline_at c class is.is in
+      record {
+        under = λ b based. is_under c class u b based;
+        methods = λ m method at. method_sound c class u m method at;
+        properties = λ q property at. property_sound c class u q property at;
+        distinct_methods = distinct_methods c class u;
+        distinct_properties = distinct_properties c class u;
+      }
+
+  -- ---- wires and owns
+  wire_sound : (wire : MetaWire) → IsIn wire p.wires → IsSoundWire p wire
+  wire_sound wire in_it =
+      let at = place_in p.wires wire in_it in
+      let w = zip_right (IsWire o) program.wires p.wires loaded.uses.wired at.0 wire at.1 in
+      let from = w.2.from in
+      let to = w.2.to in
+      let signal = method_at o loaded.bodies p loaded.objects wire.sender from.class.at.item from.class.at.is wire.signal from.method.at.item from.method.at.is in
+      let method = method_at o loaded.bodies p loaded.objects wire.receiver to.class.at.item to.class.at.is wire.method to.method.at.item to.method.at.is in
+      record {
+        signal = signal.loaded;
+        from = signal.is;
+        signals = signal.by.work ∙ ap (λ s. work_of loaded.bodies s) from.method.at.has.1;
+        method = method.loaded;
+        to = method.is;
+        called = w.2.called;
+      }
+
+  class_there : (name : List ℕ) (c : ℕ) → IsOutlineNamed o name c → c < length p.classes
+  class_there name c h =
+      let x = object_at o loaded.bodies p loaded.objects c h.at.item h.at.is in slice_get_within p.classes c x.0 x.1
+
+  owns_sound : (owns : MetaOwns) → IsIn owns p.owns → IsSoundOwns p owns
+  owns_sound owns in_it =
+      let at = place_in p.owns owns in_it in
+      let w = zip_right (IsOwns o) program.owns p.owns loaded.uses.owned at.0 owns at.1 in
+      record { parent = class_there w.0.parent owns.parent w.2.parent; child = class_there w.0.child owns.child w.2.child }
+
+  -- every class's methods begin with `QObject`'s
+  destroyed_alone_at : (c : ℕ) (method : MetaMethod) → IsMethod p c 1 method → method.sig.types ≡ []
+  destroyed_alone_at c method is =
+      let u = outline_at c is.class is.is_class.is in
+      let h = zip_right (IsMethodOf o loaded.bodies) u.outline.methods is.class.methods u.by.methods 1 method is.is in
+      let root = begins program.classes o outlined.are (suc c) c (omega arith) u.outline u.is in
+      let same_heading : Some h.0 ≡ Some (heading destroyed_alone sort.Signal) = sym h.1 ∙ ap (λ ms. slice_get ms 1) root.1 in
+      ap (λ (s : Sig). s.types) h.2.signed ∙ ap (λ (x : Heading). x.sig.types) (same_Some _ _ same_heading)
+
+  pub sound : IsSound p
+  sound = record {
+    classes = class_sound;
+    distinct_classes = λ i j a b ea eb named.
+        let u = outline_at i a ea in
+        let v = outline_at j b eb in
+        distinct_outlines program o outlined.are outlined.distinct i j u.outline v.outline u.is v.is (sym u.by.named ∙ named ∙ v.by.named);
+    wires = wire_sound;
+    owns = owns_sound;
+    destroyed = destroyed_alone_at;
+  }

@@ -1,0 +1,37 @@
+//! The parts of a program that use names of classes and members.
+
+ghost use Rattle.meta_objects.specs.Loading.{LacksMember, HasUses};
+ghost use Rattle.meta_objects.specs.Parts.{Loads};
+ghost use Rattle.meta_objects.specs.declared.fault.MetaFault.TheVariants as fault;
+
+use crate::fault::MetaFault;
+use crate::load_body::load_bodies;
+use crate::load_wire::{load_owns, load_wires};
+use crate::object::{MetaOwns, MetaWire};
+use crate::outline::Outline;
+use crate::slot_body::SlotBody;
+use class_lang::Program;
+use sqlite_items::Items;
+use std::alloc::Global;
+
+/// The slots' bodies by class, the wires and the owns, their names resolved.
+#[derive(Drop)]
+pub struct Uses {
+    pub bodies: Items<Items<SlotBody>>,
+    pub wires: Items<MetaWire>,
+    pub owns: Items<MetaOwns>,
+}
+
+/// The bodies, the wires and the owns; `NoMember` where a name in one of them isn't there.
+pub fn load_uses(alloc: Global, program: &Program, outlines: &[Outline]) -> Result<Uses, MetaFault>
+    ensures { Loads fault.NoMember (LacksMember program.now outlines.now) (λ uses. HasUses program.now outlines.now uses.bodies uses.wires uses.owns) result }
+{
+    let bodies = load_bodies(alloc, outlines, program.classes.as_slice())?;
+    let wires = load_wires(alloc, outlines, program.wires.as_slice())?;
+    let owns = load_owns(alloc, outlines, program.owns.as_slice())?;
+    Ok(Uses {
+        bodies,
+        wires,
+        owns,
+    })
+}

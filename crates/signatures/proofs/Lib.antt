@@ -1,0 +1,7 @@
+pub mod Words
+pub mod Tokens
+pub mod Closed
+pub mod Unique
+pub mod Reading
+pub mod OneAnswer
+pub mod Spelling

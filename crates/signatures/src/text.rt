@@ -1,0 +1,87 @@
+ghost use Rattle.std.specs.Prelude.{◌≡◌, ◌↔◌, [], IsTrue, IfOk, MatchOption};
+ghost use Rattle.signatures.specs.Text.{IsText, IsTextByte};
+
+use std::alloc::{AllocError, Global};
+use std::marker::Model;
+use std::rc::RcSlice;
+
+/// The most bytes that a text has.
+pub const MOST_BYTES: usize = 255;
+
+/// A text: at most 255 bytes, each from 32 to 126 and none of them 34, the quote. Copies share its bytes.
+#[derive(Drop)]
+pub struct Text {
+    bytes: RcSlice<u8>,
+}
+
+impl Model for Text {
+    ghost use Rattle.std.specs.Prelude.{List, ℕ};
+    ghost use Rattle.std.specs.Rc.{rc_slice_items};
+    ghost use Rattle.signatures.specs.Text.{IsText};
+
+    ghost Value = { List ℕ };
+
+    ghost view = { λ text. rc_slice_items text.bytes };
+
+    ghost invariant = { λ text. IsText (rc_slice_items text.bytes) };
+}
+
+impl Text {
+    /// The text of these bytes, or `None` where a text may not have them.
+    pub fn of(alloc: Global, bytes: &[u8]) -> Result<Option<Text>, AllocError>
+        ensures { IfOk result (λ found. MatchOption found (¬ IsText bytes.now) (λ text. (text ≡ bytes.now) × IsText bytes.now)) }
+    {
+        if is_text(bytes) {
+            let bytes = RcSlice::from_slice(alloc, bytes)?;
+            Ok(Some(Text { bytes }))
+        } else {
+            Ok(None)
+        }
+    }
+
+    /// The text of no bytes.
+    pub fn empty(alloc: Global) -> Result<Text, AllocError>
+        ensures { IfOk result (λ text. text ≡ []) }
+    {
+        let none: [u8; 0] = [];
+        let bytes = RcSlice::from_slice(alloc, none.as_slice())?;
+        Ok(Text { bytes })
+    }
+
+    /// The text's bytes.
+    pub fn bytes(&self) -> &[u8]
+        ensures value { result.now ≡ self.now }
+        ensures text { IsText self.now }
+    {
+        self.bytes.as_slice()
+    }
+
+    /// The same text, which shares the bytes.
+    pub fn copy(&self) -> Result<Text, AllocError>
+        ensures { IfOk result (λ copy. copy ≡ self.now) }
+    {
+        let bytes = self.bytes.clone()?;
+        Ok(Text { bytes })
+    }
+
+    /// Whether both texts have the same bytes.
+    pub fn is_same(&self, other: &Text) -> bool
+        ensures { IsTrue result ↔ (self.now ≡ other.now) }
+    {
+        self.bytes() == other.bytes()
+    }
+}
+
+/// Whether a text may have these bytes.
+pub fn is_text(bytes: &[u8]) -> bool
+    ensures { IsTrue result ↔ IsText bytes.now }
+{
+    bytes.len() <= MOST_BYTES && bytes.iter().all(|byte| is_text_byte(*byte))
+}
+
+/// Whether a text may have the byte: 32 to 126, and not 34.
+pub fn is_text_byte(byte: u8) -> bool
+    ensures { IsTrue result ↔ IsTextByte byte }
+{
+    32 <= byte && byte <= 126 && byte != 34
+}

@@ -1,0 +1,107 @@
+//! Operators between operands: how they are spelled, and how tight they bind.
+
+ghost use Rattle.std.specs.Prelude.{◌≡◌, ◌<◌, List, ◌∷◌, length, MatchOption, OnSome};
+ghost use Rattle.slot_lang.specs.Cursor.{NotAt};
+ghost use Rattle.slot_lang.specs.Precedence.{symbol_of, precedence_of, prefix_symbol_of, NoOperator};
+ghost use Rattle.slot_lang.specs.declared.syntax.Binary.{Binary};
+ghost use Rattle.slot_lang.specs.declared.token.Token.TheVariants as token;
+
+use crate::cursor::Cursor;
+use crate::symbol::Symbol;
+use crate::syntax::Binary;
+use crate::token::Token;
+
+/// How tight an operator binds, the loosest first.
+#[derive(Clone, Copy, Debug, PartialEq, Eq)]
+pub enum Precedence {
+    /// `||`
+    Or,
+    /// `&&`
+    And,
+    /// `==`, `!=`, `<`, `<=`, `>` and `>=`
+    Comparison,
+    /// `+` and `-`
+    Sum,
+    /// `*`
+    Term,
+}
+
+/// How the operator is spelled.
+fn symbol_of(binary: Binary) -> Symbol
+    ensures { result ≡ symbol_of binary }
+{
+    match binary {
+        Binary::Add => Symbol::Plus,
+        Binary::Subtract => Symbol::Minus,
+        Binary::Multiply => Symbol::Star,
+        Binary::Less => Symbol::Less,
+        Binary::AtMost => Symbol::AtMost,
+        Binary::Greater => Symbol::Greater,
+        Binary::AtLeast => Symbol::AtLeast,
+        Binary::Equal => Symbol::Equal,
+        Binary::Different => Symbol::Unequal,
+        Binary::And => Symbol::And,
+        Binary::Or => Symbol::Or,
+    }
+}
+
+/// The operator that is spelled so.
+fn operator_of(symbol: Symbol) -> Option<Binary>
+    ensures { MatchOption result ((binary : Binary) → symbol ≡ symbol_of binary → ⊥) (λ binary. symbol ≡ symbol_of binary) }
+{
+    match symbol {
+        Symbol::Plus => Some(Binary::Add),
+        Symbol::Minus => Some(Binary::Subtract),
+        Symbol::Star => Some(Binary::Multiply),
+        Symbol::Less => Some(Binary::Less),
+        Symbol::AtMost => Some(Binary::AtMost),
+        Symbol::Greater => Some(Binary::Greater),
+        Symbol::AtLeast => Some(Binary::AtLeast),
+        Symbol::Equal => Some(Binary::Equal),
+        Symbol::Unequal => Some(Binary::Different),
+        Symbol::And => Some(Binary::And),
+        Symbol::Or => Some(Binary::Or),
+        _ => None,
+    }
+}
+
+/// How tight the operator binds.
+fn precedence_of(binary: Binary) -> Precedence
+    ensures { result ≡ precedence_of binary }
+{
+    match binary {
+        Binary::Or => Precedence::Or,
+        Binary::And => Precedence::And,
+        Binary::Add => Precedence::Sum,
+        Binary::Subtract => Precedence::Sum,
+        Binary::Multiply => Precedence::Term,
+        _ => Precedence::Comparison,
+    }
+}
+
+impl<'a> Cursor<'a> {
+    /// Takes the operator that binds so tight, if one comes next.
+    pub fn operator(&mut self, precedence: Precedence) -> Option<Binary>
+        ensures found { MatchOption result ((self.new ≡ self.old) × NoOperator precedence self.old) (λ binary. (precedence_of binary ≡ precedence) × (self.old ≡ token.Symbol (symbol_of binary) ∷ self.new)) }
+        ensures shorter { OnSome result (length self.new < length self.old) }
+    {
+        let Some(binary) = next_operator(self.rest()) else {
+            return None;
+        };
+        if precedence_of(binary) == precedence && self.eat(symbol_of(binary)) {
+            Some(binary)
+        } else {
+            None
+        }
+    }
+}
+
+/// The operator with which the tokens begin.
+fn next_operator(tokens: &[Token]) -> Option<Binary>
+    ensures { MatchOption result ((binary : Binary) → NotAt (symbol_of binary) tokens.now) (λ binary. (rest : List Token) × (tokens.now ≡ token.Symbol (symbol_of binary) ∷ rest)) }
+{
+    match tokens.split_first() {
+        Some((Token::Symbol(symbol), _)) => operator_of(*symbol),
+        _ => None,
+    }
+}

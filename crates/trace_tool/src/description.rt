@@ -1,0 +1,36 @@
+//! The command `meta`.
+
+ghost use Rattle.std.specs.Prelude.{IfOk};
+ghost use Rattle.trace_tool.specs.Commands.{MetaWrites, Answers};
+ghost use Rattle.trace_tool.specs.MetaLines.{meta_text};
+ghost use Rattle.trace_tool.specs.Sent.{SendsWith};
+
+use crate::fault::WriteFault;
+use crate::output::Output;
+use crate::run::{load_program, refuse};
+use meta_objects::Meta;
+use std::alloc::Global;
+use std::io::Write;
+
+/// Writes the classes of a program with their members, or why it is refused.
+///
+/// The answer is the exit status: 0 where the classes are written, 2 where the program is refused, 1 for want of memory.
+/// There is a `WriteFault` only where the writer failed; nothing is written after that.
+pub fn meta<W: Write>(alloc: Global, program: &[u8], w: &mut W) -> Result<u8, WriteFault>
+    ensures { IfOk result (λ status. Answers (MetaWrites program.now) (W.contents w.old) (W.contents w.new) status) }
+{
+    match load_program(alloc, program) {
+        Ok(meta) => describe(alloc, &meta, w),
+        Err(refusal) => refuse(alloc, &refusal, w),
+    }
+}
+
+/// Writes the classes of a loaded program.
+fn describe<W: Write>(alloc: Global, meta: &Meta, w: &mut W) -> Result<u8, WriteFault>
+    ensures { IfOk result (λ status. SendsWith (W.contents w.old) (W.contents w.new) (meta_text meta.now) 0 status) }
+{
+    let mut output = Output::new(alloc);
+    output.classes(w, meta)?;
+    output.finish(w)?;
+    Ok(0)
+}
