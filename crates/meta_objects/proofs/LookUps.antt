@@ -3,15 +3,15 @@ use Rattle.std.proofs.Common.{◌≡◌, ℕ, List, length, get_or, ◌<◌, sli
 use Rattle.std.proofs.lemmas.Option.{same_Some, slice_get_read}
 use Rattle.signatures.specs.declared.sig.Sig.{Sig}
 use Rattle.signatures.specs.declared.kind.Kind.{Kind}
-use Rattle.meta_objects.specs.declared.object.MetaObject.{MetaObject}
-use Rattle.meta_objects.specs.declared.object.MetaMethod.{MetaMethod}
-use Rattle.meta_objects.specs.declared.object.MetaProperty.{MetaProperty}
-use Rattle.meta_objects.specs.declared.object.MetaWire.{MetaWire}
-use Rattle.meta_objects.specs.Loaded.{Loaded}
-use Rattle.meta_objects.specs.Places.{StandsAt, IsPlace}
-use Rattle.meta_objects.specs.declared.object.MetaOwns.{MetaOwns}
-use Rattle.meta_objects.specs.Members.{IsClass, IsClassNamed, HasSig, IsMethodNamed, IsPropertyNamed, CoversBy, Covers, OwnsBy, Owns, IsIn}
-use Rattle.meta_objects.proofs.Searches.{answer_of, in_list, place_in}
+use Rattle.meta_model.specs.declared.object.MetaObject.{MetaObject}
+use Rattle.meta_model.specs.declared.object.MetaMethod.{MetaMethod}
+use Rattle.meta_model.specs.declared.object.MetaProperty.{MetaProperty}
+use Rattle.meta_model.specs.declared.object.MetaWire.{MetaWire}
+use Rattle.meta_model.specs.Loaded.{Loaded}
+use Rattle.class_outlines.specs.Places.{StandsAt, IsPlace}
+use Rattle.meta_model.specs.declared.object.MetaOwns.{MetaOwns}
+use Rattle.meta_model.specs.Members.{IsClass, IsClassNamed, HasSig, IsMethodNamed, IsPropertyNamed, CoversBy, Covers, OwnsBy, Owns, IsIn}
+use Rattle.class_outlines.proofs.Searches.{answer_of, in_list, place_in}
 
 module _ (p : Loaded) where
   -- a class has one number

@@ -10,27 +10,29 @@ use Rattle.class_lang.specs.declared.program.Class.{Class}
 use Rattle.class_lang.specs.declared.program.Wire.{Wire}
 use Rattle.class_lang.specs.declared.program.Owns.{Owns}
 use Rattle.class_lang.specs.declared.program.Program.{Program}
-use Rattle.meta_objects.specs.declared.object.ValueType.{ValueType}
-use Rattle.meta_objects.specs.declared.object.Statement.{Statement}
-use Rattle.meta_objects.specs.declared.object.Work.{Work}
-use Rattle.meta_objects.specs.declared.object.MetaMethod.{MetaMethod}
-use Rattle.meta_objects.specs.declared.object.MetaProperty.{MetaProperty}
-use Rattle.meta_objects.specs.declared.object.MetaObject.{MetaObject}
-use Rattle.meta_objects.specs.declared.object.MetaWire.{MetaWire}
-use Rattle.meta_objects.specs.declared.object.MetaOwns.{MetaOwns}
-use Rattle.meta_objects.specs.declared.outline.Heading.{Heading}
-use Rattle.meta_objects.specs.declared.outline.Outline.{Outline}
-use Rattle.meta_objects.specs.Loaded.{Loaded}
-use Rattle.meta_objects.specs.Places.{IsPlace}
-use Rattle.meta_objects.specs.Outlines.{IsOutline, AreOutlines, base_name, own_methods, qobject}
-use Rattle.meta_objects.specs.Kinds.{IsReadAs}
-use Rattle.meta_objects.specs.Conditions.{IsSignalOf}
-use Rattle.meta_objects.specs.Loading.{IsBody, AreBodies, AllBodies, IsMethodOf, IsNotify, IsPropertyOf, IsObject, IsWire, IsOwns, IsLoaded, initial_of}
+use Rattle.meta_model.specs.declared.object.ValueType.{ValueType}
+use Rattle.meta_model.specs.declared.object.Statement.{Statement}
+use Rattle.meta_model.specs.declared.object.Work.{Work}
+use Rattle.meta_model.specs.declared.object.MetaMethod.{MetaMethod}
+use Rattle.meta_model.specs.declared.object.MetaProperty.{MetaProperty}
+use Rattle.meta_model.specs.declared.object.MetaObject.{MetaObject}
+use Rattle.meta_model.specs.declared.object.MetaWire.{MetaWire}
+use Rattle.meta_model.specs.declared.object.MetaOwns.{MetaOwns}
+use Rattle.class_outlines.specs.declared.outline.Heading.{Heading}
+use Rattle.class_outlines.specs.declared.outline.Outline.{Outline}
+use Rattle.meta_model.specs.Loaded.{Loaded}
+use Rattle.class_outlines.specs.Places.{IsPlace}
+use Rattle.class_outlines.specs.Outlines.{IsOutline, AreOutlines, base_name, own_methods, qobject}
+use Rattle.class_outlines.specs.Kinds.{IsReadAs}
+use Rattle.class_outlines.specs.Conditions.{IsSignalOf}
+use Rattle.body_loading.specs.Bodies.{IsBody, AreBodies, AllBodies}
+use Rattle.meta_objects.specs.Loading.{IsMethodOf, IsNotify, IsPropertyOf, IsObject, IsWire, IsOwns, IsLoaded, initial_of}
 use Rattle.meta_objects.specs.Builds.{OneLoading}
-use Rattle.meta_objects.proofs.Searches.{same_first}
-use Rattle.meta_objects.proofs.Named.{first_item, one_end}
-use Rattle.meta_objects.proofs.Bodies.{same_statements}
-use Rattle.meta_objects.proofs.Reading.{same_read}
+use Rattle.class_outlines.proofs.Searches.{same_first}
+use Rattle.class_outlines.proofs.Firsts.{first_item}
+use Rattle.meta_objects.proofs.Ends.{one_end}
+use Rattle.body_loading.proofs.Bodies.{same_statements}
+use Rattle.class_outlines.proofs.Reading.{same_read}
 
 -- two lists that relate to one list in the same way are the same
 pub same_zip : {A B : Type 0} (R : A → B → Type 0) (xs : List A) (ys zs : List B) → ((x : A) (y z : B) → R x y → R x z → y ≡ z) → AllZip R xs ys → AllZip R xs zs → ys ≡ zs

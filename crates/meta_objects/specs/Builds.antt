@@ -1,23 +1,13 @@
 -- When a program loads, and what its meta-objects are (docs/machine.md, "Loading").
-use Rattle.std.specs.Prelude.{◌≡◌, ℕ, List, Result, Option, Some, None, Ok, Err}
+use Rattle.std.specs.Prelude.{◌≡◌, List, Result, Ok, Err}
 use Rattle.class_lang.specs.declared.program.Program.{Program}
-use Rattle.meta_objects.specs.declared.fault.MetaFault.{MetaFault}
-use Rattle.meta_objects.specs.declared.fault.MetaFault.TheVariants as fault
-use Rattle.meta_objects.specs.declared.outline.Outline.{Outline}
-use Rattle.meta_objects.specs.Loaded.{Loaded}
-use Rattle.meta_objects.specs.Outlines.{Outlines}
-use Rattle.meta_objects.specs.Conditions.{DuplicateClass, NoBase, DuplicateMember, BadNotify, NoType}
+use Rattle.class_outlines.specs.declared.fault.MetaFault.{MetaFault}
+use Rattle.class_outlines.specs.declared.fault.MetaFault.TheVariants as fault
+use Rattle.class_outlines.specs.declared.outline.Outline.{Outline}
+use Rattle.meta_model.specs.Loaded.{Loaded}
+use Rattle.class_outlines.specs.Outlines.{Outlines}
+use Rattle.class_outlines.specs.Conditions.{DuplicateClass, NoBase, DuplicateMember, BadNotify, NoType}
 use Rattle.meta_objects.specs.Loading.{LacksMember, IsLoaded}
-
--- the number of a refusal; want of memory has none
-abbrev pub number_of : MetaFault → Option ℕ
-number_of fault.DuplicateClass = Some 10
-number_of fault.NoBase = Some 11
-number_of fault.DuplicateMember = Some 12
-number_of fault.NoMember = Some 13
-number_of fault.BadNotify = Some 14
-number_of fault.NoType = Some 15
-number_of fault.Memory = None
 
 -- class names and bases are as they are to be, so that the classes have these members
 pub record HasOutlines (program : Program) (outlines : List Outline) : Type 0 where

@@ -7,51 +7,29 @@ use Rattle.signatures.specs.declared.sig.Sig.{Sig}
 use Rattle.signatures.specs.declared.value.Value.{Value}
 use Rattle.signatures.specs.declared.value.Value.TheVariants as value
 use Rattle.class_lang.specs.declared.program.Property.{Property}
-use Rattle.class_lang.specs.declared.program.Slot.{Slot}
-use Rattle.class_lang.specs.declared.program.Class.{Class}
 use Rattle.class_lang.specs.declared.program.Wire.{Wire}
 use Rattle.class_lang.specs.declared.program.Owns.{Owns}
 use Rattle.class_lang.specs.declared.program.Program.{Program}
-use Rattle.meta_objects.specs.declared.object.ValueType.{ValueType}
-use Rattle.meta_objects.specs.declared.object.ValueType.TheVariants as type
-use Rattle.meta_objects.specs.declared.object.Statement.{Statement}
-use Rattle.meta_objects.specs.declared.object.Work.{Work}
-use Rattle.meta_objects.specs.declared.object.Work.TheVariants as work
-use Rattle.meta_objects.specs.declared.object.MetaMethod.{MetaMethod}
-use Rattle.meta_objects.specs.declared.object.MetaProperty.{MetaProperty}
-use Rattle.meta_objects.specs.declared.object.MetaObject.{MetaObject}
-use Rattle.meta_objects.specs.declared.object.MetaWire.{MetaWire}
-use Rattle.meta_objects.specs.declared.object.MetaOwns.{MetaOwns}
-use Rattle.meta_objects.specs.declared.outline.Sort.{Sort}
-use Rattle.meta_objects.specs.declared.outline.Sort.TheVariants as sort
-use Rattle.meta_objects.specs.declared.outline.Heading.{Heading}
-use Rattle.meta_objects.specs.declared.outline.Outline.{Outline}
-use Rattle.meta_objects.specs.Loaded.{Loaded}
-use Rattle.meta_objects.specs.Places.{StandsFirst, IsPlace}
-use Rattle.meta_objects.specs.Outlines.{IsOutlineNamed}
-use Rattle.meta_objects.specs.Kinds.{IsReadAs}
-use Rattle.meta_objects.specs.Conditions.{IsSignalOf}
-use Rattle.meta_objects.specs.Bodies.{Scope, scope, AreStatements, LacksInBody}
-
--- ---- bodies
-abbrev pub scope_of : List Outline → Class → Slot → Scope
-scope_of outlines class slot = scope outlines class.name slot.parameters
-
-abbrev pub IsBody : List Outline → Class → Slot → List Statement → Type 0
-IsBody outlines class slot body = AreStatements (scope_of outlines class slot) slot.body body
-
--- the bodies of a class's slots, and of the slots of all classes
-abbrev pub AreBodies : List Outline → Class → List (List Statement) → Type 0
-AreBodies outlines class bodies = AllZip (IsBody outlines class) class.slots bodies
-
-abbrev pub AllBodies : List Outline → List Class → List (List (List Statement)) → Type 0
-AllBodies outlines classes bodies = AllZip (AreBodies outlines) classes bodies
-
-abbrev pub LacksInSlot : List Outline → Class → Slot → Type 0
-LacksInSlot outlines class slot = LacksInBody (scope_of outlines class slot) slot.body
-
-abbrev pub LacksInClass : List Outline → Class → Type 0
-LacksInClass outlines class = Any (LacksInSlot outlines class) class.slots
+use Rattle.meta_model.specs.declared.object.ValueType.{ValueType}
+use Rattle.meta_model.specs.declared.object.ValueType.TheVariants as type
+use Rattle.meta_model.specs.declared.object.Statement.{Statement}
+use Rattle.meta_model.specs.declared.object.Work.{Work}
+use Rattle.meta_model.specs.declared.object.Work.TheVariants as work
+use Rattle.meta_model.specs.declared.object.MetaMethod.{MetaMethod}
+use Rattle.meta_model.specs.declared.object.MetaProperty.{MetaProperty}
+use Rattle.meta_model.specs.declared.object.MetaObject.{MetaObject}
+use Rattle.meta_model.specs.declared.object.MetaWire.{MetaWire}
+use Rattle.meta_model.specs.declared.object.MetaOwns.{MetaOwns}
+use Rattle.class_outlines.specs.declared.outline.Sort.{Sort}
+use Rattle.class_outlines.specs.declared.outline.Sort.TheVariants as sort
+use Rattle.class_outlines.specs.declared.outline.Heading.{Heading}
+use Rattle.class_outlines.specs.declared.outline.Outline.{Outline}
+use Rattle.meta_model.specs.Loaded.{Loaded}
+use Rattle.class_outlines.specs.Places.{StandsFirst, IsPlace}
+use Rattle.class_outlines.specs.Outlines.{IsOutlineNamed}
+use Rattle.class_outlines.specs.Kinds.{IsReadAs}
+use Rattle.class_outlines.specs.Conditions.{IsSignalOf}
+use Rattle.body_loading.specs.Bodies.{AllBodies, LacksInClass}
 
 -- ---- methods
 -- the body of slot j of class i

@@ -5,8 +5,8 @@ use Rattle.signatures.specs.declared.kind.Kind.{Kind}
 use Rattle.signatures.specs.Types.{Fits}
 use Rattle.meta_objects.specs.declared.meta.Wired.{Wired}
 use Rattle.meta_objects.specs.declared.meta.Wired.TheVariants.{No, Unfit, Fit}
-use Rattle.meta_objects.specs.Loaded.{Loaded}
-use Rattle.meta_objects.specs.Members.{Covers}
+use Rattle.meta_model.specs.Loaded.{Loaded}
+use Rattle.meta_model.specs.Members.{Covers}
 
 -- no wire covers the connection; one does, but its slot doesn't fit its signal; one does, and it fits
 abbrev pub IsWired : Loaded → ℕ → Sig → ℕ → Sig → Kind → Wired → Type 0

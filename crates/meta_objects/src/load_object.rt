@@ -2,14 +2,11 @@
 
 ghost use Rattle.std.specs.Prelude.{◌≡◌, ℕ, [], IfOk, option_copied};
 ghost use Rattle.std.specs.List.{AllZip};
-ghost use Rattle.meta_objects.specs.Loading.{IsMethodOf, IsPropertyOf, IsObject, work_of, body_at, found_body, default, initial_of};
+ghost use Rattle.meta_objects.specs.Loading.{IsMethodOf, IsNotify, IsPropertyOf, IsObject, work_of, body_at, found_body, default, initial_of};
 
-use crate::kinds::{read_kind, read_kinds};
-use crate::notify::notify_of;
-use crate::object::{MetaMethod, MetaObject, MetaProperty, ValueType, Work};
-use crate::outline::{Heading, Outline, Sort};
-use crate::slot_body::SlotBody;
 use class_lang::Property;
+use class_outlines::{Heading, Outline, Sort, place_of_signal, read_kind, read_kinds};
+use meta_model::{MetaMethod, MetaObject, MetaProperty, SlotBody, ValueType, Work};
 use signatures::{Text, Value};
 use sqlite_items::Items;
 use std::alloc::{AllocError, Global};
@@ -165,6 +162,16 @@ fn load_property(
         initial,
         notify,
     })
+}
+
+/// The number of the notify signal, if one is given and is there.
+fn notify_of(outline: &Outline, declared: &Property) -> Option<usize>
+    ensures { IsNotify outline.now declared.now.notify result }
+{
+    match &declared.notify {
+        Some(sig) => place_of_signal(outline.methods.as_slice(), sig),
+        None => None,
+    }
 }
 
 /// The value that a property of this type has at first, where this literal is given for it.

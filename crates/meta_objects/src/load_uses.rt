@@ -1,16 +1,14 @@
 //! The parts of a program that use names of classes and members.
 
 ghost use Rattle.meta_objects.specs.Loading.{LacksMember, HasUses};
-ghost use Rattle.meta_objects.specs.Parts.{Loads};
-ghost use Rattle.meta_objects.specs.declared.fault.MetaFault.TheVariants as fault;
+ghost use Rattle.class_outlines.specs.Parts.{Loads};
+ghost use Rattle.class_outlines.specs.declared.fault.MetaFault.TheVariants as fault;
 
-use crate::fault::MetaFault;
-use crate::load_body::load_bodies;
 use crate::load_wire::{load_owns, load_wires};
-use crate::object::{MetaOwns, MetaWire};
-use crate::outline::Outline;
-use crate::slot_body::SlotBody;
+use body_loading::load_bodies;
 use class_lang::Program;
+use class_outlines::{MetaFault, Outline};
+use meta_model::{MetaOwns, MetaWire, SlotBody};
 use sqlite_items::Items;
 use std::alloc::Global;
 

@@ -2,18 +2,15 @@
 
 ghost use Rattle.std.specs.Prelude.{◌≡◌, ℕ, Any, MatchOption};
 ghost use Rattle.std.specs.List.{AllZip};
-ghost use Rattle.meta_objects.specs.Conditions.{IsSignalOf};
+ghost use Rattle.class_outlines.specs.Conditions.{IsSignalOf};
 ghost use Rattle.meta_objects.specs.Loading.{IsSigned, IsEnd, IsWire, IsOwns, LacksEnd, LacksClass};
-ghost use Rattle.meta_objects.specs.Parts.{Loads};
-ghost use Rattle.meta_objects.specs.Places.{IsPlace};
-ghost use Rattle.meta_objects.specs.declared.fault.MetaFault.TheVariants as fault;
+ghost use Rattle.class_outlines.specs.Parts.{Loads};
+ghost use Rattle.class_outlines.specs.Places.{IsPlace};
+ghost use Rattle.class_outlines.specs.declared.fault.MetaFault.TheVariants as fault;
 
-use crate::fault::MetaFault;
-use crate::notify::place_of_signal;
-use crate::object::{MetaOwns, MetaWire};
-use crate::outline::{Heading, Outline};
-use crate::places::{find, place_of};
 use class_lang::{Owns, Wire};
+use class_outlines::{Heading, MetaFault, Outline, find, place_of, place_of_signal};
+use meta_model::{MetaOwns, MetaWire};
 use signatures::{Name, Sig};
 use sqlite_items::Items;
 use std::alloc::Global;

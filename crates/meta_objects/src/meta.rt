@@ -1,23 +1,22 @@
 ghost use Rattle.std.specs.Prelude.{◌≡◌, ◌<◌, ℕ, List, IsTrue, ◌↔◌, IfSome, MatchOption, option_copied, slice_get, Option, Some};
 ghost use Rattle.meta_objects.specs.Builds.{Builds};
-ghost use Rattle.meta_objects.specs.Members.{IsClass, IsClassNamed, IsMethod, HasSig, IsMethodNamed, IsPropertyNamed, base_of, method_count, method_offset, Below, CoversBy, Covers, OwnsBy, Owns};
-ghost use Rattle.meta_objects.specs.Sound.{IsSound, IsSoundClass, IsSoundMethod};
-ghost use Rattle.meta_objects.specs.Values.{Has};
+ghost use Rattle.meta_model.specs.Members.{IsClass, IsClassNamed, IsMethod, HasSig, IsMethodNamed, IsPropertyNamed, base_of, method_count, method_offset, Below, CoversBy, Covers, OwnsBy, Owns};
+ghost use Rattle.meta_model.specs.Sound.{IsSound, IsSoundClass, IsSoundMethod};
+ghost use Rattle.meta_model.specs.Values.{Has};
 ghost use Rattle.meta_objects.specs.Wiring.{IsWired};
-ghost use Rattle.meta_objects.specs.declared.object.MetaMethod.{MetaMethod};
-ghost use Rattle.meta_objects.specs.declared.object.MetaObject.{MetaObject};
+ghost use Rattle.meta_model.specs.declared.object.MetaMethod.{MetaMethod};
+ghost use Rattle.meta_model.specs.declared.object.MetaObject.{MetaObject};
 ghost use Rattle.signatures.specs.declared.value.Value.TheVariants.{Ref};
 
-use crate::clashes::{has_duplicate_class, has_duplicate_member};
-use crate::fault::MetaFault;
-use crate::kinds::has_no_type;
 use crate::load_object::load_objects;
 use crate::load_uses::{Uses, load_uses};
-use crate::notify::has_bad_notify;
-use crate::object::{MetaMethod, MetaObject, MetaOwns, MetaWire, ValueType};
-use crate::outlining::outline_classes;
-use crate::places::{place_of, place_of_method, place_of_sig};
+use crate::method_places::{place_of_method, place_of_sig};
 use class_lang::Program;
+use class_outlines::{
+    MetaFault, has_bad_notify, has_duplicate_class, has_duplicate_member, has_no_type,
+    outline_classes, place_of,
+};
+use meta_model::{MetaMethod, MetaObject, MetaOwns, MetaWire, ValueType};
 use signatures::{Kind, Name, ObjectId, Sig, Value, fits};
 use sqlite_items::Items;
 use std::alloc::Global;
@@ -32,9 +31,9 @@ pub struct Meta {
 }
 
 impl Model for Meta {
-    ghost use Rattle.meta_objects.specs.Loaded.{Loaded};
-    ghost use Rattle.meta_objects.specs.Sound.{IsSound};
-    ghost use Rattle.meta_objects.specs.contracts.object.Statement as statement;
+    ghost use Rattle.meta_model.specs.Loaded.{Loaded};
+    ghost use Rattle.meta_model.specs.Sound.{IsSound};
+    ghost use Rattle.meta_model.specs.contracts.object.Statement as statement;
     ghost use Rattle.std.specs.Coded.{codes};
 
     ghost Value = { Loaded };

@@ -4,15 +4,15 @@ use Rattle.std.specs.Result.{IsErrAnd}
 use Rattle.std.specs.List.{AllByRecursion, find}
 use Rattle.std.proofs.lemmas.Bool.{eqb-true}
 use Rattle.signatures.specs.declared.value.Value.{Value}
-use Rattle.meta_objects.specs.declared.object.MetaMethod.{MetaMethod}
-use Rattle.meta_objects.specs.declared.object.MetaObject.{MetaObject}
-use Rattle.meta_objects.specs.declared.object.Statement.{Statement}
-use Rattle.meta_objects.specs.declared.object.ValueType.{ValueType}
-use Rattle.meta_objects.specs.declared.object.Work.{Work}
-use Rattle.meta_objects.specs.declared.object.Work.TheVariants.{Signal, Slot}
-use Rattle.meta_objects.specs.Loaded.{Loaded}
-use Rattle.meta_objects.specs.Members.{IsClass, IsMethod}
-use Rattle.meta_objects.specs.Values.{HaveTypes}
+use Rattle.meta_model.specs.declared.object.MetaMethod.{MetaMethod}
+use Rattle.meta_model.specs.declared.object.MetaObject.{MetaObject}
+use Rattle.meta_model.specs.declared.object.Statement.{Statement}
+use Rattle.meta_model.specs.declared.object.ValueType.{ValueType}
+use Rattle.meta_model.specs.declared.object.Work.{Work}
+use Rattle.meta_model.specs.declared.object.Work.TheVariants.{Signal, Slot}
+use Rattle.meta_model.specs.Loaded.{Loaded}
+use Rattle.meta_model.specs.Members.{IsClass, IsMethod}
+use Rattle.meta_model.specs.Values.{HaveTypes}
 use Rattle.qt_runtime.specs.declared.connections.Connection.{Connection}
 use Rattle.qt_runtime.specs.declared.entry.Entry.{Entry}
 use Rattle.qt_runtime.specs.declared.fault.Fault.{Fault}

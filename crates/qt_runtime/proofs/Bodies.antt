@@ -4,12 +4,12 @@ use Rattle.std.specs.Result.{IsErrAnd}
 use Rattle.signatures.specs.declared.value.Value.{Value}
 use Rattle.signatures.specs.declared.value.Value.TheVariants as value
 use Rattle.slot_lang.specs.declared.syntax.Expr.{Expr}
-use Rattle.meta_objects.specs.declared.object.MetaPath.{MetaPath}
-use Rattle.meta_objects.specs.declared.object.Statement.{Statement}
-use Rattle.meta_objects.specs.declared.object.Statement.TheVariants.{Set, Emit as EmitStatement, Call, If, outs-Set, outs-Emit, outs-Call, outs-If}
-use Rattle.meta_objects.specs.declared.object.Statement.TheOpen as layer
-use Rattle.meta_objects.specs.declared.object.Statement.TheViews.{out-Statement}
-use Rattle.meta_objects.specs.Loaded.{Loaded}
+use Rattle.meta_model.specs.declared.object.MetaPath.{MetaPath}
+use Rattle.meta_model.specs.declared.object.Statement.{Statement}
+use Rattle.meta_model.specs.declared.object.Statement.TheVariants.{Set, Emit as EmitStatement, Call, If, outs-Set, outs-Emit, outs-Call, outs-If}
+use Rattle.meta_model.specs.declared.object.Statement.TheOpen as layer
+use Rattle.meta_model.specs.declared.object.Statement.TheViews.{out-Statement}
+use Rattle.meta_model.specs.Loaded.{Loaded}
 use Rattle.expressions.specs.declared.evaluation.EvalFault.{EvalFault}
 use Rattle.expressions.specs.declared.evaluation.EvalFault.TheVariants as eval
 use Rattle.expressions.specs.Evaluation.{Evaluates, EvaluatesAll}

@@ -2,13 +2,13 @@
 use Rattle.std.proofs.Common.{◌≡◌, ◌≢◌, ◌⊎◌, inl, inr, ℕ, zero, suc, ◌+◌, ◌<◌, ◌≤◌, List, [], ◌∷◌, ◌++◌, length, take, map, Option, Some, None, slice_get, slice_set, refl, sym, ap, ◌∙◌, subst, arith}
 use Rattle.std.proofs.lemmas.Option.{slice_get_within}
 use Rattle.signatures.specs.declared.value.Value.{Value}
-use Rattle.meta_objects.specs.declared.object.ValueType.{ValueType}
-use Rattle.meta_objects.specs.declared.object.MetaObject.{MetaObject}
-use Rattle.meta_objects.specs.declared.object.MetaMethod.{MetaMethod}
-use Rattle.meta_objects.specs.declared.object.MetaProperty.{MetaProperty}
-use Rattle.meta_objects.specs.Loaded.{Loaded}
-use Rattle.meta_objects.specs.Members.{IsClass, IsMethod}
-use Rattle.meta_objects.specs.Values.{Has, HaveTypes}
+use Rattle.meta_model.specs.declared.object.ValueType.{ValueType}
+use Rattle.meta_model.specs.declared.object.MetaObject.{MetaObject}
+use Rattle.meta_model.specs.declared.object.MetaMethod.{MetaMethod}
+use Rattle.meta_model.specs.declared.object.MetaProperty.{MetaProperty}
+use Rattle.meta_model.specs.Loaded.{Loaded}
+use Rattle.meta_model.specs.Members.{IsClass, IsMethod}
+use Rattle.meta_model.specs.Values.{Has, HaveTypes}
 use Rattle.qt_runtime.specs.declared.object_tree.Object.{Object}
 use Rattle.qt_runtime.specs.Objects.{written, shapes_of, class_of}
 use Rattle.qt_runtime.specs.Good.{ArgumentsFit, AreTyped, IsTyped}

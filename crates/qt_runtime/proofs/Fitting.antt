@@ -3,13 +3,13 @@ use Rattle.std.proofs.Common.{◌≡◌, ◌≢◌, ℕ, zero, suc, Bool, true, 
 use Rattle.std.specs.List.{AllZip}
 use Rattle.signatures.specs.declared.qtype.QType.{QType}
 use Rattle.signatures.specs.Types.{Fits, value_type}
-use Rattle.meta_objects.specs.declared.object.MetaMethod.{MetaMethod}
-use Rattle.meta_objects.specs.declared.object.MetaObject.{MetaObject}
-use Rattle.meta_objects.specs.declared.object.ValueType.{ValueType}
-use Rattle.meta_objects.specs.declared.object.ValueType.TheVariants as kind
-use Rattle.meta_objects.specs.Loaded.{Loaded}
-use Rattle.meta_objects.specs.Members.{IsMethod}
-use Rattle.meta_objects.specs.Sound.{IsKind, IsSound, AreDistinctClasses}
+use Rattle.meta_model.specs.declared.object.MetaMethod.{MetaMethod}
+use Rattle.meta_model.specs.declared.object.MetaObject.{MetaObject}
+use Rattle.meta_model.specs.declared.object.ValueType.{ValueType}
+use Rattle.meta_model.specs.declared.object.ValueType.TheVariants as kind
+use Rattle.meta_model.specs.Loaded.{Loaded}
+use Rattle.meta_model.specs.Members.{IsMethod}
+use Rattle.meta_model.specs.Sound.{IsKind, IsSound, AreDistinctClasses}
 use Rattle.qt_runtime.specs.Events.{named_signal}
 
 -- of what `int`, `bool` and `QString` differ

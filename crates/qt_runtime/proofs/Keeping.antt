@@ -2,8 +2,8 @@
 use Rattle.std.proofs.Common.{◌≡◌, ℕ, ◌+◌, ◌-◌, ◌<◌, ◌^◌, List, [], ◌∷◌, ◌++◌, Result, Ok, Err, sym, subst, arith}
 use Rattle.std.specs.List.{AllByRecursion}
 use Rattle.script_lang.specs.declared.event.Connect.{Connect as Connecting}
-use Rattle.meta_objects.specs.declared.object.MetaObject.{MetaObject}
-use Rattle.meta_objects.specs.Loaded.{Loaded}
+use Rattle.meta_model.specs.declared.object.MetaObject.{MetaObject}
+use Rattle.meta_model.specs.Loaded.{Loaded}
 use Rattle.qt_runtime.specs.declared.connections.Connection.{Connection}
 use Rattle.qt_runtime.specs.declared.fault.Fault.{Fault}
 use Rattle.qt_runtime.specs.declared.fault.Fault.TheVariants.{BadType, TooDeep, Steps, Memory, Stopped}

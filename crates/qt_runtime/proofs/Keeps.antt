@@ -3,13 +3,13 @@ use Rattle.std.proofs.Common.{◌≡◌, ℕ, zero, suc, ◌+◌, ◌<◌, ◌�
 use Rattle.signatures.specs.declared.value.Value.{Value}
 use Rattle.signatures.specs.declared.value.Value.TheVariants as value
 use Rattle.script_lang.specs.declared.event.Event.{Event}
-use Rattle.meta_objects.specs.Loaded.{Loaded}
-use Rattle.meta_objects.specs.declared.object.Statement.{Statement}
-use Rattle.meta_objects.specs.declared.object.Statement.TheOpen as layer
-use Rattle.meta_objects.specs.declared.object.Statement.TheViews.{out-Statement}
-use Rattle.meta_objects.specs.declared.object.Work.{Work}
-use Rattle.meta_objects.specs.declared.object.Work.TheVariants.{Signal, Slot}
-use Rattle.meta_objects.specs.declared.object.MetaMethod.{MetaMethod}
+use Rattle.meta_model.specs.Loaded.{Loaded}
+use Rattle.meta_model.specs.declared.object.Statement.{Statement}
+use Rattle.meta_model.specs.declared.object.Statement.TheOpen as layer
+use Rattle.meta_model.specs.declared.object.Statement.TheViews.{out-Statement}
+use Rattle.meta_model.specs.declared.object.Work.{Work}
+use Rattle.meta_model.specs.declared.object.Work.TheVariants.{Signal, Slot}
+use Rattle.meta_model.specs.declared.object.MetaMethod.{MetaMethod}
 use Rattle.qt_runtime.specs.declared.object_tree.Object.{Object}
 use Rattle.qt_runtime.specs.declared.connections.Connection.{Connection}
 use Rattle.qt_runtime.specs.declared.fault.Fault.{Fault}
@@ -18,7 +18,7 @@ use Rattle.qt_runtime.specs.Objects.{Shape, shapes_of, written}
 use Rattle.qt_runtime.specs.Paths.{path_value, value_of, values_of}
 use Rattle.qt_runtime.specs.State.{State, Place, Activation, Body, Emit, Update}
 use Rattle.qt_runtime.specs.Rules.{Rule, RuleAt, BodyRule, StatementRule, EmitRule, UpdateRule, OnObject, Chooses, Begins, Writes, Notifies, Uses, begun, on_null, next_connection}
-use Rattle.meta_objects.specs.Values.{HaveTypes}
+use Rattle.meta_model.specs.Values.{HaveTypes}
 use Rattle.qt_runtime.specs.Good.{AreTyped, ArgumentsFit}
 use Rattle.qt_runtime.specs.Runs.{Runs, done, then, Follows, by_rule, by_event}
 use Rattle.qt_runtime.specs.Sound.{Sound, Joined}
@@ -27,7 +27,7 @@ use Rattle.qt_runtime.specs.Goes.{Goes, Breaks, Ends, Same}
 use Rattle.qt_runtime.proofs.Shapes.{shapes-written, shape-there, shape-of-there, classes-same}
 use Rattle.std.specs.List.{AllByRecursion}
 use Rattle.std.proofs.Common.{Result, Ok, Err}
-use Rattle.meta_objects.specs.Members.{IsMethod}
+use Rattle.meta_model.specs.Members.{IsMethod}
 
 -- from s to t objects keep their shapes, and connections and numbers stay
 pub record Kept (s t : State) : Type 0 where

@@ -3,12 +3,12 @@ use Rattle.std.proofs.Common.{◌≡◌, ℕ, zero, suc, ◌⊎◌, List, [], �
 use Rattle.std.specs.List.{AllByRecursion}
 use Rattle.std.proofs.lemmas.List.Elements.{All-from_recursion, recursion_from_All}
 use Rattle.signatures.specs.declared.value.Value.{Value}
-use Rattle.meta_objects.specs.declared.object.MetaObject.{MetaObject}
-use Rattle.meta_objects.specs.declared.object.MetaProperty.{MetaProperty}
-use Rattle.meta_objects.specs.declared.object.ValueType.{ValueType}
-use Rattle.meta_objects.specs.Loaded.{Loaded}
-use Rattle.meta_objects.specs.Members.{IsClass}
-use Rattle.meta_objects.specs.Values.{Has, number_has, truth_has, text_has, null_has, object_has, HaveTypes}
+use Rattle.meta_model.specs.declared.object.MetaObject.{MetaObject}
+use Rattle.meta_model.specs.declared.object.MetaProperty.{MetaProperty}
+use Rattle.meta_model.specs.declared.object.ValueType.{ValueType}
+use Rattle.meta_model.specs.Loaded.{Loaded}
+use Rattle.meta_model.specs.Members.{IsClass}
+use Rattle.meta_model.specs.Values.{Has, number_has, truth_has, text_has, null_has, object_has, HaveTypes}
 use Rattle.qt_runtime.specs.declared.object_tree.Object.{Object}
 use Rattle.qt_runtime.specs.Objects.{class_of}
 use Rattle.qt_runtime.specs.Good.{IsTyped, AreTyped}

@@ -4,11 +4,11 @@ use Rattle.std.proofs.lemmas.Bool.{eqb-true}
 use Rattle.std.proofs.Common.{◌≡◌, ℕ, zero, suc, ℤ, Bool, true, ◌↔◌, IsTrue, List, [], ◌∷◌, ◌++◌, map, length, Option, Some, None, slice_get, refl, sym, ◌∙◌, subst, arith}
 use Rattle.signatures.specs.declared.value.Value.{Value}
 use Rattle.signatures.specs.declared.value.Value.TheVariants.{Int, Bool as Truth, Text, Ref}
-use Rattle.meta_objects.specs.declared.object.ValueType.{ValueType}
-use Rattle.meta_objects.specs.declared.object.ValueType.TheVariants as type
-use Rattle.meta_objects.specs.Loaded.{Loaded}
-use Rattle.meta_objects.specs.Members.{Below}
-use Rattle.meta_objects.specs.Values.{Has, number_has, truth_has, text_has, null_has, object_has, HaveTypes}
+use Rattle.meta_model.specs.declared.object.ValueType.{ValueType}
+use Rattle.meta_model.specs.declared.object.ValueType.TheVariants as type
+use Rattle.meta_model.specs.Loaded.{Loaded}
+use Rattle.meta_model.specs.Members.{Below}
+use Rattle.meta_model.specs.Values.{Has, number_has, truth_has, text_has, null_has, object_has, HaveTypes}
 
 module _ {p : Loaded} {class : ℕ → Option ℕ} {v : Value} {k : ValueType} where
   -- what two values and types that are equal have

@@ -7,17 +7,17 @@ use Rattle.signatures.specs.Types.{Fits}
 use Rattle.script_lang.specs.declared.event.Connect.{Connect as Connecting}
 use Rattle.script_lang.specs.declared.event.Input.{Input}
 use Rattle.script_lang.specs.declared.event.Event.TheVariants.{Connect, Emit}
-use Rattle.meta_objects.specs.declared.object.MetaMethod.{MetaMethod}
-use Rattle.meta_objects.specs.declared.object.Work.TheVariants.{Signal}
-use Rattle.meta_objects.specs.Loaded.{Loaded}
-use Rattle.meta_objects.specs.Members.{IsMethod, IsMethodNamed, HasSig, Covers}
+use Rattle.meta_model.specs.declared.object.MetaMethod.{MetaMethod}
+use Rattle.meta_model.specs.declared.object.Work.TheVariants.{Signal}
+use Rattle.meta_model.specs.Loaded.{Loaded}
+use Rattle.meta_model.specs.Members.{IsMethod, IsMethodNamed, HasSig, Covers}
 use Rattle.qt_runtime.specs.declared.object_tree.Object.{Object}
-use Rattle.meta_objects.specs.Values.{HaveTypes}
+use Rattle.meta_model.specs.Values.{HaveTypes}
 use Rattle.qt_runtime.specs.Objects.{IsNamed, IsFree, class_of}
 use Rattle.qt_runtime.specs.State.{State}
 use Rattle.qt_runtime.specs.Events.{conditions, Pass, Refuse, IsThere, HasSignal, HasMethod, IsWired, HasSignalNamed, MayBeEmitted, TakesValues, named_signal, values_of}
 use Rattle.qt_runtime.specs.Taking.{IsJoint, IsFound}
-use Rattle.meta_objects.specs.Sound.{IsSound}
+use Rattle.meta_model.specs.Sound.{IsSound}
 use Rattle.qt_runtime.proofs.Fields.{method-unique}
 use Rattle.qt_runtime.proofs.Fitting.{kinds-fit}
 

@@ -1,16 +1,16 @@
 -- How properties are written, and what is notified.
 use Rattle.std.proofs.Common.{◌≡◌, ◌≢◌, ℕ, zero, suc, ◌+◌, ◌-◌, ◌<◌, ◌≤◌, ◌⊎◌, inl, inr, List, [], ◌∷◌, ◌++◌, length, take, map, Result, Ok, Err, Option, Some, None, slice_get, slice_set, refl, sym, ap, ◌∙◌, subst, arith}
 use Rattle.signatures.specs.declared.value.Value.{Value}
-use Rattle.meta_objects.specs.declared.object.MetaMethod.{MetaMethod}
-use Rattle.meta_objects.specs.declared.object.MetaObject.{MetaObject}
-use Rattle.meta_objects.specs.declared.object.MetaProperty.{MetaProperty}
-use Rattle.meta_objects.specs.declared.object.ValueType.{ValueType}
-use Rattle.meta_objects.specs.declared.object.Work.{Work}
-use Rattle.meta_objects.specs.declared.object.Work.TheVariants.{Signal, Slot}
-use Rattle.meta_objects.specs.Loaded.{Loaded}
-use Rattle.meta_objects.specs.Members.{IsClass, IsMethod}
-use Rattle.meta_objects.specs.Values.{Has, HaveTypes}
-use Rattle.meta_objects.specs.Sound.{IsSoundProperty, IsNotifier}
+use Rattle.meta_model.specs.declared.object.MetaMethod.{MetaMethod}
+use Rattle.meta_model.specs.declared.object.MetaObject.{MetaObject}
+use Rattle.meta_model.specs.declared.object.MetaProperty.{MetaProperty}
+use Rattle.meta_model.specs.declared.object.ValueType.{ValueType}
+use Rattle.meta_model.specs.declared.object.Work.{Work}
+use Rattle.meta_model.specs.declared.object.Work.TheVariants.{Signal, Slot}
+use Rattle.meta_model.specs.Loaded.{Loaded}
+use Rattle.meta_model.specs.Members.{IsClass, IsMethod}
+use Rattle.meta_model.specs.Values.{Has, HaveTypes}
+use Rattle.meta_model.specs.Sound.{IsSoundProperty, IsNotifier}
 use Rattle.qt_runtime.specs.declared.entry.Entry.{Entry}
 use Rattle.qt_runtime.specs.declared.entry.Entry.TheVariants.{Written}
 use Rattle.qt_runtime.specs.declared.fault.Fault.{Fault}

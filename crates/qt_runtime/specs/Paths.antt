@@ -6,12 +6,12 @@ use Rattle.signatures.specs.declared.value.Value.TheVariants as value
 use Rattle.slot_lang.specs.declared.syntax.Expr.{Expr}
 use Rattle.expressions.specs.Evaluation
 use Rattle.expressions.specs.Evaluation.{values}
-use Rattle.meta_objects.specs.declared.object.MetaPath.{MetaPath}
-use Rattle.meta_objects.specs.declared.object.MetaRoot.{MetaRoot}
-use Rattle.meta_objects.specs.declared.object.MetaRoot.TheVariants.{This, Parameter}
-use Rattle.meta_objects.specs.declared.object.Step.{Step}
-use Rattle.meta_objects.specs.declared.object.ValueType.{ValueType}
-use Rattle.meta_objects.specs.declared.object.ValueType.TheVariants as kind
+use Rattle.meta_model.specs.declared.object.MetaPath.{MetaPath}
+use Rattle.meta_model.specs.declared.object.MetaRoot.{MetaRoot}
+use Rattle.meta_model.specs.declared.object.MetaRoot.TheVariants.{This, Parameter}
+use Rattle.meta_model.specs.declared.object.Step.{Step}
+use Rattle.meta_model.specs.declared.object.ValueType.{ValueType}
+use Rattle.meta_model.specs.declared.object.ValueType.TheVariants as kind
 use Rattle.qt_runtime.specs.declared.object_tree.Object.{Object}
 use Rattle.qt_runtime.specs.Objects.{stored}
 

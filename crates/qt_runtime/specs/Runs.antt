@@ -1,7 +1,7 @@
 -- Runs of the machine (docs/machine.md, "Runs").
 use Rattle.std.specs.Prelude.{◌≡◌, ◌≢◌, ℕ, suc, ◌<◌, ◌≤◌, ◌⊎◌, List, [], ◌∷◌, length}
 use Rattle.script_lang.specs.declared.event.Event.{Event}
-use Rattle.meta_objects.specs.Loaded.{Loaded}
+use Rattle.meta_model.specs.Loaded.{Loaded}
 use Rattle.qt_runtime.specs.declared.fault.Fault.{Fault}
 use Rattle.qt_runtime.specs.declared.fault.Fault.TheVariants.{BadType, TooDeep, Steps, Memory, Stopped}
 use Rattle.qt_runtime.specs.State.{State}

@@ -1,7 +1,7 @@
 -- What contracts see of a machine, and what its calls do (docs/machine.md, "Runs").
 use Rattle.std.specs.Prelude.{◌≡◌, ℕ, ◌⊎◌, Bool, false, true, List, [], ◌∷◌, ◌++◌, Result, Ok, Err}
 use Rattle.script_lang.specs.declared.event.Event.{Event}
-use Rattle.meta_objects.specs.Loaded.{Loaded}
+use Rattle.meta_model.specs.Loaded.{Loaded}
 use Rattle.qt_runtime.specs.declared.world.World.{World}
 use Rattle.qt_runtime.specs.declared.fault.Answer.{Answer}
 use Rattle.qt_runtime.specs.declared.fault.Answer.TheVariants as answer

@@ -2,10 +2,10 @@
 -- what a connection calls takes the first arguments of its signal (docs/machine.md, "What every run keeps").
 use Rattle.std.specs.Prelude.{◌≡◌, List, ◌++◌, Some, slice_get}
 use Rattle.std.specs.List.{AllByRecursion}
-use Rattle.meta_objects.specs.declared.object.MetaMethod.{MetaMethod}
-use Rattle.meta_objects.specs.declared.object.ValueType.{ValueType}
-use Rattle.meta_objects.specs.Loaded.{Loaded}
-use Rattle.meta_objects.specs.Members.{IsMethod}
+use Rattle.meta_model.specs.declared.object.MetaMethod.{MetaMethod}
+use Rattle.meta_model.specs.declared.object.ValueType.{ValueType}
+use Rattle.meta_model.specs.Loaded.{Loaded}
+use Rattle.meta_model.specs.Members.{IsMethod}
 use Rattle.qt_runtime.specs.declared.connections.Connection.{Connection}
 use Rattle.qt_runtime.specs.declared.object_tree.Object.{Object}
 use Rattle.qt_runtime.specs.Good.{AreTyped}

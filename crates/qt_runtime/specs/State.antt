@@ -1,7 +1,7 @@
 -- The machine's state (docs/machine.md, "The state").
 use Rattle.std.specs.Prelude.{ℕ, List, [], ◌∷◌, length}
 use Rattle.signatures.specs.declared.value.Value.{Value}
-use Rattle.meta_objects.specs.declared.object.Statement.{Statement}
+use Rattle.meta_model.specs.declared.object.Statement.{Statement}
 use Rattle.qt_runtime.specs.declared.object_tree.Object.{Object}
 use Rattle.qt_runtime.specs.declared.connections.Connection.{Connection}
 use Rattle.qt_runtime.specs.declared.entry.Entry.{Entry}

@@ -1,8 +1,8 @@
 //! Bodies of slots, and their statements.
 
 ghost use Rattle.std.specs.Prelude.{◌≡◌, ℕ, ◌<◌, ◌++◌, ◌∷◌, [], List};
-ghost use Rattle.meta_objects.specs.declared.object.Statement.{Statement as AStatement};
-ghost use Rattle.meta_objects.specs.declared.object.Statement.TheVariants.{Set, Emit as EmitStatement, Call, If};
+ghost use Rattle.meta_model.specs.declared.object.Statement.{Statement as AStatement};
+ghost use Rattle.meta_model.specs.declared.object.Statement.TheVariants.{Set, Emit as EmitStatement, Call, If};
 ghost use Rattle.qt_runtime.specs.Sound.{Sound};
 ghost use Rattle.qt_runtime.specs.State.{Body};
 ghost use Rattle.qt_runtime.specs.Goes.{Ends, Notes, noted, chosen_of};

@@ -3,9 +3,9 @@
 ghost use Rattle.std.specs.Prelude.{◌≡◌, ◌≢◌, ◌↔◌, ℕ, [], List, length, IfOk, IfErr, IsTrue, MatchOption};
 ghost use Rattle.script_lang.specs.declared.event.Input.{Input as AnInput};
 ghost use Rattle.script_lang.specs.declared.event.Event.TheVariants.{New, Emit};
-ghost use Rattle.meta_objects.specs.Members.{IsClassNamed, IsMethod};
-ghost use Rattle.meta_objects.specs.declared.object.MetaMethod.{MetaMethod as AMetaMethod};
-ghost use Rattle.meta_objects.specs.declared.object.Work.TheVariants.{Signal};
+ghost use Rattle.meta_model.specs.Members.{IsClassNamed, IsMethod};
+ghost use Rattle.meta_model.specs.declared.object.MetaMethod.{MetaMethod as AMetaMethod};
+ghost use Rattle.meta_model.specs.declared.object.Work.TheVariants.{Signal};
 ghost use Rattle.qt_runtime.specs.declared.object_tree.Object.{Object as AnObject};
 ghost use Rattle.qt_runtime.specs.Objects.{IsNamed, IsFree};
 ghost use Rattle.qt_runtime.specs.Events.{conditions, Pass, Refuse, values_of};

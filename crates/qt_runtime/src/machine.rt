@@ -21,7 +21,7 @@ pub struct Machine {
 
 impl Model for Machine {
     ghost use Rattle.std.specs.Coded.{codes};
-    ghost use Rattle.meta_objects.specs.contracts.object.Statement as statement;
+    ghost use Rattle.meta_model.specs.contracts.object.Statement as statement;
     ghost use Rattle.qt_runtime.specs.Seen.{Seen};
     ghost use Rattle.qt_runtime.specs.Taking.{IsKept};
 

@@ -1,11 +1,11 @@
 //! A program with its natives, and what its numbers lead to.
 
 ghost use Rattle.std.specs.Prelude.{◌≡◌, ◌≤◌, IfSome, IfOk, MatchOption, take};
-ghost use Rattle.meta_objects.specs.declared.object.MetaMethod.{MetaMethod as AMetaMethod};
-ghost use Rattle.meta_objects.specs.declared.object.MetaProperty.{MetaProperty as AMetaProperty};
-ghost use Rattle.meta_objects.specs.Members.{IsClass};
-ghost use Rattle.meta_objects.specs.declared.object.MetaObject.{MetaObject as AMetaObject};
-ghost use Rattle.meta_objects.specs.Sound.{IsSoundProperty};
+ghost use Rattle.meta_model.specs.declared.object.MetaMethod.{MetaMethod as AMetaMethod};
+ghost use Rattle.meta_model.specs.declared.object.MetaProperty.{MetaProperty as AMetaProperty};
+ghost use Rattle.meta_model.specs.Members.{IsClass};
+ghost use Rattle.meta_model.specs.declared.object.MetaObject.{MetaObject as AMetaObject};
+ghost use Rattle.meta_model.specs.Sound.{IsSoundProperty};
 ghost use Rattle.qt_runtime.specs.declared.object_tree.Object.{Object as AnObject};
 ghost use Rattle.qt_runtime.specs.declared.entry.Entry.TheVariants.{Written};
 ghost use Rattle.qt_runtime.specs.Goes.{IsMember, IsField, begin_entry};

@@ -2,7 +2,7 @@
 
 ghost use Rattle.std.specs.Prelude.{◌≡◌, ◌+◌, ◌-◌, ◌<◌, ◌^◌, ◌∷◌, [], ◌++◌, List, ℕ, IfOk};
 ghost use Rattle.script_lang.specs.declared.event.Event.TheVariants.{New, Emit};
-ghost use Rattle.meta_objects.specs.Members.{IsClassNamed};
+ghost use Rattle.meta_model.specs.Members.{IsClassNamed};
 ghost use Rattle.qt_runtime.specs.Events.{conditions, Pass, value_of, values_of};
 ghost use Rattle.qt_runtime.specs.Seen.{at};
 ghost use Rattle.qt_runtime.specs.Taking.{Keeps, accepted, Becomes, Adds, Refuses, IsFound, IsEmissionEntry, Took};

@@ -2,9 +2,9 @@
 
 ghost use Rattle.std.specs.Prelude.{◌≡◌, ℕ, Bool, ◌↔◌, All, IsTrue, Some};
 ghost use Rattle.signatures.specs.declared.value.Value.TheVariants.{Ref};
-ghost use Rattle.meta_objects.specs.declared.object.ValueType.TheVariants.{Reference};
-ghost use Rattle.meta_objects.specs.Members.{Below};
-ghost use Rattle.meta_objects.specs.Values.{Has, HaveTypes};
+ghost use Rattle.meta_model.specs.declared.object.ValueType.TheVariants.{Reference};
+ghost use Rattle.meta_model.specs.Members.{Below};
+ghost use Rattle.meta_model.specs.Values.{Has, HaveTypes};
 ghost use Rattle.qt_runtime.specs.Objects.{class_of};
 
 use crate::object_tree::Objects;

@@ -1,6 +1,6 @@
 ghost use Rattle.std.specs.Prelude.{◌≡◌, ◌↔◌, map, slice_get, slice_set, IfOk, IsTrue};
 ghost use Rattle.std.specs.Option.{option_copied};
-ghost use Rattle.meta_objects.specs.declared.object.MetaProperty.{MetaProperty as AMetaProperty};
+ghost use Rattle.meta_model.specs.declared.object.MetaProperty.{MetaProperty as AMetaProperty};
 
 use meta_objects::MetaProperty;
 use signatures::Value;

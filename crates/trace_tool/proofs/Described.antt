@@ -1,7 +1,7 @@
 -- The lines of methods one by one.
 use Rattle.std.proofs.Common.{◌≡◌, ℕ, ◌+◌, ◌<◌, ◌≤◌, List, [], ◌∷◌, ◌++◌, drop, length, get_or, sym, ap, ◌∙◌, arith}
 use Rattle.std.proofs.lemmas.List.{drop_more, drop_all}
-use Rattle.meta_objects.specs.declared.object.MetaMethod.{MetaMethod}
+use Rattle.meta_model.specs.declared.object.MetaMethod.{MetaMethod}
 use Rattle.trace_tool.specs.MetaLines.{method_line, method_lines}
 
 pub lines_at : (methods : List MetaMethod) (n : ℕ) (m : MetaMethod) → n < length methods → m ≡ get_or methods n m →

@@ -1,8 +1,9 @@
 use Rattle.std.proofs.Common.{inl, inr}
 use Rattle.meta_objects.specs.declared.load_uses.Uses.{Uses}
 use Rattle.std.specs.List.{AllZip}
-use Rattle.meta_objects.specs.Loading.{AllBodies, IsWire, IsOwns, HasUses}
-use Rattle.meta_objects.proofs.Steps.{failed}
+use Rattle.body_loading.specs.Bodies.{AllBodies}
+use Rattle.meta_objects.specs.Loading.{IsWire, IsOwns, HasUses}
+use Rattle.class_outlines.proofs.Steps.{failed}
 use Rattle.meta_objects.proofs.load_uses.load_uses.Goals as goal
 
 pub returns-in_err-bodies : goal.returns-in_err-bodies

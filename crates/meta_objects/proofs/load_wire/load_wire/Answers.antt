@@ -1,5 +1,5 @@
 use Rattle.std.proofs.Common.{arith}
-use Rattle.meta_objects.proofs.Named.{one_end}
+use Rattle.meta_objects.proofs.Ends.{one_end}
 use Rattle.meta_objects.proofs.load_wire.load_wire.Goals as goal
 
 pub returns-in_default : goal.returns-in_default

@@ -1,5 +1,5 @@
 use Rattle.std.proofs.Common.{rules}
-use Rattle.meta_objects.proofs.Zips.{zip_push}
+use Rattle.class_outlines.proofs.Zips.{zip_push}
 use Rattle.meta_objects.proofs.load_wire.load_wires.Goals as goal
 
 pub loop-wire-preserved : goal.loop-wire-preserved

@@ -1,4 +1,4 @@
-use Rattle.meta_objects.proofs.Named.{an_end, no_class_end, no_end}
+use Rattle.meta_objects.proofs.Ends.{an_end, no_class_end, no_end}
 use Rattle.meta_objects.proofs.load_wire.method_end.Goals as goal
 
 pub returns-in_default : goal.returns-in_default

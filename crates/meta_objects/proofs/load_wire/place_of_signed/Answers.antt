@@ -1,5 +1,5 @@
 use Rattle.std.proofs.Common.{rules}
-use Rattle.meta_objects.proofs.Searches.{none_more, none_at_all}
+use Rattle.class_outlines.proofs.Searches.{none_more, none_at_all}
 use Rattle.meta_objects.proofs.load_wire.place_of_signed.Goals as goal
 
 pub loop-place-preserved : goal.loop-place-preserved

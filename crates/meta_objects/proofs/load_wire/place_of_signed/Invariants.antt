@@ -1,6 +1,6 @@
 use Rattle.std.proofs.Common.{ℕ, ◌<◌}
 use Rattle.meta_objects.specs.Loading.{IsSigned}
-use Rattle.meta_objects.specs.Places.{StandsAt}
+use Rattle.class_outlines.specs.Places.{StandsAt}
 use Rattle.meta_objects.proofs.load_wire.place_of_signed.Given as goal
 
 abbrev pub invariant-loop-place : goal.invariant-loop-place

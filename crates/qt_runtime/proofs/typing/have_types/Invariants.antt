@@ -1,5 +1,5 @@
 use Rattle.std.proofs.Common.{◌↔◌, length}
-use Rattle.meta_objects.specs.Values.{HaveTypes}
+use Rattle.meta_model.specs.Values.{HaveTypes}
 use Rattle.qt_runtime.specs.Objects.{class_of}
 use Rattle.qt_runtime.proofs.typing.have_types.Given as goal
 

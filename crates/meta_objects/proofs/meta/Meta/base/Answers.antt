@@ -1,5 +1,5 @@
 use Rattle.std.proofs.Common.{refl}
-use Rattle.meta_objects.proofs.OneAnswer.{base_smaller}
+use Rattle.meta_model.proofs.OneAnswer.{base_smaller}
 use Rattle.meta_objects.proofs.meta.Meta.base.Goals as goal
 
 pub returns-in-Some-clause-smaller : goal.returns-in-Some-clause-smaller

@@ -1,7 +1,7 @@
 use Rattle.std.proofs.Common.{subst}
-use Rattle.meta_objects.specs.Sound.{IsSound}
+use Rattle.meta_model.specs.Sound.{IsSound}
 use Rattle.meta_objects.proofs.LookUps.{class_answer}
-use Rattle.meta_objects.proofs.OneAnswer.{one_class, only_of}
+use Rattle.meta_model.proofs.OneAnswer.{one_class, only_of}
 use Rattle.meta_objects.proofs.meta.Meta.class.Goals as goal
 
 pub returns : goal.returns

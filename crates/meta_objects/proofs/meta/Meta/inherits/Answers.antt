@@ -1,6 +1,6 @@
 use Rattle.std.proofs.Common.{refl, sym}
-use Rattle.meta_objects.specs.Members.{same, under}
-use Rattle.meta_objects.proofs.OneAnswer.{below_base, below_none}
+use Rattle.meta_model.specs.Members.{same, under}
+use Rattle.meta_model.proofs.OneAnswer.{below_base, below_none}
 use Rattle.meta_objects.proofs.meta.Meta.inherits.Goals as goal
 
 pub loop-below-preserved : goal.loop-below-preserved

@@ -1,5 +1,5 @@
 use Rattle.std.proofs.Common.{◌↔◌}
-use Rattle.meta_objects.specs.Members.{Below}
+use Rattle.meta_model.specs.Members.{Below}
 use Rattle.meta_objects.proofs.meta.Meta.inherits.Given as goal
 
 -- the class is below the other where the one that was reached is

@@ -1,7 +1,7 @@
 use Rattle.std.proofs.Common.{sym, subst}
-use Rattle.meta_objects.specs.Sound.{IsSound}
+use Rattle.meta_model.specs.Sound.{IsSound}
 use Rattle.meta_objects.proofs.LookUps.{sig_answer}
-use Rattle.meta_objects.proofs.OneAnswer.{one_sig, only_of}
+use Rattle.meta_model.proofs.OneAnswer.{one_sig, only_of}
 use Rattle.meta_objects.proofs.meta.Meta.method.Goals as goal
 
 pub returns : goal.returns

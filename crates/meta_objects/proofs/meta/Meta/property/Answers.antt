@@ -1,7 +1,7 @@
 use Rattle.std.proofs.Common.{sym, subst}
-use Rattle.meta_objects.specs.Sound.{IsSound}
+use Rattle.meta_model.specs.Sound.{IsSound}
 use Rattle.meta_objects.proofs.LookUps.{property_answer}
-use Rattle.meta_objects.proofs.OneAnswer.{one_property, only_of}
+use Rattle.meta_model.proofs.OneAnswer.{one_property, only_of}
 use Rattle.meta_objects.proofs.meta.Meta.property.Goals as goal
 
 pub returns : goal.returns

@@ -1,5 +1,5 @@
 use Rattle.std.proofs.Common.{◌∙◌}
-use Rattle.meta_objects.proofs.Typing.{null_typed, object_typed}
+use Rattle.meta_model.proofs.Typing.{null_typed, object_typed}
 use Rattle.meta_objects.proofs.meta.Meta.refers_to.Goals as goal
 
 pub returns-in-None-default : goal.returns-in-None-default

@@ -1,5 +1,5 @@
 use Rattle.std.proofs.Common.{◌≡◌, ◌∙◌, sym, ap, drop, ℕ, List, Option}
-use Rattle.meta_objects.specs.declared.object.Step.{Step}
+use Rattle.meta_model.specs.declared.object.Step.{Step}
 use Rattle.qt_runtime.specs.declared.object_tree.Object.{Object}
 use Rattle.std.proofs.lemmas.List.{drop_more}
 use Rattle.signatures.specs.declared.value.Value.{Value}

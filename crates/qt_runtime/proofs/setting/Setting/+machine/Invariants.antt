@@ -1,5 +1,5 @@
 use Rattle.std.proofs.Common.{◌≤◌, ◌+◌, ◌-◌, ◌*◌, ℕ, List, [], ◌∷◌, ◌++◌, drop}
-use Rattle.meta_objects.specs.declared.object.Statement.{Statement}
+use Rattle.meta_model.specs.declared.object.Statement.{Statement}
 use Rattle.qt_runtime.specs.State.{Body, Emit}
 use Rattle.qt_runtime.specs.Sound.{Sound}
 use Rattle.qt_runtime.specs.Goes.{Goes, Same}

@@ -1,8 +1,8 @@
 use Rattle.std.proofs.Common.{◌≡◌, ℕ, List, length, refl, sym, ap, ◌∙◌, subst}
 use Rattle.signatures.specs.declared.value.Value.{Value}
-use Rattle.meta_objects.specs.declared.object.ValueType.{ValueType}
-use Rattle.meta_objects.specs.Members.{IsMethodNamed}
-use Rattle.meta_objects.specs.Values.{HaveTypes}
+use Rattle.meta_model.specs.declared.object.ValueType.{ValueType}
+use Rattle.meta_model.specs.Members.{IsMethodNamed}
+use Rattle.meta_model.specs.Values.{HaveTypes}
 use Rattle.qt_runtime.specs.Objects.{class_of}
 use Rattle.qt_runtime.specs.Events.{values_of}
 use Rattle.qt_runtime.proofs.Verdicts.{refuse-unnamed, refuse-untyped, pass-emit, not-signal-named, named-facts, found-of}

@@ -1,5 +1,5 @@
 use Rattle.std.proofs.Common.{◌≡◌, map, take}
-use Rattle.meta_objects.specs.declared.object.MetaProperty.{MetaProperty}
+use Rattle.meta_model.specs.declared.object.MetaProperty.{MetaProperty}
 use Rattle.qt_runtime.proofs.values.Values.initial.Given as goal
 
 abbrev pub invariant-loop-property : goal.invariant-loop-property

@@ -1,0 +1,71 @@
+//! Expressions whose names are resolved.
+
+ghost use Rattle.std.specs.Prelude.{◌≡◌, List};
+ghost use Rattle.slot_lang.specs.declared.syntax.Expr.{Expr as AnExpr};
+ghost use Rattle.body_loading.specs.Bodies.{scope, IsExpr, AreExprs};
+ghost use Rattle.class_outlines.specs.Parts.{Loads};
+ghost use Rattle.class_outlines.specs.declared.fault.MetaFault.TheVariants as fault;
+ghost use Rattle.meta_model.specs.declared.object.MetaPath.{MetaPath as AMetaPath};
+
+use crate::load_path::{Led, load_path};
+use class_lang::Parameter;
+use class_outlines::{MetaFault, Outline};
+use meta_model::MetaPath;
+use signatures::Name;
+use slot_lang::{Expr, Path};
+use sqlite_items::{Boxed, Items};
+use std::alloc::Global;
+
+/// The expressions in their order; `NoMember` where a name in one of them isn't there.
+pub fn load_exprs(
+    alloc: Global,
+    outlines: &[Outline],
+    me: &Name,
+    parameters: &[Parameter],
+    expressions: &[Expr<Path>],
+) -> Result<Items<Expr<MetaPath>>, MetaFault>
+    ensures { Loads fault.NoMember ((loaded : List (AnExpr AMetaPath)) → ¬ AreExprs (scope outlines.now me.now parameters.now) expressions.now loaded)
+        (λ loaded. AreExprs (scope outlines.now me.now parameters.now) expressions.now loaded) result }
+{
+    let mut loaded = Items::new(alloc);
+    for expression in expressions {
+        let expression = load_expr(alloc, outlines, me, parameters, expression)?;
+        loaded.push(expression)?;
+    }
+    Ok(loaded)
+}
+
+/// The expression in a body of this class whose slot has these parameters; `NoMember` where a name in it isn't there.
+pub fn load_expr(
+    alloc: Global,
+    outlines: &[Outline],
+    me: &Name,
+    parameters: &[Parameter],
+    expression: &Expr<Path>,
+) -> Result<Expr<MetaPath>, MetaFault>
+    ensures { Loads fault.NoMember ((loaded : AnExpr AMetaPath) → ¬ IsExpr (scope outlines.now me.now parameters.now) expression.now loaded)
+        (λ loaded. IsExpr (scope outlines.now me.now parameters.now) expression.now loaded) result }
+{
+    match expression {
+        Expr::Literal(value) => {
+            let value = value.copy()?;
+            Ok(Expr::Literal(value))
+        }
+        Expr::Path(path) => {
+            let Led { path, kind: _ } = load_path(alloc, outlines, me, parameters, path)?;
+            Ok(Expr::Path(path))
+        }
+        Expr::Unary(operator, operand) => {
+            let operand = load_expr(alloc, outlines, me, parameters, operand.get())?;
+            let operand = Boxed::new(alloc, operand)?;
+            Ok(Expr::Unary(*operator, operand))
+        }
+        Expr::Binary(operator, left, right) => {
+            let left = load_expr(alloc, outlines, me, parameters, left.get())?;
+            let left = Boxed::new(alloc, left)?;
+            let right = load_expr(alloc, outlines, me, parameters, right.get())?;
+            let right = Boxed::new(alloc, right)?;
+            Ok(Expr::Binary(*operator, left, right))
+        }
+    }
+}

@@ -1,0 +1,9 @@
+pub mod Searches
+pub mod Choices
+pub mod Zips
+pub mod Types
+pub mod Firsts
+pub mod Reading
+pub mod Once
+pub mod Steps
+pub mod Described

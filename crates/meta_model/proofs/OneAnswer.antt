@@ -1,0 +1,55 @@
+-- What a sound program has one of, and where its bases lead.
+use Rattle.std.proofs.Common.{◌≡◌, ℕ, ◌<◌, List, length, slice_get, Option, Some, None, MatchOption, refl, sym, ap, subst, ◌∙◌}
+use Rattle.std.specs.Prelude.{IfSome}
+use Rattle.std.proofs.lemmas.Option.{none-some, same_Some}
+use Rattle.signatures.specs.declared.sig.Sig.{Sig}
+use Rattle.meta_model.specs.declared.object.MetaMethod.{MetaMethod}
+use Rattle.meta_model.specs.declared.object.MetaObject.{MetaObject}
+use Rattle.meta_model.specs.Loaded.{Loaded}
+use Rattle.meta_model.specs.Members.{IsClassNamed, IsMethod, HasSig, IsMethodNamed, IsPropertyNamed, base_of, Below, same, under}
+use Rattle.meta_model.specs.Sound.{IsSound, IsSoundClass}
+
+pub only_of : (N : Type 0) (Q : ℕ → Type 0) → ((i j : ℕ) → Q i → Q j → j ≡ i) → (r : Option ℕ) → MatchOption r N Q → IfSome r (λ i. (j : ℕ) → Q j → j ≡ i)
+only_of N Q one None h = tt
+only_of N Q one (Some i) h = λ j k. one i j h k
+
+module _ (p : Loaded) (is : IsSound p) where
+  -- two methods of a class that are alike are at one place
+  one_method : (c i j : ℕ) (a b : MetaMethod) → IsMethod p c i a → IsMethod p c j b → a.sig.name ≡ b.sig.name → length a.sig.types ≡ length b.sig.types → j ≡ i
+  one_method c i j a b h k name count =
+      let class : k.class ≡ h.class = same_Some _ _ (sym k.is_class.is ∙ h.is_class.is) in
+      let at : slice_get h.class.methods j ≡ Some b = ap (λ (o : MetaObject). slice_get o.methods j) (sym class) ∙ k.is in
+      sym ((is.classes c h.class h.is_class).distinct_methods i j a b h.is at name count)
+
+  pub one_sig : (c : ℕ) (sig : Sig) (i j : ℕ) → HasSig p c sig i → HasSig p c sig j → j ≡ i
+  one_sig c sig i j h k =
+      let e : h.method.sig ≡ k.method.sig = h.signed ∙ sym k.signed in
+      one_method c i j h.method k.method h.is k.is (ap (λ (s : Sig). s.name) e) (ap (λ (s : Sig). length s.types) e)
+
+  pub one_named : (c : ℕ) (name : List ℕ) (count i j : ℕ) → IsMethodNamed p c name count i → IsMethodNamed p c name count j → j ≡ i
+  one_named c name count i j h k =
+      one_method c i j h.method k.method h.is k.is (h.named ∙ sym k.named) (h.counted ∙ sym k.counted)
+
+  pub one_property : (c : ℕ) (name : List ℕ) (i j : ℕ) → IsPropertyNamed p c name i → IsPropertyNamed p c name j → j ≡ i
+  one_property c name i j h k =
+      let class : k.class ≡ h.class = same_Some _ _ (sym k.is_class.is ∙ h.is_class.is) in
+      let at : slice_get h.class.properties j ≡ Some k.property = ap (λ (o : MetaObject). slice_get o.properties j) (sym class) ∙ k.is in
+      sym ((is.classes c h.class h.is_class).distinct_properties i j h.property k.property h.is at (h.named ∙ sym k.named))
+
+  pub one_class : (name : List ℕ) (i j : ℕ) → IsClassNamed p name i → IsClassNamed p name j → j ≡ i
+  one_class name i j h k = sym (is.distinct_classes i j h.class k.class h.is.is k.is.is (h.named ∙ sym k.named))
+
+module _ (p : Loaded) where
+  -- a class that isn't the other is below it where its base is
+  pub below_base : (c b d : ℕ) → base_of p c ≡ Some b → (¬ (c ≡ d)) → Below p c d → Below p b d
+  below_base c b d base differs same = absurd (differs refl)
+  below_base c b d base differs (under e rest) = subst (λ x. Below p x d) (same_Some _ _ (sym e ∙ base)) rest
+
+  pub below_none : (c d : ℕ) → base_of p c ≡ None → (¬ (c ≡ d)) → ¬ Below p c d
+  below_none c d none differs same = differs refl
+  below_none c d none differs (under e rest) = none-some _ (sym none ∙ e)
+
+  -- a base has a smaller number
+  pub base_smaller : (c : ℕ) (class : MetaObject) → IsSoundClass p c class → (base : Option ℕ) → class.base ≡ base → IfSome base (λ b. b < c)
+  base_smaller c class sound None e = tt
+  base_smaller c class sound (Some b) e = (sound.under b e).smaller

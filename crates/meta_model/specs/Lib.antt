@@ -1,0 +1,4 @@
+pub mod Loaded
+pub mod Members
+pub mod Values
+pub mod Sound

@@ -1,0 +1,110 @@
+-- Classes and their members, by name, signature and number (Qt 6, "The Meta-Object System"; docs/machine.md,
+-- "Meta-objects").
+use Rattle.std.specs.Prelude.{◌≡◌, ℕ, List, [], ◌∷◌, length, Option, None, Some, slice_get, ◌⊎◌}
+use Rattle.std.specs.Option.{option_and_then}
+use Rattle.signatures.specs.declared.sig.Sig.{Sig}
+use Rattle.signatures.specs.declared.kind.Kind.{Kind}
+use Rattle.meta_model.specs.declared.object.MetaObject.{MetaObject}
+use Rattle.meta_model.specs.declared.object.MetaMethod.{MetaMethod}
+use Rattle.meta_model.specs.declared.object.MetaProperty.{MetaProperty}
+use Rattle.meta_model.specs.declared.object.MetaWire.{MetaWire}
+use Rattle.meta_model.specs.declared.object.MetaOwns.{MetaOwns}
+use Rattle.meta_model.specs.Loaded.{Loaded}
+
+-- class c of the program
+pub record IsClass (p : Loaded) (c : ℕ) (class : MetaObject) : Type 0 where
+  pub is : slice_get p.classes c ≡ Some class
+
+-- class c has this name
+pub record IsClassNamed (p : Loaded) (name : List ℕ) (c : ℕ) : Type 0 where
+  pub class : MetaObject
+  pub is : IsClass p c class
+  pub named : class.name ≡ name
+
+-- method m of class c, inherited or its own
+pub record IsMethod (p : Loaded) (c m : ℕ) (method : MetaMethod) : Type 0 where
+  pub class : MetaObject
+  pub is_class : IsClass p c class
+  pub is : slice_get class.methods m ≡ Some method
+
+-- method m of class c has this signature
+pub record HasSig (p : Loaded) (c : ℕ) (sig : Sig) (m : ℕ) : Type 0 where
+  pub method : MetaMethod
+  pub is : IsMethod p c m method
+  pub signed : method.sig ≡ sig
+
+-- method m of class c has this name and so many parameters
+pub record IsMethodNamed (p : Loaded) (c : ℕ) (name : List ℕ) (count m : ℕ) : Type 0 where
+  pub method : MetaMethod
+  pub is : IsMethod p c m method
+  pub named : method.sig.name ≡ name
+  pub counted : length method.sig.types ≡ count
+
+-- property q of class c, inherited or its own
+pub record IsProperty (p : Loaded) (c q : ℕ) (property : MetaProperty) : Type 0 where
+  pub class : MetaObject
+  pub is_class : IsClass p c class
+  pub is : slice_get class.properties q ≡ Some property
+
+-- property q of class c has this name
+pub record IsPropertyNamed (p : Loaded) (c : ℕ) (name : List ℕ) (q : ℕ) : Type 0 where
+  pub class : MetaObject
+  pub is_class : IsClass p c class
+  pub property : MetaProperty
+  pub is : slice_get class.properties q ≡ Some property
+  pub named : property.name ≡ name
+
+-- the base of class c, which only `QObject` lacks
+abbrev pub base_of : Loaded → ℕ → Option ℕ
+base_of p c = option_and_then (λ (class : MetaObject). class.base) (slice_get p.classes c)
+
+-- the first class is the second or below it
+pub data Below (p : Loaded) : ℕ → ℕ → Type 0 where
+  same : {c : ℕ} → Below p c c
+  under : {c b d : ℕ} → base_of p c ≡ Some b → Below p b d → Below p c d
+
+-- how many methods a class has, inherited ones too; a number of no class has none
+abbrev pub methods_in : Option MetaObject → ℕ
+methods_in None = 0
+methods_in (Some class) = length class.methods
+
+abbrev pub method_count : Loaded → ℕ → ℕ
+method_count p c = methods_in (slice_get p.classes c)
+
+-- how many of them its base has, which come first
+abbrev pub methods_before : Loaded → Option ℕ → ℕ
+methods_before p None = 0
+methods_before p (Some b) = method_count p b
+
+abbrev pub method_offset : Loaded → ℕ → ℕ
+method_offset p c = methods_before p (base_of p c)
+
+abbrev pub IsIn : {X : Type 0} → X → List X → Type 0
+IsIn x [] = ⊥
+IsIn x (y ∷ ys) = (x ≡ y) ⊎ IsIn x ys
+
+-- the wire covers a connection between objects of these two classes, which are its classes or below them, with these
+-- signatures and this kind
+pub record CoversBy (p : Loaded) (c : ℕ) (signal : Sig) (d : ℕ) (method : Sig) (kind : Kind) (wire : MetaWire) : Type 0 where
+  pub sender : Below p c wire.sender
+  pub receiver : Below p d wire.receiver
+  pub from : HasSig p wire.sender signal wire.signal
+  pub to : HasSig p wire.receiver method wire.method
+  pub same_kind : wire.kind ≡ kind
+
+-- a wire of the program covers the connection
+pub record Covers (p : Loaded) (c : ℕ) (signal : Sig) (d : ℕ) (method : Sig) (kind : Kind) : Type 0 where
+  pub wire : MetaWire
+  pub declared : IsIn wire p.wires
+  pub by : CoversBy p c signal d method kind wire
+
+-- an object of class c may be the parent of one of class d by this declaration, whose classes they are or are below
+pub record OwnsBy (p : Loaded) (c d : ℕ) (owns : MetaOwns) : Type 0 where
+  pub parent : Below p c owns.parent
+  pub child : Below p d owns.child
+
+-- .. by a declaration of the program
+pub record Owns (p : Loaded) (c d : ℕ) : Type 0 where
+  pub owns : MetaOwns
+  pub declared : IsIn owns p.owns
+  pub by : OwnsBy p c d owns

@@ -1,0 +1,195 @@
+-- What every loaded program keeps: its numbers are those of members, and no two members are alike (docs/machine.md,
+-- "Loading").
+use Rattle.std.specs.Prelude.{◌≡◌, ℕ, ◌<◌, ◌⊎◌, Bool, true, false, List, [], ◌∷◌, ◌++◌, length, Some, slice_get, codes}
+use Rattle.std.specs.List.{AllZip}
+use Rattle.signatures.specs.declared.qtype.QType.{QType}
+use Rattle.signatures.specs.declared.value.Value.{Value}
+use Rattle.signatures.specs.Types.{value_type}
+use Rattle.slot_lang.specs.declared.syntax.Unary.{Unary}
+use Rattle.slot_lang.specs.declared.syntax.Binary.{Binary}
+use Rattle.slot_lang.specs.declared.syntax.Expr.{Expr}
+use Rattle.slot_lang.specs.declared.syntax.Expr.TheOpen as expr
+use Rattle.slot_lang.specs.declared.syntax.Expr.TheViews.{out-Expr}
+use Rattle.meta_model.specs.declared.object.ValueType.{ValueType}
+use Rattle.meta_model.specs.declared.object.ValueType.TheVariants as type
+use Rattle.meta_model.specs.declared.object.MetaRoot.{MetaRoot}
+use Rattle.meta_model.specs.declared.object.MetaRoot.TheVariants.{This, Parameter}
+use Rattle.meta_model.specs.declared.object.Step.{Step}
+use Rattle.meta_model.specs.declared.object.MetaPath.{MetaPath}
+use Rattle.meta_model.specs.declared.object.Statement.{Statement}
+use Rattle.meta_model.specs.declared.object.Statement.TheOpen as statement
+use Rattle.meta_model.specs.declared.object.Statement.TheViews.{out-Statement}
+use Rattle.meta_model.specs.declared.object.Work.{Work}
+use Rattle.meta_model.specs.declared.object.Work.TheVariants.{Signal, Slot}
+use Rattle.meta_model.specs.declared.object.MetaObject.{MetaObject}
+use Rattle.meta_model.specs.declared.object.MetaMethod.{MetaMethod}
+use Rattle.meta_model.specs.declared.object.MetaProperty.{MetaProperty}
+use Rattle.meta_model.specs.declared.object.MetaWire.{MetaWire}
+use Rattle.meta_model.specs.declared.object.MetaOwns.{MetaOwns}
+use Rattle.meta_model.specs.Loaded.{Loaded}
+use Rattle.meta_model.specs.Members.{IsClass, IsClassNamed, IsMethod, IsProperty, Below, IsIn}
+
+-- ---- types
+-- a declared type, its class replaced by its number
+abbrev pub IsKind : Loaded → QType → ValueType → Type 0
+IsKind p T type.Int = T ≡ value_type (codes "int")
+IsKind p T type.Bool = T ≡ value_type (codes "bool")
+IsKind p T type.Text = T ≡ value_type (codes "QString")
+IsKind p T (type.Reference c constant) = (T.pointer ≡ true) × (T.constant ≡ constant) × IsClassNamed p T.name c
+
+-- ---- paths, where `this` is declared to be of class `me`, and a body's parameters have `kinds`
+pub data HasRoot (me : ℕ) (kinds : List ValueType) : MetaRoot → ValueType → Type 0 where
+  this_has : HasRoot me kinds This (type.Reference me false)
+  parameter_has : {k : ℕ} {T : ValueType} → slice_get kinds k ≡ Some T → HasRoot me kinds (Parameter k) T
+
+-- each step's property is there, of the step's type, in the class that the path so far is declared to lead to
+pub data Leads (p : Loaded) : ValueType → List Step → ValueType → Type 0 where
+  here : {T : ValueType} → Leads p T [] T
+  on : {c : ℕ} {constant : Bool} {s : Step} {steps : List Step} {property : MetaProperty} {T : ValueType}
+      → IsProperty p c s.property property → property.kind ≡ s.kind → Leads p s.kind steps T
+      → Leads p (type.Reference c constant) (s ∷ steps) T
+
+-- the path's names are there, and it is declared to lead to a value of type T
+pub record LeadsTo (p : Loaded) (me : ℕ) (kinds : List ValueType) (path : MetaPath) (T : ValueType) : Type 0 where
+  pub root_type : ValueType
+  pub root : HasRoot me kinds path.root root_type
+  pub steps : Leads p root_type path.steps T
+
+-- .. to a reference of class c
+pub record LeadsToClass (p : Loaded) (me : ℕ) (kinds : List ValueType) (path : MetaPath) (c : ℕ) : Type 0 where
+  pub constant : Bool
+  pub leads : LeadsTo p me kinds path (type.Reference c constant)
+
+-- ---- bodies
+-- each path of the expression leads somewhere
+pub data IsSoundExpr (p : Loaded) (me : ℕ) (kinds : List ValueType) : Expr MetaPath → Type 0 where
+  literal_sound : {e : Expr MetaPath} {v : Value} → out-Expr MetaPath e ≡ expr.Literal v → IsSoundExpr p me kinds e
+  path_sound : {e : Expr MetaPath} {path : MetaPath} {T : ValueType} → out-Expr MetaPath e ≡ expr.Path path → LeadsTo p me kinds path T → IsSoundExpr p me kinds e
+  unary_sound : {e : Expr MetaPath} {op : Unary} {a : Expr MetaPath} → out-Expr MetaPath e ≡ expr.Unary op a → IsSoundExpr p me kinds a → IsSoundExpr p me kinds e
+  binary_sound : {e : Expr MetaPath} {op : Binary} {a b : Expr MetaPath} → out-Expr MetaPath e ≡ expr.Binary op a b → IsSoundExpr p me kinds a → IsSoundExpr p me kinds b → IsSoundExpr p me kinds e
+
+abbrev pub AreSoundExprs : Loaded → ℕ → List ValueType → List (Expr MetaPath) → Type 0
+AreSoundExprs p me kinds [] = Unit {0}
+AreSoundExprs p me kinds (e ∷ es) = IsSoundExpr p me kinds e × AreSoundExprs p me kinds es
+
+-- `set`: the object's class has the property
+pub record IsSoundSet (p : Loaded) (me : ℕ) (kinds : List ValueType) (path : MetaPath) (q : ℕ) (e : Expr MetaPath) : Type 0 where
+  pub class : ℕ
+  pub leads : LeadsToClass p me kinds path class
+  pub property : MetaProperty
+  pub is : IsProperty p class q property
+  pub value : IsSoundExpr p me kinds e
+
+-- `emit`: the body's class has the signal, which isn't one that the runtime emits, with as many parameters
+pub record IsSoundEmit (p : Loaded) (me : ℕ) (kinds : List ValueType) (m : ℕ) (es : List (Expr MetaPath)) : Type 0 where
+  pub signal : MetaMethod
+  pub is : IsMethod p me m signal
+  pub signals : signal.work ≡ Signal
+  pub emitted : 2 < m
+  pub counted : length signal.kinds ≡ length es
+  pub values : AreSoundExprs p me kinds es
+
+-- `call`: the object's class has the slot, with as many parameters
+pub record IsSoundCall (p : Loaded) (me : ℕ) (kinds : List ValueType) (path : MetaPath) (m : ℕ) (es : List (Expr MetaPath)) : Type 0 where
+  pub class : ℕ
+  pub leads : LeadsToClass p me kinds path class
+  pub slot : MetaMethod
+  pub is : IsMethod p class m slot
+  pub body : List Statement
+  pub slots : slot.work ≡ Slot body
+  pub counted : length slot.kinds ≡ length es
+  pub values : AreSoundExprs p me kinds es
+
+-- the statements' members and paths are there
+pub data AreSound (p : Loaded) (me : ℕ) (kinds : List ValueType) : List Statement → Type 0 where
+  none_sound : AreSound p me kinds []
+  set_sound : {s : Statement} {path : MetaPath} {q : ℕ} {e : Expr MetaPath} {rest : List Statement} → out-Statement s ≡ statement.Set path q e
+      → IsSoundSet p me kinds path q e → AreSound p me kinds rest → AreSound p me kinds (s ∷ rest)
+  emit_sound : {s : Statement} {m : ℕ} {es : List (Expr MetaPath)} {rest : List Statement} → out-Statement s ≡ statement.Emit m es
+      → IsSoundEmit p me kinds m es → AreSound p me kinds rest → AreSound p me kinds (s ∷ rest)
+  call_sound : {s : Statement} {path : MetaPath} {m : ℕ} {es : List (Expr MetaPath)} {rest : List Statement} → out-Statement s ≡ statement.Call path m es
+      → IsSoundCall p me kinds path m es → AreSound p me kinds rest → AreSound p me kinds (s ∷ rest)
+  if_sound : {s : Statement} {e : Expr MetaPath} {chosen other rest : List Statement} → out-Statement s ≡ statement.If e chosen other
+      → IsSoundExpr p me kinds e → AreSound p me kinds chosen → AreSound p me kinds other → AreSound p me kinds rest → AreSound p me kinds (s ∷ rest)
+
+-- a body is that of a slot of class c or of one above it, of whose objects it speaks
+pub record IsSoundBody (p : Loaded) (c : ℕ) (kinds : List ValueType) (body : List Statement) : Type 0 where
+  pub declaring : ℕ
+  pub below : Below p c declaring
+  pub sound : AreSound p declaring kinds body
+
+abbrev pub IsSoundWork : Loaded → ℕ → List ValueType → Work → Type 0
+IsSoundWork p c kinds Signal = Unit {0}
+IsSoundWork p c kinds (Slot body) = IsSoundBody p c kinds body
+
+-- ---- members of class c
+pub record IsSoundMethod (p : Loaded) (c : ℕ) (method : MetaMethod) : Type 0 where
+  pub kinds : AllZip (IsKind p) method.sig.types method.kinds
+  pub work : IsSoundWork p c method.kinds method.work
+
+-- the notify signal is a signal of the class, without parameter or with one of the property's type
+pub record IsNotifier (class : MetaObject) (property : MetaProperty) (m : ℕ) : Type 0 where
+  pub signal : MetaMethod
+  pub is : slice_get class.methods m ≡ Some signal
+  pub signals : signal.work ≡ Signal
+  pub fits : (signal.kinds ≡ []) ⊎ (signal.kinds ≡ property.kind ∷ [])
+
+pub record IsSoundProperty (p : Loaded) (class : MetaObject) (property : MetaProperty) : Type 0 where
+  pub kind : IsKind p property.declared property.kind
+  pub notifies : (m : ℕ) → property.notify ≡ Some m → IsNotifier class property m
+
+-- a class's members begin with those of its base, which has a smaller number
+pub record IsUnder (p : Loaded) (c : ℕ) (class : MetaObject) (b : ℕ) : Type 0 where
+  pub smaller : b < c
+  pub base : MetaObject
+  pub is : IsClass p b base
+  pub own_methods : List MetaMethod
+  pub methods : class.methods ≡ base.methods ++ own_methods
+  pub own_properties : List MetaProperty
+  pub properties : class.properties ≡ base.properties ++ own_properties
+
+-- no two methods of the class have one name and one number of parameters
+abbrev pub HasDistinctMethods : MetaObject → Type 0
+HasDistinctMethods class =
+    (i j : ℕ) (a b : MetaMethod) → slice_get class.methods i ≡ Some a → slice_get class.methods j ≡ Some b
+    → a.sig.name ≡ b.sig.name → length a.sig.types ≡ length b.sig.types → i ≡ j
+
+-- no two properties of the class have one name
+abbrev pub HasDistinctProperties : MetaObject → Type 0
+HasDistinctProperties class =
+    (i j : ℕ) (a b : MetaProperty) → slice_get class.properties i ≡ Some a → slice_get class.properties j ≡ Some b
+    → a.name ≡ b.name → i ≡ j
+
+pub record IsSoundClass (p : Loaded) (c : ℕ) (class : MetaObject) : Type 0 where
+  pub under : (b : ℕ) → class.base ≡ Some b → IsUnder p c class b
+  pub methods : (m : ℕ) (method : MetaMethod) → slice_get class.methods m ≡ Some method → IsSoundMethod p c method
+  pub properties : (q : ℕ) (property : MetaProperty) → slice_get class.properties q ≡ Some property → IsSoundProperty p class property
+  pub distinct_methods : HasDistinctMethods class
+  pub distinct_properties : HasDistinctProperties class
+
+-- ---- the program
+-- a wire leads from a signal to a method that isn't one of `QObject`'s own
+pub record IsSoundWire (p : Loaded) (wire : MetaWire) : Type 0 where
+  pub signal : MetaMethod
+  pub from : IsMethod p wire.sender wire.signal signal
+  pub signals : signal.work ≡ Signal
+  pub method : MetaMethod
+  pub to : IsMethod p wire.receiver wire.method method
+  pub called : 3 < wire.method
+
+pub record IsSoundOwns (p : Loaded) (owns : MetaOwns) : Type 0 where
+  pub parent : owns.parent < length p.classes
+  pub child : owns.child < length p.classes
+
+-- no two of the classes have one name
+abbrev pub AreDistinctClasses : List MetaObject → Type 0
+AreDistinctClasses classes =
+    (i j : ℕ) (a b : MetaObject) → slice_get classes i ≡ Some a → slice_get classes j ≡ Some b → a.name ≡ b.name → i ≡ j
+
+pub record IsSound (p : Loaded) : Type 0 where
+  pub classes : (c : ℕ) (class : MetaObject) → IsClass p c class → IsSoundClass p c class
+  pub distinct_classes : AreDistinctClasses p.classes
+  pub wires : (wire : MetaWire) → IsIn wire p.wires → IsSoundWire p wire
+  pub owns : (owns : MetaOwns) → IsIn owns p.owns → IsSoundOwns p owns
+  -- method 1 of every class is `destroyed()`, which has no parameters
+  pub destroyed : (c : ℕ) (method : MetaMethod) → IsMethod p c 1 method → method.sig.types ≡ []
