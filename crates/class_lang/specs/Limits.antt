@@ -1,5 +1,6 @@
 -- How large programs may be (docs/language.md, "Limits").
 use Rattle.std.specs.Prelude.{ℕ, ◌+◌, ◌≤◌, length, All, IfSome}
+use Rattle.signatures.specs.Signatures.{most_parameters}
 use Rattle.signatures.specs.declared.sig.Sig.{Sig}
 use Rattle.class_lang.specs.declared.program.Class.{Class}
 use Rattle.class_lang.specs.declared.program.Wire.{Wire}
@@ -8,10 +9,6 @@ use Rattle.class_lang.specs.declared.program.Program.{Program}
 -- bytes of a text
 abbrev pub most_bytes : ℕ
 most_bytes = 1048576
-
--- parameters of a signature
-abbrev pub most_parameters : ℕ
-most_parameters = 8
 
 -- classes of a program
 abbrev pub most_classes : ℕ

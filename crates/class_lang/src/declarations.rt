@@ -8,11 +8,10 @@ ghost use Rattle.slot_lang.specs.declared.symbol.Symbol.TheVariants.{Colon};
 ghost use Rattle.class_lang.specs.Members.{with_members};
 ghost use Rattle.class_lang.specs.Declarations.{spell_ending, spell_members, spell_class, tree_of_class, spell_base, class_of, spell_end, tree_of_end, spell_wire, tree_of_wire, spell_owns, tree_of_owns, spell_declaration, tree_of_declaration, tree_of_program, with_declarations, EndsDeclaration, IsAtEnd};
 
-use crate::members::Member;
-use crate::parser::Parser;
+use crate::members::{Member, next_member};
 use crate::program::{Class, Owns, Program, Wire};
 use signatures::{Name, Sig};
-use slot_lang::{ParseFault, Symbol, Word};
+use slot_lang::{Cursor, ParseFault, Symbol, Word};
 use sqlite_items::Items;
 use std::alloc::{AllocError, Global};
 
@@ -63,112 +62,110 @@ impl Program {
     }
 }
 
-impl<'a> Parser<'a> {
-    /// `[":" Name]`
-    fn base(&mut self) -> Result<Option<Name>, ParseFault>
-        ensures reads { Reads spell_base (λ base. base) (NotAt Colon) self.old result self.new }
-        ensures no_longer { OnOk result (length self.new ≤ length self.old) }
-    {
-        if self.eat(Symbol::Colon) {
-            let base = self.name()?;
-            Ok(Some(base))
-        } else {
-            Ok(None)
-        }
+/// `[":" Name]`
+fn base(cursor: &mut Cursor) -> Result<Option<Name>, ParseFault>
+    ensures reads { Reads spell_base (λ base. base) (NotAt Colon) cursor.old result cursor.new }
+    ensures no_longer { OnOk result (length cursor.new ≤ length cursor.old) }
+{
+    if cursor.eat(Symbol::Colon) {
+        let base = cursor.name()?;
+        Ok(Some(base))
+    } else {
+        Ok(None)
     }
+}
 
-    /// `{member} "}"`, the members of a class with this name and base.
-    fn members(&mut self, name: Name, base: Option<Name>) -> Result<Class, ParseFault>
-        ensures reads { Reads spell_members (class_of name base) EndsAnywhere self.old result self.new }
-        ensures shorter { OnOk result (length self.new < length self.old) }
-    {
-        let mut class = Class::new(self.alloc(), name, base);
-        while !self.eat(Symbol::CloseBrace) {
-            let member = self.member()?;
-            class.add(member)?;
-        }
-        Ok(class)
+/// `{member} "}"`, the members of a class with this name and base.
+fn members(cursor: &mut Cursor, name: Name, base: Option<Name>) -> Result<Class, ParseFault>
+    ensures reads { Reads spell_members (class_of name base) EndsAnywhere cursor.old result cursor.new }
+    ensures shorter { OnOk result (length cursor.new < length cursor.old) }
+{
+    let mut class = Class::new(cursor.alloc(), name, base);
+    while !cursor.eat(Symbol::CloseBrace) {
+        let member = next_member(cursor)?;
+        class.add(member)?;
     }
+    Ok(class)
+}
 
-    /// `Name [":" Name] "{" {member} "}" [";"]`
-    fn class(&mut self) -> Result<Class, ParseFault>
-        ensures reads { Reads spell_class tree_of_class EndsDeclaration self.old result self.new }
-        ensures shorter { OnOk result (length self.new < length self.old) }
-    {
-        let name = self.name()?;
-        let base = self.base()?;
-        self.expect(Symbol::OpenBrace)?;
-        let class = self.members(name, base)?;
-        self.eat(Symbol::Semicolon);
-        Ok(class)
-    }
+/// `Name [":" Name] "{" {member} "}" [";"]`
+fn class(cursor: &mut Cursor) -> Result<Class, ParseFault>
+    ensures reads { Reads spell_class tree_of_class EndsDeclaration cursor.old result cursor.new }
+    ensures shorter { OnOk result (length cursor.new < length cursor.old) }
+{
+    let name = cursor.name()?;
+    let base = base(cursor)?;
+    cursor.expect(Symbol::OpenBrace)?;
+    let class = members(cursor, name, base)?;
+    cursor.eat(Symbol::Semicolon);
+    Ok(class)
+}
 
-    /// `Name sig`
-    fn wire_end(&mut self) -> Result<(Name, Sig), ParseFault>
-        ensures reads { Reads spell_end tree_of_end EndsAnywhere self.old result self.new }
-        ensures shorter { OnOk result (length self.new < length self.old) }
-    {
-        let class = self.name()?;
-        let sig = self.sig()?;
-        Ok((class, sig))
-    }
+/// `Name sig`
+fn wire_end(cursor: &mut Cursor) -> Result<(Name, Sig), ParseFault>
+    ensures reads { Reads spell_end tree_of_end EndsAnywhere cursor.old result cursor.new }
+    ensures shorter { OnOk result (length cursor.new < length cursor.old) }
+{
+    let class = cursor.name()?;
+    let sig = cursor.sig()?;
+    Ok((class, sig))
+}
 
-    /// `end "->" end kind ";"`
-    fn wire(&mut self) -> Result<Wire, ParseFault>
-        ensures reads { Reads spell_wire tree_of_wire EndsAnywhere self.old result self.new }
-        ensures shorter { OnOk result (length self.new < length self.old) }
-    {
-        let (sender, signal) = self.wire_end()?;
-        self.expect(Symbol::Arrow)?;
-        let (receiver, method) = self.wire_end()?;
-        let kind = self.connection_kind()?;
-        self.expect(Symbol::Semicolon)?;
-        Ok(Wire {
-            sender,
-            signal,
-            receiver,
-            method,
-            kind,
-        })
-    }
+/// `end "->" end kind ";"`
+fn wire(cursor: &mut Cursor) -> Result<Wire, ParseFault>
+    ensures reads { Reads spell_wire tree_of_wire EndsAnywhere cursor.old result cursor.new }
+    ensures shorter { OnOk result (length cursor.new < length cursor.old) }
+{
+    let (sender, signal) = wire_end(cursor)?;
+    cursor.expect(Symbol::Arrow)?;
+    let (receiver, method) = wire_end(cursor)?;
+    let kind = cursor.connection_kind()?;
+    cursor.expect(Symbol::Semicolon)?;
+    Ok(Wire {
+        sender,
+        signal,
+        receiver,
+        method,
+        kind,
+    })
+}
 
-    /// `Name Name ";"`
-    fn owns(&mut self) -> Result<Owns, ParseFault>
-        ensures reads { Reads spell_owns tree_of_owns EndsAnywhere self.old result self.new }
-        ensures shorter { OnOk result (length self.new < length self.old) }
-    {
-        let parent = self.name()?;
-        let child = self.name()?;
-        self.expect(Symbol::Semicolon)?;
-        Ok(Owns { parent, child })
-    }
+/// `Name Name ";"`
+fn owns(cursor: &mut Cursor) -> Result<Owns, ParseFault>
+    ensures reads { Reads spell_owns tree_of_owns EndsAnywhere cursor.old result cursor.new }
+    ensures shorter { OnOk result (length cursor.new < length cursor.old) }
+{
+    let parent = cursor.name()?;
+    let child = cursor.name()?;
+    cursor.expect(Symbol::Semicolon)?;
+    Ok(Owns { parent, child })
+}
 
-    /// `"class" class | "wire" wire | "owns" owns`
-    fn declaration(&mut self) -> Result<Declaration, ParseFault>
-        ensures reads { Reads spell_declaration tree_of_declaration EndsDeclaration self.old result self.new }
-        ensures shorter { OnOk result (length self.new < length self.old) }
-    {
-        if self.eat_word(Word::Class) {
-            Ok(Declaration::Class(self.class()?))
-        } else if self.eat_word(Word::Wire) {
-            Ok(Declaration::Wire(self.wire()?))
-        } else if self.eat_word(Word::Owns) {
-            Ok(Declaration::Owns(self.owns()?))
-        } else {
-            Err(ParseFault::Syntax)
-        }
+/// `"class" class | "wire" wire | "owns" owns`
+fn next_declaration(cursor: &mut Cursor) -> Result<Declaration, ParseFault>
+    ensures reads { Reads spell_declaration tree_of_declaration EndsDeclaration cursor.old result cursor.new }
+    ensures shorter { OnOk result (length cursor.new < length cursor.old) }
+{
+    if cursor.eat_word(Word::Class) {
+        Ok(Declaration::Class(class(cursor)?))
+    } else if cursor.eat_word(Word::Wire) {
+        Ok(Declaration::Wire(wire(cursor)?))
+    } else if cursor.eat_word(Word::Owns) {
+        Ok(Declaration::Owns(owns(cursor)?))
+    } else {
+        Err(ParseFault::Syntax)
     }
+}
 
-    /// `{declaration}`, to the end.
-    pub fn program(&mut self) -> Result<Program, ParseFault>
-        ensures reads { Reads (spell_each spell_declaration) tree_of_program IsAtEnd self.old result self.new }
-        ensures at_end { OnOk result (self.new ≡ []) }
-    {
-        let mut program = Program::new(self.alloc());
-        while !self.is_empty() {
-            let declaration = self.declaration()?;
-            program.add(declaration)?;
-        }
-        Ok(program)
+/// `{declaration}`, to the end.
+pub fn program(cursor: &mut Cursor) -> Result<Program, ParseFault>
+    ensures reads { Reads (spell_each spell_declaration) tree_of_program IsAtEnd cursor.old result cursor.new }
+    ensures at_end { OnOk result (cursor.new ≡ []) }
+{
+    let mut program = Program::new(cursor.alloc());
+    while !cursor.is_empty() {
+        let declaration = next_declaration(cursor)?;
+        program.add(declaration)?;
     }
+    Ok(program)
 }

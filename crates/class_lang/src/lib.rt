@@ -6,7 +6,6 @@ mod fault;
 mod limits;
 mod members;
 mod parameters;
-mod parser;
 mod program;
 mod reader;
 

@@ -4,12 +4,10 @@ ghost use Rattle.std.specs.Prelude.{◌↔◌, IsTrue, IfSome};
 ghost use Rattle.class_lang.specs.Limits.{HasFewTypes, ClassHasFewParameters, WireHasFewParameters, HasFewParameters, ClassIsWithinLimits, IsWithinLimits};
 
 use crate::program::{Class, Program, Property, Wire};
-use signatures::Sig;
+use signatures::{MOST_PARAMETERS, Sig};
 
 /// Bytes of a text.
 pub const MOST_BYTES: usize = 1_048_576;
-/// Parameters of a signature.
-const MOST_PARAMETERS: usize = 8;
 /// Classes of a program.
 const MOST_CLASSES: usize = 64;
 /// Signals and slots of a class, counted together.

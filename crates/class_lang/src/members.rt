@@ -9,10 +9,10 @@ ghost use Rattle.slot_lang.specs.Signatures.{tree_of_sig};
 ghost use Rattle.slot_lang.specs.declared.symbol.Symbol.TheVariants.{Assign};
 ghost use Rattle.class_lang.specs.Members.{spell_initial, spell_notify, spell_property, tree_of_property, spell_signal, tree_of_signal, spell_slot, tree_of_slot, spell_member, tree_of_member, with_members};
 
-use crate::parser::Parser;
+use crate::parameters::{signal_parameters, slot_parameters};
 use crate::program::{Class, Property, Signal, Slot};
 use signatures::{Sig, Value};
-use slot_lang::{ParseFault, Symbol, Word};
+use slot_lang::{Cursor, ParseFault, Symbol, Word};
 use std::alloc::AllocError;
 
 /// A member of a class.
@@ -36,90 +36,88 @@ impl Class {
     }
 }
 
-impl<'a> Parser<'a> {
-    /// `["=" literal]`
-    fn initial(&mut self) -> Result<Option<Value>, ParseFault>
-        ensures reads { Reads spell_initial (option_map tree_of_literal) (NotAt Assign) self.old result self.new }
-        ensures no_longer { OnOk result (length self.new ≤ length self.old) }
-    {
-        if self.eat(Symbol::Assign) {
-            let value = self.literal()?;
-            Ok(Some(value))
-        } else {
-            Ok(None)
-        }
+/// `["=" literal]`
+fn initial(cursor: &mut Cursor) -> Result<Option<Value>, ParseFault>
+    ensures reads { Reads spell_initial (option_map tree_of_literal) (NotAt Assign) cursor.old result cursor.new }
+    ensures no_longer { OnOk result (length cursor.new ≤ length cursor.old) }
+{
+    if cursor.eat(Symbol::Assign) {
+        let value = cursor.literal()?;
+        Ok(Some(value))
+    } else {
+        Ok(None)
     }
+}
 
-    /// `["notify" sig]`
-    fn notify(&mut self) -> Result<Option<Sig>, ParseFault>
-        ensures reads { Reads spell_notify (option_map tree_of_sig) (NotAtWord word.Notify) self.old result self.new }
-        ensures no_longer { OnOk result (length self.new ≤ length self.old) }
-    {
-        if self.eat_word(Word::Notify) {
-            let sig = self.sig()?;
-            Ok(Some(sig))
-        } else {
-            Ok(None)
-        }
+/// `["notify" sig]`
+fn notify(cursor: &mut Cursor) -> Result<Option<Sig>, ParseFault>
+    ensures reads { Reads spell_notify (option_map tree_of_sig) (NotAtWord word.Notify) cursor.old result cursor.new }
+    ensures no_longer { OnOk result (length cursor.new ≤ length cursor.old) }
+{
+    if cursor.eat_word(Word::Notify) {
+        let sig = cursor.sig()?;
+        Ok(Some(sig))
+    } else {
+        Ok(None)
     }
+}
 
-    /// `type Name ["=" literal] ["notify" sig] ";"`
-    fn property(&mut self) -> Result<Property, ParseFault>
-        ensures reads { Reads spell_property tree_of_property EndsAnywhere self.old result self.new }
-        ensures shorter { OnOk result (length self.new < length self.old) }
-    {
-        let kind = self.kind()?;
-        let name = self.name()?;
-        let initial = self.initial()?;
-        let notify = self.notify()?;
-        self.expect(Symbol::Semicolon)?;
-        Ok(Property {
-            kind,
-            name,
-            initial,
-            notify,
-        })
-    }
+/// `type Name ["=" literal] ["notify" sig] ";"`
+fn property(cursor: &mut Cursor) -> Result<Property, ParseFault>
+    ensures reads { Reads spell_property tree_of_property EndsAnywhere cursor.old result cursor.new }
+    ensures shorter { OnOk result (length cursor.new < length cursor.old) }
+{
+    let kind = cursor.kind()?;
+    let name = cursor.name()?;
+    let initial = initial(cursor)?;
+    let notify = notify(cursor)?;
+    cursor.expect(Symbol::Semicolon)?;
+    Ok(Property {
+        kind,
+        name,
+        initial,
+        notify,
+    })
+}
 
-    /// `Name "(" [signal_parameter {"," signal_parameter}] ")" ";"`
-    fn signal(&mut self) -> Result<Signal, ParseFault>
-        ensures reads { Reads spell_signal tree_of_signal EndsAnywhere self.old result self.new }
-        ensures shorter { OnOk result (length self.new < length self.old) }
-    {
-        let name = self.name()?;
-        let parameters = self.signal_parameters()?;
-        self.expect(Symbol::Semicolon)?;
-        Ok(Signal { name, parameters })
-    }
+/// `Name "(" [signal_parameter {"," signal_parameter}] ")" ";"`
+fn signal(cursor: &mut Cursor) -> Result<Signal, ParseFault>
+    ensures reads { Reads spell_signal tree_of_signal EndsAnywhere cursor.old result cursor.new }
+    ensures shorter { OnOk result (length cursor.new < length cursor.old) }
+{
+    let name = cursor.name()?;
+    let parameters = signal_parameters(cursor)?;
+    cursor.expect(Symbol::Semicolon)?;
+    Ok(Signal { name, parameters })
+}
 
-    /// `Name "(" [slot_parameter {"," slot_parameter}] ")" block`
-    fn slot(&mut self) -> Result<Slot, ParseFault>
-        ensures reads { Reads spell_slot tree_of_slot EndsAnywhere self.old result self.new }
-        ensures shorter { OnOk result (length self.new < length self.old) }
-    {
-        let name = self.name()?;
-        let parameters = self.slot_parameters()?;
-        let body = self.block()?;
-        Ok(Slot {
-            name,
-            parameters,
-            body,
-        })
-    }
+/// `Name "(" [slot_parameter {"," slot_parameter}] ")" block`
+fn slot(cursor: &mut Cursor) -> Result<Slot, ParseFault>
+    ensures reads { Reads spell_slot tree_of_slot EndsAnywhere cursor.old result cursor.new }
+    ensures shorter { OnOk result (length cursor.new < length cursor.old) }
+{
+    let name = cursor.name()?;
+    let parameters = slot_parameters(cursor)?;
+    let body = cursor.block()?;
+    Ok(Slot {
+        name,
+        parameters,
+        body,
+    })
+}
 
-    /// `"property" property | "signal" signal | "slot" slot`
-    pub fn member(&mut self) -> Result<Member, ParseFault>
-        ensures reads { Reads spell_member tree_of_member EndsAnywhere self.old result self.new }
-        ensures shorter { OnOk result (length self.new < length self.old) }
-    {
-        if self.eat_word(Word::Property) {
-            Ok(Member::Property(self.property()?))
-        } else if self.eat_word(Word::Signal) {
-            Ok(Member::Signal(self.signal()?))
-        } else if self.eat_word(Word::Slot) {
-            Ok(Member::Slot(self.slot()?))
-        } else {
-            Err(ParseFault::Syntax)
-        }
+/// `"property" property | "signal" signal | "slot" slot`
+pub fn next_member(cursor: &mut Cursor) -> Result<Member, ParseFault>
+    ensures reads { Reads spell_member tree_of_member EndsAnywhere cursor.old result cursor.new }
+    ensures shorter { OnOk result (length cursor.new < length cursor.old) }
+{
+    if cursor.eat_word(Word::Property) {
+        Ok(Member::Property(property(cursor)?))
+    } else if cursor.eat_word(Word::Signal) {
+        Ok(Member::Signal(signal(cursor)?))
+    } else if cursor.eat_word(Word::Slot) {
+        Ok(Member::Slot(slot(cursor)?))
+    } else {
+        Err(ParseFault::Syntax)
     }
 }

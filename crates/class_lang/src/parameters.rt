@@ -1,76 +1,86 @@
 //! The parameters of signals and slots.
 
-ghost use Rattle.std.specs.Prelude.{◌<◌, length, map, OnOk};
+ghost use Rattle.std.specs.Prelude.{◌<◌, ◌≤◌, length, map, OnOk};
 ghost use Rattle.slot_lang.specs.Lists.{spell_listed};
 ghost use Rattle.slot_lang.specs.Reading.{Reads, EndsAnywhere};
+ghost use Rattle.class_lang.specs.Optional.{spell_optional_name, EndsWithoutName};
 ghost use Rattle.class_lang.specs.Parameters.{spell_signal_parameter, tree_of_signal_parameter, EndsSignalParameter, spell_slot_parameter, tree_of_slot_parameter};
 
-use crate::parser::Parser;
 use crate::program::Parameter;
-use slot_lang::{ParseFault, Symbol};
+use signatures::Name;
+use slot_lang::{Cursor, ParseFault, Symbol, Token};
 use sqlite_items::Items;
 
-impl<'a> Parser<'a> {
-    /// `type [Name]`
-    fn signal_parameter(&mut self) -> Result<Parameter, ParseFault>
-        ensures reads { Reads spell_signal_parameter tree_of_signal_parameter EndsSignalParameter self.old result self.new }
-        ensures shorter { OnOk result (length self.new < length self.old) }
-    {
-        let kind = self.kind()?;
-        let name = self.optional_name()?;
-        Ok(Parameter { kind, name })
+/// `[Name]`
+fn optional_name(cursor: &mut Cursor) -> Result<Option<Name>, ParseFault>
+    ensures reads { Reads spell_optional_name (λ name. name) EndsWithoutName cursor.old result cursor.new }
+    ensures no_longer { OnOk result (length cursor.new ≤ length cursor.old) }
+{
+    match cursor.rest().first() {
+        Some(Token::Name(_)) => Ok(Some(cursor.name()?)),
+        _ => Ok(None),
     }
+}
 
-    /// `type Name`
-    fn slot_parameter(&mut self) -> Result<Parameter, ParseFault>
-        ensures reads { Reads spell_slot_parameter tree_of_slot_parameter EndsAnywhere self.old result self.new }
-        ensures shorter { OnOk result (length self.new < length self.old) }
-    {
-        let kind = self.kind()?;
-        let name = self.name()?;
-        Ok(Parameter {
-            kind,
-            name: Some(name),
-        })
-    }
+/// `type [Name]`
+fn signal_parameter(cursor: &mut Cursor) -> Result<Parameter, ParseFault>
+    ensures reads { Reads spell_signal_parameter tree_of_signal_parameter EndsSignalParameter cursor.old result cursor.new }
+    ensures shorter { OnOk result (length cursor.new < length cursor.old) }
+{
+    let kind = cursor.kind()?;
+    let name = optional_name(cursor)?;
+    Ok(Parameter { kind, name })
+}
 
-    /// `"(" [signal_parameter {"," signal_parameter}] ")"`
-    pub fn signal_parameters(&mut self) -> Result<Items<Parameter>, ParseFault>
-        ensures reads { Reads (spell_listed spell_signal_parameter) (map tree_of_signal_parameter) EndsAnywhere self.old result self.new }
-        ensures shorter { OnOk result (length self.new < length self.old) }
-    {
-        let mut parameters = Items::new(self.alloc());
-        self.expect(Symbol::Open)?;
-        if self.eat(Symbol::Close) {
-            return Ok(parameters);
-        }
-        let first = self.signal_parameter()?;
-        parameters.push(first)?;
-        while self.eat(Symbol::Comma) {
-            let parameter = self.signal_parameter()?;
-            parameters.push(parameter)?;
-        }
-        self.expect(Symbol::Close)?;
-        Ok(parameters)
-    }
+/// `type Name`
+fn slot_parameter(cursor: &mut Cursor) -> Result<Parameter, ParseFault>
+    ensures reads { Reads spell_slot_parameter tree_of_slot_parameter EndsAnywhere cursor.old result cursor.new }
+    ensures shorter { OnOk result (length cursor.new < length cursor.old) }
+{
+    let kind = cursor.kind()?;
+    let name = cursor.name()?;
+    Ok(Parameter {
+        kind,
+        name: Some(name),
+    })
+}
 
-    /// `"(" [slot_parameter {"," slot_parameter}] ")"`
-    pub fn slot_parameters(&mut self) -> Result<Items<Parameter>, ParseFault>
-        ensures reads { Reads (spell_listed spell_slot_parameter) (map tree_of_slot_parameter) EndsAnywhere self.old result self.new }
-        ensures shorter { OnOk result (length self.new < length self.old) }
-    {
-        let mut parameters = Items::new(self.alloc());
-        self.expect(Symbol::Open)?;
-        if self.eat(Symbol::Close) {
-            return Ok(parameters);
-        }
-        let first = self.slot_parameter()?;
-        parameters.push(first)?;
-        while self.eat(Symbol::Comma) {
-            let parameter = self.slot_parameter()?;
-            parameters.push(parameter)?;
-        }
-        self.expect(Symbol::Close)?;
-        Ok(parameters)
+/// `"(" [signal_parameter {"," signal_parameter}] ")"`
+pub fn signal_parameters(cursor: &mut Cursor) -> Result<Items<Parameter>, ParseFault>
+    ensures reads { Reads (spell_listed spell_signal_parameter) (map tree_of_signal_parameter) EndsAnywhere cursor.old result cursor.new }
+    ensures shorter { OnOk result (length cursor.new < length cursor.old) }
+{
+    let mut parameters = Items::new(cursor.alloc());
+    cursor.expect(Symbol::Open)?;
+    if cursor.eat(Symbol::Close) {
+        return Ok(parameters);
     }
+    let first = signal_parameter(cursor)?;
+    parameters.push(first)?;
+    while cursor.eat(Symbol::Comma) {
+        let parameter = signal_parameter(cursor)?;
+        parameters.push(parameter)?;
+    }
+    cursor.expect(Symbol::Close)?;
+    Ok(parameters)
+}
+
+/// `"(" [slot_parameter {"," slot_parameter}] ")"`
+pub fn slot_parameters(cursor: &mut Cursor) -> Result<Items<Parameter>, ParseFault>
+    ensures reads { Reads (spell_listed spell_slot_parameter) (map tree_of_slot_parameter) EndsAnywhere cursor.old result cursor.new }
+    ensures shorter { OnOk result (length cursor.new < length cursor.old) }
+{
+    let mut parameters = Items::new(cursor.alloc());
+    cursor.expect(Symbol::Open)?;
+    if cursor.eat(Symbol::Close) {
+        return Ok(parameters);
+    }
+    let first = slot_parameter(cursor)?;
+    parameters.push(first)?;
+    while cursor.eat(Symbol::Comma) {
+        let parameter = slot_parameter(cursor)?;
+        parameters.push(parameter)?;
+    }
+    cursor.expect(Symbol::Close)?;
+    Ok(parameters)
 }

@@ -9,11 +9,11 @@ ghost use Rattle.class_lang.specs.declared.fault.TextFault.{TextFault};
 ghost use Rattle.class_lang.specs.declared.fault.TextFault.TheVariants.{Memory};
 ghost use Rattle.class_lang.specs.declared.program.Program.{Program};
 
+use crate::declarations::program;
 use crate::fault::TextFault;
 use crate::limits::MOST_BYTES;
-use crate::parser::Parser;
 use crate::program::Program;
-use slot_lang::{ParseFault, Token, has_plain_reference, nesting, tokens};
+use slot_lang::{Cursor, ParseFault, Token, has_plain_reference, nesting, tokens};
 use std::alloc::Global;
 
 /// Reads a program from its text: at most 1,048,576 bytes, in time that grows as the text does.
@@ -58,7 +58,7 @@ fn parse(alloc: Global, tokens: &[Token]) -> Result<Program, ParseFault>
     ensures read { IfOk result (λ program. IsProgram tokens.now program) }
     ensures refused { result ≡ Err Syntax → (program : Program) → IsProgram tokens.now program → ⊥ }
 {
-    Parser::new(alloc, tokens).program()
+    program(&mut Cursor::new(alloc, tokens))
 }
 
 /// Tokens, and so a text, are at most one program.

@@ -5,7 +5,6 @@ ghost use Rattle.class_outlines.specs.Places.{StandsAt, Found, IsPlace};
 
 use crate::outline::Outline;
 use class_lang::{Parameter, Property};
-use meta_model::{MetaObject, MetaProperty};
 use signatures::Name;
 
 /// What may have a name.
@@ -17,27 +16,11 @@ pub trait Named {
         ensures { IsTrue result ↔ has_name self.now name.now };
 }
 
-impl Named for MetaObject {
-    ghost has_name = { λ class name. class.name ≡ name };
-
-    fn is_named(&self, name: &Name) -> bool {
-        name.is_same(&self.name)
-    }
-}
-
-impl Named for MetaProperty {
-    ghost has_name = { λ property name. property.name ≡ name };
-
-    fn is_named(&self, name: &Name) -> bool {
-        self.name.is_same(name)
-    }
-}
-
 impl Named for Outline {
     ghost has_name = { λ class name. class.name ≡ name };
 
     fn is_named(&self, name: &Name) -> bool {
-        self.name.is_same(name)
+        name.is_same(&self.name)
     }
 }
 

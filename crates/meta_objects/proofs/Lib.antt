@@ -5,3 +5,4 @@ pub mod Soundness
 pub mod Deciding
 pub mod Whole
 pub mod Refusals
+pub mod Indexing

@@ -1,12 +1,12 @@
 //! Meta-objects: a program whose names are resolved to numbers.
 #![tactic(auto)]
 
+mod class_index;
 mod laws;
 mod load_object;
 mod load_uses;
 mod load_wire;
 mod meta;
-mod method_places;
 
 pub use class_outlines::MetaFault;
 pub use laws::one_loading;

@@ -8,13 +8,13 @@ ghost use Rattle.meta_model.specs.declared.object.MetaMethod.{MetaMethod};
 ghost use Rattle.meta_model.specs.declared.object.MetaObject.{MetaObject};
 ghost use Rattle.signatures.specs.declared.value.Value.TheVariants.{Ref};
 
+use crate::class_index::ClassIndex;
 use crate::load_object::load_objects;
 use crate::load_uses::{Uses, load_uses};
-use crate::method_places::{place_of_method, place_of_sig};
 use class_lang::Program;
 use class_outlines::{
     MetaFault, has_bad_notify, has_duplicate_class, has_duplicate_member, has_no_type,
-    outline_classes, place_of,
+    outline_classes,
 };
 use meta_model::{MetaMethod, MetaObject, MetaOwns, MetaWire, ValueType};
 use signatures::{Kind, Name, ObjectId, Sig, Value, fits};
@@ -28,9 +28,11 @@ pub struct Meta {
     classes: Items<MetaObject>,
     wires: Items<MetaWire>,
     owns: Items<MetaOwns>,
+    index: ClassIndex,
 }
 
 impl Model for Meta {
+    ghost use Rattle.meta_objects.specs.Indexes.{IsIndexOf};
     ghost use Rattle.meta_model.specs.Loaded.{Loaded};
     ghost use Rattle.meta_model.specs.Sound.{IsSound};
     ghost use Rattle.meta_model.specs.contracts.object.Statement as statement;
@@ -42,7 +44,7 @@ impl Model for Meta {
 
     ghost view = { λ meta. record { classes = meta.classes; wires = meta.wires; owns = meta.owns } };
 
-    ghost invariant = { λ meta. IsSound (record { classes = meta.classes; wires = meta.wires; owns = meta.owns }) };
+    ghost invariant = { λ meta. IsSound (record { classes = meta.classes; wires = meta.wires; owns = meta.owns }) × IsIndexOf meta.classes meta.index };
 }
 
 /// Whether a wire covers a connection, and whether its method fits its signal.
@@ -89,10 +91,12 @@ impl Meta {
             return Err(MetaFault::NoType);
         }
         let classes = load_objects(alloc, all, bodies.as_slice())?;
+        let index = ClassIndex::new(alloc, classes.as_slice())?;
         Ok(Meta {
             classes,
             wires,
             owns,
+            index,
         })
     }
 
@@ -123,9 +127,7 @@ impl Meta {
         ensures value { MatchOption result ((c : ℕ) → ¬ IsClassNamed self.now name.now c) (λ c. IsClassNamed self.now name.now c) }
         ensures only { IfSome result (λ c. (j : ℕ) → IsClassNamed self.now name.now j → j ≡ c) }
     {
-        // Reading a field lets the proof use that no two members are alike.
-        let _ = &self.classes;
-        place_of(self.classes(), name)
+        self.index.class(name)
     }
 
     /// The class of this number, or `None` past the last one.
@@ -194,9 +196,12 @@ impl Meta {
         ensures value { MatchOption result ((m : ℕ) → ¬ HasSig self.now class sig.now m) (λ m. HasSig self.now class sig.now m) }
         ensures only { IfSome result (λ m. (j : ℕ) → HasSig self.now class sig.now j → j ≡ m) }
     {
-        // Reading a field lets the proof use that no two members are alike.
-        let _ = &self.classes;
-        place_of_sig(self.object(class)?.methods.as_slice(), sig)
+        let found = self.by_name(class, &sig.name, sig.types.len())?;
+        if self.has_sig(class, found, sig) {
+            Some(found)
+        } else {
+            None
+        }
     }
 
     /// The number of the method of this name with so many parameters, in the class of this number, or `None` where
@@ -205,9 +210,7 @@ impl Meta {
         ensures value { MatchOption result ((m : ℕ) → ¬ IsMethodNamed self.now class name.now count m) (λ m. IsMethodNamed self.now class name.now count m) }
         ensures only { IfSome result (λ m. (j : ℕ) → IsMethodNamed self.now class name.now count j → j ≡ m) }
     {
-        // Reading a field lets the proof use that no two members are alike.
-        let _ = &self.classes;
-        place_of_method(self.object(class)?.methods.as_slice(), name, count)
+        self.index.method(class, name, count)
     }
 
     /// The number of the property of this name, in the class of this number, or `None` where there is none.
@@ -215,9 +218,7 @@ impl Meta {
         ensures value { MatchOption result ((q : ℕ) → ¬ IsPropertyNamed self.now class name.now q) (λ q. IsPropertyNamed self.now class name.now q) }
         ensures only { IfSome result (λ q. (j : ℕ) → IsPropertyNamed self.now class name.now j → j ≡ q) }
     {
-        // Reading a field lets the proof use that no two members are alike.
-        let _ = &self.classes;
-        place_of(self.object(class)?.properties.as_slice(), name)
+        self.index.property(class, name)
     }
 
     /// Whether a wire covers the connection of a signal of one class to a method of another, by this kind, and whether

@@ -27,6 +27,7 @@ pub use normal::{ConstPlace, TypeEnding};
 pub use object_id::ObjectId;
 pub use qtype::{QType, types_are_same, types_begin_with};
 pub use reader::{MOST_PARAMETERS, normalise, one_normal_form, texts_are_normal};
+pub use scanner::is_blank;
 pub use sig::{Sig, fits, fits_in_order};
 pub use text::{MOST_BYTES, Text, is_text, is_text_byte};
 pub use value::Value;

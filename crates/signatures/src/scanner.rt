@@ -111,7 +111,7 @@ impl<'a> Scanner<'a> {
 }
 
 /// Whether it is a space, a tab, a carriage return or a newline.
-fn is_blank(byte: u8) -> bool
+pub fn is_blank(byte: u8) -> bool
     ensures { result ≡ is_blank byte }
 {
     byte == b' ' || byte == b'\t' || byte == b'\r' || byte == b'\n'

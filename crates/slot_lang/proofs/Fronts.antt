@@ -9,7 +9,8 @@ use Rattle.slot_lang.specs.declared.class.Run.TheVariants as run
 use Rattle.slot_lang.specs.declared.symbol.Symbol.{Symbol}
 use Rattle.slot_lang.specs.declared.symbol.Symbol.TheVariants as s
 use Rattle.slot_lang.specs.declared.token.Token.TheVariants as token
-use Rattle.slot_lang.specs.Bytes.{is_blank, class_by, class_of, belongs, IsRun}
+use Rattle.signatures.specs.Tokens.{is_blank}
+use Rattle.slot_lang.specs.Bytes.{class_by, class_of, belongs, IsRun}
 use Rattle.signatures.specs.Name.{is_letter, is_digit, is_name_byte, IsName}
 use Rattle.slot_lang.specs.declared.token.Token.{Token}
 use Rattle.signatures.specs.declared.word.Word.{Word}

@@ -2,14 +2,11 @@
 use Rattle.std.specs.Prelude.{ℕ, ◌≡◌, Bool, true, false, not, ◌&&◌, ◌||◌, nat_le, nat_eq, List, [], ◌∷◌, ◌++◌}
 use Rattle.std.specs.List.{AllByRecursion}
 use Rattle.signatures.specs.Name.{is_letter, is_digit, is_name_byte}
+use Rattle.signatures.specs.Tokens.{is_blank}
 use Rattle.slot_lang.specs.declared.class.Class.{Class}
 use Rattle.slot_lang.specs.declared.class.Class.TheVariants.{Blank, Slash, Letter, Digit, Quote, Other}
 use Rattle.slot_lang.specs.declared.class.Run.{Run}
 use Rattle.slot_lang.specs.declared.class.Run.TheVariants.{Name, Number, Text, Line}
-
--- space, tab, carriage return and newline
-abbrev pub is_blank : ℕ → Bool
-is_blank b = nat_eq b 32 || nat_eq b 9 || nat_eq b 13 || nat_eq b 10
 
 -- the first that holds
 abbrev pub class_by : (blank slash letter digit quote : Bool) → Class

@@ -7,7 +7,8 @@ use Rattle.slot_lang.specs.declared.token.Token.{Token}
 use Rattle.slot_lang.specs.declared.token.Token.TheVariants as token
 use Rattle.signatures.specs.declared.word.Word.{Word}
 use Rattle.signatures.specs.Name.{is_letter}
-use Rattle.slot_lang.specs.Bytes.{is_blank, IsRun}
+use Rattle.signatures.specs.Tokens.{is_blank}
+use Rattle.slot_lang.specs.Bytes.{IsRun}
 use Rattle.signatures.specs.Words.{word_spelling, IsFree}
 use Rattle.slot_lang.specs.Symbols.{IsSymbolAt}
 

@@ -1,9 +1,9 @@
 //! What a byte may begin, and runs of bytes.
 
 ghost use Rattle.std.specs.Prelude.{◌≡◌, ◌≤◌, ◌+◌, length};
-ghost use Rattle.slot_lang.specs.Bytes.{class_of, is_blank, belongs, IsRun};
+ghost use Rattle.slot_lang.specs.Bytes.{class_of, belongs, IsRun};
 
-use signatures::{is_digit, is_letter, is_name_byte};
+use signatures::{is_blank, is_digit, is_letter, is_name_byte};
 
 /// What a token that begins with a byte is.
 #[derive(Clone, Copy, Debug, PartialEq, Eq)]
@@ -52,13 +52,6 @@ pub fn class_of(b: u8) -> Class
     } else {
         Class::Other
     }
-}
-
-/// Whether it is a space, a tab, a carriage return or a newline.
-pub fn is_blank(b: u8) -> bool
-    ensures { result ≡ is_blank b }
-{
-    b == b' ' || b == b'\t' || b == b'\r' || b == b'\n'
 }
 
 /// Whether the run goes on with the byte.

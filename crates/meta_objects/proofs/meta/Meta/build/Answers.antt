@@ -64,13 +64,15 @@ returns c =
 
 pub invariant_of-result : goal.invariant_of-result
 invariant_of-result c =
-    let uses = rw c.as_slice-all.ensures at c.in_ok-bodies.ensures in
-    sound c.args.program.now _
-    (outlined _ _ (fails _ c.has_duplicate_class.ensures c.if-has_duplicate_class.false) (rw c.as_slice-declared.ensures at c.in_ok-outlines.ensures))
-    (record {
-      members = rw c.as_slice-all.ensures at (fails _ c.has_duplicate_member.ensures c.if-has_duplicate_member.false);
-      names = nothing_lacks _ _ _ _ _ uses;
-      notifiers = rw c.as_slice-all.ensures at (fails _ c.has_bad_notify.ensures c.if-has_bad_notify.false);
-      types = rw c.as_slice-all.ensures at (fails _ c.has_no_type.ensures c.if-has_no_type.false);
-    })
-    _ (record { bodies = _; uses = uses; objects = rw (c.as_slice-all.ensures, c.as_slice.ensures) at c.in_ok-classes.ensures })
+    let uses = rw c.as_slice-all.ensures at c.in_ok-bodies.ensures in (
+      sound c.args.program.now _
+          (outlined _ _ (fails _ c.has_duplicate_class.ensures c.if-has_duplicate_class.false) (rw c.as_slice-declared.ensures at c.in_ok-outlines.ensures))
+          (record {
+            members = rw c.as_slice-all.ensures at (fails _ c.has_duplicate_member.ensures c.if-has_duplicate_member.false);
+            names = nothing_lacks _ _ _ _ _ uses;
+            notifiers = rw c.as_slice-all.ensures at (fails _ c.has_bad_notify.ensures c.if-has_bad_notify.false);
+            types = rw c.as_slice-all.ensures at (fails _ c.has_no_type.ensures c.if-has_no_type.false);
+          })
+          _ (record { bodies = _; uses = uses; objects = rw (c.as_slice-all.ensures, c.as_slice.ensures) at c.in_ok-classes.ensures }),
+      rw c.as_slice-2.ensures at c.in_ok-index.ensures,
+    )

@@ -1,0 +1,5 @@
+use Rattle.class_lang.proofs.Sequences.{signal_found}
+use Rattle.class_lang.proofs.members.signal.Goals as goal
+
+pub returns-clause-reads : goal.returns-clause-reads
+returns-clause-reads c = signal_found c.in_ok-name.ensures.reads c.in_ok-parameters.ensures.reads c.in_ok-expect.ensures.found

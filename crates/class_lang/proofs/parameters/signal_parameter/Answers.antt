@@ -1,0 +1,5 @@
+use Rattle.class_lang.proofs.Sequences.{signal_parameter_found}
+use Rattle.class_lang.proofs.parameters.signal_parameter.Goals as goal
+
+pub returns-clause-reads : goal.returns-clause-reads
+returns-clause-reads c = signal_parameter_found c.in_ok-kind.ensures.reads c.in_ok-name.ensures.reads

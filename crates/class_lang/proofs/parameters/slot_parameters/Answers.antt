@@ -1,0 +1,43 @@
+use Rattle.std.proofs.Common.{length, arith, ap}
+use Rattle.std.proofs.lemmas.Result.{err_from_is_err_and}
+use Rattle.slot_lang.specs.Reading.{EndsAnywhere}
+use Rattle.class_lang.specs.Parameters.{spell_slot_parameter, tree_of_slot_parameter}
+use Rattle.slot_lang.proofs.Listed.{listed_no_first, listed_start, listed_step, listed_no_next, listed_unclosed, listed_done}
+use Rattle.class_lang.proofs.Parts.{slot_parameters_are_parts}
+use Rattle.class_lang.proofs.parameters.slot_parameters.Goals as goal
+
+pub returns-in_err-first-clause-reads : goal.returns-in_err-first-clause-reads
+returns-in_err-first-clause-reads c =
+    let p = err_from_is_err_and c.from_residual-in_err-first.result c.from_residual-in_err-first.ensures.1 in
+    let same = c.if-eat.ensures.found.0 in
+    rw (p.1, p.2) (λ k. listed_no_first spell_slot_parameter tree_of_slot_parameter EndsAnywhere slot_parameters_are_parts c.in_ok-expect.ensures.found c.if-eat.ensures.found.1 (rw same at (c.in_err-first.ensures.reads k)))
+
+pub loop-cursor-init : goal.loop-cursor-init
+loop-cursor-init c =
+    let same = c.if-eat.ensures.found.0 in
+    record {
+      so_far = rw (c.in_ok-push.ensures.ok, c.new-parameters.ensures) (listed_start spell_slot_parameter tree_of_slot_parameter EndsAnywhere slot_parameters_are_parts c.in_ok-expect.ensures.found (rw same at c.in_ok-first.ensures.reads));
+      shorter = omega (arith, c.in_ok-expect.ensures.shorter, ap length same, c.in_ok-first.ensures.shorter);
+    }
+
+pub returns-in_err-parameter-clause-reads : goal.returns-in_err-parameter-clause-reads
+returns-in_err-parameter-clause-reads c =
+    let p = err_from_is_err_and c.from_residual-in_err-parameter.result c.from_residual-in_err-parameter.ensures.1 in
+    rw (p.1, p.2) (λ k. listed_no_next spell_slot_parameter tree_of_slot_parameter EndsAnywhere slot_parameters_are_parts c.loop-cursor.invariant.so_far c.loop-cursor-test.ensures.found (c.in_err-parameter.ensures.reads k))
+
+pub loop-cursor-preserved : goal.loop-cursor-preserved
+loop-cursor-preserved c = record {
+  so_far = rw c.in_ok-push-2.ensures.ok (listed_step spell_slot_parameter tree_of_slot_parameter EndsAnywhere slot_parameters_are_parts c.loop-cursor.invariant.so_far c.loop-cursor-test.ensures.found c.in_ok-parameter.ensures.reads);
+  shorter = omega (arith, c.loop-cursor-test.ensures.shorter, c.in_ok-parameter.ensures.shorter);
+}
+
+pub returns-in_err-expect-2-clause-reads : goal.returns-in_err-expect-2-clause-reads
+returns-in_err-expect-2-clause-reads c =
+    let p = err_from_is_err_and c.from_residual-in_err-expect-2.result c.from_residual-in_err-expect-2.ensures.1 in
+    let same = c.loop-cursor-test.ensures.found.0 in
+    rw (p.1, p.2) (λ k. listed_unclosed spell_slot_parameter tree_of_slot_parameter EndsAnywhere slot_parameters_are_parts c.loop-cursor.invariant.so_far c.loop-cursor-test.ensures.found.1 (rw same at c.in_err-expect-2.ensures.found.1))
+
+pub returns-clause-reads : goal.returns-clause-reads
+returns-clause-reads c =
+    let same = c.loop-cursor-test.ensures.found.0 in
+    listed_done spell_slot_parameter tree_of_slot_parameter EndsAnywhere slot_parameters_are_parts c.loop-cursor.invariant.so_far (rw same at c.in_ok-expect-2.ensures.found)

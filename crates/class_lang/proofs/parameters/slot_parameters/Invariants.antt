@@ -1,0 +1,15 @@
+use Rattle.std.proofs.Common.{◌<◌, length}
+use Rattle.slot_lang.specs.Reading.{EndsAnywhere}
+use Rattle.class_lang.specs.Parameters.{spell_slot_parameter, tree_of_slot_parameter}
+use Rattle.slot_lang.proofs.Listed.{ListedSoFar}
+use Rattle.class_lang.proofs.Parts.{slot_parameters_are_parts}
+use Rattle.class_lang.proofs.parameters.slot_parameters.Given as goal
+
+abbrev pub invariant-loop-cursor : goal.invariant-loop-cursor
+invariant-loop-cursor l = record {
+  so_far : ListedSoFar spell_slot_parameter tree_of_slot_parameter EndsAnywhere slot_parameters_are_parts l.fn.cursor l.parameters l.cursor;
+  shorter : length l.cursor < length l.fn.cursor;
+}
+
+abbrev pub decreases-loop-cursor : goal.decreases-loop-cursor
+decreases-loop-cursor l = length l.cursor

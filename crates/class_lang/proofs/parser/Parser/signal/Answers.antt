@@ -1,5 +1,0 @@
-use Rattle.class_lang.proofs.Sequences.{signal_found}
-use Rattle.class_lang.proofs.parser.Parser.signal.Goals as goal
-
-pub returns-clause-reads : goal.returns-clause-reads
-returns-clause-reads c = signal_found c.in_ok-name.ensures.reads c.in_ok-parameters.ensures.reads c.in_ok-expect.ensures.found

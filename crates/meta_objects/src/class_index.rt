@@ -1,0 +1,135 @@
+//! Indexes by which classes and their members are found by name.
+
+ghost use Rattle.std.specs.Prelude.{◌≡◌, ℕ, ◌<◌, List, IfOk, OnOk, vec_len};
+ghost use Rattle.std.specs.List.{AllZip};
+ghost use Rattle.name_index.specs.Places.{place_in};
+ghost use Rattle.meta_objects.specs.Indexes.{place_by, IndexesClasses, IndexesProperties, IndexesMethods, IndexesMembers, IsIndexOf, property_in, method_in};
+
+use meta_model::{MetaMethod, MetaObject, MetaProperty};
+use name_index::NameIndex;
+use signatures::Name;
+use sqlite_items::Items;
+use std::alloc::{AllocError, Global};
+
+/// Where the members of a class stand, by their names.
+#[derive(Drop)]
+pub struct MemberIndex {
+    /// Where its properties stand.
+    pub properties: NameIndex,
+    /// Where its methods stand: first those without parameters, then those with one, and so on.
+    pub methods: Items<NameIndex>,
+}
+
+/// Where classes and their members stand, by their names.
+#[derive(Drop)]
+pub struct ClassIndex {
+    /// The classes' numbers.
+    pub classes: NameIndex,
+    /// Their members, by the classes' numbers.
+    pub members: Items<MemberIndex>,
+}
+
+impl ClassIndex {
+    /// The index of these classes; its error is that memory was refused.
+    pub fn new(alloc: Global, classes: &[MetaObject]) -> Result<ClassIndex, AllocError>
+        ensures { IfOk result (λ index. IsIndexOf classes.now index) }
+    {
+        let names = index_classes(alloc, classes)?;
+        let members = index_members(alloc, classes)?;
+        Ok(ClassIndex {
+            classes: names,
+            members,
+        })
+    }
+
+    /// The number of the class of this name.
+    pub fn class(&self, name: &Name) -> Option<usize>
+        ensures { result ≡ place_in self.now.classes name.now }
+    {
+        self.classes.find(name)
+    }
+
+    /// The number of the property of this name, in the class of this number.
+    pub fn property(&self, class: usize, name: &Name) -> Option<usize>
+        ensures { result ≡ property_in self.now.members class name.now }
+    {
+        self.members.get(class)?.properties.find(name)
+    }
+
+    /// The number of the method of this name with so many parameters, in the class of this number.
+    pub fn method(&self, class: usize, name: &Name, count: usize) -> Option<usize>
+        ensures { result ≡ method_in self.now.members class name.now count }
+    {
+        self.members.get(class)?.methods.get(count)?.find(name)
+    }
+}
+
+/// The classes' numbers by their names.
+fn index_classes(alloc: Global, classes: &[MetaObject]) -> Result<NameIndex, AllocError>
+    ensures { IfOk result (IndexesClasses classes.now) }
+{
+    let mut index = NameIndex::new(alloc);
+    for (number, class) in classes.iter().enumerate() {
+        index.insert(&class.name, number)?;
+    }
+    Ok(index)
+}
+
+/// The indexes of the classes' members, in the classes' order.
+fn index_members(alloc: Global, classes: &[MetaObject]) -> Result<Items<MemberIndex>, AllocError>
+    ensures { IfOk result (AllZip IndexesMembers classes.now) }
+{
+    let mut members = Items::new(alloc);
+    for class in classes {
+        let index = index_class(alloc, class)?;
+        members.push(index)?;
+    }
+    Ok(members)
+}
+
+/// The index of the class's members.
+fn index_class(alloc: Global, class: &MetaObject) -> Result<MemberIndex, AllocError>
+    ensures { IfOk result (IndexesMembers class.now) }
+{
+    let properties = index_properties(alloc, class.properties.as_slice())?;
+    let methods = index_methods(alloc, class.methods.as_slice())?;
+    Ok(MemberIndex {
+        properties,
+        methods,
+    })
+}
+
+/// The properties' numbers by their names.
+fn index_properties(alloc: Global, properties: &[MetaProperty]) -> Result<NameIndex, AllocError>
+    ensures { IfOk result (IndexesProperties properties.now) }
+{
+    let mut index = NameIndex::new(alloc);
+    for (number, property) in properties.iter().enumerate() {
+        index.insert(&property.name, number)?;
+    }
+    Ok(index)
+}
+
+/// The methods' numbers by their names, for each number of parameters.
+fn index_methods(alloc: Global, methods: &[MetaMethod]) -> Result<Items<NameIndex>, AllocError>
+    ensures { IfOk result (IndexesMethods methods.now) }
+{
+    let mut indexes = Vec::new(alloc);
+    for (number, method) in methods.iter().enumerate() {
+        let count = method.sig.types.len();
+        grow_past(alloc, &mut indexes, count)?;
+        indexes[count].insert(&method.sig.name, number)?;
+    }
+    Ok(Items::from_vec(indexes))
+}
+
+/// Adds empty indexes until there is one of this number.
+fn grow_past(alloc: Global, indexes: &mut Vec<NameIndex>, count: usize) -> Result<(), AllocError>
+    ensures same { OnOk result ((k : ℕ) (name : List ℕ) → place_by indexes.new.items k name ≡ place_by indexes.old.items k name) }
+    ensures there { OnOk result (count < vec_len indexes.new) }
+{
+    while indexes.len() <= count {
+        indexes.push(NameIndex::new(alloc))?;
+    }
+    Ok(())
+}

@@ -1,0 +1,6 @@
+//! Names with the places of what they name.
+#![tactic(auto)]
+
+mod index;
+
+pub use index::NameIndex;
