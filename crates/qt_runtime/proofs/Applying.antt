@@ -1,14 +1,16 @@
 -- Events that are applied one after the other.
-use Rattle.std.proofs.Common.{◌≡◌, ℕ, suc, ◌+◌, ◌<◌, ◌⊎◌, Bool, true, false, List, [], ◌∷◌, ◌++◌, length, take, drop, Result, Ok, Err, refl, sym, ap, ◌∙◌, subst, inl, inr, append_assoc, append-nil, take-append-drop, arith}
+use Rattle.std.proofs.Common.{◌≡◌, ℕ, ◌⊎◌, true, false, List, [], ◌∷◌, ◌++◌, Result, Ok, Err, refl, sym, ap, ◌∙◌, subst, inl, inr, append_assoc}
 use Rattle.std.specs.Result.{IsErrAnd}
 use Rattle.script_lang.specs.declared.event.Event.{Event}
 use Rattle.meta_model.specs.Loaded.{Loaded}
-use Rattle.qt_runtime.specs.declared.fault.Fault.{Fault}
-use Rattle.qt_runtime.specs.declared.fault.Fault.TheVariants.{BadType, TooDeep, Steps, Memory, Stopped}
-use Rattle.qt_runtime.specs.State.{State}
-use Rattle.qt_runtime.specs.Runs.{done, Follows, by_rule, by_event, IsDue, goes_on, is_next, Reason}
-use Rattle.qt_runtime.specs.Seen.{Seen, Completes, Halts, Stays, RunsAll, at}
-use Rattle.qt_runtime.proofs.Going.{runs-trans}
+use Rattle.machine_state.specs.declared.fault.Fault.{Fault}
+use Rattle.machine_state.specs.declared.fault.Fault.TheVariants.{BadType, TooDeep, Steps, Memory, Stopped}
+use Rattle.machine_state.specs.State.{State}
+use Rattle.machine_rules.specs.Runs.{done, Follows, by_rule, by_event, IsDue, goes_on, is_next}
+use Rattle.qt_runtime.specs.Causes.{Cause}
+use Rattle.qt_runtime.specs.Seen.{Seen, Completes, Halts, Stays, RunsAll}
+use Rattle.machine_state.specs.Worlds.{at}
+use Rattle.machine_rules.proofs.Going.{runs-trans}
 
 pub completes-none : {a : Seen} → a.stopped ≡ false → Completes a [] a
 completes-none went = record { went = went; same = refl; runs = done }
@@ -32,7 +34,7 @@ halts-after {a} {b} {c} {f} {es} {fs} x y =
       split = ap (λ (l : List Event). es ++ l) z.split ∙ sym (append_assoc es z.taken z.rest);
       stack = z.stack;
       runs = runs-trans x.runs z.runs;
-      reason = z.reason;
+      cause = z.cause;
     }
 
 -- a rule that is due stays due, and one that follows still follows, whatever events come after
@@ -44,18 +46,18 @@ follows-more : {p : Loaded} {s t : State} {es rest : List Event} (more : List Ev
 follows-more more (by_rule x) = by_rule x
 follows-more more (by_event x) = by_event x
 
-reason-more : (p : Loaded) (d left : ℕ) (s : State) (es more : List Event) (f : Fault) → Reason p d s left es f → Reason p d s left (es ++ more) f
-reason-more p d left s es more BadType r =
+cause-more : (p : Loaded) (d left : ℕ) (s : State) (es more : List Event) (f : Fault) → Cause p d s left es f → Cause p d s left (es ++ more) f
+cause-more p d left s es more BadType r =
     elim r.1 [
-      | inl stuck ↦ (r.0, inl stuck)
+      | inl lacks ↦ (r.0, inl lacks)
       | inr ill ↦ (r.0, inr (record { t = ill.t; rest = ill.rest ++ more; follows = follows-more more ill.follows; ill = ill.ill }))
     ]
-reason-more p d left s es more TooDeep r =
+cause-more p d left s es more TooDeep r =
     let deep = r.1 in
     (r.0, record { t = deep.t; rest = deep.rest ++ more; follows = follows-more more deep.follows; well = deep.well; deep = deep.deep })
-reason-more p d left s es more Steps r = (r.0, due-more more r.1)
-reason-more p d left s es more Memory r = r
-reason-more p d left s es more Stopped r = absurd r
+cause-more p d left s es more Steps r = (r.0, due-more more r.1)
+cause-more p d left s es more Memory r = r
+cause-more p d left s es more Stopped r = absurd r
 
 -- a run that stopped takes no further event
 pub halts-more : {a c : Seen} {f : Fault} {es : List Event} (more : List Event) → Halts a es f c → Halts a (es ++ more) f c
@@ -67,7 +69,7 @@ halts-more {a} {c} {f} {es} more x = record {
   split = ap (λ (l : List Event). l ++ more) x.split ∙ append_assoc x.taken x.rest more;
   stack = x.stack;
   runs = x.runs;
-  reason = reason-more a.program a.depth c.world.left (at c.world x.stack) x.rest more f x.reason;
+  cause = cause-more a.program a.depth c.world.left (at c.world x.stack) x.rest more f x.cause;
 }
 
 -- where a run completed the machine has not stopped

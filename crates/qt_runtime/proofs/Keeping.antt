@@ -1,25 +1,26 @@
 -- What every machine's world keeps, as objects and connections are added.
-use Rattle.std.proofs.Common.{◌≡◌, ℕ, ◌+◌, ◌-◌, ◌<◌, ◌^◌, List, [], ◌∷◌, ◌++◌, Result, Ok, Err, sym, subst, arith}
+use Rattle.std.proofs.Common.{◌≡◌, ℕ, ◌+◌, ◌<◌, List, [], ◌∷◌, ◌++◌, Result, Ok, Err, sym, subst, arith}
 use Rattle.std.specs.List.{AllByRecursion}
 use Rattle.script_lang.specs.declared.event.Connect.{Connect as Connecting}
 use Rattle.meta_model.specs.declared.object.MetaObject.{MetaObject}
 use Rattle.meta_model.specs.Loaded.{Loaded}
-use Rattle.qt_runtime.specs.declared.connections.Connection.{Connection}
-use Rattle.qt_runtime.specs.declared.fault.Fault.{Fault}
-use Rattle.qt_runtime.specs.declared.fault.Fault.TheVariants.{BadType, TooDeep, Steps, Memory, Stopped}
-use Rattle.qt_runtime.specs.declared.judging.Joint.{Joint}
-use Rattle.qt_runtime.specs.declared.object_tree.Object.{Object}
-use Rattle.qt_runtime.specs.declared.world.World.{World}
-use Rattle.qt_runtime.specs.Sound.{Joined, Sound}
-use Rattle.qt_runtime.specs.Goes.{Same}
-use Rattle.qt_runtime.specs.Taking.{Keeps, accepted, Adds, IsJoint}
+use Rattle.machine_state.specs.declared.connections.Connection.{Connection}
+use Rattle.machine_state.specs.declared.fault.Fault.{Fault}
+use Rattle.machine_state.specs.declared.fault.Fault.TheVariants.{BadType, TooDeep, Steps, Memory, Stopped}
+use Rattle.machine_state.specs.declared.connections.Joint.{Joint}
+use Rattle.machine_state.specs.declared.object_tree.Object.{Object}
+use Rattle.machine_state.specs.declared.world.World.{World}
+use Rattle.machine_rules.specs.Sound.{Joined, Sound}
+use Rattle.machine_rules.specs.Goes.{Same}
+use Rattle.qt_runtime.specs.Taking.{Keeps, IsJoint}
+use Rattle.machine_state.specs.Worlds.{accepted, Adds}
 use Rattle.qt_runtime.proofs.Typed.{IsBlank, blank-typed, typed-snoc, get-append}
 
-all-snoc : {X : Type 0} (P : X → Type 0) (xs : List X) (x : X) → AllByRecursion P xs → P x → AllByRecursion P (xs ++ x ∷ [])
+pub all-snoc : {X : Type 0} (P : X → Type 0) (xs : List X) (x : X) → AllByRecursion P xs → P x → AllByRecursion P (xs ++ x ∷ [])
 all-snoc P [] x all p = (p, tt)
 all-snoc P (y ∷ ys) x all p = (all.0, all-snoc P ys x all.1 p)
 
-all-weaken : {X : Type 0} (P Q : X → Type 0) (xs : List X) → ((x : X) → P x → Q x) → AllByRecursion P xs → AllByRecursion Q xs
+pub all-weaken : {X : Type 0} (P Q : X → Type 0) (xs : List X) → ((x : X) → P x → Q x) → AllByRecursion P xs → AllByRecursion Q xs
 all-weaken P Q [] f all = tt
 all-weaken P Q (x ∷ xs) f all = (f x all.0, all-weaken P Q xs f all.1)
 

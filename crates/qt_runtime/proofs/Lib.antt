@@ -1,15 +1,11 @@
-pub mod Shapes
-pub mod Keeps
-pub mod Going
-pub mod Fields
-pub mod Beginning
-pub mod Types
-pub mod Writing
-pub mod Bodies
-pub mod Reading
-pub mod Typed
-pub mod Fitting
-pub mod Verdicts
-pub mod Taken
-pub mod Keeping
-pub mod Applying
+mod Typed
+mod Fitting
+mod Verdicts
+mod Taken
+mod Keeping
+mod Applying
+pub mod Inherited
+pub mod Leading
+pub mod Standing
+pub mod Lacking
+pub mod Halting

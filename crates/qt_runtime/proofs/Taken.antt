@@ -1,5 +1,5 @@
 -- What the taking of an event comes to.
-use Rattle.std.proofs.Common.{◌≡◌, ◌≢◌, ℕ, zero, suc, ◌+◌, ◌-◌, ◌<◌, ◌≤◌, ◌⊎◌, List, [], ◌∷◌, ◌++◌, length, map, Result, Ok, Err, MatchResult, Some, None, slice_get, refl, sym, ap, ◌∙◌, subst, inl, inr, arith}
+use Rattle.std.proofs.Common.{◌≡◌, ℕ, suc, ◌+◌, ◌-◌, ◌<◌, ◌≤◌, List, [], ◌∷◌, ◌++◌, map, Result, Ok, Err, MatchResult, Some, slice_get, refl, sym, ap, ◌∙◌, subst, inr, arith}
 use Rattle.std.specs.Result.{IsErrAnd}
 use Rattle.signatures.specs.declared.value.Value.{Value}
 use Rattle.signatures.specs.declared.kind.Kind.{Kind}
@@ -12,26 +12,25 @@ use Rattle.meta_model.specs.declared.object.MetaMethod.{MetaMethod}
 use Rattle.meta_model.specs.Loaded.{Loaded}
 use Rattle.meta_model.specs.declared.object.MetaProperty.{MetaProperty}
 use Rattle.meta_model.specs.Members.{IsClassNamed, IsMethod}
-use Rattle.qt_runtime.specs.declared.entry.Entry.{Entry}
-use Rattle.qt_runtime.specs.declared.entry.Entry.TheVariants as entry
-use Rattle.qt_runtime.specs.declared.fault.Answer.{Answer}
-use Rattle.qt_runtime.specs.declared.fault.Answer.TheVariants as answer
-use Rattle.qt_runtime.specs.declared.fault.Fault.{Fault}
-use Rattle.qt_runtime.specs.declared.fault.Fault.TheVariants.{BadType, TooDeep, Steps, Memory, Stopped}
-use Rattle.qt_runtime.specs.declared.judging.Joint.{Joint}
+use Rattle.machine_state.specs.declared.entry.Entry.{Entry}
+use Rattle.machine_state.specs.declared.entry.Entry.TheVariants as entry
+use Rattle.machine_state.specs.declared.fault.Answer.{Answer}
+use Rattle.machine_state.specs.declared.fault.Answer.TheVariants as answer
+use Rattle.machine_state.specs.declared.fault.Fault.{Fault}
+use Rattle.machine_state.specs.declared.fault.Fault.TheVariants.{BadType, TooDeep, Steps, Memory, Stopped}
+use Rattle.machine_state.specs.declared.connections.Joint.{Joint}
 use Rattle.qt_runtime.specs.declared.judging.Found.{Found}
-use Rattle.qt_runtime.specs.declared.object_tree.Object.{Object}
-use Rattle.qt_runtime.specs.declared.world.World.{World}
-use Rattle.qt_runtime.specs.State.{State, Activation}
-use Rattle.qt_runtime.specs.State.{Emit as Emission}
-use Rattle.qt_runtime.specs.Objects.{all_shown}
-use Rattle.qt_runtime.specs.Events.{conditions, Pass, Refuse, Takes, accepts, refuses, Effect, named_signal, values_of}
-use Rattle.qt_runtime.specs.Good.{ArgumentsFit, AreTyped, IsWell, IsGood}
-use Rattle.qt_runtime.specs.Runs.{Runs, done, then, by_event, is_next}
-use Rattle.qt_runtime.specs.Seen.{at}
-use Rattle.qt_runtime.specs.Goes.{Ends}
-use Rattle.qt_runtime.specs.Taking.{accepted, refused, Refuses, IsJoint, IsFound, Adds, BeginWell, IsEmissionEntry, Halted, Taken, Answered, Took}
-use Rattle.qt_runtime.proofs.Fields.{class-unique, method-unique}
+use Rattle.machine_state.specs.declared.object_tree.Object.{Object}
+use Rattle.machine_state.specs.declared.world.World.{World}
+use Rattle.machine_state.specs.State.{State, Activation, Emit as Emission}
+use Rattle.machine_state.specs.Objects.{all_shown}
+use Rattle.machine_rules.specs.Events.{conditions, Pass, Refuse, Takes, accepts, refuses, named_signal, values_of}
+use Rattle.machine_rules.specs.Good.{ArgumentsFit, AreTyped, IsWell, IsGood}
+use Rattle.machine_rules.specs.Runs.{Runs, done, then, by_event, is_next}
+use Rattle.machine_state.specs.Worlds.{at, accepted, refused, Refuses, Adds, BeginWell}
+use Rattle.machine_rules.specs.Goes.{Ends}
+use Rattle.qt_runtime.specs.Taking.{IsJoint, IsFound, IsEmissionEntry, Halted, Taken, Answered, Took}
+use Rattle.machine_rules.proofs.Fields.{class-unique, method-unique}
 use Rattle.qt_runtime.proofs.Typed.{IsBlank, blank-typed, blank-ill, typed-snoc}
 
 -- an event is taken, and rules follow

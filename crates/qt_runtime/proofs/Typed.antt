@@ -1,5 +1,5 @@
 -- What more objects leave as it was, and what a new object's values are.
-use Rattle.std.proofs.Common.{◌≡◌, ℕ, zero, suc, ◌⊎◌, List, [], ◌∷◌, ◌++◌, map, length, Option, Some, None, slice_get, refl, sym, ap, ◌∙◌, subst, inl, inr}
+use Rattle.std.proofs.Common.{◌≡◌, ℕ, zero, suc, ◌⊎◌, List, [], ◌∷◌, ◌++◌, map, length, Option, Some, slice_get, refl, sym, ap, ◌∙◌, subst, inl, inr}
 use Rattle.std.specs.List.{AllByRecursion}
 use Rattle.std.proofs.lemmas.List.Elements.{All-from_recursion, recursion_from_All}
 use Rattle.signatures.specs.declared.value.Value.{Value}
@@ -9,11 +9,11 @@ use Rattle.meta_model.specs.declared.object.ValueType.{ValueType}
 use Rattle.meta_model.specs.Loaded.{Loaded}
 use Rattle.meta_model.specs.Members.{IsClass}
 use Rattle.meta_model.specs.Values.{Has, number_has, truth_has, text_has, null_has, object_has, HaveTypes}
-use Rattle.qt_runtime.specs.declared.object_tree.Object.{Object}
-use Rattle.qt_runtime.specs.Objects.{class_of}
-use Rattle.qt_runtime.specs.Good.{IsTyped, AreTyped}
-use Rattle.qt_runtime.specs.Taking.{BeginWell}
-use Rattle.qt_runtime.proofs.Fields.{class-unique}
+use Rattle.machine_state.specs.declared.object_tree.Object.{Object}
+use Rattle.machine_state.specs.Objects.{class_of}
+use Rattle.machine_rules.specs.Good.{IsTyped, AreTyped}
+use Rattle.machine_state.specs.Worlds.{BeginWell}
+use Rattle.machine_rules.proofs.Fields.{class-unique}
 
 pub get-append : {X : Type 0} (xs ys : List X) (k : ℕ) (x : X) → slice_get xs k ≡ Some x → slice_get (xs ++ ys) k ≡ Some x
 get-append [] ys k x e = absurd (cc e)

@@ -1,5 +1,5 @@
 -- Which of an event's conditions holds, from what the look-ups answer.
-use Rattle.std.proofs.Common.{◌≡◌, ◌≢◌, ℕ, ◌<◌, ◌⊎◌, List, [], ◌∷◌, length, Some, None, slice_get, refl, sym, ap, ◌∙◌, subst, inl, inr}
+use Rattle.std.proofs.Common.{◌≡◌, ◌≢◌, ℕ, List, length, Some, slice_get, refl, sym, ap, ◌∙◌, subst, inl, inr}
 use Rattle.std.proofs.lemmas.Bool.{cases_order}
 use Rattle.signatures.specs.declared.sig.Sig.{Sig}
 use Rattle.signatures.specs.declared.value.Value.{Value}
@@ -11,14 +11,14 @@ use Rattle.meta_model.specs.declared.object.MetaMethod.{MetaMethod}
 use Rattle.meta_model.specs.declared.object.Work.TheVariants.{Signal}
 use Rattle.meta_model.specs.Loaded.{Loaded}
 use Rattle.meta_model.specs.Members.{IsMethod, IsMethodNamed, HasSig, Covers}
-use Rattle.qt_runtime.specs.declared.object_tree.Object.{Object}
+use Rattle.machine_state.specs.declared.object_tree.Object.{Object}
 use Rattle.meta_model.specs.Values.{HaveTypes}
-use Rattle.qt_runtime.specs.Objects.{IsNamed, IsFree, class_of}
-use Rattle.qt_runtime.specs.State.{State}
-use Rattle.qt_runtime.specs.Events.{conditions, Pass, Refuse, IsThere, HasSignal, HasMethod, IsWired, HasSignalNamed, MayBeEmitted, TakesValues, named_signal, values_of}
+use Rattle.machine_state.specs.Objects.{IsNamed, IsFree, class_of}
+use Rattle.machine_state.specs.State.{State}
+use Rattle.machine_rules.specs.Events.{conditions, Pass, Refuse, IsThere, HasSignal, HasMethod, IsWired, HasSignalNamed, MayBeEmitted, TakesValues, named_signal, values_of}
 use Rattle.qt_runtime.specs.Taking.{IsJoint, IsFound}
 use Rattle.meta_model.specs.Sound.{IsSound}
-use Rattle.qt_runtime.proofs.Fields.{method-unique}
+use Rattle.machine_rules.proofs.Fields.{method-unique}
 use Rattle.qt_runtime.proofs.Fitting.{kinds-fit}
 
 -- one object has a name

@@ -2,18 +2,16 @@
 use Rattle.std.specs.Prelude.{◌≡◌, ℕ, ◌⊎◌, Bool, false, true, List, [], ◌∷◌, ◌++◌, Result, Ok, Err}
 use Rattle.script_lang.specs.declared.event.Event.{Event}
 use Rattle.meta_model.specs.Loaded.{Loaded}
-use Rattle.qt_runtime.specs.declared.world.World.{World}
-use Rattle.qt_runtime.specs.declared.fault.Answer.{Answer}
-use Rattle.qt_runtime.specs.declared.fault.Answer.TheVariants as answer
-use Rattle.qt_runtime.specs.declared.fault.Fault.{Fault}
-use Rattle.qt_runtime.specs.declared.fault.Fault.TheVariants as fault
-use Rattle.qt_runtime.specs.State.{State, Activation}
-use Rattle.qt_runtime.specs.Events.{conditions, Pass, Refuse}
-use Rattle.qt_runtime.specs.Runs.{Runs, Reason}
-
--- a world's state with a stack
-abbrev pub at : World → List Activation → State
-at w stack = record { objects = w.objects; connections = w.connections; stack = stack; trace = w.trace; events = w.events; connected = w.connected }
+use Rattle.machine_state.specs.declared.world.World.{World}
+use Rattle.machine_state.specs.declared.fault.Answer.{Answer}
+use Rattle.machine_state.specs.declared.fault.Answer.TheVariants as answer
+use Rattle.machine_state.specs.declared.fault.Fault.{Fault}
+use Rattle.machine_state.specs.declared.fault.Fault.TheVariants as fault
+use Rattle.machine_state.specs.State.{Activation}
+use Rattle.machine_state.specs.Worlds.{at}
+use Rattle.machine_rules.specs.Events.{conditions, Pass, Refuse}
+use Rattle.machine_rules.specs.Runs.{Runs}
+use Rattle.qt_runtime.specs.Causes.{Cause}
 
 pub record Seen : Type 0 where
   pub program : Loaded
@@ -46,7 +44,7 @@ pub record Halts (before : Seen) (events : List Event) (f : Fault) (after : Seen
   pub split : events ≡ taken ++ rest
   pub stack : List Activation
   pub runs : Runs before.program before.depth (at before.world []) before.world.left taken (at after.world stack) after.world.left
-  pub reason : Reason before.program before.depth (at after.world stack) after.world.left rest f
+  pub cause : Cause before.program before.depth (at after.world stack) after.world.left rest f
 
 -- a machine that has stopped does nothing more
 pub record Stays (before : Seen) (f : Fault) (after : Seen) : Type 0 where

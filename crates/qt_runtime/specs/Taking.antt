@@ -1,68 +1,35 @@
 -- What the machine's code does with an event.
-use Rattle.std.specs.Prelude.{◌≡◌, ℕ, ◌+◌, ◌-◌, ◌<◌, ◌^◌, All, List, [], ◌∷◌, ◌++◌, length, Result, Ok, Err, Some, slice_get}
+use Rattle.std.specs.Prelude.{◌≡◌, ℕ, ◌+◌, ◌<◌, ◌^◌, List, [], ◌∷◌, ◌++◌, length, Result, Ok, Err, Some, slice_get}
 use Rattle.signatures.specs.declared.value.Value.{Value}
 use Rattle.script_lang.specs.declared.event.Connect.{Connect as Connecting}
 use Rattle.script_lang.specs.declared.event.Event.{Event}
 use Rattle.meta_model.specs.declared.object.MetaMethod.{MetaMethod}
-use Rattle.meta_model.specs.declared.object.MetaProperty.{MetaProperty}
 use Rattle.meta_model.specs.declared.object.ValueType.{ValueType}
 use Rattle.meta_model.specs.declared.object.Work.TheVariants.{Signal}
 use Rattle.meta_model.specs.Loaded.{Loaded}
 use Rattle.meta_model.specs.Members.{IsMethod, HasSig}
-use Rattle.meta_model.specs.Values.{Has, HaveTypes}
-use Rattle.qt_runtime.specs.declared.entry.Entry.{Entry}
-use Rattle.qt_runtime.specs.declared.entry.Entry.TheVariants as entry
-use Rattle.qt_runtime.specs.declared.fault.Answer.{Answer}
-use Rattle.qt_runtime.specs.declared.fault.Answer.TheVariants as answer
-use Rattle.qt_runtime.specs.declared.fault.Fault.{Fault}
-use Rattle.qt_runtime.specs.declared.fault.Fault.TheVariants.{BadType, TooDeep, Steps, Memory, Stopped}
-use Rattle.qt_runtime.specs.declared.object_tree.Object.{Object}
-use Rattle.qt_runtime.specs.declared.judging.Joint.{Joint}
+use Rattle.meta_model.specs.Values.{HaveTypes}
+use Rattle.machine_state.specs.declared.entry.Entry.{Entry}
+use Rattle.machine_state.specs.declared.entry.Entry.TheVariants as entry
+use Rattle.machine_state.specs.declared.fault.Answer.{Answer}
+use Rattle.machine_state.specs.declared.fault.Answer.TheVariants as answer
+use Rattle.machine_state.specs.declared.fault.Fault.{Fault}
+use Rattle.machine_state.specs.declared.object_tree.Object.{Object}
+use Rattle.machine_state.specs.declared.connections.Joint.{Joint}
 use Rattle.qt_runtime.specs.declared.judging.Found.{Found}
-use Rattle.qt_runtime.specs.declared.world.World.{World}
-use Rattle.qt_runtime.specs.Objects.{IsNamed, class_of, all_shown}
-use Rattle.qt_runtime.specs.State.{Activation}
-use Rattle.qt_runtime.specs.Events.{conditions, Pass, Refuse, MayBeEmitted, named_signal}
-use Rattle.qt_runtime.specs.Runs.{Runs, Reason}
-use Rattle.qt_runtime.specs.Seen.{at}
-use Rattle.qt_runtime.specs.Sound.{Sound}
+use Rattle.machine_state.specs.declared.world.World.{World}
+use Rattle.machine_state.specs.Objects.{IsNamed, class_of, all_shown}
+use Rattle.machine_state.specs.State.{Activation}
+use Rattle.machine_rules.specs.Events.{conditions, Pass, Refuse, MayBeEmitted, named_signal}
+use Rattle.machine_rules.specs.Runs.{Runs, Reason}
+use Rattle.machine_state.specs.Worlds.{at}
+use Rattle.machine_rules.specs.Sound.{Sound}
 
 -- what every machine's world keeps: its parts fit together, and no count is near its limit
 pub record Keeps (p : Loaded) (w : World) : Type 0 where
   pub sound : Sound p w.objects w.connections
   pub events : w.events + w.left < 2 ^ 63
   pub connected : w.connected + w.left < 2 ^ 63
-
--- a world after an accepted event, and after a refused one
-abbrev pub accepted : World → World
-accepted w = record w { left = w.left - 1; events = w.events + 1; trace = w.trace ++ entry.Accepted (w.events + 1) ∷ [] }
-
-abbrev pub refused : World → ℕ → World
-refused w k = record w { left = w.left - 1; events = w.events + 1; trace = w.trace ++ entry.Refused (w.events + 1) k ∷ [] }
-
--- the world was changed so, or memory was refused and nothing changed
-abbrev pub Becomes : World → World → World → Result (Unit {0}) Fault → Type 0
-Becomes w target v (Ok done) = v ≡ target
-Becomes w target v (Err fault) = (fault ≡ Memory) × (v ≡ w)
-
--- the event was refused for this reason, or memory was
-abbrev pub Refuses : World → ℕ → World → Result Answer Fault → Type 0
-Refuses w k v (Ok a) = (a ≡ answer.Refused k) × (v ≡ refused w k)
-Refuses w k v (Err fault) = (fault ≡ Memory) × (v ≡ w)
-
--- each property has at first a value of its type, for these objects
-abbrev pub BeginWell : Loaded → List Object → List MetaProperty → Type 0
-BeginWell p objects properties = All (λ (q : MetaProperty). Has p (class_of objects) q.initial q.kind) properties
-
--- an object whose class has these properties was added where it begins well; nothing changed where it doesn't, and
--- where memory was refused
-abbrev pub Adds : Loaded → World → Object → List MetaProperty → World → Result (Unit {0}) Fault → Type 0
-Adds p w x properties v (Ok done) = BeginWell p (w.objects ++ x ∷ []) properties × (v ≡ record (accepted w) { objects = w.objects ++ x ∷ [] })
-Adds p w x properties v (Err BadType) = (¬ BeginWell p (w.objects ++ x ∷ []) properties) × (v ≡ w)
-Adds p w x properties v (Err Memory) = v ≡ w
-Adds p w x properties v (Err TooDeep) = ⊥
-Adds p w x properties v (Err Steps) = ⊥
-Adds p w x properties v (Err Stopped) = ⊥
 
 -- the numbers of a connection's objects and methods; the method takes the first arguments of the signal
 pub record IsJoint (p : Loaded) (objects : List Object) (c : Connecting) (j : Joint) : Type 0 where

@@ -1,11 +1,9 @@
 ghost use Rattle.std.specs.Prelude.{◌≡◌, ◌<◌, ◌≤◌, ◌^◌, IfOk};
 ghost use Rattle.qt_runtime.specs.Seen.{Applies, RunsAll, begun};
 
-use crate::entry::Entry;
-use crate::fault::{Answer, Fault};
-use crate::natives::Natives;
-use crate::setting::Setting;
-use crate::world::World;
+use crate::taking::take_event;
+use machine_rules::Setting;
+use machine_state::{Answer, Entry, Fault, Natives, World};
 use meta_objects::Meta;
 use script_lang::Event;
 use std::alloc::{AllocError, Global};
@@ -49,12 +47,7 @@ impl Machine {
         ensures { IfOk result (λ machine. machine ≡ begun meta depth steps) }
     {
         Ok(Machine {
-            setting: Setting {
-                alloc,
-                meta,
-                natives,
-                depth,
-            },
+            setting: Setting::new(alloc, meta, natives, depth),
             world: World::new(alloc, steps),
             stopped: false,
         })
@@ -62,8 +55,9 @@ impl Machine {
 
     /// Applies an event: takes it, and runs until nothing is going on. `Refused` tells the first of the event's
     /// conditions that doesn't hold; then only its line is written. A fault stops the machine: `BadType` where the next
-    /// rule would use or give a value of a wrong type, `TooDeep` where it would nest activations deeper than the depth, `Steps` where a rule is due and none is left, `Memory` where
-    /// a growth of memory was refused; the trace then ends with the last whole rule. On a machine that has stopped the
+    /// statement lacks a value that it needs, or the next rule would give a value of a wrong type; `TooDeep` where it
+    /// would nest activations deeper than the depth; `Steps` where a rule is due and none is left; `Memory` where a
+    /// growth of memory was refused. The trace then ends with the last whole rule. On a machine that has stopped the
     /// answer is `Stopped`, and nothing changes.
     pub fn apply(&mut self, event: &Event) -> Result<Answer, Fault>
         ensures { Applies self.old event.now result self.new }
@@ -71,7 +65,9 @@ impl Machine {
         if self.stopped {
             return Err(Fault::Stopped);
         }
-        let result = self.setting.take(&mut self.world, event);
+        // The contract of `classes` says that the numbers in bodies are those of members.
+        let _ = self.setting.meta.classes();
+        let result = take_event(&self.setting, &mut self.world, event);
         self.stopped = result.is_err();
         result
     }

@@ -14,9 +14,9 @@ use Rattle.script_lang.specs.Reads.{ReadsScript}
 use Rattle.script_lang.specs.declared.event.Event.{Event}
 use Rattle.script_lang.specs.declared.fault.ScriptFault.{ScriptFault}
 use Rattle.qt_runtime.specs.Seen.{Seen, RunsAll, begun}
-use Rattle.qt_runtime.specs.Faults.{number_of as fault_number}
-use Rattle.qt_runtime.specs.declared.entry.Entry.{Entry}
-use Rattle.qt_runtime.specs.declared.fault.Fault.{Fault}
+use Rattle.machine_state.specs.Faults.{number_of as fault_number}
+use Rattle.machine_state.specs.declared.entry.Entry.{Entry}
+use Rattle.machine_state.specs.declared.fault.Fault.{Fault}
 use Rattle.trace_tool.specs.declared.refusal.Refusal.{Refusal}
 use Rattle.trace_tool.specs.Cut.{AreTexts}
 use Rattle.trace_tool.specs.Lines.{trace_text}

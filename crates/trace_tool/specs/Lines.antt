@@ -2,10 +2,10 @@
 use Rattle.std.specs.Prelude.{ℕ, Bool, true, false, List, [], ◌∷◌, ◌++◌, codes, decimal}
 use Rattle.std.specs.Fmt.{signed_decimal}
 use Rattle.std.specs.List.{flat_map}
-use Rattle.qt_runtime.specs.declared.entry.Shown.{Shown}
-use Rattle.qt_runtime.specs.declared.entry.Shown.TheVariants as show
-use Rattle.qt_runtime.specs.declared.entry.Entry.{Entry}
-use Rattle.qt_runtime.specs.declared.entry.Entry.TheVariants.{Accepted, Refused, Emitted, Called, Written, OnNull}
+use Rattle.machine_state.specs.declared.entry.Shown.{Shown}
+use Rattle.machine_state.specs.declared.entry.Shown.TheVariants as show
+use Rattle.machine_state.specs.declared.entry.Entry.{Entry}
+use Rattle.machine_state.specs.declared.entry.Entry.TheVariants.{Accepted, Refused, Emitted, Called, Written, OnNull}
 
 abbrev pub newline : List ℕ
 newline = codes "\n"

@@ -1,7 +1,7 @@
-use Rattle.std.proofs.Common.{◌≡◌, ◌+◌, ◌++◌, ◌∷◌, [], List, take, drop, sym, ap, ◌∙◌, subst, take-append-drop}
-use Rattle.std.proofs.lemmas.List.{take_more, drop_more, drop_all}
+use Rattle.std.proofs.Common.{◌≡◌, ◌+◌, ◌++◌, ◌∷◌, List, take, drop, sym, ap, ◌∙◌, subst, take-append-drop}
+use Rattle.std.proofs.lemmas.List.{take_more, drop_more}
 use Rattle.script_lang.specs.declared.event.Event.{Event}
-use Rattle.qt_runtime.specs.Seen.{Completes, RunsAll}
+use Rattle.qt_runtime.specs.Seen.{RunsAll}
 use Rattle.qt_runtime.proofs.Applying.{completes-none, completes-then, run-stops}
 use Rattle.qt_runtime.proofs.machine.Machine.run.Goals as goal
 

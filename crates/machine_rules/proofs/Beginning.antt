@@ -1,0 +1,205 @@
+-- How methods begin.
+use Rattle.std.proofs.Common.{◌≡◌, ℕ, suc, ◌+◌, ◌<◌, ◌&&◌, eqb, Bool, true, false, IsTrue, cond, List, [], ◌∷◌, ◌++◌, length, take, Result, Option, Some, refl, sym, ap, ◌∙◌, subst, arith}
+use Rattle.std.specs.List.{AllByRecursion, find}
+use Rattle.std.proofs.lemmas.Bool.{eqb-true}
+use Rattle.signatures.specs.declared.value.Value.{Value}
+use Rattle.meta_model.specs.declared.object.MetaMethod.{MetaMethod}
+use Rattle.meta_model.specs.declared.object.ValueType.{ValueType}
+use Rattle.meta_model.specs.declared.object.Work.{Work}
+use Rattle.meta_model.specs.declared.object.Work.TheVariants.{Signal, Slot}
+use Rattle.meta_model.specs.Loaded.{Loaded}
+use Rattle.meta_model.specs.Members.{IsMethod}
+use Rattle.meta_model.specs.Values.{HaveTypes}
+use Rattle.machine_state.specs.declared.connections.Connection.{Connection}
+use Rattle.machine_state.specs.declared.entry.Entry.{Entry}
+use Rattle.machine_state.specs.declared.fault.Fault.{Fault}
+use Rattle.machine_state.specs.declared.fault.Fault.TheVariants.{BadType, TooDeep}
+use Rattle.machine_state.specs.declared.object_tree.Object.{Object}
+use Rattle.machine_state.specs.declared.world.World.{World}
+use Rattle.machine_state.specs.Objects.{all_shown, class_of}
+use Rattle.machine_state.specs.State.{State, Activation, Body, Emit}
+use Rattle.machine_rules.specs.Rules.{Begins, begun, EmitRule, Uses}
+use Rattle.machine_state.specs.Connections.{is_next, next_connection}
+use Rattle.machine_rules.specs.Good.{AreTyped, ArgumentsFit, TopFits, IsWell}
+use Rattle.machine_rules.specs.Sound.{Joined}
+use Rattle.machine_state.specs.Worlds.{at, noted}
+use Rattle.machine_rules.specs.Goes.{Goes, Breaks, Ends, Calls, OnlyCalls, IsMember, begin_entry}
+use Rattle.machine_rules.proofs.Going.{goes-high, ends-after, ends-lifted, breaks-deep, breaks-ill, breaks-stuck}
+use Rattle.machine_rules.proofs.Fields.{some-is, method-unique, types-front}
+
+-- what is pushed where a method begins
+abbrev pub top_of : ℕ → ℕ → List Value → ℕ → Work → Activation
+top_of o m arguments last Signal = Emit o m arguments 0 last
+top_of o m arguments last (Slot statements) = Body o m arguments statements
+
+-- the world after that
+abbrev pub begun_world : World → ℕ → Object → MetaMethod → List Value → World
+begun_world w depth x method arguments = noted w (begin_entry depth x.name method.sig.name (all_shown w.objects arguments) method.work)
+
+begun-is : (w : World) (stack : List Activation) (to : Activation) (below : List Activation) (o : ℕ) (x : Object) (m : ℕ) (method : MetaMethod) (arguments : List Value) (work : Work) →
+    at (noted w (begin_entry (suc (suc (length below))) x.name method.sig.name (all_shown w.objects arguments) work)) (top_of o m arguments w.connected work ∷ to ∷ below) ≡ begun (at w stack) (to ∷ below) o x m method arguments work
+begun-is w stack to below o x m method arguments Signal = refl
+begun-is w stack to below o x m method arguments (Slot statements) = refl
+
+-- a method that is there begins
+begins-there : {p : Loaded} {h o m : ℕ} {x : Object} {method : MetaMethod} (w : World) (arguments : List Value) (from to : Activation) (below : List Activation) → IsMember p w.objects o m x method → length below ≡ h →
+    Begins p (at w (from ∷ below)) (to ∷ below) o m arguments (at (begun_world w (h + 2) x method arguments) (top_of o m arguments w.connected method.work ∷ to ∷ below))
+begins-there {h = h} {o = o} {m = m} {x = x} {method = method} w arguments from to below is e =
+    let depth_is : h + 2 ≡ suc (suc (length below)) = omega (arith, e) in
+    let with_depth : ℕ → State = λ n. at (begun_world w n x method arguments) (top_of o m arguments w.connected method.work ∷ to ∷ below) in
+    record {
+      object = x;
+      is_object = is.is_object;
+      method = method;
+      is_method = is.is_method;
+      gives = ap with_depth depth_is ∙ begun-is w (from ∷ below) to below o x m method arguments method.work;
+    }
+
+top-fits : {p : Loaded} {objects : List Object} {o m : ℕ} {arguments : List Value} (last : ℕ) (work : Work) (below : List Activation) → ArgumentsFit p objects o m arguments → TopFits p objects (top_of o m arguments last work ∷ below)
+top-fits last Signal below fit = fit
+top-fits last (Slot statements) below fit = fit
+
+fits-top : {p : Loaded} {objects : List Object} {o m : ℕ} {arguments : List Value} (last : ℕ) (work : Work) (below : List Activation) → TopFits p objects (top_of o m arguments last work ∷ below) → ArgumentsFit p objects o m arguments
+fits-top last Signal below fit = fit
+fits-top last (Slot statements) below fit = fit
+
+goes-begun : {p : Loaded} {d h o m : ℕ} {w v : World} {from to : Activation} {x : Object} {method : MetaMethod} {arguments : List Value} {entry : Entry} →
+    Calls p w from to o m arguments → IsMember p w.objects o m x method → ArgumentsFit p w.objects o m arguments → AreTyped p w.objects → h + 1 < d → 0 < w.left →
+    entry ≡ begin_entry (h + 2) x.name method.sig.name (all_shown w.objects arguments) method.work → v ≡ noted w entry →
+    Goes p d h w (from ∷ []) v (top_of o m arguments w.connected method.work ∷ to ∷ [])
+goes-begun {p} {d} {h} {o} {m} {w} {v} {from} {to} {x} {method} {arguments} {entry} calls is fit typed room some entry_is v_is =
+    let Family : World → Type 0 = λ u. Goes p d h w (from ∷ []) u (top_of o m arguments w.connected method.work ∷ to ∷ []) in
+    let target : World = begun_world w (h + 2) x method arguments in
+    let target_is : v ≡ target = v_is ∙ ap (noted w) entry_is in
+    let went : Goes p d h w (from ∷ []) target (top_of o m arguments w.connected method.work ∷ to ∷ []) =
+    goes-high (λ below e. calls.gives below _ (begins-there w arguments from to below is e)) (λ below. top-fits w.connected method.work (to ∷ below) fit) room typed refl some in
+    subst Family (sym target_is) went
+
+-- a method begins, and what it pushed runs
+pub ends-begun : {p : Loaded} {d h o m : ℕ} {w v u : World} {from to : Activation} {x : Object} {method : MetaMethod} {arguments : List Value} {entry : Entry} {work : Work} {r : Result (Unit {0}) Fault} →
+    Calls p w from to o m arguments → IsMember p w.objects o m x method → ArgumentsFit p w.objects o m arguments → AreTyped p w.objects → h + 1 < d → 0 < w.left →
+    entry ≡ begin_entry (h + 2) x.name method.sig.name (all_shown w.objects arguments) method.work → v ≡ noted w entry → method.work ≡ work →
+    Ends p d (h + 1) v (top_of o m arguments w.connected work ∷ []) u [] r → Ends p d h w (from ∷ []) u (to ∷ []) r
+ends-begun {p} {d} {h} {o} {m} {w} {v} {u} {arguments = arguments} {r = r} calls is fit typed room some entry_is v_is work_is x =
+    let Run : Work → Type 0 = λ k. Ends p d (h + 1) v (top_of o m arguments w.connected k ∷ []) u [] r in
+    ends-after (goes-begun calls is fit typed room some entry_is v_is) (ends-lifted (subst Run (sym work_is) x))
+
+-- activations would nest too deep
+pub breaks-begin : {p : Loaded} {d h o m : ℕ} {w : World} {from to : Activation} {x : Object} {method : MetaMethod} {arguments : List Value} →
+    Calls p w from to o m arguments → IsMember p w.objects o m x method → ArgumentsFit p w.objects o m arguments → AreTyped p w.objects → 0 < w.left → d ≡ h + 1 → Breaks p d h w (from ∷ []) w TooDeep
+breaks-begin {h = h} {o = o} {m = m} {w = w} {from = from} {to = to} {x = x} {method = method} {arguments = arguments} calls is fit typed some deep =
+    breaks-deep some (λ below e. (at (begun_world w (h + 2) x method arguments) (top_of o m arguments w.connected method.work ∷ to ∷ below), calls.gives below _ (begins-there w arguments from to below is e), record { arguments = λ higher. top-fits w.connected method.work (to ∷ below) fit; values = typed }, omega (arith, e, deep)))
+
+-- there is no such method
+pub breaks-no-member : {p : Loaded} {d h o m : ℕ} {w : World} {from to : Activation} {arguments : List Value} →
+    OnlyCalls p w from to o m arguments → ((x : Object) (method : MetaMethod) → ¬ IsMember p w.objects o m x method) → 0 < w.left → Breaks p d h w (from ∷ []) w BadType
+breaks-no-member only none some = breaks-stuck some (λ below t r. let b = only.begins below t r in none b.object b.method (record { is_object = b.is_object; is_method = b.is_method }))
+
+-- the arguments that fit are of the method's types
+fit-typed : {p : Loaded} {objects : List Object} {o m : ℕ} {x : Object} {method : MetaMethod} {arguments : List Value} → IsMember p objects o m x method → ArgumentsFit p objects o m arguments → HaveTypes p (class_of objects) arguments method.kinds
+fit-typed {p} {objects} {o} {m} {x} {method} {arguments} is fit =
+    let has : IsMember p objects o m fit.object fit.method = record { is_object = fit.is_object; is_method = fit.is_method } in
+    let Kinds : MetaMethod → Type 0 = λ k. HaveTypes p (class_of objects) arguments k.kinds in
+    let At : Object → Type 0 = λ z. IsMethod p z.class m fit.method in
+    let there : IsMethod p x.class m fit.method = subst At (sym (some-is is.is_object fit.is_object)) fit.is_method in
+    subst Kinds (method-unique there is.is_method) fit.typed
+
+-- the arguments aren't of the method's types
+pub breaks-ill-typed : {p : Loaded} {d h o m : ℕ} {w : World} {from to : Activation} {x : Object} {method : MetaMethod} {arguments : List Value} →
+    Calls p w from to o m arguments → IsMember p w.objects o m x method → (¬ HaveTypes p (class_of w.objects) arguments method.kinds) → 0 < w.left → Breaks p d h w (from ∷ []) w BadType
+breaks-ill-typed {p} {o = o} {m = m} {w = w} {from = from} {to = to} {x = x} {method = method} {arguments = arguments} calls is ill some =
+    breaks-ill some (λ below.
+    let t : State = at (begun_world w (length below + 2) x method arguments) (top_of o m arguments w.connected method.work ∷ to ∷ below) in (
+      t,
+      calls.gives below t (begins-there w arguments from to below is refl),
+      λ (well : IsWell p (at w (from ∷ below)) t). ill (fit-typed is (fits-top w.connected method.work (to ∷ below) (well.arguments (omega arith)))),
+    ))
+
+pub fit-of : {p : Loaded} {objects : List Object} {o m : ℕ} {x : Object} {method : MetaMethod} {arguments : List Value} → IsMember p objects o m x method → HaveTypes p (class_of objects) arguments method.kinds → ArgumentsFit p objects o m arguments
+fit-of {x = x} {method = method} is typed = record { object = x; is_object = is.is_object; method = method; is_method = is.is_method; typed = typed }
+
+-- a method that fits has a member
+pub fit-member : {p : Loaded} {objects : List Object} {o m : ℕ} {arguments : List Value} → (fit : ArgumentsFit p objects o m arguments) → IsMember p objects o m fit.object fit.method
+fit-member fit = record { is_object = fit.is_object; is_method = fit.is_method }
+
+-- ---- connections
+
+-- what is found is one of the list, and passes
+pub find-some : {X : Type 0} (P : X → Type 0) (test : X → Bool) (xs : List X) (c : X) → AllByRecursion P xs → find test xs ≡ Some c → P c × (test c ≡ true)
+find-some P test [] c all e = absurd (cc e)
+find-some {X} P test (x ∷ xs) c all e =
+    let Goal : Bool → Type 0 = λ b. test x ≡ b → cond b (Some x) (find test xs) ≡ Some c → P c × (test c ≡ true) in
+    (elim (test x) as (λ b. test x ≡ b → cond b (Some x) (find test xs) ≡ Some c → P c × (test c ≡ true)) [
+      | true ↦ λ passes is. let same : x ≡ c = cc is in (subst P same all.0, subst (λ (y : X). test y ≡ true) same passes)
+      | false ↦ λ fails is. find-some P test xs c all.1 is
+    ]) refl e
+
+and-first : (a b : Bool) → (a && b) ≡ true → a ≡ true
+and-first true b e = refl
+and-first false b e = absurd (cc e)
+
+and-second : (a b : Bool) → (a && b) ≡ true → b ≡ true
+and-second true b e = e
+and-second false b e = absurd (cc e)
+
+-- the next connection is of the emission's object and signal
+pub next-is : (o g used last : ℕ) (c : Connection) → is_next o g used last c ≡ true → (c.sender ≡ o) × (c.signal ≡ g)
+next-is o g used last c e =
+    let ends = and-first (eqb c.sender o && eqb c.signal g) _ e in
+    (eqb-true c.sender o (and-first (eqb c.sender o) _ ends), eqb-true c.signal g (and-second (eqb c.sender o) _ ends))
+
+pub next-joined : {p : Loaded} {objects : List Object} (connections : List Connection) (o g used last : ℕ) (c : Connection) → AllByRecursion (Joined p objects) connections → next_connection connections o g used last ≡ Some c → Joined p objects c
+next-joined {p} {objects} connections o g used last c all found = (find-some (Joined p objects) (is_next o g used last) connections c all found).0
+
+-- the emission's arguments are those of the connection's signal
+pub next-fits : {p : Loaded} {objects : List Object} {arguments : List Value} (connections : List Connection) (o g used last : ℕ) (c : Connection) → AllByRecursion (Joined p objects) connections → next_connection connections o g used last ≡ Some c → ArgumentsFit p objects o g arguments → ArgumentsFit p objects c.sender c.signal arguments
+next-fits {p} {objects} {arguments} connections o g used last c all found fit =
+    let is = next-is o g used last c ((find-some (Joined p objects) (is_next o g used last) connections c all found).1) in
+    subst (λ (n : ℕ). ArgumentsFit p objects c.sender n arguments) (sym is.1) (subst (λ (n : ℕ). ArgumentsFit p objects n g arguments) (sym is.0) fit)
+
+-- the method that a connection leads to is there
+pub joined-member : {p : Loaded} {objects : List Object} {c : Connection} → (j : Joined p objects c) → IsMember p objects c.receiver c.method j.receiver j.method
+joined-member j = record { is_object = j.is_receiver; is_method = j.is_method }
+
+-- .. and takes the first arguments of the signal
+pub delivered-fits : {p : Loaded} {objects : List Object} {c : Connection} {x : Object} {method : MetaMethod} {arguments taken : List Value} {count : ℕ} → Joined p objects c → ArgumentsFit p objects c.sender c.signal arguments → IsMember p objects c.receiver c.method x method → taken ≡ take count arguments → count ≡ length method.kinds → ArgumentsFit p objects c.receiver c.method taken
+delivered-fits {p} {objects} {c} {x} {method} {arguments} {taken} j fit is cut count_is =
+    let sender : IsMember p objects c.sender c.signal j.sender j.signal = record { is_object = j.is_sender; is_method = j.is_signal } in
+    let of_signal : HaveTypes p (class_of objects) arguments j.signal.kinds = fit-typed sender fit in
+    let split : HaveTypes p (class_of objects) arguments (j.method.kinds ++ j.rest) = subst (λ (l : List ValueType). HaveTypes p (class_of objects) arguments l) j.fits of_signal in
+    let front : HaveTypes p (class_of objects) (take (length j.method.kinds) arguments) j.method.kinds = types-front p (class_of objects) arguments j.method.kinds j.rest split in
+    let long : taken ≡ take (length method.kinds) arguments = cut ∙ ap (λ (n : ℕ). take n arguments) count_is in
+    let has : ArgumentsFit p objects c.receiver c.method (take (length j.method.kinds) arguments) = fit-of (joined-member j) front in
+    let At : Object → Type 0 = λ z. IsMethod p z.class c.method method in
+    let there : IsMethod p j.receiver.class c.method method = subst At (some-is is.is_object j.is_receiver) is.is_method in
+    let same : j.method ≡ method = method-unique j.is_method there in
+    let taken_is : taken ≡ take (length j.method.kinds) arguments = long ∙ ap (λ (k : MetaMethod). take (length k.kinds) arguments) (sym same) in
+    subst (λ (l : List Value). ArgumentsFit p objects c.receiver c.method l) (sym taken_is) has
+
+-- a connection that comes next begins its method
+pub delivery-calls : {p : Loaded} {w : World} {c : Connection} {x : Object} {method : MetaMethod} {arguments taken : List Value} {count : ℕ} (o g used last : ℕ) → next_connection w.connections o g used last ≡ Some c → IsMember p w.objects c.receiver c.method x method → taken ≡ take count arguments → count ≡ length method.kinds → Calls p w (Emit o g arguments used last) (Emit o g arguments c.number last) c.receiver c.method taken
+delivery-calls {p} {w} {c} {x} {method} {arguments} {taken} {count} o g used last found is cut count_is = record {
+  gives = λ below t b.
+      let s : State = at w (Emit o g arguments used last ∷ below) in
+      let over : List Activation = Emit o g arguments c.number last ∷ below in
+      let has : IsMember p w.objects c.receiver c.method b.object b.method = record { is_object = b.is_object; is_method = b.is_method } in
+      let At : Object → Type 0 = λ z. IsMethod p z.class c.method method in
+      let there : IsMethod p b.object.class c.method method = subst At (some-is is.is_object b.is_object) is.is_method in
+      let same : method ≡ b.method = method-unique there b.is_method in
+      let taken_is : taken ≡ take (length b.method.kinds) arguments = cut ∙ ap (λ (n : ℕ). take n arguments) count_is ∙ ap (λ (k : MetaMethod). take (length k.kinds) arguments) same in
+      let uses : Uses p s over c arguments t = record {
+        receiver = b.object;
+        is_receiver = b.is_object;
+        method = b.method;
+        is_method = b.is_method;
+        gives = b.gives ∙ ap (λ (l : List Value). begun s over c.receiver b.object c.method b.method l b.method.work) taken_is;
+      } in
+      let Next : Option Connection → Type 0 = λ n. EmitRule p s o g arguments last below t n in
+      subst Next (sym found) uses;
+}
+
+-- ---- tests
+
+pub not-true : (b : Bool) → b ≡ false → ¬ IsTrue b
+not-true true e h = absurd (cc e)
+not-true false e h = absurd (cc h)

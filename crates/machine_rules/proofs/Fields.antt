@@ -1,0 +1,151 @@
+-- Values of lists of types, and objects whose properties are written.
+use Rattle.std.proofs.Common.{◌≡◌, ◌⊎◌, inl, inr, ℕ, zero, suc, List, [], ◌∷◌, ◌++◌, length, take, map, Option, Some, slice_get, slice_set, refl, sym, ap, ◌∙◌, subst}
+use Rattle.signatures.specs.declared.value.Value.{Value}
+use Rattle.meta_model.specs.declared.object.ValueType.{ValueType}
+use Rattle.meta_model.specs.declared.object.MetaObject.{MetaObject}
+use Rattle.meta_model.specs.declared.object.MetaMethod.{MetaMethod}
+use Rattle.meta_model.specs.declared.object.MetaProperty.{MetaProperty}
+use Rattle.meta_model.specs.Loaded.{Loaded}
+use Rattle.meta_model.specs.Members.{IsClass, IsMethod}
+use Rattle.meta_model.specs.Values.{Has, HaveTypes}
+use Rattle.machine_state.specs.declared.object_tree.Object.{Object}
+use Rattle.machine_state.specs.Objects.{written, class_of}
+use Rattle.machine_rules.specs.Good.{AreTyped, IsTyped}
+use Rattle.machine_rules.specs.Goes.{IsMember, IsField}
+use Rattle.machine_rules.proofs.Shapes.{classes-same, shapes-written}
+
+-- ---- what numbers lead to is unique
+
+pub some-is : {X : Type 0} {x y : X} {found : Option X} → found ≡ Some x → found ≡ Some y → x ≡ y
+some-is {x = x} {y = y} a b = let e : Some x ≡ Some y = sym a ∙ b in cc e
+
+pub class-unique : {p : Loaded} {k : ℕ} {a b : MetaObject} → IsClass p k a → IsClass p k b → a ≡ b
+class-unique x y = some-is x.is y.is
+
+pub method-unique : {p : Loaded} {k m : ℕ} {a b : MetaMethod} → IsMethod p k m a → IsMethod p k m b → a ≡ b
+method-unique {m = m} x y = some-is x.is (ap (λ (c : MetaObject). slice_get c.methods m) (class-unique x.is_class y.is_class) ∙ y.is)
+
+pub member-object : {p : Loaded} {objects : List Object} {o m n : ℕ} {x y : Object} {a b : MetaMethod} → IsMember p objects o m x a → IsMember p objects o n y b → x ≡ y
+member-object u v = some-is u.is_object v.is_object
+
+pub member-method : {p : Loaded} {objects : List Object} {o m : ℕ} {x y : Object} {a b : MetaMethod} → IsMember p objects o m x a → IsMember p objects o m y b → a ≡ b
+member-method {p} {m = m} {y = y} {b = b} u v =
+    let At : Object → Type 0 = λ z. IsMethod p z.class m b in
+    method-unique u.is_method (subst At (sym (member-object u v)) v.is_method)
+
+-- a method of an object is one of its class
+pub member-at : {p : Loaded} {objects : List Object} {o m : ℕ} {x y : Object} {method : MetaMethod} → slice_get objects o ≡ Some y → IsMember p objects o m x method → IsMethod p y.class m method
+member-at {p} {m = m} {method = method} is u =
+    let At : Object → Type 0 = λ z. IsMethod p z.class m method in
+    subst At (some-is u.is_object is) u.is_method
+
+-- ---- values of lists of types
+
+pub types-front : (p : Loaded) (classes : ℕ → Option ℕ) (vs : List Value) (ks more : List ValueType) → HaveTypes p classes vs (ks ++ more) → HaveTypes p classes (take (length ks) vs) ks
+types-front p classes [] [] more h = tt
+types-front p classes (v ∷ vs) [] more h = tt
+types-front p classes [] (k ∷ ks) more h = absurd h
+types-front p classes (v ∷ vs) (k ∷ ks) more h = (h.0, types-front p classes vs ks more h.1)
+
+pub types-get : (p : Loaded) (classes : ℕ → Option ℕ) (vs : List Value) (ks : List ValueType) (q : ℕ) (v : Value) (k : ValueType) → HaveTypes p classes vs ks → slice_get vs q ≡ Some v → slice_get ks q ≡ Some k → Has p classes v k
+types-get p classes [] [] q v k h a b = absurd (cc a)
+types-get p classes [] (j ∷ ks) q v k h a b = absurd h
+types-get p classes (u ∷ vs) [] q v k h a b = absurd h
+types-get p classes (u ∷ vs) (j ∷ ks) zero v k h a b =
+    let value_is : u ≡ v = cc a in
+    let kind_is : j ≡ k = cc b in
+    subst (λ (x : Value). Has p classes x k) value_is (subst (λ (x : ValueType). Has p classes u x) kind_is h.0)
+types-get p classes (u ∷ vs) (j ∷ ks) (suc q) v k h a b = types-get p classes vs ks q v k h.1 a b
+
+pub types-there : (p : Loaded) (classes : ℕ → Option ℕ) (vs : List Value) (ks : List ValueType) (q : ℕ) (k : ValueType) → HaveTypes p classes vs ks → slice_get ks q ≡ Some k → (v : Value) × (slice_get vs q ≡ Some v)
+types-there p classes [] [] q k h b = absurd (cc b)
+types-there p classes [] (j ∷ ks) q k h b = absurd h
+types-there p classes (u ∷ vs) [] q k h b = absurd h
+types-there p classes (u ∷ vs) (j ∷ ks) zero k h b = (u, refl)
+types-there p classes (u ∷ vs) (j ∷ ks) (suc q) k h b = types-there p classes vs ks q k h.1 b
+
+pub types-set : (p : Loaded) (classes : ℕ → Option ℕ) (vs : List Value) (ks : List ValueType) (q : ℕ) (v : Value) (k : ValueType) → HaveTypes p classes vs ks → slice_get ks q ≡ Some k → Has p classes v k → HaveTypes p classes (slice_set vs q v) ks
+types-set p classes [] [] q v k h b new = absurd (cc b)
+types-set p classes [] (j ∷ ks) q v k h b new = absurd h
+types-set p classes (u ∷ vs) [] q v k h b new = absurd h
+types-set p classes (u ∷ vs) (j ∷ ks) zero v k h b new =
+    let kind_is : j ≡ k = cc b in
+    (subst (λ (x : ValueType). Has p classes v x) (sym kind_is) new, h.1)
+types-set p classes (u ∷ vs) (j ∷ ks) (suc q) v k h b new = (h.0, types-set p classes vs ks q v k h.1 b new)
+
+-- ---- a list with a place set
+
+pub set-get : {X : Type 0} (xs : List X) (k : ℕ) (x y : X) → slice_get xs k ≡ Some x → slice_get (slice_set xs k y) k ≡ Some y
+set-get [] k x y e = absurd (cc e)
+set-get (z ∷ zs) zero x y e = refl
+set-get (z ∷ zs) (suc k) x y e = set-get zs k x y e
+
+pub set-other : {X : Type 0} (xs : List X) (k j : ℕ) (y z : X) → slice_get (slice_set xs k y) j ≡ Some z → (z ≡ y) × (k ≡ j) ⊎ (slice_get xs j ≡ Some z)
+set-other [] k j y z e = inr e
+set-other (x ∷ xs) zero zero y z e = let same : y ≡ z = cc e in inl (sym same, refl)
+set-other (x ∷ xs) zero (suc j) y z e = inr e
+set-other (x ∷ xs) (suc k) zero y z e = inr e
+set-other (x ∷ xs) (suc k) (suc j) y z e = elim (set-other xs k j y z e) as (λ r. (z ≡ y) × (suc k ≡ suc j) ⊎ (slice_get (x ∷ xs) (suc j) ≡ Some z)) [
+  | inl a ↦ inl (a.0, ap suc a.1)
+  | inr b ↦ inr b
+]
+
+pub map-get : {X Y : Type 0} (f : X → Y) (xs : List X) (k : ℕ) (x : X) → slice_get xs k ≡ Some x → slice_get (map f xs) k ≡ Some (f x)
+map-get f [] k x e = absurd (cc e)
+map-get f (y ∷ ys) zero x e = let same : y ≡ x = cc e in ap (λ z. Some (f z)) same
+map-get f (y ∷ ys) (suc k) x e = map-get f ys k x e
+
+-- ---- a property that is written
+
+abbrev pub kind_of : MetaProperty → ValueType
+kind_of q = q.kind
+
+-- the classes of the objects after a write
+classes-written : {p : Loaded} {objects : List Object} {o q : ℕ} {x : Object} {property : MetaProperty} (new : Value) → IsField p objects o q x property → class_of (slice_set objects o (written x q new)) ≡ class_of objects
+classes-written {objects = objects} {o = o} {q = q} {x = x} new f = classes-same _ _ (shapes-written objects o x q new f.is_object)
+
+-- the values of an object that has the property
+pub field-typed : {p : Loaded} {objects : List Object} {o q : ℕ} {x : Object} {property : MetaProperty} (f : IsField p objects o q x property) → AreTyped p objects → HaveTypes p (class_of objects) x.values (map kind_of f.class.properties)
+field-typed {p} {objects} {o} {x = x} f typed =
+    let t = typed o x f.is_object in
+    subst (λ (c : MetaObject). HaveTypes p (class_of objects) x.values (map kind_of c.properties)) (class-unique t.is_class f.is_class) t.typed
+
+pub old-there : {p : Loaded} {objects : List Object} {o q : ℕ} {x : Object} {property : MetaProperty} → IsField p objects o q x property → AreTyped p objects → (v : Value) × (slice_get x.values q ≡ Some v)
+old-there {p} {objects} {q = q} {property = property} f typed = types-there p (class_of objects) _ _ q property.kind (field-typed f typed) (map-get kind_of f.class.properties q property f.is_property)
+
+pub typed-written : {p : Loaded} {objects : List Object} {o q : ℕ} {x : Object} {property : MetaProperty} {new : Value} → IsField p objects o q x property → AreTyped p objects → Has p (class_of objects) new property.kind → AreTyped p (slice_set objects o (written x q new))
+typed-written {p} {objects} {o} {q} {x} {property} {new} f typed has = λ k y is.
+    let after : List Object = slice_set objects o (written x q new) in
+    let classes : class_of objects ≡ class_of after = sym (classes-written new f) in
+    let at_written : IsTyped p after (written x q new) = record {
+      class = f.class;
+      is_class = f.is_class;
+      typed = subst (λ (c : ℕ → Option ℕ). HaveTypes p c (slice_set x.values q new) (map kind_of f.class.properties)) classes (types-set p (class_of objects) x.values (map kind_of f.class.properties) q new property.kind (field-typed f typed) (map-get kind_of f.class.properties q property f.is_property) has);
+    } in
+    elim (set-other objects o k (written x q new) y is) as (λ r. IsTyped p after y) [
+      | inl a ↦ subst (λ (z : Object). IsTyped p after z) (sym a.0) at_written
+      | inr b ↦ (let t = typed k y b in record {
+        class = t.class;
+        is_class = t.is_class;
+        typed = subst (λ (c : ℕ → Option ℕ). HaveTypes p c y.values (map kind_of t.class.properties)) classes t.typed;
+      })
+    ]
+
+-- a value that is written and stays of its type had it
+pub written-typed : {p : Loaded} {objects : List Object} {o q : ℕ} {x : Object} {property : MetaProperty} {new : Value} → IsField p objects o q x property → AreTyped p objects → AreTyped p (slice_set objects o (written x q new)) → Has p (class_of objects) new property.kind
+written-typed {p} {objects} {o} {q} {x} {property} {new} f typed after =
+    let old = old-there f typed in
+    let t = after o (written x q new) (set-get objects o x (written x q new) f.is_object) in
+    let kinds : HaveTypes p (class_of (slice_set objects o (written x q new))) (slice_set x.values q new) (map kind_of f.class.properties) =
+    subst (λ (c : MetaObject). HaveTypes p (class_of (slice_set objects o (written x q new))) (slice_set x.values q new) (map kind_of c.properties)) (class-unique t.is_class f.is_class) t.typed in
+    let has = types-get p _ _ _ q new property.kind kinds (set-get x.values q old.0 new old.1) (map-get kind_of f.class.properties q property f.is_property) in
+    subst (λ (c : ℕ → Option ℕ). Has p c new property.kind) (classes-written new f) has
+
+-- the property is there after the write
+abbrev pub field-written : {p : Loaded} {objects : List Object} {o q : ℕ} {x : Object} {property : MetaProperty} (new : Value) → IsField p objects o q x property → IsField p (slice_set objects o (written x q new)) o q (written x q new) property
+field-written {objects = objects} {o = o} {q = q} {x = x} new f = record {
+  is_object = set-get objects o x (written x q new) f.is_object;
+  class = f.class;
+  is_class = f.is_class;
+  is_property = f.is_property;
+}

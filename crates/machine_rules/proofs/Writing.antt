@@ -1,0 +1,203 @@
+-- How properties are written, and what is notified.
+use Rattle.std.proofs.Common.{◌≡◌, ◌≢◌, ℕ, suc, ◌+◌, ◌<◌, ◌⊎◌, inl, inr, List, [], ◌∷◌, length, take, map, Result, Option, Some, None, slice_get, slice_set, refl, sym, ap, ◌∙◌, subst, arith}
+use Rattle.signatures.specs.declared.value.Value.{Value}
+use Rattle.meta_model.specs.declared.object.MetaMethod.{MetaMethod}
+use Rattle.meta_model.specs.declared.object.MetaObject.{MetaObject}
+use Rattle.meta_model.specs.declared.object.MetaProperty.{MetaProperty}
+use Rattle.meta_model.specs.declared.object.ValueType.{ValueType}
+use Rattle.meta_model.specs.declared.object.Work.{Work}
+use Rattle.meta_model.specs.declared.object.Work.TheVariants.{Signal}
+use Rattle.meta_model.specs.Loaded.{Loaded}
+use Rattle.meta_model.specs.Members.{IsClass, IsMethod}
+use Rattle.meta_model.specs.Values.{Has, HaveTypes}
+use Rattle.meta_model.specs.Sound.{IsSoundProperty}
+use Rattle.machine_state.specs.declared.entry.Entry.{Entry}
+use Rattle.machine_state.specs.declared.entry.Entry.TheVariants.{Written}
+use Rattle.machine_state.specs.declared.fault.Fault.{Fault}
+use Rattle.machine_state.specs.declared.fault.Fault.TheVariants.{BadType, TooDeep}
+use Rattle.machine_state.specs.declared.object_tree.Object.{Object}
+use Rattle.machine_state.specs.declared.world.World.{World}
+use Rattle.machine_state.specs.Objects.{shown, written, class_of}
+use Rattle.machine_state.specs.State.{State, Activation, Update}
+use Rattle.machine_rules.specs.Rules as rules
+use Rattle.machine_rules.specs.Rules.{Rule, Writes, Notifies, IsNotified, begun}
+use Rattle.machine_rules.specs.Good.{AreTyped, ArgumentsFit, IsWell}
+use Rattle.machine_state.specs.Worlds.{at, set_in}
+use Rattle.machine_rules.specs.Goes.{Goes, Breaks, Ends, Calls, Sets, IsMember, IsField, Announces, MayAnnounce, places_of, Changes, changed, unchanged, silent}
+use Rattle.machine_rules.proofs.Going.{goes-high, ends-after, ends-lifted, breaks-deep, breaks-ill, breaks-stuck}
+use Rattle.machine_rules.proofs.Fields.{some-is, class-unique, method-unique, typed-written, written-typed, field-written, old-there, types-get, map-get, kind_of}
+use Rattle.machine_rules.specs.Sound.{Sound}
+use Rattle.machine_rules.proofs.Beginning.{fit-of}
+use Rattle.machine_rules.proofs.Keeps.{all-joined-still}
+use Rattle.machine_rules.proofs.Shapes.{shapes-written}
+
+-- ---- writes
+
+notified : {old new : Value} (o q : ℕ) {notify result : Option ℕ} → Changes old new notify result → IsNotified old new (record { object = o; property = q }) notify (places_of o q result)
+notified o q (changed h) = rules.changed h
+notified o q (unchanged h) = rules.unchanged h
+notified o q silent = rules.silent
+
+-- the world in which the property is written
+abbrev pub written_world : World → ℕ → ℕ → Object → ℕ → MetaProperty → Value → World
+written_world w depth o x q property new = set_in w (Written depth x.name property.name (shown w.objects new)) o x q new
+
+writes-there : {p : Loaded} {h o q : ℕ} {x : Object} {property : MetaProperty} {new old : Value} {result : Option ℕ} (w : World) (from to : Activation) (below : List Activation) → (f : IsField p w.objects o q x property) → slice_get x.values q ≡ Some old → Changes old new property.notify result → length below ≡ h →
+    Writes p (at w (from ∷ below)) (to ∷ below) o q new (at (written_world w (h + 2) o x q property new) (Update (places_of o q result) ∷ to ∷ below))
+writes-there {h = h} {o = o} {q = q} {x = x} {property = property} {new = new} {old = old} {result = result} w from to below f is_old changes e =
+    let depth_is : h + 2 ≡ suc (suc (length below)) = omega (arith, e) in
+    let with_depth : ℕ → State = λ n. at (written_world w n o x q property new) (Update (places_of o q result) ∷ to ∷ below) in
+    record {
+      object = x;
+      is_object = f.is_object;
+      class = f.class;
+      is_class = f.is_class;
+      property = property;
+      is_property = f.is_property;
+      old = old;
+      is_old = is_old;
+      places = places_of o q result;
+      notified = notified o q changes;
+      gives = ap with_depth depth_is;
+    }
+
+-- a property is written, and its update runs
+pub ends-written : {p : Loaded} {d h o q : ℕ} {w v u : World} {from to : Activation} {x : Object} {property : MetaProperty} {new : Value} {entry : Entry} {result : Option ℕ} {r : Result (Unit {0}) Fault} →
+    Sets p w from to o q new → (f : IsField p w.objects o q x property) → AreTyped p w.objects → Has p (class_of w.objects) new property.kind → h + 1 < d → 0 < w.left →
+    ((old : Value) → slice_get x.values q ≡ Some old → Changes old new property.notify result) →
+    entry ≡ Written (h + 2) x.name property.name (shown w.objects new) → v ≡ set_in w entry o x q new →
+    Ends p d (h + 1) v (Update (places_of o q result) ∷ []) u [] r → Ends p d h w (from ∷ []) u (to ∷ []) r
+ends-written {p} {d} {h} {o} {q} {w} {v} {u} {from} {to} {x} {property} {new} {entry} {result} {r} sets f typed has room some changes entry_is v_is rest =
+    let old = old-there f typed in
+    let target : World = written_world w (h + 2) o x q property new in
+    let target_is : v ≡ target = v_is ∙ ap (λ (e : Entry). set_in w e o x q new) entry_is in
+    let Family : World → Type 0 = λ k. Goes p d h w (from ∷ []) k (Update (places_of o q result) ∷ to ∷ []) in
+    let went : Goes p d h w (from ∷ []) target (Update (places_of o q result) ∷ to ∷ []) =
+    goes-high (λ below e. sets.gives below _ (writes-there w from to below f old.1 (changes old.0 old.1) e)) (λ below. tt) room (typed-written f typed has) refl some in
+    ends-after (subst Family (sym target_is) went) (ends-lifted rest)
+
+-- activations would nest too deep
+pub breaks-write-deep : {p : Loaded} {d h o q : ℕ} {w : World} {from to : Activation} {x : Object} {property : MetaProperty} {new : Value} {result : Option ℕ} →
+    Sets p w from to o q new → (f : IsField p w.objects o q x property) → AreTyped p w.objects → Has p (class_of w.objects) new property.kind → 0 < w.left → d ≡ h + 1 →
+    ((old : Value) → slice_get x.values q ≡ Some old → Changes old new property.notify result) → Breaks p d h w (from ∷ []) w TooDeep
+breaks-write-deep {h = h} {o = o} {q = q} {w = w} {from = from} {to = to} {x = x} {property = property} {new = new} {result = result} sets f typed has some deep changes =
+    let old = old-there f typed in
+    let change = changes old.0 old.1 in
+    breaks-deep some (λ below e. (at (written_world w (h + 2) o x q property new) (Update (places_of o q result) ∷ to ∷ below), sets.gives below _ (writes-there w from to below f old.1 change e), record { arguments = λ higher. tt; values = typed-written f typed has }, omega (arith, e, deep)))
+
+-- the value isn't of the property's type
+pub breaks-write-ill : {p : Loaded} {d h o q : ℕ} {w : World} {from to : Activation} {x : Object} {property : MetaProperty} {new : Value} {result : Option ℕ} →
+    Sets p w from to o q new → (f : IsField p w.objects o q x property) → AreTyped p w.objects → (¬ Has p (class_of w.objects) new property.kind) → 0 < w.left →
+    ((old : Value) → slice_get x.values q ≡ Some old → Changes old new property.notify result) → Breaks p d h w (from ∷ []) w BadType
+breaks-write-ill {p} {o = o} {q = q} {w = w} {from = from} {to = to} {x = x} {property = property} {new = new} {result = result} sets f typed ill some changes =
+    let old = old-there f typed in
+    let change = changes old.0 old.1 in
+    breaks-ill some (λ below.
+    let t : State = at (written_world w (length below + 2) o x q property new) (Update (places_of o q result) ∷ to ∷ below) in
+    (t, sets.gives below t (writes-there w from to below f old.1 change refl), λ (well : IsWell p (at w (from ∷ below)) t). ill (written-typed f typed well.values)))
+
+-- there is no such property
+pub breaks-no-field : {p : Loaded} {d h o q : ℕ} {w : World} {from to : Activation} {new : Value} → Sets p w from to o q new → ((x : Object) (property : MetaProperty) → ¬ IsField p w.objects o q x property) → 0 < w.left → Breaks p d h w (from ∷ []) w BadType
+breaks-no-field sets none some = breaks-stuck some (λ below t r. let k = sets.only below t r in none k.object k.property (record { is_object = k.is_object; class = k.class; is_class = k.is_class; is_property = k.is_property }))
+
+-- ---- notifications
+
+-- what may be announced after the write
+pub announces-written : {p : Loaded} {objects : List Object} {o q : ℕ} {x : Object} {property : MetaProperty} {old new : Value} (result : Option ℕ) → (f : IsField p objects o q x property) → ((class : MetaObject) → IsClass p x.class class → IsSoundProperty p class property) → Changes old new property.notify result → MayAnnounce p (slice_set objects o (written x q new)) o q result
+announces-written None f sound changes = tt
+announces-written {objects = objects} {o = o} {q = q} {x = x} {property = property} {new = new} (Some signal) f sound changes =
+    let is : property.notify ≡ Some signal = signal-is changes in
+    record {
+      object = written x q new;
+      property = property;
+      is = field-written new f;
+      is_signal = is;
+      sound = (sound f.class f.is_class).notifies signal is;
+    }
+  where
+    signal-is : {before after : Value} {notify : Option ℕ} {s : ℕ} → Changes before after notify (Some s) → notify ≡ Some s
+    signal-is (changed h) = refl
+
+-- the notify signal is there
+pub announced-member : {p : Loaded} {objects : List Object} {o q signal : ℕ} → (a : Announces p objects o q signal) → IsMember p objects o signal a.object a.sound.signal
+announced-member a = record { is_object = a.is.is_object; is_method = record { class = a.is.class; is_class = a.is.is_class; is = a.sound.is } }
+
+-- .. and takes the property's value, or nothing
+taken-fits : (p : Loaded) (classes : ℕ → Option ℕ) (present : Value) (kind : ValueType) (kinds : List ValueType) → (kinds ≡ []) ⊎ (kinds ≡ kind ∷ []) → Has p classes present kind → HaveTypes p classes (take (length kinds) (present ∷ [])) kinds
+taken-fits p classes present kind kinds (inl none) has = subst (λ (l : List ValueType). HaveTypes p classes (take (length l) (present ∷ [])) l) (sym none) tt
+taken-fits p classes present kind kinds (inr one) has = subst (λ (l : List ValueType). HaveTypes p classes (take (length l) (present ∷ [])) l) (sym one) (has, tt)
+
+pub present-has : {p : Loaded} {objects : List Object} {o q signal : ℕ} {present : Value} → (a : Announces p objects o q signal) → AreTyped p objects → slice_get a.object.values q ≡ Some present → Has p (class_of objects) present a.property.kind
+present-has {p} {objects} {o} {q} {present = present} a typed is =
+    let t = typed o a.object a.is.is_object in
+    let kinds : HaveTypes p (class_of objects) a.object.values _ = subst (λ (c : MetaObject). HaveTypes p (class_of objects) a.object.values (map kind_of c.properties)) (class-unique t.is_class a.is.is_class) t.typed in
+    types-get p (class_of objects) _ _ q present a.property.kind kinds is (map-get kind_of a.is.class.properties q a.property a.is.is_property)
+
+pub announced-value : {p : Loaded} {objects : List Object} {o q signal : ℕ} {x : Object} {method : MetaMethod} → (a : Announces p objects o q signal) → AreTyped p objects → IsMember p objects o signal x method → (v : Value) × (slice_get x.values q ≡ Some v)
+announced-value {q = q} {x = x} a typed is =
+    let there = old-there a.is typed in
+    (there.0, ap (λ (z : Object). slice_get z.values q) (some-is is.is_object a.is.is_object) ∙ there.1)
+
+pub announced-fits : {p : Loaded} {objects : List Object} {o q signal count : ℕ} {x : Object} {method : MetaMethod} {present : Value} {taken : List Value} → Announces p objects o q signal → AreTyped p objects → IsMember p objects o signal x method → slice_get x.values q ≡ Some present → taken ≡ take count (present ∷ []) → count ≡ length method.kinds → ArgumentsFit p objects o signal taken
+announced-fits {p} {objects} {o} {q} {signal} {count} {x} {method} {present} {taken} a typed is is_present cut count_is =
+    let object_is : x ≡ a.object = some-is is.is_object a.is.is_object in
+    let At : Object → Type 0 = λ z. IsMethod p z.class signal method in
+    let method_is : a.sound.signal ≡ method = method-unique ((announced-member a).is_method) (subst At object_is is.is_method) in
+    let has = present-has a typed (ap (λ (z : Object). slice_get z.values q) (sym object_is) ∙ is_present) in
+    let fits : HaveTypes p (class_of objects) (take (length a.sound.signal.kinds) (present ∷ [])) a.sound.signal.kinds = taken-fits p (class_of objects) present a.property.kind a.sound.signal.kinds a.sound.fits has in
+    let taken_is : taken ≡ take (length a.sound.signal.kinds) (present ∷ []) = cut ∙ ap (λ (n : ℕ). take n (present ∷ [])) count_is ∙ ap (λ (k : MetaMethod). take (length k.kinds) (present ∷ [])) (sym method_is) in
+    subst (λ (l : List Value). ArgumentsFit p objects o signal l) (sym taken_is) (fit-of (announced-member a) fits)
+
+-- the notify signal begins by the next rule of the update
+pub announcement-calls : {p : Loaded} {w : World} {o q signal count : ℕ} {x : Object} {method : MetaMethod} {present : Value} {taken : List Value} → Announces p w.objects o q signal → IsMember p w.objects o signal x method → slice_get x.values q ≡ Some present → taken ≡ take count (present ∷ []) → count ≡ length method.kinds → Calls p w (Update (places_of o q (Some signal))) (Update []) o signal taken
+announcement-calls {p} {w} {o} {q} {signal} {count} {x} {method} {present} {taken} a is is_present cut count_is = record {
+  gives = λ below t b.
+      let s : State = at w (Update (places_of o q (Some signal)) ∷ below) in
+      let over : List Activation = Update [] ∷ below in
+      let object_is : a.object ≡ b.object = some-is a.is.is_object b.is_object in
+      let here_is : x ≡ b.object = some-is is.is_object b.is_object in
+      let At : Object → MetaMethod → Type 0 = λ z k. IsMethod p z.class signal k in
+      let declared : IsMethod p b.object.class signal a.sound.signal = subst (λ (z : Object). At z a.sound.signal) object_is ((announced-member a).is_method) in
+      let declared_is : a.sound.signal ≡ b.method = method-unique declared b.is_method in
+      let found_is : method ≡ b.method = method-unique (subst (λ (z : Object). At z method) here_is is.is_method) b.is_method in
+      let work_is : b.method.work ≡ Signal = ap (λ (k : MetaMethod). k.work) (sym declared_is) ∙ a.sound.signals in
+      let taken_is : taken ≡ take (length b.method.kinds) (present ∷ []) = cut ∙ ap (λ (n : ℕ). take n (present ∷ [])) count_is ∙ ap (λ (k : MetaMethod). take (length k.kinds) (present ∷ [])) found_is in
+      let Class : Object → Type 0 = λ z. IsClass p z.class a.is.class in
+      let notifies : Notifies p s over (record { object = o; property = q }) t = record {
+        object = b.object;
+        is_object = b.is_object;
+        class = a.is.class;
+        is_class = subst Class object_is a.is.is_class;
+        property = a.property;
+        is_property = a.is.is_property;
+        signal = signal;
+        is_signal = a.is_signal;
+        present = present;
+        is_present = ap (λ (z : Object). slice_get z.values q) (sym here_is) ∙ is_present;
+        method = b.method;
+        is_method = b.is_method;
+        gives = b.gives ∙ ap (λ (l : List Value). begun s over o b.object signal b.method l b.method.work) taken_is ∙ ap (λ (k : Work). begun s over o b.object signal b.method (take (length b.method.kinds) (present ∷ [])) k) work_is;
+      } in
+      notifies;
+}
+
+-- the machine stays sound
+pub sound-written : {p : Loaded} {v : World} {o q : ℕ} {x : Object} {property : MetaProperty} {new : Value} (w : World) (entry : Entry) → v ≡ set_in w entry o x q new → IsField p w.objects o q x property → Has p (class_of w.objects) new property.kind → Sound p w.objects w.connections → Sound p v.objects v.connections
+sound-written {p} {v} {o} {q} {x} {property} {new} w entry is f has sound =
+    let target : World = set_in w entry o x q new in
+    let kept : Sound p target.objects target.connections = record { typed = typed-written f sound.typed has; joined = all-joined-still p w.objects _ w.connections (shapes-written w.objects o x q new f.is_object) sound.joined } in
+    let Family : World → Type 0 = λ u. Sound p u.objects u.connections in
+    subst Family (sym is) kept
+
+pub announces-in : {p : Loaded} {v : World} {o q : ℕ} {x : Object} {property : MetaProperty} {old new : Value} (w : World) (entry : Entry) (result : Option ℕ) → v ≡ set_in w entry o x q new → (f : IsField p w.objects o q x property) → ((class : MetaObject) → IsClass p x.class class → IsSoundProperty p class property) → Changes old new property.notify result → MayAnnounce p v.objects o q result
+announces-in {p} {v} {o} {q} {x} {property} {old} {new} w entry result is f sound changes =
+    let Family : World → Type 0 = λ u. MayAnnounce p u.objects o q result in
+    subst Family (sym is) (announces-written {new = new} result f sound changes)
+
+pub changes-none : {old new : Value} (notify : Option ℕ) → old ≡ new → Changes old new notify None
+changes-none None h = silent
+changes-none (Some signal) h = unchanged h
+
+pub changes-all : {old new : Value} (notify : Option ℕ) → old ≢ new → Changes old new notify notify
+changes-all None h = silent
+changes-all (Some signal) h = changed h

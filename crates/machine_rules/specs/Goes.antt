@@ -1,0 +1,120 @@
+-- What a call of the machine's code does, whatever activations are below.
+use Rattle.std.specs.Prelude.{◌≡◌, ◌≢◌, ℕ, ◌≤◌, List, [], ◌∷◌, ◌++◌, length, Result, Ok, Err, MatchResult, Bool, true, false, Option, Some, None, slice_get}
+use Rattle.meta_model.specs.Loaded.{Loaded}
+use Rattle.signatures.specs.declared.value.Value.{Value}
+use Rattle.signatures.specs.declared.value.Value.TheVariants as value
+use Rattle.meta_model.specs.declared.object.MetaMethod.{MetaMethod}
+use Rattle.meta_model.specs.declared.object.MetaObject.{MetaObject}
+use Rattle.meta_model.specs.declared.object.MetaProperty.{MetaProperty}
+use Rattle.meta_model.specs.declared.object.Statement.{Statement}
+use Rattle.meta_model.specs.declared.object.Work.{Work}
+use Rattle.meta_model.specs.declared.object.Work.TheVariants.{Signal, Slot}
+use Rattle.meta_model.specs.Members.{IsClass, IsMethod}
+use Rattle.meta_model.specs.Sound.{IsNotifier}
+use Rattle.expressions.specs.declared.evaluation.EvalFault.{EvalFault}
+use Rattle.expressions.specs.declared.evaluation.EvalFault.TheVariants.{BadType, Memory as NoMemory}
+use Rattle.machine_state.specs.declared.entry.Entry.{Entry}
+use Rattle.machine_state.specs.declared.entry.Entry.TheVariants as entry
+use Rattle.machine_state.specs.declared.entry.Shown.{Shown}
+use Rattle.machine_state.specs.declared.object_tree.Object.{Object}
+use Rattle.machine_state.specs.declared.fault.Fault.{Fault}
+use Rattle.machine_state.specs.declared.world.World.{World}
+use Rattle.machine_state.specs.Objects.{shapes_of}
+use Rattle.machine_state.specs.State.{State, Place, Activation}
+use Rattle.machine_rules.specs.Rules.{Rule, Begins, Writes}
+use Rattle.machine_rules.specs.Runs.{Runs, Reason}
+use Rattle.machine_state.specs.Worlds.{at}
+
+-- ---- what a body's paths and expressions give to the code
+
+-- the path leads to an object or to null, or to neither
+abbrev pub Finds : Option Value → Result (Option ℕ) EvalFault → Type 0
+Finds found (Ok r) = found ≡ Some (value.Ref r)
+Finds found (Err BadType) = (r : Option ℕ) → found ≢ Some (value.Ref r)
+Finds found (Err NoMemory) = Unit {0}
+
+-- the condition is a truth value, or none
+abbrev pub Judges : Option Value → Result Bool EvalFault → Type 0
+Judges found (Ok b) = found ≡ Some (value.Bool b)
+Judges found (Err BadType) = (b : Bool) → found ≢ Some (value.Bool b)
+Judges found (Err NoMemory) = Unit {0}
+
+-- ---- what calls of the machine's functions do
+
+-- over any stack of this height, the machine goes from one world and top of the stack to another
+pub record Goes (p : Loaded) (depth height : ℕ) (w : World) (top : List Activation) (v : World) (after : List Activation) : Type 0 where
+  pub runs : (below : List Activation) → length below ≡ height → Runs p depth (at w (top ++ below)) w.left [] (at v (after ++ below)) v.left
+
+-- over any stack of this height, the machine comes to a state where it stops
+pub record Breaks (p : Loaded) (depth height : ℕ) (w : World) (top : List Activation) (v : World) (fault : Fault) : Type 0 where
+  pub breaks : (below : List Activation) → length below ≡ height → (stack : List Activation) × Runs p depth (at w (top ++ below)) w.left [] (at v stack) v.left × Reason p depth (at v stack) v.left [] fault
+
+-- a call went from one top of the stack to another, or stopped on the way
+pub record Ends (p : Loaded) (depth height : ℕ) (w : World) (top : List Activation) (v : World) (after : List Activation) (result : Result (Unit {0}) Fault) : Type 0 where
+  pub cases : MatchResult result (λ _. Goes p depth height w top v after) (Breaks p depth height w top v)
+
+-- a method of an object may begin by the next rule of an activation, over what is left of it
+pub record Calls (p : Loaded) (w : World) (from to : Activation) (o m : ℕ) (arguments : List Value) : Type 0 where
+  pub gives : (below : List Activation) (t : State) → Begins p (at w (from ∷ below)) (to ∷ below) o m arguments t → Rule p (at w (from ∷ below)) t
+
+-- .. and nothing else may
+pub record OnlyCalls (p : Loaded) (w : World) (from to : Activation) (o m : ℕ) (arguments : List Value) : Type 0 where
+  pub begins : (below : List Activation) (t : State) → Rule p (at w (from ∷ below)) t → Begins p (at w (from ∷ below)) (to ∷ below) o m arguments t
+
+-- the next rule of an activation is that a property of an object is written
+pub record Sets (p : Loaded) (w : World) (from to : Activation) (o q : ℕ) (new : Value) : Type 0 where
+  pub gives : (below : List Activation) (t : State) → Writes p (at w (from ∷ below)) (to ∷ below) o q new t → Rule p (at w (from ∷ below)) t
+  pub only : (below : List Activation) (t : State) → Rule p (at w (from ∷ below)) t → Writes p (at w (from ∷ below)) (to ∷ below) o q new t
+
+-- an object and one of its methods
+pub record IsMember (p : Loaded) (objects : List Object) (o m : ℕ) (x : Object) (method : MetaMethod) : Type 0 where
+  pub is_object : slice_get objects o ≡ Some x
+  pub is_method : IsMethod p x.class m method
+
+-- an object and one of its properties
+pub record IsField (p : Loaded) (objects : List Object) (o q : ℕ) (x : Object) (property : MetaProperty) : Type 0 where
+  pub is_object : slice_get objects o ≡ Some x
+  pub class : MetaObject
+  pub is_class : IsClass p x.class class
+  pub is_property : slice_get class.properties q ≡ Some property
+
+-- what is still to be notified of a property: nothing, or this signal of it
+abbrev pub places_of : ℕ → ℕ → Option ℕ → List Place
+places_of o q None = []
+places_of o q (Some signal) = record { object = o; property = q } ∷ []
+
+-- the notify signal, if there is one and the value has changed
+pub data Changes (old new : Value) : Option ℕ → Option ℕ → Type 0 where
+  changed : {signal : ℕ} → old ≢ new → Changes old new (Some signal) (Some signal)
+  unchanged : {signal : ℕ} → old ≡ new → Changes old new (Some signal) None
+  silent : Changes old new None None
+
+-- the block that a condition chooses
+abbrev pub chosen_of : Bool → List Statement → List Statement → List Statement
+chosen_of true block other = block
+chosen_of false block other = other
+
+-- the signal is the notify signal of an object's property
+pub record Announces (p : Loaded) (objects : List Object) (o q signal : ℕ) : Type 0 where
+  pub object : Object
+  pub property : MetaProperty
+  pub is : IsField p objects o q object property
+  pub is_signal : property.notify ≡ Some signal
+  pub sound : IsNotifier is.class property signal
+
+abbrev pub MayAnnounce : Loaded → List Object → ℕ → ℕ → Option ℕ → Type 0
+MayAnnounce p objects o q None = Unit {0}
+MayAnnounce p objects o q (Some signal) = Announces p objects o q signal
+
+-- the entry of a method that begins
+abbrev pub begin_entry : ℕ → List ℕ → List ℕ → List Shown → Work → Entry
+begin_entry depth object method given Signal = entry.Emitted depth object method given
+begin_entry depth object method given (Slot statements) = entry.Called depth object method given
+
+-- the objects are those that they were, and so are the connections and all numbers; rules may have been used
+pub record Same (w v : World) : Type 0 where
+  pub objects : shapes_of v.objects ≡ shapes_of w.objects
+  pub connections : v.connections ≡ w.connections
+  pub connected : v.connected ≡ w.connected
+  pub events : v.events ≡ w.events
+  pub fewer : v.left ≤ w.left

@@ -1,0 +1,46 @@
+-- The moments that no rule of a run may bring (docs/machine.md, "Faults").
+use Rattle.std.specs.Prelude.{◌≡◌, ℕ, ◌<◌, ◌≤◌, List, [], ◌∷◌, length, map, Some, slice_get}
+use Rattle.signatures.specs.declared.value.Value.{Value}
+use Rattle.meta_model.specs.declared.object.MetaObject.{MetaObject}
+use Rattle.meta_model.specs.declared.object.MetaMethod.{MetaMethod}
+use Rattle.meta_model.specs.declared.object.MetaProperty.{MetaProperty}
+use Rattle.meta_model.specs.Loaded.{Loaded}
+use Rattle.meta_model.specs.Members.{IsClass, IsMethod}
+use Rattle.meta_model.specs.Values.{HaveTypes}
+use Rattle.machine_state.specs.declared.object_tree.Object.{Object}
+use Rattle.machine_state.specs.Objects.{class_of}
+use Rattle.machine_state.specs.State.{State, Activation, Body, Emit, Update}
+
+-- the arguments are as many as the object's method declares, each of its type
+pub record ArgumentsFit (p : Loaded) (objects : List Object) (o m : ℕ) (arguments : List Value) : Type 0 where
+  pub object : Object
+  pub is_object : slice_get objects o ≡ Some object
+  pub method : MetaMethod
+  pub is_method : IsMethod p object.class m method
+  pub typed : HaveTypes p (class_of objects) arguments method.kinds
+
+abbrev pub TopFits : Loaded → List Object → List Activation → Type 0
+TopFits p objects [] = Unit {0}
+TopFits p objects (Body o m arguments left ∷ below) = ArgumentsFit p objects o m arguments
+TopFits p objects (Emit o g arguments used last ∷ below) = ArgumentsFit p objects o g arguments
+TopFits p objects (Update places ∷ below) = Unit {0}
+
+-- the object's properties have values of their types
+pub record IsTyped (p : Loaded) (objects : List Object) (x : Object) : Type 0 where
+  pub class : MetaObject
+  pub is_class : IsClass p x.class class
+  pub typed : HaveTypes p (class_of objects) x.values (map (λ (q : MetaProperty). q.kind) class.properties)
+
+abbrev pub AreTyped : Loaded → List Object → Type 0
+AreTyped p objects = (o : ℕ) (x : Object) → slice_get objects o ≡ Some x → IsTyped p objects x
+
+-- After a rule from s to t every property has a value of its type, and what was pushed has the arguments that its
+-- method declares.
+pub record IsWell (p : Loaded) (s t : State) : Type 0 where
+  pub arguments : length s.stack < length t.stack → TopFits p t.objects t.stack
+  pub values : AreTyped p t.objects
+
+-- .. and activations nest no deeper than the depth
+pub record IsGood (p : Loaded) (depth : ℕ) (s t : State) : Type 0 where
+  pub well : IsWell p s t
+  pub shallow : length t.stack ≤ depth

@@ -1,0 +1,7 @@
+pub mod Paths
+pub mod Rules
+pub mod Events
+pub mod Good
+pub mod Runs
+pub mod Sound
+pub mod Goes

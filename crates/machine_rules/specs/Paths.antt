@@ -1,0 +1,51 @@
+-- What paths and expressions of a body give (docs/language.md, "Expressions").
+use Rattle.std.specs.Prelude.{ℕ, false, pos, List, [], ◌∷◌, Option, None, Some, slice_get}
+use Rattle.std.specs.Option.{option_and_then}
+use Rattle.signatures.specs.declared.value.Value.{Value}
+use Rattle.signatures.specs.declared.value.Value.TheVariants as value
+use Rattle.slot_lang.specs.declared.syntax.Expr.{Expr}
+use Rattle.expressions.specs.Evaluation
+use Rattle.expressions.specs.Evaluation.{values}
+use Rattle.meta_model.specs.declared.object.MetaPath.{MetaPath}
+use Rattle.meta_model.specs.declared.object.MetaRoot.{MetaRoot}
+use Rattle.meta_model.specs.declared.object.MetaRoot.TheVariants.{This, Parameter}
+use Rattle.meta_model.specs.declared.object.Step.{Step}
+use Rattle.meta_model.specs.declared.object.ValueType.{ValueType}
+use Rattle.meta_model.specs.declared.object.ValueType.TheVariants as kind
+use Rattle.machine_state.specs.declared.object_tree.Object.{Object}
+use Rattle.machine_state.specs.Objects.{stored}
+
+-- what a property of null reads as
+abbrev pub default : ValueType → Value
+default kind.Int = value.Int (pos 0)
+default kind.Bool = value.Bool false
+default kind.Text = value.Text []
+default (kind.Reference class constant) = value.Ref None
+
+-- `this` is the object o; a parameter is the argument in its place
+abbrev pub root_value : ℕ → List Value → MetaRoot → Option Value
+root_value o arguments This = Some (value.Ref (Some o))
+root_value o arguments (Parameter k) = slice_get arguments k
+
+-- the property of what a path has led to so far
+abbrev pub step_value : List Object → Step → Value → Option Value
+step_value objects s (value.Ref None) = Some (default s.kind)
+step_value objects s (value.Ref (Some o)) = stored objects o s.property
+step_value objects s (value.Int n) = None
+step_value objects s (value.Bool b) = None
+step_value objects s (value.Text t) = None
+
+abbrev pub steps_value : List Object → List Step → Option Value → Option Value
+steps_value objects [] found = found
+steps_value objects (s ∷ steps) found = steps_value objects steps (option_and_then (step_value objects s) found)
+
+-- the value that a path leads to, for the object o and the arguments of a call
+abbrev pub path_value : List Object → ℕ → List Value → MetaPath → Option Value
+path_value objects o arguments path = steps_value objects path.steps (root_value o arguments path.root)
+
+-- .. that an expression has
+abbrev pub value_of : List Object → ℕ → List Value → Expr MetaPath → Option Value
+value_of objects o arguments e = Evaluation.value (path_value objects o arguments) e
+
+abbrev pub values_of : List Object → ℕ → List Value → List (Expr MetaPath) → Option (List Value)
+values_of objects o arguments es = values (path_value objects o arguments) es

@@ -1,0 +1,156 @@
+-- What may follow a state by one rule, beside the taking of events (docs/machine.md, "Rules"). No rule is forbidden
+-- because activations would nest too deep or a value is of a wrong type: those are faults of a run, and not of a rule.
+use Rattle.std.specs.Prelude.{◌≡◌, ◌≢◌, ℕ, true, false, List, [], ◌∷◌, ◌++◌, length, take, Option, None, Some, slice_get, slice_set}
+use Rattle.signatures.specs.declared.value.Value.{Value}
+use Rattle.signatures.specs.declared.value.Value.TheVariants as value
+use Rattle.meta_model.specs.declared.object.Statement.{Statement}
+use Rattle.meta_model.specs.declared.object.Statement.TheOpen as layer
+use Rattle.meta_model.specs.declared.object.Statement.TheViews.{out-Statement}
+use Rattle.meta_model.specs.declared.object.Work.{Work}
+use Rattle.meta_model.specs.declared.object.Work.TheVariants.{Signal, Slot}
+use Rattle.meta_model.specs.declared.object.MetaObject.{MetaObject}
+use Rattle.meta_model.specs.declared.object.MetaMethod.{MetaMethod}
+use Rattle.meta_model.specs.declared.object.MetaProperty.{MetaProperty}
+use Rattle.meta_model.specs.Loaded.{Loaded}
+use Rattle.meta_model.specs.Members.{IsClass, IsMethod}
+use Rattle.machine_state.specs.declared.object_tree.Object.{Object}
+use Rattle.machine_state.specs.declared.connections.Connection.{Connection}
+use Rattle.machine_state.specs.declared.entry.Entry.{Entry}
+use Rattle.machine_state.specs.declared.entry.Entry.TheVariants as entry
+use Rattle.machine_state.specs.Connections.{next_connection}
+use Rattle.machine_state.specs.Objects.{written, shown, all_shown}
+use Rattle.machine_rules.specs.Paths.{path_value, value_of, values_of}
+use Rattle.machine_state.specs.State.{State, Place, Activation, Body, Emit, Update}
+
+-- one more activation over a stack, and the entry that is written down, with the length of the stack
+abbrev pub pushed : State → Activation → List Activation → (ℕ → Entry) → State
+pushed s top below note = record s { stack = top ∷ below; trace = s.trace ++ note (length (top ∷ below)) ∷ [] }
+
+-- a method of an object begins: a signal is emitted, a slot's body is called
+abbrev pub begun : State → List Activation → ℕ → Object → ℕ → MetaMethod → List Value → Work → State
+begun s below o x m method arguments Signal =
+    pushed s (Emit o m arguments 0 s.connected) below (λ d. entry.Emitted d x.name method.sig.name (all_shown s.objects arguments))
+begun s below o x m method arguments (Slot statements) =
+    pushed s (Body o m arguments statements) below (λ d. entry.Called d x.name method.sig.name (all_shown s.objects arguments))
+
+-- method m of object o begins with these arguments
+pub record Begins (p : Loaded) (s : State) (below : List Activation) (o m : ℕ) (arguments : List Value) (t : State) : Type 0 where
+  pub object : Object
+  pub is_object : slice_get s.objects o ≡ Some object
+  pub method : MetaMethod
+  pub is_method : IsMethod p object.class m method
+  pub gives : t ≡ begun s below o object m method arguments method.work
+
+-- ---- writing a property (Qt 6, "The Property System": a notify signal is emitted when the value has changed)
+
+-- what is to be notified when a property that has this notify signal, if any, is written
+pub data IsNotified (old new : Value) (place : Place) : Option ℕ → List Place → Type 0 where
+  changed : {signal : ℕ} → old ≢ new → IsNotified old new place (Some signal) (place ∷ [])
+  unchanged : {signal : ℕ} → old ≡ new → IsNotified old new place (Some signal) []
+  silent : IsNotified old new place None []
+
+-- a property is written, and what is to be notified is pushed
+pub record Writes (p : Loaded) (s : State) (below : List Activation) (o q : ℕ) (new : Value) (t : State) : Type 0 where
+  pub object : Object
+  pub is_object : slice_get s.objects o ≡ Some object
+  pub class : MetaObject
+  pub is_class : IsClass p object.class class
+  pub property : MetaProperty
+  pub is_property : slice_get class.properties q ≡ Some property
+  pub old : Value
+  pub is_old : slice_get object.values q ≡ Some old
+  pub places : List Place
+  pub notified : IsNotified old new (record { object = o; property = q }) property.notify places
+  pub gives : t ≡ pushed (record s { objects = slice_set s.objects o (written object q new) }) (Update places) below
+      (λ d. entry.Written d object.name property.name (shown s.objects new))
+
+-- the notify signal of a property is emitted, with its present value if the signal has a parameter
+pub record Notifies (p : Loaded) (s : State) (below : List Activation) (place : Place) (t : State) : Type 0 where
+  pub object : Object
+  pub is_object : slice_get s.objects place.object ≡ Some object
+  pub class : MetaObject
+  pub is_class : IsClass p object.class class
+  pub property : MetaProperty
+  pub is_property : slice_get class.properties place.property ≡ Some property
+  pub signal : ℕ
+  pub is_signal : property.notify ≡ Some signal
+  pub present : Value
+  pub is_present : slice_get object.values place.property ≡ Some present
+  pub method : MetaMethod
+  pub is_method : IsMethod p object.class signal method
+  pub gives : t ≡ begun s below place.object object signal method (take (length method.kinds) (present ∷ [])) Signal
+
+-- the next property is notified; with none left the update ends
+abbrev pub UpdateRule : Loaded → State → List Activation → State → List Place → Type 0
+UpdateRule p s below t [] = t ≡ record s { stack = below }
+UpdateRule p s below t (place ∷ places) = Notifies p s (Update places ∷ below) place t
+
+-- ---- bodies
+
+-- nothing is done, since a path leads to null
+abbrev pub on_null : State → List Activation → State
+on_null s stack = record s { stack = stack; trace = s.trace ++ entry.OnNull (length stack) ∷ [] }
+
+-- what is done with the object that a path leads to, and what where it leads to null
+abbrev pub OnObject : (ℕ → Type 0) → Type 0 → Option Value → Type 0
+OnObject Act Nothing (Some (value.Ref (Some x))) = Act x
+OnObject Act Nothing (Some (value.Ref None)) = Nothing
+OnObject Act Nothing (Some (value.Int n)) = ⊥
+OnObject Act Nothing (Some (value.Bool b)) = ⊥
+OnObject Act Nothing (Some (value.Text t)) = ⊥
+OnObject Act Nothing None = ⊥
+
+-- the block that a condition chooses
+abbrev pub Chooses : Option Value → List Statement → List Statement → List Statement → Type 0
+Chooses (Some (value.Bool true)) block other chosen = chosen ≡ block
+Chooses (Some (value.Bool false)) block other chosen = chosen ≡ other
+Chooses (Some (value.Int n)) block other chosen = ⊥
+Chooses (Some (value.Text t)) block other chosen = ⊥
+Chooses (Some (value.Ref r)) block other chosen = ⊥
+Chooses None block other chosen = ⊥
+
+-- A statement of the body of method m of object o; `rest` follows it. On null its expressions aren't evaluated.
+abbrev pub StatementRule : Loaded → State → ℕ → ℕ → List Value → List Statement → List Activation → State → layer.Statement-F Statement → Type 0
+StatementRule p s o m arguments rest below t (layer.Set path q e) =
+    OnObject (λ x. (new : Value) × (value_of s.objects o arguments e ≡ Some new) × Writes p s (Body o m arguments rest ∷ below) x q new t)
+    (t ≡ on_null s (Body o m arguments rest ∷ below)) (path_value s.objects o arguments path)
+StatementRule p s o m arguments rest below t (layer.Emit g es) =
+    (given : List Value) × (values_of s.objects o arguments es ≡ Some given) × Begins p s (Body o m arguments rest ∷ below) o g given t
+StatementRule p s o m arguments rest below t (layer.Call path n es) =
+    OnObject (λ x. (given : List Value) × (values_of s.objects o arguments es ≡ Some given) × Begins p s (Body o m arguments rest ∷ below) x n given t)
+    (t ≡ on_null s (Body o m arguments rest ∷ below)) (path_value s.objects o arguments path)
+StatementRule p s o m arguments rest below t (layer.If e block other) =
+    (chosen : List Statement) × Chooses (value_of s.objects o arguments e) block other chosen
+    × (t ≡ record s { stack = Body o m arguments (chosen ++ rest) ∷ below })
+
+-- the next statement is carried out; with none left the body ends
+abbrev pub BodyRule : Loaded → State → ℕ → ℕ → List Value → List Activation → State → List Statement → Type 0
+BodyRule p s o m arguments below t [] = t ≡ record s { stack = below }
+BodyRule p s o m arguments below t (statement ∷ rest) = StatementRule p s o m arguments rest below t (out-Statement statement)
+
+-- ---- emissions
+
+-- a connection is used: its method begins at the receiver, with as many arguments as it declares
+pub record Uses (p : Loaded) (s : State) (below : List Activation) (c : Connection) (arguments : List Value) (t : State) : Type 0 where
+  pub receiver : Object
+  pub is_receiver : slice_get s.objects c.receiver ≡ Some receiver
+  pub method : MetaMethod
+  pub is_method : IsMethod p receiver.class c.method method
+  pub gives : t ≡ begun s below c.receiver receiver c.method method (take (length method.kinds) arguments) method.work
+
+-- the next connection is used; with none left the emission ends
+abbrev pub EmitRule : Loaded → State → ℕ → ℕ → List Value → ℕ → List Activation → State → Option Connection → Type 0
+EmitRule p s o g arguments last below t None = t ≡ record s { stack = below }
+EmitRule p s o g arguments last below t (Some c) = Uses p s (Emit o g arguments c.number last ∷ below) c arguments t
+
+-- ---- one rule
+
+abbrev pub RuleAt : Loaded → State → State → List Activation → Type 0
+RuleAt p s t [] = ⊥
+RuleAt p s t (Body o m arguments left ∷ below) = BodyRule p s o m arguments below t left
+RuleAt p s t (Emit o g arguments used last ∷ below) = EmitRule p s o g arguments last below t (next_connection s.connections o g used last)
+RuleAt p s t (Update places ∷ below) = UpdateRule p s below t places
+
+-- t follows s by the rule of the activation on top
+abbrev pub Rule : Loaded → State → State → Type 0
+Rule p s t = RuleAt p s t s.stack

@@ -1,0 +1,128 @@
+//! What the paths and expressions of a body give.
+
+ghost use Rattle.std.specs.Prelude.{◌≡◌, IfOk};
+ghost use Rattle.std.specs.Option.{option_copied};
+ghost use Rattle.expressions.specs.Evaluation.{Evaluates, EvaluatesAll};
+ghost use Rattle.machine_rules.specs.Goes.{Finds, Judges};
+ghost use Rattle.machine_rules.specs.Paths.{default, root_value, step_value, path_value, value_of, values_of};
+
+use expressions::{self, EvalFault};
+use machine_state::{Fault, Objects};
+use meta_objects::{MetaPath, MetaRoot, Step, ValueType};
+use signatures::{Arguments, ObjectId, Text, Value};
+use slot_lang::Expr;
+use std::alloc::{AllocError, Global};
+
+/// What a body reads: the objects, the object whose body it is, and the arguments of its call.
+#[derive(Clone, Copy)]
+pub struct Scope<'w> {
+    pub alloc: Global,
+    pub objects: &'w Objects,
+    pub this: usize,
+    pub arguments: &'w [Value],
+}
+
+impl<'w> expressions::World<MetaPath> for Scope<'w> {
+    ghost use Rattle.machine_rules.specs.Paths.{path_value};
+
+    ghost read = { λ scope path. path_value scope.objects.now scope.this scope.arguments.now path };
+
+    fn value(&self, path: &MetaPath) -> Result<Value, EvalFault> {
+        let mut found = self.root(path.root)?;
+        for step in path.steps.as_slice() {
+            found = self.step(step, &found)?;
+        }
+        Ok(found)
+    }
+}
+
+impl<'w> Scope<'w> {
+    /// The value of an expression; `BadType` where it has none.
+    pub fn value_of(&self, expression: &Expr<MetaPath>) -> Result<Value, EvalFault>
+        ensures { Evaluates (value_of self.now.objects.now self.now.this self.now.arguments.now expression.now) result }
+    {
+        expressions::eval(self.alloc, expression, self)
+    }
+
+    /// The values of expressions; `BadType` where one of them has none.
+    pub fn values_of(&self, expressions: &[Expr<MetaPath>]) -> Result<Arguments, EvalFault>
+        ensures { EvaluatesAll (values_of self.now.objects.now self.now.this self.now.arguments.now expressions.now) result }
+    {
+        expressions::eval_all(self.alloc, expressions, self)
+    }
+
+    /// The object that a path leads to, or `None` where it leads to null; `BadType` where it leads to neither.
+    pub fn object_at(&self, path: &MetaPath) -> Result<Option<usize>, EvalFault>
+        ensures { Finds (path_value self.now.objects.now self.now.this self.now.arguments.now path.now) result }
+    {
+        match expressions::World::value(self, path)? {
+            Value::Ref(Some(object)) => Ok(Some(object.number())),
+            Value::Ref(None) => Ok(None),
+            _ => Err(EvalFault::BadType),
+        }
+    }
+
+    /// The truth value of a condition; `BadType` where it has none.
+    pub fn truth_of(&self, condition: &Expr<MetaPath>) -> Result<bool, EvalFault>
+        ensures { Judges (value_of self.now.objects.now self.now.this self.now.arguments.now condition.now) result }
+    {
+        match self.value_of(condition)? {
+            Value::Bool(truth) => Ok(truth),
+            _ => Err(EvalFault::BadType),
+        }
+    }
+
+    /// Where a path begins.
+    fn root(&self, root: MetaRoot) -> Result<Value, EvalFault>
+        ensures { Evaluates (root_value self.now.this self.now.arguments.now root) result }
+    {
+        match root {
+            MetaRoot::This => Ok(Value::Ref(Some(ObjectId::new(self.this)))),
+            MetaRoot::Parameter(place) => copy_found(self.arguments.get(place)),
+        }
+    }
+
+    /// The property of what a path has led to so far.
+    fn step(&self, step: &Step, from: &Value) -> Result<Value, EvalFault>
+        ensures { Evaluates (step_value self.now.objects.now step.now from.now) result }
+    {
+        match from {
+            Value::Ref(None) => {
+                let value = default(self.alloc, step.kind)?;
+                Ok(value)
+            }
+            Value::Ref(Some(object)) => copy_found(
+                self.objects.stored(object.number(), step.property),
+            ),
+            _ => Err(EvalFault::BadType),
+        }
+    }
+}
+
+/// A copy of a value that was found; `BadType` where none was.
+fn copy_found(found: Option<&Value>) -> Result<Value, EvalFault>
+    ensures { Evaluates (option_copied found.entry) result }
+{
+    match found {
+        Some(value) => {
+            let copy = value.copy()?;
+            Ok(copy)
+        }
+        None => Err(EvalFault::BadType),
+    }
+}
+
+/// What a property of this type reads as where null has no properties.
+fn default(alloc: Global, kind: ValueType) -> Result<Value, AllocError>
+    ensures { IfOk result (λ value. value ≡ default kind) }
+{
+    match kind {
+        ValueType::Int => Ok(Value::Int(0)),
+        ValueType::Bool => Ok(Value::Bool(false)),
+        ValueType::Text => {
+            let text = Text::empty(alloc)?;
+            Ok(Value::Text(text))
+        }
+        ValueType::Reference(_, _) => Ok(Value::Ref(None)),
+    }
+}

@@ -1,0 +1,135 @@
+//! A program with its natives, and what its numbers lead to.
+
+ghost use Rattle.std.specs.Prelude.{◌≡◌, ◌≤◌, IfSome, IfOk, MatchOption, take};
+ghost use Rattle.meta_model.specs.declared.object.MetaMethod.{MetaMethod as AMetaMethod};
+ghost use Rattle.meta_model.specs.declared.object.MetaProperty.{MetaProperty as AMetaProperty};
+ghost use Rattle.meta_model.specs.Members.{IsClass};
+ghost use Rattle.meta_model.specs.declared.object.MetaObject.{MetaObject as AMetaObject};
+ghost use Rattle.meta_model.specs.Sound.{IsSoundProperty};
+ghost use Rattle.machine_state.specs.declared.object_tree.Object.{Object as AnObject};
+ghost use Rattle.machine_state.specs.declared.entry.Entry.TheVariants.{Written};
+ghost use Rattle.machine_rules.specs.Goes.{IsMember, IsField, begin_entry};
+ghost use Rattle.machine_state.specs.Objects.{shown, all_shown};
+
+use machine_state::{Entry, Natives, Object, World};
+use meta_objects::{Meta, MetaMethod, MetaProperty, Work};
+use signatures::Value;
+use std::alloc::{AllocError, Global};
+
+/// A program with its natives, and how deep activations may nest.
+#[derive(Drop)]
+pub struct Setting {
+    /// Where memory is asked for.
+    pub alloc: Global,
+    /// The program.
+    pub meta: Meta,
+    /// The program's natives.
+    pub natives: Natives,
+    /// How many activations may nest, up to 256.
+    pub depth: usize,
+    ghost bounded: { depth ≤ 256 },
+}
+
+impl Setting {
+    /// A program with its natives; at most `depth` activations nest, up to 256.
+    pub fn new(alloc: Global, meta: Meta, natives: Natives, depth: usize) -> Setting
+        requires { depth ≤ 256 }
+        ensures meta { result.meta ≡ meta }
+        ensures depth { result.depth ≡ depth }
+    {
+        Setting {
+            alloc,
+            meta,
+            natives,
+            depth,
+        }
+    }
+
+    /// An object and one of its methods, or `None` where either isn't there.
+    pub fn member<'s, 'w>(
+        &'s self,
+        world: &'w World,
+        object: usize,
+        method: usize,
+    ) -> Option<(&'w Object, &'s MetaMethod)>
+        ensures { MatchOption result ((x : AnObject) (k : AMetaMethod) → ¬ IsMember self.now.meta world.now.objects object method x k) (λ found. IsMember self.now.meta world.now.objects object method found.0.now found.1.now) }
+    {
+        let Some(found) = world.objects.get(object) else {
+            return None;
+        };
+        let Some(declared) = self.meta.method_at(found.class, method) else {
+            return None;
+        };
+        Some((found, declared))
+    }
+
+    /// An object and one of its properties, or `None` where either isn't there.
+    pub fn field<'s, 'w>(
+        &'s self,
+        world: &'w World,
+        object: usize,
+        property: usize,
+    ) -> Option<(&'w Object, &'s MetaProperty)>
+        ensures value { MatchOption result ((x : AnObject) (k : AMetaProperty) → ¬ IsField self.now.meta world.now.objects object property x k) (λ found. IsField self.now.meta world.now.objects object property found.0.now found.1.now) }
+        ensures sound { IfSome result (λ found. (class : AMetaObject) → IsClass self.now.meta found.0.now.class class → IsSoundProperty self.now.meta class found.1.now) }
+    {
+        let Some(found) = world.objects.get(object) else {
+            return None;
+        };
+        let Some(class) = self.meta.object(found.class) else {
+            return None;
+        };
+        let Some(declared) = class.properties.get(property) else {
+            return None;
+        };
+        Some((found, declared))
+    }
+
+    /// The entry of a method that begins.
+    pub fn begin_entry(
+        &self,
+        world: &World,
+        depth: usize,
+        object: &Object,
+        method: &MetaMethod,
+        arguments: &[Value],
+    ) -> Result<Entry, AllocError>
+        ensures { IfOk result (λ entry. entry ≡ begin_entry depth object.now.name method.now.sig.name (all_shown world.now.objects arguments.now) method.now.work) }
+    {
+        let name = object.name.copy()?;
+        let called = method.sig.name.copy()?;
+        let given = world.objects.show_all(self.alloc, arguments)?;
+        match method.work {
+            Work::Signal => Ok(Entry::Emitted(depth, name, called, given)),
+            Work::Slot(_) => Ok(Entry::Called(depth, name, called, given)),
+        }
+    }
+
+    /// The entry of a write.
+    pub fn write_entry(
+        &self,
+        world: &World,
+        depth: usize,
+        object: &Object,
+        property: &MetaProperty,
+        value: &Value,
+    ) -> Result<Entry, AllocError>
+        ensures { IfOk result (λ entry. entry ≡ Written depth object.now.name property.now.name (shown world.now.objects value.now)) }
+    {
+        let name = object.name.copy()?;
+        let property = property.name.copy()?;
+        let shown = world.objects.show(value)?;
+        Ok(Entry::Written(depth, name, property, shown))
+    }
+}
+
+/// As many of the arguments as a method declares.
+pub fn front(arguments: &[Value], count: usize) -> &[Value]
+    ensures { result.now ≡ take count arguments.now }
+{
+    if count < arguments.len() {
+        &arguments[..count]
+    } else {
+        arguments
+    }
+}

@@ -1,0 +1,110 @@
+//! Writes of properties, and the notifications that follow them.
+
+ghost use Rattle.std.specs.Prelude.{◌≡◌, ℕ, ◌<◌, ◌∷◌, [], Option, Some, slice_get};
+ghost use Rattle.std.specs.Option.{option_copied};
+ghost use Rattle.signatures.specs.declared.value.Value.{Value as AValue};
+ghost use Rattle.machine_rules.specs.Sound.{Sound};
+ghost use Rattle.machine_state.specs.State.{Activation, Update};
+ghost use Rattle.machine_rules.specs.Goes.{Ends, Sets, Announces, MayAnnounce, places_of, Changes};
+
+use crate::setting::{Setting, front};
+use machine_state::{Fault, World, has_type, may_nest, same_value};
+use signatures::Value;
+
+impl Setting {
+    /// Writes a property of an object, over what is left of the activation at the top, and notifies where the value
+    /// has changed; `BadType` where the object has no such property, or the value isn't of its type.
+    #[cycle(machine)]
+    pub fn write(
+        &self,
+        world: &mut World,
+        height: usize,
+        object: usize,
+        property: usize,
+        value: Value,
+    ) -> Result<(), Fault>
+        requires room { height < self.now.depth }
+        requires sound { Sound self.now.meta world.old.objects world.old.connections }
+        requires left { 0 < world.old.left }
+        ensures ends { (from to : Activation) → Sets self.now.meta world.old from to object property value → Ends self.now.meta self.now.depth height world.old (from ∷ []) world.new (to ∷ []) result }
+    {
+        let Some((found, declared)) = self.field(world, object, property) else {
+            return Err(Fault::BadType);
+        };
+        let changed = signal_of_change(declared.notify, found.values.get(property), &value);
+        if !has_type(&self.meta, &world.objects, &value, declared.kind) {
+            return Err(Fault::BadType);
+        }
+        may_nest(self.depth, height)?;
+        let entry = self.write_entry(world, height + 2, found, declared, &value)?;
+        world.write(entry, object, property, value)?;
+        self.run_update(world, height + 1, object, property, changed)
+    }
+
+    /// Notifies that a property has changed, if it has and has a notify signal, and ends the update.
+    #[cycle(machine)]
+    fn run_update(
+        &self,
+        world: &mut World,
+        height: usize,
+        object: usize,
+        property: usize,
+        changed: Option<usize>,
+    ) -> Result<(), Fault>
+        requires room { height < self.now.depth }
+        requires sound { Sound self.now.meta world.old.objects world.old.connections }
+        requires announces { MayAnnounce self.now.meta world.old.objects object property changed }
+        ensures ends { Ends self.now.meta self.now.depth height world.old (Update (places_of object property changed) ∷ []) world.new [] result }
+    {
+        match changed {
+            Some(signal) => {
+                self.notify(world, height, object, property, signal)?;
+                world.tick()
+            }
+            None => world.tick(),
+        }
+    }
+
+    /// Emits the notify signal of a property, with its present value if the signal has a parameter.
+    #[cycle(machine)]
+    fn notify(
+        &self,
+        world: &mut World,
+        height: usize,
+        object: usize,
+        property: usize,
+        signal: usize,
+    ) -> Result<(), Fault>
+        requires room { height < self.now.depth }
+        requires sound { Sound self.now.meta world.old.objects world.old.connections }
+        requires announces { Announces self.now.meta world.old.objects object property signal }
+        ensures ends { Ends self.now.meta self.now.depth height world.old (Update (places_of object property (Some signal)) ∷ []) world.new (Update [] ∷ []) result }
+    {
+        world.is_due()?;
+        let Some((found, declared)) = self.member(world, object, signal) else {
+            unreachable!()
+        };
+        let Some(value) = found.values.get(property) else {
+            unreachable!()
+        };
+        let present = [value.copy()?];
+        let taken = front(present.as_slice(), declared.kinds.len());
+        self.begin(world, height, object, signal, taken)
+    }
+}
+
+/// The notify signal, where there is one and the new value isn't the old one.
+fn signal_of_change(notify: Option<usize>, old: Option<&Value>, new: &Value) -> Option<usize>
+    ensures { (before : AValue) → option_copied old.entry ≡ Some before → Changes before new.now notify result }
+{
+    match old {
+        Some(before) => {
+            if same_value(before, new) {
+                None
+            } else {
+                notify
+            }
+        }
+        None => notify,
+    }
+}

@@ -1,0 +1,37 @@
+-- The machine's state (docs/machine.md, "The state").
+use Rattle.std.specs.Prelude.{ℕ, List, []}
+use Rattle.signatures.specs.declared.value.Value.{Value}
+use Rattle.meta_model.specs.declared.object.Statement.{Statement}
+use Rattle.machine_state.specs.declared.object_tree.Object.{Object}
+use Rattle.machine_state.specs.declared.connections.Connection.{Connection}
+use Rattle.machine_state.specs.declared.entry.Entry.{Entry}
+
+-- a property of an object, both by number
+pub record Place : Type 0 where
+  pub object : ℕ
+  pub property : ℕ
+
+-- What is going on. Objects are named by their creation number, methods by their number in the object's class.
+pub data Activation : Type 0 where
+  -- a slot's body, with the statements that are left of it
+  Body : (object method : ℕ) (arguments : List Value) (left : List Statement) → Activation
+  -- an emission, with the last connection used and the last one made when it began
+  Emit : (object signal : ℕ) (arguments : List Value) (used last : ℕ) → Activation
+  -- the notifications that follow a write, with the properties that are still to be notified
+  Update : (notify : List Place) → Activation
+
+pub record State : Type 0 where
+  -- in the order of creation
+  pub objects : List Object
+  -- in the order in which they were made
+  pub connections : List Connection
+  -- the latest first
+  pub stack : List Activation
+  pub trace : List Entry
+  -- how many events were taken, and how many connections were ever numbered
+  pub events : ℕ
+  pub connected : ℕ
+
+-- nothing has happened
+abbrev pub start : State
+start = record { objects = []; connections = []; stack = []; trace = []; events = 0; connected = 0 }

@@ -1,0 +1,80 @@
+-- Who is above whom.
+use Rattle.std.proofs.lemmas.Bool.{eqb-true, eq-eqb}
+use Rattle.std.proofs.Common.{◌≡◌, ◌≢◌, ◌↔◌, ℕ, eqb, not, Bool, true, false, IsTrue, List, Option, None, Some, refl, sym, ap, ◌∙◌, subst}
+use Rattle.std.specs.Prelude.{slice_get, OnErr, Result, Ok, Err}
+use Rattle.std.specs.Option.{option_and_then}
+use Rattle.object_tree.specs.declared.object.Object.{Object}
+use Rattle.object_tree.specs.Family.{parent_of, IsChild, Above, itself, over_parent}
+use Rattle.object_tree.specs.Forest.{Forest}
+
+-- an object that has a parent lives
+child-lives : (objects : List Object) (o parent : ℕ) (x : Object) → Forest objects → slice_get objects o ≡ Some x → x.parent ≡ Some parent → IsChild objects parent o
+child-lives objects o parent x forest is under = by_life x.alive refl
+  where
+    by_life : (b : Bool) → x.alive ≡ b → IsChild objects parent o
+    by_life true alive = record { object = x; lives = record { is = is; alive = alive }; under = under }
+    by_life false gone = let none : x.parent ≡ None = forest.orphaned o x is gone in absurd (cc (none, under))
+
+pub child-is : (objects : List Object) (o parent : ℕ) → Forest objects → parent_of objects o ≡ Some parent → IsChild objects parent o
+child-is objects o parent forest found = by_object (slice_get objects o) refl found
+  where
+    by_object : (there : Option Object) → slice_get objects o ≡ there → option_and_then (λ (x : Object). x.parent) there ≡ Some parent → IsChild objects parent o
+    by_object None is e = absurd (cc e)
+    by_object (Some x) is e = child-lives objects o parent x forest is e
+
+pub parent-is : (objects : List Object) (o parent : ℕ) → IsChild objects parent o → parent_of objects o ≡ Some parent
+parent-is objects o parent child = ap (λ (there : Option Object). option_and_then (λ (x : Object). x.parent) there) child.lives.is ∙ child.under
+
+-- who is above another object is above its parent
+above-down : (objects : List Object) (a o parent : ℕ) → Above objects a o → o ≢ a → parent_of objects o ≡ Some parent → Above objects a parent
+above-down objects a o parent itself other found = absurd (other refl)
+above-down objects a o parent (over_parent {parent = p} child above) other found =
+    let same : Some p ≡ Some parent = sym (parent-is objects o p child) ∙ found in
+    let is : p ≡ parent = cc same in
+    subst (λ (q : ℕ). Above objects a q) is above
+
+pub above-parent : {Before : Type 0} (objects : List Object) (a o parent : ℕ) → Forest objects → parent_of objects o ≡ Some parent → o ≢ a → Before ↔ Above objects a o → Before ↔ Above objects a parent
+above-parent objects a o parent forest found other so_far =
+    (λ b. above-down objects a o parent (so_far.0 b) other found, λ above. so_far.1 (over_parent (child-is objects o parent forest found) above))
+
+-- an object without parent has nobody above it
+none-above : (objects : List Object) (a o : ℕ) → Above objects a o → o ≢ a → parent_of objects o ≡ None → ⊥
+none-above objects a o itself other none = other refl
+none-above objects a o (over_parent {parent = p} child above) other none =
+    let found : None ≡ Some p = sym none ∙ parent-is objects o p child in cc found
+
+pub end-above : {Before : Type 0} (objects : List Object) (a o : ℕ) → parent_of objects o ≡ None → o ≢ a → Before ↔ Above objects a o → IsTrue false ↔ Before
+end-above objects a o none other so_far =
+    (λ t. absurd (cc t), λ b. absurd (none-above objects a o (so_far.0 b) other none))
+
+pub here-above : {Before : Type 0} (objects : List Object) (a o : ℕ) → o ≡ a → Before ↔ Above objects a o → IsTrue true ↔ Before
+here-above objects a o same so_far =
+    (λ t. so_far.1 (subst (λ (q : ℕ). Above objects a q) (sym same) itself), λ b. refl)
+
+-- ---- tests
+
+pub false-not : {P : Type 0} {b : Bool} → IsTrue b ↔ P → b ≡ false → P → ⊥
+false-not test fails p = let yes : true ≡ false = sym (test.1 p) ∙ fails in cc yes
+
+pub true-so : {P : Type 0} {b : Bool} → IsTrue b ↔ P → b ≡ true → P
+true-so test holds = test.0 holds
+
+pub apart-of : {r : Bool} (a b : ℕ) → r ≡ not (eqb a b) → r ≡ true → a ≢ b
+apart-of a b is holds same = let e : not (eqb a b) ≡ true = sym is ∙ holds in absurd (not-true (eqb a b) (eq-eqb a b same) e)
+  where
+    not-true : (t : Bool) → t ≡ true → not t ≡ true → ⊥
+    not-true true e h = cc h
+    not-true false e h = cc e
+
+pub same-of : {r : Bool} (a b : ℕ) → r ≡ not (eqb a b) → r ≡ false → a ≡ b
+same-of a b is fails = eqb-true a b (true-of (eqb a b) (sym is ∙ fails))
+  where
+    true-of : (t : Bool) → not t ≡ false → t ≡ true
+    true-of true e = refl
+    true-of false e = absurd (cc e)
+
+-- ---- results
+
+pub on_err : {X E : Type 0} (r : Result X E) {P : Type 0} → ((x : X) → r ≡ Ok x → ⊥) → OnErr r P → P
+on_err (Ok x) never h = absurd (never x refl)
+on_err (Err e) never h = h

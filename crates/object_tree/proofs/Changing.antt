@@ -1,0 +1,47 @@
+-- What a change of one object leaves as it was.
+use Rattle.std.proofs.Common.{◌≡◌, ◌≢◌, ℕ, zero, suc, ◌<◌, ◌≤◌, List, [], ◌∷◌, length, get_or, Option, Some, refl, ap, ◌∙◌, arith}
+use Rattle.std.specs.Prelude.{slice_get, slice_set}
+use Rattle.std.specs.Option.{option_map}
+use Rattle.object_tree.specs.declared.object.Object.{Object}
+use Rattle.object_tree.specs.Objects.{change}
+
+-- a write to a place that is there
+pub change-set : (n : ℕ) (f : Object → Object) (xs : List Object) (d : Object) → n < length xs → slice_set xs n (f (get_or xs n d)) ≡ change n f xs
+change-set n f [] d l = absurd (omega (arith, l))
+change-set zero f (x ∷ xs) d l = refl
+change-set (suc n) f (x ∷ xs) d l = ap (λ (ys : List Object). x ∷ ys) (change-set n f xs d (omega (arith, l)))
+
+pub change-past : (n : ℕ) (f : Object → Object) (xs : List Object) → length xs ≤ n → change n f xs ≡ xs
+change-past n f [] l = refl
+change-past zero f (x ∷ xs) l = absurd (omega (arith, l))
+change-past (suc n) f (x ∷ xs) l = ap (λ (ys : List Object). x ∷ ys) (change-past n f xs (omega (arith, l)))
+
+pub length-change : (n : ℕ) (f : Object → Object) (xs : List Object) → length (change n f xs) ≡ length xs
+length-change n f [] = refl
+length-change zero f (x ∷ xs) = refl
+length-change (suc n) f (x ∷ xs) = ap suc (length-change n f xs)
+
+pub get-change_same : (n : ℕ) (f : Object → Object) (xs : List Object) → slice_get (change n f xs) n ≡ option_map f (slice_get xs n)
+get-change_same n f [] = refl
+get-change_same zero f (x ∷ xs) = refl
+get-change_same (suc n) f (x ∷ xs) = get-change_same n f xs
+
+pub get-change_other : (n k : ℕ) (f : Object → Object) (xs : List Object) → k ≢ n → slice_get (change n f xs) k ≡ slice_get xs k
+get-change_other n k f [] o = refl
+get-change_other zero zero f (x ∷ xs) o = absurd (o refl)
+get-change_other zero (suc k) f (x ∷ xs) o = refl
+get-change_other (suc n) zero f (x ∷ xs) o = refl
+get-change_other (suc n) (suc k) f (x ∷ xs) o = get-change_other n k f xs (λ e. o (ap suc e))
+
+-- what one part shows of an object that is changed in others
+pub part-change : {X : Type 0} (part : Option Object → X) (n k : ℕ) (f : Object → Object) (xs : List Object) → ((x : Object) → part (Some (f x)) ≡ part (Some x)) → part (slice_get (change n f xs) k) ≡ part (slice_get xs k)
+part-change part n k f [] h = refl
+part-change part zero zero f (x ∷ xs) h = h x
+part-change part zero (suc k) f (x ∷ xs) h = refl
+part-change part (suc n) zero f (x ∷ xs) h = refl
+part-change part (suc n) (suc k) f (x ∷ xs) h = part-change part n k f xs h
+
+-- what a write through `&mut` does
+pub set-changes : (xs : List Object) (m n : ℕ) (f : Object → Object) (x : Object) → m ≡ n → x ≡ get_or xs m x → m < length xs → slice_set xs m (f x) ≡ change n f xs
+set-changes xs m n f x same value within =
+    ap (λ (y : Object). slice_set xs m (f y)) value ∙ change-set m f xs x within ∙ ap (λ (k : ℕ). change k f xs) same

@@ -1,0 +1,344 @@
+-- What every tree keeps.
+use Rattle.std.proofs.Common.{◌≡◌, ◌≢◌, ⊎_elim, ℕ, zero, suc, ◌+◌, ◌<◌, eqb, cond, Bool, true, false, List, [], ◌∷◌, ◌++◌, length, Option, None, Some, refl, sym, ap, ◌∙◌, subst, arith}
+use Rattle.std.specs.Prelude.{slice_get}
+use Rattle.std.specs.Option.{option_and_then, option_map}
+use Rattle.std.proofs.lemmas.Bool.{cases_eq, eq-eqb, ne_eqb}
+use Rattle.std.proofs.lemmas.Option.{slice_get_within}
+use Rattle.object_tree.specs.declared.object.Object.{Object}
+use Rattle.object_tree.specs.Children.{without, is_among, are_distinct}
+use Rattle.object_tree.specs.Objects.{Lives, change}
+use Rattle.object_tree.specs.Family.{parent_of, children_in, children_of, Above, itself, over_parent, joined_by, left_by, leaves, put_under, moved, dead, without_life}
+use Rattle.object_tree.specs.Forest.{Forest, given, walk, depth, is_the}
+use Rattle.object_tree.proofs.Lists.{among-without_other, among-without_same, among-join_other, among-join_same, distinct-without, distinct-join}
+use Rattle.object_tree.proofs.Above.{child-is}
+use Rattle.object_tree.proofs.Walks.{Falls, walk-step}
+use Rattle.object_tree.proofs.Changing.{get-change_same, get-change_other, part-change}
+
+-- the part that `parent_of` reads
+abbrev pub parent_in : Option Object → Option ℕ
+parent_in there = option_and_then (λ (x : Object). x.parent) there
+
+-- ---- depths
+
+-- an object with children is there
+some_child : (there : Option Object) (c : ℕ) → is_among c (children_in there) ≡ true → (x : Object) × (there ≡ Some x)
+some_child None c e = absurd (cc e)
+some_child (Some x) c e = (x, refl)
+
+is_the-same : (a : ℕ) (found : Option ℕ) → found ≡ Some a → is_the a found ≡ true
+is_the-same a found e = rw e (eq-eqb a a refl)
+
+pub parent-there : (objects : List Object) (parent child : ℕ) → is_among child (children_of objects parent) ≡ is_the parent (parent_of objects child) → parent_of objects child ≡ Some parent → parent < length objects
+parent-there objects parent child listed found =
+    let among : is_among child (children_of objects parent) ≡ true = listed ∙ is_the-same parent (parent_of objects child) found in
+    let there : (x : Object) × (slice_get objects parent ≡ Some x) = some_child (slice_get objects parent) child among in
+    slice_get_within objects parent there.0 there.1
+
+-- where some rank falls from each object to its parent, depths do
+pub depths : (objects : List Object) (rank : ℕ → ℕ) → Falls (parent_of objects) rank →
+    ((parent child : ℕ) → is_among child (children_of objects parent) ≡ is_the parent (parent_of objects child)) →
+    (parent child : ℕ) → parent_of objects child ≡ Some parent → depth objects child ≡ suc (depth objects parent)
+depths objects rank falls listed parent child found =
+    walk-step (λ _ above. suc above) (length objects) (parent_of objects) rank falls (λ o p e. parent-there objects p o (listed p o) e) child parent found
+
+-- the depths of a forest fall
+pub forest-falls : (objects : List Object) → Forest objects → Falls (parent_of objects) (depth objects)
+forest-falls objects forest o parent e = omega (arith, forest.deeper parent o e)
+
+-- ---- changes that leave the family alone
+
+abbrev pub alive_in : Option Object → Bool
+alive_in None = true
+alive_in (Some x) = x.alive
+
+-- a dead object has no parent
+abbrev Orphan : Option Object → Type 0
+Orphan there = alive_in there ≡ false → parent_in there ≡ None
+
+orphan-of : (objects : List Object) → Forest objects → (o : ℕ) → Orphan (slice_get objects o)
+orphan-of objects forest o = by_object (slice_get objects o) refl
+  where
+    by_object : (there : Option Object) → slice_get objects o ≡ there → Orphan there
+    by_object None is gone = refl
+    by_object (Some x) is gone = forest.orphaned o x is gone
+
+orphaned-by : (objects : List Object) → ((o : ℕ) → Orphan (slice_get objects o)) → (o : ℕ) (x : Object) → slice_get objects o ≡ Some x → x.alive ≡ false → x.parent ≡ None
+orphaned-by objects all o x is gone =
+    let Goal : Option Object → Type 0 = λ there. Orphan there in
+    let here : Orphan (Some x) = subst Goal is (all o) in
+    here gone
+
+pub forest-same : (old new : List Object) → ((k : ℕ) → parent_of new k ≡ parent_of old k) → ((k : ℕ) → children_of new k ≡ children_of old k) → ((k : ℕ) → alive_in (slice_get new k) ≡ alive_in (slice_get old k)) → Forest old → Forest new
+forest-same old new parents children lives forest =
+    let listed : (parent child : ℕ) → is_among child (children_of new parent) ≡ is_the parent (parent_of new child) =
+    λ parent child. ap (is_among child) (children parent) ∙ forest.listed parent child ∙ ap (is_the parent) (sym (parents child)) in
+    record {
+      listed = listed;
+      distinct = λ parent. ap are_distinct (children parent) ∙ forest.distinct parent;
+      deeper = depths new (depth old) (λ o p e. forest-falls old forest o p (sym (parents o) ∙ e)) listed;
+      orphaned = orphaned-by new (λ o gone. parents o ∙ orphan-of old forest o (sym (lives o) ∙ gone));
+    }
+
+-- a change of other parts of one object
+pub forest-change : (n : ℕ) (f : Object → Object) (objects : List Object) → ((x : Object) → (f x).parent ≡ x.parent) → ((x : Object) → (f x).children ≡ x.children) → ((x : Object) → (f x).alive ≡ x.alive) → Forest objects → Forest (change n f objects)
+forest-change n f objects parents children lives forest =
+    forest-same objects (change n f objects)
+    (λ k. part-change parent_in n k f objects parents)
+    (λ k. part-change children_in n k f objects children)
+    (λ k. part-change alive_in n k f objects lives)
+    forest
+
+-- ---- a child that leaves its parent's children
+
+-- another part of every object stays
+pub leaves-part : {X : Type 0} (part : Option Object → X) (from : Option ℕ) (child k : ℕ) (objects : List Object) → ((x : Object) → part (Some (left_by child x)) ≡ part (Some x)) → part (slice_get (leaves from child objects) k) ≡ part (slice_get objects k)
+leaves-part part None child k objects h = refl
+leaves-part part (Some parent) child k objects h = part-change part parent k (left_by child) objects h
+
+-- the children of one object, some of whose are changed
+children-change_same : (n : ℕ) (f : Object → Object) (g : List ℕ → List ℕ) (objects : List Object) → g [] ≡ [] → ((x : Object) → (f x).children ≡ g x.children) → children_of (change n f objects) n ≡ g (children_of objects n)
+children-change_same n f g objects none h =
+    ap children_in (get-change_same n f objects) ∙ by_object (slice_get objects n)
+  where
+    by_object : (there : Option Object) → children_in (option_map f there) ≡ g (children_in there)
+    by_object None = sym none
+    by_object (Some x) = h x
+
+children-change_other : (n k : ℕ) (f : Object → Object) (objects : List Object) → k ≢ n → children_of (change n f objects) k ≡ children_of objects k
+children-change_other n k f objects other = ap children_in (get-change_other n k f objects other)
+
+-- .. another child stays where it was
+leaves-other : (from : Option ℕ) (child d k : ℕ) (objects : List Object) → d ≢ child → is_among d (children_of (leaves from child objects) k) ≡ is_among d (children_of objects k)
+leaves-other None child d k objects other = refl
+leaves-other (Some parent) child d k objects other = ⊎_elim
+    (λ (same : k ≡ parent). rw same (ap (is_among d) (children-change_same parent (left_by child) (without child) objects refl (λ x. refl)) ∙ among-without_other child d (children_of objects parent) other))
+    (λ (apart : k ≢ parent). ap (is_among d) (children-change_other parent k (left_by child) objects apart))
+    (cases_eq k parent)
+
+-- .. an object that isn't its parent keeps its children
+leaves-apart : (from : Option ℕ) (child k : ℕ) (objects : List Object) → from ≢ Some k → children_of (leaves from child objects) k ≡ children_of objects k
+leaves-apart None child k objects apart = refl
+leaves-apart (Some parent) child k objects apart = children-change_other parent k (left_by child) objects (λ e. apart (ap Some (sym e)))
+
+-- .. the child is among no children where its parent had it last
+leaves-gone : (from : Option ℕ) (child k : ℕ) (objects : List Object) → is_among child (children_of objects k) ≡ is_the k from → are_distinct (children_of objects k) ≡ true → is_among child (children_of (leaves from child objects) k) ≡ false
+leaves-gone None child k objects listed distinct = listed
+leaves-gone (Some parent) child k objects listed distinct = ⊎_elim
+    (λ (same : k ≡ parent).
+    let at : are_distinct (children_of objects parent) ≡ true = subst (λ (n : ℕ). are_distinct (children_of objects n) ≡ true) same distinct in
+    rw same (ap (is_among child) (children-change_same parent (left_by child) (without child) objects refl (λ x. refl)) ∙ among-without_same child (children_of objects parent) at))
+    (λ (apart : k ≢ parent). ap (is_among child) (children-change_other parent k (left_by child) objects apart) ∙ listed ∙ ne_eqb parent k (λ e. apart (sym e)))
+    (cases_eq k parent)
+
+-- .. and no child stands twice
+leaves-distinct : (from : Option ℕ) (child k : ℕ) (objects : List Object) → are_distinct (children_of objects k) ≡ true → are_distinct (children_of (leaves from child objects) k) ≡ true
+leaves-distinct None child k objects distinct = distinct
+leaves-distinct (Some parent) child k objects distinct = ⊎_elim
+    (λ (same : k ≡ parent).
+    let at : are_distinct (children_of objects parent) ≡ true = subst (λ (n : ℕ). are_distinct (children_of objects n) ≡ true) same distinct in
+    rw same (ap are_distinct (children-change_same parent (left_by child) (without child) objects refl (λ x. refl)) ∙ distinct-without child (children_of objects parent) at))
+    (λ (apart : k ≢ parent). ap are_distinct (children-change_other parent k (left_by child) objects apart) ∙ distinct)
+    (cases_eq k parent)
+
+-- ---- an object that dies
+
+-- the parent of an object whose own is changed
+parent-change_same : (n : ℕ) (f : Object → Object) (found : Option ℕ) (objects : List Object) (x : Object) → slice_get objects n ≡ Some x → (f x).parent ≡ found → parent_of (change n f objects) n ≡ found
+parent-change_same n f found objects x is e =
+    ap parent_in (get-change_same n f objects ∙ ap (option_map f) is) ∙ e
+
+parent-change_other : (n k : ℕ) (f : Object → Object) (objects : List Object) → k ≢ n → parent_of (change n f objects) k ≡ parent_of objects k
+parent-change_other n k f objects other = ap parent_in (get-change_other n k f objects other)
+
+died-parent : (o k : ℕ) (objects : List Object) → parent_of (without_life o objects) o ≡ None
+died-parent o k objects = ap parent_in (get-change_same o dead (leaves (parent_of objects o) o objects)) ∙ by_object (slice_get (leaves (parent_of objects o) o objects) o)
+  where
+    by_object : (there : Option Object) → parent_in (option_map dead there) ≡ None
+    by_object None = refl
+    by_object (Some x) = refl
+
+died-other : (o k : ℕ) (objects : List Object) → k ≢ o → parent_of (without_life o objects) k ≡ parent_of objects k
+died-other o k objects other =
+    parent-change_other o k dead (leaves (parent_of objects o) o objects) other
+    ∙ leaves-part parent_in (parent_of objects o) o k objects (λ x. refl)
+
+died-children : (o k : ℕ) (objects : List Object) → children_of (without_life o objects) k ≡ children_of (leaves (parent_of objects o) o objects) k
+died-children o k objects = part-change children_in o k dead (leaves (parent_of objects o) o objects) (λ x. refl)
+
+pub forest-died : (o : ℕ) (objects : List Object) → Forest objects → Forest (without_life o objects)
+forest-died o objects forest =
+    let new : List Object = without_life o objects in
+    let between : List Object = leaves (parent_of objects o) o objects in
+    let listed : (parent child : ℕ) → is_among child (children_of new parent) ≡ is_the parent (parent_of new child) =
+    λ parent child. ap (is_among child) (died-children o parent objects) ∙ ⊎_elim
+    (λ (same : child ≡ o). rw same (leaves-gone (parent_of objects o) o parent objects (forest.listed parent o) (forest.distinct parent) ∙ ap (is_the parent) (sym (died-parent o o objects))))
+    (λ (other : child ≢ o). leaves-other (parent_of objects o) o child parent objects other ∙ forest.listed parent child ∙ ap (is_the parent) (sym (died-other o child objects other)))
+    (cases_eq child o) in
+    record {
+      listed = listed;
+      distinct = λ parent. ap are_distinct (died-children o parent objects) ∙ leaves-distinct (parent_of objects o) o parent objects (forest.distinct parent);
+      deeper = depths new (depth objects) (λ child parent e. ⊎_elim
+          (λ (same : child ≡ o). let none : parent_of new child ≡ None = rw same (died-parent o o objects) in absurd (cc (none, e)))
+          (λ (other : child ≢ o). forest-falls objects forest child parent (sym (died-other o child objects other) ∙ e))
+          (cases_eq child o)) listed;
+      orphaned = orphaned-by new (λ k gone. ⊎_elim
+          (λ (same : k ≡ o). rw same (died-parent o o objects))
+          (λ (other : k ≢ o).
+          let lives : alive_in (slice_get new k) ≡ alive_in (slice_get objects k) = ap alive_in (get-change_other o k dead between other) ∙ leaves-part alive_in (parent_of objects o) o k objects (λ x. refl) in
+          died-other o k objects other ∙ orphan-of objects forest k (sym lives ∙ gone))
+          (cases_eq k o));
+    }
+
+-- ---- a child that gets another parent
+
+is_the-other : (a : ℕ) (found : Option ℕ) → found ≢ Some a → is_the a found ≡ false
+is_the-other a None other = refl
+is_the-other a (Some b) other = ne_eqb b a (λ e. other (ap Some e))
+
+-- a walk up that counts `more` at one object, in place of what is above it
+abbrev meets : ℕ → ℕ → ℕ → ℕ → ℕ
+meets c more o above = cond {A = ℕ} (eqb o c) more above
+
+walk-meets : (c more k : ℕ) (up : ℕ → Option ℕ) → walk (meets c more) up k c ≡ more
+walk-meets c more zero up = rw (eq-eqb c c refl) refl
+walk-meets c more (suc k) up = rw (eq-eqb c c refl) refl
+
+-- nobody is met where c isn't above
+walk-misses : (objects : List Object) (c more k o : ℕ) → Forest objects → (¬ Above objects c o) → walk (meets c more) (parent_of objects) k o ≡ 0
+walk-misses objects c more zero o forest apart =
+    let other : eqb o c ≡ false = ne_eqb o c (λ e. apart (subst (λ (q : ℕ). Above objects c q) (sym e) itself)) in
+    rw other refl
+walk-misses objects c more (suc k) o forest apart =
+    let other : eqb o c ≡ false = ne_eqb o c (λ e. apart (subst (λ (q : ℕ). Above objects c q) (sym e) itself)) in
+    rw other (by_parent (parent_of objects o) refl (walk-misses objects c more k))
+  where
+    by_parent : (found : Option ℕ) → parent_of objects o ≡ found → ((q : ℕ) → Forest objects → (¬ Above objects c q) → walk (meets c more) (parent_of objects) k q ≡ 0) → given (walk (meets c more) (parent_of objects) k) found ≡ 0
+    by_parent None e r = refl
+    by_parent (Some parent) e r = r parent forest (λ above. apart (over_parent (child-is objects o parent forest e) above))
+
+-- what a move rests on
+pub record Moves (objects : List Object) (a c : ℕ) : Type 0 where
+  pub forest : Forest objects
+  pub owner : Object
+  pub there : slice_get objects a ≡ Some owner
+  pub child : Object
+  pub lives : Lives objects c child
+  pub elsewhere : parent_of objects c ≢ Some a
+  pub no_cycle : ¬ Above objects c a
+
+-- the children of the new parent, and of others
+joined-children : (objects : List Object) (a c : ℕ) (x : Object) → slice_get objects a ≡ Some x → children_of (change a (joined_by c) objects) a ≡ children_of objects a ++ c ∷ []
+joined-children objects a c x is =
+    ap children_in (get-change_same a (joined_by c) objects ∙ ap (option_map (joined_by c)) is) ∙ ap (λ (there : Option Object). children_in there ++ c ∷ []) (sym is)
+
+joined-other : (objects : List Object) (a c d k : ℕ) (x : Object) → slice_get objects a ≡ Some x → d ≢ c → is_among d (children_of (change a (joined_by c) objects) k) ≡ is_among d (children_of objects k)
+joined-other objects a c d k x is other = ⊎_elim
+    (λ (same : k ≡ a). rw same (ap (is_among d) (joined-children objects a c x is) ∙ among-join_other c d (children_of objects a) other))
+    (λ (apart : k ≢ a). ap (is_among d) (children-change_other a k (joined_by c) objects apart))
+    (cases_eq k a)
+
+moved-children : (objects : List Object) (a c k : ℕ) → children_of (moved a c objects) k ≡ children_of (leaves (parent_of objects c) c (change a (joined_by c) objects)) k
+moved-children objects a c k = part-change children_in c k (put_under a) (leaves (parent_of objects c) c (change a (joined_by c) objects)) (λ x. refl)
+
+-- another part of every object stays
+pub moved-part : {X : Type 0} (part : Option Object → X) (objects : List Object) (a c k : ℕ) → ((x : Object) (l : List ℕ) → part (Some (record x { children = l })) ≡ part (Some x)) → ((x : Object) (l : Option ℕ) → part (Some (record x { parent = l })) ≡ part (Some x)) → part (slice_get (moved a c objects) k) ≡ part (slice_get objects k)
+moved-part part objects a c k children parents =
+    part-change part c k (put_under a) (leaves (parent_of objects c) c (change a (joined_by c) objects)) (λ x. parents x (Some a))
+    ∙ leaves-part part (parent_of objects c) c k (change a (joined_by c) objects) (λ x. children x (without c x.children))
+    ∙ part-change part a k (joined_by c) objects (λ x. children x (x.children ++ c ∷ []))
+
+moved-parent_other : (objects : List Object) (a c k : ℕ) → k ≢ c → parent_of (moved a c objects) k ≡ parent_of objects k
+moved-parent_other objects a c k other =
+    parent-change_other c k (put_under a) (leaves (parent_of objects c) c (change a (joined_by c) objects)) other
+    ∙ leaves-part parent_in (parent_of objects c) c k (change a (joined_by c) objects) (λ x. refl)
+    ∙ part-change parent_in a k (joined_by c) objects (λ x. refl)
+
+abbrev there_in : Option Object → Bool
+there_in None = false
+there_in (Some x) = true
+
+-- the new parent
+moved-parent : (objects : List Object) (a c : ℕ) (y : Object) → slice_get objects c ≡ Some y → parent_of (moved a c objects) c ≡ Some a
+moved-parent objects a c y is =
+    ap parent_in (get-change_same c (put_under a) (leaves (parent_of objects c) c (change a (joined_by c) objects)))
+    ∙ by_object (slice_get (leaves (parent_of objects c) c (change a (joined_by c) objects)) c) (leaves-part there_in (parent_of objects c) c c (change a (joined_by c) objects) (λ x. refl) ∙ part-change there_in a c (joined_by c) objects (λ x. refl) ∙ ap there_in is)
+  where
+    by_object : (there : Option Object) → there_in there ≡ true → parent_in (option_map (put_under a) there) ≡ Some a
+    by_object None e = absurd (cc e)
+    by_object (Some z) e = refl
+
+-- who is among whose children after the move
+moved-listed : (objects : List Object) (a c : ℕ) → Moves objects a c → (parent child : ℕ) → is_among child (children_of (moved a c objects) parent) ≡ is_the parent (parent_of (moved a c objects) child)
+moved-listed objects a c m parent child =
+    ap (is_among child) (moved-children objects a c parent) ∙ ⊎_elim
+    (λ (same : child ≡ c). rw same (itself_listed ∙ ap (is_the parent) (sym (moved-parent objects a c m.child m.lives.is))))
+    (λ (other : child ≢ c).
+    leaves-other (parent_of objects c) c child parent (change a (joined_by c) objects) other
+    ∙ joined-other objects a c child parent m.owner m.there other
+    ∙ m.forest.listed parent child
+    ∙ ap (is_the parent) (sym (moved-parent_other objects a c child other)))
+    (cases_eq child c)
+  where
+    at_new : is_among c (children_of (leaves (parent_of objects c) c (change a (joined_by c) objects)) a) ≡ true
+    at_new = ap (is_among c) (leaves-apart (parent_of objects c) c a (change a (joined_by c) objects) m.elsewhere ∙ joined-children objects a c m.owner m.there) ∙ among-join_same c (children_of objects a)
+
+    at_other : parent ≢ a → is_among c (children_of (leaves (parent_of objects c) c (change a (joined_by c) objects)) parent) ≡ false
+    at_other apart =
+        let kept : children_of (change a (joined_by c) objects) parent ≡ children_of objects parent = children-change_other a parent (joined_by c) objects apart in
+        leaves-gone (parent_of objects c) c parent (change a (joined_by c) objects) (ap (is_among c) kept ∙ m.forest.listed parent c) (ap are_distinct kept ∙ m.forest.distinct parent)
+
+    itself_listed : is_among c (children_of (leaves (parent_of objects c) c (change a (joined_by c) objects)) parent) ≡ eqb a parent
+    itself_listed = ⊎_elim
+        (λ (same : parent ≡ a). rw same (at_new ∙ sym (eq-eqb a a refl)))
+        (λ (apart : parent ≢ a). at_other apart ∙ sym (ne_eqb a parent (λ e. apart (sym e))))
+        (cases_eq parent a)
+
+moved-distinct : (objects : List Object) (a c : ℕ) → Moves objects a c → (parent : ℕ) → are_distinct (children_of (moved a c objects) parent) ≡ true
+moved-distinct objects a c m parent =
+    ap are_distinct (moved-children objects a c parent)
+    ∙ leaves-distinct (parent_of objects c) c parent (change a (joined_by c) objects) (⊎_elim
+    (λ (same : parent ≡ a). rw same (ap are_distinct (joined-children objects a c m.owner m.there)
+    ∙ distinct-join c (children_of objects a) (m.forest.listed a c ∙ is_the-other a (parent_of objects c) m.elsewhere) (m.forest.distinct a)))
+    (λ (apart : parent ≢ a). ap are_distinct (children-change_other a parent (joined_by c) objects apart) ∙ m.forest.distinct parent)
+    (cases_eq parent a))
+
+-- a rank that falls after the move: the child and all below it rise above the new parent's depth
+abbrev risen : List Object → ℕ → ℕ → ℕ → ℕ
+risen objects a c o = depth objects o + walk (meets c (suc (depth objects a))) (parent_of objects) (length objects) o
+
+moved-falls : (objects : List Object) (a c : ℕ) → Moves objects a c → Falls (parent_of (moved a c objects)) (risen objects a c)
+moved-falls objects a c m o parent e = ⊎_elim
+    (λ (same : o ≡ c).
+    let found : Some a ≡ Some parent = sym (moved-parent objects a c m.child m.lives.is) ∙ ap (parent_of (moved a c objects)) (sym same) ∙ e in
+    let is : a ≡ parent = cc found in
+    let top : risen objects a c a < risen objects a c c =
+    let none = walk-misses objects c (suc (depth objects a)) (length objects) a m.forest m.no_cycle in
+    let met = walk-meets c (suc (depth objects a)) (length objects) (parent_of objects) in
+    omega (arith, none, met) in
+    rw (same, ← is) top)
+    (λ (other : o ≢ c).
+    let found : parent_of objects o ≡ Some parent = sym (moved-parent_other objects a c o other) ∙ e in
+    let deep : depth objects o ≡ suc (depth objects parent) = m.forest.deeper parent o found in
+    let step : walk (meets c (suc (depth objects a))) (parent_of objects) (length objects) o ≡ meets c (suc (depth objects a)) o (walk (meets c (suc (depth objects a))) (parent_of objects) (length objects) parent) =
+    walk-step (meets c (suc (depth objects a))) (length objects) (parent_of objects) (depth objects) (forest-falls objects m.forest) (λ q p f. parent-there objects p q (m.forest.listed p q) f) o parent found in
+    let missed : eqb o c ≡ false = ne_eqb o c other in
+    let same : walk (meets c (suc (depth objects a))) (parent_of objects) (length objects) o ≡ walk (meets c (suc (depth objects a))) (parent_of objects) (length objects) parent =
+    step ∙ ap (λ (b : Bool). cond {A = ℕ} b (suc (depth objects a)) (walk (meets c (suc (depth objects a))) (parent_of objects) (length objects) parent)) missed in
+    omega (arith, deep, same))
+    (cases_eq o c)
+
+pub forest-moved : (objects : List Object) (a c : ℕ) → Moves objects a c → Forest (moved a c objects)
+forest-moved objects a c m = record {
+  listed = moved-listed objects a c m;
+  distinct = moved-distinct objects a c m;
+  deeper = depths (moved a c objects) (risen objects a c) (moved-falls objects a c m) (moved-listed objects a c m);
+  orphaned = orphaned-by (moved a c objects) (λ k gone.
+      let lives : alive_in (slice_get (moved a c objects) k) ≡ alive_in (slice_get objects k) = moved-part alive_in objects a c k (λ x l. refl) (λ x l. refl) in
+      let dead_before : alive_in (slice_get objects k) ≡ false = sym lives ∙ gone in
+      ⊎_elim
+      (λ (same : k ≡ c).
+      let alive : alive_in (slice_get objects k) ≡ true = rw same (ap alive_in m.lives.is ∙ m.lives.alive) in
+      absurd (cc (alive, dead_before)))
+      (λ (other : k ≢ c). moved-parent_other objects a c k other ∙ orphan-of objects m.forest k dead_before)
+      (cases_eq k c));
+}

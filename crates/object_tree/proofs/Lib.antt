@@ -1,0 +1,7 @@
+pub mod Lists
+pub mod Walks
+pub mod Changing
+pub mod Above
+pub mod Families
+pub mod TypedObjects
+pub mod Keeping

@@ -1,0 +1,31 @@
+-- When an object gets a parent, and why not.
+use Rattle.std.specs.Prelude.{◌≡◌, ◌≢◌, ℕ, List, Result, Ok, Err, Some}
+use Rattle.meta_model.specs.Loaded.{Loaded}
+use Rattle.meta_model.specs.Members.{Owns}
+use Rattle.object_tree.specs.declared.fault.AdoptFault.{AdoptFault}
+use Rattle.object_tree.specs.declared.fault.AdoptFault.TheVariants.{NotOwned, Cycle, OtherLoop, Memory}
+use Rattle.object_tree.specs.declared.object.Object.{Object}
+use Rattle.object_tree.specs.Family.{Above, moved}
+
+-- x, which is object a, may become the parent of y, which is object c
+pub record MayAdopt (p : Loaded) (objects : List Object) (a c : ℕ) (x y : Object) : Type 0 where
+  pub owns : Owns p x.class y.class
+  pub no_cycle : ¬ Above objects c a
+  pub one_loop : x.home ≡ y.home
+
+-- why it may not: the first of these that holds; or memory was refused
+pub data IsNotAdopted (p : Loaded) (objects : List Object) (a c : ℕ) (x y : Object) : AdoptFault → Type 0 where
+  not_owned : (¬ Owns p x.class y.class) → IsNotAdopted p objects a c x y NotOwned
+  cycle : Owns p x.class y.class → Above objects c a → IsNotAdopted p objects a c x y Cycle
+  other_loop : Owns p x.class y.class → (¬ Above objects c a) → x.home ≢ y.home → IsNotAdopted p objects a c x y OtherLoop
+  no_memory : IsNotAdopted p objects a c x y Memory
+
+-- under the same parent nothing changes; else the child moves
+pub record IsAdopted (a c : ℕ) (y : Object) (old new : List Object) : Type 0 where
+  pub same : y.parent ≡ Some a → new ≡ old
+  pub other : y.parent ≢ Some a → new ≡ moved a c old
+
+-- what `adopt` answers, with the objects before and after it
+abbrev pub Adopts : Loaded → ℕ → ℕ → Object → Object → List Object → Result (Unit {0}) AdoptFault → List Object → Type 0
+Adopts p a c x y old (Ok done) new = MayAdopt p old a c x y × IsAdopted a c y old new
+Adopts p a c x y old (Err fault) new = IsNotAdopted p old a c x y fault × (new ≡ old)

@@ -1,0 +1,17 @@
+-- Lists of children.
+use Rattle.std.specs.Prelude.{ℕ, eqb, Bool, true, false, ◌||◌, ◌&&◌, not, List, [], ◌∷◌, if◌then◌else◌}
+
+-- a list without the first place where the child stands
+abbrev pub without : ℕ → List ℕ → List ℕ
+without c [] = []
+without c (k ∷ ks) = if eqb k c then ks else k ∷ without c ks
+
+-- whether the child is in the list
+abbrev pub is_among : ℕ → List ℕ → Bool
+is_among c [] = false
+is_among c (k ∷ ks) = eqb k c || is_among c ks
+
+-- whether no child stands in the list twice
+abbrev pub are_distinct : List ℕ → Bool
+are_distinct [] = true
+are_distinct (k ∷ ks) = not (is_among k ks) && are_distinct ks

@@ -1,0 +1,57 @@
+-- Who is whose parent.
+use Rattle.std.specs.Prelude.{◌≡◌, ℕ, false, List, [], ◌∷◌, ◌++◌, Option, None, Some, slice_get}
+use Rattle.std.specs.Option.{option_and_then}
+use Rattle.object_tree.specs.declared.object.Object.{Object}
+use Rattle.object_tree.specs.Children.{without}
+use Rattle.object_tree.specs.Objects.{Lives, change}
+
+-- the parent of an object
+abbrev pub parent_of : List Object → ℕ → Option ℕ
+parent_of objects o = option_and_then (λ (x : Object). x.parent) (slice_get objects o)
+
+abbrev pub children_in : Option Object → List ℕ
+children_in None = []
+children_in (Some x) = x.children
+
+-- the living children of an object, which may be dead, in the order of adoption
+abbrev pub children_of : List Object → ℕ → List ℕ
+children_of objects o = children_in (slice_get objects o)
+
+-- object o lives, and this is its parent
+pub record IsChild (objects : List Object) (parent o : ℕ) : Type 0 where
+  pub object : Object
+  pub lives : Lives objects o object
+  pub under : object.parent ≡ Some parent
+
+-- a is o or one of its ancestors, which are counted up to the first dead one
+pub data Above (objects : List Object) (a : ℕ) : ℕ → Type 0 where
+  itself : Above objects a a
+  over_parent : {o parent : ℕ} → IsChild objects parent o → Above objects a parent → Above objects a o
+
+-- a child comes last among an object's children
+abbrev pub joined_by : ℕ → Object → Object
+joined_by child x = record x { children = x.children ++ child ∷ [] }
+
+-- a child leaves an object's children
+abbrev pub left_by : ℕ → Object → Object
+left_by child x = record x { children = without child x.children }
+
+-- .. those of its parent, if it has one
+abbrev pub leaves : Option ℕ → ℕ → List Object → List Object
+leaves None child objects = objects
+leaves (Some parent) child objects = change parent (left_by child) objects
+
+abbrev pub put_under : ℕ → Object → Object
+put_under parent x = record x { parent = Some parent }
+
+-- the child comes last among the new parent's children, and leaves those of its old parent
+abbrev pub moved : ℕ → ℕ → List Object → List Object
+moved parent child objects = change child (put_under parent) (leaves (parent_of objects child) child (change parent (joined_by child) objects))
+
+-- an object that lives no more
+abbrev pub dead : Object → Object
+dead x = record x { alive = false; parent = None; values = [] }
+
+-- .. leaves its parent's children; its own stay its children
+abbrev pub without_life : ℕ → List Object → List Object
+without_life o objects = change o dead (leaves (parent_of objects o) o objects)

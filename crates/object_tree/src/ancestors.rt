@@ -1,0 +1,53 @@
+//! Who is above whom, and who may be adopted by whom.
+
+ghost use Rattle.std.specs.Prelude.{◌≡◌, ◌↔◌, IsTrue, MatchResult};
+ghost use Rattle.object_tree.specs.Adopting.{MayAdopt, IsNotAdopted};
+ghost use Rattle.object_tree.specs.Family.{Above};
+ghost use Rattle.object_tree.specs.Forest.{Forest};
+ghost use Rattle.object_tree.specs.Objects.{Lives};
+ghost use Rattle.object_tree.specs.declared.object.Object.{Object as AnObject};
+
+use crate::fault::AdoptFault;
+use crate::object::Object;
+use crate::objects::Objects;
+use meta_objects::Meta;
+use signatures::ObjectId;
+
+/// Whether the first object is the second or one of its ancestors, which are counted up to the first dead one.
+pub fn is_above(objects: &Objects, above: ObjectId, object: ObjectId) -> bool
+    requires { Forest objects.now }
+    ensures { IsTrue result ↔ Above objects.now above object }
+{
+    let mut at = object;
+    'climb: while at != above {
+        match objects.parent(at) {
+            Some(parent) => at = parent,
+            None => return false,
+        }
+    }
+    true
+}
+
+/// Whether a living object, `owner`, may become the parent of another, `owned`, or why not.
+pub fn may_adopt(
+    meta: &Meta,
+    objects: &Objects,
+    parent: ObjectId,
+    owner: &Object,
+    child: ObjectId,
+    owned: &Object,
+) -> Result<(), AdoptFault>
+    requires { Forest objects.now }
+    ensures { MatchResult result (λ _. MayAdopt meta.now objects.now parent child owner.now owned.now) (λ fault. IsNotAdopted meta.now objects.now parent child owner.now owned.now fault) }
+{
+    if !meta.owns(owner.class, owned.class) {
+        return Err(AdoptFault::NotOwned);
+    }
+    if is_above(objects, child, parent) {
+        return Err(AdoptFault::Cycle);
+    }
+    if owner.home != owned.home {
+        return Err(AdoptFault::OtherLoop);
+    }
+    Ok(())
+}

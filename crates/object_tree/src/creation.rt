@@ -1,0 +1,97 @@
+//! How an object is created.
+
+ghost use Rattle.std.specs.Prelude.{◌≡◌, [], ◌∷◌, ◌++◌, length, IfOk, OnOk, OnErr, MatchResult};
+ghost use Rattle.name_index.specs.Places.{Adds};
+ghost use Rattle.object_tree.specs.Creating.{MayCreate, IsNotCreated, fresh, initial_values};
+ghost use Rattle.object_tree.specs.Kept.{Kept};
+
+use crate::children::Children;
+use crate::fault::CreateFault;
+use crate::object::Object;
+use crate::objects::Objects;
+use crate::typing::begin_well;
+use crate::values::Values;
+use meta_objects::{Meta, MetaObject};
+use name_index::NameIndex;
+use signatures::{LoopId, Name};
+use std::alloc::{AllocError, Global};
+
+/// How many objects may be created.
+pub const MOST_OBJECTS: usize = 100_000;
+
+/// The number and the meta-object of the class of a new object, or why the object may not be created.
+pub fn may_create<'a>(
+    meta: &'a Meta,
+    names: &NameIndex,
+    objects: &Objects,
+    name: &Name,
+    class: &Name,
+) -> Result<(usize, &'a MetaObject), CreateFault>
+    requires { Kept names.now objects.now }
+    ensures { MatchResult result (λ k. MayCreate meta.now objects.now name.now class.now k.0 k.1.now) (λ fault. IsNotCreated meta.now objects.now name.now class.now fault) }
+{
+    if names.find(name).is_some() {
+        return Err(CreateFault::NameUsed);
+    }
+    let Some(number) = meta.class(class) else {
+        return Err(CreateFault::NoClass);
+    };
+    if objects.len() >= MOST_OBJECTS {
+        return Err(CreateFault::TooMany);
+    }
+    let Some(kind) = meta.object(number) else {
+        return Err(CreateFault::NoClass);
+    };
+    if begin_well(meta, objects, kind.properties.as_slice()) {
+        Ok((number, kind))
+    } else {
+        Err(CreateFault::BadType)
+    }
+}
+
+/// A new object with its class's initial values.
+pub fn new_object(
+    alloc: Global,
+    name: &Name,
+    number: usize,
+    home: LoopId,
+    kind: &MetaObject,
+) -> Result<Object, AllocError>
+    ensures { IfOk result (λ object. object ≡ fresh name.now number home (initial_values kind.now)) }
+{
+    let values = Values::initial(alloc, kind.properties.as_slice())?;
+    Ok(Object {
+        name: name.copy()?,
+        class: number,
+        home,
+        alive: true,
+        parent: None,
+        children: Children::new(alloc),
+        blocked: false,
+        scheduled: false,
+        values,
+    })
+}
+
+/// Adds an object under its name. Without memory nothing changes.
+pub fn add(
+    names: &mut NameIndex,
+    objects: &mut Objects,
+    name: &Name,
+    object: Object,
+) -> Result<(), AllocError>
+    ensures named { OnOk result (Adds name.now (length objects.old) names.old names.new) }
+    ensures added { OnOk result (objects.new ≡ objects.old ++ object ∷ []) }
+    ensures names { OnErr result (names.new ≡ names.old) }
+    ensures objects { OnErr result (objects.new ≡ objects.old) }
+{
+    let number = objects.len();
+    objects.push(object)?;
+    match names.insert(name, number) {
+        Ok(()) => Ok(()),
+        Err(error) => {
+            objects.pop();
+            Err(error)
+        }
+    }
+}

@@ -1,0 +1,179 @@
+ghost use Rattle.std.specs.Prelude.{◌≡◌, [], length, slice_get, OnErr, IfSome, MatchOption};
+ghost use Rattle.std.specs.Option.{option_copied};
+ghost use Rattle.meta_model.specs.Loaded.{Loaded};
+ghost use Rattle.object_tree.specs.Adopting.{Adopts};
+ghost use Rattle.object_tree.specs.Creating.{Creates};
+ghost use Rattle.object_tree.specs.Family.{IsChild, children_of, without_life};
+ghost use Rattle.object_tree.specs.Forest.{Forest};
+ghost use Rattle.object_tree.specs.Objects.{Lives, IsNamed, IsFree, name_of, change, blocked, scheduled, written};
+ghost use Rattle.object_tree.specs.Typed.{AreTyped, FitsProperty};
+ghost use Rattle.object_tree.specs.declared.object.Object.{Object as AnObject};
+
+use crate::ancestors::may_adopt;
+use crate::creation::{add, may_create, new_object};
+use crate::fault::{AdoptFault, CreateFault};
+use crate::object::Object;
+use crate::objects::Objects;
+use meta_objects::Meta;
+use name_index::NameIndex;
+use signatures::{LoopId, Name, ObjectId, Value};
+use std::alloc::Global;
+use std::marker::Model;
+
+/// The objects of a run, by number and name, and who is whose parent. Names and numbers are never used again.
+#[derive(Drop)]
+pub struct Tree {
+    names: NameIndex,
+    objects: Objects,
+    alloc: Global,
+}
+
+impl Model for Tree {
+    ghost use Rattle.std.specs.Prelude.{List};
+    ghost use Rattle.object_tree.specs.declared.object.Object.{Object};
+    ghost use Rattle.object_tree.specs.Kept.{Kept};
+
+    ghost Value = { List Object };
+
+    ghost view = { λ tree. tree.objects };
+
+    ghost invariant = { λ tree. Kept tree.names tree.objects };
+}
+
+impl Tree {
+    /// No objects, which takes no memory. The tree's own calls take theirs from this allocator.
+    pub fn new(alloc: Global) -> Tree
+        ensures { result ≡ [] }
+    {
+        Tree {
+            names: NameIndex::new(alloc),
+            objects: Objects::new(alloc),
+            alloc,
+        }
+    }
+
+    /// How many objects were created.
+    pub fn len(&self) -> usize
+        ensures { result ≡ length self.now }
+    {
+        self.objects.len()
+    }
+
+    /// The number of the object that has or had this name, in time that doesn't grow with the number of objects.
+    pub fn find(&self, name: &Name) -> Option<ObjectId>
+        ensures value { MatchOption result (IsFree self.now name.now) (λ o. IsNamed self.now name.now o) }
+        ensures only { IfSome result (λ o. (k : _) → IsNamed self.now name.now k → k ≡ o) }
+    {
+        match self.names.find(name) {
+            Some(number) => Some(ObjectId::new(number)),
+            None => None,
+        }
+    }
+
+    /// A living object with all its parts, or `None` for any other number.
+    pub fn get(&self, object: ObjectId) -> Option<&Object>
+        ensures value { MatchOption result ((x : AnObject) → ¬ Lives self.now object x) (λ x. Lives self.now object x.now) }
+        ensures forest { Forest self.now }
+    {
+        let found = self.objects.get(object)?;
+        if found.alive { Some(found) } else { None }
+    }
+
+    /// The name of an object, which may be dead, or `None` where no object has the number.
+    pub fn name(&self, object: ObjectId) -> Option<&Name>
+        ensures { option_copied result ≡ name_of self.now object }
+    {
+        self.objects.name(object)
+    }
+
+    /// The first living child of an object, which may be dead, in the order of adoption.
+    pub fn first_child(&self, parent: ObjectId) -> Option<ObjectId>
+        ensures first { result ≡ slice_get (children_of self.now parent) 0 }
+        ensures lives { MatchOption result ((o : _) → ¬ IsChild self.now parent o) (λ o. IsChild self.now parent o) }
+    {
+        self.objects.first_child(parent)
+    }
+
+    /// Blocks an object, or lets it emit again; a number of no object changes nothing.
+    pub fn block(&mut self, object: ObjectId, on: bool)
+        ensures value { self.new ≡ change object (blocked on) self.old }
+        ensures typed { (p : Loaded) → AreTyped p self.old → AreTyped p self.new }
+    {
+        self.objects.block(object, on);
+    }
+
+    /// Marks that an object's deletion is scheduled; a number of no object changes nothing.
+    pub fn mark_scheduled(&mut self, object: ObjectId)
+        ensures value { self.new ≡ change object scheduled self.old }
+        ensures typed { (p : Loaded) → AreTyped p self.old → AreTyped p self.new }
+    {
+        self.objects.schedule(object);
+    }
+
+    /// Writes a property of an object; a number of no object or of no property changes nothing.
+    pub fn set_value(&mut self, object: ObjectId, property: usize, value: Value)
+        ensures value { self.new ≡ change object (written property value) self.old }
+        ensures typed { (p : Loaded) → FitsProperty p self.old object property value → AreTyped p self.old → AreTyped p self.new }
+    {
+        self.objects.write(object, property, value);
+    }
+
+    /// The object lives no more and leaves its parent's children; its own children stay its children.
+    pub fn mark_dead(&mut self, object: ObjectId)
+        ensures value { self.new ≡ without_life object self.old }
+        ensures typed { (p : Loaded) → AreTyped p self.old → AreTyped p self.new }
+    {
+        self.objects.mark_dead(object);
+    }
+
+    /// Creates an object of the class of this name, which lives in this loop, with its properties' initial values, or
+    /// answers the first of these that holds: `NameUsed`, `NoClass`, `TooMany`, `BadType`. Then nothing changes, and
+    /// a new name stays free; so too where memory was refused.
+    pub fn create(
+        &mut self,
+        meta: &Meta,
+        name: &Name,
+        class: &Name,
+        home: LoopId,
+    ) -> Result<ObjectId, CreateFault>
+        ensures value { Creates meta.now self.old name.now class.now home result self.new }
+        ensures typed { AreTyped meta.now self.old → AreTyped meta.now self.new }
+    {
+        let (number, kind) = may_create(meta, &self.names, &self.objects, name, class)?;
+        let count = self.objects.len();
+        let Ok(object) = new_object(self.alloc, name, number, home, kind) else {
+            return Err(CreateFault::Memory);
+        };
+        let Ok(()) = add(&mut self.names, &mut self.objects, name, object) else {
+            return Err(CreateFault::Memory);
+        };
+        Ok(ObjectId::new(count))
+    }
+
+    /// Makes one living object the parent of another, or answers the first of these that holds: `NotOwned`, `Cycle`,
+    /// `OtherLoop`. Under the same parent nothing changes; else the child leaves its old parent's children and comes
+    /// last among the new parent's. Where there is no such answer and memory was refused, nothing changes. Where one of
+    /// the two doesn't live, the answer is `NotOwned`.
+    pub fn adopt(
+        &mut self,
+        meta: &Meta,
+        parent: ObjectId,
+        child: ObjectId,
+    ) -> Result<(), AdoptFault>
+        ensures value { (x y : AnObject) → Lives self.old parent x → Lives self.old child y → Adopts meta.now parent child x y self.old result self.new }
+        ensures unchanged { OnErr result (self.new ≡ self.old) }
+        ensures typed { (p : Loaded) → AreTyped p self.old → AreTyped p self.new }
+    {
+        let (Some(owner), Some(owned)) = (self.get(parent), self.get(child)) else {
+            return Err(AdoptFault::NotOwned);
+        };
+        may_adopt(meta, &self.objects, parent, owner, child, owned)?;
+        if owned.is_under(parent) {
+            return Ok(());
+        }
+        let Ok(()) = self.objects.move_under(parent, child) else {
+            return Err(AdoptFault::Memory);
+        };
+        Ok(())
+    }
+}

@@ -1,0 +1,149 @@
+-- What goes on in a run lacks a next rule only for want of a value.
+use Rattle.std.proofs.Common.{◌≡◌, ◌≢◌, ℕ, inl, inr, Bool, true, false, List, [], ◌∷◌, Option, Some, None, slice_get, refl, sym, subst}
+use Rattle.std.specs.List.{AllByRecursion}
+use Rattle.signatures.specs.declared.value.Value.{Value}
+use Rattle.signatures.specs.declared.value.Value.TheVariants as value
+use Rattle.slot_lang.specs.declared.syntax.Expr.{Expr}
+use Rattle.script_lang.specs.declared.event.Event.{Event}
+use Rattle.meta_model.specs.declared.object.MetaMethod.{MetaMethod}
+use Rattle.meta_model.specs.declared.object.MetaPath.{MetaPath}
+use Rattle.meta_model.specs.declared.object.MetaProperty.{MetaProperty}
+use Rattle.meta_model.specs.declared.object.Statement.{Statement}
+use Rattle.meta_model.specs.declared.object.Statement.TheOpen as layer
+use Rattle.meta_model.specs.declared.object.Statement.TheViews.{out-Statement}
+use Rattle.meta_model.specs.Loaded.{Loaded}
+use Rattle.meta_model.specs.Members.{IsMethod, IsProperty, Below}
+use Rattle.meta_model.specs.Sound.{IsSound, AreSound, set_sound, emit_sound, call_sound, if_sound}
+use Rattle.machine_state.specs.declared.connections.Connection.{Connection}
+use Rattle.machine_state.specs.declared.fault.Fault.{Fault}
+use Rattle.machine_state.specs.declared.fault.Fault.TheVariants.{BadType, TooDeep, Steps, Memory, Stopped}
+use Rattle.machine_state.specs.declared.object_tree.Object.{Object}
+use Rattle.machine_rules.specs.Paths.{path_value, value_of, values_of}
+use Rattle.machine_state.specs.State.{State, Place, Activation, Body, Emit, Update}
+use Rattle.machine_rules.specs.Rules.{RuleAt, StatementRule, EmitRule, UpdateRule, OnObject, Chooses, Begins, Writes, IsNotified, changed, unchanged, silent, on_null}
+use Rattle.machine_state.specs.Connections.{is_next}
+use Rattle.machine_state.specs.Connections.{next_connection}
+use Rattle.machine_rules.specs.Runs.{IsStuck, Reason}
+use Rattle.qt_runtime.specs.Causes.{IsObject, Lacks, LacksValue, Cause}
+use Rattle.machine_rules.specs.Goes.{IsField, chosen_of}
+use Rattle.machine_rules.proofs.Beginning.{find-some}
+use Rattle.machine_rules.proofs.Fields.{old-there}
+use Rattle.qt_runtime.proofs.Inherited.{method-below, property-below}
+use Rattle.qt_runtime.proofs.Leading.{Reaches, to_null, to_object, path-reaches}
+use Rattle.qt_runtime.proofs.Standing.{BodyStands, PlaceStands, Stands, Delivers, Upright}
+
+-- what can't be found isn't there
+none-found : {X : Type 0} (found : Option X) → ((x : X) → found ≢ Some x) → found ≡ None
+none-found None none = refl
+none-found (Some x) none = absurd (none x refl)
+
+-- whether the value has changed or not, something may be notified
+notified-somehow : (old new : Value) (place : Place) (notify : Option ℕ) → ((places : List Place) → ¬ IsNotified old new place notify places) → ⊥
+notified-somehow old new place None none = none [] silent
+notified-somehow old new place (Some signal) none =
+    let differs : old ≢ new = λ same. none [] (unchanged same) in
+    none (place ∷ []) (changed differs)
+
+chooses-either : (holds : Bool) (block other : List Statement) → Chooses (Some (value.Bool holds)) block other (chosen_of holds block other)
+chooses-either true block other = refl
+chooses-either false block other = refl
+
+module _ {p : Loaded} {s : State} (sound : IsSound p) (up : Upright p s) where
+  -- a property that is there may be written
+  no-write : {o q c : ℕ} {x : Object} {property : MetaProperty} {new : Value} {below : List Activation} → slice_get s.objects o ≡ Some x → Below p x.class c → IsProperty p c q property → ((t : State) → ¬ Writes p s below o q new t) → ⊥
+  no-write {o} {q} {c} {x} {property} {new} there beneath is none =
+      let own = property-below sound beneath is in
+      let field : IsField p s.objects o q x property = record { is_object = there; class = own.class; is_class = own.is_class; is_property = own.is } in
+      let old = old-there field up.typed in
+      notified-somehow old.0 new (record { object = o; property = q }) property.notify (λ places notified. none _ (record { object = x; is_object = there; class = own.class; is_class = own.is_class; property = property; is_property = own.is; old = old.0; is_old = old.1; places = places; notified = notified; gives = refl }))
+
+  -- a method that is there may begin
+  no-begin : {o m c : ℕ} {x : Object} {method : MetaMethod} {arguments : List Value} {below : List Activation} → slice_get s.objects o ≡ Some x → Below p x.class c → IsMethod p c m method → ((t : State) → ¬ Begins p s below o m arguments t) → ⊥
+  no-begin {x = x} {method = method} there beneath is none = none _ (record { object = x; is_object = there; method = method; is_method = method-below sound beneath is; gives = refl })
+
+  module _ (o m : ℕ) (arguments : List Value) (rest : List Statement) (below : List Activation) where
+    set-lacks : {q c : ℕ} {property : MetaProperty} (e : Expr MetaPath) (found : Option Value) → Reaches p s.objects c found → IsProperty p c q property →
+        ((t : State) → ¬ OnObject (λ x. (new : Value) × (value_of s.objects o arguments e ≡ Some new) × Writes p s (Body o m arguments rest ∷ below) x q new t) (t ≡ on_null s (Body o m arguments rest ∷ below)) found) →
+        IsObject found × (value_of s.objects o arguments e ≡ None)
+    set-lacks e found to_null is stuck = absurd (stuck _ refl)
+    set-lacks e found (to_object {o = x} there beneath) is stuck =
+        ((x, refl), none-found (value_of s.objects o arguments e) (λ new gives. no-write {new = new} {below = Body o m arguments rest ∷ below} there beneath is (λ t w. stuck t (new, gives, w))))
+
+    call-lacks : {n c : ℕ} {method : MetaMethod} (es : List (Expr MetaPath)) (found : Option Value) → Reaches p s.objects c found → IsMethod p c n method →
+        ((t : State) → ¬ OnObject (λ x. (given : List Value) × (values_of s.objects o arguments es ≡ Some given) × Begins p s (Body o m arguments rest ∷ below) x n given t) (t ≡ on_null s (Body o m arguments rest ∷ below)) found) →
+        IsObject found × (values_of s.objects o arguments es ≡ None)
+    call-lacks es found to_null is stuck = absurd (stuck _ refl)
+    call-lacks es found (to_object {o = x} there beneath) is stuck =
+        ((x, refl), none-found (values_of s.objects o arguments es) (λ given gives. no-begin {arguments = given} {below = Body o m arguments rest ∷ below} there beneath is (λ t b. stuck t (given, gives, b))))
+
+    if-lacks : (e : Expr MetaPath) (block other : List Statement) → ((t : State) → ¬ StatementRule p s o m arguments rest below t (layer.If e block other)) → Lacks s o arguments (layer.If e block other)
+    if-lacks e block other stuck = λ holds is.
+        let Family : Option Value → Type 0 = λ found. Chooses found block other (chosen_of holds block other) in
+        stuck _ (chosen_of holds block other, subst Family (sym is) (chooses-either holds block other), refl)
+
+  -- a statement that has no next rule lacks a value
+  statement-lacks : (o m : ℕ) (arguments : List Value) (x : Statement) (rest : List Statement) (below : List Activation) → (body : BodyStands p s.objects o arguments (x ∷ rest)) → AreSound p body.declaring body.kinds (x ∷ rest) → ((t : State) → ¬ StatementRule p s o m arguments rest below t (out-Statement x)) → Lacks s o arguments (out-Statement x)
+  statement-lacks o m arguments x rest below body (set_sound {path = path} {q = q} {e = e} out is more) stuck =
+      let Family : layer.Statement-F Statement → Type 0 = λ f. ((t : State) → ¬ StatementRule p s o m arguments rest below t f) → Lacks s o arguments f in
+      let reaches = path-reaches s.objects o body.declaring body.object arguments body.kinds path sound up.typed body.is_object body.below body.typed is.leads in
+      (subst Family (sym out) (λ none. set-lacks o m arguments rest below e (path_value s.objects o arguments path) reaches is.is none)) stuck
+  statement-lacks o m arguments x rest below body (emit_sound {m = g} {es = es} out is more) stuck =
+      let Family : layer.Statement-F Statement → Type 0 = λ f. ((t : State) → ¬ StatementRule p s o m arguments rest below t f) → Lacks s o arguments f in
+      (subst Family (sym out) (λ none. none-found (values_of s.objects o arguments es) (λ given gives. no-begin {arguments = given} {below = Body o m arguments rest ∷ below} body.is_object body.below is.is (λ t b. none t (given, gives, b))))) stuck
+  statement-lacks o m arguments x rest below body (call_sound {path = path} {m = n} {es = es} out is more) stuck =
+      let Family : layer.Statement-F Statement → Type 0 = λ f. ((t : State) → ¬ StatementRule p s o m arguments rest below t f) → Lacks s o arguments f in
+      let reaches = path-reaches s.objects o body.declaring body.object arguments body.kinds path sound up.typed body.is_object body.below body.typed is.leads in
+      (subst Family (sym out) (λ none. call-lacks o m arguments rest below es (path_value s.objects o arguments path) reaches is.is none)) stuck
+  statement-lacks o m arguments x rest below body (if_sound {e = e} {chosen = block} {other = other} out is first second more) stuck =
+      let Family : layer.Statement-F Statement → Type 0 = λ f. ((t : State) → ¬ StatementRule p s o m arguments rest below t f) → Lacks s o arguments f in
+      (subst Family (sym out) (λ none. if-lacks o m arguments rest below e block other none)) stuck
+
+  -- an emission has a next rule
+  emission-goes : (o g : ℕ) (arguments : List Value) (last : ℕ) (below : List Activation) (found : Option Connection) → ((c : Connection) → found ≡ Some c → Delivers p s.objects c) → ((t : State) → ¬ EmitRule p s o g arguments last below t found) → ⊥
+  emission-goes o g arguments last below None delivers stuck = stuck _ refl
+  emission-goes o g arguments last below (Some c) delivers stuck =
+      let d = delivers c refl in
+      stuck _ (record { receiver = d.receiver; is_receiver = d.is_receiver; method = d.method; is_method = d.is_method; gives = refl })
+
+  -- .. and so has an update
+  update-goes : (below : List Activation) (places : List Place) → AllByRecursion (PlaceStands p s.objects) places → ((t : State) → ¬ UpdateRule p s below t places) → ⊥
+  update-goes below [] all stuck = stuck _ refl
+  update-goes below (place ∷ places) all stuck =
+      let x = all.0 in
+      let notifier = ((sound.classes x.object.class x.is.class x.is.is_class).properties place.property x.property x.is.is_property).notifies x.signal x.notifies in
+      let present = old-there x.is up.typed in
+      stuck _ (record {
+        object = x.object;
+        is_object = x.is.is_object;
+        class = x.is.class;
+        is_class = x.is.is_class;
+        property = x.property;
+        is_property = x.is.is_property;
+        signal = x.signal;
+        is_signal = x.notifies;
+        present = present.0;
+        is_present = present.1;
+        method = notifier.signal;
+        is_method = record { class = x.is.class; is_class = x.is.is_class; is = notifier.is };
+        gives = refl;
+      })
+
+  stack-lacks : (stack : List Activation) → s.stack ≡ stack → stack ≢ [] → AllByRecursion (Stands p s.objects) stack → ((t : State) → ¬ RuleAt p s t stack) → LacksValue s
+  stack-lacks [] e goes_on all stuck = absurd (goes_on refl)
+  stack-lacks (Body o m arguments [] ∷ below) e goes_on all stuck = absurd (stuck _ refl)
+  stack-lacks (Body o m arguments (x ∷ rest) ∷ below) e goes_on all stuck =
+      record { object = o; method = m; arguments = arguments; statement = x; rest = rest; below = below; is_next = e; lacks = statement-lacks o m arguments x rest below all.0 all.0.sound stuck }
+  stack-lacks (Emit o g arguments used last ∷ below) e goes_on all stuck =
+      absurd (emission-goes o g arguments last below (next_connection s.connections o g used last) (λ c found. (find-some (Delivers p s.objects) (is_next o g used last) s.connections c up.delivers found).0) stuck)
+  stack-lacks (Update places ∷ below) e goes_on all stuck = absurd (update-goes below places all.0 stuck)
+
+  -- what goes on without a next rule lacks a value
+  pub stuck-lacks : IsStuck p s → LacksValue s
+  stuck-lacks x = stack-lacks s.stack refl x.goes_on up.stands x.stuck
+
+  pub cause-of : (d left : ℕ) (es : List Event) (f : Fault) → Reason p d s left es f → Cause p d s left es f
+  cause-of d left es BadType r = (r.0, elim r.1 [ inl stuck ↦ inl (stuck, stuck-lacks stuck) | inr ill ↦ inr ill ])
+  cause-of d left es TooDeep r = r
+  cause-of d left es Steps r = r
+  cause-of d left es Memory r = r
+  cause-of d left es Stopped r = r

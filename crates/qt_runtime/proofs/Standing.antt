@@ -1,0 +1,304 @@
+-- Why what is going on goes on: its objects, members and statements are there.
+use Rattle.std.proofs.Common.{◌≡◌, ℕ, suc, ◌<◌, List, [], ◌∷◌, ◌++◌, length, map, take, true, false, Option, Some, None, slice_get, slice_set, refl, sym, ap, ◌∙◌, subst, arith}
+use Rattle.std.specs.List.{AllByRecursion}
+use Rattle.signatures.specs.declared.value.Value.{Value}
+use Rattle.signatures.specs.declared.value.Value.TheVariants as value
+use Rattle.slot_lang.specs.declared.syntax.Expr.{Expr}
+use Rattle.script_lang.specs.declared.event.Event.{Event}
+use Rattle.script_lang.specs.declared.event.Event.TheVariants.{New, Connect, Emit as EmitEvent}
+use Rattle.meta_model.specs.declared.object.MetaMethod.{MetaMethod}
+use Rattle.meta_model.specs.declared.object.MetaPath.{MetaPath}
+use Rattle.meta_model.specs.declared.object.MetaProperty.{MetaProperty}
+use Rattle.meta_model.specs.declared.object.Statement.{Statement}
+use Rattle.meta_model.specs.declared.object.Statement.TheOpen as layer
+use Rattle.meta_model.specs.declared.object.ValueType.{ValueType}
+use Rattle.meta_model.specs.declared.object.Work.{Work}
+use Rattle.meta_model.specs.declared.object.Work.TheVariants.{Signal, Slot}
+use Rattle.meta_model.specs.Loaded.{Loaded}
+use Rattle.meta_model.specs.Members.{IsClass, IsMethod, Below}
+use Rattle.meta_model.specs.Sound.{IsSound, IsSoundWork, IsSoundBody, AreSound, none_sound, set_sound, emit_sound, call_sound, if_sound}
+use Rattle.meta_model.specs.Values.{HaveTypes}
+use Rattle.machine_state.specs.declared.connections.Connection.{Connection}
+use Rattle.machine_state.specs.declared.object_tree.Object.{Object}
+use Rattle.machine_state.specs.Objects.{Shape, shapes_of, class_of, written}
+use Rattle.machine_rules.specs.Paths.{path_value, value_of, values_of}
+use Rattle.machine_state.specs.State.{State, Place, Activation, Body, Emit, Update}
+use Rattle.machine_rules.specs.Rules.{Rule, RuleAt, BodyRule, StatementRule, EmitRule, UpdateRule, Chooses, Begins, Writes, IsNotified, changed, unchanged, silent, begun, on_null}
+use Rattle.machine_state.specs.Connections.{next_connection}
+use Rattle.machine_rules.specs.Events.{Takes, accepts, refuses, Effect, accepted}
+use Rattle.machine_rules.specs.Good.{AreTyped, ArgumentsFit, TopFits, IsWell}
+use Rattle.machine_rules.specs.Runs.{Runs, done, then, Follows, by_rule, by_event}
+use Rattle.machine_rules.specs.Sound.{Joined}
+use Rattle.machine_rules.specs.Goes.{IsField}
+use Rattle.machine_rules.proofs.Fields.{some-is, method-unique, field-written}
+use Rattle.qt_runtime.proofs.Keeping.{all-snoc, all-weaken}
+use Rattle.machine_rules.proofs.Keeps.{on-object, rule-kept}
+use Rattle.machine_rules.proofs.Shapes.{shape-there, shape-of-there, classes-same, shapes-written}
+use Rattle.qt_runtime.proofs.Typed.{get-append}
+
+-- ---- what stands
+
+-- a body is of an object that is there, and what is left of it is sound for the arguments
+pub record BodyStands (p : Loaded) (objects : List Object) (o : ℕ) (arguments : List Value) (left : List Statement) : Type 0 where
+  pub object : Object
+  pub is_object : slice_get objects o ≡ Some object
+  pub declaring : ℕ
+  pub below : Below p object.class declaring
+  pub kinds : List ValueType
+  pub typed : HaveTypes p (class_of objects) arguments kinds
+  pub sound : AreSound p declaring kinds left
+
+-- a property that is to be notified is there, and has a notify signal
+pub record PlaceStands (p : Loaded) (objects : List Object) (place : Place) : Type 0 where
+  pub object : Object
+  pub property : MetaProperty
+  pub is : IsField p objects place.object place.property object property
+  pub signal : ℕ
+  pub notifies : property.notify ≡ Some signal
+
+abbrev pub Stands : Loaded → List Object → Activation → Type 0
+Stands p objects (Body o m arguments left) = BodyStands p objects o arguments left
+Stands p objects (Emit o g arguments used last) = Unit {0}
+Stands p objects (Update places) = AllByRecursion (PlaceStands p objects) places
+
+-- what a connection calls is there
+pub record Delivers (p : Loaded) (objects : List Object) (c : Connection) : Type 0 where
+  pub receiver : Object
+  pub is_receiver : slice_get objects c.receiver ≡ Some receiver
+  pub method : MetaMethod
+  pub is_method : IsMethod p receiver.class c.method method
+
+pub record Upright (p : Loaded) (s : State) : Type 0 where
+  pub typed : AreTyped p s.objects
+  pub delivers : AllByRecursion (Delivers p s.objects) s.connections
+  pub stands : AllByRecursion (Stands p s.objects) s.stack
+
+pub joined-delivers : {p : Loaded} {objects : List Object} (c : Connection) → Joined p objects c → Delivers p objects c
+joined-delivers c j = record { receiver = j.receiver; is_receiver = j.is_receiver; method = j.method; is_method = j.is_method }
+
+-- ---- it stands as long as the objects are those that they were
+
+object-still : (old new : List Object) (o : ℕ) {x : Object} → shapes_of new ≡ shapes_of old → slice_get old o ≡ Some x → (y : Object) × (slice_get new o ≡ Some y) × (x.class ≡ y.class)
+object-still old new o {x} same is =
+    let moved : slice_get (shapes_of new) o ≡ Some _ = ap (λ (l : List Shape). slice_get l o) same ∙ shape-of-there old o x is in
+    let q = shape-there new o _ moved in
+    (q.0, q.1, sym (ap (λ (a : Shape). a.class) q.2))
+
+delivers-still : {p : Loaded} (old new : List Object) → shapes_of new ≡ shapes_of old → (c : Connection) → Delivers p old c → Delivers p new c
+delivers-still {p} old new same c d =
+    let y = object-still old new c.receiver same d.is_receiver in
+    let Methods : ℕ → Type 0 = λ k. IsMethod p k c.method d.method in
+    record { receiver = y.0; is_receiver = y.1; method = d.method; is_method = subst Methods y.2 d.is_method }
+
+place-still : {p : Loaded} (old new : List Object) → shapes_of new ≡ shapes_of old → (place : Place) → PlaceStands p old place → PlaceStands p new place
+place-still {p} old new same place x =
+    let y = object-still old new place.object same x.is.is_object in
+    let Classes : ℕ → Type 0 = λ k. IsClass p k x.is.class in
+    record {
+      object = y.0;
+      property = x.property;
+      is = record { is_object = y.1; class = x.is.class; is_class = subst Classes y.2 x.is.is_class; is_property = x.is.is_property };
+      signal = x.signal;
+      notifies = x.notifies;
+    }
+
+stands-still : (p : Loaded) (old new : List Object) → shapes_of new ≡ shapes_of old → (a : Activation) → Stands p old a → Stands p new a
+stands-still p old new same (Body o m arguments left) x =
+    let y = object-still old new o same x.is_object in
+    let Classes : ℕ → Type 0 = λ k. Below p k x.declaring in
+    let Typed : (ℕ → Option ℕ) → Type 0 = λ f. HaveTypes p f arguments x.kinds in
+    record {
+      object = y.0;
+      is_object = y.1;
+      declaring = x.declaring;
+      below = subst Classes y.2 x.below;
+      kinds = x.kinds;
+      typed = subst Typed (sym (classes-same new old same)) x.typed;
+      sound = x.sound;
+    }
+stands-still p old new same (Emit o g arguments used last) x = tt
+stands-still p old new same (Update places) x = all-weaken (PlaceStands p old) (PlaceStands p new) places (place-still old new same) x
+
+-- ---- statements
+
+sound-append : {p : Loaded} {me : ℕ} {kinds : List ValueType} {chosen rest : List Statement} → AreSound p me kinds chosen → AreSound p me kinds rest → AreSound p me kinds (chosen ++ rest)
+sound-append none_sound b = b
+sound-append (set_sound out is more) b = set_sound out is (sound-append more b)
+sound-append (emit_sound out is more) b = emit_sound out is (sound-append more b)
+sound-append (call_sound out is more) b = call_sound out is (sound-append more b)
+sound-append (if_sound out is chosen other more) b = if_sound out is chosen other (sound-append more b)
+
+-- what follows a statement
+sound-rest : {p : Loaded} {me : ℕ} {kinds : List ValueType} {x : Statement} {rest : List Statement} → AreSound p me kinds (x ∷ rest) → AreSound p me kinds rest
+sound-rest (set_sound out is more) = more
+sound-rest (emit_sound out is more) = more
+sound-rest (call_sound out is more) = more
+sound-rest (if_sound out is chosen other more) = more
+
+body-with : {p : Loaded} {objects : List Object} {o : ℕ} {arguments : List Value} {left : List Statement} (x : BodyStands p objects o arguments left) (rest : List Statement) → AreSound p x.declaring x.kinds rest → BodyStands p objects o arguments rest
+body-with x rest sound = record { object = x.object; is_object = x.is_object; declaring = x.declaring; below = x.below; kinds = x.kinds; typed = x.typed; sound = sound }
+
+body-rest : {p : Loaded} {objects : List Object} {o : ℕ} {arguments : List Value} {x : Statement} {rest : List Statement} → BodyStands p objects o arguments (x ∷ rest) → BodyStands p objects o arguments rest
+body-rest {rest = rest} x = body-with x rest (sound-rest x.sound)
+
+-- ---- rules
+
+-- a slot that is called with arguments that fit
+called-stands : {p : Loaded} {objects : List Object} {o m : ℕ} {x : Object} {method : MetaMethod} {arguments : List Value} {statements : List Statement} → IsSound p → slice_get objects o ≡ Some x → IsMethod p x.class m method → method.work ≡ Slot statements → ArgumentsFit p objects o m arguments → BodyStands p objects o arguments statements
+called-stands {p} {objects} {m = m} {x = x} {method = method} {arguments = arguments} {statements = statements} sound there is work_is fit =
+    let At : Object → Type 0 = λ y. IsMethod p y.class m fit.method in
+    let method_is : fit.method ≡ method = method-unique (subst At (some-is fit.is_object there) fit.is_method) is in
+    let Typed : MetaMethod → Type 0 = λ k. HaveTypes p (class_of objects) arguments k.kinds in
+    let Sound_work : Work → Type 0 = λ w. IsSoundWork p x.class method.kinds w in
+    let body : IsSoundBody p x.class method.kinds statements = subst Sound_work work_is ((sound.classes x.class is.class is.is_class).methods m method is.is).work in
+    record { object = x; is_object = there; declaring = body.declaring; below = body.below; kinds = method.kinds; typed = subst Typed method_is fit.typed; sound = body.sound }
+
+-- what stands in a state
+abbrev pub AllStand : Loaded → State → Type 0
+AllStand p s = AllByRecursion (Stands p s.objects) s.stack
+
+-- a method that begins, over what stands
+begun-stands : (p : Loaded) (s : State) (below : List Activation) (o : ℕ) (x : Object) (m : ℕ) (method : MetaMethod) (arguments : List Value) (work : Work) (t : State) → IsSound p → slice_get s.objects o ≡ Some x → IsMethod p x.class m method → method.work ≡ work → t ≡ begun s below o x m method arguments work → length s.stack < suc (length below) → IsWell p s t → AllByRecursion (Stands p s.objects) below → AllStand p t
+begun-stands p s below o x m method arguments Signal t sound there is work_is e higher well lower =
+    let Family : State → Type 0 = λ u. AllStand p u in
+    subst Family (sym e) (tt, lower)
+begun-stands p s below o x m method arguments (Slot statements) t sound there is work_is e higher well lower =
+    let Family : State → Type 0 = λ u. AllStand p u in
+    let Fit : State → Type 0 = λ u. length s.stack < length u.stack → TopFits p u.objects u.stack in
+    let fits : Fit (begun s below o x m method arguments (Slot statements)) = subst Fit e well.arguments in
+    subst Family (sym e) (called-stands sound there is work_is (fits higher), lower)
+
+module _ {p : Loaded} {s t : State} (sound : IsSound p) (well : IsWell p s t) where
+  begins-stands : {below : List Activation} {o m : ℕ} {arguments : List Value} → Begins p s below o m arguments t → length s.stack < suc (length below) → AllByRecursion (Stands p s.objects) below → AllStand p t
+  begins-stands {below} {o} {m} {arguments} b higher lower = begun-stands p s below o b.object m b.method arguments b.method.work t sound b.is_object b.is_method refl b.gives higher well lower
+
+  notified-stands : {objects : List Object} {old new : Value} {place : Place} {x : Object} {property : MetaProperty} {notify : Option ℕ} {places : List Place} → IsField p objects place.object place.property x property → property.notify ≡ notify → IsNotified old new place notify places → AllByRecursion (PlaceStands p objects) places
+  notified-stands {x = x} {property = property} f e (changed {signal = signal} h) = (record { object = x; property = property; is = f; signal = signal; notifies = e }, tt)
+  notified-stands f e (unchanged h) = tt
+  notified-stands f e silent = tt
+
+  writes-stands : {below : List Activation} {o q : ℕ} {new : Value} → Writes p s below o q new t → AllByRecursion (Stands p s.objects) below → AllStand p t
+  writes-stands {below} {o} {q} {new} w lower =
+      let after : List Object = slice_set s.objects o (written w.object q new) in
+      let field : IsField p s.objects o q w.object w.property = record { is_object = w.is_object; class = w.class; is_class = w.is_class; is_property = w.is_property } in
+      let places : AllByRecursion (PlaceStands p after) w.places = notified-stands (field-written new field) refl w.notified in
+      let Family : State → Type 0 = λ u. AllStand p u in
+      subst Family (sym w.gives) (places, all-weaken (Stands p s.objects) (Stands p after) below (stands-still p s.objects after (shapes-written s.objects o w.object q new w.is_object)) lower)
+
+  -- the stack is another one, and the objects are the same
+  as-is : {u : State} → t ≡ u → AllStand p u → AllStand p t
+  as-is e lower = let Family : State → Type 0 = λ v. AllStand p v in subst Family (sym e) lower
+
+  module _ (o m : ℕ) (arguments : List Value) (rest : List Statement) (below : List Activation) (high : length s.stack ≡ suc (length below)) (lower : AllByRecursion (Stands p s.objects) (Body o m arguments rest ∷ below)) where
+    set-stands : (path : MetaPath) (q : ℕ) (e : Expr MetaPath) → StatementRule p s o m arguments rest below t (layer.Set path q e) → AllStand p t
+    set-stands path q e r =
+        on-object (λ x. (new : Value) × (value_of s.objects o arguments e ≡ Some new) × Writes p s (Body o m arguments rest ∷ below) x q new t)
+        (t ≡ on_null s (Body o m arguments rest ∷ below)) (AllStand p t) (path_value s.objects o arguments path)
+        (λ x w. writes-stands w.2 lower) (λ null. as-is null lower) r
+
+    emit-stands : (g : ℕ) (es : List (Expr MetaPath)) → StatementRule p s o m arguments rest below t (layer.Emit g es) → AllStand p t
+    emit-stands g es r = begins-stands r.2 (omega (arith, high)) lower
+
+    call-stands : (path : MetaPath) (n : ℕ) (es : List (Expr MetaPath)) → StatementRule p s o m arguments rest below t (layer.Call path n es) → AllStand p t
+    call-stands path n es r =
+        on-object (λ x. (given : List Value) × (values_of s.objects o arguments es ≡ Some given) × Begins p s (Body o m arguments rest ∷ below) x n given t)
+        (t ≡ on_null s (Body o m arguments rest ∷ below)) (AllStand p t) (path_value s.objects o arguments path)
+        (λ x w. begins-stands w.2 (omega (arith, high)) lower) (λ null. as-is null lower) r
+
+  chosen-sound : {me : ℕ} {kinds : List ValueType} (found : Option Value) (block other chosen : List Statement) → AreSound p me kinds block → AreSound p me kinds other → Chooses found block other chosen → AreSound p me kinds chosen
+  chosen-sound {me} {kinds} (Some (value.Bool true)) block other chosen a b is = let Family : List Statement → Type 0 = λ l. AreSound p me kinds l in subst Family (sym is) a
+  chosen-sound {me} {kinds} (Some (value.Bool false)) block other chosen a b is = let Family : List Statement → Type 0 = λ l. AreSound p me kinds l in subst Family (sym is) b
+  chosen-sound (Some (value.Int n)) block other chosen a b is = absurd is
+  chosen-sound (Some (value.Text n)) block other chosen a b is = absurd is
+  chosen-sound (Some (value.Ref n)) block other chosen a b is = absurd is
+  chosen-sound None block other chosen a b is = absurd is
+
+  body-stands : (o m : ℕ) (arguments : List Value) (below : List Activation) (left : List Statement) → (body : BodyStands p s.objects o arguments left) → AreSound p body.declaring body.kinds left → AllByRecursion (Stands p s.objects) below → length s.stack ≡ suc (length below) → BodyRule p s o m arguments below t left → AllStand p t
+  body-stands o m arguments below [] body none_sound lower high r = as-is r lower
+  body-stands o m arguments below (x ∷ rest) body (set_sound {path = path} {q = q} {e = e} out is more) lower high r =
+      let Family : layer.Statement-F Statement → Type 0 = λ f. StatementRule p s o m arguments rest below t f in
+      set-stands o m arguments rest below high (body-with body rest more, lower) path q e (subst Family out r)
+  body-stands o m arguments below (x ∷ rest) body (emit_sound {m = g} {es = es} out is more) lower high r =
+      let Family : layer.Statement-F Statement → Type 0 = λ f. StatementRule p s o m arguments rest below t f in
+      emit-stands o m arguments rest below high (body-with body rest more, lower) g es (subst Family out r)
+  body-stands o m arguments below (x ∷ rest) body (call_sound {path = path} {m = n} {es = es} out is more) lower high r =
+      let Family : layer.Statement-F Statement → Type 0 = λ f. StatementRule p s o m arguments rest below t f in
+      call-stands o m arguments rest below high (body-with body rest more, lower) path n es (subst Family out r)
+  body-stands o m arguments below (x ∷ rest) body (if_sound {e = e} {chosen = block} {other = other} out is first second more) lower high r =
+      let Family : layer.Statement-F Statement → Type 0 = λ f. StatementRule p s o m arguments rest below t f in
+      let chosen = subst Family out r in
+      let sounds = chosen-sound (value_of s.objects o arguments e) block other chosen.0 first second chosen.1 in
+      as-is chosen.2 (body-with body (chosen.0 ++ rest) (sound-append sounds more), lower)
+
+  emission-stands : (o g : ℕ) (arguments : List Value) (last : ℕ) (below : List Activation) (found : Option Connection) → AllByRecursion (Stands p s.objects) below → length s.stack ≡ suc (length below) → EmitRule p s o g arguments last below t found → AllStand p t
+  emission-stands o g arguments last below None lower high r = as-is r lower
+  emission-stands o g arguments last below (Some c) lower high r =
+      begun-stands p s (Emit o g arguments c.number last ∷ below) c.receiver r.receiver c.method r.method (take (length r.method.kinds) arguments) r.method.work t sound r.is_receiver r.is_method refl r.gives (omega (arith, high)) well (tt, lower)
+
+  update-stands : (below : List Activation) (places : List Place) → AllByRecursion (PlaceStands p s.objects) places → AllByRecursion (Stands p s.objects) below → UpdateRule p s below t places → AllStand p t
+  update-stands below [] there lower r = as-is r lower
+  update-stands below (place ∷ places) there lower r = as-is r.gives (tt, (there.1, lower))
+
+  rule-stands : (stack : List Activation) → AllByRecursion (Stands p s.objects) stack → length s.stack ≡ length stack → RuleAt p s t stack → AllStand p t
+  rule-stands [] all high r = absurd r
+  rule-stands (Body o m arguments left ∷ below) all high r = body-stands o m arguments below left all.0 all.0.sound all.1 high r
+  rule-stands (Emit o g arguments used last ∷ below) all high r = emission-stands o g arguments last below (next_connection s.connections o g used last) all.1 high r
+  rule-stands (Update places ∷ below) all high r = update-stands below places all.0 all.1 r
+
+  rule-upright : Upright p s → Rule p s t → Upright p t
+  rule-upright up r =
+      let kept = rule-kept p s t s.stack r in
+      let Made : List Connection → Type 0 = λ l. AllByRecursion (Delivers p t.objects) l in
+      record {
+        typed = well.values;
+        delivers = subst Made (sym kept.connections) (all-weaken (Delivers p s.objects) (Delivers p t.objects) s.connections (delivers-still s.objects t.objects kept.objects) up.delivers);
+        stands = rule-stands s.stack up.stands refl r;
+      }
+
+-- ---- events
+
+delivers-more : {p : Loaded} (objects more : List Object) (c : Connection) → Delivers p objects c → Delivers p (objects ++ more) c
+delivers-more objects more c d = record { receiver = d.receiver; is_receiver = get-append objects more c.receiver d.receiver d.is_receiver; method = d.method; is_method = d.is_method }
+
+-- nothing is going on
+idle : (p : Loaded) (objects : List Object) (stack : List Activation) → stack ≡ [] → AllByRecursion (Stands p objects) stack
+idle p objects stack empty = let Family : List Activation → Type 0 = λ l. AllByRecursion (Stands p objects) l in subst Family (sym empty) tt
+
+abbrev AllDeliver : Loaded → State → Type 0
+AllDeliver p s = AllByRecursion (Delivers p s.objects) s.connections
+
+effect-upright : {p : Loaded} {s t : State} (e : Event) → s.stack ≡ [] → Upright p s → Effect p (accepted s) e t → IsWell p s t → Upright p t
+effect-upright {p} {s} (New name class) empty up x well =
+    let Made : State → Type 0 = λ u. AllDeliver p u in
+    let Standing : State → Type 0 = λ u. AllStand p u in
+    let created : Object = record { name = name; class = x.c; values = map (λ (q : MetaProperty). q.initial) x.is_class.class.properties } in
+    record {
+      typed = well.values;
+      delivers = subst Made (sym x.gives) (all-weaken (Delivers p s.objects) (Delivers p (s.objects ++ created ∷ [])) s.connections (delivers-more s.objects (created ∷ [])) up.delivers);
+      stands = subst Standing (sym x.gives) (idle p (s.objects ++ created ∷ []) s.stack empty);
+    }
+effect-upright {p} {s} (Connect c) empty up x well =
+    let Made : State → Type 0 = λ u. AllDeliver p u in
+    let Standing : State → Type 0 = λ u. AllStand p u in
+    record {
+      typed = well.values;
+      delivers = subst Made (sym x.gives) (all-snoc (Delivers p s.objects) s.connections _ up.delivers (record { receiver = x.receiver; is_receiver = x.is_receiver.is; method = x.has_method.method; is_method = x.has_method.is }));
+      stands = subst Standing (sym x.gives) up.stands;
+    }
+effect-upright {p} {s} (EmitEvent name signal inputs) empty up x well =
+    let Made : State → Type 0 = λ u. AllDeliver p u in
+    let Standing : State → Type 0 = λ u. AllStand p u in
+    record { typed = well.values; delivers = subst Made (sym x.gives) up.delivers; stands = subst Standing (sym x.gives) (tt, up.stands) }
+
+takes-upright : {p : Loaded} {s t : State} {e : Event} → Upright p s → Takes p e s t → IsWell p s t → Upright p t
+takes-upright {e = e} up (accepts empty pass effect) well = effect-upright e empty up effect well
+takes-upright up (refuses k empty which) well = record { typed = up.typed; delivers = up.delivers; stands = up.stands }
+
+follows-upright : {p : Loaded} {s t : State} {es fs : List Event} → IsSound p → Upright p s → Follows p s t es fs → IsWell p s t → Upright p t
+follows-upright sound up (by_rule r) well = rule-upright sound well up r
+follows-upright sound up (by_event x) well = takes-upright up x well
+
+-- every state of a run stands
+pub runs-upright : {p : Loaded} {d : ℕ} {s t : State} {n k : ℕ} {es : List Event} → IsSound p → Runs p d s n es t k → Upright p s → Upright p t
+runs-upright sound done up = up
+runs-upright sound (then follows good rest) up = runs-upright sound rest (follows-upright sound up follows good.well)

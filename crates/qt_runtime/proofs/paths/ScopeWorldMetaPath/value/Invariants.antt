@@ -1,7 +1,0 @@
-use Rattle.std.proofs.Common.{◌≡◌, drop, Some}
-use Rattle.qt_runtime.specs.Paths.{steps_value, path_value}
-use Rattle.qt_runtime.proofs.paths.ScopeWorldMetaPath.value.Given as goal
-
--- what the steps that are left give from what was found is what the path gives
-abbrev pub invariant-loop-step : goal.invariant-loop-step
-invariant-loop-step l = steps_value l.self.objects.now (drop l.step-index l.path.steps) (Some l.found) ≡ path_value l.self.objects.now l.self.this l.self.arguments.now l.path

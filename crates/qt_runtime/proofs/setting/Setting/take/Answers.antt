@@ -1,5 +1,0 @@
-use Rattle.qt_runtime.proofs.Taken.{halted-spent}
-use Rattle.qt_runtime.proofs.setting.Setting.take.Goals as goal
-
-pub returns-then-world-eq0-clause-took : goal.returns-then-world-eq0-clause-took
-returns-then-world-eq0-clause-took c = record { cases = halted-spent _ c.if-world-eq0.true }
