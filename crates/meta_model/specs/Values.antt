@@ -1,4 +1,4 @@
--- Which values have a type (docs/machine.md, "Values").
+-- Which values have a type (docs/language.md, "Values").
 use Rattle.std.specs.Prelude.{◌≡◌, ℕ, ℤ, Bool, List, [], ◌∷◌, Option, Some, None}
 use Rattle.signatures.specs.declared.value.Value.{Value}
 use Rattle.signatures.specs.declared.value.Value.TheVariants as value

@@ -3,6 +3,7 @@
 mod bodies;
 mod classes;
 mod ends;
+mod operators;
 mod refusals;
 mod rows;
 mod usage;
