@@ -1,5 +1,5 @@
 -- How methods begin.
-use Rattle.std.proofs.Common.{◌≡◌, ℕ, suc, ◌+◌, ◌<◌, ◌&&◌, eqb, Bool, true, false, IsTrue, cond, List, [], ◌∷◌, ◌++◌, length, take, Result, Option, Some, refl, sym, ap, ◌∙◌, subst, arith}
+use Rattle.std.proofs.Common.{◌≡◌, ℕ, suc, ◌+◌, ◌<◌, ◌&&◌, eqb, Bool, true, false, IsTrue, cond, List, [], ◌∷◌, ◌++◌, length, take, Result, Option, None, Some, slice_get, refl, sym, ap, ◌∙◌, subst, arith}
 use Rattle.std.specs.List.{AllByRecursion, find}
 use Rattle.std.proofs.lemmas.Bool.{eqb-true}
 use Rattle.signatures.specs.declared.value.Value.{Value}
@@ -14,12 +14,13 @@ use Rattle.machine_state.specs.declared.connections.Connection.{Connection}
 use Rattle.machine_state.specs.declared.entry.Entry.{Entry}
 use Rattle.machine_state.specs.declared.fault.Fault.{Fault}
 use Rattle.machine_state.specs.declared.fault.Fault.TheVariants.{BadType, TooDeep}
-use Rattle.machine_state.specs.declared.object_tree.Object.{Object}
+use Rattle.object_tree.specs.declared.object.Object.{Object}
 use Rattle.machine_state.specs.declared.world.World.{World}
-use Rattle.machine_state.specs.Objects.{all_shown, class_of}
+use Rattle.object_tree.specs.Objects.{class_of}
+use Rattle.machine_state.specs.Objects.{all_shown}
 use Rattle.machine_state.specs.State.{State, Activation, Body, Emit}
 use Rattle.machine_rules.specs.Rules.{Begins, begun, EmitRule, Uses}
-use Rattle.machine_state.specs.Connections.{is_next, next_connection}
+use Rattle.machine_state.specs.Connections.{is_next, next_connection, silences, next_used}
 use Rattle.machine_rules.specs.Good.{AreTyped, ArgumentsFit, TopFits, IsWell}
 use Rattle.machine_rules.specs.Sound.{Joined}
 use Rattle.machine_state.specs.Worlds.{at, noted}
@@ -33,20 +34,20 @@ top_of o m arguments last Signal = Emit o m arguments 0 last
 top_of o m arguments last (Slot statements) = Body o m arguments statements
 
 -- the world after that
-abbrev pub begun_world : World → ℕ → Object → MetaMethod → List Value → World
-begun_world w depth x method arguments = noted w (begin_entry depth x.name method.sig.name (all_shown w.objects arguments) method.work)
+abbrev pub begun_world : World → ℕ → Object → ℕ → MetaMethod → List Value → World
+begun_world w depth x m method arguments = noted w (begin_entry depth x m method.sig.name (all_shown w.objects arguments) method.work)
 
 begun-is : (w : World) (stack : List Activation) (to : Activation) (below : List Activation) (o : ℕ) (x : Object) (m : ℕ) (method : MetaMethod) (arguments : List Value) (work : Work) →
-    at (noted w (begin_entry (suc (suc (length below))) x.name method.sig.name (all_shown w.objects arguments) work)) (top_of o m arguments w.connected work ∷ to ∷ below) ≡ begun (at w stack) (to ∷ below) o x m method arguments work
+    at (noted w (begin_entry (suc (suc (length below))) x m method.sig.name (all_shown w.objects arguments) work)) (top_of o m arguments w.connected work ∷ to ∷ below) ≡ begun (at w stack) (to ∷ below) o x m method arguments work
 begun-is w stack to below o x m method arguments Signal = refl
 begun-is w stack to below o x m method arguments (Slot statements) = refl
 
 -- a method that is there begins
 begins-there : {p : Loaded} {h o m : ℕ} {x : Object} {method : MetaMethod} (w : World) (arguments : List Value) (from to : Activation) (below : List Activation) → IsMember p w.objects o m x method → length below ≡ h →
-    Begins p (at w (from ∷ below)) (to ∷ below) o m arguments (at (begun_world w (h + 2) x method arguments) (top_of o m arguments w.connected method.work ∷ to ∷ below))
+    Begins p (at w (from ∷ below)) (to ∷ below) o m arguments (at (begun_world w (h + 2) x m method arguments) (top_of o m arguments w.connected method.work ∷ to ∷ below))
 begins-there {h = h} {o = o} {m = m} {x = x} {method = method} w arguments from to below is e =
     let depth_is : h + 2 ≡ suc (suc (length below)) = omega (arith, e) in
-    let with_depth : ℕ → State = λ n. at (begun_world w n x method arguments) (top_of o m arguments w.connected method.work ∷ to ∷ below) in
+    let with_depth : ℕ → State = λ n. at (begun_world w n x m method arguments) (top_of o m arguments w.connected method.work ∷ to ∷ below) in
     record {
       object = x;
       is_object = is.is_object;
@@ -55,7 +56,7 @@ begins-there {h = h} {o = o} {m = m} {x = x} {method = method} w arguments from 
       gives = ap with_depth depth_is ∙ begun-is w (from ∷ below) to below o x m method arguments method.work;
     }
 
-top-fits : {p : Loaded} {objects : List Object} {o m : ℕ} {arguments : List Value} (last : ℕ) (work : Work) (below : List Activation) → ArgumentsFit p objects o m arguments → TopFits p objects (top_of o m arguments last work ∷ below)
+pub top-fits : {p : Loaded} {objects : List Object} {o m : ℕ} {arguments : List Value} (last : ℕ) (work : Work) (below : List Activation) → ArgumentsFit p objects o m arguments → TopFits p objects (top_of o m arguments last work ∷ below)
 top-fits last Signal below fit = fit
 top-fits last (Slot statements) below fit = fit
 
@@ -65,11 +66,11 @@ fits-top last (Slot statements) below fit = fit
 
 goes-begun : {p : Loaded} {d h o m : ℕ} {w v : World} {from to : Activation} {x : Object} {method : MetaMethod} {arguments : List Value} {entry : Entry} →
     Calls p w from to o m arguments → IsMember p w.objects o m x method → ArgumentsFit p w.objects o m arguments → AreTyped p w.objects → h + 1 < d → 0 < w.left →
-    entry ≡ begin_entry (h + 2) x.name method.sig.name (all_shown w.objects arguments) method.work → v ≡ noted w entry →
+    entry ≡ begin_entry (h + 2) x m method.sig.name (all_shown w.objects arguments) method.work → v ≡ noted w entry →
     Goes p d h w (from ∷ []) v (top_of o m arguments w.connected method.work ∷ to ∷ [])
 goes-begun {p} {d} {h} {o} {m} {w} {v} {from} {to} {x} {method} {arguments} {entry} calls is fit typed room some entry_is v_is =
     let Family : World → Type 0 = λ u. Goes p d h w (from ∷ []) u (top_of o m arguments w.connected method.work ∷ to ∷ []) in
-    let target : World = begun_world w (h + 2) x method arguments in
+    let target : World = begun_world w (h + 2) x m method arguments in
     let target_is : v ≡ target = v_is ∙ ap (noted w) entry_is in
     let went : Goes p d h w (from ∷ []) target (top_of o m arguments w.connected method.work ∷ to ∷ []) =
     goes-high (λ below e. calls.gives below _ (begins-there w arguments from to below is e)) (λ below. top-fits w.connected method.work (to ∷ below) fit) room typed refl some in
@@ -78,7 +79,7 @@ goes-begun {p} {d} {h} {o} {m} {w} {v} {from} {to} {x} {method} {arguments} {ent
 -- a method begins, and what it pushed runs
 pub ends-begun : {p : Loaded} {d h o m : ℕ} {w v u : World} {from to : Activation} {x : Object} {method : MetaMethod} {arguments : List Value} {entry : Entry} {work : Work} {r : Result (Unit {0}) Fault} →
     Calls p w from to o m arguments → IsMember p w.objects o m x method → ArgumentsFit p w.objects o m arguments → AreTyped p w.objects → h + 1 < d → 0 < w.left →
-    entry ≡ begin_entry (h + 2) x.name method.sig.name (all_shown w.objects arguments) method.work → v ≡ noted w entry → method.work ≡ work →
+    entry ≡ begin_entry (h + 2) x m method.sig.name (all_shown w.objects arguments) method.work → v ≡ noted w entry → method.work ≡ work →
     Ends p d (h + 1) v (top_of o m arguments w.connected work ∷ []) u [] r → Ends p d h w (from ∷ []) u (to ∷ []) r
 ends-begun {p} {d} {h} {o} {m} {w} {v} {u} {arguments = arguments} {r = r} calls is fit typed room some entry_is v_is work_is x =
     let Run : Work → Type 0 = λ k. Ends p d (h + 1) v (top_of o m arguments w.connected k ∷ []) u [] r in
@@ -88,7 +89,7 @@ ends-begun {p} {d} {h} {o} {m} {w} {v} {u} {arguments = arguments} {r = r} calls
 pub breaks-begin : {p : Loaded} {d h o m : ℕ} {w : World} {from to : Activation} {x : Object} {method : MetaMethod} {arguments : List Value} →
     Calls p w from to o m arguments → IsMember p w.objects o m x method → ArgumentsFit p w.objects o m arguments → AreTyped p w.objects → 0 < w.left → d ≡ h + 1 → Breaks p d h w (from ∷ []) w TooDeep
 breaks-begin {h = h} {o = o} {m = m} {w = w} {from = from} {to = to} {x = x} {method = method} {arguments = arguments} calls is fit typed some deep =
-    breaks-deep some (λ below e. (at (begun_world w (h + 2) x method arguments) (top_of o m arguments w.connected method.work ∷ to ∷ below), calls.gives below _ (begins-there w arguments from to below is e), record { arguments = λ higher. top-fits w.connected method.work (to ∷ below) fit; values = typed }, omega (arith, e, deep)))
+    breaks-deep some (λ below e. (at (begun_world w (h + 2) x m method arguments) (top_of o m arguments w.connected method.work ∷ to ∷ below), calls.gives below _ (begins-there w arguments from to below is e), record { arguments = λ higher. top-fits w.connected method.work (to ∷ below) fit; values = typed }, omega (arith, e, deep)))
 
 -- there is no such method
 pub breaks-no-member : {p : Loaded} {d h o m : ℕ} {w : World} {from to : Activation} {arguments : List Value} →
@@ -109,7 +110,7 @@ pub breaks-ill-typed : {p : Loaded} {d h o m : ℕ} {w : World} {from to : Activ
     Calls p w from to o m arguments → IsMember p w.objects o m x method → (¬ HaveTypes p (class_of w.objects) arguments method.kinds) → 0 < w.left → Breaks p d h w (from ∷ []) w BadType
 breaks-ill-typed {p} {o = o} {m = m} {w = w} {from = from} {to = to} {x = x} {method = method} {arguments = arguments} calls is ill some =
     breaks-ill some (λ below.
-    let t : State = at (begun_world w (length below + 2) x method arguments) (top_of o m arguments w.connected method.work ∷ to ∷ below) in (
+    let t : State = at (begun_world w (length below + 2) x m method arguments) (top_of o m arguments w.connected method.work ∷ to ∷ below) in (
       t,
       calls.gives below t (begins-there w arguments from to below is refl),
       λ (well : IsWell p (at w (from ∷ below)) t). ill (fit-typed is (fits-top w.connected method.work (to ∷ below) (well.arguments (omega arith)))),
@@ -148,13 +149,21 @@ next-is o g used last c e =
     let ends = and-first (eqb c.sender o && eqb c.signal g) _ e in
     (eqb-true c.sender o (and-first (eqb c.sender o) _ ends), eqb-true c.signal g (and-second (eqb c.sender o) _ ends))
 
-pub next-joined : {p : Loaded} {objects : List Object} (connections : List Connection) (o g used last : ℕ) (c : Connection) → AllByRecursion (Joined p objects) connections → next_connection connections o g used last ≡ Some c → Joined p objects c
-next-joined {p} {objects} connections o g used last c all found = (find-some (Joined p objects) (is_next o g used last) connections c all found).0
+-- a connection that is used is the next one
+pub used-is : (objects : List Object) (connections : List Connection) (o g used last : ℕ) (c : Connection) → next_used objects connections o g used last ≡ Some c → next_connection connections o g used last ≡ Some c
+used-is objects connections o g used last c found = by_test (silences (slice_get objects o) g) found
+  where
+    by_test : (b : Bool) → cond b None (next_connection connections o g used last) ≡ Some c → next_connection connections o g used last ≡ Some c
+    by_test true e = absurd (cc e)
+    by_test false e = e
+
+pub next-joined : {p : Loaded} {objects : List Object} (now : List Object) (connections : List Connection) (o g used last : ℕ) (c : Connection) → AllByRecursion (Joined p objects) connections → next_used now connections o g used last ≡ Some c → Joined p objects c
+next-joined {p} {objects} now connections o g used last c all found = (find-some (Joined p objects) (is_next o g used last) connections c all (used-is now connections o g used last c found)).0
 
 -- the emission's arguments are those of the connection's signal
-pub next-fits : {p : Loaded} {objects : List Object} {arguments : List Value} (connections : List Connection) (o g used last : ℕ) (c : Connection) → AllByRecursion (Joined p objects) connections → next_connection connections o g used last ≡ Some c → ArgumentsFit p objects o g arguments → ArgumentsFit p objects c.sender c.signal arguments
-next-fits {p} {objects} {arguments} connections o g used last c all found fit =
-    let is = next-is o g used last c ((find-some (Joined p objects) (is_next o g used last) connections c all found).1) in
+pub next-fits : {p : Loaded} {objects : List Object} {arguments : List Value} (now : List Object) (connections : List Connection) (o g used last : ℕ) (c : Connection) → AllByRecursion (Joined p objects) connections → next_used now connections o g used last ≡ Some c → ArgumentsFit p objects o g arguments → ArgumentsFit p objects c.sender c.signal arguments
+next-fits {p} {objects} {arguments} now connections o g used last c all found fit =
+    let is = next-is o g used last c ((find-some (Joined p objects) (is_next o g used last) connections c all (used-is now connections o g used last c found)).1) in
     subst (λ (n : ℕ). ArgumentsFit p objects c.sender n arguments) (sym is.1) (subst (λ (n : ℕ). ArgumentsFit p objects n g arguments) (sym is.0) fit)
 
 -- the method that a connection leads to is there
@@ -177,7 +186,7 @@ delivered-fits {p} {objects} {c} {x} {method} {arguments} {taken} j fit is cut c
     subst (λ (l : List Value). ArgumentsFit p objects c.receiver c.method l) (sym taken_is) has
 
 -- a connection that comes next begins its method
-pub delivery-calls : {p : Loaded} {w : World} {c : Connection} {x : Object} {method : MetaMethod} {arguments taken : List Value} {count : ℕ} (o g used last : ℕ) → next_connection w.connections o g used last ≡ Some c → IsMember p w.objects c.receiver c.method x method → taken ≡ take count arguments → count ≡ length method.kinds → Calls p w (Emit o g arguments used last) (Emit o g arguments c.number last) c.receiver c.method taken
+pub delivery-calls : {p : Loaded} {w : World} {c : Connection} {x : Object} {method : MetaMethod} {arguments taken : List Value} {count : ℕ} (o g used last : ℕ) → next_used w.objects w.connections o g used last ≡ Some c → IsMember p w.objects c.receiver c.method x method → taken ≡ take count arguments → count ≡ length method.kinds → Calls p w (Emit o g arguments used last) (Emit o g arguments c.number last) c.receiver c.method taken
 delivery-calls {p} {w} {c} {x} {method} {arguments} {taken} {count} o g used last found is cut count_is = record {
   gives = λ below t b.
       let s : State = at w (Emit o g arguments used last ∷ below) in

@@ -14,7 +14,7 @@ use Rattle.expressions.specs.Evaluation.{Evaluates, EvaluatesAll}
 use Rattle.machine_state.specs.declared.entry.Entry.TheVariants.{OnNull}
 use Rattle.machine_state.specs.declared.fault.Fault.{Fault}
 use Rattle.machine_state.specs.declared.fault.Fault.TheVariants.{BadType}
-use Rattle.machine_state.specs.declared.object_tree.Object.{Object}
+use Rattle.object_tree.specs.declared.object.Object.{Object}
 use Rattle.machine_state.specs.declared.world.World.{World}
 use Rattle.machine_rules.specs.Paths.{path_value, value_of, values_of}
 use Rattle.machine_state.specs.State.{State, Activation, Body}

@@ -8,9 +8,10 @@ use Rattle.meta_model.specs.declared.object.MetaProperty.{MetaProperty}
 use Rattle.meta_model.specs.Loaded.{Loaded}
 use Rattle.meta_model.specs.Members.{IsClass, IsMethod}
 use Rattle.meta_model.specs.Values.{Has, HaveTypes}
-use Rattle.machine_state.specs.declared.object_tree.Object.{Object}
-use Rattle.machine_state.specs.Objects.{written, class_of}
-use Rattle.machine_rules.specs.Good.{AreTyped, IsTyped}
+use Rattle.object_tree.specs.declared.object.Object.{Object}
+use Rattle.object_tree.specs.Objects.{written, class_of}
+use Rattle.machine_rules.specs.Good.{AreTyped}
+use Rattle.object_tree.specs.Typed.{IsTyped}
 use Rattle.machine_rules.specs.Goes.{IsMember, IsField}
 use Rattle.machine_rules.proofs.Shapes.{classes-same, shapes-written}
 
@@ -101,7 +102,7 @@ abbrev pub kind_of : MetaProperty → ValueType
 kind_of q = q.kind
 
 -- the classes of the objects after a write
-classes-written : {p : Loaded} {objects : List Object} {o q : ℕ} {x : Object} {property : MetaProperty} (new : Value) → IsField p objects o q x property → class_of (slice_set objects o (written x q new)) ≡ class_of objects
+classes-written : {p : Loaded} {objects : List Object} {o q : ℕ} {x : Object} {property : MetaProperty} (new : Value) → IsField p objects o q x property → class_of (slice_set objects o (written q new x)) ≡ class_of objects
 classes-written {objects = objects} {o = o} {q = q} {x = x} new f = classes-same _ _ (shapes-written objects o x q new f.is_object)
 
 -- the values of an object that has the property
@@ -113,16 +114,16 @@ field-typed {p} {objects} {o} {x = x} f typed =
 pub old-there : {p : Loaded} {objects : List Object} {o q : ℕ} {x : Object} {property : MetaProperty} → IsField p objects o q x property → AreTyped p objects → (v : Value) × (slice_get x.values q ≡ Some v)
 old-there {p} {objects} {q = q} {property = property} f typed = types-there p (class_of objects) _ _ q property.kind (field-typed f typed) (map-get kind_of f.class.properties q property f.is_property)
 
-pub typed-written : {p : Loaded} {objects : List Object} {o q : ℕ} {x : Object} {property : MetaProperty} {new : Value} → IsField p objects o q x property → AreTyped p objects → Has p (class_of objects) new property.kind → AreTyped p (slice_set objects o (written x q new))
+pub typed-written : {p : Loaded} {objects : List Object} {o q : ℕ} {x : Object} {property : MetaProperty} {new : Value} → IsField p objects o q x property → AreTyped p objects → Has p (class_of objects) new property.kind → AreTyped p (slice_set objects o (written q new x))
 typed-written {p} {objects} {o} {q} {x} {property} {new} f typed has = λ k y is.
-    let after : List Object = slice_set objects o (written x q new) in
+    let after : List Object = slice_set objects o (written q new x) in
     let classes : class_of objects ≡ class_of after = sym (classes-written new f) in
-    let at_written : IsTyped p after (written x q new) = record {
+    let at_written : IsTyped p after (written q new x) = record {
       class = f.class;
       is_class = f.is_class;
       typed = subst (λ (c : ℕ → Option ℕ). HaveTypes p c (slice_set x.values q new) (map kind_of f.class.properties)) classes (types-set p (class_of objects) x.values (map kind_of f.class.properties) q new property.kind (field-typed f typed) (map-get kind_of f.class.properties q property f.is_property) has);
     } in
-    elim (set-other objects o k (written x q new) y is) as (λ r. IsTyped p after y) [
+    elim (set-other objects o k (written q new x) y is) as (λ r. IsTyped p after y) [
       | inl a ↦ subst (λ (z : Object). IsTyped p after z) (sym a.0) at_written
       | inr b ↦ (let t = typed k y b in record {
         class = t.class;
@@ -132,19 +133,19 @@ typed-written {p} {objects} {o} {q} {x} {property} {new} f typed has = λ k y is
     ]
 
 -- a value that is written and stays of its type had it
-pub written-typed : {p : Loaded} {objects : List Object} {o q : ℕ} {x : Object} {property : MetaProperty} {new : Value} → IsField p objects o q x property → AreTyped p objects → AreTyped p (slice_set objects o (written x q new)) → Has p (class_of objects) new property.kind
+pub written-typed : {p : Loaded} {objects : List Object} {o q : ℕ} {x : Object} {property : MetaProperty} {new : Value} → IsField p objects o q x property → AreTyped p objects → AreTyped p (slice_set objects o (written q new x)) → Has p (class_of objects) new property.kind
 written-typed {p} {objects} {o} {q} {x} {property} {new} f typed after =
     let old = old-there f typed in
-    let t = after o (written x q new) (set-get objects o x (written x q new) f.is_object) in
-    let kinds : HaveTypes p (class_of (slice_set objects o (written x q new))) (slice_set x.values q new) (map kind_of f.class.properties) =
-    subst (λ (c : MetaObject). HaveTypes p (class_of (slice_set objects o (written x q new))) (slice_set x.values q new) (map kind_of c.properties)) (class-unique t.is_class f.is_class) t.typed in
+    let t = after o (written q new x) (set-get objects o x (written q new x) f.is_object) in
+    let kinds : HaveTypes p (class_of (slice_set objects o (written q new x))) (slice_set x.values q new) (map kind_of f.class.properties) =
+    subst (λ (c : MetaObject). HaveTypes p (class_of (slice_set objects o (written q new x))) (slice_set x.values q new) (map kind_of c.properties)) (class-unique t.is_class f.is_class) t.typed in
     let has = types-get p _ _ _ q new property.kind kinds (set-get x.values q old.0 new old.1) (map-get kind_of f.class.properties q property f.is_property) in
     subst (λ (c : ℕ → Option ℕ). Has p c new property.kind) (classes-written new f) has
 
 -- the property is there after the write
-abbrev pub field-written : {p : Loaded} {objects : List Object} {o q : ℕ} {x : Object} {property : MetaProperty} (new : Value) → IsField p objects o q x property → IsField p (slice_set objects o (written x q new)) o q (written x q new) property
+abbrev pub field-written : {p : Loaded} {objects : List Object} {o q : ℕ} {x : Object} {property : MetaProperty} (new : Value) → IsField p objects o q x property → IsField p (slice_set objects o (written q new x)) o q (written q new x) property
 field-written {objects = objects} {o = o} {q = q} {x = x} new f = record {
-  is_object = set-get objects o x (written x q new) f.is_object;
+  is_object = set-get objects o x (written q new x) f.is_object;
   class = f.class;
   is_class = f.is_class;
   is_property = f.is_property;

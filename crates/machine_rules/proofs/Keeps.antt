@@ -10,7 +10,7 @@ use Rattle.meta_model.specs.declared.object.Statement.TheViews.{out-Statement}
 use Rattle.meta_model.specs.declared.object.Work.{Work}
 use Rattle.meta_model.specs.declared.object.Work.TheVariants.{Signal, Slot}
 use Rattle.meta_model.specs.declared.object.MetaMethod.{MetaMethod}
-use Rattle.machine_state.specs.declared.object_tree.Object.{Object}
+use Rattle.object_tree.specs.declared.object.Object.{Object}
 use Rattle.machine_state.specs.declared.connections.Connection.{Connection}
 use Rattle.machine_state.specs.declared.fault.Fault.{Fault}
 use Rattle.machine_state.specs.declared.world.World.{World}
@@ -18,7 +18,7 @@ use Rattle.machine_state.specs.Objects.{Shape, shapes_of}
 use Rattle.machine_rules.specs.Paths.{path_value, value_of, values_of}
 use Rattle.machine_state.specs.State.{State, Place, Activation, Body, Emit, Update}
 use Rattle.machine_rules.specs.Rules.{RuleAt, BodyRule, StatementRule, EmitRule, UpdateRule, OnObject, Begins, Writes, begun, on_null}
-use Rattle.machine_state.specs.Connections.{next_connection}
+use Rattle.machine_state.specs.Connections.{next_used}
 use Rattle.meta_model.specs.Values.{HaveTypes}
 use Rattle.machine_rules.specs.Good.{AreTyped, ArgumentsFit}
 use Rattle.machine_rules.specs.Runs.{Runs, done, then, Follows, by_rule, by_event}
@@ -45,10 +45,10 @@ begun-kept : (s : State) (below : List Activation) (o : ℕ) (x : Object) (m : �
 begun-kept s below o x m method arguments Signal t e = kept-is e (record { objects = refl; connections = refl; connected = refl; events = refl })
 begun-kept s below o x m method arguments (Slot statements) t e = kept-is e (record { objects = refl; connections = refl; connected = refl; events = refl })
 
-begins-kept : {p : Loaded} {s : State} {below : List Activation} {o m : ℕ} {arguments : List Value} {t : State} → Begins p s below o m arguments t → Kept s t
+pub begins-kept : {p : Loaded} {s : State} {below : List Activation} {o m : ℕ} {arguments : List Value} {t : State} → Begins p s below o m arguments t → Kept s t
 begins-kept {s = s} {below = below} {o = o} {m = m} {arguments = arguments} {t = t} x = begun-kept s below o x.object m x.method arguments x.method.work t x.gives
 
-writes-kept : {p : Loaded} {s : State} {below : List Activation} {o q : ℕ} {new : Value} {t : State} → Writes p s below o q new t → Kept s t
+pub writes-kept : {p : Loaded} {s : State} {below : List Activation} {o q : ℕ} {new : Value} {t : State} → Writes p s below o q new t → Kept s t
 writes-kept {s = s} {o = o} {q = q} {new = new} x = kept-is x.gives (record { objects = shapes-written s.objects o x.object q new x.is_object; connections = refl; connected = refl; events = refl })
 
 pub on-object : (Act : ℕ → Type 0) (Nothing K : Type 0) (found : Option Value) → ((x : ℕ) → Act x → K) → (Nothing → K) → OnObject Act Nothing found → K
@@ -86,7 +86,7 @@ update-kept p s below t (place ∷ places) r = begun-kept s _ place.object r.obj
 pub rule-kept : (p : Loaded) (s t : State) (stack : List Activation) → RuleAt p s t stack → Kept s t
 rule-kept p s t [] r = absurd r
 rule-kept p s t (Body o m arguments left ∷ below) r = body-kept p s o m arguments below t left r
-rule-kept p s t (Emit o g arguments used last ∷ below) r = emit-kept p s o g arguments last below t (next_connection s.connections o g used last) r
+rule-kept p s t (Emit o g arguments used last ∷ below) r = emit-kept p s o g arguments last below t (next_used s.objects s.connections o g used last) r
 rule-kept p s t (Update places ∷ below) r = update-kept p s below t places r
 
 follows-kept : {p : Loaded} {s t : State} {es fs : List Event} → Follows p s t es fs → es ≡ [] → Kept s t × (fs ≡ [])

@@ -6,7 +6,7 @@ use Rattle.meta_model.specs.declared.object.Step.{Step}
 use Rattle.expressions.specs.declared.evaluation.EvalFault.{EvalFault}
 use Rattle.expressions.specs.declared.evaluation.EvalFault.TheVariants.{BadType, Memory}
 use Rattle.expressions.specs.Evaluation.{Evaluates}
-use Rattle.machine_state.specs.declared.object_tree.Object.{Object}
+use Rattle.object_tree.specs.declared.object.Object.{Object}
 use Rattle.machine_rules.specs.Paths.{steps_value, step_value}
 
 -- from no value no step leads on

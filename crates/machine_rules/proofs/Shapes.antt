@@ -5,8 +5,9 @@ use Rattle.std.specs.Option.{option_map}
 use Rattle.std.proofs.lemmas.Option.{get_or_from_slice_get}
 use Rattle.std.proofs.Math.Seq.{map-set_same}
 use Rattle.signatures.specs.declared.value.Value.{Value}
-use Rattle.machine_state.specs.declared.object_tree.Object.{Object}
-use Rattle.machine_state.specs.Objects.{Shape, shape_of, shapes_of, written, class_of}
+use Rattle.object_tree.specs.declared.object.Object.{Object}
+use Rattle.object_tree.specs.Objects.{written, class_of}
+use Rattle.machine_state.specs.Objects.{Shape, shape_of, shapes_of}
 
 -- a shape is that of an object
 pub shape-there : (objects : List Object) (o : ℕ) (shape : Shape) → slice_get (shapes_of objects) o ≡ Some shape → (x : Object) × (slice_get objects o ≡ Some x) × (shape_of x ≡ shape)
@@ -21,8 +22,8 @@ shape-of-there (y ∷ xs) zero x e = cc e
 shape-of-there (y ∷ xs) (suc i) x e = shape-of-there xs i x e
 
 -- a write leaves each shape as it was
-pub shapes-written : (objects : List Object) (o : ℕ) (x : Object) (q : ℕ) (v : Value) → slice_get objects o ≡ Some x → shapes_of (slice_set objects o (written x q v)) ≡ shapes_of objects
-shapes-written objects o x q v e = map-set_same shape_of objects o (written x q v) x (ap shape_of (sym (get_or_from_slice_get objects o x x e)))
+pub shapes-written : (objects : List Object) (o : ℕ) (x : Object) (q : ℕ) (v : Value) → slice_get objects o ≡ Some x → shapes_of (slice_set objects o (written q v x)) ≡ shapes_of objects
+shapes-written objects o x q v e = map-set_same shape_of objects o (written q v x) x (ap shape_of (sym (get_or_from_slice_get objects o x x e)))
 
 -- the classes of objects by their shapes
 pub shape_class_of : List Shape → ℕ → Option ℕ

@@ -15,12 +15,13 @@ use Rattle.machine_state.specs.declared.entry.Entry.{Entry}
 use Rattle.machine_state.specs.declared.entry.Entry.TheVariants.{Written}
 use Rattle.machine_state.specs.declared.fault.Fault.{Fault}
 use Rattle.machine_state.specs.declared.fault.Fault.TheVariants.{BadType, TooDeep}
-use Rattle.machine_state.specs.declared.object_tree.Object.{Object}
+use Rattle.object_tree.specs.declared.object.Object.{Object}
 use Rattle.machine_state.specs.declared.world.World.{World}
-use Rattle.machine_state.specs.Objects.{shown, written, class_of}
+use Rattle.object_tree.specs.Objects.{written, class_of}
+use Rattle.machine_state.specs.Objects.{shown}
 use Rattle.machine_state.specs.State.{State, Activation, Update}
 use Rattle.machine_rules.specs.Rules as rules
-use Rattle.machine_rules.specs.Rules.{Rule, Writes, Notifies, IsNotified, begun}
+use Rattle.machine_rules.specs.Rules.{Writes, Notifies, IsNotified, begun}
 use Rattle.machine_rules.specs.Good.{AreTyped, ArgumentsFit, IsWell}
 use Rattle.machine_state.specs.Worlds.{at, set_in}
 use Rattle.machine_rules.specs.Goes.{Goes, Breaks, Ends, Calls, Sets, IsMember, IsField, Announces, MayAnnounce, places_of, Changes, changed, unchanged, silent}
@@ -33,7 +34,7 @@ use Rattle.machine_rules.proofs.Shapes.{shapes-written}
 
 -- ---- writes
 
-notified : {old new : Value} (o q : ℕ) {notify result : Option ℕ} → Changes old new notify result → IsNotified old new (record { object = o; property = q }) notify (places_of o q result)
+pub notified : {old new : Value} (o q : ℕ) {notify result : Option ℕ} → Changes old new notify result → IsNotified old new (record { object = o; property = q }) notify (places_of o q result)
 notified o q (changed h) = rules.changed h
 notified o q (unchanged h) = rules.unchanged h
 notified o q silent = rules.silent
@@ -103,12 +104,12 @@ breaks-no-field sets none some = breaks-stuck some (λ below t r. let k = sets.o
 -- ---- notifications
 
 -- what may be announced after the write
-pub announces-written : {p : Loaded} {objects : List Object} {o q : ℕ} {x : Object} {property : MetaProperty} {old new : Value} (result : Option ℕ) → (f : IsField p objects o q x property) → ((class : MetaObject) → IsClass p x.class class → IsSoundProperty p class property) → Changes old new property.notify result → MayAnnounce p (slice_set objects o (written x q new)) o q result
+pub announces-written : {p : Loaded} {objects : List Object} {o q : ℕ} {x : Object} {property : MetaProperty} {old new : Value} (result : Option ℕ) → (f : IsField p objects o q x property) → ((class : MetaObject) → IsClass p x.class class → IsSoundProperty p class property) → Changes old new property.notify result → MayAnnounce p (slice_set objects o (written q new x)) o q result
 announces-written None f sound changes = tt
 announces-written {objects = objects} {o = o} {q = q} {x = x} {property = property} {new = new} (Some signal) f sound changes =
     let is : property.notify ≡ Some signal = signal-is changes in
     record {
-      object = written x q new;
+      object = written q new x;
       property = property;
       is = field-written new f;
       is_signal = is;

@@ -16,9 +16,10 @@ use Rattle.expressions.specs.declared.evaluation.EvalFault.TheVariants.{BadType,
 use Rattle.machine_state.specs.declared.entry.Entry.{Entry}
 use Rattle.machine_state.specs.declared.entry.Entry.TheVariants as entry
 use Rattle.machine_state.specs.declared.entry.Shown.{Shown}
-use Rattle.machine_state.specs.declared.object_tree.Object.{Object}
+use Rattle.object_tree.specs.declared.object.Object.{Object}
 use Rattle.machine_state.specs.declared.fault.Fault.{Fault}
 use Rattle.machine_state.specs.declared.world.World.{World}
+use Rattle.machine_state.specs.Connections.{is_silent}
 use Rattle.machine_state.specs.Objects.{shapes_of}
 use Rattle.machine_state.specs.State.{State, Place, Activation}
 use Rattle.machine_rules.specs.Rules.{Rule, Begins, Writes}
@@ -107,9 +108,9 @@ MayAnnounce p objects o q None = Unit {0}
 MayAnnounce p objects o q (Some signal) = Announces p objects o q signal
 
 -- the entry of a method that begins
-abbrev pub begin_entry : ℕ → List ℕ → List ℕ → List Shown → Work → Entry
-begin_entry depth object method given Signal = entry.Emitted depth object method given
-begin_entry depth object method given (Slot statements) = entry.Called depth object method given
+abbrev pub begin_entry : ℕ → Object → ℕ → List ℕ → List Shown → Work → Entry
+begin_entry depth x m method given Signal = entry.Emitted depth x.name method given (is_silent x m)
+begin_entry depth x m method given (Slot statements) = entry.Called depth x.name method given
 
 -- the objects are those that they were, and so are the connections and all numbers; rules may have been used
 pub record Same (w v : World) : Type 0 where

@@ -1,14 +1,13 @@
 -- The moments that no rule of a run may bring (docs/machine.md, "Faults").
-use Rattle.std.specs.Prelude.{◌≡◌, ℕ, ◌<◌, ◌≤◌, List, [], ◌∷◌, length, map, Some, slice_get}
+use Rattle.std.specs.Prelude.{◌≡◌, ℕ, ◌<◌, ◌≤◌, List, [], ◌∷◌, length, Some, slice_get}
 use Rattle.signatures.specs.declared.value.Value.{Value}
-use Rattle.meta_model.specs.declared.object.MetaObject.{MetaObject}
 use Rattle.meta_model.specs.declared.object.MetaMethod.{MetaMethod}
-use Rattle.meta_model.specs.declared.object.MetaProperty.{MetaProperty}
 use Rattle.meta_model.specs.Loaded.{Loaded}
-use Rattle.meta_model.specs.Members.{IsClass, IsMethod}
+use Rattle.meta_model.specs.Members.{IsMethod}
 use Rattle.meta_model.specs.Values.{HaveTypes}
-use Rattle.machine_state.specs.declared.object_tree.Object.{Object}
-use Rattle.machine_state.specs.Objects.{class_of}
+use Rattle.object_tree.specs.declared.object.Object.{Object}
+use Rattle.object_tree.specs.Objects.{class_of}
+use Rattle.object_tree.specs.Typed.{IsTyped}
 use Rattle.machine_state.specs.State.{State, Activation, Body, Emit, Update}
 
 -- the arguments are as many as the object's method declares, each of its type
@@ -25,12 +24,7 @@ TopFits p objects (Body o m arguments left ∷ below) = ArgumentsFit p objects o
 TopFits p objects (Emit o g arguments used last ∷ below) = ArgumentsFit p objects o g arguments
 TopFits p objects (Update places ∷ below) = Unit {0}
 
--- the object's properties have values of their types
-pub record IsTyped (p : Loaded) (objects : List Object) (x : Object) : Type 0 where
-  pub class : MetaObject
-  pub is_class : IsClass p x.class class
-  pub typed : HaveTypes p (class_of objects) x.values (map (λ (q : MetaProperty). q.kind) class.properties)
-
+-- each object's properties have values of their types
 abbrev pub AreTyped : Loaded → List Object → Type 0
 AreTyped p objects = (o : ℕ) (x : Object) → slice_get objects o ≡ Some x → IsTyped p objects x
 

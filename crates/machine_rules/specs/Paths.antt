@@ -12,7 +12,7 @@ use Rattle.meta_model.specs.declared.object.MetaRoot.TheVariants.{This, Paramete
 use Rattle.meta_model.specs.declared.object.Step.{Step}
 use Rattle.meta_model.specs.declared.object.ValueType.{ValueType}
 use Rattle.meta_model.specs.declared.object.ValueType.TheVariants as kind
-use Rattle.machine_state.specs.declared.object_tree.Object.{Object}
+use Rattle.object_tree.specs.declared.object.Object.{Object}
 use Rattle.machine_state.specs.Objects.{stored}
 
 -- what a property of null reads as

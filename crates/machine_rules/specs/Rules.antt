@@ -13,12 +13,13 @@ use Rattle.meta_model.specs.declared.object.MetaMethod.{MetaMethod}
 use Rattle.meta_model.specs.declared.object.MetaProperty.{MetaProperty}
 use Rattle.meta_model.specs.Loaded.{Loaded}
 use Rattle.meta_model.specs.Members.{IsClass, IsMethod}
-use Rattle.machine_state.specs.declared.object_tree.Object.{Object}
+use Rattle.object_tree.specs.declared.object.Object.{Object}
+use Rattle.object_tree.specs.Objects.{written}
 use Rattle.machine_state.specs.declared.connections.Connection.{Connection}
 use Rattle.machine_state.specs.declared.entry.Entry.{Entry}
 use Rattle.machine_state.specs.declared.entry.Entry.TheVariants as entry
-use Rattle.machine_state.specs.Connections.{next_connection}
-use Rattle.machine_state.specs.Objects.{written, shown, all_shown}
+use Rattle.machine_state.specs.Connections.{is_silent, next_used}
+use Rattle.machine_state.specs.Objects.{shown, all_shown}
 use Rattle.machine_rules.specs.Paths.{path_value, value_of, values_of}
 use Rattle.machine_state.specs.State.{State, Place, Activation, Body, Emit, Update}
 
@@ -26,10 +27,10 @@ use Rattle.machine_state.specs.State.{State, Place, Activation, Body, Emit, Upda
 abbrev pub pushed : State → Activation → List Activation → (ℕ → Entry) → State
 pushed s top below note = record s { stack = top ∷ below; trace = s.trace ++ note (length (top ∷ below)) ∷ [] }
 
--- a method of an object begins: a signal is emitted, a slot's body is called
+-- a method of an object begins: a signal is emitted, and its entry tells whether it calls nothing; a slot's body is called
 abbrev pub begun : State → List Activation → ℕ → Object → ℕ → MetaMethod → List Value → Work → State
 begun s below o x m method arguments Signal =
-    pushed s (Emit o m arguments 0 s.connected) below (λ d. entry.Emitted d x.name method.sig.name (all_shown s.objects arguments))
+    pushed s (Emit o m arguments 0 s.connected) below (λ d. entry.Emitted d x.name method.sig.name (all_shown s.objects arguments) (is_silent x m))
 begun s below o x m method arguments (Slot statements) =
     pushed s (Body o m arguments statements) below (λ d. entry.Called d x.name method.sig.name (all_shown s.objects arguments))
 
@@ -61,7 +62,7 @@ pub record Writes (p : Loaded) (s : State) (below : List Activation) (o q : ℕ)
   pub is_old : slice_get object.values q ≡ Some old
   pub places : List Place
   pub notified : IsNotified old new (record { object = o; property = q }) property.notify places
-  pub gives : t ≡ pushed (record s { objects = slice_set s.objects o (written object q new) }) (Update places) below
+  pub gives : t ≡ pushed (record s { objects = slice_set s.objects o (written q new object) }) (Update places) below
       (λ d. entry.Written d object.name property.name (shown s.objects new))
 
 -- the notify signal of a property is emitted, with its present value if the signal has a parameter
@@ -138,7 +139,7 @@ pub record Uses (p : Loaded) (s : State) (below : List Activation) (c : Connecti
   pub is_method : IsMethod p receiver.class c.method method
   pub gives : t ≡ begun s below c.receiver receiver c.method method (take (length method.kinds) arguments) method.work
 
--- the next connection is used; with none left the emission ends
+-- the next connection is used; with none left, and where the object is blocked, the emission ends
 abbrev pub EmitRule : Loaded → State → ℕ → ℕ → List Value → ℕ → List Activation → State → Option Connection → Type 0
 EmitRule p s o g arguments last below t None = t ≡ record s { stack = below }
 EmitRule p s o g arguments last below t (Some c) = Uses p s (Emit o g arguments c.number last ∷ below) c arguments t
@@ -148,7 +149,7 @@ EmitRule p s o g arguments last below t (Some c) = Uses p s (Emit o g arguments 
 abbrev pub RuleAt : Loaded → State → State → List Activation → Type 0
 RuleAt p s t [] = ⊥
 RuleAt p s t (Body o m arguments left ∷ below) = BodyRule p s o m arguments below t left
-RuleAt p s t (Emit o g arguments used last ∷ below) = EmitRule p s o g arguments last below t (next_connection s.connections o g used last)
+RuleAt p s t (Emit o g arguments used last ∷ below) = EmitRule p s o g arguments last below t (next_used s.objects s.connections o g used last)
 RuleAt p s t (Update places ∷ below) = UpdateRule p s below t places
 
 -- t follows s by the rule of the activation on top

@@ -7,7 +7,7 @@ use Rattle.meta_model.specs.declared.object.ValueType.{ValueType}
 use Rattle.meta_model.specs.Loaded.{Loaded}
 use Rattle.meta_model.specs.Members.{IsMethod}
 use Rattle.machine_state.specs.declared.connections.Connection.{Connection}
-use Rattle.machine_state.specs.declared.object_tree.Object.{Object}
+use Rattle.object_tree.specs.declared.object.Object.{Object}
 use Rattle.machine_rules.specs.Good.{AreTyped}
 
 -- a connection joins a signal and a method of two objects that are there, and the method fits the signal

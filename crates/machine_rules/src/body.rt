@@ -13,7 +13,7 @@ use crate::paths::Scope;
 use crate::setting::Setting;
 use machine_state::{Entry, Fault, World};
 use meta_objects::{MetaPath, Statement};
-use signatures::Value;
+use signatures::{ObjectId, Value};
 use slot_lang::Expr;
 
 impl Setting {
@@ -23,7 +23,7 @@ impl Setting {
         &self,
         world: &mut World,
         height: usize,
-        object: usize,
+        object: ObjectId,
         method: usize,
         arguments: &[Value],
         statements: &[Statement],
@@ -42,7 +42,7 @@ impl Setting {
         &self,
         world: &mut World,
         height: usize,
-        object: usize,
+        object: ObjectId,
         arguments: &[Value],
         statements: &[Statement],
     ) -> Result<(), Fault>
@@ -62,7 +62,7 @@ impl Setting {
         &self,
         world: &mut World,
         height: usize,
-        object: usize,
+        object: ObjectId,
         arguments: &[Value],
         statement: &Statement,
     ) -> Result<(), Fault>
@@ -101,7 +101,7 @@ impl Setting {
         &self,
         world: &mut World,
         height: usize,
-        object: usize,
+        object: ObjectId,
         arguments: &[Value],
         path: &MetaPath,
         property: usize,
@@ -126,7 +126,7 @@ impl Setting {
         &self,
         world: &mut World,
         height: usize,
-        object: usize,
+        object: ObjectId,
         arguments: &[Value],
         signal: usize,
         given: &[Expr<MetaPath>],
@@ -146,7 +146,7 @@ impl Setting {
         &self,
         world: &mut World,
         height: usize,
-        object: usize,
+        object: ObjectId,
         arguments: &[Value],
         path: &MetaPath,
         method: usize,
@@ -171,7 +171,7 @@ impl Setting {
         &self,
         world: &mut World,
         height: usize,
-        object: usize,
+        object: ObjectId,
         arguments: &[Value],
         condition: &Expr<MetaPath>,
         block: &[Statement],
@@ -189,7 +189,7 @@ impl Setting {
     }
 
     /// What a body of this object reads.
-    fn scope<'w>(&self, world: &'w World, object: usize, arguments: &'w [Value]) -> Scope<'w>
+    fn scope<'w>(&self, world: &'w World, object: ObjectId, arguments: &'w [Value]) -> Scope<'w>
         ensures objects { result.objects.now ≡ world.now.objects }
         ensures this { result.this ≡ object }
         ensures arguments { result.arguments.now ≡ arguments.now }

@@ -1,16 +1,16 @@
 //! Emissions, and the beginning of methods.
 
 ghost use Rattle.std.specs.Prelude.{◌≡◌, ℕ, ◌<◌, ◌∷◌, [], Some};
-ghost use Rattle.machine_state.specs.Connections.{next_connection};
+ghost use Rattle.machine_state.specs.Connections.{next_used};
 ghost use Rattle.machine_rules.specs.Good.{ArgumentsFit};
 ghost use Rattle.machine_rules.specs.Sound.{Sound, Joined};
 ghost use Rattle.machine_state.specs.State.{Activation, Emit};
 ghost use Rattle.machine_rules.specs.Goes.{Ends, Same, Calls, OnlyCalls};
 
 use crate::setting::{Setting, front};
-use machine_state::{Connection, Fault, World, have_types, may_nest};
+use machine_state::{Connection, Fault, World, may_nest};
 use meta_objects::Work;
-use signatures::Value;
+use signatures::{ObjectId, Value};
 
 impl Setting {
     /// Uses the connections of an emission one after the other, and ends it.
@@ -19,7 +19,7 @@ impl Setting {
         &self,
         world: &mut World,
         height: usize,
-        object: usize,
+        object: ObjectId,
         signal: usize,
         arguments: &[Value],
         last: u64,
@@ -32,9 +32,9 @@ impl Setting {
         ensures sound { Sound self.now.meta world.new.objects world.new.connections }
     {
         let mut used = 0;
-        while let Some(connection) = world.connections.next(object, signal, used, last) {
-            self.deliver(world, height, connection, arguments)?;
+        while let Some(connection) = world.next_used(object, signal, used, last) {
             used = connection.number;
+            self.deliver(world, height, connection, arguments)?;
         }
         world.tick()
     }
@@ -52,7 +52,7 @@ impl Setting {
         requires sound { Sound self.now.meta world.old.objects world.old.connections }
         requires joined { Joined self.now.meta world.old.objects connection }
         requires emitted { ArgumentsFit self.now.meta world.old.objects connection.sender connection.signal arguments.now }
-        ensures ends { (o g used last : ℕ) → next_connection world.old.connections o g used last ≡ Some connection → Ends self.now.meta self.now.depth height world.old (Emit o g arguments.now used last ∷ []) world.new (Emit o g arguments.now connection.number last ∷ []) result }
+        ensures ends { (o g used last : ℕ) → next_used world.old.objects world.old.connections o g used last ≡ Some connection → Ends self.now.meta self.now.depth height world.old (Emit o g arguments.now used last ∷ []) world.new (Emit o g arguments.now connection.number last ∷ []) result }
     {
         world.is_due()?;
         let Some((_, method)) = self.member(world, connection.receiver, connection.method) else {
@@ -69,7 +69,7 @@ impl Setting {
         &self,
         world: &mut World,
         height: usize,
-        object: usize,
+        object: ObjectId,
         method: usize,
         arguments: &[Value],
     ) -> Result<(), Fault>
@@ -81,12 +81,10 @@ impl Setting {
         let Some((_, declared)) = self.member(world, object, method) else {
             return Err(Fault::BadType);
         };
-        if !have_types(
-            &self.meta,
-            &world.objects,
-            arguments,
-            declared.kinds.as_slice(),
-        ) {
+        if !world
+            .objects
+            .have_types(&self.meta, arguments, declared.kinds.as_slice())
+        {
             return Err(Fault::BadType);
         }
         self.begin(world, height, object, method, arguments)
@@ -98,7 +96,7 @@ impl Setting {
         &self,
         world: &mut World,
         height: usize,
-        object: usize,
+        object: ObjectId,
         method: usize,
         arguments: &[Value],
     ) -> Result<(), Fault>
@@ -113,7 +111,7 @@ impl Setting {
         };
         let last = world.connected;
         may_nest(self.depth, height)?;
-        let entry = self.begin_entry(world, height + 2, found, declared, arguments)?;
+        let entry = self.begin_entry(world, height + 2, found, method, declared, arguments)?;
         world.note(entry)?;
         match &declared.work {
             Work::Signal => self.run_emission(world, height + 1, object, method, arguments, last),

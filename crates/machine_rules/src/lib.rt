@@ -8,3 +8,4 @@ mod setting;
 mod update;
 
 pub use setting::Setting;
+pub use update::signal_of_change;

@@ -7,8 +7,9 @@ ghost use Rattle.machine_rules.specs.Goes.{Finds, Judges};
 ghost use Rattle.machine_rules.specs.Paths.{default, root_value, step_value, path_value, value_of, values_of};
 
 use expressions::{self, EvalFault};
-use machine_state::{Fault, Objects};
+use machine_state::stored;
 use meta_objects::{MetaPath, MetaRoot, Step, ValueType};
+use object_tree::Tree;
 use signatures::{Arguments, ObjectId, Text, Value};
 use slot_lang::Expr;
 use std::alloc::{AllocError, Global};
@@ -17,8 +18,8 @@ use std::alloc::{AllocError, Global};
 #[derive(Clone, Copy)]
 pub struct Scope<'w> {
     pub alloc: Global,
-    pub objects: &'w Objects,
-    pub this: usize,
+    pub objects: &'w Tree,
+    pub this: ObjectId,
     pub arguments: &'w [Value],
 }
 
@@ -52,11 +53,11 @@ impl<'w> Scope<'w> {
     }
 
     /// The object that a path leads to, or `None` where it leads to null; `BadType` where it leads to neither.
-    pub fn object_at(&self, path: &MetaPath) -> Result<Option<usize>, EvalFault>
+    pub fn object_at(&self, path: &MetaPath) -> Result<Option<ObjectId>, EvalFault>
         ensures { Finds (path_value self.now.objects.now self.now.this self.now.arguments.now path.now) result }
     {
         match expressions::World::value(self, path)? {
-            Value::Ref(Some(object)) => Ok(Some(object.number())),
+            Value::Ref(Some(object)) => Ok(Some(object)),
             Value::Ref(None) => Ok(None),
             _ => Err(EvalFault::BadType),
         }
@@ -77,7 +78,7 @@ impl<'w> Scope<'w> {
         ensures { Evaluates (root_value self.now.this self.now.arguments.now root) result }
     {
         match root {
-            MetaRoot::This => Ok(Value::Ref(Some(ObjectId::new(self.this)))),
+            MetaRoot::This => Ok(Value::Ref(Some(self.this))),
             MetaRoot::Parameter(place) => copy_found(self.arguments.get(place)),
         }
     }
@@ -91,9 +92,7 @@ impl<'w> Scope<'w> {
                 let value = default(self.alloc, step.kind)?;
                 Ok(value)
             }
-            Value::Ref(Some(object)) => copy_found(
-                self.objects.stored(object.number(), step.property),
-            ),
+            Value::Ref(Some(object)) => copy_found(stored(self.objects, *object, step.property)),
             _ => Err(EvalFault::BadType),
         }
     }

@@ -6,14 +6,15 @@ ghost use Rattle.meta_model.specs.declared.object.MetaProperty.{MetaProperty as 
 ghost use Rattle.meta_model.specs.Members.{IsClass};
 ghost use Rattle.meta_model.specs.declared.object.MetaObject.{MetaObject as AMetaObject};
 ghost use Rattle.meta_model.specs.Sound.{IsSoundProperty};
-ghost use Rattle.machine_state.specs.declared.object_tree.Object.{Object as AnObject};
+ghost use Rattle.object_tree.specs.declared.object.Object.{Object as AnObject};
 ghost use Rattle.machine_state.specs.declared.entry.Entry.TheVariants.{Written};
 ghost use Rattle.machine_rules.specs.Goes.{IsMember, IsField, begin_entry};
 ghost use Rattle.machine_state.specs.Objects.{shown, all_shown};
 
-use machine_state::{Entry, Natives, Object, World};
+use machine_state::{Entry, Natives, World, is_silent, show, show_all};
 use meta_objects::{Meta, MetaMethod, MetaProperty, Work};
-use signatures::Value;
+use object_tree::Object;
+use signatures::{ObjectId, Value};
 use std::alloc::{AllocError, Global};
 
 /// A program with its natives, and how deep activations may nest.
@@ -49,12 +50,12 @@ impl Setting {
     pub fn member<'s, 'w>(
         &'s self,
         world: &'w World,
-        object: usize,
+        object: ObjectId,
         method: usize,
     ) -> Option<(&'w Object, &'s MetaMethod)>
         ensures { MatchOption result ((x : AnObject) (k : AMetaMethod) → ¬ IsMember self.now.meta world.now.objects object method x k) (λ found. IsMember self.now.meta world.now.objects object method found.0.now found.1.now) }
     {
-        let Some(found) = world.objects.get(object) else {
+        let Some(found) = world.objects.object(object) else {
             return None;
         };
         let Some(declared) = self.meta.method_at(found.class, method) else {
@@ -67,13 +68,13 @@ impl Setting {
     pub fn field<'s, 'w>(
         &'s self,
         world: &'w World,
-        object: usize,
+        object: ObjectId,
         property: usize,
     ) -> Option<(&'w Object, &'s MetaProperty)>
         ensures value { MatchOption result ((x : AnObject) (k : AMetaProperty) → ¬ IsField self.now.meta world.now.objects object property x k) (λ found. IsField self.now.meta world.now.objects object property found.0.now found.1.now) }
         ensures sound { IfSome result (λ found. (class : AMetaObject) → IsClass self.now.meta found.0.now.class class → IsSoundProperty self.now.meta class found.1.now) }
     {
-        let Some(found) = world.objects.get(object) else {
+        let Some(found) = world.objects.object(object) else {
             return None;
         };
         let Some(class) = self.meta.object(found.class) else {
@@ -85,22 +86,26 @@ impl Setting {
         Some((found, declared))
     }
 
-    /// The entry of a method that begins.
+    /// The entry of a method that begins, which has this number.
     pub fn begin_entry(
         &self,
         world: &World,
         depth: usize,
         object: &Object,
+        number: usize,
         method: &MetaMethod,
         arguments: &[Value],
     ) -> Result<Entry, AllocError>
-        ensures { IfOk result (λ entry. entry ≡ begin_entry depth object.now.name method.now.sig.name (all_shown world.now.objects arguments.now) method.now.work) }
+        ensures { IfOk result (λ entry. entry ≡ begin_entry depth object.now number method.now.sig.name (all_shown world.now.objects arguments.now) method.now.work) }
     {
         let name = object.name.copy()?;
         let called = method.sig.name.copy()?;
-        let given = world.objects.show_all(self.alloc, arguments)?;
+        let given = show_all(self.alloc, &world.objects, arguments)?;
         match method.work {
-            Work::Signal => Ok(Entry::Emitted(depth, name, called, given)),
+            Work::Signal => {
+                let silent = is_silent(object, number);
+                Ok(Entry::Emitted(depth, name, called, given, silent))
+            }
             Work::Slot(_) => Ok(Entry::Called(depth, name, called, given)),
         }
     }
@@ -118,7 +123,7 @@ impl Setting {
     {
         let name = object.name.copy()?;
         let property = property.name.copy()?;
-        let shown = world.objects.show(value)?;
+        let shown = show(&world.objects, value)?;
         Ok(Entry::Written(depth, name, property, shown))
     }
 }

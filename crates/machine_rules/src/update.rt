@@ -8,8 +8,8 @@ ghost use Rattle.machine_state.specs.State.{Activation, Update};
 ghost use Rattle.machine_rules.specs.Goes.{Ends, Sets, Announces, MayAnnounce, places_of, Changes};
 
 use crate::setting::{Setting, front};
-use machine_state::{Fault, World, has_type, may_nest, same_value};
-use signatures::Value;
+use machine_state::{Fault, World, may_nest, same_value};
+use signatures::{ObjectId, Value};
 
 impl Setting {
     /// Writes a property of an object, over what is left of the activation at the top, and notifies where the value
@@ -19,7 +19,7 @@ impl Setting {
         &self,
         world: &mut World,
         height: usize,
-        object: usize,
+        object: ObjectId,
         property: usize,
         value: Value,
     ) -> Result<(), Fault>
@@ -32,7 +32,7 @@ impl Setting {
             return Err(Fault::BadType);
         };
         let changed = signal_of_change(declared.notify, found.values.get(property), &value);
-        if !has_type(&self.meta, &world.objects, &value, declared.kind) {
+        if !world.objects.has_type(&self.meta, &value, declared.kind) {
             return Err(Fault::BadType);
         }
         may_nest(self.depth, height)?;
@@ -43,11 +43,11 @@ impl Setting {
 
     /// Notifies that a property has changed, if it has and has a notify signal, and ends the update.
     #[cycle(machine)]
-    fn run_update(
+    pub fn run_update(
         &self,
         world: &mut World,
         height: usize,
-        object: usize,
+        object: ObjectId,
         property: usize,
         changed: Option<usize>,
     ) -> Result<(), Fault>
@@ -71,7 +71,7 @@ impl Setting {
         &self,
         world: &mut World,
         height: usize,
-        object: usize,
+        object: ObjectId,
         property: usize,
         signal: usize,
     ) -> Result<(), Fault>
@@ -93,8 +93,8 @@ impl Setting {
     }
 }
 
-/// The notify signal, where there is one and the new value isn't the old one.
-fn signal_of_change(notify: Option<usize>, old: Option<&Value>, new: &Value) -> Option<usize>
+/// The notify signal of a property that is written, where there is one and the new value isn't the old one.
+pub fn signal_of_change(notify: Option<usize>, old: Option<&Value>, new: &Value) -> Option<usize>
     ensures { (before : AValue) → option_copied old.entry ≡ Some before → Changes before new.now notify result }
 {
     match old {

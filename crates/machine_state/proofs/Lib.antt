@@ -1,1 +1,2 @@
-mod Types
+mod Errors
+mod Found

@@ -1,33 +1,21 @@
 -- Objects by name and number, their properties, and how values are written down (docs/machine.md, "Objects").
-use Rattle.std.specs.Prelude.{◌≡◌, ◌≢◌, ℕ, ◌<◌, List, map, Option, None, Some, slice_get, slice_set}
-use Rattle.std.specs.Option.{option_and_then, option_map}
+use Rattle.std.specs.Prelude.{◌≡◌, ◌≢◌, ℕ, ◌<◌, List, map, Option, None, Some, slice_get}
+use Rattle.std.specs.Option.{option_and_then}
 use Rattle.signatures.specs.declared.value.Value.{Value}
 use Rattle.signatures.specs.declared.value.Value.TheVariants as value
-use Rattle.machine_state.specs.declared.object_tree.Object.{Object}
+use Rattle.object_tree.specs.declared.object.Object.{Object}
 use Rattle.machine_state.specs.declared.entry.Shown.{Shown}
 use Rattle.machine_state.specs.declared.entry.Shown.TheVariants as show
 
--- the object of this name: the first, and as no name is used twice the only one
+-- the object that has or had this name: the first, and as no name is used twice the only one
 pub record IsNamed (objects : List Object) (name : List ℕ) (o : ℕ) (x : Object) : Type 0 where
   pub is : slice_get objects o ≡ Some x
   pub named : x.name ≡ name
   pub first : (k : ℕ) (y : Object) → k < o → slice_get objects k ≡ Some y → y.name ≢ name
 
--- no object ever had the name
-abbrev pub IsFree : List Object → List ℕ → Type 0
-IsFree objects name = (o : ℕ) (x : Object) → ¬ IsNamed objects name o x
-
--- the class of an object
-abbrev pub class_of : List Object → ℕ → Option ℕ
-class_of objects o = option_map (λ (x : Object). x.class) (slice_get objects o)
-
 -- the value of an object's property
 abbrev pub stored : List Object → ℕ → ℕ → Option Value
 stored objects o q = option_and_then (λ (x : Object). slice_get x.values q) (slice_get objects o)
-
--- an object with a property written
-abbrev pub written : Object → ℕ → Value → Object
-written x q v = record x { values = slice_set x.values q v }
 
 -- what of an object never changes
 pub record Shape : Type 0 where

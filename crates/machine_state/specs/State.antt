@@ -2,7 +2,7 @@
 use Rattle.std.specs.Prelude.{ℕ, List, []}
 use Rattle.signatures.specs.declared.value.Value.{Value}
 use Rattle.meta_model.specs.declared.object.Statement.{Statement}
-use Rattle.machine_state.specs.declared.object_tree.Object.{Object}
+use Rattle.object_tree.specs.declared.object.Object.{Object}
 use Rattle.machine_state.specs.declared.connections.Connection.{Connection}
 use Rattle.machine_state.specs.declared.entry.Entry.{Entry}
 

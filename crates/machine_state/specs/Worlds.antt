@@ -1,18 +1,22 @@
 -- What the world's functions do, and what a world says of the machine's state.
-use Rattle.std.specs.Prelude.{◌≡◌, ℕ, ◌+◌, ◌-◌, ◌<◌, All, List, [], ◌∷◌, ◌++◌, Result, Ok, Err, slice_set}
+use Rattle.std.specs.Prelude.{◌≡◌, ℕ, ◌+◌, ◌-◌, ◌<◌, List, [], ◌∷◌, ◌++◌, Result, Ok, Err, slice_set}
 use Rattle.signatures.specs.declared.value.Value.{Value}
-use Rattle.meta_model.specs.declared.object.MetaProperty.{MetaProperty}
 use Rattle.meta_model.specs.Loaded.{Loaded}
-use Rattle.meta_model.specs.Values.{Has}
+use Rattle.object_tree.specs.declared.fault.AdoptFault.{AdoptFault}
+use Rattle.object_tree.specs.declared.fault.AdoptFault.TheVariants as adopt
+use Rattle.object_tree.specs.declared.fault.CreateFault.{CreateFault}
+use Rattle.object_tree.specs.declared.fault.CreateFault.TheVariants as create
+use Rattle.object_tree.specs.declared.object.Object.{Object}
+use Rattle.object_tree.specs.Adopting.{MayAdopt, IsNotAdopted, IsAdopted}
+use Rattle.object_tree.specs.Creating.{IsCreated, IsNotCreated}
+use Rattle.object_tree.specs.Objects.{written}
 use Rattle.machine_state.specs.declared.entry.Entry.{Entry}
 use Rattle.machine_state.specs.declared.entry.Entry.TheVariants as entry
 use Rattle.machine_state.specs.declared.fault.Answer.{Answer}
 use Rattle.machine_state.specs.declared.fault.Answer.TheVariants as answer
 use Rattle.machine_state.specs.declared.fault.Fault.{Fault}
-use Rattle.machine_state.specs.declared.fault.Fault.TheVariants.{BadType, TooDeep, Steps, Memory, Stopped}
-use Rattle.machine_state.specs.declared.object_tree.Object.{Object}
+use Rattle.machine_state.specs.declared.fault.Fault.TheVariants.{BadType, TooDeep, Steps, Memory}
 use Rattle.machine_state.specs.declared.world.World.{World}
-use Rattle.machine_state.specs.Objects.{class_of, written}
 use Rattle.machine_state.specs.State.{State, Activation}
 
 -- a world's state with a stack
@@ -50,13 +54,16 @@ Notes w target v (Err fault) = (fault ≡ Memory) × (v ≡ w)
 
 -- a world in which a property is written, and so is this entry
 abbrev pub set_in : World → Entry → ℕ → Object → ℕ → Value → World
-set_in w entry o x q new = record (noted w entry) { objects = slice_set w.objects o (written x q new) }
+set_in w entry o x q new = record (noted w entry) { objects = slice_set w.objects o (written q new x) }
 
 -- ---- events
 
--- a world after an accepted event, and after a refused one
+-- a world after an accepted event, after one that also writes this entry down, and after a refused one
 abbrev pub accepted : World → World
 accepted w = record w { left = w.left - 1; events = w.events + 1; trace = w.trace ++ entry.Accepted (w.events + 1) ∷ [] }
+
+abbrev pub accepted_with : World → Entry → World
+accepted_with w entry = record (accepted w) { trace = (accepted w).trace ++ entry ∷ [] }
 
 abbrev pub refused : World → ℕ → World
 refused w k = record w { left = w.left - 1; events = w.events + 1; trace = w.trace ++ entry.Refused (w.events + 1) k ∷ [] }
@@ -71,16 +78,42 @@ abbrev pub Refuses : World → ℕ → World → Result Answer Fault → Type 0
 Refuses w k v (Ok a) = (a ≡ answer.Refused k) × (v ≡ refused w k)
 Refuses w k v (Err fault) = (fault ≡ Memory) × (v ≡ w)
 
--- each property has at first a value of its type, for these objects
-abbrev pub BeginWell : Loaded → List Object → List MetaProperty → Type 0
-BeginWell p objects properties = All (λ (q : MetaProperty). Has p (class_of objects) q.initial q.kind) properties
+-- the world stopped here, and nothing changed
+pub record Halts (w : World) (fault : Fault) (v : World) (result : Result Answer Fault) : Type 0 where
+  pub answers : result ≡ Err fault
+  pub same : v ≡ w
 
--- an object whose class has these properties was added where it begins well; nothing changed where it doesn't, and
--- where memory was refused
-abbrev pub Adds : Loaded → World → Object → List MetaProperty → World → Result (Unit {0}) Fault → Type 0
-Adds p w x properties v (Ok done) = BeginWell p (w.objects ++ x ∷ []) properties × (v ≡ record (accepted w) { objects = w.objects ++ x ∷ [] })
-Adds p w x properties v (Err BadType) = (¬ BeginWell p (w.objects ++ x ∷ []) properties) × (v ≡ w)
-Adds p w x properties v (Err Memory) = v ≡ w
-Adds p w x properties v (Err TooDeep) = ⊥
-Adds p w x properties v (Err Steps) = ⊥
-Adds p w x properties v (Err Stopped) = ⊥
+-- what becomes of an event whose object isn't created for this reason
+abbrev pub RefusesCreation : World → CreateFault → World → Result Answer Fault → Type 0
+RefusesCreation w create.NameUsed v result = Refuses w 30 v result
+RefusesCreation w create.NoClass v result = Refuses w 33 v result
+RefusesCreation w create.TooMany v result = Refuses w 37 v result
+RefusesCreation w create.BadType v result = Halts w BadType v result
+RefusesCreation w create.Memory v result = Halts w Memory v result
+
+-- the loop `main` is the first
+abbrev pub main : ℕ
+main = 0
+
+-- what becomes of an event that creates an object
+pub data Creates (p : Loaded) (w : World) (name class : List ℕ) (v : World) : Result Answer Fault → Type 0 where
+  created : {o : ℕ} {objects : List Object} → IsCreated p w.objects name class main o objects
+      → v ≡ record (accepted w) { objects = objects } → Creates p w name class v (Ok answer.Done)
+  not_created : {fault : CreateFault} {result : Result Answer Fault} → IsNotCreated p w.objects name class fault
+      → RefusesCreation w fault v result → Creates p w name class v result
+  creates_short : {result : Result Answer Fault} → Halts w Memory v result → Creates p w name class v result
+
+-- what becomes of an event whose object isn't adopted for this reason
+abbrev pub RefusesAdoption : World → AdoptFault → World → Result Answer Fault → Type 0
+RefusesAdoption w adopt.NotOwned v result = Refuses w 34 v result
+RefusesAdoption w adopt.Cycle v result = Refuses w 35 v result
+RefusesAdoption w adopt.OtherLoop v result = Refuses w 36 v result
+RefusesAdoption w adopt.Memory v result = Halts w Memory v result
+
+-- what becomes of an event that gives object c, which is y, the parent a, which is x
+pub data Adopts (p : Loaded) (w : World) (a c : ℕ) (x y : Object) (v : World) : Result Answer Fault → Type 0 where
+  adopted : {objects : List Object} → MayAdopt p w.objects a c x y → IsAdopted a c y w.objects objects
+      → v ≡ record (accepted w) { objects = objects } → Adopts p w a c x y v (Ok answer.Done)
+  not_adopted : {fault : AdoptFault} {result : Result Answer Fault} → IsNotAdopted p w.objects a c x y fault
+      → RefusesAdoption w fault v result → Adopts p w a c x y v result
+  adopts_short : {result : Result Answer Fault} → Halts w Memory v result → Adopts p w a c x y v result

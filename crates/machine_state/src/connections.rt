@@ -4,7 +4,7 @@ ghost use Rattle.std.specs.Prelude.{◌≡◌, [], ◌∷◌, ◌++◌, ◌<◌,
 ghost use Rattle.machine_state.specs.Connections.{next_connection, is_next};
 ghost use Rattle.machine_state.specs.declared.connections.Connection.{Connection as AConnection};
 
-use signatures::Kind;
+use signatures::{Kind, ObjectId};
 use std::alloc::{AllocError, Global};
 use std::marker::Model;
 
@@ -13,12 +13,12 @@ use std::marker::Model;
 pub struct Connection {
     /// Its number, from 1 on.
     pub number: u64,
-    /// The sender's creation number.
-    pub sender: usize,
+    /// The object whose signal is connected.
+    pub sender: ObjectId,
     /// The signal's number in the sender's class.
     pub signal: usize,
-    /// The receiver's creation number.
-    pub receiver: usize,
+    /// The object whose method is called.
+    pub receiver: ObjectId,
     /// The method's number in the receiver's class.
     pub method: usize,
     /// How it reaches its receiver.
@@ -28,12 +28,12 @@ pub struct Connection {
 /// The numbers of a connection's objects and methods, and its kind.
 #[derive(Clone, Copy)]
 pub struct Joint {
-    /// The sender's creation number.
-    pub sender: usize,
+    /// The object whose signal is connected.
+    pub sender: ObjectId,
     /// The signal's number in the sender's class.
     pub signal: usize,
-    /// The receiver's creation number.
-    pub receiver: usize,
+    /// The object whose method is called.
+    pub receiver: ObjectId,
     /// The method's number in the receiver's class.
     pub method: usize,
     /// How the connection reaches its receiver.
@@ -82,7 +82,7 @@ impl Connections {
     }
 
     /// The first connection of this sender and signal that is numbered above `used`, and not above `last`.
-    pub fn next(&self, sender: usize, signal: usize, used: u64, last: u64) -> Option<Connection>
+    pub fn next(&self, sender: ObjectId, signal: usize, used: u64, last: u64) -> Option<Connection>
         ensures value { result ≡ next_connection self.now sender signal used last }
         ensures within { IfSome result (λ c. (used < c.number) × (c.number ≤ last)) }
     {
@@ -93,7 +93,7 @@ impl Connections {
 /// The first of these connections that comes next.
 fn first_next(
     connections: &[Connection],
-    sender: usize,
+    sender: ObjectId,
     signal: usize,
     used: u64,
     last: u64,
@@ -110,7 +110,7 @@ fn first_next(
 }
 
 /// Whether a connection of this sender and signal is numbered above `used`, and not above `last`.
-fn is_next(sender: usize, signal: usize, used: u64, last: u64, c: &Connection) -> bool
+fn is_next(sender: ObjectId, signal: usize, used: u64, last: u64, c: &Connection) -> bool
     ensures { result ≡ is_next sender signal used last c.now }
 {
     (c.sender == sender && c.signal == signal) && (used < c.number && c.number <= last)

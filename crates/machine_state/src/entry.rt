@@ -30,8 +30,9 @@ pub enum Entry {
     Accepted(u64),
     /// The event of this number was refused for the reason of this number.
     Refused(u64, u8),
-    /// At a depth, a signal of an object is emitted with these arguments.
-    Emitted(usize, Name, Name, Items<Shown>),
+    /// At a depth, a signal of an object is emitted with these arguments; whether it calls nothing, since the object is
+    /// blocked.
+    Emitted(usize, Name, Name, Items<Shown>, bool),
     /// At a depth, a slot of an object is called with these arguments.
     Called(usize, Name, Name, Items<Shown>),
     /// At a depth, a property of an object is written.

@@ -1,21 +1,27 @@
 //! All of the machine's state but the stack.
 
-ghost use Rattle.std.specs.Prelude.{◌≡◌, [], ◌<◌, length, slice_get, Some};
+ghost use Rattle.std.specs.Prelude.{◌≡◌, [], ◌<◌, ◌≤◌, length, slice_get, Some, IfSome, IsTrue, MatchOption};
+ghost use Rattle.object_tree.specs.Objects.{IsFree};
+ghost use Rattle.object_tree.specs.declared.object.Object.{Object as AnObject};
+ghost use Rattle.machine_state.specs.Connections.{next_used, silences, is_silent};
+ghost use Rattle.machine_state.specs.Objects.{IsNamed};
 ghost use Rattle.machine_state.specs.Worlds.{Ticks, IsLeft, MayNest, Notes, noted, set_in};
-ghost use Rattle.machine_state.specs.declared.object_tree.Object.{Object as AnObject};
 
-use crate::connections::Connections;
+use crate::connections::{Connection, Connections};
 use crate::entry::{Entry, Trace};
 use crate::fault::Fault;
-use crate::object_tree::Objects;
-use signatures::Value;
+use object_tree::{Object, Tree};
+use signatures::{Name, ObjectId, Value};
 use std::alloc::Global;
+
+/// The number of the signal `destroyed` in every class.
+const DESTROYED: usize = 0;
 
 /// All of a machine's state but the stack, and how many rules are left.
 #[derive(Drop)]
 pub struct World {
-    /// The objects in the order of their creation.
-    pub objects: Objects,
+    /// The objects, and who is whose parent.
+    pub objects: Tree,
     /// The connections in the order in which they were made.
     pub connections: Connections,
     /// What was written down so far.
@@ -34,12 +40,48 @@ impl World {
         ensures { result ≡ record { objects = []; connections = []; trace = []; events = 0; connected = 0; left = steps } }
     {
         World {
-            objects: Objects::new(alloc),
+            objects: Tree::new(alloc),
             connections: Connections::new(alloc),
             trace: Trace::new(alloc),
             events: 0,
             connected: 0,
             left: steps,
+        }
+    }
+
+    /// The number of the object that has or had this name.
+    pub fn find(&self, name: &Name) -> Option<ObjectId>
+        ensures { MatchOption result (IsFree self.now.objects name.now) (λ o. (x : AnObject) × IsNamed self.now.objects name.now o x) }
+    {
+        self.objects.find(name)
+    }
+
+    /// The connection that an emission uses next: the first of this sender and signal that is numbered above `used`, and
+    /// not above `last`; none where the sender is blocked, unless the signal is `destroyed`.
+    pub fn next_used(
+        &self,
+        sender: ObjectId,
+        signal: usize,
+        used: u64,
+        last: u64,
+    ) -> Option<Connection>
+        ensures value { result ≡ next_used self.now.objects self.now.connections sender signal used last }
+        ensures within { IfSome result (λ c. (used < c.number) × (c.number ≤ last)) }
+    {
+        if self.is_silent(sender, signal) {
+            None
+        } else {
+            self.connections.next(sender, signal, used, last)
+        }
+    }
+
+    /// Whether an emission of this signal calls nothing, since the sender is blocked.
+    fn is_silent(&self, sender: ObjectId, signal: usize) -> bool
+        ensures { result ≡ silences (slice_get self.now.objects sender) signal }
+    {
+        match self.objects.object(sender) {
+            Some(object) => is_silent(object, signal),
+            None => false,
         }
     }
 
@@ -79,18 +121,24 @@ impl World {
     pub fn write(
         &mut self,
         entry: Entry,
-        object: usize,
+        object: ObjectId,
         property: usize,
         value: Value,
     ) -> Result<(), Fault>
         requires left { 0 < self.old.left }
-        requires there { object < length self.old.objects }
         ensures { (x : AnObject) → slice_get self.old.objects object ≡ Some x → Notes self.old (set_in self.old entry object x property value) self.new result }
     {
         self.note(entry)?;
-        self.objects.set(object, property, value);
+        self.objects.set_value(object, property, value);
         Ok(())
     }
+}
+
+/// Whether an emission of this signal calls nothing, since its object is blocked; `destroyed` always calls.
+pub fn is_silent(object: &Object, signal: usize) -> bool
+    ensures { result ≡ is_silent object.now signal }
+{
+    object.blocked && signal != DESTROYED
 }
 
 /// Whether an activation may stand over the one that stands over `height` others.

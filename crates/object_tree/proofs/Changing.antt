@@ -3,7 +3,7 @@ use Rattle.std.proofs.Common.{◌≡◌, ◌≢◌, ℕ, zero, suc, ◌<◌, ◌
 use Rattle.std.specs.Prelude.{slice_get, slice_set}
 use Rattle.std.specs.Option.{option_map}
 use Rattle.object_tree.specs.declared.object.Object.{Object}
-use Rattle.object_tree.specs.Objects.{change}
+use Rattle.object_tree.specs.Objects.{change, class_of, class_with}
 
 -- a write to a place that is there
 pub change-set : (n : ℕ) (f : Object → Object) (xs : List Object) (d : Object) → n < length xs → slice_set xs n (f (get_or xs n d)) ≡ change n f xs
@@ -45,3 +45,17 @@ part-change part (suc n) (suc k) f (x ∷ xs) h = part-change part n k f xs h
 pub set-changes : (xs : List Object) (m n : ℕ) (f : Object → Object) (x : Object) → m ≡ n → x ≡ get_or xs m x → m < length xs → slice_set xs m (f x) ≡ change n f xs
 set-changes xs m n f x same value within =
     ap (λ (y : Object). slice_set xs m (f y)) value ∙ change-set m f xs x within ∙ ap (λ (k : ℕ). change k f xs) same
+
+-- ---- the class of a new object
+
+pub class-last : (xs : List Object) (class o : ℕ) → o ≡ length xs → class_with xs class o ≡ Some class
+class-last [] class zero e = refl
+class-last [] class (suc o) e = absurd (omega (arith, e))
+class-last (x ∷ xs) class zero e = absurd (omega (arith, e))
+class-last (x ∷ xs) class (suc o) e = class-last xs class o (omega (arith, e))
+
+pub class-before : (xs : List Object) (class o : ℕ) → o ≢ length xs → class_of xs o ≡ class_with xs class o
+class-before [] class zero e = absurd (e refl)
+class-before [] class (suc o) e = refl
+class-before (x ∷ xs) class zero e = refl
+class-before (x ∷ xs) class (suc o) e = class-before xs class o (λ same. e (ap suc same))

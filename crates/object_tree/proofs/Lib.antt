@@ -5,3 +5,4 @@ pub mod Above
 pub mod Families
 pub mod TypedObjects
 pub mod Keeping
+mod Types

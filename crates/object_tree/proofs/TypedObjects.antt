@@ -1,6 +1,8 @@
 -- Objects whose properties have values of their types, after a change.
 use Rattle.std.proofs.Common.{◌≡◌, ◌≢◌, ⊎_elim, ◌⊎◌, inl, inr, ℕ, zero, suc, Bool, true, false, List, [], ◌∷◌, ◌++◌, length, map, All, Option, None, Some, refl, sym, ap, ◌∙◌, subst, arith}
 use Rattle.std.specs.Prelude.{slice_get, slice_set}
+use Rattle.std.specs.List.{AllByRecursion}
+use Rattle.std.proofs.lemmas.List.Elements.{All-from_recursion}
 use Rattle.std.specs.Option.{option_map}
 use Rattle.std.proofs.lemmas.Bool.{cases_eq}
 use Rattle.std.proofs.lemmas.Option.{same_Some}
@@ -12,7 +14,7 @@ use Rattle.meta_model.specs.Loaded.{Loaded}
 use Rattle.meta_model.specs.Members.{IsClass}
 use Rattle.meta_model.specs.Values.{Has, number_has, truth_has, text_has, null_has, object_has, HaveTypes}
 use Rattle.object_tree.specs.declared.object.Object.{Object}
-use Rattle.object_tree.specs.Objects.{Lives, change, written, class_of}
+use Rattle.object_tree.specs.Objects.{Lives, change, written, class_of, class_with}
 use Rattle.object_tree.specs.Family.{leaves, moved, dead, without_life, parent_of}
 use Rattle.object_tree.specs.Typed.{IsTyped, AreTyped, FitsProperty}
 use Rattle.object_tree.specs.Creating.{BeginsWell, initial_values, fresh}
@@ -50,6 +52,14 @@ types-set p classes (u ∷ vs) (j ∷ ks) (suc q) v k h e has = (h.0, types-set 
 types-begin : (p : Loaded) (classes : ℕ → Option ℕ) (qs : List MetaProperty) → All (λ (q : MetaProperty). Has p classes q.initial q.kind) qs → HaveTypes p classes (map (λ (q : MetaProperty). q.initial) qs) (map (λ (q : MetaProperty). q.kind) qs)
 types-begin p classes [] h = tt
 types-begin p classes (q ∷ qs) h = (h 0 q (omega arith), types-begin p classes qs (λ k d l. h (suc k) d (omega (arith, l))))
+
+-- .. and back
+begin-types : (p : Loaded) (classes : ℕ → Option ℕ) (qs : List MetaProperty) → HaveTypes p classes (map (λ (q : MetaProperty). q.initial) qs) (map (λ (q : MetaProperty). q.kind) qs) → All (λ (q : MetaProperty). Has p classes q.initial q.kind) qs
+begin-types p classes qs h = All-from_recursion (λ (q : MetaProperty). Has p classes q.initial q.kind) qs (each qs h)
+  where
+    each : (rs : List MetaProperty) → HaveTypes p classes (map (λ (q : MetaProperty). q.initial) rs) (map (λ (q : MetaProperty). q.kind) rs) → AllByRecursion (λ (q : MetaProperty). Has p classes q.initial q.kind) rs
+    each [] g = tt
+    each (r ∷ rs) g = (g.0, each rs g.1)
 
 -- ---- objects
 
@@ -177,19 +187,42 @@ get-appended (y ∷ xs) z x (suc o) e = ⊎_elim
     (λ (last : (o ≡ length xs) × (z ≡ x)). inr (ap suc last.0, last.1))
     (get-appended xs z x o e)
 
-pub typed-created : (p : Loaded) (objects : List Object) (name : List ℕ) (number home : ℕ) (class : MetaObject) → IsClass p number class → BeginsWell p objects class → AreTyped p objects → AreTyped p (objects ++ fresh name number home (initial_values class) ∷ [])
-typed-created p objects name number home class is begins all o x lives = ⊎_elim
-    (λ (old : slice_get objects o ≡ Some x). typed-still p objects (objects ++ fresh name number home (initial_values class) ∷ []) x x classes refl refl (all o x (record { is = old; alive = lives.alive })))
-    (λ (last : (o ≡ length objects) × (fresh name number home (initial_values class) ≡ x)). subst (λ (w : Object). IsTyped p (objects ++ fresh name number home (initial_values class) ∷ []) w) last.1 (record {
-      class = class;
-      is_class = is;
-      typed = types-still p (class_of objects) (class_of (objects ++ fresh name number home (initial_values class) ∷ [])) classes (initial_values class) (map (λ (q : MetaProperty). q.kind) class.properties) (types-begin p (class_of objects) class.properties begins);
-    }))
-    (get-appended objects (fresh name number home (initial_values class)) x o lives.is)
-  where
-    classes : (j c : ℕ) → class_of objects j ≡ Some c → class_of (objects ++ fresh name number home (initial_values class) ∷ []) j ≡ Some c
-    classes j c e = by_object (slice_get objects j) refl e
-      where
-        by_object : (there : Option Object) → slice_get objects j ≡ there → option_map (λ (w : Object). w.class) there ≡ Some c → option_map (λ (w : Object). w.class) (slice_get (objects ++ fresh name number home (initial_values class) ∷ []) j) ≡ Some c
-        by_object None there f = absurd (cc f)
-        by_object (Some y) there f = ap (option_map (λ (w : Object). w.class)) (get-front objects (fresh name number home (initial_values class)) y j there) ∙ f
+-- .. with its class, whatever its other parts are
+class-appended : (xs : List Object) (z : Object) (o : ℕ) → class_of (xs ++ z ∷ []) o ≡ class_with xs z.class o
+class-appended [] z zero = refl
+class-appended [] z (suc o) = refl
+class-appended (x ∷ xs) z zero = refl
+class-appended (x ∷ xs) z (suc o) = class-appended xs z o
+
+module _ (p : Loaded) (objects : List Object) (name : List ℕ) (number home : ℕ) (class : MetaObject) where
+  -- the new object
+  abbrev pub made : Object
+  made = fresh name number home (initial_values class)
+
+  -- it is typed exactly where it begins well
+  pub fresh-typed : IsClass p number class → BeginsWell p objects number class → IsTyped p (objects ++ made ∷ []) made
+  fresh-typed is begins = record {
+    class = class;
+    is_class = is;
+    typed = types-still p (class_with objects number) (class_of (objects ++ made ∷ [])) (λ j c e. class-appended objects made j ∙ e) (initial_values class) (map (λ (q : MetaProperty). q.kind) class.properties) (types-begin p (class_with objects number) class.properties begins);
+  }
+
+  pub typed-fresh : IsClass p number class → IsTyped p (objects ++ made ∷ []) made → BeginsWell p objects number class
+  typed-fresh is typed =
+      let same : typed.class ≡ class = same_Some _ _ (sym typed.is_class.is ∙ is.is) in
+      let Kinds : MetaObject → Type 0 = λ k. HaveTypes p (class_of (objects ++ made ∷ [])) (initial_values class) (map (λ (q : MetaProperty). q.kind) k.properties) in
+      begin-types p (class_with objects number) class.properties
+      (types-still p (class_of (objects ++ made ∷ [])) (class_with objects number) (λ j c e. sym (class-appended objects made j) ∙ e) (initial_values class) (map (λ (q : MetaProperty). q.kind) class.properties) (subst Kinds same typed.typed))
+
+  pub typed-created : IsClass p number class → BeginsWell p objects number class → AreTyped p objects → AreTyped p (objects ++ made ∷ [])
+  typed-created is begins all o x lives = ⊎_elim
+      (λ (old : slice_get objects o ≡ Some x). typed-still p objects (objects ++ made ∷ []) x x classes refl refl (all o x (record { is = old; alive = lives.alive })))
+      (λ (last : (o ≡ length objects) × (made ≡ x)). subst (λ (w : Object). IsTyped p (objects ++ made ∷ []) w) last.1 (fresh-typed is begins))
+      (get-appended objects made x o lives.is)
+    where
+      classes : (j c : ℕ) → class_of objects j ≡ Some c → class_of (objects ++ made ∷ []) j ≡ Some c
+      classes j c e = by_object (slice_get objects j) refl e
+        where
+          by_object : (there : Option Object) → slice_get objects j ≡ there → option_map (λ (w : Object). w.class) there ≡ Some c → option_map (λ (w : Object). w.class) (slice_get (objects ++ made ∷ []) j) ≡ Some c
+          by_object None there f = absurd (cc f)
+          by_object (Some y) there f = ap (option_map (λ (w : Object). w.class)) (get-front objects made y j there) ∙ f

@@ -9,15 +9,15 @@ use Rattle.meta_model.specs.Values.{Has}
 use Rattle.object_tree.specs.declared.fault.CreateFault.{CreateFault}
 use Rattle.object_tree.specs.declared.fault.CreateFault.TheVariants.{NameUsed, NoClass, TooMany, BadType, Memory}
 use Rattle.object_tree.specs.declared.object.Object.{Object}
-use Rattle.object_tree.specs.Objects.{IsNamed, IsFree, class_of}
+use Rattle.object_tree.specs.Objects.{IsNamed, IsFree, class_with}
 
 -- how many objects may be created
 abbrev pub most_objects : ℕ
 most_objects = 100000
 
--- each of the class's properties has at first a value of its type
-abbrev pub BeginsWell : Loaded → List Object → MetaObject → Type 0
-BeginsWell p objects class = All (λ (q : MetaProperty). Has p (class_of objects) q.initial q.kind) class.properties
+-- each property of a new object of this class has at first a value of its type
+abbrev pub BeginsWell : Loaded → List Object → ℕ → MetaObject → Type 0
+BeginsWell p objects number class = All (λ (q : MetaProperty). Has p (class_with objects number) q.initial q.kind) class.properties
 
 -- the values that its properties have at first
 abbrev pub initial_values : MetaObject → List Value
@@ -43,7 +43,7 @@ pub record MayCreate (p : Loaded) (objects : List Object) (name class : List ℕ
   pub named : IsClassNamed p class number
   pub is : IsClass p number kind
   pub room : length objects < most_objects
-  pub begins : BeginsWell p objects kind
+  pub begins : BeginsWell p objects number kind
 
 -- why it may not: the first of these that holds; or memory was refused
 pub data IsNotCreated (p : Loaded) (objects : List Object) (name class : List ℕ) : CreateFault → Type 0 where
@@ -52,7 +52,7 @@ pub data IsNotCreated (p : Loaded) (objects : List Object) (name class : List �
   too_many : {c : ℕ} → IsFree objects name → IsClassNamed p class c → most_objects ≤ length objects
       → IsNotCreated p objects name class TooMany
   bad_type : {c : ℕ} {kind : MetaObject} → IsFree objects name → IsClassNamed p class c → IsClass p c kind → length objects < most_objects
-      → (¬ BeginsWell p objects kind) → IsNotCreated p objects name class BadType
+      → (¬ BeginsWell p objects c kind) → IsNotCreated p objects name class BadType
   no_memory : IsNotCreated p objects name class Memory
 
 -- an object is created: it is the last one, and the others stay as they were

@@ -1,5 +1,5 @@
 -- Objects by number and name. An object's number is its place in the order of creation.
-use Rattle.std.specs.Prelude.{◌≡◌, ℕ, zero, suc, Bool, true, List, [], ◌∷◌, Option, Some, slice_get, slice_set}
+use Rattle.std.specs.Prelude.{◌≡◌, ℕ, zero, suc, Bool, true, List, [], ◌∷◌, Option, None, Some, slice_get, slice_set}
 use Rattle.std.specs.Option.{option_map}
 use Rattle.signatures.specs.declared.value.Value.{Value}
 use Rattle.object_tree.specs.declared.object.Object.{Object}
@@ -26,6 +26,13 @@ name_of objects o = option_map (λ (x : Object). x.name) (slice_get objects o)
 -- the class of an object, which may be dead
 abbrev pub class_of : List Object → ℕ → Option ℕ
 class_of objects o = option_map (λ (x : Object). x.class) (slice_get objects o)
+
+-- the classes of the objects, where one more of this class comes last
+abbrev pub class_with : List Object → ℕ → ℕ → Option ℕ
+class_with [] class zero = Some class
+class_with [] class (suc o) = None
+class_with (x ∷ xs) class zero = Some x.class
+class_with (x ∷ xs) class (suc o) = class_with xs class o
 
 -- the objects with one of them changed; a number of no object changes nothing
 abbrev pub change : ℕ → (Object → Object) → List Object → List Object

@@ -42,7 +42,7 @@ pub fn may_create<'a>(
     let Some(kind) = meta.object(number) else {
         return Err(CreateFault::NoClass);
     };
-    if begin_well(meta, objects, kind.properties.as_slice()) {
+    if begin_well(meta, objects, number, kind.properties.as_slice()) {
         Ok((number, kind))
     } else {
         Err(CreateFault::BadType)

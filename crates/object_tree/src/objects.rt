@@ -2,7 +2,7 @@
 
 ghost use Rattle.std.specs.Prelude.{◌≡◌, [], ◌∷◌, ◌++◌, ◌<◌, length, slice_get, OnOk, OnErr, Some};
 ghost use Rattle.std.specs.Option.{option_copied};
-ghost use Rattle.object_tree.specs.Objects.{name_of, class_of, change, blocked, scheduled, written};
+ghost use Rattle.object_tree.specs.Objects.{name_of, class_of, class_with, change, blocked, scheduled, written};
 ghost use Rattle.object_tree.specs.Family.{parent_of, children_of, joined_by, left_by, leaves, put_under, moved, dead, without_life};
 ghost use Rattle.object_tree.specs.declared.object.Object.{Object as AnObject};
 
@@ -67,6 +67,17 @@ impl Objects {
         match self.get(object) {
             Some(found) => Some(found.class),
             None => None,
+        }
+    }
+
+    /// The class of an object, where one more of the class `new` comes last.
+    pub fn class_with(&self, object: ObjectId, new: usize) -> Option<usize>
+        ensures { result ≡ class_with self.now new object }
+    {
+        if object.number() == self.len() {
+            Some(new)
+        } else {
+            self.class(object)
         }
     }
 

@@ -1,11 +1,12 @@
-ghost use Rattle.std.specs.Prelude.{◌≡◌, [], length, slice_get, OnErr, IfSome, MatchOption};
+ghost use Rattle.std.specs.Prelude.{◌≡◌, [], ◌↔◌, length, slice_get, IsTrue, OnErr, IfSome, MatchOption};
 ghost use Rattle.std.specs.Option.{option_copied};
 ghost use Rattle.meta_model.specs.Loaded.{Loaded};
+ghost use Rattle.meta_model.specs.Values.{Has, HaveTypes};
 ghost use Rattle.object_tree.specs.Adopting.{Adopts};
 ghost use Rattle.object_tree.specs.Creating.{Creates};
 ghost use Rattle.object_tree.specs.Family.{IsChild, children_of, without_life};
 ghost use Rattle.object_tree.specs.Forest.{Forest};
-ghost use Rattle.object_tree.specs.Objects.{Lives, IsNamed, IsFree, name_of, change, blocked, scheduled, written};
+ghost use Rattle.object_tree.specs.Objects.{Lives, IsNamed, IsFree, name_of, class_of, change, blocked, scheduled, written};
 ghost use Rattle.object_tree.specs.Typed.{AreTyped, FitsProperty};
 ghost use Rattle.object_tree.specs.declared.object.Object.{Object as AnObject};
 
@@ -14,7 +15,8 @@ use crate::creation::{add, may_create, new_object};
 use crate::fault::{AdoptFault, CreateFault};
 use crate::object::Object;
 use crate::objects::Objects;
-use meta_objects::Meta;
+use crate::typing::{has_type, have_types};
+use meta_objects::{Meta, ValueType};
 use name_index::NameIndex;
 use signatures::{LoopId, Name, ObjectId, Value};
 use std::alloc::Global;
@@ -77,6 +79,27 @@ impl Tree {
     {
         let found = self.objects.get(object)?;
         if found.alive { Some(found) } else { None }
+    }
+
+    /// An object with all its parts, which may be dead, or `None` where no object has the number.
+    pub fn object(&self, object: ObjectId) -> Option<&Object>
+        ensures { option_copied result ≡ slice_get self.now object }
+    {
+        self.objects.get(object)
+    }
+
+    /// Whether the value is of the type; a reference refers to one of these objects.
+    pub fn has_type(&self, meta: &Meta, value: &Value, kind: ValueType) -> bool
+        ensures { IsTrue result ↔ Has meta.now (class_of self.now) value.now kind }
+    {
+        has_type(meta, &self.objects, value, kind)
+    }
+
+    /// Whether there are as many values as types, each of its type.
+    pub fn have_types(&self, meta: &Meta, values: &[Value], kinds: &[ValueType]) -> bool
+        ensures { IsTrue result ↔ HaveTypes meta.now (class_of self.now) values.now kinds.now }
+    {
+        have_types(meta, &self.objects, values, kinds)
     }
 
     /// The name of an object, which may be dead, or `None` where no object has the number.

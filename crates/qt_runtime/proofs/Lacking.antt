@@ -17,16 +17,16 @@ use Rattle.meta_model.specs.Sound.{IsSound, AreSound, set_sound, emit_sound, cal
 use Rattle.machine_state.specs.declared.connections.Connection.{Connection}
 use Rattle.machine_state.specs.declared.fault.Fault.{Fault}
 use Rattle.machine_state.specs.declared.fault.Fault.TheVariants.{BadType, TooDeep, Steps, Memory, Stopped}
-use Rattle.machine_state.specs.declared.object_tree.Object.{Object}
+use Rattle.object_tree.specs.declared.object.Object.{Object}
 use Rattle.machine_rules.specs.Paths.{path_value, value_of, values_of}
 use Rattle.machine_state.specs.State.{State, Place, Activation, Body, Emit, Update}
 use Rattle.machine_rules.specs.Rules.{RuleAt, StatementRule, EmitRule, UpdateRule, OnObject, Chooses, Begins, Writes, IsNotified, changed, unchanged, silent, on_null}
 use Rattle.machine_state.specs.Connections.{is_next}
-use Rattle.machine_state.specs.Connections.{next_connection}
+use Rattle.machine_state.specs.Connections.{next_used}
 use Rattle.machine_rules.specs.Runs.{IsStuck, Reason}
 use Rattle.qt_runtime.specs.Causes.{IsObject, Lacks, LacksValue, Cause}
 use Rattle.machine_rules.specs.Goes.{IsField, chosen_of}
-use Rattle.machine_rules.proofs.Beginning.{find-some}
+use Rattle.machine_rules.proofs.Beginning.{find-some, used-is}
 use Rattle.machine_rules.proofs.Fields.{old-there}
 use Rattle.qt_runtime.proofs.Inherited.{method-below, property-below}
 use Rattle.qt_runtime.proofs.Leading.{Reaches, to_null, to_object, path-reaches}
@@ -134,7 +134,7 @@ module _ {p : Loaded} {s : State} (sound : IsSound p) (up : Upright p s) where
   stack-lacks (Body o m arguments (x ∷ rest) ∷ below) e goes_on all stuck =
       record { object = o; method = m; arguments = arguments; statement = x; rest = rest; below = below; is_next = e; lacks = statement-lacks o m arguments x rest below all.0 all.0.sound stuck }
   stack-lacks (Emit o g arguments used last ∷ below) e goes_on all stuck =
-      absurd (emission-goes o g arguments last below (next_connection s.connections o g used last) (λ c found. (find-some (Delivers p s.objects) (is_next o g used last) s.connections c up.delivers found).0) stuck)
+      absurd (emission-goes o g arguments last below (next_used s.objects s.connections o g used last) (λ c found. (find-some (Delivers p s.objects) (is_next o g used last) s.connections c up.delivers (used-is s.objects s.connections o g used last c found)).0) stuck)
   stack-lacks (Update places ∷ below) e goes_on all stuck = absurd (update-goes below places all.0 stuck)
 
   -- what goes on without a next rule lacks a value

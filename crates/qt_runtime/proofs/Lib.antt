@@ -1,7 +1,12 @@
+mod Changes
+mod Conditions
 mod Typed
 mod Fitting
 mod Verdicts
+mod Asked
+mod Assigned
 mod Taken
+mod Pushed
 mod Keeping
 mod Applying
 pub mod Inherited

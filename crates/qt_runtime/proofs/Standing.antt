@@ -1,11 +1,11 @@
 -- Why what is going on goes on: its objects, members and statements are there.
-use Rattle.std.proofs.Common.{◌≡◌, ℕ, suc, ◌<◌, List, [], ◌∷◌, ◌++◌, length, map, take, true, false, Option, Some, None, slice_get, slice_set, refl, sym, ap, ◌∙◌, subst, arith}
+use Rattle.std.proofs.Common.{◌≡◌, ℕ, suc, ◌<◌, List, [], ◌∷◌, ◌++◌, length, take, true, false, Option, Some, None, slice_get, slice_set, refl, sym, ap, ◌∙◌, subst, arith}
 use Rattle.std.specs.List.{AllByRecursion}
 use Rattle.signatures.specs.declared.value.Value.{Value}
 use Rattle.signatures.specs.declared.value.Value.TheVariants as value
 use Rattle.slot_lang.specs.declared.syntax.Expr.{Expr}
 use Rattle.script_lang.specs.declared.event.Event.{Event}
-use Rattle.script_lang.specs.declared.event.Event.TheVariants.{New, Connect, Emit as EmitEvent}
+use Rattle.script_lang.specs.declared.event.Event.TheVariants.{New, Adopt, Connect, Set, Emit as EmitEvent, Call as CallEvent, Block, Unblock}
 use Rattle.meta_model.specs.declared.object.MetaMethod.{MetaMethod}
 use Rattle.meta_model.specs.declared.object.MetaPath.{MetaPath}
 use Rattle.meta_model.specs.declared.object.MetaProperty.{MetaProperty}
@@ -19,20 +19,24 @@ use Rattle.meta_model.specs.Members.{IsClass, IsMethod, Below}
 use Rattle.meta_model.specs.Sound.{IsSound, IsSoundWork, IsSoundBody, AreSound, none_sound, set_sound, emit_sound, call_sound, if_sound}
 use Rattle.meta_model.specs.Values.{HaveTypes}
 use Rattle.machine_state.specs.declared.connections.Connection.{Connection}
-use Rattle.machine_state.specs.declared.object_tree.Object.{Object}
-use Rattle.machine_state.specs.Objects.{Shape, shapes_of, class_of, written}
+use Rattle.object_tree.specs.declared.object.Object.{Object}
+use Rattle.object_tree.specs.Creating.{fresh, initial_values}
+use Rattle.object_tree.specs.Objects.{class_of, written, change, blocked}
+use Rattle.machine_state.specs.Objects.{Shape, shape_of, shapes_of}
+use Rattle.machine_state.specs.Worlds.{main}
 use Rattle.machine_rules.specs.Paths.{path_value, value_of, values_of}
 use Rattle.machine_state.specs.State.{State, Place, Activation, Body, Emit, Update}
 use Rattle.machine_rules.specs.Rules.{Rule, RuleAt, BodyRule, StatementRule, EmitRule, UpdateRule, Chooses, Begins, Writes, IsNotified, changed, unchanged, silent, begun, on_null}
-use Rattle.machine_state.specs.Connections.{next_connection}
+use Rattle.machine_state.specs.Connections.{next_used}
 use Rattle.machine_rules.specs.Events.{Takes, accepts, refuses, Effect, accepted}
 use Rattle.machine_rules.specs.Good.{AreTyped, ArgumentsFit, TopFits, IsWell}
 use Rattle.machine_rules.specs.Runs.{Runs, done, then, Follows, by_rule, by_event}
 use Rattle.machine_rules.specs.Sound.{Joined}
 use Rattle.machine_rules.specs.Goes.{IsField}
 use Rattle.machine_rules.proofs.Fields.{some-is, method-unique, field-written}
+use Rattle.qt_runtime.proofs.Changes.{map-change, map-adopted}
 use Rattle.qt_runtime.proofs.Keeping.{all-snoc, all-weaken}
-use Rattle.machine_rules.proofs.Keeps.{on-object, rule-kept}
+use Rattle.machine_rules.proofs.Keeps.{Kept, on-object, rule-kept, begins-kept, writes-kept}
 use Rattle.machine_rules.proofs.Shapes.{shape-there, shape-of-there, classes-same, shapes-written}
 use Rattle.qt_runtime.proofs.Typed.{get-append}
 
@@ -179,7 +183,7 @@ module _ {p : Loaded} {s t : State} (sound : IsSound p) (well : IsWell p s t) wh
 
   writes-stands : {below : List Activation} {o q : ℕ} {new : Value} → Writes p s below o q new t → AllByRecursion (Stands p s.objects) below → AllStand p t
   writes-stands {below} {o} {q} {new} w lower =
-      let after : List Object = slice_set s.objects o (written w.object q new) in
+      let after : List Object = slice_set s.objects o (written q new w.object) in
       let field : IsField p s.objects o q w.object w.property = record { is_object = w.is_object; class = w.class; is_class = w.is_class; is_property = w.is_property } in
       let places : AllByRecursion (PlaceStands p after) w.places = notified-stands (field-written new field) refl w.notified in
       let Family : State → Type 0 = λ u. AllStand p u in
@@ -242,18 +246,21 @@ module _ {p : Loaded} {s t : State} (sound : IsSound p) (well : IsWell p s t) wh
   rule-stands : (stack : List Activation) → AllByRecursion (Stands p s.objects) stack → length s.stack ≡ length stack → RuleAt p s t stack → AllStand p t
   rule-stands [] all high r = absurd r
   rule-stands (Body o m arguments left ∷ below) all high r = body-stands o m arguments below left all.0 all.0.sound all.1 high r
-  rule-stands (Emit o g arguments used last ∷ below) all high r = emission-stands o g arguments last below (next_connection s.connections o g used last) all.1 high r
+  rule-stands (Emit o g arguments used last ∷ below) all high r = emission-stands o g arguments last below (next_used s.objects s.connections o g used last) all.1 high r
   rule-stands (Update places ∷ below) all high r = update-stands below places all.0 all.1 r
 
-  rule-upright : Upright p s → Rule p s t → Upright p t
-  rule-upright up r =
-      let kept = rule-kept p s t s.stack r in
+  -- objects keep their shapes and connections stay: what is going on stands where the stack does
+  kept-upright : Upright p s → Kept s t → AllStand p t → Upright p t
+  kept-upright up kept stands =
       let Made : List Connection → Type 0 = λ l. AllByRecursion (Delivers p t.objects) l in
       record {
         typed = well.values;
         delivers = subst Made (sym kept.connections) (all-weaken (Delivers p s.objects) (Delivers p t.objects) s.connections (delivers-still s.objects t.objects kept.objects) up.delivers);
-        stands = rule-stands s.stack up.stands refl r;
+        stands = stands;
       }
+
+  rule-upright : Upright p s → Rule p s t → Upright p t
+  rule-upright up r = kept-upright up (rule-kept p s t s.stack r) (rule-stands s.stack up.stands refl r)
 
 -- ---- events
 
@@ -267,17 +274,46 @@ idle p objects stack empty = let Family : List Activation → Type 0 = λ l. All
 abbrev AllDeliver : Loaded → State → Type 0
 AllDeliver p s = AllByRecursion (Delivers p s.objects) s.connections
 
-effect-upright : {p : Loaded} {s t : State} (e : Event) → s.stack ≡ [] → Upright p s → Effect p (accepted s) e t → IsWell p s t → Upright p t
-effect-upright {p} {s} (New name class) empty up x well =
+-- objects change, and none its name or class
+changed-upright : {p : Loaded} {s t : State} (objects : List Object) → s.stack ≡ [] → Upright p s → IsWell p s t → shapes_of objects ≡ shapes_of s.objects → t ≡ record (accepted s) { objects = objects } → Upright p t
+changed-upright {p} {s} objects empty up well same gives =
     let Made : State → Type 0 = λ u. AllDeliver p u in
     let Standing : State → Type 0 = λ u. AllStand p u in
-    let created : Object = record { name = name; class = x.c; values = map (λ (q : MetaProperty). q.initial) x.is_class.class.properties } in
+    record {
+      typed = well.values;
+      delivers = subst Made (sym gives) (all-weaken (Delivers p s.objects) (Delivers p objects) s.connections (delivers-still s.objects objects same) up.delivers);
+      stands = subst Standing (sym gives) (idle p objects s.stack empty);
+    }
+
+-- the state in which an event is taken
+accepted-upright : {p : Loaded} {s : State} → Upright p s → Upright p (accepted s)
+accepted-upright up = record { typed = up.typed; delivers = up.delivers; stands = up.stands }
+
+accepted-well : {p : Loaded} {s t : State} → IsWell p s t → IsWell p (accepted s) t
+accepted-well well = record { arguments = well.arguments; values = well.values }
+
+-- a method that an event asks for begins
+asked-upright : {p : Loaded} {s t : State} {o m : ℕ} {values : List Value} → IsSound p → Upright p s → IsWell p s t → Begins p (accepted s) s.stack o m values t → Upright p t
+asked-upright {p} {s} sound up well begins =
+    kept-upright sound (accepted-well well) (accepted-upright up) (begins-kept begins) (begins-stands sound (accepted-well well) begins (omega arith) up.stands)
+
+-- .. a property is written
+assigned-upright : {p : Loaded} {s t : State} {o q : ℕ} {v : Value} → IsSound p → Upright p s → IsWell p s t → Writes p (accepted s) s.stack o q v t → Upright p t
+assigned-upright {p} {s} sound up well writes =
+    kept-upright sound (accepted-well well) (accepted-upright up) (writes-kept writes) (writes-stands sound (accepted-well well) writes up.stands)
+
+effect-upright : {p : Loaded} {s t : State} (e : Event) → IsSound p → s.stack ≡ [] → Upright p s → Effect p (accepted s) e t → IsWell p s t → Upright p t
+effect-upright {p} {s} (New name class) sound empty up x well =
+    let Made : State → Type 0 = λ u. AllDeliver p u in
+    let Standing : State → Type 0 = λ u. AllStand p u in
+    let created : Object = fresh name x.c main (initial_values x.is_class.class) in
     record {
       typed = well.values;
       delivers = subst Made (sym x.gives) (all-weaken (Delivers p s.objects) (Delivers p (s.objects ++ created ∷ [])) s.connections (delivers-more s.objects (created ∷ [])) up.delivers);
       stands = subst Standing (sym x.gives) (idle p (s.objects ++ created ∷ []) s.stack empty);
     }
-effect-upright {p} {s} (Connect c) empty up x well =
+effect-upright (Adopt parent child) sound empty up x well = changed-upright x.objects empty up well (map-adopted shape_of (λ z l. refl) (λ z l. refl) x.is) x.gives
+effect-upright {p} {s} (Connect c) sound empty up x well =
     let Made : State → Type 0 = λ u. AllDeliver p u in
     let Standing : State → Type 0 = λ u. AllStand p u in
     record {
@@ -285,18 +321,19 @@ effect-upright {p} {s} (Connect c) empty up x well =
       delivers = subst Made (sym x.gives) (all-snoc (Delivers p s.objects) s.connections _ up.delivers (record { receiver = x.receiver; is_receiver = x.is_receiver.is; method = x.has_method.method; is_method = x.has_method.is }));
       stands = subst Standing (sym x.gives) up.stands;
     }
-effect-upright {p} {s} (EmitEvent name signal inputs) empty up x well =
-    let Made : State → Type 0 = λ u. AllDeliver p u in
-    let Standing : State → Type 0 = λ u. AllStand p u in
-    record { typed = well.values; delivers = subst Made (sym x.gives) up.delivers; stands = subst Standing (sym x.gives) (tt, up.stands) }
+effect-upright (Set name property i) sound empty up x well = assigned-upright sound up well x.writes
+effect-upright (EmitEvent name signal inputs) sound empty up x well = asked-upright sound up well x.begins
+effect-upright (CallEvent name slot inputs) sound empty up x well = asked-upright sound up well x.begins
+effect-upright {s = s} (Block name) sound empty up x well = changed-upright (change x.o (blocked true) s.objects) empty up well (map-change shape_of x.o (blocked true) s.objects (λ z. refl)) x.gives
+effect-upright {s = s} (Unblock name) sound empty up x well = changed-upright (change x.o (blocked false) s.objects) empty up well (map-change shape_of x.o (blocked false) s.objects (λ z. refl)) x.gives
 
-takes-upright : {p : Loaded} {s t : State} {e : Event} → Upright p s → Takes p e s t → IsWell p s t → Upright p t
-takes-upright {e = e} up (accepts empty pass effect) well = effect-upright e empty up effect well
-takes-upright up (refuses k empty which) well = record { typed = up.typed; delivers = up.delivers; stands = up.stands }
+takes-upright : {p : Loaded} {s t : State} {e : Event} → IsSound p → Upright p s → Takes p e s t → IsWell p s t → Upright p t
+takes-upright {e = e} sound up (accepts empty pass effect) well = effect-upright e sound empty up effect well
+takes-upright sound up (refuses k empty which) well = record { typed = up.typed; delivers = up.delivers; stands = up.stands }
 
 follows-upright : {p : Loaded} {s t : State} {es fs : List Event} → IsSound p → Upright p s → Follows p s t es fs → IsWell p s t → Upright p t
 follows-upright sound up (by_rule r) well = rule-upright sound well up r
-follows-upright sound up (by_event x) well = takes-upright up x well
+follows-upright sound up (by_event x) well = takes-upright sound up x well
 
 -- every state of a run stands
 pub runs-upright : {p : Loaded} {d : ℕ} {s t : State} {n k : ℕ} {es : List Event} → IsSound p → Runs p d s n es t k → Upright p s → Upright p t

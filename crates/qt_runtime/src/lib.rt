@@ -1,7 +1,11 @@
 //! The object machine: a run of a program, event by event.
 #![tactic(auto)]
 
-mod judging;
+mod asking;
+mod assigning;
+mod bar;
+mod connecting;
+mod inputs;
 mod machine;
 mod taking;
 

@@ -1,18 +1,22 @@
 //! The taking of events.
 
-ghost use Rattle.std.specs.Prelude.{◌≡◌, ◌<◌, [], List, ℕ, IfOk};
-ghost use Rattle.script_lang.specs.declared.event.Event.TheVariants.{New, Emit};
-ghost use Rattle.meta_model.specs.Members.{IsClassNamed};
-ghost use Rattle.machine_rules.specs.Events.{conditions, Pass, value_of, values_of};
+ghost use Rattle.std.specs.Prelude.{◌≡◌, ◌<◌, []};
+ghost use Rattle.script_lang.specs.declared.event.Event.{Event as AnEvent};
+ghost use Rattle.script_lang.specs.declared.event.Event.TheVariants.{New, Adopt, Connect as AConnect, Set};
 ghost use Rattle.machine_state.specs.Worlds.{at};
-ghost use Rattle.qt_runtime.specs.Taking.{Keeps, IsFound, IsEmissionEntry, Took};
+ghost use Rattle.machine_rules.specs.Good.{ArgumentsFit};
+ghost use Rattle.qt_runtime.specs.Judging.{asked, ValueFits};
+ghost use Rattle.qt_runtime.specs.Taking.{Keeps, Took, AsksFor, WritesTo, blocking};
 
-use crate::judging::{Found, judge_connect, judge_emit, judge_new};
-use machine_rules::Setting;
-use machine_state::{Answer, Entry, Fault, Object, Values, World};
+use crate::asking::{Ask, judge_ask};
+use crate::assigning::{Target, judge_set};
+use crate::bar::{find_living, refuse};
+use crate::connecting::judge_connect;
+use machine_rules::{Setting, signal_of_change};
+use machine_state::{Answer, Fault, World};
+use meta_objects::Work;
 use script_lang::{Connect, Event, Input};
-use signatures::{Arguments, Name, Value};
-use std::alloc::{AllocError, Global};
+use signatures::{Name, ObjectId, Value};
 
 /// Takes an event, and runs until nothing is going on.
 pub fn take_event(setting: &Setting, world: &mut World, event: &Event) -> Result<Answer, Fault>
@@ -26,10 +30,17 @@ pub fn take_event(setting: &Setting, world: &mut World, event: &Event) -> Result
     }
     match event {
         Event::New(name, class) => create(setting, world, name, class),
+        Event::Adopt(parent, child) => adopt(setting, world, parent, child),
         Event::Connect(c) => connect(setting, world, c),
+        Event::Set(name, property, input) => set(setting, world, name, property, input),
         Event::Emit(name, signal, inputs) => {
-            emit(setting, world, name, signal, inputs.as_slice())
+            ask(setting, world, Ask::Emit, name, signal, inputs.as_slice())
         }
+        Event::Call(name, slot, inputs) => {
+            ask(setting, world, Ask::Call, name, slot, inputs.as_slice())
+        }
+        Event::Block(name) => block(setting, world, name, true),
+        Event::Unblock(name) => block(setting, world, name, false),
     }
 }
 
@@ -40,49 +51,36 @@ fn create(setting: &Setting, world: &mut World, name: &Name, class: &Name) -> Re
     ensures took { Took setting.now.meta setting.now.depth world.old (New name.now class.now) world.new result }
     ensures keeps { Keeps setting.now.meta world.new }
 {
-    match judge_new(setting, world, name, class) {
-        Err(reason) => world.refuse(reason),
-        Ok(number) => add_object(setting, world, name, number),
-    }
+    world.create(&setting.meta, name, class)
 }
 
-/// Adds an object of a class, for an event that is accepted.
-fn add_object(
-    setting: &Setting,
-    world: &mut World,
-    name: &Name,
-    class: usize,
-) -> Result<Answer, Fault>
+/// Takes the adoption of an object by another.
+fn adopt(setting: &Setting, world: &mut World, parent: &Name, child: &Name) -> Result<Answer, Fault>
     requires left { 0 < world.old.left }
     requires keeps { Keeps setting.now.meta world.old }
-    requires class { (n : List ℕ) × IsClassNamed setting.now.meta n class }
-    ensures took { (n : List ℕ) → IsClassNamed setting.now.meta n class → Pass (conditions setting.now.meta (at world.old []) (New name.now n)) → Took setting.now.meta setting.now.depth world.old (New name.now n) world.new result }
+    ensures took { Took setting.now.meta setting.now.depth world.old (Adopt parent.now child.now) world.new result }
     ensures keeps { Keeps setting.now.meta world.new }
 {
-    let Some(found) = setting.meta.object(class) else {
-        unreachable!()
+    let parent = match find_living(world, parent) {
+        Ok((number, _)) => ObjectId::new(number),
+        Err(bar) => return refuse(world, bar),
     };
-    let properties = found.properties.as_slice();
-    let name = name.copy()?;
-    let values = Values::initial(setting.alloc, properties)?;
-    let object = Object {
-        name,
-        class,
-        values,
+    let child = match find_living(world, child) {
+        Ok((number, _)) => ObjectId::new(number),
+        Err(bar) => return refuse(world, bar),
     };
-    world.accept_object(&setting.meta, object, properties)?;
-    Ok(Answer::Done)
+    world.adopt(&setting.meta, parent, child)
 }
 
 /// Takes the making of a connection.
 fn connect(setting: &Setting, world: &mut World, c: &Connect) -> Result<Answer, Fault>
     requires left { 0 < world.old.left }
     requires keeps { Keeps setting.now.meta world.old }
-    ensures took { Took setting.now.meta setting.now.depth world.old (Event.Connect c.now) world.new result }
+    ensures took { Took setting.now.meta setting.now.depth world.old (AConnect c.now) world.new result }
     ensures keeps { Keeps setting.now.meta world.new }
 {
     match judge_connect(setting, world, c) {
-        Err(reason) => world.refuse(reason),
+        Err(bar) => refuse(world, bar),
         Ok(joint) => {
             world.accept_connection(joint)?;
             Ok(Answer::Done)
@@ -90,79 +88,120 @@ fn connect(setting: &Setting, world: &mut World, c: &Connect) -> Result<Answer, 
     }
 }
 
-/// Takes the emission of a signal, and runs it.
-fn emit(
+/// Takes the blocking of an object, or its end.
+fn block(setting: &Setting, world: &mut World, name: &Name, on: bool) -> Result<Answer, Fault>
+    requires left { 0 < world.old.left }
+    requires keeps { Keeps setting.now.meta world.old }
+    ensures took { Took setting.now.meta setting.now.depth world.old (blocking on name.now) world.new result }
+    ensures keeps { Keeps setting.now.meta world.new }
+{
+    let object = match find_living(world, name) {
+        Ok((number, _)) => ObjectId::new(number),
+        Err(bar) => return refuse(world, bar),
+    };
+    world.accept_block(object, on)?;
+    Ok(Answer::Done)
+}
+
+/// Takes the writing of a property, and runs what it notifies.
+fn set(
     setting: &Setting,
     world: &mut World,
     name: &Name,
-    signal: &Name,
+    property: &Name,
+    input: &Input,
+) -> Result<Answer, Fault>
+    requires depth { 0 < setting.now.depth }
+    requires left { 0 < world.old.left }
+    requires keeps { Keeps setting.now.meta world.old }
+    ensures took { Took setting.now.meta setting.now.depth world.old (Set name.now property.now input.now) world.new result }
+    ensures keeps { Keeps setting.now.meta world.new }
+{
+    match judge_set(setting, world, name, property, input) {
+        Err(bar) => refuse(world, bar),
+        Ok((target, value)) => assign(setting, world, target, value),
+    }
+}
+
+/// Writes a property for an event that is accepted, and runs what it notifies.
+fn assign(
+    setting: &Setting,
+    world: &mut World,
+    target: Target,
+    value: Value,
+) -> Result<Answer, Fault>
+    requires depth { 0 < setting.now.depth }
+    requires left { 0 < world.old.left }
+    requires keeps { Keeps setting.now.meta world.old }
+    requires fits { ValueFits setting.now.meta world.old.objects target.object target.property value }
+    ensures took { (e : AnEvent) → WritesTo setting.now.meta world.old target.object target.property value e → Took setting.now.meta setting.now.depth world.old e world.new result }
+    ensures keeps { Keeps setting.now.meta world.new }
+{
+    let Some((found, declared)) = setting.field(world, target.object, target.property) else {
+        unreachable!()
+    };
+    let changed = signal_of_change(declared.notify, found.values.get(target.property), &value);
+    let entry = setting.write_entry(world, 1, found, declared, &value)?;
+    world.accept_write(entry, target.object, target.property, value)?;
+    setting.run_update(world, 0, target.object, target.property, changed)?;
+    Ok(Answer::Done)
+}
+
+/// Takes the emission of a signal or the call of a slot, and runs it.
+fn ask(
+    setting: &Setting,
+    world: &mut World,
+    ask: Ask,
+    name: &Name,
+    called: &Name,
     inputs: &[Input],
 ) -> Result<Answer, Fault>
     requires depth { 0 < setting.now.depth }
     requires left { 0 < world.old.left }
     requires keeps { Keeps setting.now.meta world.old }
-    ensures took { Took setting.now.meta setting.now.depth world.old (Emit name.now signal.now inputs.now) world.new result }
+    ensures took { Took setting.now.meta setting.now.depth world.old (asked ask name.now called.now inputs.now) world.new result }
     ensures keeps { Keeps setting.now.meta world.new }
 {
-    let arguments = script_values(setting.alloc, inputs)?;
-    match judge_emit(setting, world, name, signal, arguments.as_slice()) {
-        Err(reason) => world.refuse(reason),
-        Ok(found) => {
-            let entry = emission_entry(setting, world, found, arguments.as_slice())?;
-            let last = world.connected;
-            world.accept_emission(entry)?;
-            setting.run_emission(
+    match judge_ask(setting, world, ask, name, called, inputs) {
+        Err(bar) => refuse(world, bar),
+        Ok((found, values)) => {
+            begin(
+                setting,
                 world,
-                0,
                 found.object,
-                found.signal,
-                arguments.as_slice(),
-                last,
-            )?;
-            Ok(Answer::Done)
+                found.method,
+                values.as_slice(),
+            )
         }
     }
 }
 
-/// The values that a script writes.
-fn script_values(alloc: Global, inputs: &[Input]) -> Result<Arguments, AllocError>
-    ensures { IfOk result (λ arguments. arguments ≡ values_of inputs.now) }
-{
-    let mut arguments = Arguments::new(alloc);
-    for input in inputs {
-        let value = script_value(input)?;
-        arguments.push(value)?;
-    }
-    Ok(arguments)
-}
-
-/// The value that a script writes.
-fn script_value(input: &Input) -> Result<Value, AllocError>
-    ensures { IfOk result (λ value. value ≡ value_of input.now) }
-{
-    match input {
-        Input::Literal(value) => value.copy(),
-    }
-}
-
-/// The entry of an emission that an event asks for.
-fn emission_entry(
+/// Begins a method for an event that is accepted, and runs it.
+fn begin(
     setting: &Setting,
-    world: &World,
-    found: Found,
-    arguments: &[Value],
-) -> Result<Entry, AllocError>
-    requires { (name : List ℕ) × (signal : List ℕ) × IsFound setting.now.meta world.now.objects name signal arguments.now found }
-    ensures { IfOk result (λ entry. IsEmissionEntry setting.now.meta world.now.objects found arguments.now entry) }
+    world: &mut World,
+    object: ObjectId,
+    method: usize,
+    values: &[Value],
+) -> Result<Answer, Fault>
+    requires depth { 0 < setting.now.depth }
+    requires left { 0 < world.old.left }
+    requires keeps { Keeps setting.now.meta world.old }
+    requires fit { ArgumentsFit setting.now.meta world.old.objects object method values.now }
+    ensures took { (e : AnEvent) → AsksFor setting.now.meta world.old object method values.now e → Took setting.now.meta setting.now.depth world.old e world.new result }
+    ensures keeps { Keeps setting.now.meta world.new }
 {
-    let Some(object) = world.objects.get(found.object) else {
+    let Some((found, declared)) = setting.member(world, object, method) else {
         unreachable!()
     };
-    let Some(method) = setting.meta.method_at(object.class, found.signal) else {
-        unreachable!()
-    };
-    let name = object.name.copy()?;
-    let signal = method.sig.name.copy()?;
-    let arguments = world.objects.show_all(setting.alloc, arguments)?;
-    Ok(Entry::Emitted(1, name, signal, arguments))
+    let last = world.connected;
+    let entry = setting.begin_entry(world, 1, found, method, declared, values)?;
+    world.accept_with(entry)?;
+    match &declared.work {
+        Work::Signal => setting.run_emission(world, 0, object, method, values, last)?,
+        Work::Slot(body) => {
+            setting.run_body(world, 0, object, method, values, body.as_slice())?;
+        }
+    }
+    Ok(Answer::Done)
 }

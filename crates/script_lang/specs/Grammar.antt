@@ -2,17 +2,23 @@
 -- (docs/language.md, "Scripts").
 --
 --   event = "new" Name Name
+--         | "adopt" Name Name
 --         | "connect" Name sig Name sig kind
+--         | "set" Name "." Name value
 --         | "emit" Name "." Name "(" [value {"," value}] ")"
---   value = literal
+--         | "call" Name "." Name "(" [value {"," value}] ")"
+--         | "block" Name
+--         | "unblock" Name
+--   value = literal | Name
 --
--- `new` is a name and no reserved word.
+-- `connect`, `set`, `emit` and `call` are reserved words; `new`, `adopt`, `block` and `unblock` are names.
 use Rattle.std.specs.Prelude.{ℕ, ◌≡◌, ◌≢◌, ◌≤◌, List, [], ◌∷◌, map, length, codes}
 use Rattle.signatures.specs.declared.kind.Kind.{Kind}
 use Rattle.signatures.specs.declared.kind.Kind.TheVariants.{Queued}
 use Rattle.signatures.specs.declared.word.Word.TheVariants as word
 use Rattle.slot_lang.specs.Lists.{spell_listed}
 use Rattle.slot_lang.specs.Literals.{LiteralReading, spell_literal, tree_of_literal}
+use Rattle.slot_lang.specs.Reading.{spell_name}
 use Rattle.slot_lang.specs.Signatures.{SigReading, spell_sig, tree_of_sig, spell_kind, HasPlainReference}
 use Rattle.slot_lang.specs.declared.symbol.Symbol.TheVariants.{Dot}
 use Rattle.slot_lang.specs.declared.token.Token.{Token}
@@ -21,30 +27,77 @@ use Rattle.script_lang.specs.declared.event.Event.{Event}
 use Rattle.script_lang.specs.declared.event.Event.TheVariants as tree
 use Rattle.script_lang.specs.declared.event.Input.{Input}
 use Rattle.script_lang.specs.declared.event.Input.TheVariants as input
+use Rattle.script_lang.specs.declared.verb.Verb.{Verb}
+use Rattle.script_lang.specs.declared.verb.Verb.TheVariants as verb
 
 -- ---- values
 
 pub data InputReading : Type 0 where
   literal : LiteralReading → InputReading
+  -- an object's name
+  named : List ℕ → InputReading
 
 abbrev pub spell_input : InputReading → List Token → List Token
 spell_input (literal l) after = spell_literal l after
+spell_input (named name) after = token.Name name ∷ after
 
 abbrev pub tree_of_input : InputReading → Input
 tree_of_input (literal l) = input.Literal (tree_of_literal l)
+tree_of_input (named name) = input.Object name
 
--- ---- events
+-- ---- verbs and members
 
--- `new O C`
+-- the letters of a verb
+abbrev pub verb_spelling : Verb → List ℕ
+verb_spelling verb.New = codes "new"
+verb_spelling verb.Adopt = codes "adopt"
+verb_spelling verb.Block = codes "block"
+verb_spelling verb.Unblock = codes "unblock"
+
+abbrev pub spell_verb : Verb → List Token → List Token
+spell_verb v after = token.Name (verb_spelling v) ∷ after
+
+-- `O.M`: an object's name, and the name of its property or method
+abbrev pub Member : Type 0
+Member = List ℕ × List ℕ
+
+abbrev pub spell_member : Member → List Token → List Token
+spell_member m after = token.Name m.0 ∷ token.Symbol Dot ∷ token.Name m.1 ∷ after
+
+-- `O.M(V,..)`
+pub record Invocation : Type 0 where
+  pub member : Member
+  pub arguments : List InputReading
+
+abbrev pub spell_invocation : Invocation → List Token → List Token
+spell_invocation i after = spell_member i.member (spell_listed spell_input i.arguments after)
+
+abbrev pub tree_of_invocation : Invocation → List ℕ × List ℕ × List Input
+tree_of_invocation i = (i.member.0, i.member.1, map tree_of_input i.arguments)
+
+-- ---- what follows the first word of an event
+
+-- `O C`, after `new`
 pub record New : Type 0 where
   pub object : List ℕ
   pub class : List ℕ
 
 abbrev pub spell_new : New → List Token → List Token
-spell_new e after = token.Name (codes "new") ∷ token.Name e.object ∷ token.Name e.class ∷ after
+spell_new e after = token.Name e.object ∷ token.Name e.class ∷ after
 
 abbrev pub tree_of_new : New → Event
 tree_of_new e = tree.New e.object e.class
+
+-- `P O`, after `adopt`
+pub record Adopt : Type 0 where
+  pub parent : List ℕ
+  pub child : List ℕ
+
+abbrev pub spell_adopt : Adopt → List Token → List Token
+spell_adopt e after = token.Name e.parent ∷ token.Name e.child ∷ after
+
+abbrev pub tree_of_adopt : Adopt → Event
+tree_of_adopt e = tree.Adopt e.parent e.child
 
 -- `A S B M kind`, after `connect`
 pub record Connect : Type 0 where
@@ -68,38 +121,69 @@ tree_of_connect e = tree.Connect record {
   kind = e.kind;
 }
 
--- `O.M(V,..)`, after `emit`
-pub record Emit : Type 0 where
-  pub sender : List ℕ
-  pub signal : List ℕ
-  pub arguments : List InputReading
+-- `O.P V`, after `set`
+pub record Assignment : Type 0 where
+  pub member : Member
+  pub value : InputReading
 
-abbrev pub spell_emit : Emit → List Token → List Token
-spell_emit e after = token.Name e.sender ∷ token.Symbol Dot ∷ token.Name e.signal ∷ spell_listed spell_input e.arguments after
+abbrev pub spell_assignment : Assignment → List Token → List Token
+spell_assignment e after = spell_member e.member (spell_input e.value after)
 
-abbrev pub tree_of_emit : Emit → Event
-tree_of_emit e = tree.Emit e.sender e.signal (map tree_of_input e.arguments)
+abbrev pub tree_of_assignment : Assignment → Event
+tree_of_assignment e = tree.Set e.member.0 e.member.1 (tree_of_input e.value)
+
+-- after `emit`
+abbrev pub tree_of_emit : Invocation → Event
+tree_of_emit i = tree.Emit i.member.0 i.member.1 (map tree_of_input i.arguments)
+
+-- after `call`
+abbrev pub tree_of_call : Invocation → Event
+tree_of_call i = tree.Call i.member.0 i.member.1 (map tree_of_input i.arguments)
+
+-- `O`, after `block`
+abbrev pub tree_of_block : List ℕ → Event
+tree_of_block object = tree.Block object
+
+-- `O`, after `unblock`
+abbrev pub tree_of_unblock : List ℕ → Event
+tree_of_unblock object = tree.Unblock object
+
+-- ---- events
 
 pub data Reading : Type 0 where
   new : New → Reading
+  adopt : Adopt → Reading
   connect : Connect → Reading
-  emit : Emit → Reading
+  set : Assignment → Reading
+  emit : Invocation → Reading
+  call : Invocation → Reading
+  block : List ℕ → Reading
+  unblock : List ℕ → Reading
 
 abbrev pub spell_event : Reading → List Token → List Token
-spell_event (new e) after = spell_new e after
+spell_event (new e) after = spell_verb verb.New (spell_new e after)
+spell_event (adopt e) after = spell_verb verb.Adopt (spell_adopt e after)
 spell_event (connect e) after = token.Word word.Connect ∷ spell_connect e after
-spell_event (emit e) after = token.Word word.Emit ∷ spell_emit e after
+spell_event (set e) after = token.Word word.Set ∷ spell_assignment e after
+spell_event (emit i) after = token.Word word.Emit ∷ spell_invocation i after
+spell_event (call i) after = token.Word word.Call ∷ spell_invocation i after
+spell_event (block object) after = spell_verb verb.Block (spell_name object after)
+spell_event (unblock object) after = spell_verb verb.Unblock (spell_name object after)
 
 abbrev pub tree_of_event : Reading → Event
 tree_of_event (new e) = tree_of_new e
+tree_of_event (adopt e) = tree_of_adopt e
 tree_of_event (connect e) = tree_of_connect e
-tree_of_event (emit e) = tree_of_emit e
+tree_of_event (set e) = tree_of_assignment e
+tree_of_event (emit i) = tree_of_emit i
+tree_of_event (call i) = tree_of_call i
+tree_of_event (block object) = tree_of_block object
+tree_of_event (unblock object) = tree_of_unblock object
 
 -- The signatures have at most 8 types. No connection is queued, as there is one event loop.
 abbrev pub IsWithinLimits : Event → Type 0
-IsWithinLimits (tree.New object class) = Unit {0}
 IsWithinLimits (tree.Connect c) = (length c.signal.types ≤ 8) × (length c.method.types ≤ 8) × (c.kind ≢ Queued)
-IsWithinLimits (tree.Emit sender signal arguments) = Unit {0}
+IsWithinLimits _ = Unit {0}
 
 -- the tokens are this event
 pub record IsEvent (tokens : List Token) (event : Event) : Type 0 where

@@ -8,6 +8,8 @@ use sqlite_items::Items;
 pub enum Input {
     /// A literal.
     Literal(Value),
+    /// An object's name.
+    Object(Name),
 }
 
 /// `connect A S B M kind`: the sender, its signal, the receiver, its method. Each signature has at most 8 types, and the
@@ -31,8 +33,18 @@ pub struct Connect {
 pub enum Event {
     /// `new O C`: the object's name, and its class's.
     New(Name, Name),
+    /// `adopt P O`: the parent's name, and the child's.
+    Adopt(Name, Name),
     /// `connect A S B M kind`
     Connect(Connect),
+    /// `set O.P V`: the object, the property's name, its new value.
+    Set(Name, Name, Input),
     /// `emit O.M(V,..)`: the object, the signal's name, the arguments.
     Emit(Name, Name, Items<Input>),
+    /// `call O.M(V,..)`: the object, the method's name, the arguments.
+    Call(Name, Name, Items<Input>),
+    /// `block O`: the object.
+    Block(Name),
+    /// `unblock O`: the object.
+    Unblock(Name),
 }

@@ -7,6 +7,7 @@ mod limits;
 mod lines;
 mod reader;
 mod syntax;
+mod verb;
 
 pub use event::{Connect, Event, Input};
 pub use fault::ScriptFault;

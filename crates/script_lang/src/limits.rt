@@ -14,12 +14,11 @@ pub fn is_within_limits(event: &Event) -> bool
     ensures { IsTrue result ↔ IsWithinLimits event.now }
 {
     match event {
-        Event::New(_, _) => true,
         Event::Connect(connect) => {
             connect.signal.types.len() <= MOST_TYPES
                 && connect.method.types.len() <= MOST_TYPES
                 && connect.kind != Kind::Queued
         }
-        Event::Emit(_, _, _) => true,
+        _ => true,
     }
 }

@@ -36,9 +36,23 @@ abbrev pub refused_event_line : ℕ → ℕ → List ℕ
 refused_event_line event refusal = codes "event " ++ decimal event ++ (codes " refused " ++ decimal refusal ++ newline)
 
 -- `d`, the word, `o.m(args)`
-abbrev pub call_line : ℕ → List ℕ → List ℕ → List ℕ → List Shown → List ℕ
-call_line depth word object method arguments =
-    decimal depth ++ word ++ member_text object method ++ codes "(" ++ arguments_text arguments ++ (codes ")" ++ newline)
+abbrev pub call_text : ℕ → List ℕ → List ℕ → List ℕ → List Shown → List ℕ
+call_text depth word object method arguments =
+    decimal depth ++ word ++ member_text object method ++ codes "(" ++ arguments_text arguments ++ codes ")"
+
+-- what follows the emission of a blocked object, which calls nothing
+abbrev pub blocked_text : Bool → List ℕ
+blocked_text true = codes " blocked"
+blocked_text false = []
+
+-- `d emit o.s(args)`, and ` blocked` where it calls nothing
+abbrev pub emitted_line : ℕ → List ℕ → List ℕ → List Shown → Bool → List ℕ
+emitted_line depth object signal arguments blocked =
+    call_text depth (codes " emit ") object signal arguments ++ blocked_text blocked ++ newline
+
+-- `d call o.m(args)`
+abbrev pub called_line : ℕ → List ℕ → List ℕ → List Shown → List ℕ
+called_line depth object slot arguments = call_text depth (codes " call ") object slot arguments ++ newline
 
 -- `d set o.p v`
 abbrev pub written_line : ℕ → List ℕ → List ℕ → Shown → List ℕ
@@ -48,8 +62,8 @@ written_line depth object property value =
 abbrev pub entry_line : Entry → List ℕ
 entry_line (Accepted event) = codes "event " ++ decimal event ++ newline
 entry_line (Refused event refusal) = refused_event_line event refusal
-entry_line (Emitted depth object signal arguments) = call_line depth (codes " emit ") object signal arguments
-entry_line (Called depth object slot arguments) = call_line depth (codes " call ") object slot arguments
+entry_line (Emitted depth object signal arguments blocked) = emitted_line depth object signal arguments blocked
+entry_line (Called depth object slot arguments) = called_line depth object slot arguments
 entry_line (Written depth object property value) = written_line depth object property value
 entry_line (OnNull depth) = decimal depth ++ codes " null\n"
 

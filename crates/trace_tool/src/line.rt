@@ -1,7 +1,7 @@
 //! The text of the output's lines.
 
 ghost use Rattle.std.specs.Prelude.{◌++◌, codes, decimal, OnOk};
-ghost use Rattle.trace_tool.specs.Lines.{newline, value_text, arguments_text, member_text, call_line, written_line, refused_event_line, entry_line, trace_text};
+ghost use Rattle.trace_tool.specs.Lines.{newline, value_text, arguments_text, member_text, call_text, blocked_text, emitted_line, called_line, written_line, refused_event_line, entry_line, trace_text};
 ghost use Rattle.trace_tool.specs.Refusals.{refusal_line};
 ghost use Rattle.trace_tool.specs.Sent.{Sends, behind};
 
@@ -78,7 +78,7 @@ impl Output {
         Ok(())
     }
 
-    /// Adds the line of an emission or a call, as the word says.
+    /// Adds the depth, the word and `object.method(arguments)`.
     fn call<W: Write>(
         &mut self,
         w: &mut W,
@@ -88,14 +88,58 @@ impl Output {
         method: &Name,
         arguments: &[Shown],
     ) -> Result<(), WriteFault>
-        ensures { OnOk result (Sends (behind (W.contents w.old) self.old) (behind (W.contents w.new) self.new) (call_line depth word.now object.now method.now arguments.now)) }
+        ensures { OnOk result (Sends (behind (W.contents w.old) self.old) (behind (W.contents w.new) self.new) (call_text depth word.now object.now method.now arguments.now)) }
     {
         self.number(w, depth)?;
         self.put(w, word)?;
         self.member(w, object, method)?;
         self.put(w, b"(")?;
         self.arguments(w, arguments)?;
-        self.put(w, b")\n")?;
+        self.put(w, b")")?;
+        Ok(())
+    }
+
+    /// Adds the line of an emission, which tells whether the object is blocked.
+    fn emitted<W: Write>(
+        &mut self,
+        w: &mut W,
+        depth: usize,
+        object: &Name,
+        signal: &Name,
+        arguments: &[Shown],
+        blocked: bool,
+    ) -> Result<(), WriteFault>
+        ensures { OnOk result (Sends (behind (W.contents w.old) self.old) (behind (W.contents w.new) self.new) (emitted_line depth object.now signal.now arguments.now blocked)) }
+    {
+        self.call(w, depth, b" emit ", object, signal, arguments)?;
+        self.blocked(w, blocked)?;
+        self.put(w, b"\n")?;
+        Ok(())
+    }
+
+    /// Adds what tells that an object is blocked, where it is.
+    fn blocked<W: Write>(&mut self, w: &mut W, blocked: bool) -> Result<(), WriteFault>
+        ensures { OnOk result (Sends (behind (W.contents w.old) self.old) (behind (W.contents w.new) self.new) (blocked_text blocked)) }
+    {
+        if blocked {
+            self.put(w, b" blocked")?;
+        }
+        Ok(())
+    }
+
+    /// Adds the line of a call.
+    fn called<W: Write>(
+        &mut self,
+        w: &mut W,
+        depth: usize,
+        object: &Name,
+        slot: &Name,
+        arguments: &[Shown],
+    ) -> Result<(), WriteFault>
+        ensures { OnOk result (Sends (behind (W.contents w.old) self.old) (behind (W.contents w.new) self.new) (called_line depth object.now slot.now arguments.now)) }
+    {
+        self.call(w, depth, b" call ", object, slot, arguments)?;
+        self.put(w, b"\n")?;
         Ok(())
     }
 
@@ -177,11 +221,11 @@ impl Output {
         match entry {
             Entry::Accepted(event) => self.numbered(w, b"event ", *event)?,
             Entry::Refused(event, refusal) => self.refused_event(w, *event, *refusal)?,
-            Entry::Emitted(depth, object, signal, arguments) => {
-                self.call(w, *depth, b" emit ", object, signal, arguments.as_slice())?;
+            Entry::Emitted(depth, object, signal, arguments, blocked) => {
+                self.emitted(w, *depth, object, signal, arguments.as_slice(), *blocked)?;
             }
             Entry::Called(depth, object, slot, arguments) => {
-                self.call(w, *depth, b" call ", object, slot, arguments.as_slice())?;
+                self.called(w, *depth, object, slot, arguments.as_slice())?;
             }
             Entry::Written(depth, object, property, value) => {
                 self.written(w, *depth, object, property, value)?;

@@ -1,6 +1,6 @@
 use Rattle.std.proofs.Common.{◌∙◌, sym, ap, drop, ℕ, List, Option}
 use Rattle.meta_model.specs.declared.object.Step.{Step}
-use Rattle.machine_state.specs.declared.object_tree.Object.{Object}
+use Rattle.object_tree.specs.declared.object.Object.{Object}
 use Rattle.std.proofs.lemmas.List.{drop_more}
 use Rattle.signatures.specs.declared.value.Value.{Value}
 use Rattle.machine_rules.specs.Paths.{root_value, path_value}

@@ -3,7 +3,6 @@ use Rattle.signatures.specs.declared.value.Value.{Value}
 use Rattle.machine_state.specs.declared.world.World.{World}
 use Rattle.machine_rules.proofs.Fields.{old-there}
 use Rattle.std.proofs.lemmas.List.{drop_more, drop_all}
-use Rattle.std.proofs.lemmas.Option.{slice_get_within}
 use Rattle.machine_rules.proofs.Going.{goes-same, goes-then, breaks-after, breaks-as, ends-after, ends-left, ends-undue, ends-short, ends-unchanged, ends-faulted, ends-ticked}
 use Rattle.machine_rules.proofs.Keeps.{same-refl, same-trans, ends-same, ends-sound, fit-still, goes-typed}
 use Rattle.machine_rules.proofs.Beginning.{ends-begun, breaks-begin, breaks-no-member, breaks-ill-typed, fit-of, fit-member, next-joined, next-fits, joined-member, delivered-fits, delivery-calls, not-true}
@@ -19,7 +18,7 @@ run_emission-loop-connection-init t c = record { goes = goes-same; same = same-r
 pub run_emission-deliver-requires : goal.run_emission-deliver-requires
 run_emission-deliver-requires t c = let sound = c.loop-connection.invariant.sound in
     let found = sym c.in-Some.ensures.value in
-    (omega (arith, c.loop-connection.invariant.fewer), (c.requires.room, (sound, (next-joined _ _ _ _ _ _ sound.joined found, next-fits _ _ _ _ _ _ sound.joined found (fit-still c.loop-connection.invariant.same c.requires.emitted)))))
+    (omega (arith, c.loop-connection.invariant.fewer), (c.requires.room, (sound, (next-joined c.loop-connection.world.objects c.loop-connection.world.connections c.args.object c.args.signal c.loop-connection.used c.args.last _ sound.joined found, next-fits c.loop-connection.world.objects c.loop-connection.world.connections c.args.object c.args.signal c.loop-connection.used c.args.last _ sound.joined found (fit-still c.loop-connection.invariant.same c.requires.emitted)))))
 
 pub run_emission-loop-connection-preserved : goal.run_emission-loop-connection-preserved
 run_emission-loop-connection-preserved t c =
@@ -41,7 +40,7 @@ run_emission-returns-in_err-deliver-clause-sound t c =
 
 pub run_emission-returns-clause-ends : goal.run_emission-returns-clause-ends
 run_emission-returns-clause-ends t c =
-    let none = sym c.next.ensures.value ∙ c.in_default.is in
+    let none = sym c.next_used.ensures.value ∙ c.in_default.is in
     ends-after c.loop-connection.invariant.goes (ends-ticked {b = []} _ (λ below e. rw none refl) (omega arith) c.requires.room c.loop-connection.invariant.sound.typed c.tick.ensures)
 
 pub deliver-returns-in_err-is_due : goal.deliver-returns-in_err-is_due
@@ -242,9 +241,6 @@ write-returns-in_err-may_nest t c = record {
 
 pub write-returns-in_err-entry : goal.write-returns-in_err-entry
 write-returns-in_err-entry t c = record { ends = λ from to sets. ends-short _ c.requires.left c.from_residual-in_err-entry.ensures.1 }
-
-pub write-write-requires-clause-there : goal.write-write-requires-clause-there
-write-write-requires-clause-there t c = slice_get_within _ _ _ c.in-Some.ensures.value.is_object
 
 pub write-returns-in_err-write : goal.write-returns-in_err-write
 write-returns-in_err-write t c = record { ends = λ from to sets. ends-unchanged _ c.requires.left (c.in_err-write.ensures _ c.in-Some.ensures.value.is_object) c.from_residual-in_err-write.ensures.1 }

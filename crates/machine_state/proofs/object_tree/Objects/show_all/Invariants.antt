@@ -1,6 +1,0 @@
-use Rattle.std.proofs.Common.{◌≡◌, take}
-use Rattle.machine_state.specs.Objects.{all_shown}
-use Rattle.machine_state.proofs.object_tree.Objects.show_all.Given as goal
-
-abbrev pub invariant-loop-value : goal.invariant-loop-value
-invariant-loop-value l = l.texts.items ≡ all_shown l.self (take l.value-index l.values)

@@ -1,0 +1,5 @@
+use Rattle.script_lang.proofs.Events.{invocation_found}
+use Rattle.script_lang.proofs.syntax.invocation.Goals as goal
+
+pub returns : goal.returns
+returns c = invocation_found c.in_ok-object.ensures c.in_ok-arguments.ensures
