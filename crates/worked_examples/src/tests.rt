@@ -1,12 +1,17 @@
 //! Expected texts are worked out by hand from the documents.
 
+mod answers;
+mod blocking;
 mod bodies;
 mod classes;
 mod ends;
+mod events;
 mod operators;
 mod refusals;
 mod rows;
+mod trees;
 mod usage;
+mod values;
 
 use crate::answer_to;
 use std::alloc::{AllocError, Global};
@@ -25,6 +30,10 @@ pub const PRESS: &str =
 /// What a press writes.
 pub const PRESSED: &str =
     "event 1\nevent 2\nevent 3\n1 emit a.pressed(3)\n2 call a.show(3)\n3 set a.level 3\n";
+
+/// A source whose value is shown by a label.
+pub const SOURCE: &str =
+    "class Source { property int value = 0 notify valueChanged(int); signal valueChanged(int); slot setValue(int v) { set this.value = v; } } class Label { property int shown; slot show(int v) { set this.shown = v; } } wire Source valueChanged(int) -> Label show(int) auto;";
 
 /// A command line with its texts, and what it has to answer.
 #[derive(Clone, Copy)]

@@ -1,13 +1,9 @@
 //! Classes with bases, values of every type, notify signals, and the command `meta`.
 
-use super::{Row, expect, expect_rows};
+use super::{Row, SOURCE, expect, expect_rows};
 use std::test::Fail;
 
 const RUN: &str = "run --unchecked 256";
-
-/// A source whose value is shown by a label.
-const SOURCE: &str =
-    "class Source { property int value = 0 notify valueChanged(int); signal valueChanged(int); slot setValue(int v) { set this.value = v; } } class Label { property int shown; slot show(int v) { set this.shown = v; } } wire Source valueChanged(int) -> Label show(int) auto;";
 
 /// The lines of `QObject`, which stand in front of every program's own.
 const QOBJECT: &str =
