@@ -1,4 +1,4 @@
--- What a call of the machine's code does, whatever activations are below.
+-- What a call of the machine's code does, whatever activations are below (docs/machine.md, "Runs").
 use Rattle.std.specs.Prelude.{◌≡◌, ◌≢◌, ℕ, ◌≤◌, List, [], ◌∷◌, ◌++◌, length, Result, Ok, Err, MatchResult, Bool, true, false, Option, Some, None, slice_get}
 use Rattle.meta_model.specs.Loaded.{Loaded}
 use Rattle.signatures.specs.declared.value.Value.{Value}

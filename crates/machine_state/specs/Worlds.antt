@@ -1,4 +1,4 @@
--- What the world's functions do, and what a world says of the machine's state.
+-- What the world's functions do, and what a world says of the machine's state (docs/machine.md, "The state").
 use Rattle.std.specs.Prelude.{◌≡◌, ℕ, ◌+◌, ◌-◌, ◌<◌, List, [], ◌∷◌, ◌++◌, Result, Ok, Err, slice_set}
 use Rattle.signatures.specs.declared.value.Value.{Value}
 use Rattle.meta_model.specs.Loaded.{Loaded}

@@ -1,4 +1,4 @@
--- When an object gets a parent, and why not.
+-- When an object gets a parent, and why not (docs/machine.md, "Objects" and "Events"; Qt 6, `QObject::setParent`).
 use Rattle.std.specs.Prelude.{◌≡◌, ◌≢◌, ℕ, List, Result, Ok, Err, Some}
 use Rattle.meta_model.specs.Loaded.{Loaded}
 use Rattle.meta_model.specs.Members.{Owns}

@@ -1,4 +1,4 @@
--- Lists of children.
+-- Lists of children (docs/machine.md, "Objects"; Qt 6, `QObject::children`).
 use Rattle.std.specs.Prelude.{ℕ, eqb, Bool, true, false, ◌||◌, ◌&&◌, not, List, [], ◌∷◌, if◌then◌else◌}
 
 -- a list without the first place where the child stands

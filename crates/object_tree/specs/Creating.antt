@@ -1,4 +1,4 @@
--- When an object is created, and why not.
+-- When an object is created, and why not (docs/machine.md, "Objects" and "Events").
 use Rattle.std.specs.Prelude.{◌≡◌, ℕ, ◌<◌, ◌≤◌, true, false, List, [], ◌∷◌, ◌++◌, length, map, All, Result, Ok, Err, None}
 use Rattle.signatures.specs.declared.value.Value.{Value}
 use Rattle.meta_model.specs.declared.object.MetaObject.{MetaObject}

@@ -1,4 +1,4 @@
--- Who is whose parent.
+-- Who is whose parent (docs/machine.md, "Objects"; Qt 6, "Object Trees & Ownership").
 use Rattle.std.specs.Prelude.{◌≡◌, ℕ, false, List, [], ◌∷◌, ◌++◌, Option, None, Some, slice_get}
 use Rattle.std.specs.Option.{option_and_then}
 use Rattle.object_tree.specs.declared.object.Object.{Object}

@@ -1,4 +1,4 @@
--- What every tree keeps.
+-- What every tree keeps (docs/machine.md, "What every run keeps").
 use Rattle.std.specs.Prelude.{◌≡◌, ℕ, zero, suc, eqb, Bool, true, false, List, length, Option, None, Some, slice_get}
 use Rattle.object_tree.specs.declared.object.Object.{Object}
 use Rattle.object_tree.specs.Children.{is_among, are_distinct}

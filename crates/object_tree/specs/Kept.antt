@@ -1,4 +1,4 @@
--- What every tree keeps, with its index of names.
+-- What every tree keeps, with its index of names (docs/machine.md, "What every run keeps").
 use Rattle.std.specs.Prelude.{◌≡◌, ◌↔◌, ℕ, List, Some}
 use Rattle.name_index.specs.Places.{place_in}
 use Rattle.object_tree.specs.declared.object.Object.{Object}

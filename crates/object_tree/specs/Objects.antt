@@ -1,4 +1,4 @@
--- Objects by number and name. An object's number is its place in the order of creation.
+-- Objects by number and name (docs/machine.md, "Objects"). An object's number is its place in the order of creation.
 use Rattle.std.specs.Prelude.{◌≡◌, ℕ, zero, suc, Bool, true, List, [], ◌∷◌, Option, None, Some, slice_get, slice_set}
 use Rattle.std.specs.Option.{option_map}
 use Rattle.signatures.specs.declared.value.Value.{Value}

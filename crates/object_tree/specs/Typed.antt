@@ -1,4 +1,4 @@
--- Objects whose properties have values of their types.
+-- Objects whose properties have values of their types (docs/machine.md, "What every run keeps").
 use Rattle.std.specs.Prelude.{◌≡◌, ℕ, List, map, Some, slice_get}
 use Rattle.signatures.specs.declared.value.Value.{Value}
 use Rattle.meta_model.specs.declared.object.MetaObject.{MetaObject}

@@ -1,4 +1,4 @@
--- What the machine's code finds out about an event before it takes it.
+-- What the machine's code finds out about an event before it takes it (docs/machine.md, "Events").
 use Rattle.std.specs.Prelude.{◌≡◌, ℕ, true, List, ◌++◌, length, Result}
 use Rattle.signatures.specs.declared.value.Value.{Value}
 use Rattle.script_lang.specs.declared.event.Connect.{Connect as Connecting}
