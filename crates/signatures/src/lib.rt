@@ -12,8 +12,6 @@ mod qtype;
 mod reader;
 mod scanner;
 mod sig;
-#[cfg(test)]
-mod tests;
 mod text;
 mod value;
 mod word;

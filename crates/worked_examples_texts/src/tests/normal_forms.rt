@@ -1,6 +1,6 @@
-//! Expected texts are worked out by hand from docs/language.md.
+//! Signatures, types, texts and values.
 
-use crate::{Arguments, Name, ObjectId, QType, Text, Value, fits, normalise};
+use signatures::{Arguments, Name, ObjectId, QType, Text, Value, fits, normalise};
 use std::process::Abort;
 use std::str;
 use std::test::Fail;
