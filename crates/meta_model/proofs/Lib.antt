@@ -1,2 +1,11 @@
 pub mod OneAnswer
 pub mod Typing
+pub mod Searches
+pub mod Choices
+pub mod Zips
+pub mod LackedTypes
+pub mod Firsts
+pub mod ReadTypes
+pub mod Once
+pub mod OutlineSteps
+pub mod Outlined

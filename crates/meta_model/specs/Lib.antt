@@ -2,3 +2,12 @@ pub mod Loaded
 pub mod Members
 pub mod Values
 pub mod Sound
+pub mod NamePlaces
+pub mod Places
+pub mod Twice
+pub mod Outlines
+pub mod Kinds
+pub mod Ends
+pub mod Conditions
+pub mod FaultNumbers
+pub mod PartAnswers

@@ -1,11 +1,30 @@
-//! What a loaded program is: its classes, wires and owns, by number.
+//! What a loaded program is: its classes with all their members, its wires and owns, by number; and the conditions that
+//! refuse a program before a body is read.
 #![tactic(auto)]
 
+mod clashes;
+mod fault;
+mod kinds;
+mod name_index;
+mod notify;
 mod object;
+mod outline;
+mod outlining;
+mod places;
+mod qobject;
 mod slot_body;
 
+pub use clashes::{has_duplicate_class, has_duplicate_member};
+pub use fault::MetaFault;
+pub use kinds::{has_no_type, kind_of, read_kind, read_kinds};
+pub use name_index::NameIndex;
+pub use notify::{has_bad_notify, place_of_signal};
 pub use object::{
     MetaMethod, MetaObject, MetaOwns, MetaPath, MetaProperty, MetaRoot, MetaWire, Statement, Step,
     ValueType, Work,
 };
+pub use outline::{Heading, Outline, Sort};
+pub use outlining::outline_classes;
+pub use places::{Named, find, place_of};
+pub use qobject::reference_to;
 pub use slot_body::SlotBody;

@@ -6,19 +6,19 @@ use Rattle.std.specs.Cmp.Lexicographic.{pointwise, bytes_decides}
 use Rattle.std.proofs.lemmas.Bool.{cases_eq, cases_lt}
 use Rattle.std.proofs.lemmas.List.{length-set, get_or-set_same, get_or-set_other}
 use Rattle.std.proofs.lemmas.Option.{none-some, slice_get-get_or, slice_get_past}
-use Rattle.name_index.specs.Places.{place_in, Adds}
+use Rattle.meta_model.specs.NamePlaces.{place_in, Adds}
 use Rattle.signatures.specs.declared.sig.Sig.{Sig}
 use Rattle.meta_model.specs.declared.object.MetaObject.{MetaObject}
 use Rattle.meta_model.specs.declared.object.MetaMethod.{MetaMethod}
 use Rattle.meta_objects.specs.declared.class_index.MemberIndex.{MemberIndex}
 use Rattle.meta_objects.specs.declared.class_index.ClassIndex.{ClassIndex}
 use Rattle.meta_model.specs.Loaded.{Loaded}
-use Rattle.class_outlines.specs.Places.{StandsAt, StandsFirst, IsPlace}
+use Rattle.meta_model.specs.Places.{StandsAt, StandsFirst, IsPlace}
 use Rattle.meta_model.specs.Members.{IsClassNamed, HasSig, IsMethodNamed, IsPropertyNamed}
 use Rattle.meta_objects.specs.Indexes.{Index, place_by, IndexesMembers, IsIndexOf, property_in, method_in}
 use Rattle.meta_objects.proofs.LookUps.{class_answer, method_answer, property_answer}
-use Rattle.class_outlines.proofs.Searches.{none_more, none_at_all, met_first}
-use Rattle.class_outlines.proofs.Zips.{zip_left, zip_right}
+use Rattle.meta_model.proofs.Searches.{none_more, none_at_all, met_first}
+use Rattle.meta_model.proofs.Zips.{zip_left, zip_right}
 
 -- the answer is the place of the first element with P among those before i, or `None` where there is none
 abbrev pub IsPlaceBefore : {X : Type 0} → (X → Type 0) → List X → ℕ → Option ℕ → Type 0

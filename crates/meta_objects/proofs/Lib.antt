@@ -1,3 +1,6 @@
+pub mod Bodies
+pub mod BodyPieces
+pub mod BodyCalls
 pub mod LookUps
 pub mod Ends
 pub mod Unique

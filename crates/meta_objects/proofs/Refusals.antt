@@ -1,21 +1,21 @@
 -- What refuses a program, and what a program that isn't refused has.
 use Rattle.std.proofs.Common.{◌≡◌, List, [], ◌∷◌, Result, Ok, Err, IsErr, IsErrAnd, inl, inr, sym, subst}
 use Rattle.class_lang.specs.declared.program.Program.{Program}
-use Rattle.class_outlines.specs.declared.fault.MetaFault.{MetaFault}
-use Rattle.class_outlines.specs.declared.fault.MetaFault.TheVariants as fault
+use Rattle.meta_model.specs.declared.fault.MetaFault.{MetaFault}
+use Rattle.meta_model.specs.declared.fault.MetaFault.TheVariants as fault
 use Rattle.meta_model.specs.declared.object.Statement.{Statement}
 use Rattle.meta_model.specs.declared.object.MetaWire.{MetaWire}
 use Rattle.meta_model.specs.declared.object.MetaOwns.{MetaOwns}
-use Rattle.class_outlines.specs.declared.outline.Outline.{Outline}
+use Rattle.meta_model.specs.declared.outline.Outline.{Outline}
 use Rattle.meta_model.specs.Loaded.{Loaded}
-use Rattle.class_outlines.specs.Outlines.{Outlines, qobject}
-use Rattle.class_outlines.specs.Conditions.{DuplicateClass, NoBase, DuplicateMember}
-use Rattle.body_loading.specs.Bodies.{IsBody, AreBodies, LacksInSlot, LacksInClass}
+use Rattle.meta_model.specs.Outlines.{Outlines, qobject}
+use Rattle.meta_model.specs.Conditions.{DuplicateClass, NoBase, DuplicateMember}
+use Rattle.meta_objects.specs.Bodies.{IsBody, AreBodies, LacksInSlot, LacksInClass}
 use Rattle.meta_objects.specs.Loading.{IsWire, LacksEnd, IsOwns, LacksClass, LacksMember, HasUses}
-use Rattle.class_outlines.specs.Parts.{Loads}
+use Rattle.meta_model.specs.PartAnswers.{Loads}
 use Rattle.meta_objects.specs.Builds.{HasOutlines, Builds}
-use Rattle.class_outlines.proofs.Zips.{none_of_zip}
-use Rattle.class_outlines.proofs.Steps.{none_lack}
+use Rattle.meta_model.proofs.Zips.{none_of_zip}
+use Rattle.meta_model.proofs.OutlineSteps.{none_lack}
 
 pub outlined : (program : Program) (o : List Outline) → (¬ DuplicateClass program) → Outlines program.classes o → HasOutlines program o
 outlined program o distinct are = record { distinct = distinct; based = none_lack program.classes (qobject ∷ []) 0 o are; are = are }

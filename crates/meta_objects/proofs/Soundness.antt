@@ -19,20 +19,20 @@ use Rattle.meta_model.specs.declared.object.Work.TheVariants as work
 use Rattle.meta_model.specs.declared.object.MetaMethod.{MetaMethod}
 use Rattle.meta_model.specs.declared.object.MetaProperty.{MetaProperty}
 use Rattle.meta_model.specs.declared.object.MetaObject.{MetaObject}
-use Rattle.class_outlines.specs.declared.outline.Sort.{Sort}
-use Rattle.class_outlines.specs.declared.outline.Sort.TheVariants as sort
-use Rattle.class_outlines.specs.declared.outline.Heading.{Heading}
-use Rattle.class_outlines.specs.declared.outline.Outline.{Outline}
+use Rattle.meta_model.specs.declared.outline.Sort.{Sort}
+use Rattle.meta_model.specs.declared.outline.Sort.TheVariants as sort
+use Rattle.meta_model.specs.declared.outline.Heading.{Heading}
+use Rattle.meta_model.specs.declared.outline.Outline.{Outline}
 use Rattle.meta_model.specs.Loaded.{Loaded}
 use Rattle.meta_model.specs.Members.{IsClassNamed, IsMethod, IsProperty}
 use Rattle.meta_model.specs.Sound.{IsKind, HasRoot, this_has, parameter_has, Leads, here, on, LeadsTo, LeadsToClass, IsSoundExpr, literal_sound, path_sound, unary_sound, binary_sound, AreSoundExprs, IsSoundSet, IsSoundEmit, IsSoundCall, AreSound, none_sound, set_sound, emit_sound, call_sound, if_sound}
-use Rattle.class_outlines.specs.Outlines.{IsOutlineNamed, kinds_of}
-use Rattle.class_outlines.specs.Kinds.{IsKindIn, IsReadAs}
-use Rattle.body_loading.specs.Bodies.{Scope, IsRoot, this_root, parameter_root, PointsTo, HasMember, AreSteps, IsPath, IsExpr, literal_is, path_is, unary_is, binary_is, AreExprs, IsSet, IsEmit, IsCall, AreStatements, none_are, set_is, emit_is, call_is, if_is}
+use Rattle.meta_model.specs.Outlines.{IsOutlineNamed, kinds_of}
+use Rattle.meta_model.specs.Kinds.{IsKindIn, IsReadAs}
+use Rattle.meta_objects.specs.Bodies.{Scope, IsRoot, this_root, parameter_root, PointsTo, HasMember, AreSteps, IsPath, IsExpr, literal_is, path_is, unary_is, binary_is, AreExprs, IsSet, IsEmit, IsCall, AreStatements, none_are, set_is, emit_is, call_is, if_is}
 use Rattle.meta_objects.specs.Loading.{body_at, found_body, work_of, IsMethodOf, IsPropertyOf, IsObject}
-use Rattle.class_outlines.proofs.Zips.{zip_left}
-use Rattle.class_outlines.proofs.Searches.{same_first}
-use Rattle.class_outlines.proofs.Reading.{same_read}
+use Rattle.meta_model.proofs.Zips.{zip_left}
+use Rattle.meta_model.proofs.Searches.{same_first}
+use Rattle.meta_model.proofs.ReadTypes.{same_read}
 
 zip_length : {A B : Type 0} (R : A → B → Type 0) (xs : List A) (ys : List B) → AllZip R xs ys → length xs ≡ length ys
 zip_length R [] [] h = refl

@@ -18,21 +18,21 @@ use Rattle.meta_model.specs.declared.object.MetaProperty.{MetaProperty}
 use Rattle.meta_model.specs.declared.object.MetaObject.{MetaObject}
 use Rattle.meta_model.specs.declared.object.MetaWire.{MetaWire}
 use Rattle.meta_model.specs.declared.object.MetaOwns.{MetaOwns}
-use Rattle.class_outlines.specs.declared.outline.Heading.{Heading}
-use Rattle.class_outlines.specs.declared.outline.Outline.{Outline}
+use Rattle.meta_model.specs.declared.outline.Heading.{Heading}
+use Rattle.meta_model.specs.declared.outline.Outline.{Outline}
 use Rattle.meta_model.specs.Loaded.{Loaded}
-use Rattle.class_outlines.specs.Places.{IsPlace}
-use Rattle.class_outlines.specs.Outlines.{IsOutline, AreOutlines, base_name, own_methods, qobject}
-use Rattle.class_outlines.specs.Kinds.{IsReadAs}
-use Rattle.class_outlines.specs.Conditions.{IsSignalOf}
-use Rattle.body_loading.specs.Bodies.{IsBody, AreBodies, AllBodies}
+use Rattle.meta_model.specs.Places.{IsPlace}
+use Rattle.meta_model.specs.Outlines.{IsOutline, AreOutlines, base_name, own_methods, qobject}
+use Rattle.meta_model.specs.Kinds.{IsReadAs}
+use Rattle.meta_model.specs.Conditions.{IsSignalOf}
+use Rattle.meta_objects.specs.Bodies.{IsBody, AreBodies, AllBodies}
 use Rattle.meta_objects.specs.Loading.{IsMethodOf, IsNotify, IsPropertyOf, IsObject, IsWire, IsOwns, IsLoaded, initial_of}
 use Rattle.meta_objects.specs.Builds.{OneLoading}
-use Rattle.class_outlines.proofs.Searches.{same_first}
-use Rattle.class_outlines.proofs.Firsts.{first_item}
+use Rattle.meta_model.proofs.Searches.{same_first}
+use Rattle.meta_model.proofs.Firsts.{first_item}
 use Rattle.meta_objects.proofs.Ends.{one_end}
-use Rattle.body_loading.proofs.Bodies.{same_statements}
-use Rattle.class_outlines.proofs.Reading.{same_read}
+use Rattle.meta_objects.proofs.Bodies.{same_statements}
+use Rattle.meta_model.proofs.ReadTypes.{same_read}
 
 -- two lists that relate to one list in the same way are the same
 pub same_zip : {A B : Type 0} (R : A → B → Type 0) (xs : List A) (ys zs : List B) → ((x : A) (y z : B) → R x y → R x z → y ≡ z) → AllZip R xs ys → AllZip R xs zs → ys ≡ zs

@@ -13,27 +13,27 @@ use Rattle.meta_model.specs.declared.object.MetaProperty.{MetaProperty}
 use Rattle.meta_model.specs.declared.object.MetaObject.{MetaObject}
 use Rattle.meta_model.specs.declared.object.MetaWire.{MetaWire}
 use Rattle.meta_model.specs.declared.object.MetaOwns.{MetaOwns}
-use Rattle.class_outlines.specs.declared.outline.Sort.{Sort}
-use Rattle.class_outlines.specs.declared.outline.Sort.TheVariants as sort
-use Rattle.class_outlines.specs.declared.outline.Heading.{Heading}
-use Rattle.class_outlines.specs.declared.outline.Outline.{Outline}
+use Rattle.meta_model.specs.declared.outline.Sort.{Sort}
+use Rattle.meta_model.specs.declared.outline.Sort.TheVariants as sort
+use Rattle.meta_model.specs.declared.outline.Heading.{Heading}
+use Rattle.meta_model.specs.declared.outline.Outline.{Outline}
 use Rattle.meta_model.specs.Loaded.{Loaded}
-use Rattle.class_outlines.specs.Places.{StandsAt, StandsFirst}
+use Rattle.meta_model.specs.Places.{StandsAt, StandsFirst}
 use Rattle.meta_model.specs.Members.{IsClass, IsMethod, base_of, Below, same, under, IsIn}
 use Rattle.meta_model.specs.Sound.{IsKind, AreSound, none_sound, IsSoundBody, IsSoundWork, IsSoundMethod, IsNotifier, IsSoundProperty, IsUnder, HasDistinctMethods, HasDistinctProperties, IsSoundClass, IsSoundWire, IsSoundOwns, IsSound}
-use Rattle.class_outlines.specs.Outlines.{IsOutlineNamed, kinds_of, own_methods, heading, destroyed_alone}
-use Rattle.class_outlines.specs.Kinds.{LacksType, IsReadAs}
-use Rattle.class_outlines.specs.Conditions.{AreOneCall, HasTwoMembers, IsSignalOf, LacksNotifier, LacksTypes}
-use Rattle.body_loading.specs.Bodies.{IsBody, AreBodies}
+use Rattle.meta_model.specs.Outlines.{IsOutlineNamed, kinds_of, own_methods, heading, destroyed_alone}
+use Rattle.meta_model.specs.Kinds.{LacksType, IsReadAs}
+use Rattle.meta_model.specs.Conditions.{AreOneCall, HasTwoMembers, IsSignalOf, LacksNotifier, LacksTypes}
+use Rattle.meta_objects.specs.Bodies.{IsBody, AreBodies}
 use Rattle.meta_objects.specs.Loading.{body_at, found_body, work_of, IsMethodOf, IsNotify, IsPropertyOf, IsObject, IsWire, IsOwns, IsLoaded}
 use Rattle.meta_objects.specs.Builds.{HasOutlines, IsClean}
-use Rattle.class_outlines.proofs.Zips.{zip_left, zip_right, get_front}
-use Rattle.class_outlines.proofs.Searches.{place_in}
-use Rattle.class_outlines.proofs.Once.{once, none_at, get_split_at}
-use Rattle.class_outlines.proofs.Reading.{same_read}
+use Rattle.meta_model.proofs.Zips.{zip_left, zip_right, get_front}
+use Rattle.meta_model.proofs.Searches.{place_in}
+use Rattle.meta_model.proofs.Once.{once, none_at, get_split_at}
+use Rattle.meta_model.proofs.ReadTypes.{same_read}
 use Rattle.meta_objects.proofs.Deciding.{carries}
 use Rattle.meta_objects.proofs.Unique.{same_zip, same_method, same_property_by, same_place}
-use Rattle.class_outlines.proofs.Described.{Declared, Reaches, here, up, HasSlot, outline_of, slot_of, begins, distinct_outlines}
+use Rattle.meta_model.proofs.Outlined.{Declared, Reaches, here, up, HasSlot, outline_of, slot_of, begins, distinct_outlines}
 use Rattle.meta_objects.proofs.Soundness.{object_at, kind_in, method_at, sound_statements}
 
 module _ {A B : Type 0} (R : A → B → Type 0) where

@@ -1,12 +1,12 @@
 -- When a program loads, and what its meta-objects are (docs/machine.md, "Loading").
 use Rattle.std.specs.Prelude.{◌≡◌, List, Result, Ok, Err}
 use Rattle.class_lang.specs.declared.program.Program.{Program}
-use Rattle.class_outlines.specs.declared.fault.MetaFault.{MetaFault}
-use Rattle.class_outlines.specs.declared.fault.MetaFault.TheVariants as fault
-use Rattle.class_outlines.specs.declared.outline.Outline.{Outline}
+use Rattle.meta_model.specs.declared.fault.MetaFault.{MetaFault}
+use Rattle.meta_model.specs.declared.fault.MetaFault.TheVariants as fault
+use Rattle.meta_model.specs.declared.outline.Outline.{Outline}
 use Rattle.meta_model.specs.Loaded.{Loaded}
-use Rattle.class_outlines.specs.Outlines.{Outlines}
-use Rattle.class_outlines.specs.Conditions.{DuplicateClass, NoBase, DuplicateMember, BadNotify, NoType}
+use Rattle.meta_model.specs.Outlines.{Outlines}
+use Rattle.meta_model.specs.Conditions.{DuplicateClass, NoBase, DuplicateMember, BadNotify, NoType}
 use Rattle.meta_objects.specs.Loading.{LacksMember, IsLoaded}
 
 -- class names and bases are as they are to be, so that the classes have these members

@@ -3,13 +3,13 @@
 use Rattle.std.specs.Prelude.{◌≡◌, ℕ, List, length, Option, slice_get}
 use Rattle.std.specs.Option.{option_and_then}
 use Rattle.std.specs.List.{AllZip}
-use Rattle.name_index.specs.Places.{place_in}
+use Rattle.meta_model.specs.NamePlaces.{place_in}
 use Rattle.meta_model.specs.declared.object.MetaObject.{MetaObject}
 use Rattle.meta_model.specs.declared.object.MetaMethod.{MetaMethod}
 use Rattle.meta_model.specs.declared.object.MetaProperty.{MetaProperty}
 use Rattle.meta_objects.specs.declared.class_index.MemberIndex.{MemberIndex}
 use Rattle.meta_objects.specs.declared.class_index.ClassIndex.{ClassIndex}
-use Rattle.class_outlines.specs.Places.{IsPlace}
+use Rattle.meta_model.specs.Places.{IsPlace}
 
 -- names with the places that they were given
 abbrev pub Index : Type 0

@@ -20,16 +20,17 @@ use Rattle.meta_model.specs.declared.object.MetaProperty.{MetaProperty}
 use Rattle.meta_model.specs.declared.object.MetaObject.{MetaObject}
 use Rattle.meta_model.specs.declared.object.MetaWire.{MetaWire}
 use Rattle.meta_model.specs.declared.object.MetaOwns.{MetaOwns}
-use Rattle.class_outlines.specs.declared.outline.Sort.{Sort}
-use Rattle.class_outlines.specs.declared.outline.Sort.TheVariants as sort
-use Rattle.class_outlines.specs.declared.outline.Heading.{Heading}
-use Rattle.class_outlines.specs.declared.outline.Outline.{Outline}
+use Rattle.meta_model.specs.declared.outline.Sort.{Sort}
+use Rattle.meta_model.specs.declared.outline.Sort.TheVariants as sort
+use Rattle.meta_model.specs.declared.outline.Heading.{Heading}
+use Rattle.meta_model.specs.declared.outline.Outline.{Outline}
 use Rattle.meta_model.specs.Loaded.{Loaded}
-use Rattle.class_outlines.specs.Places.{StandsFirst, IsPlace}
-use Rattle.class_outlines.specs.Outlines.{IsOutlineNamed}
-use Rattle.class_outlines.specs.Kinds.{IsReadAs}
-use Rattle.class_outlines.specs.Conditions.{IsSignalOf}
-use Rattle.body_loading.specs.Bodies.{AllBodies, LacksInClass}
+use Rattle.meta_model.specs.Places.{IsPlace}
+use Rattle.meta_model.specs.Outlines.{IsOutlineNamed}
+use Rattle.meta_model.specs.Kinds.{IsReadAs}
+use Rattle.meta_model.specs.Conditions.{IsSignalOf}
+use Rattle.meta_model.specs.Ends.{IsSigned, IsEnd}
+use Rattle.meta_objects.specs.Bodies.{AllBodies, LacksInClass}
 
 -- ---- methods
 -- the body of slot j of class i
@@ -82,14 +83,6 @@ pub record IsObject (outlines : List Outline) (bodies : List (List (List Stateme
   pub properties : AllZip (IsPropertyOf outlines outline) outline.properties object.properties
 
 -- ---- wires and owns
--- a method of this signature, of any sort, in the class of this name
-pub record IsEnd (P : Heading → Type 0) (outlines : List Outline) (name : List ℕ) (c m : ℕ) : Type 0 where
-  pub class : IsOutlineNamed outlines name c
-  pub method : StandsFirst P class.at.item.methods m
-
-abbrev pub IsSigned : Sig → Heading → Type 0
-IsSigned sig h = h.sig ≡ sig
-
 -- a wire leads from a signal to a signal or slot that isn't one of `QObject`'s
 pub record IsWire (outlines : List Outline) (wire : Wire) (loaded : MetaWire) : Type 0 where
   pub from : IsEnd (IsSignalOf wire.signal) outlines wire.sender loaded.sender loaded.signal

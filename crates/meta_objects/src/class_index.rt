@@ -2,11 +2,10 @@
 
 ghost use Rattle.std.specs.Prelude.{◌≡◌, ℕ, ◌<◌, List, IfOk, OnOk, vec_len};
 ghost use Rattle.std.specs.List.{AllZip};
-ghost use Rattle.name_index.specs.Places.{place_in};
+ghost use Rattle.meta_model.specs.NamePlaces.{place_in};
 ghost use Rattle.meta_objects.specs.Indexes.{place_by, IndexesClasses, IndexesProperties, IndexesMethods, IndexesMembers, IsIndexOf, property_in, method_in};
 
-use meta_model::{MetaMethod, MetaObject, MetaProperty};
-use name_index::NameIndex;
+use meta_model::{MetaMethod, MetaObject, MetaProperty, NameIndex};
 use signatures::Name;
 use sqlite_items::Items;
 use std::alloc::{AllocError, Global};

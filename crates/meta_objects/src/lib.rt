@@ -1,17 +1,17 @@
 //! Meta-objects: a program whose names are resolved to numbers.
 #![tactic(auto)]
 
+mod body_resolution;
 mod class_index;
 mod laws;
-mod load_object;
-mod load_uses;
-mod load_wire;
 mod meta;
+mod resolve_object;
+mod resolve_uses;
+mod resolve_wire;
 
-pub use class_outlines::MetaFault;
 pub use laws::one_loading;
 pub use meta::{Meta, Wired};
 pub use meta_model::{
-    MetaMethod, MetaObject, MetaOwns, MetaPath, MetaProperty, MetaRoot, MetaWire, SlotBody,
-    Statement, Step, ValueType, Work,
+    MetaFault, MetaMethod, MetaObject, MetaOwns, MetaPath, MetaProperty, MetaRoot, MetaWire,
+    SlotBody, Statement, Step, ValueType, Work,
 };

@@ -9,14 +9,13 @@ ghost use Rattle.meta_model.specs.declared.object.MetaObject.{MetaObject};
 ghost use Rattle.signatures.specs.declared.value.Value.TheVariants.{Ref};
 
 use crate::class_index::ClassIndex;
-use crate::load_object::load_objects;
-use crate::load_uses::{Uses, load_uses};
+use crate::resolve_object::resolve_objects;
+use crate::resolve_uses::{Uses, resolve_uses};
 use class_lang::Program;
-use class_outlines::{
-    MetaFault, has_bad_notify, has_duplicate_class, has_duplicate_member, has_no_type,
-    outline_classes,
+use meta_model::{
+    MetaFault, MetaMethod, MetaObject, MetaOwns, MetaWire, ValueType, has_bad_notify,
+    has_duplicate_class, has_duplicate_member, has_no_type, outline_classes,
 };
-use meta_model::{MetaMethod, MetaObject, MetaOwns, MetaWire, ValueType};
 use signatures::{Kind, Name, ObjectId, Sig, Value, fits};
 use sqlite_items::Items;
 use std::alloc::Global;
@@ -83,14 +82,14 @@ impl Meta {
             bodies,
             wires,
             owns,
-        } = load_uses(alloc, program, all)?;
+        } = resolve_uses(alloc, program, all)?;
         if has_bad_notify(all) {
             return Err(MetaFault::BadNotify);
         }
         if has_no_type(all) {
             return Err(MetaFault::NoType);
         }
-        let classes = load_objects(alloc, all, bodies.as_slice())?;
+        let classes = resolve_objects(alloc, all, bodies.as_slice())?;
         let index = ClassIndex::new(alloc, classes.as_slice())?;
         Ok(Meta {
             classes,

@@ -4,7 +4,7 @@ use Rattle.std.specs.Prelude.{slice_get, is_some, MatchOption}
 use Rattle.std.specs.Option.{option_map, unwrap_or}
 use Rattle.std.proofs.lemmas.Bool.{cases_eq, eq-eqb, eqb-true}
 use Rattle.std.proofs.lemmas.Option.{same_Some}
-use Rattle.name_index.specs.Places.{place_in, Adds}
+use Rattle.meta_model.specs.NamePlaces.{place_in, Adds}
 use Rattle.object_tree.specs.declared.object.Object.{Object}
 use Rattle.object_tree.specs.Children.{is_among}
 use Rattle.object_tree.specs.Objects.{Lives, IsNamed, IsFree, change, name_of}

@@ -1,7 +1,7 @@
 //! How an object is created.
 
 ghost use Rattle.std.specs.Prelude.{◌≡◌, [], ◌∷◌, ◌++◌, length, IfOk, OnOk, OnErr, MatchResult};
-ghost use Rattle.name_index.specs.Places.{Adds};
+ghost use Rattle.meta_model.specs.NamePlaces.{Adds};
 ghost use Rattle.object_tree.specs.Creating.{MayCreate, IsNotCreated, fresh, initial_values};
 ghost use Rattle.object_tree.specs.Kept.{Kept};
 
@@ -11,8 +11,8 @@ use crate::object::Object;
 use crate::objects::Objects;
 use crate::typing::begin_well;
 use crate::values::Values;
+use meta_model::NameIndex;
 use meta_objects::{Meta, MetaObject};
-use name_index::NameIndex;
 use signatures::{LoopId, Name};
 use std::alloc::{AllocError, Global};
 

@@ -7,9 +7,9 @@ use Rattle.class_lang.specs.Reads.{ReadsProgram, number_of as text_number}
 use Rattle.class_lang.specs.declared.program.Program.{Program}
 use Rattle.class_lang.specs.declared.fault.TextFault.{TextFault}
 use Rattle.meta_objects.specs.Builds.{Builds}
-use Rattle.class_outlines.specs.Faults.{number_of as meta_number}
+use Rattle.meta_model.specs.FaultNumbers.{number_of as meta_number}
 use Rattle.meta_model.specs.Loaded.{Loaded}
-use Rattle.class_outlines.specs.declared.fault.MetaFault.{MetaFault}
+use Rattle.meta_model.specs.declared.fault.MetaFault.{MetaFault}
 use Rattle.script_lang.specs.Reads.{ReadsScript}
 use Rattle.script_lang.specs.declared.event.Event.{Event}
 use Rattle.script_lang.specs.declared.fault.ScriptFault.{ScriptFault}

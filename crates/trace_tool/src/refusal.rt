@@ -61,7 +61,7 @@ impl From<TextFault> for Refusal {
 
 impl From<MetaFault> for Refusal {
     ghost use Rattle.std.specs.Prelude.{◌≡◌};
-    ghost use Rattle.class_outlines.specs.Faults.{number_of};
+    ghost use Rattle.meta_model.specs.FaultNumbers.{number_of};
     ghost use Rattle.trace_tool.specs.Refusals.{numbered};
 
     ghost from_gives = { λ fault refusal. refusal ≡ numbered (number_of fault) };

@@ -1,7 +1,7 @@
-use Rattle.class_outlines.specs.Outlines.{Outlines}
+use Rattle.meta_model.specs.Outlines.{Outlines}
 use Rattle.meta_objects.specs.Loading.{HasUses}
-use Rattle.meta_objects.specs.declared.load_uses.Uses.{Uses}
-use Rattle.class_outlines.proofs.Choices.{fails}
+use Rattle.meta_objects.specs.declared.resolve_uses.Uses.{Uses}
+use Rattle.meta_model.proofs.Choices.{fails}
 use Rattle.meta_objects.proofs.Refusals.{outlined, nothing_lacks, answers, refused_base, refused_use}
 use Rattle.meta_objects.proofs.Whole.{sound}
 use Rattle.meta_objects.proofs.meta.Meta.build.Goals as goal

@@ -1,9 +1,0 @@
-pub mod Searches
-pub mod Choices
-pub mod Zips
-pub mod Types
-pub mod Firsts
-pub mod Reading
-pub mod Once
-pub mod Steps
-pub mod Described

@@ -1,5 +1,0 @@
-use Rattle.class_outlines.proofs.Types.{no_pointer}
-use Rattle.class_outlines.proofs.kinds.kind_of.Goals as goal
-
-pub returns-in-None : goal.returns-in-None
-returns-in-None c = no_pointer _ _ c.if-declared.true c.in-None.ensures

@@ -1,0 +1,210 @@
+-- What each class of an outlined program is: `QObject`, or a declared class with its base's members and its own.
+use Rattle.std.proofs.Common.{◌≡◌, ◌≢◌, ℕ, zero, suc, ◌+◌, ◌<◌, List, [], ◌∷◌, ◌++◌, map, length, slice_get, Some, ◌⊎◌, inl, inr, refl, sym, ap, ◌∙◌, subst, arith, length-append, append_assoc}
+use Rattle.std.specs.Prelude.{codes}
+use Rattle.std.proofs.lemmas.Option.{slice_get_within, none-some, same_Some}
+use Rattle.class_lang.specs.declared.program.Signal.{Signal}
+use Rattle.class_lang.specs.declared.program.Slot.{Slot}
+use Rattle.class_lang.specs.declared.program.Class.{Class}
+use Rattle.class_lang.specs.declared.program.Program.{Program}
+use Rattle.meta_model.specs.declared.outline.Heading.{Heading}
+use Rattle.meta_model.specs.declared.outline.Outline.{Outline}
+use Rattle.meta_model.specs.declared.outline.Sort.TheVariants as sort
+use Rattle.meta_model.specs.Outlines.{kinds_of, sig_of, signal_heading, slot_headings, own_methods, qobject, AreOutlines, Outlines}
+use Rattle.meta_model.specs.Conditions.{DuplicateClass, IsTaken}
+use Rattle.meta_model.proofs.Zips.{get_front, any_of}
+use Rattle.meta_model.proofs.Once.{once, get_split_at}
+
+-- class c is declared
+pub record Declared (classes : List Class) (all : List Outline) (c : ℕ) (o : Outline) : Type 0 where
+  pub i : ℕ
+  pub number : c ≡ suc i
+  pub class : Class
+  pub is : slice_get classes i ≡ Some class
+  pub base_number : ℕ
+  pub smaller : base_number < c
+  pub base : Outline
+  pub is_base : slice_get all base_number ≡ Some base
+  pub shape : o ≡ record { name = class.name; base = Some base_number; methods = base.methods ++ own_methods i class; properties = base.properties ++ class.properties }
+
+-- the outlines so far are the first ones
+extends : (cs : List Class) (done : List Outline) (i : ℕ) (all : List Outline) → AreOutlines done i cs all → (b : ℕ) (x : Outline) → slice_get done b ≡ Some x → slice_get all b ≡ Some x
+extends [] done i all h b x e = subst (λ xs. slice_get xs b ≡ Some x) (sym h) e
+extends (class ∷ cs) done i all h b x e = extends cs (done ++ h.0 ∷ []) (suc i) all h.2 b x (get_front done (h.0 ∷ []) b x e)
+
+last_of : (o u : Outline) (j : ℕ) → slice_get (o ∷ []) j ≡ Some u → (j ≡ 0) × (o ≡ u)
+last_of o u zero e = (refl, same_Some _ _ e)
+last_of o u (suc j) e = absurd (none-some u e)
+
+described : (classes cs : List Class) (done : List Outline) (i : ℕ) (all : List Outline) → AreOutlines done i cs all → length done ≡ suc i → ((k : ℕ) (x : Class) → slice_get cs k ≡ Some x → slice_get classes (i + k) ≡ Some x) → (c : ℕ) (o : Outline) → slice_get all c ≡ Some o → (slice_get done c ≡ Some o) ⊎ Declared classes all c o
+described classes [] done i all h count at c o e = inl (subst (λ xs. slice_get xs c ≡ Some o) h e)
+described classes (class ∷ cs) done i all h count at c o e =
+    let counted : length (done ++ h.0 ∷ []) ≡ suc (suc i) = omega (arith, length-append done (h.0 ∷ [])) in
+    let shifted : (k : ℕ) (x : Class) → slice_get cs k ≡ Some x → slice_get classes (suc i + k) ≡ Some x = λ k x f. subst (λ n. slice_get classes n ≡ Some x) (omega arith) (at (suc k) x f) in
+    elim (described classes cs (done ++ h.0 ∷ []) (suc i) all h.2 counted shifted c o e) [
+      | inr d ↦ inr d
+      | inl f ↦ elim (get_split_at done (h.0 ∷ []) c o f) [
+        | inl g ↦ inl g
+        | inr r ↦
+            let last = last_of h.0 o r.0 r.2 in
+            let place : c ≡ suc i = omega (arith, r.1, last.0) in
+            let here : slice_get classes i ≡ Some class = subst (λ n. slice_get classes n ≡ Some class) (omega arith) (at 0 class refl) in
+            let inside : h.1.number < length done = slice_get_within done h.1.number h.1.based.at.item h.1.based.at.is in
+            inr (record {
+              i = i;
+              number = place;
+              class = class;
+              is = here;
+              base_number = h.1.number;
+              smaller = omega (arith, place, inside);
+              base = h.1.based.at.item;
+              is_base = extends (class ∷ cs) done i all h h.1.number h.1.based.at.item h.1.based.at.is;
+              shape = sym last.1 ∙ h.1.is;
+            })
+      ]
+    ]
+
+-- ---- own methods
+abbrev heading_by : ℕ → Slot → ℕ → Heading
+heading_by i slot j = record { sig = sig_of slot.name (kinds_of slot.parameters); sort = sort.Slot i j }
+
+module _ (i : ℕ) where
+  -- an own method with a body is a slot
+  record IsSlotHeading (slots : List Slot) (from k : ℕ) (h : Heading) : Type 0 where
+    pub slot : Slot
+    pub is : slice_get slots k ≡ Some slot
+    pub shape : h ≡ record { sig = sig_of slot.name (kinds_of slot.parameters); sort = sort.Slot i (from + k) }
+
+  slot_at : (slots : List Slot) (from k : ℕ) (h : Heading) → slice_get (slot_headings i from slots) k ≡ Some h → IsSlotHeading slots from k h
+  slot_at [] from k h e = absurd (none-some h e)
+  slot_at (slot ∷ slots) from zero h e = record {
+    slot = slot;
+    is = refl;
+    shape = sym (same_Some _ _ e) ∙ ap (λ j. heading_by i slot j) (omega arith);
+  }
+  slot_at (slot ∷ slots) from (suc k) h e =
+      let rest = slot_at slots (suc from) k h e in
+      record { slot = rest.slot; is = rest.is; shape = rest.shape ∙ ap (λ j. heading_by i rest.slot j) (omega arith) }
+
+  signal_at : (signals : List Signal) (k : ℕ) (h : Heading) → slice_get (map signal_heading signals) k ≡ Some h → h.sort ≡ sort.Signal
+  signal_at [] k h e = absurd (none-some h e)
+  signal_at (signal ∷ signals) zero h e = ap (λ (x : Heading). x.sort) (sym (same_Some _ _ e))
+  signal_at (signal ∷ signals) (suc k) h e = signal_at signals k h e
+
+qobject_sort : (m : ℕ) (h : Heading) → slice_get qobject.methods m ≡ Some h → (i j : ℕ) → h.sort ≢ sort.Slot i j
+qobject_sort zero h e i j f = let s = ap (λ (x : Heading). x.sort) (same_Some _ _ e) in absurd (cc)
+qobject_sort (suc zero) h e i j f = let s = ap (λ (x : Heading). x.sort) (same_Some _ _ e) in absurd (cc)
+qobject_sort (suc (suc zero)) h e i j f = let s = ap (λ (x : Heading). x.sort) (same_Some _ _ e) in absurd (cc)
+qobject_sort (suc (suc (suc zero))) h e i j f = let s = ap (λ (x : Heading). x.sort) (same_Some _ _ e) in absurd (cc)
+qobject_sort (suc (suc (suc (suc m)))) h e i j f = absurd (none-some h e)
+
+-- a heading of slot j of class i, which is the class or above it
+pub data Reaches (all : List Outline) : ℕ → ℕ → Type 0 where
+  here : {c : ℕ} → Reaches all c c
+  up : {c b d : ℕ} (o : Outline) → slice_get all c ≡ Some o → o.base ≡ Some b → Reaches all b d → Reaches all c d
+
+pub record HasSlot (classes : List Class) (all : List Outline) (c i j : ℕ) (h : Heading) : Type 0 where
+  pub class : Class
+  pub is_class : slice_get classes i ≡ Some class
+  pub slot : Slot
+  pub is_slot : slice_get class.slots j ≡ Some slot
+  pub signed : h.sig ≡ sig_of slot.name (kinds_of slot.parameters)
+  pub reaches : Reaches all c (suc i)
+  pub outline : Outline
+  pub is_outline : slice_get all (suc i) ≡ Some outline
+  pub named : outline.name ≡ class.name
+
+module _ (classes : List Class) (all : List Outline) (are : Outlines classes all) where
+  pub outline_of : (c : ℕ) (o : Outline) → slice_get all c ≡ Some o → ((c ≡ 0) × (o ≡ qobject)) ⊎ Declared classes all c o
+  outline_of c o e =
+      elim (described classes classes (qobject ∷ []) 0 all are refl (λ k x f. subst (λ n. slice_get classes n ≡ Some x) (omega arith) f) c o e) [
+        | inr d ↦ inr d
+        | inl f ↦ let last = last_of qobject o c f in inl (last.0, sym last.1)
+      ]
+
+  own_slot : (c : ℕ) (o : Outline) → slice_get all c ≡ Some o → (d : Declared classes all c o) (k : ℕ) (h : Heading) → slice_get (own_methods d.i d.class) k ≡ Some h → (i j : ℕ) → h.sort ≡ sort.Slot i j → HasSlot classes all c i j h
+  own_slot c o e d k h at i j is =
+      elim (get_split_at (map signal_heading d.class.signals) (slot_headings d.i 0 d.class.slots) k h at) [
+        | inl f ↦ let s = signal_at d.i d.class.signals k h f in absurd (cc)
+        | inr r ↦
+            let found = slot_at d.i d.class.slots 0 r.0 h r.2 in
+            let s : sort.Slot d.i (0 + r.0) ≡ sort.Slot i j = sym (ap (λ (x : Heading). x.sort) found.shape) ∙ is in
+            let same_i : d.i ≡ i = cc in
+            let same_j : 0 + r.0 ≡ j = cc in
+            let place : r.0 ≡ j = omega (arith, same_j) in
+            let number : suc i ≡ c = omega (arith, same_i, d.number) in
+            record {
+              class = d.class;
+              is_class = subst (λ n. slice_get classes n ≡ Some d.class) same_i d.is;
+              slot = found.slot;
+              is_slot = subst (λ n. slice_get d.class.slots n ≡ Some found.slot) place found.is;
+              signed = ap (λ (x : Heading). x.sig) found.shape;
+              reaches = subst (λ n. Reaches all c n) (sym number) here;
+              outline = o;
+              is_outline = subst (λ n. slice_get all n ≡ Some o) (sym number) e;
+              named = ap (λ (x : Outline). x.name) d.shape;
+            }
+      ]
+
+  inherited_slot : (c b : ℕ) (o : Outline) → slice_get all c ≡ Some o → o.base ≡ Some b → (i j : ℕ) (h : Heading) → HasSlot classes all b i j h → HasSlot classes all c i j h
+  inherited_slot c b o e based i j h r = record {
+    class = r.class;
+    is_class = r.is_class;
+    slot = r.slot;
+    is_slot = r.is_slot;
+    signed = r.signed;
+    reaches = up o e based r.reaches;
+    outline = r.outline;
+    is_outline = r.is_outline;
+    named = r.named;
+  }
+
+  has_slot : (n c : ℕ) → c < n → (o : Outline) → slice_get all c ≡ Some o → (m : ℕ) (h : Heading) → slice_get o.methods m ≡ Some h → (i j : ℕ) → h.sort ≡ sort.Slot i j → HasSlot classes all c i j h
+  has_slot zero c below o e m h at i j is = absurd (omega arith)
+  has_slot (suc n) c below o e m h at i j is =
+      elim (outline_of c o e) [
+        | inl q ↦ absurd (qobject_sort m h (subst (λ (x : Outline). slice_get x.methods m ≡ Some h) q.1 at) i j is)
+        | inr d ↦ elim (get_split_at d.base.methods (own_methods d.i d.class) m h (subst (λ (x : Outline). slice_get x.methods m ≡ Some h) d.shape at)) [
+          | inl f ↦
+              inherited_slot c d.base_number o e (ap (λ (x : Outline). x.base) d.shape) i j h
+              (has_slot n d.base_number (omega (arith, d.smaller)) d.base d.is_base m h f i j is)
+          | inr r ↦ own_slot c o e d r.0 h r.2 i j is
+        ]
+      ]
+
+  -- every class's methods begin with those of `QObject`
+  pub begins : (n c : ℕ) → c < n → (o : Outline) → slice_get all c ≡ Some o → (own : List Heading) × (o.methods ≡ qobject.methods ++ own)
+  begins zero c below o e = absurd (omega arith)
+  begins (suc n) c below o e =
+      elim (outline_of c o e) [
+        | inl q ↦ ([], ap (λ (x : Outline). x.methods) q.1)
+        | inr d ↦
+            let base = begins n d.base_number (omega (arith, d.smaller)) d.base d.is_base in
+            (base.0 ++ own_methods d.i d.class, ap (λ (x : Outline). x.methods) d.shape ∙ ap (λ ms. ms ++ own_methods d.i d.class) base.1 ∙ append_assoc qobject.methods base.0 (own_methods d.i d.class))
+      ]
+
+  -- where a heading's body stands
+  pub slot_of : (c : ℕ) (o : Outline) → slice_get all c ≡ Some o → (m : ℕ) (h : Heading) → slice_get o.methods m ≡ Some h → (i j : ℕ) → h.sort ≡ sort.Slot i j → HasSlot classes all c i j h
+  slot_of c o e m h at i j is = has_slot (suc c) c (omega arith) o e m h at i j is
+
+-- no two classes have one name
+module _ (program : Program) (all : List Outline) (are : Outlines program.classes all) (distinct : ¬ DuplicateClass program) where
+  not_root : (c : ℕ) (o : Outline) → Declared program.classes all c o → ¬ (o.name ≡ codes "QObject")
+  not_root c o d named =
+      distinct (inr (any_of (λ (class : Class). IsTaken class.name) program.classes d.i
+      (record { item = d.class; is = d.is; has = inl (sym (ap (λ (x : Outline). x.name) d.shape) ∙ named) })))
+
+  pub distinct_outlines : (i j : ℕ) (a b : Outline) → slice_get all i ≡ Some a → slice_get all j ≡ Some b → a.name ≡ b.name → i ≡ j
+  distinct_outlines i j a b ea eb named =
+      elim (outline_of program.classes all are i a ea) [
+        | inl q ↦ elim (outline_of program.classes all are j b eb) [
+          | inl r ↦ q.0 ∙ sym r.0
+          | inr d ↦ absurd (not_root j b d (sym named ∙ ap (λ (x : Outline). x.name) q.1))
+        ]
+        | inr c ↦ elim (outline_of program.classes all are j b eb) [
+          | inl r ↦ absurd (not_root i a c (named ∙ ap (λ (x : Outline). x.name) r.1))
+          | inr d ↦
+              let same : c.class.name ≡ d.class.name = sym (ap (λ (x : Outline). x.name) c.shape) ∙ named ∙ ap (λ (x : Outline). x.name) d.shape in
+              let place = once (λ (x y : Class). x.name ≡ y.name) program.classes (λ t. distinct (inl t)) c.i d.i c.class d.class c.is d.is same (sym same) in
+              omega (arith, c.number, d.number, place)
+        ]
+      ]

@@ -1,0 +1,82 @@
+-- Lists that are made element by element.
+use Rattle.std.proofs.Common.{◌≡◌, ℕ, zero, suc, ◌<◌, ◌≤◌, ◌+◌, List, [], ◌∷◌, ◌++◌, length, get_or, slice_get, take, Any, Option, None, Some, MatchOption, ◌⊎◌, inl, inr, refl, sym, subst}
+use Rattle.std.specs.List.{AllZip}
+use Rattle.std.proofs.lemmas.List.{take_more, take_all}
+use Rattle.std.proofs.lemmas.Option.{slice_get_within, get_or_from_slice_get, none-some, same_Some}
+use Rattle.meta_model.specs.Places.{StandsAt}
+use Rattle.meta_model.proofs.Searches.{met}
+
+module _ {A B : Type 0} (R : A → B → Type 0) where
+  pub zip_append : (xs us : List A) (ys vs : List B) → AllZip R xs ys → AllZip R us vs → AllZip R (xs ++ us) (ys ++ vs)
+  zip_append [] us [] vs h k = k
+  zip_append [] us (y ∷ ys) vs h k = absurd h
+  zip_append (x ∷ xs) us [] vs h k = absurd h
+  zip_append (x ∷ xs) us (y ∷ ys) vs h k = (h.0, zip_append xs us ys vs h.1 k)
+
+  -- one element more
+  pub zip_more : (xs : List A) (ys : List B) (i : ℕ) (x : A) (y : B) → i < length xs → x ≡ get_or xs i x → R x y → AllZip R (take i xs) ys → AllZip R (take (i + 1) xs) (ys ++ y ∷ [])
+  zip_more xs ys i x y inside is r before =
+      subst (λ us. AllZip R us (ys ++ y ∷ [])) (sym (take_more xs i x inside)) (zip_append (take i xs) (get_or xs i x ∷ []) ys (y ∷ []) before (subst (λ v. R v y) is r, tt))
+
+  pub zip_push : (xs : List A) (ys zs : List B) (i : ℕ) (x : A) (y : B) → i < length xs → x ≡ get_or xs i x → R x y → AllZip R (take i xs) ys → zs ≡ ys ++ y ∷ [] → AllZip R (take (i + 1) xs) zs
+  zip_push xs ys zs i x y inside is r before e = subst (λ us. AllZip R (take (i + 1) xs) us) (sym e) (zip_more xs ys i x y inside is r before)
+
+  -- all elements
+  pub zip_all : (xs : List A) (ys : List B) (i : ℕ) → length xs ≤ i → AllZip R (take i xs) ys → AllZip R xs ys
+  zip_all xs ys i past h = subst (λ us. AllZip R us ys) (take_all i xs past) h
+
+module _ {A : Type 0} (P : A → Type 0) (xs : List A) where
+  pub any_here : (i : ℕ) (x : A) → i < length xs → x ≡ get_or xs i x → P x → Any P xs
+  any_here i x inside is has = (i, x, inside, sym is, has)
+
+  pub not_any : ((i : ℕ) → ¬ StandsAt P xs i) → ¬ Any P xs
+  not_any none any = none any.0 (met P xs any.0 any.1 any.2 (sym any.3) any.4)
+
+-- a search that found nothing
+pub lacks : {Y : Type 0} (P : Type 0) (Q : Y → Type 0) (o : Option Y) → o ≡ None → P → MatchOption o P Q
+lacks P Q None e p = p
+lacks P Q (Some y) e p = absurd (cc)
+
+module _ {A : Type 0} (P : A → Type 0) (xs : List A) where
+  pub any_of : (i : ℕ) → StandsAt P xs i → Any P xs
+  any_of i at = (i, at.item, slice_get_within xs i at.item at.is, get_or_from_slice_get xs i at.item at.item at.is, at.has)
+
+  pub place_of_any : Any P xs → (i : ℕ) × StandsAt P xs i
+  place_of_any any = (any.0, met P xs any.0 any.1 any.2 (sym any.3) any.4)
+
+module _ {A B : Type 0} (R : A → B → Type 0) where
+  -- the element that stands at the same place in the other list
+  pub zip_left : (xs : List A) (ys : List B) → AllZip R xs ys → (i : ℕ) (x : A) → slice_get xs i ≡ Some x → (y : B) × (slice_get ys i ≡ Some y) × R x y
+  zip_left [] ys h i x e = absurd (none-some x e)
+  zip_left (a ∷ xs) [] h i x e = absurd h
+  zip_left (a ∷ xs) (b ∷ ys) h zero x e = (b, refl, subst (λ v. R v b) (same_Some _ _ e) h.0)
+  zip_left (a ∷ xs) (b ∷ ys) h (suc i) x e = zip_left xs ys h.1 i x e
+
+  pub zip_right : (xs : List A) (ys : List B) → AllZip R xs ys → (i : ℕ) (y : B) → slice_get ys i ≡ Some y → (x : A) × (slice_get xs i ≡ Some x) × R x y
+  zip_right xs [] h i y e = absurd (none-some y e)
+  zip_right [] (b ∷ ys) h i y e = absurd h
+  zip_right (a ∷ xs) (b ∷ ys) h zero y e = (a, refl, subst (λ v. R a v) (same_Some _ _ e) h.0)
+  zip_right (a ∷ xs) (b ∷ ys) h (suc i) y e = zip_right xs ys h.1 i y e
+
+  -- what no element of a pair has, no element of the first list has
+  pub none_of_zip : (P : A → Type 0) (xs : List A) (ys : List B) → AllZip R xs ys → ((x : A) (y : B) → R x y → ¬ P x) → ¬ Any P xs
+  none_of_zip P xs ys h not any =
+      let at = place_of_any P xs any in
+      let pair = zip_left xs ys h at.0 at.1.item at.1.is in
+      not at.1.item pair.0 pair.2 at.1.has
+
+module _ {A : Type 0} where
+  -- a place in two lists in a row
+  pub get_front : (xs ys : List A) (i : ℕ) (x : A) → slice_get xs i ≡ Some x → slice_get (xs ++ ys) i ≡ Some x
+  get_front [] ys i x e = absurd (none-some x e)
+  get_front (a ∷ xs) ys zero x e = e
+  get_front (a ∷ xs) ys (suc i) x e = get_front xs ys i x e
+
+  pub get_back : (xs ys : List A) (i : ℕ) (x : A) → slice_get ys i ≡ Some x → (j : ℕ) × (slice_get (xs ++ ys) j ≡ Some x)
+  get_back [] ys i x e = (i, e)
+  get_back (a ∷ xs) ys i x e = let r = get_back xs ys i x e in (suc r.0, r.1)
+
+  pub get_split : (xs ys : List A) (i : ℕ) (x : A) → slice_get (xs ++ ys) i ≡ Some x → (slice_get xs i ≡ Some x) ⊎ ((j : ℕ) × (slice_get ys j ≡ Some x))
+  get_split [] ys i x e = inr (i, e)
+  get_split (a ∷ xs) ys zero x e = inl e
+  get_split (a ∷ xs) ys (suc i) x e = get_split xs ys i x e

@@ -1,0 +1,88 @@
+-- The conditions under which a program doesn't load, but for names in bodies, wires and owns that aren't there
+-- (docs/language.md, "Names").
+use Rattle.std.specs.Prelude.{◌≡◌, ℕ, ◌<◌, List, [], ◌∷◌, ◌++◌, length, Option, None, Some, Any, ◌⊎◌, codes}
+use Rattle.signatures.specs.declared.sig.Sig.{Sig}
+use Rattle.class_lang.specs.declared.program.Parameter.{Parameter}
+use Rattle.class_lang.specs.declared.program.Property.{Property}
+use Rattle.class_lang.specs.declared.program.Signal.{Signal}
+use Rattle.class_lang.specs.declared.program.Slot.{Slot}
+use Rattle.class_lang.specs.declared.program.Class.{Class}
+use Rattle.class_lang.specs.declared.program.Program.{Program}
+use Rattle.meta_model.specs.declared.outline.Heading.{Heading}
+use Rattle.meta_model.specs.declared.outline.Outline.{Outline}
+use Rattle.meta_model.specs.declared.outline.Sort.TheVariants as sort
+use Rattle.meta_model.specs.Places.{StandsFirst}
+use Rattle.meta_model.specs.Twice.{StandsTwice}
+use Rattle.meta_model.specs.Outlines.{base_name}
+use Rattle.meta_model.specs.Kinds.{LacksType}
+
+-- ---- names of classes
+-- no class may have this name
+abbrev pub IsTaken : List ℕ → Type 0
+IsTaken name = (name ≡ codes "QObject") ⊎ (name ≡ codes "int") ⊎ (name ≡ codes "bool") ⊎ (name ≡ codes "QString")
+
+-- two classes have one name, or a class has a name that none may have
+abbrev pub DuplicateClass : Program → Type 0
+DuplicateClass program =
+    StandsTwice (λ (a b : Class). a.name ≡ b.name) program.classes ⊎ Any (λ (class : Class). IsTaken class.name) program.classes
+
+-- ---- bases
+-- the base of one of the classes isn't among the names of those before it
+abbrev pub LacksBase : List (List ℕ) → List Class → Type 0
+LacksBase before [] = ⊥
+LacksBase before (class ∷ classes) =
+    (¬ Any (λ name. name ≡ base_name class.base) before) ⊎ LacksBase (before ++ class.name ∷ []) classes
+
+abbrev pub NoBase : Program → Type 0
+NoBase program = LacksBase (codes "QObject" ∷ []) program.classes
+
+-- ---- members that stand twice
+-- both parameters have a name, and it is the same
+abbrev pub AreOneParameter : Parameter → Parameter → Type 0
+AreOneParameter a b = (name : List ℕ) × (a.name ≡ Some name) × (b.name ≡ Some name)
+
+-- one name and one number of parameters
+abbrev pub AreOneCall : Heading → Heading → Type 0
+AreOneCall a b = (a.sig.name ≡ b.sig.name) × (length a.sig.types ≡ length b.sig.types)
+
+-- two methods or two properties of the class, inherited ones too, are one
+abbrev pub HasTwoMembers : Outline → Type 0
+HasTwoMembers outline =
+    StandsTwice AreOneCall outline.methods ⊎ StandsTwice (λ (a b : Property). a.name ≡ b.name) outline.properties
+
+-- two parameters of one name in a method of the class
+abbrev pub RepeatsParameter : Class → Type 0
+RepeatsParameter class =
+    Any (λ (signal : Signal). StandsTwice AreOneParameter signal.parameters) class.signals
+    ⊎ Any (λ (slot : Slot). StandsTwice AreOneParameter slot.parameters) class.slots
+
+abbrev pub DuplicateMember : Program → List Outline → Type 0
+DuplicateMember program outlines = Any HasTwoMembers outlines ⊎ Any RepeatsParameter program.classes
+
+-- ---- notify signals
+abbrev pub IsSignalOf : Sig → Heading → Type 0
+IsSignalOf sig h = (h.sig ≡ sig) × (h.sort ≡ sort.Signal)
+
+-- The notify signature is that of signal m of the class, without parameter or with one of the property's type. Of
+-- QObject's own signals, which have the first numbers, only `objectName` may be notified by one.
+pub record IsNotifiedBy (outline : Outline) (property : Property) (sig : Sig) (m : ℕ) : Type 0 where
+  pub signal : StandsFirst (IsSignalOf sig) outline.methods m
+  pub fits : (sig.types ≡ []) ⊎ (sig.types ≡ property.kind ∷ [])
+  pub own : (3 < m) ⊎ (property.name ≡ codes "objectName")
+
+abbrev pub LacksNotifier : Outline → Property → Option Sig → Type 0
+LacksNotifier outline property None = ⊥
+LacksNotifier outline property (Some sig) = (m : ℕ) → ¬ IsNotifiedBy outline property sig m
+
+abbrev pub BadNotify : List Outline → Type 0
+BadNotify outlines =
+    Any (λ (outline : Outline). Any (λ (property : Property). LacksNotifier outline property property.notify) outline.properties) outlines
+
+-- ---- types
+abbrev pub LacksTypes : List Outline → Outline → Type 0
+LacksTypes outlines outline =
+    Any (λ (property : Property). LacksType outlines property.kind) outline.properties
+    ⊎ Any (λ (h : Heading). Any (LacksType outlines) h.sig.types) outline.methods
+
+abbrev pub NoType : List Outline → Type 0
+NoType outlines = Any (LacksTypes outlines) outlines

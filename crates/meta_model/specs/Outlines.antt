@@ -1,0 +1,96 @@
+-- The members that classes have, by name, inherited ones too (Qt 6, "The Meta-Object System" and "Using the Meta-Object
+-- Compiler"; docs/machine.md, "Meta-objects").
+use Rattle.std.specs.Prelude.{◌≡◌, ℕ, suc, true, false, List, [], ◌∷◌, ◌++◌, map, Option, None, Some, codes}
+use Rattle.signatures.specs.declared.qtype.QType.{QType}
+use Rattle.signatures.specs.declared.sig.Sig.{Sig}
+use Rattle.signatures.specs.Types.{value_type}
+use Rattle.class_lang.specs.declared.program.Parameter.{Parameter}
+use Rattle.class_lang.specs.declared.program.Property.{Property}
+use Rattle.class_lang.specs.declared.program.Signal.{Signal}
+use Rattle.class_lang.specs.declared.program.Slot.{Slot}
+use Rattle.class_lang.specs.declared.program.Class.{Class}
+use Rattle.meta_model.specs.declared.outline.Sort.{Sort}
+use Rattle.meta_model.specs.declared.outline.Sort.TheVariants as sort
+use Rattle.meta_model.specs.declared.outline.Heading.{Heading}
+use Rattle.meta_model.specs.declared.outline.Outline.{Outline}
+use Rattle.meta_model.specs.Places.{StandsFirst}
+
+abbrev pub reference_to : List ℕ → QType
+reference_to class = record { name = class; constant = false; pointer = true }
+
+-- a signature, by its parts
+abbrev pub sig_of : List ℕ → List QType → Sig
+sig_of name types = record { name = name; types = types }
+
+abbrev pub heading : Sig → Sort → Heading
+heading sig s = record { sig = sig; sort = s }
+
+-- ---- QObject
+abbrev pub destroyed : Sig
+destroyed = sig_of (codes "destroyed") (reference_to (codes "QObject") ∷ [])
+
+abbrev pub destroyed_alone : Sig
+destroyed_alone = sig_of (codes "destroyed") []
+
+abbrev pub name_changed : Sig
+name_changed = sig_of (codes "objectNameChanged") (value_type (codes "QString") ∷ [])
+
+abbrev pub delete_later : Sig
+delete_later = sig_of (codes "deleteLater") []
+
+abbrev pub object_name : Property
+object_name = record { kind = value_type (codes "QString"); name = codes "objectName"; initial = None; notify = Some name_changed }
+
+abbrev pub qobject : Outline
+qobject = record {
+  name = codes "QObject";
+  base = None;
+  methods = heading destroyed sort.Signal ∷ heading destroyed_alone sort.Signal ∷ heading name_changed sort.Signal ∷ heading delete_later sort.DeleteLater ∷ [];
+  properties = object_name ∷ [];
+}
+
+-- ---- declared classes
+abbrev pub kinds_of : List Parameter → List QType
+kinds_of parameters = map (λ (p : Parameter). p.kind) parameters
+
+abbrev pub signal_heading : Signal → Heading
+signal_heading signal = heading (sig_of signal.name (kinds_of signal.parameters)) sort.Signal
+
+-- the slots of class i of the program, from place j on
+abbrev pub slot_headings : ℕ → ℕ → List Slot → List Heading
+slot_headings i j [] = []
+slot_headings i j (slot ∷ slots) = heading (sig_of slot.name (kinds_of slot.parameters)) (sort.Slot i j) ∷ slot_headings i (suc j) slots
+
+-- a class's own methods: its signals, then its slots, each as declared
+abbrev pub own_methods : ℕ → Class → List Heading
+own_methods i class = map signal_heading class.signals ++ slot_headings i 0 class.slots
+
+-- a class without a declared base has the base `QObject`
+abbrev pub base_name : Option (List ℕ) → List ℕ
+base_name None = codes "QObject"
+base_name (Some name) = name
+
+-- class i of the program, where the classes before it, and `QObject`, are `done`: its base's members, then its own
+pub record IsOutline (done : List Outline) (i : ℕ) (class : Class) (outline : Outline) : Type 0 where
+  pub number : ℕ
+  pub based : StandsFirst (λ (o : Outline). o.name ≡ base_name class.base) done number
+  pub is : outline ≡ record {
+    name = class.name;
+    base = Some number;
+    methods = based.at.item.methods ++ own_methods i class;
+    properties = based.at.item.properties ++ class.properties;
+  }
+
+-- the classes from class i on are outlined in their order
+abbrev pub AreOutlines : List Outline → ℕ → List Class → List Outline → Type 0
+AreOutlines done i [] all = all ≡ done
+AreOutlines done i (class ∷ classes) all =
+    (outline : Outline) × IsOutline done i class outline × AreOutlines (done ++ outline ∷ []) (suc i) classes all
+
+-- all classes, of which `QObject` is the first
+abbrev pub Outlines : List Class → List Outline → Type 0
+Outlines classes all = AreOutlines (qobject ∷ []) 0 classes all
+
+-- ---- what is found in outlines, by name
+abbrev pub IsOutlineNamed : List Outline → List ℕ → ℕ → Type 0
+IsOutlineNamed outlines name c = StandsFirst (λ (o : Outline). o.name ≡ name) outlines c

@@ -1,0 +1,138 @@
+//! Names that stand twice.
+
+ghost use Rattle.std.specs.Prelude.{◌≡◌, ◌↔◌, ℕ, List, length, IsTrue, Some, Any};
+ghost use Rattle.meta_model.specs.Twice.{StandsTwice};
+ghost use Rattle.meta_model.specs.Conditions.{IsTaken, DuplicateClass, AreOneCall, HasTwoMembers, RepeatsParameter, DuplicateMember, AreOneParameter};
+
+use crate::outline::{Heading, Outline};
+use class_lang::{Class, Parameter, Program, Property, Signal, Slot};
+use signatures::Name;
+
+/// What may not stand twice in a list.
+trait Alike {
+    ghost alike: { Self → Self → Type 0 };
+
+    /// Whether both would be one.
+    fn is_alike(&self, other: &Self) -> bool
+        ensures { IsTrue result ↔ alike self.now other.now };
+}
+
+impl Alike for Class {
+    ghost alike = { λ a b. a.name ≡ b.name };
+
+    fn is_alike(&self, other: &Class) -> bool {
+        self.name.is_same(&other.name)
+    }
+}
+
+impl Alike for Property {
+    ghost alike = { λ a b. a.name ≡ b.name };
+
+    fn is_alike(&self, other: &Property) -> bool {
+        self.name.is_same(&other.name)
+    }
+}
+
+impl Alike for Heading {
+    ghost alike = { AreOneCall };
+
+    fn is_alike(&self, other: &Heading) -> bool {
+        self.sig.types.len() == other.sig.types.len() && self.sig.name.is_same(&other.sig.name)
+    }
+}
+
+impl Alike for Parameter {
+    ghost alike = { AreOneParameter };
+
+    fn is_alike(&self, other: &Parameter) -> bool {
+        match (&self.name, &other.name) {
+            (Some(name), Some(others)) => name.is_same(others),
+            _ => false,
+        }
+    }
+}
+
+/// Whether an item is alike to a later one.
+fn stands_twice<T: Alike>(items: &[T]) -> bool
+    ensures { IsTrue result ↔ StandsTwice T.alike items.now }
+{
+    let mut rest = items;
+    while let Some((first, more)) = rest.split_first() {
+        if more.iter().any(|item| first.is_alike(item)) {
+            return true;
+        }
+        rest = more;
+    }
+    false
+}
+
+/// Whether two classes have one name, or a class has a name that none may have.
+pub fn has_duplicate_class(program: &Program) -> bool
+    ensures { IsTrue result ↔ DuplicateClass program.now }
+{
+    let classes = program.classes.as_slice();
+    stands_twice(classes) || has_taken_name(classes)
+}
+
+/// Whether a class has a name that none may have.
+fn has_taken_name(classes: &[Class]) -> bool
+    ensures { IsTrue result ↔ Any (λ class. IsTaken class.name) classes.now }
+{
+    classes.iter().any(|class| is_taken(&class.name))
+}
+
+/// Whether no class may have this name.
+fn is_taken(name: &Name) -> bool
+    ensures { IsTrue result ↔ IsTaken name.now }
+{
+    let bytes = name.bytes();
+    bytes == b"QObject".as_slice()
+        || bytes == b"int".as_slice()
+        || bytes == b"bool".as_slice()
+        || bytes == b"QString".as_slice()
+}
+
+/// Whether a member of a class stands twice, inherited ones too, or a parameter of a method.
+pub fn has_duplicate_member(program: &Program, outlines: &[Outline]) -> bool
+    ensures { IsTrue result ↔ DuplicateMember program.now outlines.now }
+{
+    let classes = program.classes.as_slice();
+    outlines.iter().any(|outline| has_two_members(outline))
+        || classes.iter().any(|class| repeats_parameter(class))
+}
+
+/// Whether two methods or two properties of the class are one.
+fn has_two_members(outline: &Outline) -> bool
+    ensures { IsTrue result ↔ HasTwoMembers outline.now }
+{
+    let methods = outline.methods.as_slice();
+    let properties = outline.properties.as_slice();
+    stands_twice(methods) || stands_twice(properties)
+}
+
+/// Whether a parameter stands twice in a method of the class.
+fn repeats_parameter(class: &Class) -> bool
+    ensures { IsTrue result ↔ RepeatsParameter class.now }
+{
+    let signals = class.signals.as_slice();
+    let slots = class.slots.as_slice();
+    repeats_signal_parameter(signals) || repeats_slot_parameter(slots)
+}
+
+/// Whether a parameter stands twice in a signal.
+fn repeats_signal_parameter(signals: &[Signal]) -> bool
+    ensures { IsTrue result ↔ Any (λ signal. StandsTwice AreOneParameter signal.parameters) signals.now }
+{
+    signals
+        .iter()
+        .any(|signal| stands_twice(signal.parameters.as_slice()))
+}
+
+/// Whether a parameter stands twice in a slot.
+fn repeats_slot_parameter(slots: &[Slot]) -> bool
+    ensures { IsTrue result ↔ Any (λ slot. StandsTwice AreOneParameter slot.parameters) slots.now }
+{
+    slots
+        .iter()
+        .any(|slot| stands_twice(slot.parameters.as_slice()))
+}

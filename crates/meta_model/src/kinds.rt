@@ -1,0 +1,116 @@
+//! Declared types, their classes replaced by numbers.
+
+ghost use Rattle.std.specs.Prelude.{◌≡◌, ◌↔◌, ℕ, List, IsTrue, IfOk, MatchOption, Any};
+ghost use Rattle.std.specs.List.{AllZip};
+ghost use Rattle.meta_model.specs.Kinds.{IsKindIn, LacksType, IsReadAs};
+ghost use Rattle.meta_model.specs.Conditions.{LacksTypes, NoType};
+ghost use Rattle.signatures.specs.Types.{value_type};
+
+use crate::object::ValueType;
+use crate::outline::{Heading, Outline};
+use crate::places::place_of;
+use class_lang::Property;
+use signatures::QType;
+use sqlite_items::Items;
+use std::alloc::{AllocError, Global};
+
+/// What the type stands for, or `None` where there is no such type.
+pub fn kind_of(outlines: &[Outline], declared: &QType) -> Option<ValueType>
+    ensures { MatchOption result (LacksType outlines.now declared.now) (λ kind. IsKindIn outlines.now declared.now kind) }
+{
+    if declared.pointer {
+        match place_of(outlines, &declared.name) {
+            Some(class) => Some(ValueType::Reference(class, declared.constant)),
+            None => None,
+        }
+    } else if is_value_type(declared, b"int") {
+        Some(ValueType::Int)
+    } else if is_value_type(declared, b"bool") {
+        Some(ValueType::Bool)
+    } else if is_value_type(declared, b"QString") {
+        Some(ValueType::Text)
+    } else {
+        None
+    }
+}
+
+/// Whether the type is the value type of this name.
+fn is_value_type(declared: &QType, name: &[u8]) -> bool
+    ensures { IsTrue result ↔ (declared.now ≡ value_type name.now) }
+{
+    !declared.pointer && !declared.constant && declared.name.bytes() == name
+}
+
+/// What the type is read as: what it stands for, and `int` where there is no such type.
+pub fn read_kind(outlines: &[Outline], declared: &QType) -> ValueType
+    ensures { IsReadAs outlines.now declared.now result }
+{
+    match kind_of(outlines, declared) {
+        Some(kind) => kind,
+        None => ValueType::Int,
+    }
+}
+
+/// What the types are read as, in their order.
+pub fn read_kinds(
+    alloc: Global,
+    outlines: &[Outline],
+    declared: &[QType],
+) -> Result<Items<ValueType>, AllocError>
+    ensures { IfOk result (λ kinds. AllZip (IsReadAs outlines.now) declared.now kinds) }
+{
+    let mut kinds = Items::new(alloc);
+    for one in declared {
+        let kind = read_kind(outlines, one);
+        kinds.push(kind)?;
+    }
+    Ok(kinds)
+}
+
+/// Whether there is no such type.
+fn lacks_type(outlines: &[Outline], declared: &QType) -> bool
+    ensures { IsTrue result ↔ LacksType outlines.now declared.now }
+{
+    kind_of(outlines, declared).is_none()
+}
+
+/// Whether the type of a property or a parameter isn't there.
+pub fn has_no_type(outlines: &[Outline]) -> bool
+    ensures { IsTrue result ↔ NoType outlines.now }
+{
+    outlines
+        .iter()
+        .any(|outline| lacks_types(outlines, outline))
+}
+
+/// Whether the type of one of the class's properties or parameters isn't there.
+fn lacks_types(outlines: &[Outline], outline: &Outline) -> bool
+    ensures { IsTrue result ↔ LacksTypes outlines.now outline.now }
+{
+    let properties = outline.properties.as_slice();
+    let methods = outline.methods.as_slice();
+    lacks_property_type(outlines, properties) || lacks_parameter_type(outlines, methods)
+}
+
+/// Whether the type of one of the properties isn't there.
+fn lacks_property_type(outlines: &[Outline], properties: &[Property]) -> bool
+    ensures { IsTrue result ↔ Any (λ property. LacksType outlines.now property.kind) properties.now }
+{
+    properties
+        .iter()
+        .any(|property| lacks_type(outlines, &property.kind))
+}
+
+/// Whether the type of a parameter of one of the methods isn't there.
+fn lacks_parameter_type(outlines: &[Outline], methods: &[Heading]) -> bool
+    ensures { IsTrue result ↔ Any (λ method. Any (LacksType outlines.now) method.sig.types) methods.now }
+{
+    methods.iter().any(|method| lacks_one_of(outlines, method.sig.types.as_slice()))
+}
+
+/// Whether one of the types isn't there.
+fn lacks_one_of(outlines: &[Outline], types: &[QType]) -> bool
+    ensures { IsTrue result ↔ Any (LacksType outlines.now) types.now }
+{
+    types.iter().any(|one| lacks_type(outlines, one))
+}

@@ -1,0 +1,77 @@
+//! Notify signals.
+
+ghost use Rattle.std.specs.Prelude.{◌≡◌, ◌↔◌, ◌⊎◌, ◌<◌, ℕ, List, [], ◌∷◌, IsTrue, Any, codes};
+ghost use Rattle.meta_model.specs.Conditions.{IsSignalOf, IsNotifiedBy, LacksNotifier, BadNotify};
+ghost use Rattle.meta_model.specs.Places.{IsPlace};
+
+use crate::outline::{Heading, Outline};
+use class_lang::Property;
+use signatures::{QType, Sig};
+
+/// The place of a signal of this signature.
+pub fn place_of_signal(methods: &[Heading], sig: &Sig) -> Option<usize>
+    ensures { IsPlace (IsSignalOf sig.now) methods.now result }
+{
+    for (place, method) in methods.iter().enumerate() {
+        if method.is_signal() && method.sig.is_same(sig) {
+            return Some(place);
+        }
+    }
+    None
+}
+
+/// Whether a property's notify signature isn't a signal that may notify it.
+pub fn has_bad_notify(outlines: &[Outline]) -> bool
+    ensures { IsTrue result ↔ BadNotify outlines.now }
+{
+    outlines.iter().any(|outline| notifies_badly(outline))
+}
+
+/// Whether one of the class's properties has such a notify signature.
+fn notifies_badly(outline: &Outline) -> bool
+    ensures { IsTrue result ↔ Any (λ property. LacksNotifier outline.now property property.notify) outline.now.properties }
+{
+    let properties = outline.properties.as_slice();
+    properties
+        .iter()
+        .any(|property| lacks_notifier(outline, property))
+}
+
+/// Whether the property has such a notify signature.
+fn lacks_notifier(outline: &Outline, property: &Property) -> bool
+    ensures { IsTrue result ↔ LacksNotifier outline.now property.now property.now.notify }
+{
+    match &property.notify {
+        Some(sig) => !is_notified_by(outline, property, sig),
+        None => false,
+    }
+}
+
+/// Whether a signal of this signature may notify the property.
+fn is_notified_by(outline: &Outline, property: &Property, sig: &Sig) -> bool
+    ensures yes { IsTrue result → (m : ℕ) × IsNotifiedBy outline.now property.now sig.now m }
+    ensures only { (m : ℕ) → IsNotifiedBy outline.now property.now sig.now m → IsTrue result }
+{
+    match place_of_signal(outline.methods.as_slice(), sig) {
+        Some(place) => carries(sig.types.as_slice(), &property.kind) && may_notify(place, property),
+        None => false,
+    }
+}
+
+/// Whether the types are none, or this one alone.
+fn carries(types: &[QType], kind: &QType) -> bool
+    ensures { IsTrue result ↔ ((types.now ≡ []) ⊎ (types.now ≡ kind.now ∷ [])) }
+{
+    match types {
+        [] => true,
+        [one] => one.is_same(kind),
+        _ => false,
+    }
+}
+
+/// Whether the signal isn't one of `QObject`'s, or notifies `QObject`'s property.
+fn may_notify(signal: usize, property: &Property) -> bool
+    ensures { IsTrue result ↔ ((3 < signal) ⊎ (property.now.name ≡ codes "objectName")) }
+{
+    3 < signal || property.name.bytes() == b"objectName".as_slice()
+}

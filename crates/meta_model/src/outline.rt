@@ -1,0 +1,56 @@
+ghost use Rattle.std.specs.Prelude.{◌≡◌, ◌≢◌, ◌↔◌, IsTrue};
+ghost use Rattle.meta_model.specs.declared.outline.Sort.TheVariants.{Signal, DeleteLater};
+
+use class_lang::Property;
+use signatures::{Name, Sig};
+use sqlite_items::Items;
+
+/// Where a method's body stands in the program.
+#[derive(Clone, Copy, Debug, PartialEq, Eq)]
+pub enum Sort {
+    /// A signal has none.
+    Signal,
+    /// `deleteLater()` has an empty one.
+    DeleteLater,
+    /// A slot has one: the number of its class among the program's, and its place among that class's slots.
+    Slot(usize, usize),
+}
+
+/// A method before its types and its body are resolved.
+#[derive(Drop)]
+pub struct Heading {
+    /// Its name and its parameters' types, as declared.
+    pub sig: Sig,
+    /// Where its body stands.
+    pub sort: Sort,
+}
+
+impl Heading {
+    /// Whether it is a signal's.
+    pub fn is_signal(&self) -> bool
+        ensures { IsTrue result ↔ (self.now.sort ≡ Signal) }
+    {
+        matches!(self.sort, Sort::Signal)
+    }
+
+    /// Whether a body may call it: a slot, but for `deleteLater()`.
+    pub fn may_be_called(&self) -> bool
+        ensures { IsTrue result ↔ ((self.now.sort ≢ Signal) × (self.now.sort ≢ DeleteLater)) }
+    {
+        matches!(self.sort, Sort::Slot(_, _))
+    }
+}
+
+/// A class with its whole lists of members, the inherited ones first, before their types are resolved. Its number is
+/// its place among the outlines.
+#[derive(Drop)]
+pub struct Outline {
+    /// The class's name.
+    pub name: Name,
+    /// The number of its base; only `QObject`, which has the number 0, has none.
+    pub base: Option<usize>,
+    /// The base's methods, then its own signals, then its own slots.
+    pub methods: Items<Heading>,
+    /// The base's properties, then its own.
+    pub properties: Items<Property>,
+}

@@ -1,0 +1,200 @@
+//! Classes with their whole lists of members.
+
+ghost use Rattle.std.specs.Prelude.{◌≡◌, ℕ, map, IfOk, MatchOption, codes, [], ◌∷◌, ◌++◌};
+ghost use Rattle.meta_model.specs.Conditions.{LacksBase};
+ghost use Rattle.meta_model.specs.Outlines.{kinds_of, sig_of, signal_heading, slot_headings, own_methods, base_name, IsOutline, Outlines};
+ghost use Rattle.meta_model.specs.PartAnswers.{Loads};
+ghost use Rattle.meta_model.specs.Places.{StandsAt, Found};
+ghost use Rattle.meta_model.specs.declared.fault.MetaFault.TheVariants as fault;
+
+use crate::fault::MetaFault;
+use crate::outline::{Heading, Outline, Sort};
+use crate::places::find;
+use crate::qobject::qobject;
+use class_lang::{Class, Parameter, Property, Signal, Slot};
+use signatures::{Name, QType, Sig, Value};
+use sqlite_items::Items;
+use std::alloc::{AllocError, Global};
+
+/// `QObject` and the program's classes, as declared; `NoBase` where a base doesn't stand before its class.
+pub fn outline_classes(alloc: Global, classes: &[Class]) -> Result<Items<Outline>, MetaFault>
+    ensures { Loads fault.NoBase (LacksBase (codes "QObject" ∷ []) classes.now) (λ outlines. Outlines classes.now outlines) result }
+{
+    let root = Name::new(alloc, b"QObject")?;
+    let mut outlines = Items::new(alloc);
+    let first = qobject(alloc)?;
+    outlines.push(first)?;
+    for (number, class) in classes.iter().enumerate() {
+        let outline = outline_class(alloc, &root, outlines.as_slice(), number, class)?;
+        outlines.push(outline)?;
+    }
+    Ok(outlines)
+}
+
+/// The class of this number among the program's, over those before it.
+fn outline_class(
+    alloc: Global,
+    root: &Name,
+    before: &[Outline],
+    number: usize,
+    class: &Class,
+) -> Result<Outline, MetaFault>
+    requires { root.now ≡ codes "QObject" }
+    ensures { Loads fault.NoBase ((k : ℕ) → ¬ StandsAt (λ outline. outline.name ≡ base_name class.now.base) before.now k)
+        (λ outline. IsOutline before.now number class.now outline) result }
+{
+    let Some((base, above)) = find_base(root, before, &class.base) else {
+        return Err(MetaFault::NoBase);
+    };
+    let name = class.name.copy()?;
+    let mut methods = copy_headings(alloc, above.methods.as_slice())?;
+    let own = own_headings(alloc, number, class)?;
+    methods.append(own)?;
+    let mut properties = copy_properties(alloc, above.properties.as_slice())?;
+    let own_properties = copy_properties(alloc, class.properties.as_slice())?;
+    properties.append(own_properties)?;
+    Ok(Outline {
+        name,
+        base: Some(base),
+        methods,
+        properties,
+    })
+}
+
+/// The base among the classes before its class, with its number.
+fn find_base<'a>(
+    root: &Name,
+    before: &'a [Outline],
+    base: &Option<Name>,
+) -> Option<(usize, &'a Outline)>
+    requires { root.now ≡ codes "QObject" }
+    ensures { MatchOption result ((k : ℕ) → ¬ StandsAt (λ outline. outline.name ≡ base_name base.now) before.now k)
+        (λ found. Found (λ outline. outline.name ≡ base_name base.now) before.now found.0 found.1.now) }
+{
+    match base {
+        Some(name) => find(before, name),
+        None => find(before, root),
+    }
+}
+
+/// The same methods, which share their names.
+fn copy_headings(alloc: Global, headings: &[Heading]) -> Result<Items<Heading>, AllocError>
+    ensures { IfOk result (λ copy. copy ≡ headings.now) }
+{
+    let mut copy = Items::new(alloc);
+    for heading in headings {
+        let sig = heading.sig.copy(alloc)?;
+        copy.push(Heading {
+            sig,
+            sort: heading.sort,
+        })?;
+    }
+    Ok(copy)
+}
+
+/// The class's signals, then its slots.
+fn own_headings(alloc: Global, number: usize, class: &Class) -> Result<Items<Heading>, AllocError>
+    ensures { IfOk result (λ headings. headings ≡ own_methods number class.now) }
+{
+    let mut headings = signal_headings(alloc, class.signals.as_slice())?;
+    let slots = slot_headings(alloc, number, class.slots.as_slice())?;
+    headings.append(slots)?;
+    Ok(headings)
+}
+
+/// The signals, as declared.
+fn signal_headings(alloc: Global, signals: &[Signal]) -> Result<Items<Heading>, AllocError>
+    ensures { IfOk result (λ headings. headings ≡ map signal_heading signals.now) }
+{
+    let mut headings = Items::new(alloc);
+    for signal in signals {
+        let sig = declared_sig(alloc, &signal.name, signal.parameters.as_slice())?;
+        headings.push(Heading {
+            sig,
+            sort: Sort::Signal,
+        })?;
+    }
+    Ok(headings)
+}
+
+/// The slots, as declared, of the class of this number among the program's.
+fn slot_headings(alloc: Global, number: usize, slots: &[Slot]) -> Result<Items<Heading>, AllocError>
+    ensures { IfOk result (λ headings. headings ≡ slot_headings number 0 slots.now) }
+{
+    let mut headings = Items::new(alloc);
+    for (place, slot) in slots.iter().enumerate() {
+        let sig = declared_sig(alloc, &slot.name, slot.parameters.as_slice())?;
+        headings.push(Heading {
+            sig,
+            sort: Sort::Slot(number, place),
+        })?;
+    }
+    Ok(headings)
+}
+
+/// The signature of a method with these parameters.
+fn declared_sig(alloc: Global, name: &Name, parameters: &[Parameter]) -> Result<Sig, AllocError>
+    ensures { IfOk result (λ sig. sig ≡ sig_of name.now (kinds_of parameters.now)) }
+{
+    let name = name.copy()?;
+    let mut types: Items<QType> = Items::new(alloc);
+    for parameter in parameters {
+        let kind = parameter.kind.copy()?;
+        types.push(kind)?;
+    }
+    Ok(Sig { name, types })
+}
+
+/// The same properties, which share their names.
+fn copy_properties(alloc: Global, properties: &[Property]) -> Result<Items<Property>, AllocError>
+    ensures { IfOk result (λ copy. copy ≡ properties.now) }
+{
+    let mut copy = Items::new(alloc);
+    for property in properties {
+        let property = copy_property(alloc, property)?;
+        copy.push(property)?;
+    }
+    Ok(copy)
+}
+
+/// The same property, which shares its names.
+fn copy_property(alloc: Global, property: &Property) -> Result<Property, AllocError>
+    ensures { IfOk result (λ copy. copy ≡ property.now) }
+{
+    let kind = property.kind.copy()?;
+    let name = property.name.copy()?;
+    let initial = copy_value(&property.initial)?;
+    let notify = copy_sig(alloc, &property.notify)?;
+    Ok(Property {
+        kind,
+        name,
+        initial,
+        notify,
+    })
+}
+
+/// The same value, if there is one.
+fn copy_value(value: &Option<Value>) -> Result<Option<Value>, AllocError>
+    ensures { IfOk result (λ copy. copy ≡ value.now) }
+{
+    match value {
+        Some(found) => {
+            let found = found.copy()?;
+            Ok(Some(found))
+        }
+        None => Ok(None),
+    }
+}
+
+/// The same signature, if there is one.
+fn copy_sig(alloc: Global, sig: &Option<Sig>) -> Result<Option<Sig>, AllocError>
+    ensures { IfOk result (λ copy. copy ≡ sig.now) }
+{
+    match sig {
+        Some(found) => {
+            let found = found.copy(alloc)?;
+            Ok(Some(found))
+        }
+        None => Ok(None),
+    }
+}

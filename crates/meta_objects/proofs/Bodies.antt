@@ -1,0 +1,234 @@
+-- A body is resolved in one way at most.
+use Rattle.std.proofs.Common.{◌≡◌, ℕ, List, [], ◌∷◌, length, slice_get, refl, sym, ap, ◌∙◌, subst}
+use Rattle.std.proofs.lemmas.Option.{same_Some}
+use Rattle.signatures.specs.declared.qtype.QType.{QType}
+use Rattle.slot_lang.specs.declared.syntax.Expr.{Expr}
+use Rattle.slot_lang.specs.declared.syntax.Expr.TheViews.{out-Expr, roll-Expr, roll-out-Expr}
+use Rattle.slot_lang.specs.declared.syntax.Root.{Root}
+use Rattle.slot_lang.specs.declared.syntax.Path.{Path}
+use Rattle.slot_lang.specs.declared.syntax.Stmt.{Stmt}
+use Rattle.slot_lang.specs.declared.syntax.Stmt.TheOpen as stmt
+use Rattle.class_lang.specs.declared.program.Parameter.{Parameter}
+use Rattle.class_lang.specs.declared.program.Property.{Property}
+use Rattle.meta_model.specs.declared.object.MetaRoot.{MetaRoot}
+use Rattle.meta_model.specs.declared.object.MetaRoot.TheVariants as resolved
+use Rattle.meta_model.specs.declared.object.Step.{Step}
+use Rattle.meta_model.specs.declared.object.MetaPath.{MetaPath}
+use Rattle.meta_model.specs.declared.object.ValueType.{ValueType}
+use Rattle.meta_model.specs.declared.object.Statement.{Statement}
+use Rattle.meta_model.specs.declared.object.Statement.TheViews.{out-Statement, roll-Statement, roll-out-Statement}
+use Rattle.meta_model.specs.declared.outline.Outline.{Outline}
+use Rattle.meta_model.specs.Places.{StandsFirst}
+use Rattle.meta_model.specs.Outlines.{IsOutlineNamed}
+use Rattle.meta_model.specs.Kinds.{IsReadAs}
+use Rattle.meta_objects.specs.Bodies.{Scope, IsRoot, this_root, parameter_root, PointsTo, HasMember, IsStep, AreSteps, IsPath, IsExpr, literal_is, path_is, unary_is, binary_is, AreExprs, IsSet, IsCallOf, IsEmit, IsCall, AreStatements, none_are, set_is, emit_is, call_is, if_is, IsStatement}
+use Rattle.meta_model.proofs.Searches.{same_first}
+use Rattle.meta_model.proofs.Firsts.{first_item}
+use Rattle.meta_model.proofs.ReadTypes.{same_read}
+
+-- a value is what it is made of
+same_expr : (a b : Expr MetaPath) → out-Expr MetaPath a ≡ out-Expr MetaPath b → a ≡ b
+same_expr a b e = sym (roll-out-Expr MetaPath a) ∙ ap (λ x. roll-Expr MetaPath x) e ∙ roll-out-Expr MetaPath b
+
+same_statement : (a b : Statement) → out-Statement a ≡ out-Statement b → a ≡ b
+same_statement a b e = sym (roll-out-Statement a) ∙ ap (λ x. roll-Statement x) e ∙ roll-out-Statement b
+
+-- ---- paths
+abbrev step_of : ℕ → ValueType → Step
+step_of q k = record { property = q; kind = k }
+
+abbrev path_of : MetaRoot → List Step → MetaPath
+path_of r ss = record { root = r; steps = ss }
+
+-- the first in one outline's list is that in an equal outline's
+module _ {X : Type 0} (list : Outline → List X) (P : X → Type 0) where
+  pub same_in : (o u : Outline) → o ≡ u → (q r : ℕ) (h : StandsFirst P (list o) q) (k : StandsFirst P (list u) r) → (q ≡ r) × (h.at.item ≡ k.at.item)
+  same_in o u e q r h k =
+      let same : q ≡ r = same_first P (list o) q r h (subst (λ (v : Outline). StandsFirst P (list v) r) (sym e) k) in
+      (same, same_Some _ _ (sym h.at.is ∙ ap (λ n. slice_get (list o) n) same ∙ ap (λ v. slice_get (list v) r) e ∙ k.at.is))
+
+pub same_named : (outlines : List Outline) (a b : List ℕ) → a ≡ b → (c d : ℕ) (h : IsOutlineNamed outlines a c) (k : IsOutlineNamed outlines b d) → h.at.item ≡ k.at.item
+same_named outlines a b e c d h k =
+    let same : c ≡ d = same_first (λ (o : Outline). o.name ≡ a) outlines c d h (subst (λ n. IsOutlineNamed outlines n d) (sym e) k) in
+    same_Some _ _ (sym h.at.is ∙ ap (λ n. slice_get outlines n) same ∙ k.at.is)
+
+module _ (s : Scope) where
+  pub same_root : (r : Root) (f g : MetaRoot) (T U : QType) → IsRoot s r f T → IsRoot s r g U → (f ≡ g) × (T ≡ U)
+  same_root r f g T U this_root this_root = (refl, refl)
+  same_root r f g T U (parameter_root at) (parameter_root at2) =
+      (ap (λ k. resolved.Parameter k) (same_first _ s.parameters _ _ at at2), ap (λ (p : Parameter). p.kind) (first_item _ s.parameters _ _ at at2))
+
+  pub same_class : (T : QType) (c d : ℕ) (h : PointsTo s.outlines T c) (k : PointsTo s.outlines T d) → (c ≡ d) × (h.class.at.item ≡ k.class.at.item)
+  same_class T c d h k =
+      (same_first (λ (o : Outline). o.name ≡ T.name) s.outlines c d h.class k.class, first_item (λ (o : Outline). o.name ≡ T.name) s.outlines c d h.class k.class)
+
+  pub same_member : (T : QType) (name : List ℕ) (q r : ℕ) (x y : Property) → HasMember s.outlines T name q x → HasMember s.outlines T name r y → (q ≡ r) × (x ≡ y)
+  same_member T name q r x y h k =
+      let class = same_class T h.number k.number h.points k.points in
+      let at = same_in (λ (o : Outline). o.properties) (λ (p : Property). p.name ≡ name) h.points.class.at.item k.points.class.at.item class.1 q r h.place k.place in
+      (at.0, sym h.is ∙ at.1 ∙ k.is)
+
+  same_step : (T : QType) (name : List ℕ) (a b : Step) (x y : Property) → IsStep s.outlines T name a x → IsStep s.outlines T name b y → (a ≡ b) × (x ≡ y)
+  same_step T name a b x y h k =
+      let member = same_member T name a.property b.property x y h.member k.member in
+      let kind = same_read s.outlines x.kind a.kind b.kind h.kind (subst (λ (p : Property). IsReadAs s.outlines p.kind b.kind) (sym member.1) k.kind) in
+      (ap (λ q. step_of q a.kind) member.0 ∙ ap (λ t. step_of b.property t) kind, member.1)
+
+  same_steps : (names : List (List ℕ)) (T : QType) (xs ys : List Step) (U V : QType) → AreSteps s.outlines T names xs U → AreSteps s.outlines T names ys V → (xs ≡ ys) × (U ≡ V)
+  same_steps [] T [] [] U V h k = (refl, sym h ∙ k)
+  same_steps [] T [] (y ∷ ys) U V h k = absurd k
+  same_steps [] T (x ∷ xs) ys U V h k = absurd h
+  same_steps (n ∷ ns) T [] ys U V h k = absurd h
+  same_steps (n ∷ ns) T (x ∷ xs) [] U V h k = absurd k
+  same_steps (n ∷ ns) T (x ∷ xs) (y ∷ ys) U V h k =
+      let step = same_step T n x y h.0 k.0 h.1 k.1 in
+      let rest = same_steps ns h.0.kind xs ys U V h.2 (subst (λ (p : Property). AreSteps s.outlines p.kind ns ys V) (sym step.1) k.2) in
+      (ap (λ z. z ∷ xs) step.0 ∙ ap (λ zs. y ∷ zs) rest.0, rest.1)
+
+  pub same_path : (path : Path) (f g : MetaPath) (T U : QType) → IsPath s path f T → IsPath s path g U → (f ≡ g) × (T ≡ U)
+  same_path path f g T U h k =
+      let root = same_root path.root f.root g.root h.root_type k.root_type h.root k.root in
+      let steps = same_steps path.properties h.root_type f.steps g.steps T U h.steps (subst (λ t. AreSteps s.outlines t path.properties g.steps U) (sym root.1) k.steps) in
+      (ap (λ r. path_of r f.steps) root.0 ∙ ap (λ ss. path_of g.root ss) steps.0, steps.1)
+
+  -- ---- expressions
+  pub same_exprs : (e : Expr Path) (f g : Expr MetaPath) → IsExpr s e f → IsExpr s e g → f ≡ g
+  same_exprs e f g (literal_is a b) (literal_is c d) = same_expr f g (cc)
+  same_exprs e f g (literal_is a b) (path_is c d k0) = absurd (cc)
+  same_exprs e f g (literal_is a b) (unary_is c d k0) = absurd (cc)
+  same_exprs e f g (literal_is a b) (binary_is c d k0 k1) = absurd (cc)
+  same_exprs e f g (path_is a b h0) (literal_is c d) = absurd (cc)
+  same_exprs e f g (path_is a b h0) (unary_is c d k0) = absurd (cc)
+  same_exprs e f g (path_is a b h0) (binary_is c d k0 k1) = absurd (cc)
+  same_exprs e f g (unary_is a b h0) (literal_is c d) = absurd (cc)
+  same_exprs e f g (unary_is a b h0) (path_is c d k0) = absurd (cc)
+  same_exprs e f g (unary_is a b h0) (binary_is c d k0 k1) = absurd (cc)
+  same_exprs e f g (binary_is a b h0 h1) (literal_is c d) = absurd (cc)
+  same_exprs e f g (binary_is a b h0 h1) (path_is c d k0) = absurd (cc)
+  same_exprs e f g (binary_is a b h0 h1) (unary_is c d k0) = absurd (cc)
+  same_exprs e f g (path_is {path = p} {found = x} {T = T} a b h) (path_is {path = q} {found = y} {T = U} c d k) =
+      let same : p ≡ q = cc in
+      let found : x ≡ y = (same_path p x y T U h (subst (λ z. IsPath s z y U) (sym same) k)).0 in
+      same_expr f g (cc)
+  same_exprs e f g (unary_is {a = x} {b = y} a b h) (unary_is {a = z} {b = w} c d k) =
+      let same : x ≡ z = cc in
+      let part : y ≡ w = same_exprs x y w h (subst (λ v. IsExpr s v w) (sym same) k) in
+      same_expr f g (cc)
+  same_exprs e f g (binary_is {a = x} {c = x2} {b = y} {d = y2} a b h h2) (binary_is {a = z} {c = z2} {b = w} {d = w2} c d k k2) =
+      let same : x ≡ z = cc in
+      let same2 : x2 ≡ z2 = cc in
+      let part : y ≡ w = same_exprs x y w h (subst (λ v. IsExpr s v w) (sym same) k) in
+      let part2 : y2 ≡ w2 = same_exprs x2 y2 w2 h2 (subst (λ v. IsExpr s v w2) (sym same2) k2) in
+      same_expr f g (cc)
+
+  pub same_all_exprs : (es : List (Expr Path)) (fs gs : List (Expr MetaPath)) → AreExprs s es fs → AreExprs s es gs → fs ≡ gs
+  same_all_exprs [] [] [] h k = refl
+  same_all_exprs [] [] (g ∷ gs) h k = absurd k
+  same_all_exprs [] (f ∷ fs) gs h k = absurd h
+  same_all_exprs (e ∷ es) [] gs h k = absurd h
+  same_all_exprs (e ∷ es) (f ∷ fs) [] h k = absurd k
+  same_all_exprs (e ∷ es) (f ∷ fs) (g ∷ gs) h k = ap (λ x. x ∷ fs) (same_exprs e f g h.0 k.0) ∙ ap (λ xs. g ∷ xs) (same_all_exprs es fs gs h.1 k.1)
+
+  -- ---- statements
+  same_set : (path : Path) (name : List ℕ) (e : Expr Path) (x y : MetaPath) (q r : ℕ) (f g : Expr MetaPath) → IsSet s path name e x q f → IsSet s path name e y r g → (x ≡ y) × (q ≡ r) × (f ≡ g)
+  same_set path name e x y q r f g h k =
+      let object = same_path path x y h.kind k.kind h.object k.object in
+      let member = same_member h.kind name q r h.property k.property h.member (subst (λ T. HasMember s.outlines T name r k.property) (sym object.1) k.member) in
+      (object.0, member.0, same_exprs e f g h.value k.value)
+
+  same_emit : (name : List ℕ) (es : List (Expr Path)) (m n : ℕ) (fs gs : List (Expr MetaPath)) → IsEmit s name es m fs → IsEmit s name es n gs → (m ≡ n) × (fs ≡ gs)
+  same_emit name es m n fs gs h k =
+      let class = first_item (λ (o : Outline). o.name ≡ s.me) s.outlines h.number k.number h.class k.class in
+      let at = same_in (λ (o : Outline). o.methods) (IsCallOf name (length es)) h.class.at.item k.class.at.item class m n h.method k.method in
+      (at.0, same_all_exprs es fs gs h.values k.values)
+
+  same_call : (path : Path) (name : List ℕ) (es : List (Expr Path)) (x y : MetaPath) (m n : ℕ) (fs gs : List (Expr MetaPath)) → IsCall s path name es x m fs → IsCall s path name es y n gs → (x ≡ y) × (m ≡ n) × (fs ≡ gs)
+  same_call path name es x y m n fs gs h k =
+      let object = same_path path x y h.kind k.kind h.object k.object in
+      let name_is : h.kind.name ≡ k.kind.name = ap (λ (T : QType). T.name) object.1 in
+      let item : h.points.class.at.item ≡ k.points.class.at.item = same_named s.outlines h.kind.name k.kind.name name_is h.number k.number h.points.class k.points.class in
+      let at = same_in (λ (o : Outline). o.methods) (IsCallOf name (length es)) h.points.class.at.item k.points.class.at.item item m n h.method k.method in
+      (object.0, at.0, same_all_exprs es fs gs h.values k.values)
+
+  abbrev pub set_layer : stmt.Stmt-F Stmt → MetaPath → ℕ → Expr MetaPath → Type 0
+  set_layer (stmt.Set p n e) x q f = IsSet s p n e x q f
+  set_layer (stmt.Emit n es) x q f = ⊥
+  set_layer (stmt.Call p n es) x q f = ⊥
+  set_layer (stmt.If e a b) x q f = ⊥
+
+  abbrev pub emit_layer : stmt.Stmt-F Stmt → ℕ → List (Expr MetaPath) → Type 0
+  emit_layer (stmt.Set p n e) m fs = ⊥
+  emit_layer (stmt.Emit n es) m fs = IsEmit s n es m fs
+  emit_layer (stmt.Call p n es) m fs = ⊥
+  emit_layer (stmt.If e a b) m fs = ⊥
+
+  abbrev pub call_layer : stmt.Stmt-F Stmt → MetaPath → ℕ → List (Expr MetaPath) → Type 0
+  call_layer (stmt.Set p n e) x m fs = ⊥
+  call_layer (stmt.Emit n es) x m fs = ⊥
+  call_layer (stmt.Call p n es) x m fs = IsCall s p n es x m fs
+  call_layer (stmt.If e a b) x m fs = ⊥
+
+  abbrev if_layer : stmt.Stmt-F Stmt → Expr MetaPath → List Statement → List Statement → Type 0
+  if_layer (stmt.Set p n e) f c d = ⊥
+  if_layer (stmt.Emit n es) f c d = ⊥
+  if_layer (stmt.Call p n es) f c d = ⊥
+  if_layer (stmt.If e a b) f c d = IsExpr s e f × AreStatements s a c × AreStatements s b d
+
+  pub same_statements : (xs : List Stmt) (ys zs : List Statement) → AreStatements s xs ys → AreStatements s xs zs → ys ≡ zs
+  same_statements xs ys zs none_are none_are = refl
+  same_statements xs ys zs (set_is a b h0 h1) (emit_is c d k0 k1) = absurd (cc)
+  same_statements xs ys zs (set_is a b h0 h1) (call_is c d k0 k1) = absurd (cc)
+  same_statements xs ys zs (set_is a b h0 h1) (if_is c d k0 k1 k2 k3) = absurd (cc)
+  same_statements xs ys zs (emit_is a b h0 h1) (set_is c d k0 k1) = absurd (cc)
+  same_statements xs ys zs (emit_is a b h0 h1) (call_is c d k0 k1) = absurd (cc)
+  same_statements xs ys zs (emit_is a b h0 h1) (if_is c d k0 k1 k2 k3) = absurd (cc)
+  same_statements xs ys zs (call_is a b h0 h1) (set_is c d k0 k1) = absurd (cc)
+  same_statements xs ys zs (call_is a b h0 h1) (emit_is c d k0 k1) = absurd (cc)
+  same_statements xs ys zs (call_is a b h0 h1) (if_is c d k0 k1 k2 k3) = absurd (cc)
+  same_statements xs ys zs (if_is a b h0 h1 h2 h3) (set_is c d k0 k1) = absurd (cc)
+  same_statements xs ys zs (if_is a b h0 h1 h2 h3) (emit_is c d k0 k1) = absurd (cc)
+  same_statements xs ys zs (if_is a b h0 h1 h2 h3) (call_is c d k0 k1) = absurd (cc)
+  same_statements xs ys zs (set_is {path = p} {name = n} {e = e} {y = y} {found = x} {q = q} {f = f} {xs = us} {ys = vs} a b h t) (set_is {y = z} {found = x2} {q = r} {f = g} {ys = ws} c d k u) =
+      let part = same_set p n e x x2 q r f g h (subst (λ l. set_layer l x2 r g) (sym c ∙ a) k) in
+      let same_x : x ≡ x2 = part.0 in
+      let same_q : q ≡ r = part.1 in
+      let same_f : f ≡ g = part.2 in
+      ap (λ v. v ∷ vs) (same_statement y z (cc)) ∙ ap (λ v. z ∷ v) (same_statements us vs ws t u)
+  same_statements xs ys zs (emit_is {name = n} {es = es} {y = y} {m = m} {fs = fs} {xs = us} {ys = vs} a b h t) (emit_is {y = z} {m = r} {fs = gs} {ys = ws} c d k u) =
+      let part = same_emit n es m r fs gs h (subst (λ l. emit_layer l r gs) (sym c ∙ a) k) in
+      let same_m : m ≡ r = part.0 in
+      let same_f : fs ≡ gs = part.1 in
+      ap (λ v. v ∷ vs) (same_statement y z (cc)) ∙ ap (λ v. z ∷ v) (same_statements us vs ws t u)
+  same_statements xs ys zs (call_is {path = p} {name = n} {es = es} {y = y} {found = x} {m = m} {fs = fs} {xs = us} {ys = vs} a b h t) (call_is {y = z} {found = x2} {m = r} {fs = gs} {ys = ws} c d k u) =
+      let part = same_call p n es x x2 m r fs gs h (subst (λ l. call_layer l x2 r gs) (sym c ∙ a) k) in
+      let same_x : x ≡ x2 = part.0 in
+      let same_m : m ≡ r = part.1 in
+      let same_f : fs ≡ gs = part.2 in
+      ap (λ v. v ∷ vs) (same_statement y z (cc)) ∙ ap (λ v. z ∷ v) (same_statements us vs ws t u)
+  same_statements xs ys zs (if_is {e = e} {then_x = a1} {else_x = a2} {y = y} {f = f} {then_y = b1} {else_y = b2} {xs = us} {ys = vs} a b h h1 h2 t) (if_is {y = z} {f = g} {then_y = c1} {else_y = c2} {ys = ws} c d k k1 k2 u) =
+      let part = subst (λ l. if_layer l g c1 c2) (sym c ∙ a) (k, k1, k2) in
+      let same_f : f ≡ g = same_exprs e f g h part.0 in
+      let same_1 : b1 ≡ c1 = same_statements a1 b1 c1 h1 part.1 in
+      let same_2 : b2 ≡ c2 = same_statements a2 b2 c2 h2 part.2 in
+      ap (λ v. v ∷ vs) (same_statement y z (cc)) ∙ ap (λ v. z ∷ v) (same_statements us vs ws t u)
+
+-- ---- made of parts
+module _ (s : Scope) where
+  pub join : (x : Stmt) (y : Statement) (xs : List Stmt) (ys : List Statement) → IsStatement s x y → AreStatements s xs ys → AreStatements s (x ∷ xs) (y ∷ ys)
+  join x y xs ys (set_is a b h t) rest = set_is a b h rest
+  join x y xs ys (emit_is a b h t) rest = emit_is a b h rest
+  join x y xs ys (call_is a b h t) rest = call_is a b h rest
+  join x y xs ys (if_is a b h k l t) rest = if_is a b h k l rest
+
+  pub record Parted (x : Stmt) (xs : List Stmt) (zs : List Statement) : Type 0 where
+    pub first : Statement
+    pub rest : List Statement
+    pub is : zs ≡ first ∷ rest
+    pub one : IsStatement s x first
+    pub more : AreStatements s xs rest
+
+  pub part : (x : Stmt) (xs : List Stmt) (zs : List Statement) → AreStatements s (x ∷ xs) zs → Parted x xs zs
+  part x xs zs (set_is {y = y} {ys = ys} a b h t) = record { first = y; rest = ys; is = refl; one = set_is a b h none_are; more = t }
+  part x xs zs (emit_is {y = y} {ys = ys} a b h t) = record { first = y; rest = ys; is = refl; one = emit_is a b h none_are; more = t }
+  part x xs zs (call_is {y = y} {ys = ys} a b h t) = record { first = y; rest = ys; is = refl; one = call_is a b h none_are; more = t }
+  part x xs zs (if_is {y = y} {ys = ys} a b h k l t) = record { first = y; rest = ys; is = refl; one = if_is a b h k l none_are; more = t }

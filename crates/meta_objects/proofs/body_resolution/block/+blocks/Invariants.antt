@@ -1,0 +1,11 @@
+use Rattle.std.proofs.Common.{List, ◌++◌, drop}
+use Rattle.meta_model.specs.declared.object.Statement.{Statement}
+use Rattle.meta_objects.specs.Bodies.{scope, AreStatements}
+use Rattle.meta_objects.proofs.body_resolution.block.+blocks.Given as goal
+
+-- what is left decides
+abbrev pub invariant-resolve_block-loop-statement : goal.invariant-resolve_block-loop-statement
+invariant-resolve_block-loop-statement l = record {
+  left : (more : List Statement) → AreStatements (scope l.outlines l.me l.parameters) (drop l.statement-index l.body) more → AreStatements (scope l.outlines l.me l.parameters) l.body (l.statements ++ more);
+  only : (all : List Statement) → AreStatements (scope l.outlines l.me l.parameters) l.body all → (more : List Statement) × AreStatements (scope l.outlines l.me l.parameters) (drop l.statement-index l.body) more;
+}

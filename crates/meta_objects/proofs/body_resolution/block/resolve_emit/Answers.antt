@@ -1,0 +1,43 @@
+use Rattle.std.proofs.Common.{List, inr, refl, arith}
+use Rattle.slot_lang.specs.declared.syntax.Expr.{Expr}
+use Rattle.slot_lang.specs.declared.syntax.Stmt.TheVariants.{Emit}
+use Rattle.meta_model.specs.declared.object.MetaPath.{MetaPath}
+use Rattle.meta_model.specs.declared.object.Statement.{Statement}
+use Rattle.meta_model.specs.declared.fault.MetaFault.TheVariants as fault
+use Rattle.meta_objects.specs.Bodies.{scope, AreExprs, IsStatement}
+use Rattle.meta_model.proofs.OutlineSteps.{failed}
+use Rattle.meta_objects.proofs.BodyCalls.{no_emit_class, no_emit_values, no_emit_method, no_emit, emit_piece}
+use Rattle.meta_objects.proofs.body_resolution.block.resolve_emit.Goals.{then-signal-lt3-via-then-signal-lt3, then-signal-lt3-via-else-signal-lt3+then-not-is_signal}
+use Rattle.meta_objects.proofs.body_resolution.block.resolve_emit.Goals as goal
+
+pub returns-in_default : goal.returns-in_default
+returns-in_default c = inr (refl, no_emit_class (scope c.args.outlines.now c.args.me.now c.args.parameters.now) _ _ c.in_default.ensures)
+
+pub returns-in_default-find_call : goal.returns-in_default-find_call
+returns-in_default-find_call c =
+    inr (refl, no_emit_method (scope c.args.outlines.now c.args.me.now c.args.parameters.now) _ _ _ _ c.in-Some.ensures (rw c.as_slice.ensures at c.in_default-find_call.ensures))
+
+pub returns-then-signal-lt3 : goal.returns-then-signal-lt3
+returns-then-signal-lt3 c =
+    inr (
+      refl,
+      no_emit (scope c.args.outlines.now c.args.me.now c.args.parameters.now) _ _ _ _ c.in-Some.ensures _ _ (rw c.as_slice.ensures at c.in-Some-find_call.ensures)
+          (λ signal more.
+          elim c.then-signal-lt3.branch [
+            | then-signal-lt3-via-then-signal-lt3 w ↦ let below = w.if-signal-lt3.true in omega arith
+            | then-signal-lt3-via-else-signal-lt3+then-not-is_signal w ↦ let e = w.if-not-is_signal.ensures.1 signal in absurd (cc)
+          ]),
+    )
+
+pub returns-in_err-values : goal.returns-in_err-values
+returns-in_err-values c =
+    let s = scope c.args.outlines.now c.args.me.now c.args.parameters.now in
+    failed fault.NoMember ((fs : List (Expr MetaPath)) → ¬ AreExprs s c.args.values.now fs) ((y : Statement) → ¬ IsStatement s (Emit c.args.name.now c.args.values.now) y)
+    (λ fs. AreExprs s c.args.values.now fs) (λ y. IsStatement s (Emit c.args.name.now c.args.values.now) y) _ c.in_err-values.ensures
+    (no_emit_values s _ _) _ c.from_residual.ensures.0 c.from_residual.ensures.1
+
+pub returns : goal.returns
+returns c =
+    let above = c.if-signal-lt3.false in
+    emit_piece (scope c.args.outlines.now c.args.me.now c.args.parameters.now) _ _ _ _ c.in-Some.ensures _ _ (rw c.as_slice.ensures at c.in-Some-find_call.ensures) _
+    (c.if-not-is_signal.ensures.0 refl) (omega arith) c.in_ok-values.ensures

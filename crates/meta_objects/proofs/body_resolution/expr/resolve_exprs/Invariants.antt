@@ -1,0 +1,12 @@
+use Rattle.std.proofs.Common.{List, ◌++◌, drop}
+use Rattle.slot_lang.specs.declared.syntax.Expr.{Expr}
+use Rattle.meta_model.specs.declared.object.MetaPath.{MetaPath}
+use Rattle.meta_objects.specs.Bodies.{scope, AreExprs}
+use Rattle.meta_objects.proofs.body_resolution.expr.resolve_exprs.Given as goal
+
+-- what is left decides
+abbrev pub invariant-loop-expression : goal.invariant-loop-expression
+invariant-loop-expression l = record {
+  left : (more : List (Expr MetaPath)) → AreExprs (scope l.outlines l.me l.parameters) (drop l.expression-index l.expressions) more → AreExprs (scope l.outlines l.me l.parameters) l.expressions (l.loaded ++ more);
+  only : (all : List (Expr MetaPath)) → AreExprs (scope l.outlines l.me l.parameters) l.expressions all → (more : List (Expr MetaPath)) × AreExprs (scope l.outlines l.me l.parameters) (drop l.expression-index l.expressions) more;
+}

@@ -1,7 +1,0 @@
-use Rattle.std.proofs.Common.{take}
-use Rattle.std.specs.List.{AllZip}
-use Rattle.meta_objects.specs.Loading.{IsObject}
-use Rattle.meta_objects.proofs.load_object.load_objects.Given as goal
-
-abbrev pub invariant-loop-outline : goal.invariant-loop-outline
-invariant-loop-outline l = AllZip (IsObject l.outlines l.bodies) (take l.outline-index l.outlines) l.objects

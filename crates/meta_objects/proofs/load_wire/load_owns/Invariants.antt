@@ -1,7 +1,0 @@
-use Rattle.std.proofs.Common.{take}
-use Rattle.std.specs.List.{AllZip}
-use Rattle.meta_objects.specs.Loading.{IsOwns}
-use Rattle.meta_objects.proofs.load_wire.load_owns.Given as goal
-
-abbrev pub invariant-loop-one : goal.invariant-loop-one
-invariant-loop-one l = AllZip (IsOwns l.outlines) (take l.one-index l.owns) l.loaded

@@ -1,0 +1,7 @@
+use Rattle.std.proofs.Common.{rules}
+use Rattle.meta_model.proofs.Zips.{zip_push}
+use Rattle.meta_objects.proofs.resolve_wire.resolve_owns.Goals as goal
+
+pub loop-one-preserved : goal.loop-one-preserved
+loop-one-preserved c =
+    zip_push _ _ _ _ _ _ _ c.loop-one-test.true c.one-item.is (search rules) c.loop-one.invariant c.in_ok-push.ensures.ok

@@ -1,0 +1,16 @@
+use Rattle.std.proofs.Common.{arith}
+use Rattle.meta_objects.proofs.Ends.{one_end}
+use Rattle.meta_objects.proofs.resolve_wire.resolve_wire.Goals as goal
+
+pub returns-in_default : goal.returns-in_default
+returns-in_default c = λ loaded is. c.in_default.ensures _ _ is.from
+
+pub returns-in_default-method_end : goal.returns-in_default-method_end
+returns-in_default-method_end c = λ loaded is. c.in_default-method_end.ensures _ _ is.to
+
+pub returns-else-method-gt3 : goal.returns-else-method-gt3
+returns-else-method-gt3 c = λ loaded is.
+    let same = one_end _ _ _ _ _ _ _ is.to c.in-Some-method_end.ensures in
+    let one = same.1 in
+    let called = is.called in
+    omega arith

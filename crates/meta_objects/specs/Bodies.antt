@@ -1,0 +1,179 @@
+-- How the names in slot bodies are resolved: where a part has no resolved form, one of its names isn't there
+-- (docs/language.md, "Names").
+use Rattle.std.specs.Prelude.{◌≡◌, ℕ, ◌<◌, ◌≢◌, true, List, [], ◌∷◌, length, Some, Any}
+use Rattle.std.specs.List.{AllZip}
+use Rattle.signatures.specs.declared.qtype.QType.{QType}
+use Rattle.signatures.specs.declared.value.Value.{Value}
+use Rattle.slot_lang.specs.declared.syntax.Unary.{Unary}
+use Rattle.slot_lang.specs.declared.syntax.Binary.{Binary}
+use Rattle.slot_lang.specs.declared.syntax.Expr.{Expr}
+use Rattle.slot_lang.specs.declared.syntax.Expr.TheOpen as expr
+use Rattle.slot_lang.specs.declared.syntax.Expr.TheViews.{out-Expr}
+use Rattle.slot_lang.specs.declared.syntax.Root.{Root}
+use Rattle.slot_lang.specs.declared.syntax.Root.TheVariants as root
+use Rattle.slot_lang.specs.declared.syntax.Path.{Path}
+use Rattle.slot_lang.specs.declared.syntax.Stmt.{Stmt}
+use Rattle.slot_lang.specs.declared.syntax.Stmt.TheOpen as stmt
+use Rattle.slot_lang.specs.declared.syntax.Stmt.TheViews.{out-Stmt}
+use Rattle.class_lang.specs.declared.program.Parameter.{Parameter}
+use Rattle.class_lang.specs.declared.program.Property.{Property}
+use Rattle.class_lang.specs.declared.program.Slot.{Slot}
+use Rattle.class_lang.specs.declared.program.Class.{Class}
+use Rattle.meta_model.specs.declared.object.MetaRoot.{MetaRoot}
+use Rattle.meta_model.specs.declared.object.MetaRoot.TheVariants as resolved
+use Rattle.meta_model.specs.declared.object.Step.{Step}
+use Rattle.meta_model.specs.declared.object.MetaPath.{MetaPath}
+use Rattle.meta_model.specs.declared.object.Statement.{Statement}
+use Rattle.meta_model.specs.declared.object.Statement.TheOpen as statement
+use Rattle.meta_model.specs.declared.object.Statement.TheViews.{out-Statement}
+use Rattle.meta_model.specs.declared.outline.Heading.{Heading}
+use Rattle.meta_model.specs.declared.outline.Outline.{Outline}
+use Rattle.meta_model.specs.declared.outline.Sort.TheVariants as sort
+use Rattle.meta_model.specs.Places.{StandsFirst}
+use Rattle.meta_model.specs.Outlines.{IsOutlineNamed, reference_to}
+use Rattle.meta_model.specs.Kinds.{IsReadAs}
+
+-- where a body stands: the classes, the name of its own, and its slot's parameters
+pub record Scope : Type 0 where
+  pub outlines : List Outline
+  pub me : List ℕ
+  pub parameters : List Parameter
+
+abbrev pub scope : List Outline → List ℕ → List Parameter → Scope
+scope outlines me parameters = record { outlines = outlines; me = me; parameters = parameters }
+
+-- ---- paths
+-- `this` has the declaring class as a pointer, a parameter its declared type
+pub data IsRoot (s : Scope) : Root → MetaRoot → QType → Type 0 where
+  this_root : IsRoot s root.This resolved.This (reference_to s.me)
+  parameter_root : {name : List ℕ} {k : ℕ}
+      → (at : StandsFirst (λ (p : Parameter). p.name ≡ Some name) s.parameters k)
+      → IsRoot s (root.Name name) (resolved.Parameter k) at.at.item.kind
+
+-- a declared type is a pointer to a class that is there
+pub record PointsTo (outlines : List Outline) (T : QType) (c : ℕ) : Type 0 where
+  pub pointer : T.pointer ≡ true
+  pub class : IsOutlineNamed outlines T.name c
+
+-- .. which is this one
+pub record PointsToThis (outlines : List Outline) (T : QType) (c : ℕ) (o : Outline) : Type 0 where
+  pub points : PointsTo outlines T c
+  pub is : points.class.at.item ≡ o
+
+-- the class that it points to has a property of this name
+pub record HasMember (outlines : List Outline) (T : QType) (name : List ℕ) (q : ℕ) (property : Property) : Type 0 where
+  pub number : ℕ
+  pub points : PointsTo outlines T number
+  pub place : StandsFirst (λ (p : Property). p.name ≡ name) points.class.at.item.properties q
+  pub is : place.at.item ≡ property
+
+-- .. which a step leads on by
+pub record IsStep (outlines : List Outline) (T : QType) (name : List ℕ) (step : Step) (property : Property) : Type 0 where
+  pub member : HasMember outlines T name step.property property
+  pub kind : IsReadAs outlines property.kind step.kind
+
+abbrev pub AreSteps : List Outline → QType → List (List ℕ) → List Step → QType → Type 0
+AreSteps outlines T [] [] U = T ≡ U
+AreSteps outlines T [] (step ∷ steps) U = ⊥
+AreSteps outlines T (name ∷ names) [] U = ⊥
+AreSteps outlines T (name ∷ names) (step ∷ steps) U =
+    (property : Property) × IsStep outlines T name step property × AreSteps outlines property.kind names steps U
+
+-- the path leads to what is declared to be of this type
+pub record IsPath (s : Scope) (path : Path) (found : MetaPath) (T : QType) : Type 0 where
+  pub root_type : QType
+  pub root : IsRoot s path.root found.root root_type
+  pub steps : AreSteps s.outlines root_type path.properties found.steps T
+
+-- ---- expressions
+pub data IsExpr (s : Scope) : Expr Path → Expr MetaPath → Type 0 where
+  literal_is : {e : Expr Path} {f : Expr MetaPath} {v : Value} → out-Expr Path e ≡ expr.Literal v → out-Expr MetaPath f ≡ expr.Literal v → IsExpr s e f
+  path_is : {e : Expr Path} {f : Expr MetaPath} {path : Path} {found : MetaPath} {T : QType} → out-Expr Path e ≡ expr.Path path → out-Expr MetaPath f ≡ expr.Path found
+      → IsPath s path found T → IsExpr s e f
+  unary_is : {e a : Expr Path} {f b : Expr MetaPath} {op : Unary} → out-Expr Path e ≡ expr.Unary op a → out-Expr MetaPath f ≡ expr.Unary op b
+      → IsExpr s a b → IsExpr s e f
+  binary_is : {e a c : Expr Path} {f b d : Expr MetaPath} {op : Binary} → out-Expr Path e ≡ expr.Binary op a c → out-Expr MetaPath f ≡ expr.Binary op b d
+      → IsExpr s a b → IsExpr s c d → IsExpr s e f
+
+abbrev pub AreExprs : Scope → List (Expr Path) → List (Expr MetaPath) → Type 0
+AreExprs s [] [] = Unit {0}
+AreExprs s [] (f ∷ fs) = ⊥
+AreExprs s (e ∷ es) [] = ⊥
+AreExprs s (e ∷ es) (f ∷ fs) = IsExpr s e f × AreExprs s es fs
+
+-- ---- statements
+-- `set`: the object's class has the property
+pub record IsSet (s : Scope) (path : Path) (name : List ℕ) (e : Expr Path) (found : MetaPath) (q : ℕ) (f : Expr MetaPath) : Type 0 where
+  pub kind : QType
+  pub object : IsPath s path found kind
+  pub property : Property
+  pub member : HasMember s.outlines kind name q property
+  pub value : IsExpr s e f
+
+-- a method of this name and with so many parameters
+abbrev pub IsCallOf : List ℕ → ℕ → Heading → Type 0
+IsCallOf name count h = (h.sig.name ≡ name) × (length h.sig.types ≡ count)
+
+-- `emit`: the body's class has the signal, which isn't one of those that the runtime emits
+pub record IsEmit (s : Scope) (name : List ℕ) (es : List (Expr Path)) (m : ℕ) (fs : List (Expr MetaPath)) : Type 0 where
+  pub number : ℕ
+  pub class : IsOutlineNamed s.outlines s.me number
+  pub method : StandsFirst (IsCallOf name (length es)) class.at.item.methods m
+  pub signal : method.at.item.sort ≡ sort.Signal
+  pub emitted : 2 < m
+  pub values : AreExprs s es fs
+
+-- `call`: the object's class has the slot, which isn't `deleteLater()`
+pub record IsCall (s : Scope) (path : Path) (name : List ℕ) (es : List (Expr Path)) (found : MetaPath) (m : ℕ) (fs : List (Expr MetaPath)) : Type 0 where
+  pub kind : QType
+  pub object : IsPath s path found kind
+  pub number : ℕ
+  pub points : PointsTo s.outlines kind number
+  pub method : StandsFirst (IsCallOf name (length es)) points.class.at.item.methods m
+  pub slot : method.at.item.sort ≢ sort.Signal
+  pub called : method.at.item.sort ≢ sort.DeleteLater
+  pub values : AreExprs s es fs
+
+-- the statements of a block
+pub data AreStatements (s : Scope) : List Stmt → List Statement → Type 0 where
+  none_are : AreStatements s [] []
+  set_is : {x : Stmt} {path : Path} {name : List ℕ} {e : Expr Path} {y : Statement} {found : MetaPath} {q : ℕ} {f : Expr MetaPath} {xs : List Stmt} {ys : List Statement}
+      → out-Stmt x ≡ stmt.Set path name e → out-Statement y ≡ statement.Set found q f
+      → IsSet s path name e found q f → AreStatements s xs ys → AreStatements s (x ∷ xs) (y ∷ ys)
+  emit_is : {x : Stmt} {name : List ℕ} {es : List (Expr Path)} {y : Statement} {m : ℕ} {fs : List (Expr MetaPath)} {xs : List Stmt} {ys : List Statement}
+      → out-Stmt x ≡ stmt.Emit name es → out-Statement y ≡ statement.Emit m fs
+      → IsEmit s name es m fs → AreStatements s xs ys → AreStatements s (x ∷ xs) (y ∷ ys)
+  call_is : {x : Stmt} {path : Path} {name : List ℕ} {es : List (Expr Path)} {y : Statement} {found : MetaPath} {m : ℕ} {fs : List (Expr MetaPath)} {xs : List Stmt} {ys : List Statement}
+      → out-Stmt x ≡ stmt.Call path name es → out-Statement y ≡ statement.Call found m fs
+      → IsCall s path name es found m fs → AreStatements s xs ys → AreStatements s (x ∷ xs) (y ∷ ys)
+  if_is : {x : Stmt} {e : Expr Path} {then_x else_x : List Stmt} {y : Statement} {f : Expr MetaPath} {then_y else_y : List Statement} {xs : List Stmt} {ys : List Statement}
+      → out-Stmt x ≡ stmt.If e then_x else_x → out-Statement y ≡ statement.If f then_y else_y
+      → IsExpr s e f → AreStatements s then_x then_y → AreStatements s else_x else_y → AreStatements s xs ys → AreStatements s (x ∷ xs) (y ∷ ys)
+
+-- one statement
+abbrev pub IsStatement : Scope → Stmt → Statement → Type 0
+IsStatement s x y = AreStatements s (x ∷ []) (y ∷ [])
+
+-- a name in the body isn't there
+abbrev pub LacksInBody : Scope → List Stmt → Type 0
+LacksInBody s xs = (ys : List Statement) → ¬ AreStatements s xs ys
+
+-- ---- the bodies of slots
+abbrev pub scope_of : List Outline → Class → Slot → Scope
+scope_of outlines class slot = scope outlines class.name slot.parameters
+
+abbrev pub IsBody : List Outline → Class → Slot → List Statement → Type 0
+IsBody outlines class slot body = AreStatements (scope_of outlines class slot) slot.body body
+
+-- the bodies of a class's slots, and of the slots of all classes
+abbrev pub AreBodies : List Outline → Class → List (List Statement) → Type 0
+AreBodies outlines class bodies = AllZip (IsBody outlines class) class.slots bodies
+
+abbrev pub AllBodies : List Outline → List Class → List (List (List Statement)) → Type 0
+AllBodies outlines classes bodies = AllZip (AreBodies outlines) classes bodies
+
+abbrev pub LacksInSlot : List Outline → Class → Slot → Type 0
+LacksInSlot outlines class slot = LacksInBody (scope_of outlines class slot) slot.body
+
+abbrev pub LacksInClass : List Outline → Class → Type 0
+LacksInClass outlines class = Any (LacksInSlot outlines class) class.slots

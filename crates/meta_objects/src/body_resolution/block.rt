@@ -1,0 +1,158 @@
+//! The statements of bodies, whose names are resolved.
+
+ghost use Rattle.std.specs.Prelude.{ℕ, MatchOption};
+ghost use Rattle.slot_lang.specs.declared.syntax.Stmt.TheVariants.{Set, Emit, Call};
+ghost use Rattle.meta_objects.specs.Bodies.{scope, IsStatement, AreStatements, IsCallOf, LacksInBody};
+ghost use Rattle.meta_model.specs.PartAnswers.{Loads};
+ghost use Rattle.meta_model.specs.Places.{StandsAt, Found};
+ghost use Rattle.meta_model.specs.declared.fault.MetaFault.TheVariants as fault;
+ghost use Rattle.meta_model.specs.declared.object.Statement.{Statement as AStatement};
+
+use crate::body_resolution::expr::{resolve_expr, resolve_exprs};
+use crate::body_resolution::path::{Led, find_class, find_member, resolve_path};
+use class_lang::Parameter;
+use meta_model::{Heading, MetaFault, Outline, Statement, find};
+use signatures::Name;
+use slot_lang::{Expr, Path, Stmt};
+use sqlite_items::Items;
+use std::alloc::Global;
+
+/// The statements in a body of this class whose slot has these parameters; `NoMember` where a name in one of them isn't
+/// there.
+#[cycle(blocks)]
+pub fn resolve_block(
+    alloc: Global,
+    outlines: &[Outline],
+    me: &Name,
+    parameters: &[Parameter],
+    body: &[Stmt],
+) -> Result<Items<Statement>, MetaFault>
+    ensures { Loads fault.NoMember (LacksInBody (scope outlines.now me.now parameters.now) body.now) (λ loaded. AreStatements (scope outlines.now me.now parameters.now) body.now loaded) result }
+{
+    let mut statements = Items::new(alloc);
+    for statement in body {
+        let statement = resolve_statement(alloc, outlines, me, parameters, statement)?;
+        statements.push(statement)?;
+    }
+    Ok(statements)
+}
+
+/// The statement.
+#[cycle(blocks)]
+fn resolve_statement(
+    alloc: Global,
+    outlines: &[Outline],
+    me: &Name,
+    parameters: &[Parameter],
+    statement: &Stmt,
+) -> Result<Statement, MetaFault>
+    ensures { Loads fault.NoMember ((loaded : AStatement) → ¬ IsStatement (scope outlines.now me.now parameters.now) (statement.now) loaded) (λ loaded. IsStatement (scope outlines.now me.now parameters.now) (statement.now) loaded) result }
+{
+    match statement {
+        Stmt::Set(path, name, value) => {
+            resolve_set(alloc, outlines, me, parameters, path, name, value)
+        }
+        Stmt::Emit(name, values) => {
+            resolve_emit(alloc, outlines, me, parameters, name, values.as_slice())
+        }
+        Stmt::Call(path, name, values) => {
+            resolve_call(
+                alloc,
+                outlines,
+                me,
+                parameters,
+                path,
+                name,
+                values.as_slice(),
+            )
+        }
+        Stmt::If(test, chosen, other) => {
+            let test = resolve_expr(alloc, outlines, me, parameters, test)?;
+            let chosen = resolve_block(alloc, outlines, me, parameters, chosen.as_slice())?;
+            let other = resolve_block(alloc, outlines, me, parameters, other.as_slice())?;
+            Ok(Statement::If(test, chosen, other))
+        }
+    }
+}
+
+/// `set path.p = e;`
+fn resolve_set(
+    alloc: Global,
+    outlines: &[Outline],
+    me: &Name,
+    parameters: &[Parameter],
+    path: &Path,
+    name: &Name,
+    value: &Expr<Path>,
+) -> Result<Statement, MetaFault>
+    ensures { Loads fault.NoMember ((loaded : AStatement) → ¬ IsStatement (scope outlines.now me.now parameters.now) (Set path.now name.now value.now) loaded) (λ loaded. IsStatement (scope outlines.now me.now parameters.now) (Set path.now name.now value.now) loaded) result }
+{
+    let Led { path, kind } = resolve_path(alloc, outlines, me, parameters, path)?;
+    let Some((property, _)) = find_member(outlines, &kind, name) else {
+        return Err(MetaFault::NoMember);
+    };
+    let value = resolve_expr(alloc, outlines, me, parameters, value)?;
+    Ok(Statement::Set(path, property, value))
+}
+
+/// `emit s(e, ..);`
+fn resolve_emit(
+    alloc: Global,
+    outlines: &[Outline],
+    me: &Name,
+    parameters: &[Parameter],
+    name: &Name,
+    values: &[Expr<Path>],
+) -> Result<Statement, MetaFault>
+    ensures { Loads fault.NoMember ((loaded : AStatement) → ¬ IsStatement (scope outlines.now me.now parameters.now) (Emit name.now values.now) loaded) (λ loaded. IsStatement (scope outlines.now me.now parameters.now) (Emit name.now values.now) loaded) result }
+{
+    let Some((_, class)) = find(outlines, me) else {
+        return Err(MetaFault::NoMember);
+    };
+    let Some((signal, heading)) = find_call(class.methods.as_slice(), name, values.len()) else {
+        return Err(MetaFault::NoMember);
+    };
+    if signal < 3 || !heading.is_signal() {
+        return Err(MetaFault::NoMember);
+    }
+    let values = resolve_exprs(alloc, outlines, me, parameters, values)?;
+    Ok(Statement::Emit(signal, values))
+}
+
+/// `call path.m(e, ..);`
+fn resolve_call(
+    alloc: Global,
+    outlines: &[Outline],
+    me: &Name,
+    parameters: &[Parameter],
+    path: &Path,
+    name: &Name,
+    values: &[Expr<Path>],
+) -> Result<Statement, MetaFault>
+    ensures { Loads fault.NoMember ((loaded : AStatement) → ¬ IsStatement (scope outlines.now me.now parameters.now) (Call path.now name.now values.now) loaded) (λ loaded. IsStatement (scope outlines.now me.now parameters.now) (Call path.now name.now values.now) loaded) result }
+{
+    let Led { path, kind } = resolve_path(alloc, outlines, me, parameters, path)?;
+    let Some((_, class)) = find_class(outlines, &kind) else {
+        return Err(MetaFault::NoMember);
+    };
+    let Some((slot, heading)) = find_call(class.methods.as_slice(), name, values.len()) else {
+        return Err(MetaFault::NoMember);
+    };
+    if !heading.may_be_called() {
+        return Err(MetaFault::NoMember);
+    }
+    let values = resolve_exprs(alloc, outlines, me, parameters, values)?;
+    Ok(Statement::Call(path, slot, values))
+}
+
+/// The first method of this name with so many parameters, with its number.
+fn find_call<'a>(methods: &'a [Heading], name: &Name, count: usize) -> Option<(usize, &'a Heading)>
+    ensures { MatchOption result ((k : ℕ) → ¬ StandsAt (IsCallOf name.now count) methods.now k) (λ found. Found (IsCallOf name.now count) methods.now found.0 found.1.now) }
+{
+    for (place, method) in methods.iter().enumerate() {
+        if method.sig.types.len() == count && method.sig.name.is_same(name) {
+            return Some((place, method));
+        }
+    }
+    None
+}

@@ -1,0 +1,8 @@
+//! Slot bodies whose names are resolved to numbers.
+
+mod block;
+mod body;
+mod expr;
+mod path;
+
+pub use body::resolve_bodies;

@@ -1,0 +1,120 @@
+//! Paths whose names are resolved.
+
+ghost use Rattle.std.specs.Prelude.{◌≡◌, ℕ, List, MatchOption};
+ghost use Rattle.signatures.specs.declared.qtype.QType.{QType as AQType};
+ghost use Rattle.class_lang.specs.declared.program.Property.{Property as AProperty};
+ghost use Rattle.meta_objects.specs.Bodies.{scope, PointsTo, PointsToThis, HasMember, AreSteps, IsPath};
+ghost use Rattle.meta_model.specs.PartAnswers.{Loads};
+ghost use Rattle.meta_model.specs.declared.fault.MetaFault.TheVariants as fault;
+ghost use Rattle.meta_model.specs.declared.object.MetaPath.{MetaPath as AMetaPath};
+ghost use Rattle.meta_model.specs.declared.object.Step.{Step as AStep};
+
+use class_lang::{Parameter, Property};
+use meta_model::{MetaFault, MetaPath, MetaRoot, Outline, Step, find, read_kind, reference_to};
+use signatures::{Name, QType};
+use slot_lang::{Path, Root};
+use sqlite_items::Items;
+use std::alloc::Global;
+
+/// A path whose names are resolved, and the type of what it is declared to lead to.
+#[derive(Drop)]
+pub struct Led {
+    pub path: MetaPath,
+    pub kind: QType,
+}
+
+/// The path in a body of this class whose slot has these parameters; `NoMember` where a name in it isn't there.
+pub fn resolve_path(
+    alloc: Global,
+    outlines: &[Outline],
+    me: &Name,
+    parameters: &[Parameter],
+    path: &Path,
+) -> Result<Led, MetaFault>
+    ensures { Loads fault.NoMember ((found : AMetaPath) (T : AQType) → ¬ IsPath (scope outlines.now me.now parameters.now) path.now found T)
+        (λ led. IsPath (scope outlines.now me.now parameters.now) path.now led.path led.kind) result }
+{
+    match &path.root {
+        Root::This => {
+            let start = reference_to(me)?;
+            resolve_from(
+                alloc,
+                outlines,
+                MetaRoot::This,
+                start,
+                path.properties.as_slice(),
+            )
+        }
+        Root::Name(name) => {
+            let Some((place, parameter)) = find(parameters, name) else {
+                return Err(MetaFault::NoMember);
+            };
+            let start = parameter.kind.copy()?;
+            let root = MetaRoot::Parameter(place);
+            resolve_from(alloc, outlines, root, start, path.properties.as_slice())
+        }
+    }
+}
+
+/// The path of these properties from a root of this type.
+fn resolve_from(
+    alloc: Global,
+    outlines: &[Outline],
+    root: MetaRoot,
+    start: QType,
+    names: &[Name],
+) -> Result<Led, MetaFault>
+    ensures { Loads fault.NoMember ((steps : List AStep) (T : AQType) → ¬ AreSteps outlines.now start names.now steps T)
+        (λ led. (led.path.root ≡ root) × AreSteps outlines.now start names.now led.path.steps led.kind) result }
+{
+    let mut kind = start;
+    let mut steps = Items::new(alloc);
+    for name in names {
+        let Some((property, found)) = find_member(outlines, &kind, name) else {
+            return Err(MetaFault::NoMember);
+        };
+        let read = read_kind(outlines, &found.kind);
+        steps.push(Step {
+            property,
+            kind: read,
+        })?;
+        let next = found.kind.copy()?;
+        kind = next;
+    }
+    Ok(Led {
+        path: MetaPath { root, steps },
+        kind,
+    })
+}
+
+/// The class that the type points to, with its number.
+pub fn find_class<'a>(outlines: &'a [Outline], kind: &QType) -> Option<(usize, &'a Outline)>
+    ensures { MatchOption result ((c : ℕ) → ¬ PointsTo outlines.now kind.now c) (λ found. PointsToThis outlines.now kind.now found.0 found.1.now) }
+{
+    if kind.pointer {
+        let Some((number, outline)) = find(outlines, &kind.name) else {
+            return None;
+        };
+        Some((number, outline))
+    } else {
+        None
+    }
+}
+
+/// The property of this name in the class that the type points to, with its number.
+pub fn find_member<'a>(
+    outlines: &'a [Outline],
+    kind: &QType,
+    name: &Name,
+) -> Option<(usize, &'a Property)>
+    ensures { MatchOption result ((q : ℕ) (property : AProperty) → ¬ HasMember outlines.now kind.now name.now q property)
+        (λ found. HasMember outlines.now kind.now name.now found.0 found.1.now) }
+{
+    let Some((_, outline)) = find_class(outlines, kind) else {
+        return None;
+    };
+    let Some((number, property)) = find(outline.properties.as_slice(), name) else {
+        return None;
+    };
+    Some((number, property))
+}

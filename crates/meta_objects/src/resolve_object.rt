@@ -1,0 +1,202 @@
+//! Classes whose members are resolved.
+
+ghost use Rattle.std.specs.Prelude.{◌≡◌, ℕ, [], IfOk, option_copied};
+ghost use Rattle.std.specs.List.{AllZip};
+ghost use Rattle.meta_objects.specs.Loading.{IsMethodOf, IsNotify, IsPropertyOf, IsObject, work_of, body_at, found_body, default, initial_of};
+
+use class_lang::Property;
+use meta_model::{
+    Heading, MetaMethod, MetaObject, MetaProperty, Outline, SlotBody, Sort, ValueType, Work,
+    place_of_signal, read_kind, read_kinds,
+};
+use signatures::{Text, Value};
+use sqlite_items::Items;
+use std::alloc::{AllocError, Global};
+
+/// The classes in their order, with these bodies of the program's slots.
+pub fn resolve_objects(
+    alloc: Global,
+    outlines: &[Outline],
+    bodies: &[Items<SlotBody>],
+) -> Result<Items<MetaObject>, AllocError>
+    ensures { IfOk result (λ objects. AllZip (IsObject outlines.now bodies.now) outlines.now objects) }
+{
+    let mut objects = Items::new(alloc);
+    for outline in outlines {
+        let object = resolve_object(alloc, outlines, bodies, outline)?;
+        objects.push(object)?;
+    }
+    Ok(objects)
+}
+
+/// The class with its methods and its properties.
+fn resolve_object(
+    alloc: Global,
+    outlines: &[Outline],
+    bodies: &[Items<SlotBody>],
+    outline: &Outline,
+) -> Result<MetaObject, AllocError>
+    ensures { IfOk result (λ object. IsObject outlines.now bodies.now outline.now object) }
+{
+    let name = outline.name.copy()?;
+    let methods = resolve_methods(alloc, outlines, bodies, outline.methods.as_slice())?;
+    let properties = resolve_properties(alloc, outlines, outline)?;
+    Ok(MetaObject {
+        name,
+        base: outline.base,
+        methods,
+        properties,
+    })
+}
+
+/// The methods in their order.
+fn resolve_methods(
+    alloc: Global,
+    outlines: &[Outline],
+    bodies: &[Items<SlotBody>],
+    headings: &[Heading],
+) -> Result<Items<MetaMethod>, AllocError>
+    ensures { IfOk result (λ methods. AllZip (IsMethodOf outlines.now bodies.now) headings.now methods) }
+{
+    let mut methods = Items::new(alloc);
+    for heading in headings {
+        let method = resolve_method(alloc, outlines, bodies, heading)?;
+        methods.push(method)?;
+    }
+    Ok(methods)
+}
+
+/// The method with its types and its body.
+fn resolve_method(
+    alloc: Global,
+    outlines: &[Outline],
+    bodies: &[Items<SlotBody>],
+    heading: &Heading,
+) -> Result<MetaMethod, AllocError>
+    ensures { IfOk result (λ method. IsMethodOf outlines.now bodies.now heading.now method) }
+{
+    let sig = heading.sig.copy(alloc)?;
+    let kinds = read_kinds(alloc, outlines, heading.sig.types.as_slice())?;
+    let work = work_of(alloc, bodies, heading.sort)?;
+    Ok(MetaMethod { sig, kinds, work })
+}
+
+/// What a method of this sort does.
+fn work_of(alloc: Global, bodies: &[Items<SlotBody>], sort: Sort) -> Result<Work, AllocError>
+    ensures { IfOk result (λ work. work ≡ work_of bodies.now sort) }
+{
+    match sort {
+        Sort::Signal => Ok(Work::Signal),
+        Sort::DeleteLater => {
+            let body = empty_body(alloc)?;
+            Ok(Work::Slot(body))
+        }
+        Sort::Slot(class, slot) => {
+            let body = found_body(alloc, bodies, class, slot)?;
+            Ok(Work::Slot(body))
+        }
+    }
+}
+
+/// A body without statements.
+fn empty_body(alloc: Global) -> Result<SlotBody, AllocError>
+    ensures { IfOk result (λ body. body ≡ []) }
+{
+    SlotBody::new(alloc, Items::new(alloc))
+}
+
+/// The body of this slot of this class, which is shared; it is among the bodies of a program's slots.
+fn found_body(
+    alloc: Global,
+    bodies: &[Items<SlotBody>],
+    class: usize,
+    slot: usize,
+) -> Result<SlotBody, AllocError>
+    ensures { IfOk result (λ body. body ≡ found_body (body_at bodies.now class slot)) }
+{
+    match body_at(bodies, class, slot) {
+        Some(body) => body.copy(),
+        None => empty_body(alloc),
+    }
+}
+
+/// The body of this slot of this class.
+fn body_at(bodies: &[Items<SlotBody>], class: usize, slot: usize) -> Option<&SlotBody>
+    ensures { option_copied result ≡ body_at bodies.now class slot }
+{
+    bodies.get(class)?.get(slot)
+}
+
+/// The class's properties in their order.
+fn resolve_properties(
+    alloc: Global,
+    outlines: &[Outline],
+    outline: &Outline,
+) -> Result<Items<MetaProperty>, AllocError>
+    ensures { IfOk result (λ properties. AllZip (IsPropertyOf outlines.now outline.now) outline.now.properties properties) }
+{
+    let mut properties = Items::new(alloc);
+    for declared in outline.properties.as_slice() {
+        let property = resolve_property(alloc, outlines, outline, declared)?;
+        properties.push(property)?;
+    }
+    Ok(properties)
+}
+
+/// The property with its type, its first value and its notify signal.
+fn resolve_property(
+    alloc: Global,
+    outlines: &[Outline],
+    outline: &Outline,
+    declared: &Property,
+) -> Result<MetaProperty, AllocError>
+    ensures { IfOk result (λ property. IsPropertyOf outlines.now outline.now declared.now property) }
+{
+    let name = declared.name.copy()?;
+    let kind = read_kind(outlines, &declared.kind);
+    let initial = initial_of(alloc, &declared.initial, kind)?;
+    let notify = notify_of(outline, declared);
+    let declared = declared.kind.copy()?;
+    Ok(MetaProperty {
+        name,
+        declared,
+        kind,
+        initial,
+        notify,
+    })
+}
+
+/// The number of the notify signal, if one is given and is there.
+fn notify_of(outline: &Outline, declared: &Property) -> Option<usize>
+    ensures { IsNotify outline.now declared.now.notify result }
+{
+    match &declared.notify {
+        Some(sig) => place_of_signal(outline.methods.as_slice(), sig),
+        None => None,
+    }
+}
+
+/// The value that a property of this type has at first, where this literal is given for it.
+fn initial_of(alloc: Global, given: &Option<Value>, kind: ValueType) -> Result<Value, AllocError>
+    ensures { IfOk result (λ value. value ≡ initial_of given.now kind) }
+{
+    match given {
+        Some(value) => value.copy(),
+        None => default_of(alloc, kind),
+    }
+}
+
+/// 0, false, `""` or null.
+fn default_of(alloc: Global, kind: ValueType) -> Result<Value, AllocError>
+    ensures { IfOk result (λ value. value ≡ default kind) }
+{
+    match kind {
+        ValueType::Int => Ok(Value::Int(0)),
+        ValueType::Bool => Ok(Value::Bool(false)),
+        ValueType::Text => {
+            let text = Text::empty(alloc)?;
+            Ok(Value::Text(text))
+        }
+        ValueType::Reference(_, _) => Ok(Value::Ref(None)),
+    }
+}

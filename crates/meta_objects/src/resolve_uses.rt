@@ -1,0 +1,38 @@
+//! The parts of a program that use names of classes and members.
+
+ghost use Rattle.meta_objects.specs.Loading.{LacksMember, HasUses};
+ghost use Rattle.meta_model.specs.PartAnswers.{Loads};
+ghost use Rattle.meta_model.specs.declared.fault.MetaFault.TheVariants as fault;
+
+use crate::body_resolution::resolve_bodies;
+use crate::resolve_wire::{resolve_owns, resolve_wires};
+use class_lang::Program;
+use meta_model::{MetaFault, MetaOwns, MetaWire, Outline, SlotBody};
+use sqlite_items::Items;
+use std::alloc::Global;
+
+/// The slots' bodies by class, the wires and the owns, their names resolved.
+#[derive(Drop)]
+pub struct Uses {
+    pub bodies: Items<Items<SlotBody>>,
+    pub wires: Items<MetaWire>,
+    pub owns: Items<MetaOwns>,
+}
+
+/// The bodies, the wires and the owns; `NoMember` where a name in one of them isn't there.
+pub fn resolve_uses(
+    alloc: Global,
+    program: &Program,
+    outlines: &[Outline],
+) -> Result<Uses, MetaFault>
+    ensures { Loads fault.NoMember (LacksMember program.now outlines.now) (λ uses. HasUses program.now outlines.now uses.bodies uses.wires uses.owns) result }
+{
+    let bodies = resolve_bodies(alloc, outlines, program.classes.as_slice())?;
+    let wires = resolve_wires(alloc, outlines, program.wires.as_slice())?;
+    let owns = resolve_owns(alloc, outlines, program.owns.as_slice())?;
+    Ok(Uses {
+        bodies,
+        wires,
+        owns,
+    })
+}
