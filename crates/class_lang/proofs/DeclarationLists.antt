@@ -1,15 +1,15 @@
 -- The declarations of a program, one after another.
 use Rattle.std.proofs.Common.{◌≡◌, List, [], ◌∷◌, refl, sym, ◌∙◌, ap, append_assoc, map, Result, Ok, Err, IfOk, OnOk}
 use Rattle.std.proofs.lemmas.List.{append-nil}
-use Rattle.slot_lang.specs.Lists.{spell_each}
-use Rattle.slot_lang.specs.Reading.{Found, Reads}
-use Rattle.slot_lang.specs.declared.fault.ParseFault.{ParseFault}
-use Rattle.slot_lang.specs.declared.token.Token.{Token}
+use Rattle.texts.specs.Lists.{spell_each}
+use Rattle.texts.specs.Reading.{Found, Reads}
+use Rattle.texts.specs.declared.fault.ParseFault.{ParseFault}
+use Rattle.texts.specs.declared.token.Token.{Token}
 use Rattle.class_lang.specs.Declarations.{DeclarationReading, a_class, a_wire, an_owns, spell_declaration, tree_of_declaration, tree_of_program, with_declarations, EndsDeclaration, IsAtEnd, IsProgram}
 use Rattle.class_lang.specs.declared.declarations.Declaration.{Declaration}
 use Rattle.class_lang.specs.declared.declarations.Declaration.TheVariants as declaration
-use Rattle.class_lang.specs.declared.program.Program.{Program}
-use Rattle.slot_lang.proofs.Underway.{None, Underway}
+use Rattle.texts.specs.declared.program.Program.{Program}
+use Rattle.texts.proofs.Underway.{None, Underway}
 
 -- ---- adding declarations one at a time
 

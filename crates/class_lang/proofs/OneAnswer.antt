@@ -1,15 +1,15 @@
 -- A text has one answer.
 use Rattle.std.proofs.Common.{◌≡◌, ◌⊎◌, ℕ, List, Result, Ok, Err, refl, ap, arith, inl, inr}
-use Rattle.slot_lang.specs.Nesting.{IsTooDeep}
-use Rattle.slot_lang.specs.Pieces.{AreTokens}
-use Rattle.slot_lang.specs.declared.token.Token.{Token}
-use Rattle.slot_lang.proofs.Cut.{same_tokens}
+use Rattle.texts.specs.Nesting.{IsTooDeep}
+use Rattle.texts.specs.Pieces.{AreTokens}
+use Rattle.texts.specs.declared.token.Token.{Token}
+use Rattle.texts.proofs.Cut.{same_tokens}
 use Rattle.class_lang.specs.Declarations.{IsProgram}
 use Rattle.class_lang.specs.Limits.{HasFewParameters, IsWithinLimits}
 use Rattle.class_lang.specs.Reads.{IsShortText, IsLongText, IsDeepText, IsOutsideGrammar, HasBadType, IsProgramText, HasTooManyParameters, IsLargeProgram, ReadsProgram}
 use Rattle.class_lang.specs.declared.fault.TextFault.{TextFault}
 use Rattle.class_lang.specs.declared.fault.TextFault.TheVariants.{TooLarge, BadByte, TooDeepText, Syntax, BadType, TooMany, Memory}
-use Rattle.class_lang.specs.declared.program.Program.{Program}
+use Rattle.texts.specs.declared.program.Program.{Program}
 use Rattle.class_lang.proofs.OneTree.{one_program}
 
 pub one_program_text : (bytes : List ℕ) (p q : Program) → IsProgramText bytes p → IsProgramText bytes q → p ≡ q

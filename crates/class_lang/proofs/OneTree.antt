@@ -2,20 +2,20 @@
 use Rattle.std.proofs.Common.{◌≡◌, ◌∙◌, ℕ, List, [], ◌∷◌, refl, sym, ap, map, Option, Some, None, option_map}
 use Rattle.signatures.specs.declared.word.Word.TheVariants as word
 use Rattle.slot_lang.specs.Grammar.{spell_block}
-use Rattle.slot_lang.specs.Lists.{spell_each}
-use Rattle.slot_lang.specs.Literals.{spell_literal, tree_of_literal}
-use Rattle.slot_lang.specs.Reading.{EndsAnywhere, spell_name}
-use Rattle.slot_lang.specs.Signatures.{spell_sig, tree_of_sig, spell_kind}
-use Rattle.slot_lang.specs.declared.symbol.Symbol.TheVariants.{Semicolon, Arrow, Assign, Colon, OpenBrace}
-use Rattle.slot_lang.specs.declared.token.Token.{Token}
-use Rattle.slot_lang.specs.declared.token.Token.TheVariants as token
-use Rattle.slot_lang.proofs.OneTree.{HasOneTree, one_tree_of_listed, one_tree_of_type, one_tree_of_sig, one_tree_of_kind, one_tree_of_literal}
+use Rattle.texts.specs.Lists.{spell_each}
+use Rattle.texts.specs.Literals.{spell_literal, tree_of_literal}
+use Rattle.texts.specs.Reading.{EndsAnywhere, spell_name}
+use Rattle.texts.specs.Signatures.{spell_sig, tree_of_sig, spell_kind}
+use Rattle.texts.specs.declared.symbol.Symbol.TheVariants.{Semicolon, Arrow, Assign, Colon, OpenBrace}
+use Rattle.texts.specs.declared.token.Token.{Token}
+use Rattle.texts.specs.declared.token.Token.TheVariants as token
+use Rattle.texts.proofs.OneTree.{HasOneTree, one_tree_of_listed, one_tree_of_type, one_tree_of_sig, one_tree_of_kind, one_tree_of_literal}
 use Rattle.slot_lang.proofs.Unique.{unique_block}
 use Rattle.class_lang.specs.Optional.{spell_optional, EndsWithout, spell_optional_name, EndsWithoutName}
 use Rattle.class_lang.specs.Parameters.{signal_parameter, spell_signal_parameter, tree_of_signal_parameter, slot_parameter, spell_slot_parameter, tree_of_slot_parameter, EndsSignalParameter}
 use Rattle.class_lang.specs.Members.{spell_notify, spell_initial, property, spell_property, tree_of_property, signal, spell_signal, tree_of_signal, slot, spell_slot, tree_of_slot, MemberReading, a_property, a_signal, a_slot, spell_member, tree_of_member}
 use Rattle.class_lang.specs.Declarations.{Ending, bare, semicolon, spell_ending, spell_members, class, spell_class, tree_of_class, class_of, end, spell_end, tree_of_end, wire, spell_wire, tree_of_wire, owns, spell_owns, tree_of_owns, DeclarationReading, a_class, a_wire, an_owns, spell_declaration, tree_of_declaration, tree_of_program, EndsDeclaration, IsProgram}
-use Rattle.class_lang.specs.declared.program.Program.{Program}
+use Rattle.texts.specs.declared.program.Program.{Program}
 use Rattle.class_lang.proofs.DeclarationLists.{ends_next}
 use Rattle.class_lang.proofs.Parts.{type_ends_at_name, type_ends_at_optional_name, signal_parameters_are_parts, slot_parameters_are_parts}
 use Rattle.class_lang.proofs.Sequences.{initial_ends_at_notify}

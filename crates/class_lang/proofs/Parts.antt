@@ -1,12 +1,12 @@
 -- What may follow types, and the parts of the lists in parentheses.
 use Rattle.std.proofs.Common.{◌≡◌, ℕ, List, ◌∷◌, Option, Some, None}
-use Rattle.slot_lang.specs.Reading.{EndsAnywhere}
-use Rattle.slot_lang.specs.Signatures.{EndsType}
-use Rattle.slot_lang.specs.declared.symbol.Symbol.TheVariants.{Close}
-use Rattle.slot_lang.specs.declared.token.Token.{Token}
-use Rattle.slot_lang.specs.declared.token.Token.TheVariants as token
-use Rattle.slot_lang.proofs.Listed.{IsPart}
-use Rattle.slot_lang.proofs.Signatures.{types_are_parts}
+use Rattle.texts.specs.Reading.{EndsAnywhere}
+use Rattle.texts.specs.Signatures.{EndsType}
+use Rattle.texts.specs.declared.symbol.Symbol.TheVariants.{Close}
+use Rattle.texts.specs.declared.token.Token.{Token}
+use Rattle.texts.specs.declared.token.Token.TheVariants as token
+use Rattle.texts.proofs.Listed.{IsPart}
+use Rattle.texts.proofs.Signatures.{types_are_parts}
 use Rattle.class_lang.specs.Optional.{spell_optional_name}
 use Rattle.class_lang.specs.Parameters.{SignalParameter, signal_parameter, spell_signal_parameter, SlotParameter, slot_parameter, spell_slot_parameter, EndsSignalParameter}
 

@@ -5,29 +5,29 @@ use Rattle.signatures.specs.declared.qtype.QType.{QType}
 use Rattle.signatures.specs.declared.sig.Sig.{Sig}
 use Rattle.signatures.specs.declared.value.Value.{Value}
 use Rattle.signatures.specs.declared.word.Word.TheVariants as word
-use Rattle.slot_lang.specs.Cursor.{NotAt, NotAtWord}
+use Rattle.texts.specs.Cursor.{NotAt, NotAtWord}
 use Rattle.slot_lang.specs.Grammar.{spell_block, tree_of_block}
-use Rattle.slot_lang.specs.Lists.{spell_listed}
-use Rattle.slot_lang.specs.Literals.{tree_of_literal}
-use Rattle.slot_lang.specs.Reading.{EndsAnywhere, Found, spell_name}
-use Rattle.slot_lang.specs.Signatures.{spell_type, tree_of_type, EndsType, SigReading, spell_sig, tree_of_sig, spell_kind}
-use Rattle.slot_lang.specs.declared.symbol.Symbol.TheVariants.{Semicolon, Colon, Assign, OpenBrace, Arrow}
-use Rattle.slot_lang.specs.declared.syntax.Stmt.{Stmt}
-use Rattle.slot_lang.specs.declared.token.Token.{Token}
-use Rattle.slot_lang.specs.declared.token.Token.TheVariants as token
+use Rattle.texts.specs.Lists.{spell_listed}
+use Rattle.texts.specs.Literals.{tree_of_literal}
+use Rattle.texts.specs.Reading.{EndsAnywhere, Found, spell_name}
+use Rattle.texts.specs.Signatures.{spell_type, tree_of_type, EndsType, SigReading, spell_sig, tree_of_sig, spell_kind}
+use Rattle.texts.specs.declared.symbol.Symbol.TheVariants.{Semicolon, Colon, Assign, OpenBrace, Arrow}
+use Rattle.texts.specs.declared.syntax.Stmt.{Stmt}
+use Rattle.texts.specs.declared.token.Token.{Token}
+use Rattle.texts.specs.declared.token.Token.TheVariants as token
 use Rattle.class_lang.specs.Optional.{spell_optional, EndsWithout, spell_optional_name, EndsWithoutName}
 use Rattle.class_lang.specs.Parameters.{SignalParameter, signal_parameter, spell_signal_parameter, tree_of_signal_parameter, SlotParameter, slot_parameter, spell_slot_parameter, tree_of_slot_parameter, EndsSignalParameter}
 use Rattle.class_lang.specs.Members.{spell_initial, spell_notify, PropertyReading, property, spell_property, tree_of_property, SignalReading, signal, spell_signal, tree_of_signal, SlotReading, slot, spell_slot, tree_of_slot, MemberReading, a_property, a_signal, a_slot, spell_member, tree_of_member}
 use Rattle.class_lang.specs.Declarations.{Ending, bare, semicolon, spell_ending, spell_members, spell_base, ClassReading, class, spell_class, tree_of_class, class_of, EndReading, end, spell_end, tree_of_end, WireReading, wire, spell_wire, tree_of_wire, OwnsReading, owns, spell_owns, tree_of_owns, DeclarationReading, a_class, a_wire, an_owns, spell_declaration, tree_of_declaration, EndsDeclaration}
 use Rattle.class_lang.specs.declared.declarations.Declaration.TheVariants as declaration
 use Rattle.class_lang.specs.declared.members.Member.TheVariants as member
-use Rattle.class_lang.specs.declared.program.Class.{Class}
-use Rattle.class_lang.specs.declared.program.Owns.{Owns}
-use Rattle.class_lang.specs.declared.program.Parameter.{Parameter}
-use Rattle.class_lang.specs.declared.program.Property.{Property}
-use Rattle.class_lang.specs.declared.program.Signal.{Signal}
-use Rattle.class_lang.specs.declared.program.Slot.{Slot}
-use Rattle.class_lang.specs.declared.program.Wire.{Wire}
+use Rattle.texts.specs.declared.program.Class.{Class}
+use Rattle.texts.specs.declared.program.Owns.{Owns}
+use Rattle.texts.specs.declared.program.Parameter.{Parameter}
+use Rattle.texts.specs.declared.program.Property.{Property}
+use Rattle.texts.specs.declared.program.Signal.{Signal}
+use Rattle.texts.specs.declared.program.Slot.{Slot}
+use Rattle.texts.specs.declared.program.Wire.{Wire}
 use Rattle.class_lang.proofs.Parts.{type_ends_at_name, type_ends_at_optional_name}
 
 -- ---- optional parts

@@ -1,17 +1,17 @@
 -- What each stage of the reader settles.
 use Rattle.std.proofs.Common.{◌≡◌, ◌⊎◌, ℕ, List, inr, Err, refl, IsTrue, false, ◌↔◌}
-use Rattle.slot_lang.specs.Nesting.{IsTooDeep}
-use Rattle.slot_lang.specs.Pieces.{AreTokens}
-use Rattle.slot_lang.specs.Signatures.{HasPlainReference}
-use Rattle.slot_lang.specs.declared.fault.ParseFault.{ParseFault}
-use Rattle.slot_lang.specs.declared.fault.ParseFault.TheVariants as parse
-use Rattle.slot_lang.specs.declared.lexer.LexFault.{LexFault}
-use Rattle.slot_lang.specs.declared.lexer.LexFault.TheVariants as lex
-use Rattle.slot_lang.specs.declared.token.Token.{Token}
+use Rattle.texts.specs.Nesting.{IsTooDeep}
+use Rattle.texts.specs.Pieces.{AreTokens}
+use Rattle.texts.specs.Signatures.{HasPlainReference}
+use Rattle.texts.specs.declared.fault.ParseFault.{ParseFault}
+use Rattle.texts.specs.declared.fault.ParseFault.TheVariants as parse
+use Rattle.texts.specs.declared.lexer.LexFault.{LexFault}
+use Rattle.texts.specs.declared.lexer.LexFault.TheVariants as lex
+use Rattle.texts.specs.declared.token.Token.{Token}
 use Rattle.class_lang.specs.Declarations.{IsProgram}
 use Rattle.class_lang.specs.Limits.{HasFewParameters, IsWithinLimits}
 use Rattle.class_lang.specs.Reads.{fault_of_cutting, fault_of_parsing, IsShortText, IsProgramText, HasTooManyParameters, IsLargeProgram, IsLongText, ReadsProgram}
-use Rattle.class_lang.specs.declared.program.Program.{Program}
+use Rattle.texts.specs.declared.program.Program.{Program}
 
 -- what a test that fails tests for doesn't hold
 pub not_true : {P : Type 0} → (IsTrue false ↔ P) → ¬ P

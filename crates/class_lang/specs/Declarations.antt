@@ -10,22 +10,22 @@
 use Rattle.std.specs.Prelude.{ℕ, ◌≡◌, List, [], ◌∷◌, ◌++◌, map, Option}
 use Rattle.signatures.specs.declared.kind.Kind.{Kind}
 use Rattle.signatures.specs.declared.sig.Sig.{Sig}
-use Rattle.slot_lang.specs.Cursor.{NotAt}
-use Rattle.slot_lang.specs.Lists.{spell_each}
-use Rattle.slot_lang.specs.Reading.{spell_name}
-use Rattle.slot_lang.specs.Signatures.{SigReading, spell_sig, tree_of_sig, spell_kind}
-use Rattle.slot_lang.specs.declared.symbol.Symbol.TheVariants.{Semicolon, Colon, OpenBrace, CloseBrace, Arrow}
-use Rattle.slot_lang.specs.declared.token.Token.{Token}
-use Rattle.slot_lang.specs.declared.token.Token.TheVariants as token
+use Rattle.texts.specs.Cursor.{NotAt}
+use Rattle.texts.specs.Lists.{spell_each}
+use Rattle.texts.specs.Reading.{spell_name}
+use Rattle.texts.specs.Signatures.{SigReading, spell_sig, tree_of_sig, spell_kind}
+use Rattle.texts.specs.declared.symbol.Symbol.TheVariants.{Semicolon, Colon, OpenBrace, CloseBrace, Arrow}
+use Rattle.texts.specs.declared.token.Token.{Token}
+use Rattle.texts.specs.declared.token.Token.TheVariants as token
 use Rattle.signatures.specs.declared.word.Word.TheVariants as word
 use Rattle.class_lang.specs.Optional.{spell_optional}
 use Rattle.class_lang.specs.Members.{MemberReading, spell_member, tree_of_member, properties_in, signals_in, slots_in}
 use Rattle.class_lang.specs.declared.declarations.Declaration.{Declaration}
 use Rattle.class_lang.specs.declared.declarations.Declaration.TheVariants as declaration
-use Rattle.class_lang.specs.declared.program.Class.{Class}
-use Rattle.class_lang.specs.declared.program.Wire.{Wire}
-use Rattle.class_lang.specs.declared.program.Owns.{Owns}
-use Rattle.class_lang.specs.declared.program.Program.{Program}
+use Rattle.texts.specs.declared.program.Class.{Class}
+use Rattle.texts.specs.declared.program.Wire.{Wire}
+use Rattle.texts.specs.declared.program.Owns.{Owns}
+use Rattle.texts.specs.declared.program.Program.{Program}
 
 -- [";"]
 pub data Ending : Type 0 where

@@ -2,9 +2,9 @@
 use Rattle.std.specs.Prelude.{ℕ, ◌+◌, ◌≤◌, length, All, IfSome}
 use Rattle.signatures.specs.Signatures.{most_parameters}
 use Rattle.signatures.specs.declared.sig.Sig.{Sig}
-use Rattle.class_lang.specs.declared.program.Class.{Class}
-use Rattle.class_lang.specs.declared.program.Wire.{Wire}
-use Rattle.class_lang.specs.declared.program.Program.{Program}
+use Rattle.texts.specs.declared.program.Class.{Class}
+use Rattle.texts.specs.declared.program.Wire.{Wire}
+use Rattle.texts.specs.declared.program.Program.{Program}
 
 -- bytes of a text
 abbrev pub most_bytes : ℕ

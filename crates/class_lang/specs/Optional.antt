@@ -1,7 +1,7 @@
 -- Optional parts of a grammar.
 use Rattle.std.specs.Prelude.{ℕ, ◌≡◌, List, ◌∷◌, Option, Some, None}
-use Rattle.slot_lang.specs.declared.token.Token.{Token}
-use Rattle.slot_lang.specs.declared.token.Token.TheVariants as token
+use Rattle.texts.specs.declared.token.Token.{Token}
+use Rattle.texts.specs.declared.token.Token.TheVariants as token
 
 -- [first part]: a part that is there where its first token is
 abbrev pub spell_optional : {R : Type 0} → Token → (R → List Token → List Token) → Option R → List Token → List Token

@@ -4,11 +4,11 @@
 --   signal_parameter = type [Name]
 --   slot_parameter   = type Name
 use Rattle.std.specs.Prelude.{ℕ, List, ◌∷◌, Option, Some}
-use Rattle.slot_lang.specs.Signatures.{TypeReading, spell_type, tree_of_type, EndsType}
-use Rattle.slot_lang.specs.declared.token.Token.{Token}
-use Rattle.slot_lang.specs.declared.token.Token.TheVariants as token
+use Rattle.texts.specs.Signatures.{TypeReading, spell_type, tree_of_type, EndsType}
+use Rattle.texts.specs.declared.token.Token.{Token}
+use Rattle.texts.specs.declared.token.Token.TheVariants as token
 use Rattle.class_lang.specs.Optional.{spell_optional_name, EndsWithoutName}
-use Rattle.class_lang.specs.declared.program.Parameter.{Parameter}
+use Rattle.texts.specs.declared.program.Parameter.{Parameter}
 
 pub data SignalParameter : Type 0 where
   signal_parameter : TypeReading → Option (List ℕ) → SignalParameter

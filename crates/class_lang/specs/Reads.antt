@@ -1,18 +1,18 @@
 -- What the reader answers for a text (docs/language.md, "Programs" and "Limits").
 use Rattle.std.specs.Prelude.{ℕ, ◌<◌, ◌≤◌, ◌⊎◌, List, length, Result, Ok, Err, Option, Some, None}
-use Rattle.slot_lang.specs.Nesting.{IsTooDeep}
-use Rattle.slot_lang.specs.Pieces.{AreTokens}
-use Rattle.slot_lang.specs.Signatures.{HasPlainReference}
-use Rattle.slot_lang.specs.declared.fault.ParseFault.{ParseFault}
-use Rattle.slot_lang.specs.declared.fault.ParseFault.TheVariants as parse
-use Rattle.slot_lang.specs.declared.lexer.LexFault.{LexFault}
-use Rattle.slot_lang.specs.declared.lexer.LexFault.TheVariants as lex
-use Rattle.slot_lang.specs.declared.token.Token.{Token}
+use Rattle.texts.specs.Nesting.{IsTooDeep}
+use Rattle.texts.specs.Pieces.{AreTokens}
+use Rattle.texts.specs.Signatures.{HasPlainReference}
+use Rattle.texts.specs.declared.fault.ParseFault.{ParseFault}
+use Rattle.texts.specs.declared.fault.ParseFault.TheVariants as parse
+use Rattle.texts.specs.declared.lexer.LexFault.{LexFault}
+use Rattle.texts.specs.declared.lexer.LexFault.TheVariants as lex
+use Rattle.texts.specs.declared.token.Token.{Token}
 use Rattle.class_lang.specs.Declarations.{IsProgram}
 use Rattle.class_lang.specs.Limits.{most_bytes, HasFewParameters, IsWithinLimits}
 use Rattle.class_lang.specs.declared.fault.TextFault.{TextFault}
 use Rattle.class_lang.specs.declared.fault.TextFault.TheVariants.{TooLarge, BadByte, TooDeepText, Syntax, BadType, TooMany, Memory}
-use Rattle.class_lang.specs.declared.program.Program.{Program}
+use Rattle.texts.specs.declared.program.Program.{Program}
 
 -- the number of a refusal; want of memory has none
 abbrev pub number_of : TextFault → Option ℕ

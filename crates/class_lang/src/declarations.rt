@@ -1,19 +1,17 @@
 //! The declarations of a program.
 
 ghost use Rattle.std.specs.Prelude.{◌≡◌, ◌<◌, ◌≤◌, [], ◌∷◌, length, OnOk};
-ghost use Rattle.slot_lang.specs.Cursor.{NotAt};
-ghost use Rattle.slot_lang.specs.Lists.{spell_each};
-ghost use Rattle.slot_lang.specs.Reading.{Reads, EndsAnywhere};
-ghost use Rattle.slot_lang.specs.declared.symbol.Symbol.TheVariants.{Colon};
+ghost use Rattle.texts.specs.Cursor.{NotAt};
+ghost use Rattle.texts.specs.Lists.{spell_each};
+ghost use Rattle.texts.specs.Reading.{Reads, EndsAnywhere};
+ghost use Rattle.texts.specs.declared.symbol.Symbol.TheVariants.{Colon};
 ghost use Rattle.class_lang.specs.Members.{with_members};
 ghost use Rattle.class_lang.specs.Declarations.{spell_ending, spell_members, spell_class, tree_of_class, spell_base, class_of, spell_end, tree_of_end, spell_wire, tree_of_wire, spell_owns, tree_of_owns, spell_declaration, tree_of_declaration, tree_of_program, with_declarations, EndsDeclaration, IsAtEnd};
 
-use crate::members::{Member, next_member};
-use crate::program::{Class, Owns, Program, Wire};
+use crate::members::{add_member, next_member};
 use signatures::{Name, Sig};
-use slot_lang::{Cursor, ParseFault, Symbol, Word};
-use sqlite_items::Items;
-use std::alloc::{AllocError, Global};
+use std::alloc::AllocError;
+use texts::{Class, Cursor, Owns, ParseFault, Program, Symbol, Wire, Word};
 
 /// A declaration of a program.
 #[derive(Drop)]
@@ -23,42 +21,14 @@ pub enum Declaration {
     Owns(Owns),
 }
 
-impl Class {
-    /// The class of this name and base without members.
-    fn new(alloc: Global, name: Name, base: Option<Name>) -> Class
-        ensures { result ≡ record { name = name; base = base; properties = []; signals = []; slots = [] } }
-    {
-        Class {
-            name,
-            base,
-            properties: Items::new(alloc),
-            signals: Items::new(alloc),
-            slots: Items::new(alloc),
-        }
-    }
-}
-
-impl Program {
-    /// The program without declarations.
-    fn new(alloc: Global) -> Program
-        ensures { result ≡ record { classes = []; wires = []; owns = [] } }
-    {
-        Program {
-            classes: Items::new(alloc),
-            wires: Items::new(alloc),
-            owns: Items::new(alloc),
-        }
-    }
-
-    /// Adds a declaration after those of its sort.
-    fn add(&mut self, declaration: Declaration) -> Result<(), AllocError>
-        ensures { OnOk result (self.new ≡ with_declarations self.old (declaration ∷ [])) }
-    {
-        match declaration {
-            Declaration::Class(class) => self.classes.push(class),
-            Declaration::Wire(wire) => self.wires.push(wire),
-            Declaration::Owns(owns) => self.owns.push(owns),
-        }
+/// Adds a declaration to the program, after those of its sort.
+fn add(program: &mut Program, declaration: Declaration) -> Result<(), AllocError>
+    ensures { OnOk result (program.new ≡ with_declarations program.old (declaration ∷ [])) }
+{
+    match declaration {
+        Declaration::Class(class) => program.classes.push(class),
+        Declaration::Wire(wire) => program.wires.push(wire),
+        Declaration::Owns(owns) => program.owns.push(owns),
     }
 }
 
@@ -83,7 +53,7 @@ fn members(cursor: &mut Cursor, name: Name, base: Option<Name>) -> Result<Class,
     let mut class = Class::new(cursor.alloc(), name, base);
     while !cursor.eat(Symbol::CloseBrace) {
         let member = next_member(cursor)?;
-        class.add(member)?;
+        add_member(&mut class, member)?;
     }
     Ok(class)
 }
@@ -165,7 +135,7 @@ pub fn program(cursor: &mut Cursor) -> Result<Program, ParseFault>
     let mut program = Program::new(cursor.alloc());
     while !cursor.is_empty() {
         let declaration = next_declaration(cursor)?;
-        program.add(declaration)?;
+        add(&mut program, declaration)?;
     }
     Ok(program)
 }

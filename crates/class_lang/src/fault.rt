@@ -1,7 +1,7 @@
 ghost use Rattle.std.specs.Prelude.{◌≡◌};
 ghost use Rattle.class_lang.specs.Reads.{number_of};
 
-use slot_lang::{LexFault, ParseFault};
+use texts::{LexFault, ParseFault};
 use thiserror::Error;
 
 /// Why a text is no program.

@@ -6,9 +6,8 @@ mod fault;
 mod limits;
 mod members;
 mod parameters;
-mod program;
 mod reader;
 
 pub use fault::TextFault;
-pub use program::{Class, Owns, Parameter, Program, Property, Signal, Slot, Wire};
 pub use reader::{one_answer, one_reading, read_program};
+pub use texts::{Class, Owns, Parameter, Program, Property, Signal, Slot, Wire};

@@ -3,8 +3,8 @@
 ghost use Rattle.std.specs.Prelude.{◌↔◌, IsTrue, IfSome};
 ghost use Rattle.class_lang.specs.Limits.{HasFewTypes, ClassHasFewParameters, WireHasFewParameters, HasFewParameters, ClassIsWithinLimits, IsWithinLimits};
 
-use crate::program::{Class, Program, Property, Wire};
 use signatures::{MOST_PARAMETERS, Sig};
+use texts::{Class, Program, Property, Wire};
 
 /// Bytes of a text.
 pub const MOST_BYTES: usize = 1_048_576;
@@ -26,83 +26,77 @@ fn has_few_types(sig: &Sig) -> bool
     sig.types.len() <= MOST_PARAMETERS
 }
 
-impl Property {
-    /// Whether its signal's signature has at most 8 parameters, if it names one.
-    fn has_few_parameters(&self) -> bool
-        ensures { IsTrue result ↔ IfSome self.now.notify HasFewTypes }
-    {
-        match &self.notify {
-            Some(sig) => has_few_types(sig),
-            None => true,
-        }
+/// Whether its signal's signature has at most 8 parameters, if it names one.
+fn property_has_few_parameters(property: &Property) -> bool
+    ensures { IsTrue result ↔ IfSome property.now.notify HasFewTypes }
+{
+    match &property.notify {
+        Some(sig) => has_few_types(sig),
+        None => true,
     }
 }
 
-impl Class {
-    #[tactic(auto, unfolding(crate::specs::Limits::ClassHasFewParameters))]
-    fn has_few_parameters(&self) -> bool
-        ensures { IsTrue result ↔ ClassHasFewParameters self.now }
-    {
-        self.properties
+#[tactic(auto, unfolding(crate::specs::Limits::ClassHasFewParameters))]
+fn class_has_few_parameters(class: &Class) -> bool
+    ensures { IsTrue result ↔ ClassHasFewParameters class.now }
+{
+    class
+        .properties
+        .as_slice()
+        .iter()
+        .all(|property| property_has_few_parameters(property))
+        && class
+            .signals
             .as_slice()
             .iter()
-            .all(|property| property.has_few_parameters())
-            && self
-                .signals
-                .as_slice()
-                .iter()
-                .all(|signal| signal.parameters.len() <= MOST_PARAMETERS)
-            && self
-                .slots
-                .as_slice()
-                .iter()
-                .all(|slot| slot.parameters.len() <= MOST_PARAMETERS)
-    }
-
-    fn is_within_limits(&self) -> bool
-        ensures { IsTrue result ↔ ClassIsWithinLimits self.now }
-    {
-        self.properties.len() <= MOST_PROPERTIES
-            && self.signals.len() <= MOST_METHODS
-            && self.slots.len() <= MOST_METHODS - self.signals.len()
-    }
-}
-
-impl Wire {
-    fn has_few_parameters(&self) -> bool
-        ensures { IsTrue result ↔ WireHasFewParameters self.now }
-    {
-        has_few_types(&self.signal) && has_few_types(&self.method)
-    }
-}
-
-impl Program {
-    /// Whether no signature has more than 8 parameters.
-    pub fn has_few_parameters(&self) -> bool
-        ensures { IsTrue result ↔ HasFewParameters self.now }
-    {
-        self.classes
+            .all(|signal| signal.parameters.len() <= MOST_PARAMETERS)
+        && class
+            .slots
             .as_slice()
             .iter()
-            .all(|class| class.has_few_parameters())
-            && self
-                .wires
-                .as_slice()
-                .iter()
-                .all(|wire| wire.has_few_parameters())
-    }
+            .all(|slot| slot.parameters.len() <= MOST_PARAMETERS)
+}
 
-    /// Whether there are at most 64 classes, 64 methods and 32 properties in each, 1,000 wires and 1,000 owns.
-    pub fn is_within_limits(&self) -> bool
-        ensures { IsTrue result ↔ IsWithinLimits self.now }
-    {
-        self.classes.len() <= MOST_CLASSES
-            && self.wires.len() <= MOST_WIRES
-            && self.owns.len() <= MOST_OWNS
-            && self
-                .classes
-                .as_slice()
-                .iter()
-                .all(|class| class.is_within_limits())
-    }
+fn class_is_within_limits(class: &Class) -> bool
+    ensures { IsTrue result ↔ ClassIsWithinLimits class.now }
+{
+    class.properties.len() <= MOST_PROPERTIES
+        && class.signals.len() <= MOST_METHODS
+        && class.slots.len() <= MOST_METHODS - class.signals.len()
+}
+
+fn wire_has_few_parameters(wire: &Wire) -> bool
+    ensures { IsTrue result ↔ WireHasFewParameters wire.now }
+{
+    has_few_types(&wire.signal) && has_few_types(&wire.method)
+}
+
+/// Whether no signature of the program has more than 8 parameters.
+pub fn has_few_parameters(program: &Program) -> bool
+    ensures { IsTrue result ↔ HasFewParameters program.now }
+{
+    program
+        .classes
+        .as_slice()
+        .iter()
+        .all(|class| class_has_few_parameters(class))
+        && program
+            .wires
+            .as_slice()
+            .iter()
+            .all(|wire| wire_has_few_parameters(wire))
+}
+
+/// Whether the program has at most 64 classes, 64 methods and 32 properties in each, 1,000 wires and 1,000 owns.
+pub fn is_within_limits(program: &Program) -> bool
+    ensures { IsTrue result ↔ IsWithinLimits program.now }
+{
+    program.classes.len() <= MOST_CLASSES
+        && program.wires.len() <= MOST_WIRES
+        && program.owns.len() <= MOST_OWNS
+        && program
+            .classes
+            .as_slice()
+            .iter()
+            .all(|class| class_is_within_limits(class))
 }

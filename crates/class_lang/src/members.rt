@@ -2,18 +2,18 @@
 
 ghost use Rattle.std.specs.Prelude.{◌≡◌, ◌<◌, ◌≤◌, [], ◌∷◌, length, OnOk, option_map};
 ghost use Rattle.signatures.specs.declared.word.Word.TheVariants as word;
-ghost use Rattle.slot_lang.specs.Cursor.{NotAt, NotAtWord};
-ghost use Rattle.slot_lang.specs.Literals.{tree_of_literal};
-ghost use Rattle.slot_lang.specs.Reading.{Reads, EndsAnywhere};
-ghost use Rattle.slot_lang.specs.Signatures.{tree_of_sig};
-ghost use Rattle.slot_lang.specs.declared.symbol.Symbol.TheVariants.{Assign};
+ghost use Rattle.texts.specs.Cursor.{NotAt, NotAtWord};
+ghost use Rattle.texts.specs.Literals.{tree_of_literal};
+ghost use Rattle.texts.specs.Reading.{Reads, EndsAnywhere};
+ghost use Rattle.texts.specs.Signatures.{tree_of_sig};
+ghost use Rattle.texts.specs.declared.symbol.Symbol.TheVariants.{Assign};
 ghost use Rattle.class_lang.specs.Members.{spell_initial, spell_notify, spell_property, tree_of_property, spell_signal, tree_of_signal, spell_slot, tree_of_slot, spell_member, tree_of_member, with_members};
 
 use crate::parameters::{signal_parameters, slot_parameters};
-use crate::program::{Class, Property, Signal, Slot};
 use signatures::{Sig, Value};
-use slot_lang::{Cursor, ParseFault, Symbol, Word};
+use slot_lang::block;
 use std::alloc::AllocError;
+use texts::{Class, Cursor, ParseFault, Property, Signal, Slot, Symbol, Word};
 
 /// A member of a class.
 #[derive(Drop)]
@@ -23,16 +23,14 @@ pub enum Member {
     Slot(Slot),
 }
 
-impl Class {
-    /// Adds a member after those of its sort.
-    pub fn add(&mut self, member: Member) -> Result<(), AllocError>
-        ensures { OnOk result (self.new ≡ with_members self.old (member ∷ [])) }
-    {
-        match member {
-            Member::Property(property) => self.properties.push(property),
-            Member::Signal(signal) => self.signals.push(signal),
-            Member::Slot(slot) => self.slots.push(slot),
-        }
+/// Adds a member to the class, after those of its sort.
+pub fn add_member(class: &mut Class, member: Member) -> Result<(), AllocError>
+    ensures { OnOk result (class.new ≡ with_members class.old (member ∷ [])) }
+{
+    match member {
+        Member::Property(property) => class.properties.push(property),
+        Member::Signal(signal) => class.signals.push(signal),
+        Member::Slot(slot) => class.slots.push(slot),
     }
 }
 
@@ -98,7 +96,7 @@ fn slot(cursor: &mut Cursor) -> Result<Slot, ParseFault>
 {
     let name = cursor.name()?;
     let parameters = slot_parameters(cursor)?;
-    let body = cursor.block()?;
+    let body = block(cursor)?;
     Ok(Slot {
         name,
         parameters,

@@ -1,15 +1,14 @@
 //! The parameters of signals and slots.
 
 ghost use Rattle.std.specs.Prelude.{◌<◌, ◌≤◌, length, map, OnOk};
-ghost use Rattle.slot_lang.specs.Lists.{spell_listed};
-ghost use Rattle.slot_lang.specs.Reading.{Reads, EndsAnywhere};
+ghost use Rattle.texts.specs.Lists.{spell_listed};
+ghost use Rattle.texts.specs.Reading.{Reads, EndsAnywhere};
 ghost use Rattle.class_lang.specs.Optional.{spell_optional_name, EndsWithoutName};
 ghost use Rattle.class_lang.specs.Parameters.{spell_signal_parameter, tree_of_signal_parameter, EndsSignalParameter, spell_slot_parameter, tree_of_slot_parameter};
 
-use crate::program::Parameter;
 use signatures::Name;
-use slot_lang::{Cursor, ParseFault, Symbol, Token};
 use sqlite_items::Items;
+use texts::{Cursor, Parameter, ParseFault, Symbol, Token};
 
 /// `[Name]`
 fn optional_name(cursor: &mut Cursor) -> Result<Option<Name>, ParseFault>

@@ -1,20 +1,19 @@
 //! From a text to its program.
 
 ghost use Rattle.std.specs.Prelude.{◌≡◌, ◌⊎◌, ℕ, List, Result, Err, IfOk};
-ghost use Rattle.slot_lang.specs.declared.fault.ParseFault.TheVariants.{Syntax};
-ghost use Rattle.slot_lang.specs.declared.token.Token.{Token};
+ghost use Rattle.texts.specs.declared.fault.ParseFault.TheVariants.{Syntax};
+ghost use Rattle.texts.specs.declared.token.Token.{Token};
 ghost use Rattle.class_lang.specs.Declarations.{IsProgram};
 ghost use Rattle.class_lang.specs.Reads.{IsProgramText, ReadsProgram};
 ghost use Rattle.class_lang.specs.declared.fault.TextFault.{TextFault};
 ghost use Rattle.class_lang.specs.declared.fault.TextFault.TheVariants.{Memory};
-ghost use Rattle.class_lang.specs.declared.program.Program.{Program};
+ghost use Rattle.texts.specs.declared.program.Program.{Program};
 
 use crate::declarations::program;
 use crate::fault::TextFault;
-use crate::limits::MOST_BYTES;
-use crate::program::Program;
-use slot_lang::{Cursor, ParseFault, Token, has_plain_reference, nesting, tokens};
+use crate::limits::{MOST_BYTES, has_few_parameters, is_within_limits};
 use std::alloc::Global;
+use texts::{Cursor, ParseFault, Program, Token, has_plain_reference, nesting, tokens};
 
 /// Reads a program from its text: at most 1,048,576 bytes, in time that grows as the text does.
 ///
@@ -44,10 +43,10 @@ pub fn read_program(alloc: Global, bytes: &[u8]) -> Result<Program, TextFault>
     if has_plain_reference(tokens.as_slice()) {
         return Err(TextFault::BadType);
     }
-    if !program.has_few_parameters() {
+    if !has_few_parameters(&program) {
         return Err(TextFault::TooMany);
     }
-    if !program.is_within_limits() {
+    if !is_within_limits(&program) {
         return Err(TextFault::TooLarge);
     }
     Ok(program)

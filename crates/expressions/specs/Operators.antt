@@ -5,10 +5,10 @@ use Rattle.std.specs.Ordering.{int_eq}
 use Rattle.std.specs.Int.{saturate_signed, w32}
 use Rattle.signatures.specs.declared.value.Value.{Value}
 use Rattle.signatures.specs.declared.value.Value.TheVariants.{Int, Bool as Truth, Text, Ref}
-use Rattle.slot_lang.specs.declared.syntax.Unary.{Unary}
-use Rattle.slot_lang.specs.declared.syntax.Unary.TheVariants.{Not, Minus}
-use Rattle.slot_lang.specs.declared.syntax.Binary.{Binary}
-use Rattle.slot_lang.specs.declared.syntax.Binary.TheVariants.{Add, Subtract, Multiply, Less, AtMost, Greater, AtLeast, Equal, Different, And, Or}
+use Rattle.texts.specs.declared.syntax.Unary.{Unary}
+use Rattle.texts.specs.declared.syntax.Unary.TheVariants.{Not, Minus}
+use Rattle.texts.specs.declared.syntax.Binary.{Binary}
+use Rattle.texts.specs.declared.syntax.Binary.TheVariants.{Add, Subtract, Multiply, Less, AtMost, Greater, AtLeast, Equal, Different, And, Or}
 
 -- a number of 32 bits; one that is too large becomes the greatest, one that is too small the least
 abbrev pub number : ℤ → Option Value

@@ -10,8 +10,8 @@ ghost use Rattle.expressions.specs.Evaluation.{Evaluates};
 
 use crate::evaluation::EvalFault;
 use signatures::{MOST_BYTES, ObjectId, Text, Value};
-use slot_lang::{Binary, Unary};
 use std::alloc::{AllocError, Global};
+use texts::{Binary, Unary};
 
 /// The number with the other sign. The least number has none among 32 bits: it gives the greatest.
 pub fn negate(number: i32) -> i32

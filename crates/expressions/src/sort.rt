@@ -5,7 +5,7 @@ ghost use Rattle.expressions.specs.Operators.{same_text};
 ghost use Rattle.expressions.specs.Typing.{named_sort, value_sort, unary_sort, binary_sort};
 
 use signatures::{Name, Value};
-use slot_lang::{Binary, Unary};
+use texts::{Binary, Unary};
 
 /// What operators see of a value and of a type.
 #[derive(Clone, Copy, Debug, PartialEq, Eq)]

@@ -3,7 +3,7 @@
 ghost use Rattle.std.specs.Prelude.{◌≡◌, ◌↔◌, ℕ, List, Option, Some, None, IsTrue, IfOk};
 ghost use Rattle.std.specs.Option.{option_and_then, option_map};
 ghost use Rattle.signatures.specs.declared.qtype.QType.{QType as AQType};
-ghost use Rattle.slot_lang.specs.declared.syntax.Expr.{Expr as AnExpr};
+ghost use Rattle.texts.specs.declared.syntax.Expr.{Expr as AnExpr};
 ghost use Rattle.expressions.specs.declared.typing.ExprType.{ExprType as AnExprType};
 ghost use Rattle.expressions.specs.Evaluation.{value};
 ghost use Rattle.expressions.specs.Typing.{sort_of, type_of_sort, literal_type, type_of, Accepts, TypedPaths, HasValueOf};
@@ -11,8 +11,8 @@ ghost use Rattle.expressions.specs.Typing.{sort_of, type_of_sort, literal_type, 
 use crate::evaluation::World;
 use crate::sort::{Sort, binary_sort, named_sort, unary_sort, value_sort};
 use signatures::{Name, QType, Value};
-use slot_lang::Expr;
 use std::alloc::{AllocError, Global};
+use texts::Expr;
 
 /// The type of an expression.
 #[derive(Drop)]

@@ -3,7 +3,7 @@ use Rattle.std.specs.Prelude.{ℕ, false, pos, List, [], ◌∷◌, Option, None
 use Rattle.std.specs.Option.{option_and_then}
 use Rattle.signatures.specs.declared.value.Value.{Value}
 use Rattle.signatures.specs.declared.value.Value.TheVariants as value
-use Rattle.slot_lang.specs.declared.syntax.Expr.{Expr}
+use Rattle.texts.specs.declared.syntax.Expr.{Expr}
 use Rattle.expressions.specs.Evaluation
 use Rattle.expressions.specs.Evaluation.{values}
 use Rattle.meta_model.specs.declared.object.MetaPath.{MetaPath}

@@ -14,7 +14,7 @@ use crate::setting::Setting;
 use machine_state::{Entry, Fault, World};
 use meta_objects::{MetaPath, Statement};
 use signatures::{ObjectId, Value};
-use slot_lang::Expr;
+use texts::Expr;
 
 impl Setting {
     /// Carries out the statements of a body, and ends it.

@@ -11,8 +11,8 @@ use machine_state::stored;
 use meta_objects::{MetaPath, MetaRoot, Step, ValueType};
 use object_tree::Tree;
 use signatures::{Arguments, ObjectId, Text, Value};
-use slot_lang::Expr;
 use std::alloc::{AllocError, Global};
+use texts::Expr;
 
 /// What a body reads: the objects, the object whose body it is, and the arguments of its call.
 #[derive(Clone, Copy)]

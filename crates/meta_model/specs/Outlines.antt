@@ -4,11 +4,11 @@ use Rattle.std.specs.Prelude.{◌≡◌, ℕ, suc, true, false, List, [], ◌∷
 use Rattle.signatures.specs.declared.qtype.QType.{QType}
 use Rattle.signatures.specs.declared.sig.Sig.{Sig}
 use Rattle.signatures.specs.Types.{value_type}
-use Rattle.class_lang.specs.declared.program.Parameter.{Parameter}
-use Rattle.class_lang.specs.declared.program.Property.{Property}
-use Rattle.class_lang.specs.declared.program.Signal.{Signal}
-use Rattle.class_lang.specs.declared.program.Slot.{Slot}
-use Rattle.class_lang.specs.declared.program.Class.{Class}
+use Rattle.texts.specs.declared.program.Parameter.{Parameter}
+use Rattle.texts.specs.declared.program.Property.{Property}
+use Rattle.texts.specs.declared.program.Signal.{Signal}
+use Rattle.texts.specs.declared.program.Slot.{Slot}
+use Rattle.texts.specs.declared.program.Class.{Class}
 use Rattle.meta_model.specs.declared.outline.Sort.{Sort}
 use Rattle.meta_model.specs.declared.outline.Sort.TheVariants as sort
 use Rattle.meta_model.specs.declared.outline.Heading.{Heading}

@@ -5,8 +5,8 @@ ghost use Rattle.meta_model.specs.Twice.{StandsTwice};
 ghost use Rattle.meta_model.specs.Conditions.{IsTaken, DuplicateClass, AreOneCall, HasTwoMembers, RepeatsParameter, DuplicateMember, AreOneParameter};
 
 use crate::outline::{Heading, Outline};
-use class_lang::{Class, Parameter, Program, Property, Signal, Slot};
 use signatures::Name;
+use texts::{Class, Parameter, Program, Property, Signal, Slot};
 
 /// What may not stand twice in a list.
 trait Alike {

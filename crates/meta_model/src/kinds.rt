@@ -9,10 +9,10 @@ ghost use Rattle.signatures.specs.Types.{value_type};
 use crate::object::ValueType;
 use crate::outline::{Heading, Outline};
 use crate::places::place_of;
-use class_lang::Property;
 use signatures::QType;
 use sqlite_items::Items;
 use std::alloc::{AllocError, Global};
+use texts::Property;
 
 /// What the type stands for, or `None` where there is no such type.
 pub fn kind_of(outlines: &[Outline], declared: &QType) -> Option<ValueType>

@@ -5,8 +5,8 @@ ghost use Rattle.meta_model.specs.Conditions.{IsSignalOf, IsNotifiedBy, LacksNot
 ghost use Rattle.meta_model.specs.Places.{IsPlace};
 
 use crate::outline::{Heading, Outline};
-use class_lang::Property;
 use signatures::{QType, Sig};
+use texts::Property;
 
 /// The place of a signal of this signature.
 pub fn place_of_signal(methods: &[Heading], sig: &Sig) -> Option<usize>

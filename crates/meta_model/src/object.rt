@@ -1,7 +1,7 @@
 use crate::slot_body::SlotBody;
 use signatures::{Kind, Name, QType, Sig, Value};
-use slot_lang::Expr;
 use sqlite_items::Items;
+use texts::Expr;
 
 /// The type of a property or a parameter, its class replaced by its number.
 #[derive(Clone, Copy, Debug, PartialEq, Eq)]

@@ -1,9 +1,9 @@
 ghost use Rattle.std.specs.Prelude.{◌≡◌, ◌≢◌, ◌↔◌, IsTrue};
 ghost use Rattle.meta_model.specs.declared.outline.Sort.TheVariants.{Signal, DeleteLater};
 
-use class_lang::Property;
 use signatures::{Name, Sig};
 use sqlite_items::Items;
+use texts::Property;
 
 /// Where a method's body stands in the program.
 #[derive(Clone, Copy, Debug, PartialEq, Eq)]

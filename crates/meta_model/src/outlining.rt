@@ -11,10 +11,10 @@ use crate::fault::MetaFault;
 use crate::outline::{Heading, Outline, Sort};
 use crate::places::find;
 use crate::qobject::qobject;
-use class_lang::{Class, Parameter, Property, Signal, Slot};
 use signatures::{Name, QType, Sig, Value};
 use sqlite_items::Items;
 use std::alloc::{AllocError, Global};
+use texts::{Class, Parameter, Property, Signal, Slot};
 
 /// `QObject` and the program's classes, as declared; `NoBase` where a base doesn't stand before its class.
 pub fn outline_classes(alloc: Global, classes: &[Class]) -> Result<Items<Outline>, MetaFault>

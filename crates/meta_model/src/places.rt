@@ -4,8 +4,8 @@ ghost use Rattle.std.specs.Prelude.{◌≡◌, ◌↔◌, ℕ, List, IsTrue, Som
 ghost use Rattle.meta_model.specs.Places.{StandsAt, Found, IsPlace};
 
 use crate::outline::Outline;
-use class_lang::{Parameter, Property};
 use signatures::Name;
+use texts::{Parameter, Property};
 
 /// What may have a name.
 pub trait Named {

@@ -7,10 +7,10 @@ ghost use Rattle.meta_model.specs.Outlines.{qobject, sig_of, heading, reference_
 ghost use Rattle.meta_model.specs.declared.outline.Sort.TheVariants.{Signal};
 
 use crate::outline::{Heading, Outline, Sort};
-use class_lang::Property;
 use signatures::{Name, QType, Sig};
 use sqlite_items::Items;
 use std::alloc::{AllocError, Global};
+use texts::Property;
 
 /// `QObject` with its four methods and its property.
 pub fn qobject(alloc: Global) -> Result<Outline, AllocError>

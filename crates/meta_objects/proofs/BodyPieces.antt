@@ -2,15 +2,15 @@
 use Rattle.std.proofs.Common.{◌≡◌, ℕ, suc, ◌+◌, ◌≤◌, true, List, [], ◌∷◌, ◌++◌, inl, inr, drop, length, slice_get, Some, refl, sym, ap, ◌∙◌, subst, arith, append_assoc}
 use Rattle.signatures.specs.declared.qtype.QType.{QType}
 use Rattle.signatures.specs.declared.value.Value.{Value}
-use Rattle.slot_lang.specs.declared.syntax.Unary.{Unary}
-use Rattle.slot_lang.specs.declared.syntax.Binary.{Binary}
-use Rattle.slot_lang.specs.declared.syntax.Expr.{Expr}
-use Rattle.slot_lang.specs.declared.syntax.Expr.TheVariants as e
-use Rattle.slot_lang.specs.declared.syntax.Expr.TheOpen as expr
-use Rattle.slot_lang.specs.declared.syntax.Expr.TheViews.{out-Expr}
-use Rattle.slot_lang.specs.declared.syntax.Path.{Path}
-use Rattle.slot_lang.specs.declared.syntax.Root.{Root}
-use Rattle.slot_lang.specs.declared.syntax.Root.TheVariants as root
+use Rattle.texts.specs.declared.syntax.Unary.{Unary}
+use Rattle.texts.specs.declared.syntax.Binary.{Binary}
+use Rattle.texts.specs.declared.syntax.Expr.{Expr}
+use Rattle.texts.specs.declared.syntax.Expr.TheVariants as e
+use Rattle.texts.specs.declared.syntax.Expr.TheOpen as expr
+use Rattle.texts.specs.declared.syntax.Expr.TheViews.{out-Expr}
+use Rattle.texts.specs.declared.syntax.Path.{Path}
+use Rattle.texts.specs.declared.syntax.Root.{Root}
+use Rattle.texts.specs.declared.syntax.Root.TheVariants as root
 use Rattle.meta_model.specs.declared.object.MetaRoot.{MetaRoot}
 use Rattle.meta_model.specs.declared.object.MetaRoot.TheVariants as resolved
 use Rattle.meta_model.specs.declared.fault.MetaFault.{MetaFault}
@@ -18,12 +18,12 @@ use Rattle.meta_model.specs.declared.fault.MetaFault.TheVariants as fault
 use Rattle.meta_objects.specs.declared.body_resolution.path.Led.{Led}
 use Rattle.meta_model.specs.PartAnswers.{Loads}
 use Rattle.std.specs.Prelude.{Result, Ok, Err}
-use Rattle.class_lang.specs.declared.program.Parameter.{Parameter}
-use Rattle.slot_lang.specs.declared.syntax.Stmt.{Stmt}
-use Rattle.slot_lang.specs.declared.syntax.Stmt.TheVariants as stmt_by
-use Rattle.slot_lang.specs.declared.syntax.Stmt.TheOpen as stmt
-use Rattle.slot_lang.specs.declared.syntax.Stmt.TheViews.{out-Stmt}
-use Rattle.class_lang.specs.declared.program.Property.{Property}
+use Rattle.texts.specs.declared.program.Parameter.{Parameter}
+use Rattle.texts.specs.declared.syntax.Stmt.{Stmt}
+use Rattle.texts.specs.declared.syntax.Stmt.TheVariants as stmt_by
+use Rattle.texts.specs.declared.syntax.Stmt.TheOpen as stmt
+use Rattle.texts.specs.declared.syntax.Stmt.TheViews.{out-Stmt}
+use Rattle.texts.specs.declared.program.Property.{Property}
 use Rattle.meta_model.specs.declared.object.Step.{Step}
 use Rattle.meta_model.specs.declared.object.MetaPath.{MetaPath}
 use Rattle.meta_model.specs.declared.object.ValueType.{ValueType}

@@ -5,11 +5,11 @@ use Rattle.signatures.specs.declared.qtype.QType.{QType}
 use Rattle.signatures.specs.declared.sig.Sig.{Sig}
 use Rattle.signatures.specs.declared.kind.Kind.{Kind}
 use Rattle.signatures.specs.declared.value.Value.{Value}
-use Rattle.class_lang.specs.declared.program.Property.{Property}
-use Rattle.class_lang.specs.declared.program.Class.{Class}
-use Rattle.class_lang.specs.declared.program.Wire.{Wire}
-use Rattle.class_lang.specs.declared.program.Owns.{Owns}
-use Rattle.class_lang.specs.declared.program.Program.{Program}
+use Rattle.texts.specs.declared.program.Property.{Property}
+use Rattle.texts.specs.declared.program.Class.{Class}
+use Rattle.texts.specs.declared.program.Wire.{Wire}
+use Rattle.texts.specs.declared.program.Owns.{Owns}
+use Rattle.texts.specs.declared.program.Program.{Program}
 use Rattle.meta_model.specs.declared.object.ValueType.{ValueType}
 use Rattle.meta_model.specs.declared.object.Statement.{Statement}
 use Rattle.meta_model.specs.declared.object.Work.{Work}

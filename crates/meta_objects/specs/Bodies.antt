@@ -4,21 +4,21 @@ use Rattle.std.specs.Prelude.{◌≡◌, ℕ, ◌<◌, ◌≢◌, true, List, []
 use Rattle.std.specs.List.{AllZip}
 use Rattle.signatures.specs.declared.qtype.QType.{QType}
 use Rattle.signatures.specs.declared.value.Value.{Value}
-use Rattle.slot_lang.specs.declared.syntax.Unary.{Unary}
-use Rattle.slot_lang.specs.declared.syntax.Binary.{Binary}
-use Rattle.slot_lang.specs.declared.syntax.Expr.{Expr}
-use Rattle.slot_lang.specs.declared.syntax.Expr.TheOpen as expr
-use Rattle.slot_lang.specs.declared.syntax.Expr.TheViews.{out-Expr}
-use Rattle.slot_lang.specs.declared.syntax.Root.{Root}
-use Rattle.slot_lang.specs.declared.syntax.Root.TheVariants as root
-use Rattle.slot_lang.specs.declared.syntax.Path.{Path}
-use Rattle.slot_lang.specs.declared.syntax.Stmt.{Stmt}
-use Rattle.slot_lang.specs.declared.syntax.Stmt.TheOpen as stmt
-use Rattle.slot_lang.specs.declared.syntax.Stmt.TheViews.{out-Stmt}
-use Rattle.class_lang.specs.declared.program.Parameter.{Parameter}
-use Rattle.class_lang.specs.declared.program.Property.{Property}
-use Rattle.class_lang.specs.declared.program.Slot.{Slot}
-use Rattle.class_lang.specs.declared.program.Class.{Class}
+use Rattle.texts.specs.declared.syntax.Unary.{Unary}
+use Rattle.texts.specs.declared.syntax.Binary.{Binary}
+use Rattle.texts.specs.declared.syntax.Expr.{Expr}
+use Rattle.texts.specs.declared.syntax.Expr.TheOpen as expr
+use Rattle.texts.specs.declared.syntax.Expr.TheViews.{out-Expr}
+use Rattle.texts.specs.declared.syntax.Root.{Root}
+use Rattle.texts.specs.declared.syntax.Root.TheVariants as root
+use Rattle.texts.specs.declared.syntax.Path.{Path}
+use Rattle.texts.specs.declared.syntax.Stmt.{Stmt}
+use Rattle.texts.specs.declared.syntax.Stmt.TheOpen as stmt
+use Rattle.texts.specs.declared.syntax.Stmt.TheViews.{out-Stmt}
+use Rattle.texts.specs.declared.program.Parameter.{Parameter}
+use Rattle.texts.specs.declared.program.Property.{Property}
+use Rattle.texts.specs.declared.program.Slot.{Slot}
+use Rattle.texts.specs.declared.program.Class.{Class}
 use Rattle.meta_model.specs.declared.object.MetaRoot.{MetaRoot}
 use Rattle.meta_model.specs.declared.object.MetaRoot.TheVariants as resolved
 use Rattle.meta_model.specs.declared.object.Step.{Step}

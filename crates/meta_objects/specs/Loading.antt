@@ -6,10 +6,10 @@ use Rattle.std.specs.Option.{option_and_then}
 use Rattle.signatures.specs.declared.sig.Sig.{Sig}
 use Rattle.signatures.specs.declared.value.Value.{Value}
 use Rattle.signatures.specs.declared.value.Value.TheVariants as value
-use Rattle.class_lang.specs.declared.program.Property.{Property}
-use Rattle.class_lang.specs.declared.program.Wire.{Wire}
-use Rattle.class_lang.specs.declared.program.Owns.{Owns}
-use Rattle.class_lang.specs.declared.program.Program.{Program}
+use Rattle.texts.specs.declared.program.Property.{Property}
+use Rattle.texts.specs.declared.program.Wire.{Wire}
+use Rattle.texts.specs.declared.program.Owns.{Owns}
+use Rattle.texts.specs.declared.program.Program.{Program}
 use Rattle.meta_model.specs.declared.object.ValueType.{ValueType}
 use Rattle.meta_model.specs.declared.object.ValueType.TheVariants as type
 use Rattle.meta_model.specs.declared.object.Statement.{Statement}

@@ -11,7 +11,6 @@ ghost use Rattle.signatures.specs.declared.value.Value.TheVariants.{Ref};
 use crate::class_index::ClassIndex;
 use crate::resolve_object::resolve_objects;
 use crate::resolve_uses::{Uses, resolve_uses};
-use class_lang::Program;
 use meta_model::{
     MetaFault, MetaMethod, MetaObject, MetaOwns, MetaWire, ValueType, has_bad_notify,
     has_duplicate_class, has_duplicate_member, has_no_type, outline_classes,
@@ -20,6 +19,7 @@ use signatures::{Kind, Name, ObjectId, Sig, Value, fits};
 use sqlite_items::Items;
 use std::alloc::Global;
 use std::marker::Model;
+use texts::Program;
 
 /// The meta-objects of a program that loads. Class 0 is `QObject`; the program's own classes follow as declared.
 #[derive(Drop)]

@@ -4,7 +4,6 @@ ghost use Rattle.std.specs.Prelude.{◌≡◌, ℕ, [], IfOk, option_copied};
 ghost use Rattle.std.specs.List.{AllZip};
 ghost use Rattle.meta_objects.specs.Loading.{IsMethodOf, IsNotify, IsPropertyOf, IsObject, work_of, body_at, found_body, default, initial_of};
 
-use class_lang::Property;
 use meta_model::{
     Heading, MetaMethod, MetaObject, MetaProperty, Outline, SlotBody, Sort, ValueType, Work,
     place_of_signal, read_kind, read_kinds,
@@ -12,6 +11,7 @@ use meta_model::{
 use signatures::{Text, Value};
 use sqlite_items::Items;
 use std::alloc::{AllocError, Global};
+use texts::Property;
 
 /// The classes in their order, with these bodies of the program's slots.
 pub fn resolve_objects(

@@ -6,10 +6,10 @@ ghost use Rattle.meta_model.specs.declared.fault.MetaFault.TheVariants as fault;
 
 use crate::body_resolution::resolve_bodies;
 use crate::resolve_wire::{resolve_owns, resolve_wires};
-use class_lang::Program;
 use meta_model::{MetaFault, MetaOwns, MetaWire, Outline, SlotBody};
 use sqlite_items::Items;
 use std::alloc::Global;
+use texts::Program;
 
 /// The slots' bodies by class, the wires and the owns, their names resolved.
 #[derive(Drop)]

@@ -9,13 +9,13 @@ ghost use Rattle.meta_model.specs.PartAnswers.{Loads};
 ghost use Rattle.meta_model.specs.Places.{IsPlace};
 ghost use Rattle.meta_model.specs.declared.fault.MetaFault.TheVariants as fault;
 
-use class_lang::{Owns, Wire};
 use meta_model::{
     Heading, MetaFault, MetaOwns, MetaWire, Outline, find, place_of, place_of_signal,
 };
 use signatures::{Name, Sig};
 use sqlite_items::Items;
 use std::alloc::Global;
+use texts::{Owns, Wire};
 
 /// The wires in their order; `NoMember` where an end of one isn't there.
 pub fn resolve_wires(

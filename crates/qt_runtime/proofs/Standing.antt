@@ -3,7 +3,7 @@ use Rattle.std.proofs.Common.{◌≡◌, ℕ, suc, ◌<◌, List, [], ◌∷◌,
 use Rattle.std.specs.List.{AllByRecursion}
 use Rattle.signatures.specs.declared.value.Value.{Value}
 use Rattle.signatures.specs.declared.value.Value.TheVariants as value
-use Rattle.slot_lang.specs.declared.syntax.Expr.{Expr}
+use Rattle.texts.specs.declared.syntax.Expr.{Expr}
 use Rattle.script_lang.specs.declared.event.Event.{Event}
 use Rattle.script_lang.specs.declared.event.Event.TheVariants.{New, Adopt, Connect, Set, Emit as EmitEvent, Call as CallEvent, Block, Unblock}
 use Rattle.meta_model.specs.declared.object.MetaMethod.{MetaMethod}

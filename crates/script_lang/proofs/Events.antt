@@ -4,15 +4,15 @@ use Rattle.signatures.specs.declared.kind.Kind.{Kind}
 use Rattle.signatures.specs.declared.sig.Sig.{Sig}
 use Rattle.signatures.specs.declared.value.Value.{Value}
 use Rattle.signatures.specs.declared.word.Word.TheVariants as word
-use Rattle.slot_lang.specs.Cursor.{NotAtWord}
-use Rattle.slot_lang.specs.Lists.{spell_listed}
-use Rattle.slot_lang.specs.Literals.{spell_literal, tree_of_literal}
-use Rattle.slot_lang.specs.Reading.{Found, Reads, EndsAnywhere, spell_name}
-use Rattle.slot_lang.specs.Signatures.{spell_sig, tree_of_sig, spell_kind}
-use Rattle.slot_lang.specs.declared.fault.ParseFault.{ParseFault}
-use Rattle.slot_lang.specs.declared.token.Token.{Token}
-use Rattle.slot_lang.specs.declared.token.Token.TheVariants as token
-use Rattle.slot_lang.proofs.Underway.{None}
+use Rattle.texts.specs.Cursor.{NotAtWord}
+use Rattle.texts.specs.Lists.{spell_listed}
+use Rattle.texts.specs.Literals.{spell_literal, tree_of_literal}
+use Rattle.texts.specs.Reading.{Found, Reads, EndsAnywhere, spell_name}
+use Rattle.texts.specs.Signatures.{spell_sig, tree_of_sig, spell_kind}
+use Rattle.texts.specs.declared.fault.ParseFault.{ParseFault}
+use Rattle.texts.specs.declared.token.Token.{Token}
+use Rattle.texts.specs.declared.token.Token.TheVariants as token
+use Rattle.texts.proofs.Underway.{None}
 use Rattle.script_lang.specs.declared.event.Event.{Event}
 use Rattle.script_lang.specs.declared.event.Event.TheVariants as tree
 use Rattle.script_lang.specs.declared.event.Input.{Input}

@@ -1,14 +1,14 @@
 -- A text has at most one answer.
 use Rattle.std.proofs.Common.{◌≡◌, ◌≢◌, ℕ, List, [], ◌∷◌, length, refl, sym, ◌∙◌, ap, Option, Some, None, Result, Ok, Err, arith}
-use Rattle.slot_lang.proofs.Cut.{same_tokens}
-use Rattle.slot_lang.specs.declared.token.Token.{Token}
+use Rattle.texts.proofs.Cut.{same_tokens}
+use Rattle.texts.specs.declared.token.Token.{Token}
 use Rattle.script_lang.specs.declared.event.Event.{Event}
 use Rattle.script_lang.specs.declared.fault.ScriptFault.{ScriptFault}
 use Rattle.script_lang.specs.declared.fault.ScriptFault.TheVariants.{TooLarge, BadLine, Memory}
 use Rattle.script_lang.specs.Grammar.{Reading, new, adopt, connect, set, emit, call, block, unblock, spell_event, IsEvent}
-use Rattle.script_lang.specs.Lines.{IsFrontLine, AreFrontLines, AreLines}
+use Rattle.texts.specs.Lines.{IsFrontLine, AreFrontLines, AreLines}
 use Rattle.script_lang.specs.Reads.{Holds, AreEvents, IsScript, IsBadLine, ReadsScript}
-use Rattle.script_lang.proofs.Cuts.{one_front_line, no_line_at_end}
+use Rattle.texts.proofs.FrontLines.{one_front_line, no_line_at_end}
 use Rattle.script_lang.proofs.Scripts.{IsRefused}
 use Rattle.script_lang.proofs.OneTree.{one_event}
 

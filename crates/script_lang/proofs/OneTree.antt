@@ -1,13 +1,13 @@
 -- No two readings with the same tokens stand for different events.
 use Rattle.std.proofs.Common.{◌≡◌, ℕ, true, false, List, [], ◌∷◌, map, codes, sym, ◌∙◌, ap, arith}
-use Rattle.slot_lang.specs.Literals.{UnsignedReading, plain, truth, quoted, null, token_of_unsigned, LiteralReading, unsigned, negative, spell_literal}
-use Rattle.slot_lang.specs.Reading.{EndsAnywhere}
-use Rattle.slot_lang.specs.Signatures.{spell_sig, tree_of_sig, spell_kind}
-use Rattle.slot_lang.specs.declared.symbol.Symbol.TheVariants.{Close}
-use Rattle.slot_lang.specs.declared.token.Token.{Token}
-use Rattle.slot_lang.specs.declared.token.Token.TheVariants as token
-use Rattle.slot_lang.proofs.Listed.{IsPart}
-use Rattle.slot_lang.proofs.OneTree.{HasOneTree, one_tree_of_listed, one_tree_of_sig, one_tree_of_kind, one_tree_of_literal}
+use Rattle.texts.specs.Literals.{UnsignedReading, plain, truth, quoted, null, token_of_unsigned, LiteralReading, unsigned, negative, spell_literal}
+use Rattle.texts.specs.Reading.{EndsAnywhere}
+use Rattle.texts.specs.Signatures.{spell_sig, tree_of_sig, spell_kind}
+use Rattle.texts.specs.declared.symbol.Symbol.TheVariants.{Close}
+use Rattle.texts.specs.declared.token.Token.{Token}
+use Rattle.texts.specs.declared.token.Token.TheVariants as token
+use Rattle.texts.proofs.Listed.{IsPart}
+use Rattle.texts.proofs.OneTree.{HasOneTree, one_tree_of_listed, one_tree_of_sig, one_tree_of_kind, one_tree_of_literal}
 use Rattle.script_lang.specs.declared.event.Event.TheVariants as tree
 use Rattle.script_lang.specs.declared.event.Input.TheVariants as input
 use Rattle.script_lang.specs.Grammar.{InputReading, literal, named, spell_input, tree_of_input, spell_invocation, tree_of_invocation, spell_connect, tree_of_connect, spell_assignment, tree_of_assignment, Reading, new, adopt, connect, set, emit, call, block, unblock, spell_event, tree_of_event}

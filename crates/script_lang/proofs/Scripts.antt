@@ -1,16 +1,16 @@
 -- The events of lines, and of a script.
 use Rattle.std.proofs.Common.{◌≡◌, ℕ, ◌≤◌, ◌+◌, List, [], ◌∷◌, ◌++◌, length, refl, sym, ◌∙◌, ap, Option, Some, None, Bool, true, false, IsTrue, ◌↔◌, arith}
 use Rattle.std.proofs.lemmas.List.{append-nil, length-append}
-use Rattle.slot_lang.proofs.Cut.{same_tokens}
-use Rattle.slot_lang.specs.Pieces.{AreTokens}
-use Rattle.slot_lang.specs.Reading.{Found, EndsAnywhere}
-use Rattle.slot_lang.specs.Signatures.{HasPlainReference}
-use Rattle.slot_lang.specs.declared.token.Token.{Token}
+use Rattle.texts.proofs.Cut.{same_tokens}
+use Rattle.texts.specs.Pieces.{AreTokens}
+use Rattle.texts.specs.Reading.{Found, EndsAnywhere}
+use Rattle.texts.specs.Signatures.{HasPlainReference}
+use Rattle.texts.specs.declared.token.Token.{Token}
 use Rattle.script_lang.specs.declared.event.Event.{Event}
 use Rattle.script_lang.specs.Grammar.{Reading, spell_event, tree_of_event, IsWithinLimits}
-use Rattle.script_lang.specs.Lines.{IsFrontLine, AreFrontLines}
+use Rattle.texts.specs.Lines.{IsFrontLine, AreFrontLines}
 use Rattle.script_lang.specs.Reads.{IsEmptyLine, IsEventLine, Holds, before, AreEvents, most_bytes, IsScript, IsBadLine}
-use Rattle.script_lang.proofs.Cuts.{one_more_line}
+use Rattle.texts.proofs.FrontLines.{one_more_line}
 use Rattle.script_lang.proofs.OneTree.{one_event}
 
 -- ---- one line

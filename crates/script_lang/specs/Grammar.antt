@@ -16,13 +16,13 @@ use Rattle.std.specs.Prelude.{ℕ, ◌≡◌, ◌≢◌, ◌≤◌, List, [], �
 use Rattle.signatures.specs.declared.kind.Kind.{Kind}
 use Rattle.signatures.specs.declared.kind.Kind.TheVariants.{Queued}
 use Rattle.signatures.specs.declared.word.Word.TheVariants as word
-use Rattle.slot_lang.specs.Lists.{spell_listed}
-use Rattle.slot_lang.specs.Literals.{LiteralReading, spell_literal, tree_of_literal}
-use Rattle.slot_lang.specs.Reading.{spell_name}
-use Rattle.slot_lang.specs.Signatures.{SigReading, spell_sig, tree_of_sig, spell_kind, HasPlainReference}
-use Rattle.slot_lang.specs.declared.symbol.Symbol.TheVariants.{Dot}
-use Rattle.slot_lang.specs.declared.token.Token.{Token}
-use Rattle.slot_lang.specs.declared.token.Token.TheVariants as token
+use Rattle.texts.specs.Lists.{spell_listed}
+use Rattle.texts.specs.Literals.{LiteralReading, spell_literal, tree_of_literal}
+use Rattle.texts.specs.Reading.{spell_name}
+use Rattle.texts.specs.Signatures.{SigReading, spell_sig, tree_of_sig, spell_kind, HasPlainReference}
+use Rattle.texts.specs.declared.symbol.Symbol.TheVariants.{Dot}
+use Rattle.texts.specs.declared.token.Token.{Token}
+use Rattle.texts.specs.declared.token.Token.TheVariants as token
 use Rattle.script_lang.specs.declared.event.Event.{Event}
 use Rattle.script_lang.specs.declared.event.Event.TheVariants as tree
 use Rattle.script_lang.specs.declared.event.Input.{Input}

@@ -1,9 +1,9 @@
 -- What the reader answers for a text (docs/language.md, "Scripts").
 use Rattle.std.specs.Prelude.{ℕ, ◌≡◌, ◌+◌, ◌≤◌, ◌<◌, List, [], ◌∷◌, length, Option, Some, None, Result, Ok, Err}
-use Rattle.slot_lang.specs.Pieces.{AreTokens}
-use Rattle.slot_lang.specs.declared.token.Token.{Token}
+use Rattle.texts.specs.Pieces.{AreTokens}
+use Rattle.texts.specs.declared.token.Token.{Token}
 use Rattle.script_lang.specs.Grammar.{IsEvent}
-use Rattle.script_lang.specs.Lines.{IsFrontLine, AreFrontLines, AreLines}
+use Rattle.texts.specs.Lines.{IsFrontLine, AreFrontLines, AreLines}
 use Rattle.script_lang.specs.declared.event.Event.{Event}
 use Rattle.script_lang.specs.declared.fault.LineFault.{LineFault}
 use Rattle.script_lang.specs.declared.fault.LineFault.TheVariants.{NoEvent}

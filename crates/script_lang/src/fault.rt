@@ -1,7 +1,7 @@
 //! Why a script, or a line of it, isn't read.
 
-use slot_lang::{LexFault, ParseFault};
 use std::alloc::AllocError;
+use texts::{LexFault, ParseFault};
 use thiserror::Error;
 
 /// Why a text is no script.
@@ -43,7 +43,7 @@ pub enum LineFault {
 impl From<LexFault> for LineFault {
     ghost use Rattle.std.specs.Prelude.{◌≡◌, ◌↔◌};
     ghost use Rattle.script_lang.specs.declared.fault.LineFault.TheVariants.{NoEvent};
-    ghost use Rattle.slot_lang.specs.declared.lexer.LexFault.TheVariants.{BadByte};
+    ghost use Rattle.texts.specs.declared.lexer.LexFault.TheVariants.{BadByte};
 
     ghost from_gives = { λ lex fault. (fault ≡ NoEvent) ↔ (lex ≡ BadByte) };
 
@@ -58,7 +58,7 @@ impl From<LexFault> for LineFault {
 impl From<ParseFault> for LineFault {
     ghost use Rattle.std.specs.Prelude.{◌≡◌, ◌↔◌};
     ghost use Rattle.script_lang.specs.declared.fault.LineFault.TheVariants.{NoEvent};
-    ghost use Rattle.slot_lang.specs.declared.fault.ParseFault.TheVariants.{Syntax};
+    ghost use Rattle.texts.specs.declared.fault.ParseFault.TheVariants.{Syntax};
 
     ghost from_gives = { λ parse fault. (fault ≡ NoEvent) ↔ (parse ≡ Syntax) };
 

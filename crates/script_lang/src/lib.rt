@@ -4,7 +4,6 @@
 mod event;
 mod fault;
 mod limits;
-mod lines;
 mod reader;
 mod syntax;
 mod verb;

@@ -9,11 +9,10 @@ ghost use Rattle.script_lang.specs.Reads.{Holds, IsScript, ReadsScript, ReadsLin
 use crate::event::Event;
 use crate::fault::{LineFault, ScriptFault};
 use crate::limits::is_within_limits;
-use crate::lines::split_line;
 use crate::syntax::event;
-use slot_lang::{Cursor, has_plain_reference, tokens};
 use sqlite_items::Items;
 use std::alloc::Global;
+use texts::{Cursor, has_plain_reference, split_line, tokens};
 
 /// The most bytes of a script.
 const MOST_BYTES: usize = 1_048_576;

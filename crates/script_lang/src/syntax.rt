@@ -2,14 +2,14 @@
 
 ghost use Rattle.std.specs.Prelude.{◌<◌, length, map, OnOk};
 ghost use Rattle.script_lang.specs.Grammar.{spell_input, tree_of_input, spell_verb, spell_member, spell_invocation, tree_of_invocation, spell_event, tree_of_event, spell_new, tree_of_new, spell_adopt, tree_of_adopt, spell_connect, tree_of_connect, spell_assignment, tree_of_assignment, tree_of_emit, tree_of_call, tree_of_block, tree_of_unblock};
-ghost use Rattle.slot_lang.specs.Lists.{spell_listed};
-ghost use Rattle.slot_lang.specs.Reading.{Reads, EndsAnywhere, spell_name};
+ghost use Rattle.texts.specs.Lists.{spell_listed};
+ghost use Rattle.texts.specs.Reading.{Reads, EndsAnywhere, spell_name};
 
 use crate::event::{Connect, Event, Input};
 use crate::verb::Verb;
 use signatures::{Name, Word};
-use slot_lang::{Cursor, ParseFault, Symbol, Token};
 use sqlite_items::Items;
+use texts::{Cursor, ParseFault, Symbol, Token};
 
 /// Takes the event that has to come next.
 pub fn event(cursor: &mut Cursor) -> Result<Event, ParseFault>

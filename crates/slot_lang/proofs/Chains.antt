@@ -2,15 +2,15 @@
 use Rattle.std.proofs.Common.{◌≡◌, ◌∙◌, ◌⊎◌, List, ◌∷◌, inl, inr, sym, ap}
 use Rattle.slot_lang.specs.Expressions.{EndsChain}
 use Rattle.slot_lang.specs.Precedence.{symbol_of, precedence_of, Operator, NoOperator}
-use Rattle.slot_lang.specs.Reading.{Found}
+use Rattle.texts.specs.Reading.{Found}
 use Rattle.slot_lang.specs.declared.precedence.Precedence.{Precedence}
-use Rattle.slot_lang.specs.declared.syntax.Binary.{Binary}
-use Rattle.slot_lang.specs.declared.syntax.Expr.{Expr}
-use Rattle.slot_lang.specs.declared.syntax.Expr.TheVariants as expr
-use Rattle.slot_lang.specs.declared.syntax.Path.{Path}
-use Rattle.slot_lang.specs.declared.token.Token.{Token}
-use Rattle.slot_lang.specs.declared.token.Token.TheVariants as token
-use Rattle.slot_lang.proofs.Underway.{None, Underway}
+use Rattle.texts.specs.declared.syntax.Binary.{Binary}
+use Rattle.texts.specs.declared.syntax.Expr.{Expr}
+use Rattle.texts.specs.declared.syntax.Expr.TheVariants as expr
+use Rattle.texts.specs.declared.syntax.Path.{Path}
+use Rattle.texts.specs.declared.token.Token.{Token}
+use Rattle.texts.specs.declared.token.Token.TheVariants as token
+use Rattle.texts.proofs.Underway.{None, Underway}
 
 -- R are the readings of the rule, P those of its parts, and M those of what follows its first part
 pub record IsChain {R M P : Type 0} (p : Precedence) (spell : R → List Token → List Token) (tree : R → Expr Path) (spell_more : M → List Token → List Token) (tree_more : M → Expr Path → Expr Path) (spell_part : P → List Token → List Token) (tree_part : P → Expr Path) (EndsPart : List Token → Type 0) : Type 0 where

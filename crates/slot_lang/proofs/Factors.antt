@@ -2,28 +2,28 @@
 use Rattle.std.proofs.Common.{◌≡◌, ◌∙◌, ℕ, List, [], ◌∷◌, Result, Ok, Err, MatchResult, true, false, refl, sym, ap}
 use Rattle.signatures.specs.declared.value.Value.{Value}
 use Rattle.signatures.specs.declared.word.Word.TheVariants as word
-use Rattle.slot_lang.specs.Cursor.{NotAt, NotAtWord}
+use Rattle.texts.specs.Cursor.{NotAt, NotAtWord}
 use Rattle.slot_lang.specs.Expressions.{Expression, Factor, prefixed, literal, path, grouped, spell_expression, spell_factor, spell_group, spell_names, spell_root, tree_of_expression, tree_of_factor, EndsExpression, EndsFactor}
-use Rattle.slot_lang.specs.Literals.{UnsignedReading, plain, truth, quoted, null, token_of_unsigned, IsUnsigned}
+use Rattle.texts.specs.Literals.{UnsignedReading, plain, truth, quoted, null, token_of_unsigned, IsUnsigned}
 use Rattle.slot_lang.specs.Precedence.{prefix_symbol_of}
-use Rattle.slot_lang.specs.Reading.{EndsAnywhere, Found, Reads}
-use Rattle.slot_lang.specs.declared.fault.ParseFault.{ParseFault}
-use Rattle.slot_lang.specs.declared.fault.ParseFault.TheVariants.{Syntax}
-use Rattle.slot_lang.specs.declared.symbol.Symbol.{Symbol}
-use Rattle.slot_lang.specs.declared.symbol.Symbol.TheVariants.{Not, Minus, Open, Close}
-use Rattle.slot_lang.specs.declared.syntax.Expr.{Expr}
-use Rattle.slot_lang.specs.declared.syntax.Expr.TheVariants as tree
-use Rattle.slot_lang.specs.declared.syntax.Path.{Path}
-use Rattle.slot_lang.specs.declared.syntax.Root.{Root}
-use Rattle.slot_lang.specs.declared.syntax.Root.TheVariants as root
-use Rattle.slot_lang.specs.declared.syntax.Unary.{Unary}
-use Rattle.slot_lang.specs.declared.syntax.Unary.TheVariants as unary
-use Rattle.slot_lang.specs.declared.token.Token.{Token}
-use Rattle.slot_lang.specs.declared.token.Token.TheVariants as token
-use Rattle.slot_lang.proofs.Literals.{no_symbol}
+use Rattle.texts.specs.Reading.{EndsAnywhere, Found, Reads}
+use Rattle.texts.specs.declared.fault.ParseFault.{ParseFault}
+use Rattle.texts.specs.declared.fault.ParseFault.TheVariants.{Syntax}
+use Rattle.texts.specs.declared.symbol.Symbol.{Symbol}
+use Rattle.texts.specs.declared.symbol.Symbol.TheVariants.{Not, Minus, Open, Close}
+use Rattle.texts.specs.declared.syntax.Expr.{Expr}
+use Rattle.texts.specs.declared.syntax.Expr.TheVariants as tree
+use Rattle.texts.specs.declared.syntax.Path.{Path}
+use Rattle.texts.specs.declared.syntax.Root.{Root}
+use Rattle.texts.specs.declared.syntax.Root.TheVariants as root
+use Rattle.texts.specs.declared.syntax.Unary.{Unary}
+use Rattle.texts.specs.declared.syntax.Unary.TheVariants as unary
+use Rattle.texts.specs.declared.token.Token.{Token}
+use Rattle.texts.specs.declared.token.Token.TheVariants as token
+use Rattle.texts.proofs.Literals.{no_symbol}
 use Rattle.slot_lang.proofs.Paths.{root_no_symbol, same_root}
 use Rattle.slot_lang.proofs.Precedences.{expression_ends}
-use Rattle.slot_lang.proofs.Underway.{None}
+use Rattle.texts.proofs.Underway.{None}
 
 -- ---- what other tokens than a factor's first one begin no such factor
 

@@ -2,17 +2,17 @@
 use Rattle.std.proofs.Common.{◌≡◌, ◌∙◌, ◌⊎◌, List, ◌∷◌, inl, inr, refl, sym}
 use Rattle.slot_lang.specs.Expressions.{Expression, expression, Conjunctions, no_conjunction, or_else, Conjunction, conjunction, Comparisons, no_comparison, and_also, Comparison, alone, compared, Sum, sum, Terms, no_term, signed, Term, term, Factors, no_factor, times, Factor, spell_expression, spell_conjunctions, spell_conjunction, spell_comparisons, spell_comparison, spell_sum, spell_terms, spell_term, spell_factors, spell_factor, tree_of_expression, tree_of_conjunctions, tree_of_conjunction, tree_of_comparisons, tree_of_comparison, tree_of_sum, tree_of_terms, tree_of_term, tree_of_factors, tree_of_factor, EndsFactor, EndsTerm, EndsSum, EndsComparison, EndsConjunction}
 use Rattle.slot_lang.specs.Precedence.{symbol_of, precedence_of, Operator, NoOperator}
-use Rattle.slot_lang.specs.Reading.{Found}
+use Rattle.texts.specs.Reading.{Found}
 use Rattle.slot_lang.specs.declared.precedence.Precedence.TheVariants as precedence
-use Rattle.slot_lang.specs.declared.syntax.Binary.{Binary}
-use Rattle.slot_lang.specs.declared.syntax.Expr.{Expr}
-use Rattle.slot_lang.specs.declared.syntax.Expr.TheVariants as tree
-use Rattle.slot_lang.specs.declared.syntax.Path.{Path}
-use Rattle.slot_lang.specs.declared.token.Token.{Token}
-use Rattle.slot_lang.specs.declared.token.Token.TheVariants as token
+use Rattle.texts.specs.declared.syntax.Binary.{Binary}
+use Rattle.texts.specs.declared.syntax.Expr.{Expr}
+use Rattle.texts.specs.declared.syntax.Expr.TheVariants as tree
+use Rattle.texts.specs.declared.syntax.Path.{Path}
+use Rattle.texts.specs.declared.token.Token.{Token}
+use Rattle.texts.specs.declared.token.Token.TheVariants as token
 use Rattle.slot_lang.proofs.Chains.{IsChain}
 use Rattle.slot_lang.proofs.Precedences.{no_dot, term_ends, sum_ends, comparison_ends, conjunction_ends}
-use Rattle.slot_lang.proofs.Underway.{None}
+use Rattle.texts.proofs.Underway.{None}
 
 term_parts : (r : Term) → (q : Factor) × (m : Factors) × ((after : List Token) → spell_term r after ≡ spell_factor q (spell_factors m after))
 term_parts (term f fs) = (f, fs, λ after. refl)

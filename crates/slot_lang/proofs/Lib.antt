@@ -7,16 +7,3 @@ pub mod OneExpression
 pub mod Arguments
 pub mod Bodies
 pub mod Unique
-pub mod OneTree
-pub mod Underway
-pub mod Listed
-pub mod Signatures
-pub mod PlainReferences
-pub mod Literals
-pub mod Numbers
-pub mod Runs
-pub mod Table
-pub mod Fronts
-pub mod Only
-pub mod Cut
-pub mod Counting

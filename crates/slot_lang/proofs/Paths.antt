@@ -2,18 +2,18 @@
 use Rattle.std.proofs.Common.{◌≡◌, ◌∙◌, ℕ, List, [], ◌∷◌, ◌++◌, refl, sym, ap, append_assoc}
 use Rattle.std.proofs.lemmas.List.{append-nil}
 use Rattle.signatures.specs.declared.word.Word.TheVariants as word
-use Rattle.slot_lang.specs.Cursor.{NotAt, NotAtWord}
+use Rattle.texts.specs.Cursor.{NotAt, NotAtWord}
 use Rattle.slot_lang.specs.Expressions.{spell_root, spell_names, spell_path, EndsFactor}
 use Rattle.slot_lang.specs.Grammar.{Target, spell_target}
-use Rattle.slot_lang.specs.Reading.{EndsAnywhere, Found, spell_name}
-use Rattle.slot_lang.specs.declared.symbol.Symbol.{Symbol}
-use Rattle.slot_lang.specs.declared.symbol.Symbol.TheVariants.{Dot}
-use Rattle.slot_lang.specs.declared.syntax.Path.{Path}
-use Rattle.slot_lang.specs.declared.syntax.Root.{Root}
-use Rattle.slot_lang.specs.declared.syntax.Root.TheVariants as root
-use Rattle.slot_lang.specs.declared.token.Token.{Token}
-use Rattle.slot_lang.specs.declared.token.Token.TheVariants as token
-use Rattle.slot_lang.proofs.Underway.{None, Underway}
+use Rattle.texts.specs.Reading.{EndsAnywhere, Found, spell_name}
+use Rattle.texts.specs.declared.symbol.Symbol.{Symbol}
+use Rattle.texts.specs.declared.symbol.Symbol.TheVariants.{Dot}
+use Rattle.texts.specs.declared.syntax.Path.{Path}
+use Rattle.texts.specs.declared.syntax.Root.{Root}
+use Rattle.texts.specs.declared.syntax.Root.TheVariants as root
+use Rattle.texts.specs.declared.token.Token.{Token}
+use Rattle.texts.specs.declared.token.Token.TheVariants as token
+use Rattle.texts.proofs.Underway.{None, Underway}
 
 -- ---- {"." Name}
 

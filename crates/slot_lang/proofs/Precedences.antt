@@ -1,16 +1,16 @@
 -- Operators by their symbols.
 use Rattle.std.proofs.Common.{◌≡◌, ◌∙◌, List, [], ◌∷◌, Option, Some, None, refl, ap}
-use Rattle.slot_lang.specs.Cursor.{NotAt}
+use Rattle.texts.specs.Cursor.{NotAt}
 use Rattle.slot_lang.specs.Expressions.{EndsTerm, EndsSum, EndsComparison, EndsConjunction, EndsExpression}
 use Rattle.slot_lang.specs.Precedence.{symbol_of, precedence_of, NoOperator}
 use Rattle.slot_lang.specs.declared.precedence.Precedence.{Precedence}
 use Rattle.slot_lang.specs.declared.precedence.Precedence.TheVariants as precedence
-use Rattle.slot_lang.specs.declared.symbol.Symbol.{Symbol}
-use Rattle.slot_lang.specs.declared.symbol.Symbol.TheVariants as symbol
-use Rattle.slot_lang.specs.declared.syntax.Binary.{Binary}
-use Rattle.slot_lang.specs.declared.syntax.Binary.TheVariants as binary
-use Rattle.slot_lang.specs.declared.token.Token.{Token}
-use Rattle.slot_lang.specs.declared.token.Token.TheVariants as token
+use Rattle.texts.specs.declared.symbol.Symbol.{Symbol}
+use Rattle.texts.specs.declared.symbol.Symbol.TheVariants as symbol
+use Rattle.texts.specs.declared.syntax.Binary.{Binary}
+use Rattle.texts.specs.declared.syntax.Binary.TheVariants as binary
+use Rattle.texts.specs.declared.token.Token.{Token}
+use Rattle.texts.specs.declared.token.Token.TheVariants as token
 
 abbrev pub operator_of : Symbol → Option Binary
 operator_of symbol.Plus = Some binary.Add

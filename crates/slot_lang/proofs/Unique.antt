@@ -2,17 +2,17 @@
 use Rattle.std.proofs.Common.{◌≡◌, ◌∙◌, ℕ, List, [], ◌∷◌, ◌++◌, map, refl, sym, ap}
 use Rattle.slot_lang.specs.Expressions.{Expression, spell_expression, tree_of_expression, EndsFactor}
 use Rattle.slot_lang.specs.Grammar.{Target, spell_target, spell_value, spell_arguments, Assignment, spell_assignment, tree_of_assignment, Emission, spell_emission, tree_of_emission, Call, spell_call, tree_of_call, spell_condition, Body, no_more, more, Statement, set, emit, call, choice, Else, no_else, else_block, spell_statements, spell_statement, spell_else, spell_block, tree_of_block, tree_of_statement, tree_of_else, EndsStatement, IsBody}
-use Rattle.slot_lang.specs.declared.symbol.Symbol.TheVariants.{Semicolon, CloseBrace}
-use Rattle.slot_lang.specs.declared.syntax.Path.{Path}
-use Rattle.slot_lang.specs.declared.syntax.Stmt.{Stmt}
-use Rattle.slot_lang.specs.declared.syntax.Stmt.TheVariants as stmt
-use Rattle.slot_lang.specs.declared.token.Token.{Token}
-use Rattle.slot_lang.specs.declared.token.Token.TheVariants as token
+use Rattle.texts.specs.declared.symbol.Symbol.TheVariants.{Semicolon, CloseBrace}
+use Rattle.texts.specs.declared.syntax.Path.{Path}
+use Rattle.texts.specs.declared.syntax.Stmt.{Stmt}
+use Rattle.texts.specs.declared.syntax.Stmt.TheVariants as stmt
+use Rattle.texts.specs.declared.token.Token.{Token}
+use Rattle.texts.specs.declared.token.Token.TheVariants as token
 use Rattle.slot_lang.proofs.Arguments.{expressions_are_parts}
 use Rattle.slot_lang.proofs.Bodies.{ends_in_body, value_meets, arguments_meet}
 use Rattle.slot_lang.proofs.Factors.{ends_at_close}
 use Rattle.slot_lang.proofs.OneExpression.{one_path, one_tree_of_expression}
-use Rattle.slot_lang.proofs.OneTree.{one_tree_of_listed}
+use Rattle.texts.proofs.OneTree.{one_tree_of_listed}
 use Rattle.slot_lang.proofs.Paths.{whole_path, spelled_whole}
 use Rattle.slot_lang.proofs.Precedences.{expression_ends}
 

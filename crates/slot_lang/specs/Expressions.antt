@@ -10,20 +10,20 @@
 --   path   = ("this" | Name) {"." Name}
 use Rattle.std.specs.Prelude.{ℕ, ◌≡◌, List, [], ◌∷◌}
 use Rattle.signatures.specs.declared.word.Word.TheVariants as word
-use Rattle.slot_lang.specs.Cursor.{NotAt}
-use Rattle.slot_lang.specs.Literals.{UnsignedReading, token_of_unsigned, tree_of_unsigned}
+use Rattle.texts.specs.Cursor.{NotAt}
+use Rattle.texts.specs.Literals.{UnsignedReading, token_of_unsigned, tree_of_unsigned}
 use Rattle.slot_lang.specs.Precedence.{symbol_of, prefix_symbol_of, Operator, NoOperator}
 use Rattle.slot_lang.specs.declared.precedence.Precedence.{Precedence}
 use Rattle.slot_lang.specs.declared.precedence.Precedence.TheVariants as precedence
-use Rattle.slot_lang.specs.declared.symbol.Symbol.TheVariants.{Dot, Open, Close}
-use Rattle.slot_lang.specs.declared.syntax.Expr.{Expr}
-use Rattle.slot_lang.specs.declared.syntax.Expr.TheVariants as tree
-use Rattle.slot_lang.specs.declared.syntax.Path.{Path}
-use Rattle.slot_lang.specs.declared.syntax.Root.{Root}
-use Rattle.slot_lang.specs.declared.syntax.Root.TheVariants as root
-use Rattle.slot_lang.specs.declared.syntax.Unary.{Unary}
-use Rattle.slot_lang.specs.declared.token.Token.{Token}
-use Rattle.slot_lang.specs.declared.token.Token.TheVariants as token
+use Rattle.texts.specs.declared.symbol.Symbol.TheVariants.{Dot, Open, Close}
+use Rattle.texts.specs.declared.syntax.Expr.{Expr}
+use Rattle.texts.specs.declared.syntax.Expr.TheVariants as tree
+use Rattle.texts.specs.declared.syntax.Path.{Path}
+use Rattle.texts.specs.declared.syntax.Root.{Root}
+use Rattle.texts.specs.declared.syntax.Root.TheVariants as root
+use Rattle.texts.specs.declared.syntax.Unary.{Unary}
+use Rattle.texts.specs.declared.token.Token.{Token}
+use Rattle.texts.specs.declared.token.Token.TheVariants as token
 
 mutual
   pub data Expression : Type 0 where

@@ -8,15 +8,15 @@
 --         | "if" "(" expr ")" block ["else" block]
 use Rattle.std.specs.Prelude.{ℕ, ◌≡◌, List, [], ◌∷◌, map}
 use Rattle.signatures.specs.declared.word.Word.TheVariants as word
-use Rattle.slot_lang.specs.Cursor.{NotAtWord}
+use Rattle.texts.specs.Cursor.{NotAtWord}
 use Rattle.slot_lang.specs.Expressions.{Expression, spell_expression, spell_group, spell_path, tree_of_expression}
-use Rattle.slot_lang.specs.Lists.{spell_listed}
-use Rattle.slot_lang.specs.declared.symbol.Symbol.TheVariants.{Dot, Assign, Semicolon, Open, OpenBrace, CloseBrace}
-use Rattle.slot_lang.specs.declared.syntax.Path.{Path}
-use Rattle.slot_lang.specs.declared.syntax.Stmt.{Stmt}
-use Rattle.slot_lang.specs.declared.syntax.Stmt.TheVariants as stmt
-use Rattle.slot_lang.specs.declared.token.Token.{Token}
-use Rattle.slot_lang.specs.declared.token.Token.TheVariants as token
+use Rattle.texts.specs.Lists.{spell_listed}
+use Rattle.texts.specs.declared.symbol.Symbol.TheVariants.{Dot, Assign, Semicolon, Open, OpenBrace, CloseBrace}
+use Rattle.texts.specs.declared.syntax.Path.{Path}
+use Rattle.texts.specs.declared.syntax.Stmt.{Stmt}
+use Rattle.texts.specs.declared.syntax.Stmt.TheVariants as stmt
+use Rattle.texts.specs.declared.token.Token.{Token}
+use Rattle.texts.specs.declared.token.Token.TheVariants as token
 
 -- ---- the parts of statements
 

@@ -1,15 +1,15 @@
 -- Operators: how they are spelled, and how tight they bind (docs/language.md, "Expressions").
 use Rattle.std.specs.Prelude.{◌≡◌, List}
-use Rattle.slot_lang.specs.Cursor.{NotAt}
+use Rattle.texts.specs.Cursor.{NotAt}
 use Rattle.slot_lang.specs.declared.precedence.Precedence.{Precedence}
 use Rattle.slot_lang.specs.declared.precedence.Precedence.TheVariants as precedence
-use Rattle.slot_lang.specs.declared.symbol.Symbol.{Symbol}
-use Rattle.slot_lang.specs.declared.symbol.Symbol.TheVariants as symbol
-use Rattle.slot_lang.specs.declared.syntax.Binary.{Binary}
-use Rattle.slot_lang.specs.declared.syntax.Binary.TheVariants as binary
-use Rattle.slot_lang.specs.declared.syntax.Unary.{Unary}
-use Rattle.slot_lang.specs.declared.syntax.Unary.TheVariants as unary
-use Rattle.slot_lang.specs.declared.token.Token.{Token}
+use Rattle.texts.specs.declared.symbol.Symbol.{Symbol}
+use Rattle.texts.specs.declared.symbol.Symbol.TheVariants as symbol
+use Rattle.texts.specs.declared.syntax.Binary.{Binary}
+use Rattle.texts.specs.declared.syntax.Binary.TheVariants as binary
+use Rattle.texts.specs.declared.syntax.Unary.{Unary}
+use Rattle.texts.specs.declared.syntax.Unary.TheVariants as unary
+use Rattle.texts.specs.declared.token.Token.{Token}
 
 abbrev pub symbol_of : Binary → Symbol
 symbol_of binary.Add = symbol.Plus

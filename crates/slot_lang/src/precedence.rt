@@ -1,15 +1,12 @@
 //! Operators between operands: how they are spelled, and how tight they bind.
 
 ghost use Rattle.std.specs.Prelude.{◌≡◌, ◌<◌, List, ◌∷◌, length, MatchOption, OnSome};
-ghost use Rattle.slot_lang.specs.Cursor.{NotAt};
+ghost use Rattle.texts.specs.Cursor.{NotAt};
 ghost use Rattle.slot_lang.specs.Precedence.{symbol_of, precedence_of, prefix_symbol_of, NoOperator};
-ghost use Rattle.slot_lang.specs.declared.syntax.Binary.{Binary};
-ghost use Rattle.slot_lang.specs.declared.token.Token.TheVariants as token;
+ghost use Rattle.texts.specs.declared.syntax.Binary.{Binary};
+ghost use Rattle.texts.specs.declared.token.Token.TheVariants as token;
 
-use crate::cursor::Cursor;
-use crate::symbol::Symbol;
-use crate::syntax::Binary;
-use crate::token::Token;
+use texts::{Binary, Cursor, Symbol, Token};
 
 /// How tight an operator binds, the loosest first.
 #[derive(Clone, Copy, Debug, PartialEq, Eq)]
@@ -79,20 +76,18 @@ fn precedence_of(binary: Binary) -> Precedence
     }
 }
 
-impl<'a> Cursor<'a> {
-    /// Takes the operator that binds so tight, if one comes next.
-    pub fn operator(&mut self, precedence: Precedence) -> Option<Binary>
-        ensures found { MatchOption result ((self.new ≡ self.old) × NoOperator precedence self.old) (λ binary. (precedence_of binary ≡ precedence) × (self.old ≡ token.Symbol (symbol_of binary) ∷ self.new)) }
-        ensures shorter { OnSome result (length self.new < length self.old) }
-    {
-        let Some(binary) = next_operator(self.rest()) else {
-            return None;
-        };
-        if precedence_of(binary) == precedence && self.eat(symbol_of(binary)) {
-            Some(binary)
-        } else {
-            None
-        }
+/// Takes the operator that binds so tight, if one comes next.
+pub fn operator(cursor: &mut Cursor, precedence: Precedence) -> Option<Binary>
+    ensures found { MatchOption result ((cursor.new ≡ cursor.old) × NoOperator precedence cursor.old) (λ binary. (precedence_of binary ≡ precedence) × (cursor.old ≡ token.Symbol (symbol_of binary) ∷ cursor.new)) }
+    ensures shorter { OnSome result (length cursor.new < length cursor.old) }
+{
+    let Some(binary) = next_operator(cursor.rest()) else {
+        return None;
+    };
+    if precedence_of(binary) == precedence && cursor.eat(symbol_of(binary)) {
+        Some(binary)
+    } else {
+        None
     }
 }
 

@@ -4,7 +4,7 @@
 use Rattle.std.specs.Prelude.{◌≡◌, ℕ, ◌<◌, ◌≤◌, List, [], ◌∷◌, ◌++◌, length, Option, Result, Ok, Err, IfSome}
 use Rattle.std.specs.Io.KnownBytes.{Appends}
 use Rattle.class_lang.specs.Reads.{ReadsProgram, number_of as text_number}
-use Rattle.class_lang.specs.declared.program.Program.{Program}
+use Rattle.texts.specs.declared.program.Program.{Program}
 use Rattle.class_lang.specs.declared.fault.TextFault.{TextFault}
 use Rattle.meta_objects.specs.Builds.{Builds}
 use Rattle.meta_model.specs.FaultNumbers.{number_of as meta_number}

@@ -1,7 +1,7 @@
 //! The statements of bodies, whose names are resolved.
 
 ghost use Rattle.std.specs.Prelude.{ℕ, MatchOption};
-ghost use Rattle.slot_lang.specs.declared.syntax.Stmt.TheVariants.{Set, Emit, Call};
+ghost use Rattle.texts.specs.declared.syntax.Stmt.TheVariants.{Set, Emit, Call};
 ghost use Rattle.meta_objects.specs.Bodies.{scope, IsStatement, AreStatements, IsCallOf, LacksInBody};
 ghost use Rattle.meta_model.specs.PartAnswers.{Loads};
 ghost use Rattle.meta_model.specs.Places.{StandsAt, Found};
@@ -10,12 +10,11 @@ ghost use Rattle.meta_model.specs.declared.object.Statement.{Statement as AState
 
 use crate::body_resolution::expr::{resolve_expr, resolve_exprs};
 use crate::body_resolution::path::{Led, find_class, find_member, resolve_path};
-use class_lang::Parameter;
 use meta_model::{Heading, MetaFault, Outline, Statement, find};
 use signatures::Name;
-use slot_lang::{Expr, Path, Stmt};
 use sqlite_items::Items;
 use std::alloc::Global;
+use texts::{Expr, Parameter, Path, Stmt};
 
 /// The statements in a body of this class whose slot has these parameters; `NoMember` where a name in one of them isn't
 /// there.

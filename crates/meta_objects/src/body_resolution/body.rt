@@ -7,10 +7,10 @@ ghost use Rattle.meta_model.specs.PartAnswers.{Loads};
 ghost use Rattle.meta_model.specs.declared.fault.MetaFault.TheVariants as fault;
 
 use crate::body_resolution::block::resolve_block;
-use class_lang::{Class, Slot};
 use meta_model::{MetaFault, Outline, SlotBody};
 use sqlite_items::Items;
 use std::alloc::Global;
+use texts::{Class, Slot};
 
 /// The bodies of the slots of each class; `NoMember` where a name in one of them isn't there.
 pub fn resolve_bodies(

@@ -1,19 +1,18 @@
 //! Expressions whose names are resolved.
 
 ghost use Rattle.std.specs.Prelude.{◌≡◌, List};
-ghost use Rattle.slot_lang.specs.declared.syntax.Expr.{Expr as AnExpr};
+ghost use Rattle.texts.specs.declared.syntax.Expr.{Expr as AnExpr};
 ghost use Rattle.meta_objects.specs.Bodies.{scope, IsExpr, AreExprs};
 ghost use Rattle.meta_model.specs.PartAnswers.{Loads};
 ghost use Rattle.meta_model.specs.declared.fault.MetaFault.TheVariants as fault;
 ghost use Rattle.meta_model.specs.declared.object.MetaPath.{MetaPath as AMetaPath};
 
 use crate::body_resolution::path::{Led, resolve_path};
-use class_lang::Parameter;
 use meta_model::{MetaFault, MetaPath, Outline};
 use signatures::Name;
-use slot_lang::{Expr, Path};
 use sqlite_items::{Boxed, Items};
 use std::alloc::Global;
+use texts::{Expr, Parameter, Path};
 
 /// The expressions in their order; `NoMember` where a name in one of them isn't there.
 pub fn resolve_exprs(

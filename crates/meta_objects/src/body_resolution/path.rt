@@ -2,19 +2,18 @@
 
 ghost use Rattle.std.specs.Prelude.{◌≡◌, ℕ, List, MatchOption};
 ghost use Rattle.signatures.specs.declared.qtype.QType.{QType as AQType};
-ghost use Rattle.class_lang.specs.declared.program.Property.{Property as AProperty};
+ghost use Rattle.texts.specs.declared.program.Property.{Property as AProperty};
 ghost use Rattle.meta_objects.specs.Bodies.{scope, PointsTo, PointsToThis, HasMember, AreSteps, IsPath};
 ghost use Rattle.meta_model.specs.PartAnswers.{Loads};
 ghost use Rattle.meta_model.specs.declared.fault.MetaFault.TheVariants as fault;
 ghost use Rattle.meta_model.specs.declared.object.MetaPath.{MetaPath as AMetaPath};
 ghost use Rattle.meta_model.specs.declared.object.Step.{Step as AStep};
 
-use class_lang::{Parameter, Property};
 use meta_model::{MetaFault, MetaPath, MetaRoot, Outline, Step, find, read_kind, reference_to};
 use signatures::{Name, QType};
-use slot_lang::{Path, Root};
 use sqlite_items::Items;
 use std::alloc::Global;
+use texts::{Parameter, Path, Property, Root};
 
 /// A path whose names are resolved, and the type of what it is declared to lead to.
 #[derive(Drop)]

@@ -3,11 +3,12 @@
 use super::{expect, joined};
 use expressions::{ExprType, Names, type_of};
 use signatures::{QType, normalise};
-use slot_lang::{Path, parse_expr, tokens};
+use slot_lang::parse_expr;
 use std::alloc::{AllocError, Global};
 use std::process::Abort;
 use std::str;
 use std::test::Fail;
+use texts::{Path, tokens};
 
 const RUN: &str = "run --unchecked 256";
 

@@ -13,7 +13,7 @@ pub loop-cursor-preserved : goal.loop-cursor-preserved
 loop-cursor-preserved c =
     let same = c.loop-cursor-test.ensures.found.0 in
     record {
-      so_far = rw c.in_ok-add.ensures (members_step c.loop-cursor.invariant.so_far c.loop-cursor-test.ensures.found.1 (rw same at c.in_ok-member.ensures.reads));
+      so_far = rw c.in_ok-add_member.ensures (members_step c.loop-cursor.invariant.so_far c.loop-cursor-test.ensures.found.1 (rw same at c.in_ok-member.ensures.reads));
       no_longer = omega (arith, ap length same, c.in_ok-member.ensures.shorter);
     }
 

@@ -1,7 +1,7 @@
 use Rattle.std.proofs.Common.{length, arith, ap}
 use Rattle.std.proofs.lemmas.Result.{err_from_is_err_and}
 use Rattle.class_lang.specs.Parameters.{spell_signal_parameter, tree_of_signal_parameter, EndsSignalParameter}
-use Rattle.slot_lang.proofs.Listed.{listed_no_first, listed_start, listed_step, listed_no_next, listed_unclosed, listed_done}
+use Rattle.texts.proofs.Listed.{listed_no_first, listed_start, listed_step, listed_no_next, listed_unclosed, listed_done}
 use Rattle.class_lang.proofs.Parts.{signal_parameters_are_parts}
 use Rattle.class_lang.proofs.parameters.signal_parameters.Goals as goal
 

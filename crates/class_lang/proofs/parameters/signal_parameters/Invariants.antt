@@ -1,6 +1,6 @@
 use Rattle.std.proofs.Common.{◌<◌, length}
 use Rattle.class_lang.specs.Parameters.{spell_signal_parameter, tree_of_signal_parameter, EndsSignalParameter}
-use Rattle.slot_lang.proofs.Listed.{ListedSoFar}
+use Rattle.texts.proofs.Listed.{ListedSoFar}
 use Rattle.class_lang.proofs.Parts.{signal_parameters_are_parts}
 use Rattle.class_lang.proofs.parameters.signal_parameters.Given as goal
 

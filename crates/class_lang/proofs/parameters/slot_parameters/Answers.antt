@@ -1,8 +1,8 @@
 use Rattle.std.proofs.Common.{length, arith, ap}
 use Rattle.std.proofs.lemmas.Result.{err_from_is_err_and}
-use Rattle.slot_lang.specs.Reading.{EndsAnywhere}
+use Rattle.texts.specs.Reading.{EndsAnywhere}
 use Rattle.class_lang.specs.Parameters.{spell_slot_parameter, tree_of_slot_parameter}
-use Rattle.slot_lang.proofs.Listed.{listed_no_first, listed_start, listed_step, listed_no_next, listed_unclosed, listed_done}
+use Rattle.texts.proofs.Listed.{listed_no_first, listed_start, listed_step, listed_no_next, listed_unclosed, listed_done}
 use Rattle.class_lang.proofs.Parts.{slot_parameters_are_parts}
 use Rattle.class_lang.proofs.parameters.slot_parameters.Goals as goal
 

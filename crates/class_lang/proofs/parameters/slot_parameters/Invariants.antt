@@ -1,7 +1,7 @@
 use Rattle.std.proofs.Common.{◌<◌, length}
-use Rattle.slot_lang.specs.Reading.{EndsAnywhere}
+use Rattle.texts.specs.Reading.{EndsAnywhere}
 use Rattle.class_lang.specs.Parameters.{spell_slot_parameter, tree_of_slot_parameter}
-use Rattle.slot_lang.proofs.Listed.{ListedSoFar}
+use Rattle.texts.proofs.Listed.{ListedSoFar}
 use Rattle.class_lang.proofs.Parts.{slot_parameters_are_parts}
 use Rattle.class_lang.proofs.parameters.slot_parameters.Given as goal
 

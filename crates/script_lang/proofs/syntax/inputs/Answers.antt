@@ -1,7 +1,7 @@
 use Rattle.std.proofs.lemmas.Result.{err_from_is_err_and}
-use Rattle.slot_lang.specs.Reading.{EndsAnywhere}
+use Rattle.texts.specs.Reading.{EndsAnywhere}
 use Rattle.script_lang.specs.Grammar.{spell_input, tree_of_input}
-use Rattle.slot_lang.proofs.Listed.{listed_no_first, listed_start, listed_step, listed_no_next, listed_unclosed, listed_done}
+use Rattle.texts.proofs.Listed.{listed_no_first, listed_start, listed_step, listed_no_next, listed_unclosed, listed_done}
 use Rattle.script_lang.proofs.OneTree.{inputs_are_parts}
 use Rattle.script_lang.proofs.syntax.inputs.Goals as goal
 

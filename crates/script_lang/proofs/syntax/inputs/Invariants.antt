@@ -1,7 +1,7 @@
 use Rattle.std.proofs.Common.{length}
-use Rattle.slot_lang.specs.Reading.{EndsAnywhere}
+use Rattle.texts.specs.Reading.{EndsAnywhere}
 use Rattle.script_lang.specs.Grammar.{spell_input, tree_of_input}
-use Rattle.slot_lang.proofs.Listed.{ListedSoFar}
+use Rattle.texts.proofs.Listed.{ListedSoFar}
 use Rattle.script_lang.proofs.OneTree.{inputs_are_parts}
 use Rattle.script_lang.proofs.syntax.inputs.Given as goal
 

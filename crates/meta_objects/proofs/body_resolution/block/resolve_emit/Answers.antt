@@ -1,6 +1,6 @@
 use Rattle.std.proofs.Common.{List, inr, refl, arith}
-use Rattle.slot_lang.specs.declared.syntax.Expr.{Expr}
-use Rattle.slot_lang.specs.declared.syntax.Stmt.TheVariants.{Emit}
+use Rattle.texts.specs.declared.syntax.Expr.{Expr}
+use Rattle.texts.specs.declared.syntax.Stmt.TheVariants.{Emit}
 use Rattle.meta_model.specs.declared.object.MetaPath.{MetaPath}
 use Rattle.meta_model.specs.declared.object.Statement.{Statement}
 use Rattle.meta_model.specs.declared.fault.MetaFault.TheVariants as fault

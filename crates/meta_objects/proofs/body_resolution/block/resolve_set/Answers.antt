@@ -1,7 +1,7 @@
 use Rattle.std.proofs.Common.{inr, refl}
 use Rattle.signatures.specs.declared.qtype.QType.{QType}
-use Rattle.slot_lang.specs.declared.syntax.Expr.{Expr}
-use Rattle.slot_lang.specs.declared.syntax.Stmt.TheVariants.{Set}
+use Rattle.texts.specs.declared.syntax.Expr.{Expr}
+use Rattle.texts.specs.declared.syntax.Stmt.TheVariants.{Set}
 use Rattle.meta_model.specs.declared.object.MetaPath.{MetaPath}
 use Rattle.meta_model.specs.declared.object.Statement.{Statement}
 use Rattle.meta_objects.specs.declared.body_resolution.path.Led.{Led}

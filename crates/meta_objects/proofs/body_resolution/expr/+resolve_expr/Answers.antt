@@ -1,5 +1,5 @@
 use Rattle.signatures.specs.declared.qtype.QType.{QType}
-use Rattle.slot_lang.specs.declared.syntax.Expr.{Expr}
+use Rattle.texts.specs.declared.syntax.Expr.{Expr}
 use Rattle.meta_model.specs.declared.object.MetaPath.{MetaPath}
 use Rattle.meta_objects.specs.declared.body_resolution.path.Led.{Led}
 use Rattle.meta_model.specs.declared.fault.MetaFault.TheVariants as fault

@@ -1,6 +1,6 @@
 use Rattle.std.proofs.Common.{List, refl}
 use Rattle.std.proofs.lemmas.Option.{slice_get_read}
-use Rattle.slot_lang.specs.declared.syntax.Expr.{Expr}
+use Rattle.texts.specs.declared.syntax.Expr.{Expr}
 use Rattle.meta_model.specs.declared.object.MetaPath.{MetaPath}
 use Rattle.meta_model.specs.declared.fault.MetaFault.TheVariants as fault
 use Rattle.meta_objects.specs.Bodies.{scope, IsExpr, AreExprs}

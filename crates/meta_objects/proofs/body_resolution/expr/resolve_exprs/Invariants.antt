@@ -1,5 +1,5 @@
 use Rattle.std.proofs.Common.{List, ◌++◌, drop}
-use Rattle.slot_lang.specs.declared.syntax.Expr.{Expr}
+use Rattle.texts.specs.declared.syntax.Expr.{Expr}
 use Rattle.meta_model.specs.declared.object.MetaPath.{MetaPath}
 use Rattle.meta_objects.specs.Bodies.{scope, AreExprs}
 use Rattle.meta_objects.proofs.body_resolution.expr.resolve_exprs.Given as goal

@@ -1,5 +1,0 @@
-use Rattle.slot_lang.proofs.Signatures.{sig_found}
-use Rattle.slot_lang.proofs.cursor.Cursor.sig.Goals as goal
-
-pub returns-clause-reads : goal.returns-clause-reads
-returns-clause-reads c = sig_found c.in_ok-name.ensures.reads c.in_ok-types.ensures.reads

@@ -1,0 +1,11 @@
+pub mod Bytes
+pub mod Symbols
+pub mod Pieces
+pub mod Nesting
+pub mod Lines
+pub mod Cursor
+pub mod Reading
+pub mod Lists
+pub mod Numerals
+pub mod Literals
+pub mod Signatures

@@ -1,0 +1,20 @@
+-- Lists of parts in a grammar. `spell` gives the tokens of a part's reading, and what follows them.
+use Rattle.std.specs.Prelude.{List, [], ◌∷◌}
+use Rattle.texts.specs.declared.symbol.Symbol.TheVariants.{Open, Close, Comma}
+use Rattle.texts.specs.declared.token.Token.{Token}
+use Rattle.texts.specs.declared.token.Token.TheVariants as token
+
+-- {part}
+abbrev pub spell_each : {R : Type 0} → (R → List Token → List Token) → List R → List Token → List Token
+spell_each spell [] after = after
+spell_each spell (r ∷ rs) after = spell r (spell_each spell rs after)
+
+-- {"," part} ")"
+abbrev pub spell_others : {R : Type 0} → (R → List Token → List Token) → List R → List Token → List Token
+spell_others spell [] after = token.Symbol Close ∷ after
+spell_others spell (r ∷ rs) after = token.Symbol Comma ∷ spell r (spell_others spell rs after)
+
+-- "(" [part {"," part}] ")"
+abbrev pub spell_listed : {R : Type 0} → (R → List Token → List Token) → List R → List Token → List Token
+spell_listed spell [] after = token.Symbol Open ∷ token.Symbol Close ∷ after
+spell_listed spell (r ∷ rs) after = token.Symbol Open ∷ spell r (spell_others spell rs after)

@@ -1,0 +1,65 @@
+-- The grammar of literals. A value of a type below is a way to read tokens by its rule (docs/language.md, "Literals").
+--
+--   literal  = unsigned | "-" number
+--   unsigned = number | "true" | "false" | text | "null"
+--
+-- A number lies between -2147483648 and 2147483647, and a text has at most 255 bytes.
+use Rattle.std.specs.Prelude.{ℕ, ◌≡◌, Bool, true, false, List, ◌∷◌, None, pos, ◌-ℤ◌}
+use Rattle.signatures.specs.Text.{IsText}
+use Rattle.signatures.specs.declared.value.Value.{Value}
+use Rattle.signatures.specs.declared.value.Value.TheVariants as value
+use Rattle.signatures.specs.declared.word.Word.TheVariants as word
+use Rattle.texts.specs.Numerals.{Numeral, spell_numeral, value_of}
+use Rattle.texts.specs.declared.symbol.Symbol.TheVariants.{Minus}
+use Rattle.texts.specs.declared.token.Token.{Token}
+use Rattle.texts.specs.declared.token.Token.TheVariants as token
+
+abbrev pub greatest : ℕ
+greatest = 2147483647
+
+-- how far below 0 the least number is
+abbrev pub deepest : ℕ
+deepest = 2147483648
+
+-- a text that a value may have
+pub record Quoted : Type 0 where
+  pub bytes : List ℕ
+  pub fits : IsText bytes
+
+pub data UnsignedReading : Type 0 where
+  plain : Numeral greatest → UnsignedReading
+  truth : Bool → UnsignedReading
+  quoted : Quoted → UnsignedReading
+  null : UnsignedReading
+
+-- each is one token
+abbrev pub token_of_unsigned : UnsignedReading → Token
+token_of_unsigned (plain n) = token.Number n.digits
+token_of_unsigned (truth true) = token.Word word.True
+token_of_unsigned (truth false) = token.Word word.False
+token_of_unsigned (quoted q) = token.Text q.bytes
+token_of_unsigned null = token.Word word.Null
+
+abbrev pub tree_of_unsigned : UnsignedReading → Value
+tree_of_unsigned (plain n) = value.Int (pos (value_of n.digits))
+tree_of_unsigned (truth b) = value.Bool b
+tree_of_unsigned (quoted q) = value.Text q.bytes
+tree_of_unsigned null = value.Ref None
+
+pub data LiteralReading : Type 0 where
+  unsigned : UnsignedReading → LiteralReading
+  negative : Numeral deepest → LiteralReading
+
+abbrev pub spell_literal : LiteralReading → List Token → List Token
+spell_literal (unsigned u) after = token_of_unsigned u ∷ after
+spell_literal (negative n) after = token.Symbol Minus ∷ spell_numeral deepest n after
+
+abbrev pub tree_of_literal : LiteralReading → Value
+tree_of_literal (unsigned u) = tree_of_unsigned u
+tree_of_literal (negative n) = value.Int (pos 0 -ℤ pos (value_of n.digits))
+
+-- the token is an unsigned literal of this value
+pub record IsUnsigned (t : Token) (v : Value) : Type 0 where
+  pub reading : UnsignedReading
+  pub is : t ≡ token_of_unsigned reading
+  pub tree : tree_of_unsigned reading ≡ v

@@ -1,0 +1,139 @@
+//! A place in a list of tokens, and what every reader takes there.
+
+ghost use Rattle.std.specs.Prelude.{◌≡◌, ◌↔◌, ◌<◌, ◌≤◌, List, [], ◌∷◌, length, MatchBool, MatchResult, IsTrue, IfOk, OnOk};
+ghost use Rattle.std.specs.Bool.{OnTrue};
+ghost use Rattle.texts.specs.Cursor.{NotAt, NotAtWord};
+ghost use Rattle.texts.specs.Reading.{Reads, EndsAnywhere, spell_name};
+ghost use Rattle.texts.specs.declared.fault.ParseFault.TheVariants.{Syntax};
+ghost use Rattle.texts.specs.declared.token.Token.TheVariants as token;
+
+use crate::fault::ParseFault;
+use crate::symbol::Symbol;
+use crate::token::Token;
+use signatures::{Name, Word};
+use std::alloc::Global;
+use std::marker::Model;
+
+/// A place in a list of tokens, which contracts see as the tokens that are left.
+#[derive(Drop)]
+pub struct Cursor<'a> {
+    alloc: Global,
+    tokens: &'a [Token],
+}
+
+impl<'a> Model for Cursor<'a> {
+    ghost use Rattle.std.specs.Prelude.{List};
+    ghost use Rattle.texts.specs.declared.token.Token.{Token};
+
+    ghost Value = { List Token };
+
+    ghost view = { λ cursor. cursor.tokens.now };
+}
+
+impl<'a> Cursor<'a> {
+    /// The front of the tokens.
+    pub fn new(alloc: Global, tokens: &'a [Token]) -> Cursor<'a>
+        ensures { result ≡ tokens.now }
+    {
+        Cursor { alloc, tokens }
+    }
+
+    /// What trees are built with.
+    pub fn alloc(&self) -> Global {
+        self.alloc
+    }
+
+    /// The tokens that are left.
+    pub fn rest(&self) -> &'a [Token]
+        ensures { result.now ≡ self.now }
+    {
+        self.tokens
+    }
+
+    /// Whether no token is left.
+    pub fn is_empty(&self) -> bool
+        ensures { IsTrue result ↔ (self.now ≡ []) }
+    {
+        self.tokens.is_empty()
+    }
+
+    /// Takes the next token; at the end that is a fault of syntax.
+    pub fn next(&mut self) -> Result<&'a Token, ParseFault>
+        ensures found { MatchResult result (λ first. self.old ≡ first.now ∷ self.new) (λ fault. (fault ≡ Syntax) × (self.old ≡ [])) }
+        ensures shorter { OnOk result (length self.new < length self.old) }
+    {
+        match self.tokens.split_first() {
+            Some((first, rest)) => {
+                self.tokens = rest;
+                Ok(first)
+            }
+            None => Err(ParseFault::Syntax),
+        }
+    }
+
+    /// Takes the reserved word, if it comes next, and says whether it did.
+    pub fn eat_word(&mut self, word: Word) -> bool
+        ensures found { MatchBool result (self.old ≡ token.Word word ∷ self.new) ((self.new ≡ self.old) × NotAtWord word self.old) }
+        ensures shorter { OnTrue result (length self.new < length self.old) }
+    {
+        match self.tokens.split_first() {
+            Some((Token::Word(found), rest)) if *found == word => {
+                self.tokens = rest;
+                true
+            }
+            _ => false,
+        }
+    }
+
+    /// Takes the symbol, if it comes next, and says whether it did.
+    pub fn eat(&mut self, symbol: Symbol) -> bool
+        ensures found { MatchBool result (self.old ≡ token.Symbol symbol ∷ self.new) ((self.new ≡ self.old) × NotAt symbol self.old) }
+        ensures shorter { OnTrue result (length self.new < length self.old) }
+    {
+        match self.tokens.split_first() {
+            Some((Token::Symbol(found), rest)) if *found == symbol => {
+                self.tokens = rest;
+                true
+            }
+            _ => false,
+        }
+    }
+
+    /// Takes the symbol, which has to come next; where it doesn't, that is a fault of syntax.
+    pub fn expect(&mut self, symbol: Symbol) -> Result<(), ParseFault>
+        ensures found { MatchResult result (λ _. self.old ≡ token.Symbol symbol ∷ self.new) (λ fault. (fault ≡ Syntax) × NotAt symbol self.old) }
+        ensures shorter { OnOk result (length self.new < length self.old) }
+    {
+        if self.eat(symbol) {
+            Ok(())
+        } else {
+            Err(ParseFault::Syntax)
+        }
+    }
+
+    /// Takes the reserved word, which has to come next; where it doesn't, that is a fault of syntax.
+    pub fn expect_word(&mut self, word: Word) -> Result<(), ParseFault>
+        ensures found { MatchResult result (λ _. self.old ≡ token.Word word ∷ self.new) (λ fault. (fault ≡ Syntax) × NotAtWord word self.old) }
+        ensures shorter { OnOk result (length self.new < length self.old) }
+    {
+        if self.eat_word(word) {
+            Ok(())
+        } else {
+            Err(ParseFault::Syntax)
+        }
+    }
+
+    /// Takes the name that has to come next; where none does, that is a fault of syntax.
+    pub fn name(&mut self) -> Result<Name, ParseFault>
+        ensures reads { Reads spell_name (λ name. name) EndsAnywhere self.old result self.new }
+        ensures shorter { OnOk result (length self.new < length self.old) }
+    {
+        match self.tokens.split_first() {
+            Some((Token::Name(name), rest)) => {
+                self.tokens = rest;
+                Ok(name.copy()?)
+            }
+            _ => Err(ParseFault::Syntax),
+        }
+    }
+}

@@ -1,0 +1,28 @@
+//! Texts: lines, tokens, and the parts that every reader of tokens takes; and the trees that texts stand for.
+#![tactic(auto)]
+
+mod bytes;
+mod cursor;
+mod depth;
+mod fault;
+mod lexer;
+mod lines;
+mod literal;
+mod program;
+mod signature;
+mod symbol;
+mod syntax;
+mod token;
+
+pub use cursor::Cursor;
+pub use depth::nesting;
+pub use fault::ParseFault;
+pub use lexer::{LexFault, one_cut, tokens};
+pub use lines::split_line;
+pub use literal::unsigned_literal;
+pub use program::{Class, Owns, Parameter, Program, Property, Signal, Slot, Wire};
+pub use signature::has_plain_reference;
+pub use signatures::Word;
+pub use symbol::Symbol;
+pub use syntax::{Binary, Body, Expr, Path, Root, Stmt, Unary};
+pub use token::Token;

@@ -1,0 +1,29 @@
+//! The lines of a text.
+
+ghost use Rattle.std.specs.Prelude.{◌≡◌, ◌<◌, [], nat_eq, length, MatchOption};
+ghost use Rattle.std.specs.List.{position};
+ghost use Rattle.texts.specs.Lines.{IsFrontLine};
+
+/// What ends a line.
+const NEWLINE: u8 = 10;
+
+/// The line at the front of the text, without its newline, and what follows it; `None` where no text is left.
+pub fn split_line(text: &[u8]) -> Option<(&[u8], &[u8])>
+    ensures line { MatchOption result (text.now ≡ []) (λ parts. IsFrontLine text.now parts.0.now parts.1.now) }
+    ensures shorter { MatchOption result (Unit {0}) (λ parts. length parts.1.now < length text.now) }
+{
+    if text.is_empty() {
+        return None;
+    }
+    match first_newline(text) {
+        Some(at) => Some((&text[..at], &text[at + 1..])),
+        None => Some((text, &text[text.len()..])),
+    }
+}
+
+/// Where the first newline stands.
+fn first_newline(text: &[u8]) -> Option<usize>
+    ensures { result ≡ position (λ b. nat_eq b NEWLINE) text.now }
+{
+    text.iter().position(|byte| *byte == NEWLINE)
+}

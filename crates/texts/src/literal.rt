@@ -1,0 +1,103 @@
+//! Numbers and literals.
+
+ghost use Rattle.std.specs.Prelude.{◌≡◌, ◌<◌, ◌≤◌, ◌-ℤ◌, pos, length, IfOk, OnOk, MatchResult};
+ghost use Rattle.texts.specs.Literals.{IsUnsigned, UnsignedReading, token_of_unsigned, deepest, spell_literal, tree_of_literal};
+ghost use Rattle.texts.specs.Numerals.{spell_numeral, value_of};
+ghost use Rattle.texts.specs.Reading.{Reads, EndsAnywhere};
+ghost use Rattle.texts.specs.declared.fault.ParseFault.TheVariants.{Syntax};
+
+use crate::cursor::Cursor;
+use crate::fault::ParseFault;
+use crate::symbol::Symbol;
+use crate::token::Token;
+use signatures::{Text, Value, Word};
+use std::alloc::Global;
+
+/// The greatest number that stands without a sign.
+const GREATEST: u32 = 2147483647;
+
+/// The greatest number that stands after a `-`.
+const DEEPEST: u32 = 2147483648;
+
+/// The number that the digits write, if it is at most so much.
+pub fn value_of(digits: &[u8], most: u32) -> Result<u32, ParseFault>
+    ensures { MatchResult result (λ n. (n ≡ value_of digits.now) × (n ≤ most)) (λ _. most < value_of digits.now) }
+{
+    let mut value = 0u32;
+    for digit in digits {
+        let next = u64::from(value) * 10 + u64::from(digit.saturating_sub(b'0'));
+        if next > u64::from(most) {
+            return Err(ParseFault::Syntax);
+        }
+        value = next as u32;
+    }
+    Ok(value)
+}
+
+/// The value of the literal that the token is by itself: a number of at most 2147483647, `true`, `false`, a text of at
+/// most 255 bytes or `null`.
+pub fn unsigned_literal(alloc: Global, token: &Token) -> Result<Value, ParseFault>
+    ensures { MatchResult result (λ value. IsUnsigned token.now value) (λ fault. fault ≡ Syntax → (reading : UnsignedReading) → token.now ≡ token_of_unsigned reading → ⊥) }
+{
+    match token {
+        Token::Number(digits) => {
+            let value = value_of(digits.as_slice(), GREATEST)?;
+            Ok(Value::Int(value as i32))
+        }
+        Token::Text(bytes) => match Text::of(alloc, bytes.as_slice())? {
+            Some(text) => Ok(Value::Text(text)),
+            None => Err(ParseFault::Syntax),
+        },
+        Token::Word(word) => match word {
+            Word::True => Ok(Value::Bool(true)),
+            Word::False => Ok(Value::Bool(false)),
+            Word::Null => Ok(Value::Ref(None)),
+            _ => Err(ParseFault::Syntax),
+        },
+        _ => Err(ParseFault::Syntax),
+    }
+}
+
+/// The number below 0 that is so far from it.
+fn negated(number: u32) -> i32
+    requires { number ≤ deepest }
+    ensures { result ≡ pos 0 -ℤ pos number }
+{
+    (0 - i64::from(number)) as i32
+}
+
+impl<'a> Cursor<'a> {
+    /// Takes the number that has to come next, which is at most `most`; leading zeros are allowed.
+    ///
+    /// `Syntax` where no number comes next or it is larger, and only there.
+    pub fn number(&mut self, most: u32) -> Result<u32, ParseFault>
+        ensures reads { Reads (spell_numeral most) (λ n. value_of n.digits) EndsAnywhere self.old result self.new }
+        ensures fits { IfOk result (λ n. n ≤ most) }
+        ensures shorter { OnOk result (length self.new < length self.old) }
+    {
+        match self.next()? {
+            Token::Number(digits) => {
+                let value = value_of(digits.as_slice(), most)?;
+                Ok(value)
+            }
+            _ => Err(ParseFault::Syntax),
+        }
+    }
+
+    /// `["-"] number | "true" | "false" | text | "null"`, a number from -2147483648 to 2147483647 and a text of at most
+    /// 255 bytes.
+    ///
+    /// `Syntax` where the tokens begin with no literal, and only there; `Memory` where a growth of memory was refused.
+    pub fn literal(&mut self) -> Result<Value, ParseFault>
+        ensures reads { Reads spell_literal tree_of_literal EndsAnywhere self.old result self.new }
+        ensures shorter { OnOk result (length self.new < length self.old) }
+    {
+        if self.eat(Symbol::Minus) {
+            let depth = self.number(DEEPEST)?;
+            return Ok(Value::Int(negated(depth)));
+        }
+        let token = self.next()?;
+        let value = unsigned_literal(self.alloc(), token)?;
+        Ok(value)
+    }
+}

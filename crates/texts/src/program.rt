@@ -1,0 +1,128 @@
+//! The trees of programs.
+
+ghost use Rattle.std.specs.Prelude.{◌≡◌, []};
+
+use crate::syntax::Body;
+use signatures::{Kind, Name, QType, Sig, Value};
+use sqlite_items::Items;
+use std::alloc::Global;
+
+/// A parameter of a signal or a slot.
+#[derive(Drop)]
+pub struct Parameter {
+    /// Its type, in its normal form.
+    pub kind: QType,
+    /// Its name, which a signal's parameter may leave out.
+    pub name: Option<Name>,
+}
+
+/// `property T p = v notify s(..);`
+#[derive(Drop)]
+pub struct Property {
+    /// Its type, in its normal form.
+    pub kind: QType,
+    /// What it is called in its class.
+    pub name: Name,
+    /// The literal that it starts with, if one is given.
+    pub initial: Option<Value>,
+    /// The signal that is emitted when its value changes, if one is given; with at most 8 types.
+    pub notify: Option<Sig>,
+}
+
+/// `signal s(..);`
+#[derive(Drop)]
+pub struct Signal {
+    /// What it is called in its class.
+    pub name: Name,
+    /// At most 8, in their order.
+    pub parameters: Items<Parameter>,
+}
+
+/// `slot m(..) { .. }`
+#[derive(Drop)]
+pub struct Slot {
+    /// What it is called in its class.
+    pub name: Name,
+    /// At most 8, in their order, each with its name.
+    pub parameters: Items<Parameter>,
+    /// What it does.
+    pub body: Body,
+}
+
+/// `class C : B { .. }`, with the members of each sort in the order in which they are declared.
+#[derive(Drop)]
+pub struct Class {
+    /// The class's name.
+    pub name: Name,
+    /// The base's name, if one is given; else the base is `QObject`.
+    pub base: Option<Name>,
+    /// At most 32.
+    pub properties: Items<Property>,
+    /// At most 64, together with the slots.
+    pub signals: Items<Signal>,
+    /// At most 64, together with the signals.
+    pub slots: Items<Slot>,
+}
+
+/// `wire C s(..) -> D m(..) kind;`
+#[derive(Drop)]
+pub struct Wire {
+    /// The class of the sender.
+    pub sender: Name,
+    /// The sender's signal, with at most 8 types.
+    pub signal: Sig,
+    /// The class of the receiver.
+    pub receiver: Name,
+    /// The receiver's method, with at most 8 types.
+    pub method: Sig,
+    /// How the connection reaches its receiver.
+    pub kind: Kind,
+}
+
+/// `owns C D;`
+#[derive(Drop)]
+pub struct Owns {
+    /// The class of the parent.
+    pub parent: Name,
+    /// The class of the child.
+    pub child: Name,
+}
+
+/// The declarations of a text, those of each sort in their order.
+#[derive(Drop)]
+pub struct Program {
+    /// At most 64.
+    pub classes: Items<Class>,
+    /// At most 1,000.
+    pub wires: Items<Wire>,
+    /// At most 1,000.
+    pub owns: Items<Owns>,
+}
+
+impl Class {
+    /// The class of this name and base without members.
+    pub fn new(alloc: Global, name: Name, base: Option<Name>) -> Class
+        ensures { result ≡ record { name = name; base = base; properties = []; signals = []; slots = [] } }
+    {
+        Class {
+            name,
+            base,
+            properties: Items::new(alloc),
+            signals: Items::new(alloc),
+            slots: Items::new(alloc),
+        }
+    }
+}
+
+impl Program {
+    /// The program without declarations.
+    pub fn new(alloc: Global) -> Program
+        ensures { result ≡ record { classes = []; wires = []; owns = [] } }
+    {
+        Program {
+            classes: Items::new(alloc),
+            wires: Items::new(alloc),
+            owns: Items::new(alloc),
+        }
+    }
+}
