@@ -1,43 +1,38 @@
 -- How runs are put together.
 use Rattle.std.proofs.Common.{◌≡◌, ℕ, suc, ◌+◌, ◌-◌, ◌<◌, ◌≤◌, inl, inr, List, [], ◌∷◌, ◌++◌, length, Result, Ok, Err, refl, sym, subst, arith, length-append}
 use Rattle.std.specs.Result.{IsErrAnd}
-use Rattle.script_lang.specs.declared.event.Event.{Event}
 use Rattle.meta_model.specs.Loaded.{Loaded}
 use Rattle.expressions.specs.declared.evaluation.EvalFault.{EvalFault}
 use Rattle.expressions.specs.declared.evaluation.EvalFault.TheVariants as eval
 use Rattle.machine_state.specs.declared.fault.Fault.{Fault}
 use Rattle.machine_state.specs.declared.fault.Fault.TheVariants.{BadType, TooDeep, Steps, Memory}
 use Rattle.machine_state.specs.declared.world.World.{World}
-use Rattle.machine_state.specs.State.{State, Activation}
+use Rattle.machine_state.specs.State.{State, Activation, IsIdle}
 use Rattle.machine_rules.specs.Rules.{Rule}
 use Rattle.machine_rules.specs.Good.{AreTyped, IsWell, IsGood, TopFits}
-use Rattle.machine_rules.specs.Runs.{Runs, done, then, Follows, by_rule, by_event, goes_on, IsStuck, GoesIll, GoesDeep}
+use Rattle.machine_rules.specs.Runs.{Rules, done, then, IsStuck, GoesIll, GoesDeep}
 use Rattle.machine_state.specs.Worlds.{at, Ticks, Notes}
 use Rattle.machine_rules.specs.Goes.{Goes, Breaks, Ends}
 use Rattle.machine_state.specs.Faults.{IsFaultOf}
 
-follows-on : {p : Loaded} {s m : State} {es gs : List Event} (fs : List Event) → Follows p s m es gs → Follows p s m (es ++ fs) (gs ++ fs)
-follows-on fs (by_rule r) = by_rule r
-follows-on fs (by_event x) = by_event x
+pub rules-trans : {p : Loaded} {d : ℕ} {s m t : State} {n k j : ℕ} → Rules p d s n m k → Rules p d m k t j → Rules p d s n t j
+rules-trans done r = r
+rules-trans (then x ok rest) r = then x ok (rules-trans rest r)
 
-pub runs-trans : {p : Loaded} {d : ℕ} {s m t : State} {n k j : ℕ} {es fs : List Event} → Runs p d s n es m k → Runs p d m k fs t j → Runs p d s n (es ++ fs) t j
-runs-trans done r = r
-runs-trans {fs = fs} (then x ok rest) r = then (follows-on fs x) ok (runs-trans rest r)
-
-pub runs-one : {p : Loaded} {d : ℕ} {s t : State} {n k : ℕ} → Rule p s t → IsGood p d s t → 0 < n → k ≡ n - 1 → Runs p d s n [] t k
-runs-one {p} {d} {s} {t} {n} {k} x ok some e =
-    let Family : ℕ → Type 0 = λ a. Runs p d s a [] t k in
+pub rules-one : {p : Loaded} {d : ℕ} {s t : State} {n k : ℕ} → Rule p s t → IsGood p d s t → 0 < n → k ≡ n - 1 → Rules p d s n t k
+rules-one {p} {d} {s} {t} {n} {k} x ok some e =
+    let Family : ℕ → Type 0 = λ a. Rules p d s a t k in
     let suc_is : suc k ≡ n = omega (arith, e) in
-    subst Family suc_is (then (by_rule x) ok done)
+    subst Family suc_is (then x ok done)
 
 pub goes-same : {p : Loaded} {d h : ℕ} {w : World} {top : List Activation} → Goes p d h w top w top
 goes-same = record { runs = λ below e. done }
 
 pub goes-then : {p : Loaded} {d h : ℕ} {w v u : World} {a b c : List Activation} → Goes p d h w a v b → Goes p d h v b u c → Goes p d h w a u c
-goes-then x y = record { runs = λ below e. runs-trans (x.runs below e) (y.runs below e) }
+goes-then x y = record { runs = λ below e. rules-trans (x.runs below e) (y.runs below e) }
 
 pub breaks-after : {p : Loaded} {d h : ℕ} {w v u : World} {a b : List Activation} {f : Fault} → Goes p d h w a v b → Breaks p d h v b u f → Breaks p d h w a u f
-breaks-after x y = record { breaks = λ below e. let q = y.breaks below e in (q.0, runs-trans (x.runs below e) q.1, q.2) }
+breaks-after x y = record { breaks = λ below e. let q = y.breaks below e in (q.0, rules-trans (x.runs below e) q.1, q.2) }
 
 -- a call that goes on from where another run came
 pub ends-after : {p : Loaded} {d h : ℕ} {w v u : World} {a b c : List Activation} {r : Result (Unit {0}) Fault} → Goes p d h w a v b → Ends p d h v b u c r → Ends p d h w a u c r
@@ -51,7 +46,7 @@ goes-low {p} {d} {h} {w} {v} {a} {b} step low fits typed less some = record {
       let shallow : length (b ++ below) ≤ d = omega (arith, length-append b below, e, fits) in
       let no_higher : length (b ++ below) ≤ length (a ++ below) = omega (arith, length-append b below, length-append a below, low) in
       let good : IsGood p d (at w (a ++ below)) (at v (b ++ below)) = record { well = record { arguments = λ higher. absurd (omega (arith, higher, no_higher)); values = typed }; shallow = shallow } in
-      runs-one (step below e) good some less;
+      rules-one (step below e) good some less;
 }
 
 -- one rule that pushes an activation
@@ -60,24 +55,28 @@ goes-high {p} {d} {h} {w} {v} {from} {top} {to} step fit room typed less some = 
   runs = λ below e.
       let shallow : length (top ∷ to ∷ below) ≤ d = omega (arith, e, room) in
       let good : IsGood p d (at w (from ∷ below)) (at v (top ∷ to ∷ below)) = record { well = record { arguments = λ higher. fit below; values = typed }; shallow = shallow } in
-      runs-one (step below e) good some less;
+      rules-one (step below e) good some less;
 }
 
 -- ---- why a run stops
 
+-- where an activation is at the top, something is going on
+not-idle : (w : World) (a : Activation) (below : List Activation) → ¬ IsIdle (at w (a ∷ below))
+not-idle w a below idle = let none : (a ∷ below) ≡ [] = idle.empty in absurd (cc none)
+
 -- no rule is left where one is due
 pub breaks-steps : {p : Loaded} {d h : ℕ} {w : World} {a : Activation} → w.left ≡ 0 → Breaks p d h w (a ∷ []) w Steps
-breaks-steps {a = a} none = record { breaks = λ below e. (a ∷ below, done, (none, goes_on (λ (empty : (a ∷ below) ≡ []). absurd (cc empty)))) }
+breaks-steps {w = w} {a = a} none = record { breaks = λ below e. (a ∷ below, done, (none, not-idle w a below)) }
 
 -- memory was refused
-pub breaks-memory : {p : Loaded} {d h : ℕ} {w : World} {a : List Activation} → 0 < w.left → Breaks p d h w a w Memory
-breaks-memory {a = a} some = record { breaks = λ below e. (a ++ below, done, some) }
+pub breaks-memory : {p : Loaded} {d h : ℕ} {w : World} {a : Activation} → 0 < w.left → Breaks p d h w (a ∷ []) w Memory
+breaks-memory {w = w} {a = a} some = record { breaks = λ below e. (a ∷ below, done, (some, not-idle w a below)) }
 
 -- no rule leads on
 pub breaks-stuck : {p : Loaded} {d h : ℕ} {w : World} {a : Activation} → 0 < w.left → ((below : List Activation) (t : State) → ¬ Rule p (at w (a ∷ below)) t) → Breaks p d h w (a ∷ []) w BadType
 breaks-stuck {p} {w = w} {a = a} some stuck = record {
   breaks = λ below e.
-      let is : IsStuck p (at w (a ∷ below)) = record { goes_on = λ (empty : (a ∷ below) ≡ []). absurd (cc empty); stuck = stuck below } in
+      let is : IsStuck p (at w (a ∷ below)) = record { goes_on = not-idle w a below; stuck = stuck below } in
       (a ∷ below, done, (some, inl is));
 }
 
@@ -86,7 +85,7 @@ pub breaks-ill : {p : Loaded} {d h : ℕ} {w : World} {a : Activation} → 0 < w
 breaks-ill {p} {w = w} {a = a} some next = record {
   breaks = λ below e.
       let q = next below in
-      let is : GoesIll p (at w (a ∷ below)) [] = record { t = q.0; rest = []; follows = by_rule q.1; ill = q.2 } in
+      let is : GoesIll p (at w (a ∷ below)) = record { t = q.0; rule = q.1; ill = q.2 } in
       (a ∷ below, done, (some, inr is));
 }
 
@@ -95,7 +94,7 @@ pub breaks-deep : {p : Loaded} {d h : ℕ} {w : World} {a : Activation} → 0 < 
 breaks-deep {p} {d} {w = w} {a = a} some next = record {
   breaks = λ below e.
       let q = next below e in
-      let is : GoesDeep p d (at w (a ∷ below)) [] = record { t = q.0; rest = []; follows = by_rule q.1; well = q.2; deep = q.3 } in
+      let is : GoesDeep p d (at w (a ∷ below)) = record { t = q.0; rule = q.1; well = q.2; deep = q.3 } in
       (a ∷ below, done, (some, is));
 }
 
@@ -115,21 +114,21 @@ pub ends-undue : {p : Loaded} {d h : ℕ} {w : World} {a : Activation} {b : List
 ends-undue r none is = ends-left r (breaks-as none.1 (breaks-steps none.0)) is
 
 -- memory was refused
-pub ends-short : {p : Loaded} {d h : ℕ} {w : World} {a b : List Activation} (r : Result (Unit {0}) Fault) → 0 < w.left → IsErrAnd r (λ y. y ≡ Memory) → Ends p d h w a w b r
+pub ends-short : {p : Loaded} {d h : ℕ} {w : World} {a : Activation} {b : List Activation} (r : Result (Unit {0}) Fault) → 0 < w.left → IsErrAnd r (λ y. y ≡ Memory) → Ends p d h w (a ∷ []) w b r
 ends-short r some is = ends-left r (breaks-memory some) is
 
 -- .. to a function that then changed nothing
-pub ends-unchanged : {p : Loaded} {d h : ℕ} {w v : World} {a b : List Activation} {f : Fault} (r : Result (Unit {0}) Fault) → 0 < w.left → (f ≡ Memory) × (v ≡ w) → IsErrAnd r (λ y. y ≡ f) → Ends p d h w a v b r
+pub ends-unchanged : {p : Loaded} {d h : ℕ} {w v : World} {a : Activation} {b : List Activation} {f : Fault} (r : Result (Unit {0}) Fault) → 0 < w.left → (f ≡ Memory) × (v ≡ w) → IsErrAnd r (λ y. y ≡ f) → Ends p d h w (a ∷ []) v b r
 ends-unchanged {p} {d} {h} {w} {v} {a} {b} {f} r some same is =
-    let Family : World → Type 0 = λ u. Breaks p d h w a u f in
+    let Family : World → Type 0 = λ u. Breaks p d h w (a ∷ []) u f in
     ends-left r (subst Family (sym same.1) (breaks-as same.0 (breaks-memory some))) is
 
 -- an expression had no value, or memory was refused
-pub breaks-faulted : {p : Loaded} {d h : ℕ} {w : World} {a : List Activation} {f : Fault} (e : EvalFault) → 0 < w.left → (e ≡ eval.BadType → Breaks p d h w a w BadType) → IsFaultOf e f → Breaks p d h w a w f
+pub breaks-faulted : {p : Loaded} {d h : ℕ} {w : World} {a : Activation} {f : Fault} (e : EvalFault) → 0 < w.left → (e ≡ eval.BadType → Breaks p d h w (a ∷ []) w BadType) → IsFaultOf e f → Breaks p d h w (a ∷ []) w f
 breaks-faulted eval.BadType some ill is = breaks-as is (ill refl)
 breaks-faulted eval.Memory some ill is = breaks-as is (breaks-memory some)
 
-pub ends-faulted : {p : Loaded} {d h : ℕ} {w : World} {a b : List Activation} {e : EvalFault} (r : Result (Unit {0}) Fault) → 0 < w.left → (e ≡ eval.BadType → Breaks p d h w a w BadType) → IsErrAnd r (λ y. IsFaultOf e y) → Ends p d h w a w b r
+pub ends-faulted : {p : Loaded} {d h : ℕ} {w : World} {a : Activation} {b : List Activation} {e : EvalFault} (r : Result (Unit {0}) Fault) → 0 < w.left → (e ≡ eval.BadType → Breaks p d h w (a ∷ []) w BadType) → IsErrAnd r (λ y. IsFaultOf e y) → Ends p d h w (a ∷ []) w b r
 ends-faulted (Ok _) some ill is = absurd is
 ends-faulted {e = e} (Err f) some ill is = record { cases = breaks-faulted e some ill is }
 

@@ -2,7 +2,6 @@
 use Rattle.std.proofs.Common.{◌≡◌, ℕ, zero, suc, ◌≤◌, List, [], ◌∷◌, length, Option, Some, None, slice_get, refl, sym, ap, ◌∙◌, subst, arith, Result, Ok, Err}
 use Rattle.signatures.specs.declared.value.Value.{Value}
 use Rattle.signatures.specs.declared.value.Value.TheVariants as value
-use Rattle.script_lang.specs.declared.event.Event.{Event}
 use Rattle.meta_model.specs.Loaded.{Loaded}
 use Rattle.meta_model.specs.declared.object.Statement.{Statement}
 use Rattle.meta_model.specs.declared.object.Statement.TheOpen as layer
@@ -21,7 +20,7 @@ use Rattle.machine_rules.specs.Rules.{RuleAt, BodyRule, StatementRule, EmitRule,
 use Rattle.machine_state.specs.Connections.{next_used}
 use Rattle.meta_model.specs.Values.{HaveTypes}
 use Rattle.machine_rules.specs.Good.{AreTyped, ArgumentsFit}
-use Rattle.machine_rules.specs.Runs.{Runs, done, then, Follows, by_rule, by_event}
+use Rattle.machine_rules.specs.Runs.{Rules, done, then}
 use Rattle.machine_rules.specs.Sound.{Sound, Joined}
 use Rattle.machine_rules.specs.Goes.{Goes, Breaks, Ends, Same}
 use Rattle.machine_rules.proofs.Shapes.{shapes-written, shape-there, shape-of-there, classes-same}
@@ -89,22 +88,17 @@ rule-kept p s t (Body o m arguments left ∷ below) r = body-kept p s o m argume
 rule-kept p s t (Emit o g arguments used last ∷ below) r = emit-kept p s o g arguments last below t (next_used s.objects s.connections o g used last) r
 rule-kept p s t (Update places ∷ below) r = update-kept p s below t places r
 
-follows-kept : {p : Loaded} {s t : State} {es fs : List Event} → Follows p s t es fs → es ≡ [] → Kept s t × (fs ≡ [])
-follows-kept {p} {s} {t} (by_rule r) e = (rule-kept p s t s.stack r, e)
-follows-kept (by_event x) e = absurd (cc e)
+-- rules keep them, and are used up
+pub rules-kept : {p : Loaded} {d : ℕ} {s t : State} {n k : ℕ} → Rules p d s n t k → Kept s t × (k ≤ n)
+rules-kept done = (record { objects = refl; connections = refl; connected = refl; events = refl }, omega arith)
+rules-kept {p} (then {s = s} {m = m} r good rest) =
+    let more = rules-kept rest in
+    (kept-trans (rule-kept p s m s.stack r) more.0, omega (arith, more.1))
 
--- a run without events keeps them, and uses rules up
-pub runs-kept : {p : Loaded} {d : ℕ} {s t : State} {n k : ℕ} {es : List Event} → Runs p d s n es t k → es ≡ [] → Kept s t × (k ≤ n)
-runs-kept done e = (record { objects = refl; connections = refl; connected = refl; events = refl }, omega arith)
-runs-kept (then follows good rest) e =
-    let step = follows-kept follows e in
-    let more = runs-kept rest step.1 in
-    (kept-trans step.0 more.0, omega (arith, more.1))
-
--- .. and properties have values of their types after each rule
-pub runs-typed : {p : Loaded} {d : ℕ} {s t : State} {n k : ℕ} {es : List Event} → Runs p d s n es t k → AreTyped p s.objects → AreTyped p t.objects
-runs-typed done typed = typed
-runs-typed (then follows good rest) typed = runs-typed rest good.well.values
+-- .. and properties have values of their types after each
+pub rules-typed : {p : Loaded} {d : ℕ} {s t : State} {n k : ℕ} → Rules p d s n t k → AreTyped p s.objects → AreTyped p t.objects
+rules-typed done typed = typed
+rules-typed (then r good rest) typed = rules-typed rest good.well.values
 
 -- a stack of each height
 pub some-stack : (h : ℕ) → (below : List Activation) × (length below ≡ h)
@@ -114,13 +108,13 @@ some-stack (suc h) = let q = some-stack h in (Update [] ∷ q.0, ap suc q.1)
 pub goes-same-world : {p : Loaded} {d h : ℕ} {w v : World} {a b : List Activation} → Goes p d h w a v b → Same w v
 goes-same-world {h = h} {w = w} {v = v} x =
     let q = some-stack h in
-    let kept = runs-kept (x.runs q.0 q.1) refl in
+    let kept = rules-kept (x.runs q.0 q.1) in
     record { objects = kept.0.objects; connections = kept.0.connections; connected = kept.0.connected; events = kept.0.events; fewer = kept.1 }
 
 pub breaks-same-world : {p : Loaded} {d h : ℕ} {w v : World} {a : List Activation} {f : Fault} → Breaks p d h w a v f → Same w v
 breaks-same-world {h = h} x =
     let q = some-stack h in
-    let kept = runs-kept ((x.breaks q.0 q.1).1) refl in
+    let kept = rules-kept ((x.breaks q.0 q.1).1) in
     record { objects = kept.0.objects; connections = kept.0.connections; connected = kept.0.connected; events = kept.0.events; fewer = kept.1 }
 
 -- whatever a call does, it keeps these
@@ -129,11 +123,11 @@ ends-same (Ok _) x = goes-same-world x.cases
 ends-same (Err f) x = breaks-same-world x.cases
 
 pub goes-typed : {p : Loaded} {d h : ℕ} {w v : World} {a b : List Activation} → Goes p d h w a v b → AreTyped p w.objects → AreTyped p v.objects
-goes-typed {h = h} x typed = let q = some-stack h in runs-typed (x.runs q.0 q.1) typed
+goes-typed {h = h} x typed = let q = some-stack h in rules-typed (x.runs q.0 q.1) typed
 
 pub ends-typed : {p : Loaded} {d h : ℕ} {w v : World} {a b : List Activation} (r : Result (Unit {0}) Fault) → Ends p d h w a v b r → AreTyped p w.objects → AreTyped p v.objects
 ends-typed (Ok _) x typed = goes-typed x.cases typed
-ends-typed {h = h} (Err f) x typed = let q = some-stack h in runs-typed ((x.cases.breaks q.0 q.1).1) typed
+ends-typed {h = h} (Err f) x typed = let q = some-stack h in rules-typed ((x.cases.breaks q.0 q.1).1) typed
 
 -- ---- connections join what they joined
 

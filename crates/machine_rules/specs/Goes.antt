@@ -23,7 +23,7 @@ use Rattle.machine_state.specs.Connections.{is_silent}
 use Rattle.machine_state.specs.Objects.{shapes_of}
 use Rattle.machine_state.specs.State.{State, Place, Activation}
 use Rattle.machine_rules.specs.Rules.{Rule, Begins, Writes}
-use Rattle.machine_rules.specs.Runs.{Runs, Reason}
+use Rattle.machine_rules.specs.Runs.{Rules, Reason}
 use Rattle.machine_state.specs.Worlds.{at}
 
 -- ---- what a body's paths and expressions give to the code
@@ -44,11 +44,11 @@ Judges found (Err NoMemory) = Unit {0}
 
 -- over any stack of this height, the machine goes from one world and top of the stack to another
 pub record Goes (p : Loaded) (depth height : ℕ) (w : World) (top : List Activation) (v : World) (after : List Activation) : Type 0 where
-  pub runs : (below : List Activation) → length below ≡ height → Runs p depth (at w (top ++ below)) w.left [] (at v (after ++ below)) v.left
+  pub runs : (below : List Activation) → length below ≡ height → Rules p depth (at w (top ++ below)) w.left (at v (after ++ below)) v.left
 
 -- over any stack of this height, the machine comes to a state where it stops
 pub record Breaks (p : Loaded) (depth height : ℕ) (w : World) (top : List Activation) (v : World) (fault : Fault) : Type 0 where
-  pub breaks : (below : List Activation) → length below ≡ height → (stack : List Activation) × Runs p depth (at w (top ++ below)) w.left [] (at v stack) v.left × Reason p depth (at v stack) v.left [] fault
+  pub breaks : (below : List Activation) → length below ≡ height → (stack : List Activation) × Rules p depth (at w (top ++ below)) w.left (at v stack) v.left × Reason p depth (at v stack) v.left fault
 
 -- a call went from one top of the stack to another, or stopped on the way
 pub record Ends (p : Loaded) (depth height : ℕ) (w : World) (top : List Activation) (v : World) (after : List Activation) (result : Result (Unit {0}) Fault) : Type 0 where

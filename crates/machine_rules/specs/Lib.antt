@@ -1,6 +1,5 @@
 pub mod Paths
 pub mod Rules
-pub mod Events
 pub mod Good
 pub mod Runs
 pub mod Sound

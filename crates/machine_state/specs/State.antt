@@ -1,5 +1,5 @@
 -- The machine's state (docs/machine.md, "The state").
-use Rattle.std.specs.Prelude.{ℕ, List, []}
+use Rattle.std.specs.Prelude.{◌≡◌, ℕ, List, []}
 use Rattle.signatures.specs.declared.value.Value.{Value}
 use Rattle.meta_model.specs.declared.object.Statement.{Statement}
 use Rattle.object_tree.specs.declared.object.Object.{Object}
@@ -31,6 +31,10 @@ pub record State : Type 0 where
   -- how many events were taken, and how many connections were ever numbered
   pub events : ℕ
   pub connected : ℕ
+
+-- nothing is going on: only then an event is taken
+pub record IsIdle (s : State) : Type 0 where
+  pub empty : s.stack ≡ []
 
 -- nothing has happened
 abbrev pub start : State

@@ -6,11 +6,11 @@ use Rattle.meta_model.specs.Loaded.{Loaded}
 use Rattle.machine_state.specs.declared.fault.Fault.{Fault}
 use Rattle.machine_state.specs.declared.fault.Fault.TheVariants.{BadType, TooDeep, Steps, Memory, Stopped}
 use Rattle.machine_state.specs.State.{State}
-use Rattle.machine_rules.specs.Runs.{done, Follows, by_rule, by_event, IsDue, goes_on, is_next}
+use Rattle.qt_runtime.specs.Runs.{done, Follows, by_rule, by_event, IsDue, goes_on, is_next}
 use Rattle.qt_runtime.specs.Causes.{Cause}
 use Rattle.qt_runtime.specs.Seen.{Seen, Completes, Halts, Stays, RunsAll}
 use Rattle.machine_state.specs.Worlds.{at}
-use Rattle.machine_rules.proofs.Going.{runs-trans}
+use Rattle.qt_runtime.proofs.Running.{runs-trans}
 
 pub completes-none : {a : Seen} → a.stopped ≡ false → Completes a [] a
 completes-none went = record { went = went; same = refl; runs = done }
@@ -56,7 +56,7 @@ cause-more p d left s es more TooDeep r =
     let deep = r.1 in
     (r.0, record { t = deep.t; rest = deep.rest ++ more; follows = follows-more more deep.follows; well = deep.well; deep = deep.deep })
 cause-more p d left s es more Steps r = (r.0, due-more more r.1)
-cause-more p d left s es more Memory r = r
+cause-more p d left s es more Memory r = (r.0, due-more more r.1)
 cause-more p d left s es more Stopped r = absurd r
 
 -- a run that stopped takes no further event

@@ -12,7 +12,7 @@ use Rattle.machine_state.specs.Objects.{IsNamed}
 use Rattle.machine_state.specs.State.{State}
 use Rattle.machine_state.specs.declared.world.World.{World}
 use Rattle.machine_state.specs.Worlds.{at}
-use Rattle.machine_rules.specs.Events.{Condition, conditions, Pass, is_object, are_inputs, unless, asks, HasMethodNamed, TakesValues, AreValues, Asks, Effect, accepted}
+use Rattle.qt_runtime.specs.Events.{Condition, conditions, Pass, is_object, are_inputs, unless, asks, HasMethodNamed, TakesValues, AreValues, Asks, Effect, accepted}
 use Rattle.machine_rules.specs.Good.{ArgumentsFit}
 use Rattle.machine_rules.proofs.Fields.{some-is, method-unique}
 use Rattle.qt_runtime.specs.declared.asking.Ask.{Ask}

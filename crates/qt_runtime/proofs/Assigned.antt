@@ -14,7 +14,7 @@ use Rattle.machine_state.specs.Objects.{IsNamed}
 use Rattle.machine_state.specs.State.{State}
 use Rattle.machine_state.specs.declared.world.World.{World}
 use Rattle.machine_state.specs.Worlds.{at}
-use Rattle.machine_rules.specs.Events.{Condition, conditions, Pass, is_object, is_input, unless, HasPropertyNamed, TakesValue, IsValue, accepted}
+use Rattle.qt_runtime.specs.Events.{Condition, conditions, Pass, is_object, is_input, unless, HasPropertyNamed, TakesValue, IsValue, accepted}
 use Rattle.machine_rules.specs.Goes.{IsField}
 use Rattle.machine_rules.proofs.Fields.{some-is, class-unique}
 use Rattle.qt_runtime.specs.declared.assigning.Target.{Target}

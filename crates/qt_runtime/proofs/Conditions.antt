@@ -11,7 +11,7 @@ use Rattle.object_tree.specs.declared.object.Object.{Object}
 use Rattle.object_tree.specs.Objects.{IsFree}
 use Rattle.machine_state.specs.Objects.{IsNamed}
 use Rattle.machine_state.specs.State.{State}
-use Rattle.machine_rules.specs.Events.{Condition, Pass, Refuse, IsThere, is_object, is_input, are_inputs, IsValue, AreValues}
+use Rattle.qt_runtime.specs.Events.{Condition, Pass, Refuse, IsThere, is_object, is_input, are_inputs, IsValue, AreValues}
 use Rattle.qt_runtime.specs.declared.bar.Bar.{Bar}
 use Rattle.qt_runtime.specs.declared.bar.Bar.TheVariants as bar
 use Rattle.qt_runtime.specs.Judging.{Bars}

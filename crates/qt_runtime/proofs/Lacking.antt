@@ -23,7 +23,8 @@ use Rattle.machine_state.specs.State.{State, Place, Activation, Body, Emit, Upda
 use Rattle.machine_rules.specs.Rules.{RuleAt, StatementRule, EmitRule, UpdateRule, OnObject, Chooses, Begins, Writes, IsNotified, changed, unchanged, silent, on_null}
 use Rattle.machine_state.specs.Connections.{is_next}
 use Rattle.machine_state.specs.Connections.{next_used}
-use Rattle.machine_rules.specs.Runs.{IsStuck, Reason}
+use Rattle.machine_rules.specs.Runs.{IsStuck}
+use Rattle.qt_runtime.specs.Runs.{Reason}
 use Rattle.qt_runtime.specs.Causes.{IsObject, Lacks, LacksValue, Cause}
 use Rattle.machine_rules.specs.Goes.{IsField, chosen_of}
 use Rattle.machine_rules.proofs.Beginning.{find-some, used-is}
@@ -139,7 +140,7 @@ module _ {p : Loaded} {s : State} (sound : IsSound p) (up : Upright p s) where
 
   -- what goes on without a next rule lacks a value
   pub stuck-lacks : IsStuck p s → LacksValue s
-  stuck-lacks x = stack-lacks s.stack refl x.goes_on up.stands x.stuck
+  stuck-lacks x = stack-lacks s.stack refl (λ empty. x.goes_on (record { empty = empty })) up.stands x.stuck
 
   pub cause-of : (d left : ℕ) (es : List Event) (f : Fault) → Reason p d s left es f → Cause p d s left es f
   cause-of d left es BadType r = (r.0, elim r.1 [ inl stuck ↦ inl (stuck, stuck-lacks stuck) | inr ill ↦ inr ill ])

@@ -1,3 +1,4 @@
+pub mod Running
 mod Changes
 mod Conditions
 mod Typed

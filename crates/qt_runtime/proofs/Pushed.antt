@@ -18,7 +18,7 @@ use Rattle.machine_state.specs.declared.world.World.{World}
 use Rattle.machine_state.specs.Objects.{shown, all_shown}
 use Rattle.machine_state.specs.State.{Activation, Update}
 use Rattle.machine_state.specs.Worlds.{at, accepted_with}
-use Rattle.machine_rules.specs.Events.{Takes, accepts, accepted}
+use Rattle.qt_runtime.specs.Events.{Takes, accepts, accepted}
 use Rattle.machine_rules.specs.Goes.{Ends, IsMember, IsField, begin_entry, Changes, places_of}
 use Rattle.machine_rules.specs.Good.{AreTyped, ArgumentsFit, TopFits}
 use Rattle.machine_rules.specs.Rules.{begun}
@@ -40,7 +40,7 @@ pub takes-asked : {p : Loaded} {v : World} {o m : ℕ} {x : Object} {method : Me
 takes-asked {p} {v} {o} {m} {x} {method} {values} {entry} w e work asks is entry_is v_is work_is =
     let with_entry : Entry → World = λ y. accepted_with w y in
     let pushed : Work → Activation = λ k. top_of o m values w.connected k in
-    accepts refl asks.passes
+    accepts (record { empty = refl }) asks.passes
     (asks.effect (at v (pushed work ∷ [])) (record {
       object = x;
       is_object = is.is_object;
@@ -57,7 +57,7 @@ pub takes-assigned : {p : Loaded} {v : World} {o q : ℕ} {x : Object} {property
 takes-assigned {p} {v} {o} {q} {x} {property} {old} {value} {changed} {entry} w e writes f is_old changes entry_is v_is =
     let with_entry : Entry → World = λ y. record (accepted_with w y) { objects = slice_set w.objects o (written q value x) } in
     let stack : List Activation = Update (places_of o q changed) ∷ [] in
-    accepts refl writes.passes
+    accepts (record { empty = refl }) writes.passes
     (writes.effect (at v stack) (record {
       object = x;
       is_object = f.is_object;

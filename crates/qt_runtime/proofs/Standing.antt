@@ -28,9 +28,11 @@ use Rattle.machine_rules.specs.Paths.{path_value, value_of, values_of}
 use Rattle.machine_state.specs.State.{State, Place, Activation, Body, Emit, Update}
 use Rattle.machine_rules.specs.Rules.{Rule, RuleAt, BodyRule, StatementRule, EmitRule, UpdateRule, Chooses, Begins, Writes, IsNotified, changed, unchanged, silent, begun, on_null}
 use Rattle.machine_state.specs.Connections.{next_used}
-use Rattle.machine_rules.specs.Events.{Takes, accepts, refuses, Effect, accepted}
+use Rattle.qt_runtime.specs.Events.{Takes, accepts, refuses, Effect, accepted}
 use Rattle.machine_rules.specs.Good.{AreTyped, ArgumentsFit, TopFits, IsWell}
-use Rattle.machine_rules.specs.Runs.{Runs, done, then, Follows, by_rule, by_event}
+use Rattle.qt_runtime.specs.Runs.{Runs, done, rules, takes}
+use Rattle.machine_rules.specs.Runs.{Rules}
+use Rattle.machine_rules.specs.Runs as of_rules
 use Rattle.machine_rules.specs.Sound.{Joined}
 use Rattle.machine_rules.specs.Goes.{IsField}
 use Rattle.machine_rules.proofs.Fields.{some-is, method-unique, field-written}
@@ -328,14 +330,16 @@ effect-upright {s = s} (Block name) sound empty up x well = changed-upright (cha
 effect-upright {s = s} (Unblock name) sound empty up x well = changed-upright (change x.o (blocked false) s.objects) empty up well (map-change shape_of x.o (blocked false) s.objects (λ z. refl)) x.gives
 
 takes-upright : {p : Loaded} {s t : State} {e : Event} → IsSound p → Upright p s → Takes p e s t → IsWell p s t → Upright p t
-takes-upright {e = e} sound up (accepts empty pass effect) well = effect-upright e sound empty up effect well
-takes-upright sound up (refuses k empty which) well = record { typed = up.typed; delivers = up.delivers; stands = up.stands }
+takes-upright {e = e} sound up (accepts idle pass effect) well = effect-upright e sound idle.empty up effect well
+takes-upright sound up (refuses k idle which) well = record { typed = up.typed; delivers = up.delivers; stands = up.stands }
 
-follows-upright : {p : Loaded} {s t : State} {es fs : List Event} → IsSound p → Upright p s → Follows p s t es fs → IsWell p s t → Upright p t
-follows-upright sound up (by_rule r) well = rule-upright sound well up r
-follows-upright sound up (by_event x) well = takes-upright sound up x well
+-- every state that rules lead to stands
+rules-upright : {p : Loaded} {d : ℕ} {s t : State} {n k : ℕ} → IsSound p → Rules p d s n t k → Upright p s → Upright p t
+rules-upright sound of_rules.done up = up
+rules-upright sound (of_rules.then r good rest) up = rules-upright sound rest (rule-upright sound good.well up r)
 
 -- every state of a run stands
 pub runs-upright : {p : Loaded} {d : ℕ} {s t : State} {n k : ℕ} {es : List Event} → IsSound p → Runs p d s n es t k → Upright p s → Upright p t
 runs-upright sound done up = up
-runs-upright sound (then follows good rest) up = runs-upright sound rest (follows-upright sound up follows good.well)
+runs-upright sound (rules r rest) up = runs-upright sound rest (rules-upright sound r up)
+runs-upright sound (takes x good rest) up = runs-upright sound rest (takes-upright sound up x good.well)

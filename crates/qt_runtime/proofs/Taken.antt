@@ -25,29 +25,32 @@ use Rattle.machine_state.specs.declared.fault.Fault.{Fault}
 use Rattle.machine_state.specs.declared.fault.Fault.TheVariants.{BadType, Steps, Memory}
 use Rattle.machine_state.specs.declared.world.World.{World}
 use Rattle.machine_state.specs.Objects.{IsNamed, shape_of, shapes_of}
-use Rattle.machine_state.specs.State.{State, Activation}
+use Rattle.machine_state.specs.State.{State, Activation, IsIdle}
 use Rattle.machine_state.specs.Worlds.{at, accepted, refused, Refuses, Halts, Creates, created, not_created, RefusesCreation, Adopts, creates_short, adopted, not_adopted, adopts_short, RefusesAdoption, main}
-use Rattle.machine_rules.specs.Events.{Condition, conditions, is_object, Pass, Refuse, Takes, accepts, refuses, named_signal, Effect, IsOwned, IsNotAbove, AreTogether}
-use Rattle.machine_rules.specs.Events as events
+use Rattle.qt_runtime.specs.Events.{Condition, conditions, is_object, Pass, Refuse, Takes, accepts, refuses, named_signal, Effect, IsOwned, IsNotAbove, AreTogether}
+use Rattle.qt_runtime.specs.Events as events
 use Rattle.machine_rules.specs.Goes.{Ends}
+use Rattle.machine_rules.specs.Runs.{Rules}
+use Rattle.machine_rules.specs.Runs as of_rules
 use Rattle.machine_rules.specs.Good.{AreTyped, IsWell, IsGood, TopFits}
-use Rattle.machine_rules.specs.Runs.{Runs, done, then, by_event, is_next}
+use Rattle.qt_runtime.specs.Runs.{Runs, done, rules, takes, by_event, is_next}
 use Rattle.machine_rules.proofs.Fields.{class-unique}
 use Rattle.qt_runtime.specs.declared.bar.Bar.{Bar}
 use Rattle.qt_runtime.specs.declared.bar.Bar.TheVariants as bar
 use Rattle.qt_runtime.specs.Judging.{IsJoint, Bars, Barred}
 use Rattle.qt_runtime.specs.Taking.{Halted, Taken, Answered, Took, blocking, Keeps}
 use Rattle.qt_runtime.proofs.Changes.{map-change, map-adopted, content_of, typed-same}
+use Rattle.qt_runtime.proofs.Running.{reason-of}
 use Rattle.qt_runtime.proofs.Conditions.{named-unique, pass-object, bars-front, bars-past}
 use Rattle.qt_runtime.proofs.Keeping.{keeps-appended, keeps-changed, keeps-refused, keeps-halted}
 use Rattle.qt_runtime.proofs.Typed.{typed-snoc, get-last}
 
 -- an event is taken, and rules follow
-pub runs-taken : {p : Loaded} {d : ℕ} {s m t : State} {n j k : ℕ} (e : Event) → Takes p e s m → IsGood p d s m → 0 < n → j ≡ n - 1 → Runs p d m j [] t k → Runs p d s n (e ∷ []) t k
+pub runs-taken : {p : Loaded} {d : ℕ} {s m t : State} {n j k : ℕ} (e : Event) → Takes p e s m → IsGood p d s m → 0 < n → j ≡ n - 1 → Rules p d m j t k → Runs p d s n (e ∷ []) t k
 runs-taken {p} {d} {s} {m} {t} {n} {j} {k} e x good some less rest =
     let Family : ℕ → Type 0 = λ a. Runs p d s a (e ∷ []) t k in
     let suc_is : suc j ≡ n = omega (arith, less, some) in
-    subst Family suc_is (then (by_event x) good rest)
+    subst Family suc_is (takes x good (rules rest done))
 
 -- an event that pushes nothing is good where the objects are typed
 pub good-quiet : {p : Loaded} {d : ℕ} (w v : World) → AreTyped p v.objects → IsGood p d (at w []) (at v [])
@@ -57,13 +60,17 @@ good-quiet w v typed = record { well = record { arguments = λ more. absurd (ome
 pub good-pushed : {p : Loaded} {d : ℕ} {top : Activation} (w v : World) → AreTyped p v.objects → TopFits p v.objects (top ∷ []) → 1 ≤ d → IsGood p d (at w []) (at v (top ∷ []))
 good-pushed w v typed fit room = record { well = record { arguments = λ more. fit; values = typed }; shallow = omega (arith, room) }
 
+-- nothing is going on where no activation is
+idle : (w : World) → IsIdle (at w [])
+idle w = record { empty = refl }
+
 -- memory was refused before anything changed
 pub halted-short : {p : Loaded} {d : ℕ} {w : World} (e : Event) → 0 < w.left → Halted p d w e w Memory
-halted-short e some = record { taken = []; rest = e ∷ []; split = refl; stack = []; runs = done; reason = some }
+halted-short {w = w} e some = record { taken = []; rest = e ∷ []; split = refl; stack = []; runs = done; reason = (some, is_next (idle w)) }
 
 -- no rule is left for the event
 pub halted-spent : {p : Loaded} {d : ℕ} {w : World} (e : Event) → w.left ≡ 0 → Halted p d w e w Steps
-halted-spent e none = record { taken = []; rest = e ∷ []; split = refl; stack = []; runs = done; reason = (none, is_next refl) }
+halted-spent {w = w} e none = record { taken = []; rest = e ∷ []; split = refl; stack = []; runs = done; reason = (none, is_next (idle w)) }
 
 pub took-unchanged : {p : Loaded} {d : ℕ} {w v : World} {f : Fault} (e : Event) (r : Result Answer Fault) → 0 < w.left → (f ≡ Memory) × (v ≡ w) → IsErrAnd r (λ y. y ≡ f) → Took p d w e v r
 took-unchanged e (Ok a) some same is = absurd is
@@ -80,7 +87,7 @@ pub took-refused : {p : Loaded} {d : ℕ} {w v : World} (k : ℕ) (e : Event) (r
 took-refused {p} {d} {w} {v} k e (Ok a) typed refuse some x =
     let Family : World → Type 0 = λ u. Taken p d w e u in
     let Answer_is : Answer → Type 0 = λ b. Answered p w e b in
-    let taken : Taken p d w e (refused w k) = record { runs = runs-taken e (refuses k refl refuse) (good-quiet w (refused w k) typed) some (omega arith) done } in
+    let taken : Taken p d w e (refused w k) = record { runs = runs-taken e (refuses k (idle w) refuse) (good-quiet w (refused w k) typed) some (omega arith) of_rules.done } in
     record { cases = (subst Family (sym x.1) taken, subst Answer_is (sym x.0) refuse) }
 took-refused {p} {d} {w} {v} k e (Err f) typed refuse some x = took-unchanged e (Err f) some x refl
 
@@ -100,7 +107,7 @@ took-barred bar.Memory e r typed bars some x = took-halted e some x
 pub took-quiet : {p : Loaded} {d : ℕ} {w v : World} (target : World) (e : Event) → Pass (conditions p (at w []) e) → Effect p (events.accepted (at w [])) e (at target []) → AreTyped p target.objects → 0 < w.left → target.left ≡ w.left - 1 → v ≡ target → Took p d w e v (Ok answer.Done)
 took-quiet {p} {d} {w} {v} target e pass effect typed some less is =
     let Family : World → Type 0 = λ u. Taken p d w e u in
-    let taken : Taken p d w e target = record { runs = runs-taken e (accepts refl pass effect) (good-quiet w target typed) some less done } in
+    let taken : Taken p d w e target = record { runs = runs-taken e (accepts (idle w) pass effect) (good-quiet w target typed) some less of_rules.done } in
     record { cases = (subst Family (sym is) taken, pass) }
 
 -- ---- an object is created
@@ -136,7 +143,7 @@ module _ {p : Loaded} (w : World) (name class : List ℕ) (typed : AreTyped p w.
         split = refl;
         stack = [];
         runs = done;
-        reason = (some, inr (record { t = after; rest = []; follows = by_event (accepts refl (pass-create free named room) (creates-effect named is)); ill = not_well }));
+        reason = (some, inr (record { t = after; rest = []; follows = by_event (accepts (idle w) (pass-create free named room) (creates-effect named is)); ill = not_well }));
       }
 
   took-ill : {d number : ℕ} {kind : MetaObject} {v : World} {r : Result Answer Fault} → IsFree w.objects name → IsClassNamed p class number → IsClass p number kind → length w.objects < most_objects → (¬ BeginsWell p w.objects number kind) → Halts w BadType v r → Took p d w (New name class) v r
@@ -284,7 +291,7 @@ took-connected {p} {d} {w} {v} {j} c typed pass joint some is =
     ap (λ (g : ℕ). at (made g j.kind) []) joint.names ∙ ap (λ (kind : Kind). at (made (named_signal joint.spelled) kind) []) joint.same_kind in
     let taken : Taken p d w (Connect c) target = record {
       runs = runs-taken (Connect c)
-          (accepts refl pass
+          (accepts (idle w) pass
           (record {
             a = j.sender;
             sender = joint.sender;
@@ -298,7 +305,7 @@ took-connected {p} {d} {w} {v} {j} c typed pass joint some is =
             has_method = joint.has_method;
             gives = state_is;
           }))
-          (good-quiet w target typed) some (omega arith) done;
+          (good-quiet w target typed) some (omega arith) of_rules.done;
     } in
     record { cases = (subst Family (sym is) taken, pass) }
 
@@ -306,9 +313,9 @@ took-connected {p} {d} {w} {v} {j} c typed pass joint some is =
 
 pub took-run : {p : Loaded} {d : ℕ} {w m v : World} {top : Activation} {r : Result (Unit {0}) Fault} (e : Event) → Takes p e (at w []) (at m (top ∷ [])) → IsGood p d (at w []) (at m (top ∷ [])) → Pass (conditions p (at w []) e) → 0 < w.left → m.left ≡ w.left - 1 → Ends p d 0 m (top ∷ []) v [] r → MatchResult r (λ _. Took p d w e v (Ok answer.Done)) (λ f. Halted p d w e v f)
 took-run {r = Ok _} e x good pass some less ends = record { cases = (record { runs = runs-taken e x good some less (ends.cases.runs [] refl) }, pass) }
-took-run {r = Err f} e x good pass some less ends =
+took-run {p} {d} {v = v} {r = Err f} e x good pass some less ends =
     let q = ends.cases.breaks [] refl in
-    record { taken = e ∷ []; rest = []; split = refl; stack = q.0; runs = runs-taken e x good some less q.1; reason = q.2 }
+    record { taken = e ∷ []; rest = []; split = refl; stack = q.0; runs = runs-taken e x good some less q.1; reason = reason-of p d (at v q.0) v.left [] f q.2 }
 
 -- a run that stopped, behind a `?`
 pub took-stopped : {p : Loaded} {d : ℕ} {w v : World} {f : Fault} (e : Event) (r : Result Answer Fault) → Halted p d w e v f → IsErrAnd r (λ y. y ≡ f) → Took p d w e v r

@@ -12,7 +12,7 @@ use Rattle.meta_model.specs.Sound.{IsSound}
 use Rattle.object_tree.specs.declared.object.Object.{Object}
 use Rattle.machine_state.specs.Objects.{IsNamed}
 use Rattle.machine_state.specs.State.{State}
-use Rattle.machine_rules.specs.Events.{Condition, unless, conditions, Pass, Refuse, HasSignal, HasMethod, IsWired, named_signal}
+use Rattle.qt_runtime.specs.Events.{Condition, unless, conditions, Pass, Refuse, HasSignal, HasMethod, IsWired, named_signal}
 use Rattle.machine_rules.proofs.Fields.{method-unique}
 use Rattle.qt_runtime.specs.Judging.{IsJoint}
 use Rattle.qt_runtime.proofs.Conditions.{class-named, pass-object}

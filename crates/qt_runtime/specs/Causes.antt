@@ -11,7 +11,8 @@ use Rattle.machine_state.specs.declared.fault.Fault.{Fault}
 use Rattle.machine_state.specs.declared.fault.Fault.TheVariants.{BadType}
 use Rattle.machine_rules.specs.Paths.{path_value, value_of, values_of}
 use Rattle.machine_state.specs.State.{State, Activation, Body}
-use Rattle.machine_rules.specs.Runs.{IsStuck, GoesIll, Reason}
+use Rattle.machine_rules.specs.Runs.{IsStuck}
+use Rattle.qt_runtime.specs.Runs.{GoesIll, Reason}
 
 -- a path leads to an object, and not to null
 abbrev pub IsObject : Option Value → Type 0

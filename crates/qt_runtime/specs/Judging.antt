@@ -21,7 +21,7 @@ use Rattle.machine_state.specs.declared.world.World.{World}
 use Rattle.machine_state.specs.Objects.{IsNamed}
 use Rattle.machine_state.specs.State.{State}
 use Rattle.machine_state.specs.Worlds.{Refuses, Halts}
-use Rattle.machine_rules.specs.Events.{Condition, Refuse, MayBeEmitted, MayBeCalled, AreValues, IsValue, named_signal}
+use Rattle.qt_runtime.specs.Events.{Condition, Refuse, MayBeEmitted, MayBeCalled, AreValues, IsValue, named_signal}
 use Rattle.machine_rules.specs.Goes.{IsField}
 use Rattle.machine_rules.specs.Good.{ArgumentsFit}
 use Rattle.qt_runtime.specs.declared.asking.Ask.{Ask}

@@ -9,8 +9,8 @@ use Rattle.machine_state.specs.declared.fault.Fault.{Fault}
 use Rattle.machine_state.specs.declared.fault.Fault.TheVariants as fault
 use Rattle.machine_state.specs.State.{Activation}
 use Rattle.machine_state.specs.Worlds.{at}
-use Rattle.machine_rules.specs.Events.{conditions, Pass, Refuse}
-use Rattle.machine_rules.specs.Runs.{Runs}
+use Rattle.qt_runtime.specs.Events.{conditions, Pass, Refuse}
+use Rattle.qt_runtime.specs.Runs.{Runs}
 use Rattle.qt_runtime.specs.Causes.{Cause}
 
 pub record Seen : Type 0 where

@@ -10,9 +10,9 @@ use Rattle.machine_state.specs.declared.fault.Fault.{Fault}
 use Rattle.machine_state.specs.declared.world.World.{World}
 use Rattle.machine_state.specs.State.{State, Activation}
 use Rattle.machine_state.specs.Worlds.{at}
-use Rattle.machine_rules.specs.Events.{conditions, Pass, Refuse, Effect, accepted}
+use Rattle.qt_runtime.specs.Events.{conditions, Pass, Refuse, Effect, accepted}
 use Rattle.machine_rules.specs.Rules.{Begins, Writes}
-use Rattle.machine_rules.specs.Runs.{Runs, Reason}
+use Rattle.qt_runtime.specs.Runs.{Runs, Reason}
 use Rattle.machine_rules.specs.Sound.{Sound}
 
 -- what every machine's world keeps: its parts fit together, and no count is near its limit

@@ -2,7 +2,7 @@
 
 ghost use Rattle.std.specs.Prelude.{◌↔◌, ◌∷◌, ◌++◌, [], length, IfOk, IfErr, IsTrue};
 ghost use Rattle.machine_state.specs.Worlds.{at};
-ghost use Rattle.machine_rules.specs.Events.{conditions, Pass, is_object, unless, HasMethodNamed};
+ghost use Rattle.qt_runtime.specs.Events.{conditions, Pass, is_object, unless, HasMethodNamed};
 ghost use Rattle.machine_rules.specs.Good.{ArgumentsFit};
 ghost use Rattle.qt_runtime.specs.Judging.{Bars, May, asked, IsFound, IsAsked};
 

@@ -3,7 +3,7 @@
 ghost use Rattle.std.specs.Prelude.{◌↔◌, ◌∷◌, ◌++◌, [], IfOk, IfErr, IsTrue};
 ghost use Rattle.script_lang.specs.declared.event.Event.TheVariants.{Set};
 ghost use Rattle.machine_state.specs.Worlds.{at};
-ghost use Rattle.machine_rules.specs.Events.{conditions, Pass, is_object, unless, HasPropertyNamed};
+ghost use Rattle.qt_runtime.specs.Events.{conditions, Pass, is_object, unless, HasPropertyNamed};
 ghost use Rattle.qt_runtime.specs.Judging.{Bars, IsTarget, IsAssigned, ValueFits};
 
 use crate::bar::{Bar, find_living};

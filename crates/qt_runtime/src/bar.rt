@@ -3,7 +3,7 @@
 ghost use Rattle.std.specs.Prelude.{◌≡◌, ◌<◌, ◌^◌, [], true, IfOk, IfErr};
 ghost use Rattle.machine_state.specs.Objects.{IsNamed};
 ghost use Rattle.machine_state.specs.Worlds.{at};
-ghost use Rattle.machine_rules.specs.Events.{is_object};
+ghost use Rattle.qt_runtime.specs.Events.{is_object};
 ghost use Rattle.qt_runtime.specs.Judging.{Bars, Barred};
 
 use machine_state::{Answer, Fault, World};

@@ -6,7 +6,7 @@ ghost use Rattle.meta_model.specs.Members.{IsMethod};
 ghost use Rattle.meta_model.specs.declared.object.MetaMethod.{MetaMethod as AMetaMethod};
 ghost use Rattle.meta_model.specs.declared.object.Work.TheVariants.{Signal};
 ghost use Rattle.machine_state.specs.Worlds.{at};
-ghost use Rattle.machine_rules.specs.Events.{conditions, Pass, named_signal};
+ghost use Rattle.qt_runtime.specs.Events.{conditions, Pass, named_signal};
 ghost use Rattle.qt_runtime.specs.Judging.{Bars, IsJoint};
 
 use crate::bar::{Bar, find_living};

@@ -2,7 +2,7 @@
 
 ghost use Rattle.std.specs.Prelude.{[], IfOk, IfErr};
 ghost use Rattle.machine_state.specs.Worlds.{at};
-ghost use Rattle.machine_rules.specs.Events.{IsValue, AreValues, is_input, are_inputs, Pass};
+ghost use Rattle.qt_runtime.specs.Events.{IsValue, AreValues, is_input, are_inputs, Pass};
 ghost use Rattle.qt_runtime.specs.Judging.{Bars};
 
 use crate::bar::{Bar, find_living};

@@ -1,6 +1,6 @@
 use Rattle.std.proofs.Common.{[]}
 use Rattle.machine_state.specs.Worlds.{at}
-use Rattle.machine_rules.specs.Events.{conditions}
+use Rattle.qt_runtime.specs.Events.{conditions}
 use Rattle.qt_runtime.specs.Judging.{asked}
 use Rattle.qt_runtime.proofs.Asked.{bars-inputs-of, bars-values, pass-values}
 use Rattle.qt_runtime.proofs.Conditions.{err-bars}

@@ -1,7 +1,7 @@
 use Rattle.std.proofs.Common.{[]}
 use Rattle.script_lang.specs.declared.event.Event.TheVariants.{Set}
 use Rattle.machine_state.specs.Worlds.{at}
-use Rattle.machine_rules.specs.Events.{conditions}
+use Rattle.qt_runtime.specs.Events.{conditions}
 use Rattle.qt_runtime.proofs.Assigned.{bars-input-of, bars-value, pass-value}
 use Rattle.qt_runtime.proofs.Conditions.{err-bars}
 use Rattle.qt_runtime.proofs.assigning.judge_set.Goals as goal

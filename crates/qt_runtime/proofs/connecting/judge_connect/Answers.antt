@@ -3,7 +3,7 @@ use Rattle.script_lang.specs.declared.event.Event.TheVariants.{Connect}
 use Rattle.meta_model.specs.Loaded.{Loaded}
 use Rattle.machine_state.specs.State.{State}
 use Rattle.machine_state.specs.Worlds.{at}
-use Rattle.machine_rules.specs.Events.{conditions, is_object}
+use Rattle.qt_runtime.specs.Events.{conditions, is_object}
 use Rattle.qt_runtime.specs.declared.bar.Bar.{Bar}
 use Rattle.qt_runtime.proofs.Conditions.{bars-front, bars-past, pass-object, err-bars}
 use Rattle.qt_runtime.proofs.Verdicts.{ends, refuse-signal, refuse-method, refuse-unwired, refuse-unfit, pass-connect, has-signal, has-method, is-wired, joint-of}

@@ -4,7 +4,7 @@ use Rattle.script_lang.specs.declared.event.Input.{Input}
 use Rattle.signatures.specs.declared.value.Value.{Value}
 use Rattle.machine_state.specs.State.{State}
 use Rattle.machine_state.specs.Worlds.{at}
-use Rattle.machine_rules.specs.Events.{are_inputs, AreValues, Pass}
+use Rattle.qt_runtime.specs.Events.{are_inputs, AreValues, Pass}
 use Rattle.qt_runtime.specs.declared.bar.Bar.{Bar}
 use Rattle.qt_runtime.specs.Judging.{Bars}
 use Rattle.qt_runtime.proofs.Conditions.{err-bars, bars-front, bars-inputs, pass-inputs, pass-one, values-append}

@@ -1,6 +1,6 @@
 use Rattle.std.proofs.Common.{[], take}
 use Rattle.machine_state.specs.Worlds.{at}
-use Rattle.machine_rules.specs.Events.{AreValues, Pass, are_inputs}
+use Rattle.qt_runtime.specs.Events.{AreValues, Pass, are_inputs}
 use Rattle.qt_runtime.proofs.inputs.read_inputs.Given as goal
 
 -- the values of the inputs so far, whose names are those of living objects

@@ -23,7 +23,7 @@ use Rattle.object_tree.specs.Family.{Above}
 use Rattle.object_tree.specs.Objects.{IsFree, class_of, change, blocked}
 use Rattle.machine_state.specs.declared.entry.Entry.TheVariants as entry
 use Rattle.machine_state.specs.Objects.{IsNamed}
-use Rattle.machine_state.specs.State.{State}
+use Rattle.machine_state.specs.State.{State, IsIdle}
 use Rattle.machine_state.specs.Worlds.{main}
 use Rattle.machine_rules.specs.Rules.{Begins, Writes}
 
@@ -312,5 +312,5 @@ Effect p s (Unblock name) t = Blocks s name false t
 
 -- the event is accepted or refused, where nothing is going on
 pub data Takes (p : Loaded) (e : Event) : State → State → Type 0 where
-  accepts : {s t : State} → s.stack ≡ [] → Pass (conditions p s e) → Effect p (accepted s) e t → Takes p e s t
-  refuses : {s : State} (k : ℕ) → s.stack ≡ [] → Refuse (conditions p s e) k → Takes p e s (refused s k)
+  accepts : {s t : State} → IsIdle s → Pass (conditions p s e) → Effect p (accepted s) e t → Takes p e s t
+  refuses : {s : State} (k : ℕ) → IsIdle s → Refuse (conditions p s e) k → Takes p e s (refused s k)
