@@ -1,6 +1,7 @@
 -- What the operators of expressions do (docs/language.md, "Expressions").
-use Rattle.std.specs.Prelude.{ℕ, ℤ, ◌+ℤ◌, ◌-ℤ◌, ◌*ℤ◌, neg_ℤ, Bool, true, false, not, ◌&&◌, ◌||◌, eqb, int_lt, List, [], ◌∷◌, ◌++◌, take, Option, Some, None}
-use Rattle.std.specs.Option.{option_map}
+use Rattle.std.specs.Prelude.{ℕ, ℤ, ◌+ℤ◌, ◌-ℤ◌, ◌*ℤ◌, neg_ℤ, Bool, not, ◌&&◌, ◌||◌, nat_eq, int_lt, List, ◌++◌, take, Option, Some, None}
+use Rattle.std.specs.Cmp.Lexicographic.{pointwise}
+use Rattle.std.specs.Option.{option_eq, option_map}
 use Rattle.std.specs.Ordering.{int_eq}
 use Rattle.std.specs.Int.{saturate_signed, w32}
 use Rattle.signatures.specs.declared.value.Value.{Value}
@@ -19,16 +20,13 @@ unary Not (Truth b) = Some (Truth (not b))
 unary Minus (Int z) = number (neg_ℤ z)
 unary op v = None
 
+-- byte by byte
 abbrev pub same_text : List ℕ → List ℕ → Bool
-same_text [] [] = true
-same_text [] (y ∷ ys) = false
-same_text (x ∷ xs) [] = false
-same_text (x ∷ xs) (y ∷ ys) = eqb x y && same_text xs ys
+same_text = pointwise nat_eq
 
+-- both null, or both one object
 abbrev pub same_reference : Option ℕ → Option ℕ → Bool
-same_reference None None = true
-same_reference (Some a) (Some b) = eqb a b
-same_reference a b = false
+same_reference = option_eq nat_eq
 
 -- whether two values of one sort are the same
 abbrev pub equal : Value → Value → Option Bool

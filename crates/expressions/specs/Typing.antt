@@ -4,7 +4,9 @@ use Rattle.std.specs.Option.{option_and_then, option_map}
 use Rattle.signatures.specs.declared.value.Value.{Value}
 use Rattle.signatures.specs.declared.value.Value.TheVariants as value
 use Rattle.signatures.specs.declared.qtype.QType.{QType}
+use Rattle.signatures.specs.Normal.{pointer_type}
 use Rattle.signatures.specs.Types.{value_type}
+use Rattle.signatures.specs.Values.{Types, Has}
 use Rattle.texts.specs.declared.syntax.Unary.{Unary}
 use Rattle.texts.specs.declared.syntax.Unary.TheVariants.{Not, Minus}
 use Rattle.texts.specs.declared.syntax.Binary.{Binary}
@@ -16,6 +18,7 @@ use Rattle.expressions.specs.declared.sort.Sort.{Sort}
 use Rattle.expressions.specs.declared.sort.Sort.TheVariants.{Int, Bool as Truth, Text, Reference}
 use Rattle.expressions.specs.declared.typing.ExprType.{ExprType}
 use Rattle.expressions.specs.declared.typing.ExprType.TheVariants.{Null, Of}
+use Rattle.expressions.specs.Evaluation.{value as value_of}
 use Rattle.expressions.specs.Operators.{same_text}
 
 -- the sort of a value
@@ -101,14 +104,40 @@ abbrev pub Accepts : (List ℕ → List ℕ → Type 0) → QType → ExprType �
 Accepts below declared Null = declared.pointer ≡ true
 Accepts below declared (Of given) = AcceptsValue declared given ⊎ AcceptsReference below declared given
 
--- a value is of a type: only null is of null's
-abbrev pub IsOf : Value → ExprType → Type 0
-IsOf v Null = v ≡ value.Ref None
-IsOf v (Of t) = declared_sort t ≡ Some (value_sort v)
+-- how the types of values are declared, where names stand for classes
+abbrev pub declared_types : Types QType (List ℕ)
+declared_types = record { number = value_type (codes "int"); truth = value_type (codes "bool"); text = value_type (codes "QString"); reference = pointer_type }
 
-abbrev pub HasValueOf : ExprType → Option Value → Type 0
-HasValueOf t found = (v : Value) × (found ≡ Some v) × IsOf v t
+-- a value is of a type, where `class` gives the class of each living object; only null is of null's
+abbrev pub IsOf : (ℕ → Option (List ℕ)) → (List ℕ → List ℕ → Type 0) → Value → ExprType → Type 0
+IsOf class below v Null = v ≡ value.Ref None
+IsOf class below v (Of t) = Has declared_types class below v t
+
+abbrev pub HasValueOf : (ℕ → Option (List ℕ)) → (List ℕ → List ℕ → Type 0) → ExprType → Option Value → Type 0
+HasValueOf class below t found = (v : Value) × (found ≡ Some v) × IsOf class below v t
 
 -- every path with a type leads to a value of that type
-abbrev pub TypedPaths : {P : Type 0} → (P → Option Value) → (P → Option QType) → Type 0
-TypedPaths {P} read kinds = (p : P) (t : QType) → kinds p ≡ Some t → HasValueOf (Of t) (read p)
+abbrev pub TypedPaths : {P : Type 0} → (ℕ → Option (List ℕ)) → (List ℕ → List ℕ → Type 0) → (P → Option Value) → (P → Option QType) → Type 0
+TypedPaths {P} class below read kinds = (p : P) (t : QType) → kinds p ≡ Some t → HasValueOf class below (Of t) (read p)
+
+-- Whatever classes the objects have: where every path with a type leads to a value of that type, every expression with
+-- a type has a value, and it is of that type.
+abbrev pub TypedHaveValues : {P : Type 0} → (List ℕ → List ℕ → Type 0) → (P → Option Value) → (P → Option QType) → Type 0
+TypedHaveValues {P} below read kinds =
+    (class : ℕ → Option (List ℕ)) → TypedPaths class below read kinds →
+    (z : Expr P) (t : ExprType) → type_of kinds z ≡ Some t → HasValueOf class below t (value_of read z)
+
+-- whatever is of the given type is of the declared one
+abbrev pub TakesValues : (List ℕ → List ℕ → Type 0) → QType → ExprType → Type 0
+TakesValues below declared given =
+    (class : ℕ → Option (List ℕ)) (v : Value) → IsOf class below v given → Has declared_types class below v declared
+
+-- `this` in a body of a class
+abbrev pub this_type : List ℕ → QType
+this_type class = pointer_type class false
+
+-- every object of the class or of one below it is of the type of `this`
+abbrev pub ThisIsTyped : (List ℕ → List ℕ → Type 0) → Type 0
+ThisIsTyped below =
+    (class : ℕ → Option (List ℕ)) (object : ℕ) (own declaring : List ℕ) → class object ≡ Some own → below own declaring →
+    Has declared_types class below (value.Ref (Some object)) (this_type declaring)

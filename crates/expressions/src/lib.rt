@@ -9,4 +9,4 @@ mod typing;
 pub use evaluation::{EvalFault, World, eval, eval_all};
 pub use operators::{apply_binary, apply_unary, join, negate};
 pub use sort::Sort;
-pub use typing::{Classes, ExprType, Names, accepts, type_of, typed_have_values};
+pub use typing::{Classes, ExprType, Names, accepts, this_type, type_of, typed_have_values};

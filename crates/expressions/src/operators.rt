@@ -5,7 +5,7 @@ ghost use Rattle.std.specs.Option.{option_map};
 ghost use Rattle.std.specs.Int.{saturate_signed, w32};
 ghost use Rattle.signatures.specs.declared.value.Value.{Value as AValue};
 ghost use Rattle.signatures.specs.declared.value.Value.TheVariants as value;
-ghost use Rattle.expressions.specs.Operators.{unary, binary, same_text, same_reference};
+ghost use Rattle.expressions.specs.Operators.{unary, binary};
 ghost use Rattle.expressions.specs.Evaluation.{Evaluates};
 
 use crate::evaluation::EvalFault;
@@ -43,24 +43,6 @@ pub fn join(alloc: Global, left: &Text, right: &Text) -> Result<Text, AllocError
         unreachable!();
     };
     Ok(text)
-}
-
-/// Whether both texts have the same bytes.
-fn is_same_text(left: &Text, right: &Text) -> bool
-    ensures { result ≡ same_text left.now right.now }
-{
-    left.is_same(right)
-}
-
-/// Whether both are null or both name one object.
-fn is_same_reference(left: Option<ObjectId>, right: Option<ObjectId>) -> bool
-    ensures { result ≡ same_reference left right }
-{
-    match (left, right) {
-        (Some(left), Some(right)) => left.number() == right.number(),
-        (None, None) => true,
-        _ => false,
-    }
 }
 
 /// What a binary operator makes of its operands. `BadType` exactly where it doesn't take them; only texts that are
@@ -123,8 +105,8 @@ fn on_texts(
 {
     match operator {
         Binary::Add => Ok(Some(Value::Text(join(alloc, left, right)?))),
-        Binary::Equal => Ok(Some(Value::Bool(is_same_text(left, right)))),
-        Binary::Different => Ok(Some(Value::Bool(!is_same_text(left, right)))),
+        Binary::Equal => Ok(Some(Value::Bool(left.bytes() == right.bytes()))),
+        Binary::Different => Ok(Some(Value::Bool(left.bytes() != right.bytes()))),
         _ => Ok(None),
     }
 }
@@ -133,8 +115,8 @@ fn on_references(operator: Binary, left: Option<ObjectId>, right: Option<ObjectI
     ensures { result ≡ binary operator (value.Ref left) (value.Ref right) }
 {
     match operator {
-        Binary::Equal => Some(Value::Bool(is_same_reference(left, right))),
-        Binary::Different => Some(Value::Bool(!is_same_reference(left, right))),
+        Binary::Equal => Some(Value::Bool(left == right)),
+        Binary::Different => Some(Value::Bool(left != right)),
         _ => None,
     }
 }

@@ -1,7 +1,6 @@
 //! The sorts of values.
 
 ghost use Rattle.std.specs.Prelude.{◌≡◌};
-ghost use Rattle.expressions.specs.Operators.{same_text};
 ghost use Rattle.expressions.specs.Typing.{named_sort, value_sort, unary_sort, binary_sort};
 
 use signatures::{Name, Value};
@@ -37,21 +36,15 @@ pub fn named_sort(name: &Name) -> Option<Sort>
     ensures { result ≡ named_sort name.now }
 {
     let bytes = name.bytes();
-    if is_same(bytes, b"int") {
+    if bytes == b"int".as_slice() {
         Some(Sort::Int)
-    } else if is_same(bytes, b"bool") {
+    } else if bytes == b"bool".as_slice() {
         Some(Sort::Bool)
-    } else if is_same(bytes, b"QString") {
+    } else if bytes == b"QString".as_slice() {
         Some(Sort::Text)
     } else {
         None
     }
-}
-
-fn is_same(left: &[u8], right: &[u8]) -> bool
-    ensures { result ≡ same_text left.now right.now }
-{
-    left == right
 }
 
 /// What a unary operator gives of an operand of this sort; `None` where it doesn't take it.

@@ -3,10 +3,7 @@
 ghost use Rattle.std.specs.Prelude.{◌≡◌, ◌↔◌, ℕ, List, Option, Some, None, IsTrue, IfOk};
 ghost use Rattle.std.specs.Option.{option_and_then, option_map};
 ghost use Rattle.signatures.specs.declared.qtype.QType.{QType as AQType};
-ghost use Rattle.texts.specs.declared.syntax.Expr.{Expr as AnExpr};
-ghost use Rattle.expressions.specs.declared.typing.ExprType.{ExprType as AnExprType};
-ghost use Rattle.expressions.specs.Evaluation.{value};
-ghost use Rattle.expressions.specs.Typing.{sort_of, type_of_sort, literal_type, type_of, Accepts, TypedPaths, HasValueOf};
+ghost use Rattle.expressions.specs.Typing.{sort_of, type_of_sort, literal_type, type_of, this_type, Accepts, TakesValues, TypedHaveValues, ThisIsTyped};
 
 use crate::evaluation::World;
 use crate::sort::{Sort, binary_sort, named_sort, unary_sort, value_sort};
@@ -54,6 +51,9 @@ pub trait Classes {
     /// Whether the class is the other one or below it.
     fn inherits(&self, class: &Name, base: &Name) -> bool
         ensures { IsTrue result ↔ below self.now class.now base.now };
+
+    /// What is below a class is below those that it is below.
+    ghost along: { (classes : Self) (a b c : List ℕ) → below classes a b → below classes b c → below classes a c };
 }
 
 /// The type of an expression, for the declared types of its paths; `None` where it has none.
@@ -119,8 +119,15 @@ fn type_of_sort(alloc: Global, sort: Option<Sort>) -> Result<Option<ExprType>, A
 
 /// Whether something of the declared type may be given an expression of the other type: both are the same value type,
 /// or both are references, the expression's class is the declared one or below it, and the declared type is const or
-/// the expression's isn't. Every reference type accepts null.
+/// the expression's isn't. Every reference type accepts null. What is of a type that is accepted is of the declared one.
 pub fn accepts<C: Classes>(declared: &QType, given: &ExprType, classes: &C) -> bool
+    ensures accepted { IsTrue result ↔ Accepts (C.Classes.below classes.now) declared.now given.now }
+    ensures of_it { IsTrue result → TakesValues (C.Classes.below classes.now) declared.now given.now }
+{
+    takes(declared, given, classes)
+}
+
+fn takes<C: Classes>(declared: &QType, given: &ExprType, classes: &C) -> bool
     ensures { IsTrue result ↔ Accepts (C.Classes.below classes.now) declared.now given.now }
 {
     match given {
@@ -132,8 +139,25 @@ pub fn accepts<C: Classes>(declared: &QType, given: &ExprType, classes: &C) -> b
     }
 }
 
+/// The type of `this` in a body of this class: `C*`.
+pub fn this_type(class: Name) -> QType
+    ensures { result ≡ this_type class }
+{
+    QType {
+        name: class,
+        constant: false,
+        pointer: true,
+    }
+}
+
 /// Where every path with a type leads to a value of that type, every typed expression has a value, and it is of the
-/// expression's type.
-pub fn typed_have_values<P: Drop, W: World<P>, N: Names<P>>(world: &W, names: &N)
-    ensures { TypedPaths (W.World.read world.now) (N.Names.kinds names.now) → (expression : AnExpr P) (kind : AnExprType) → type_of (N.Names.kinds names.now) expression ≡ Some kind → HasValueOf kind (value (W.World.read world.now) expression) }
+/// expression's type: `null`, or an object of the type's class or of one below it, where that is a reference's. So
+/// `this` may stand for the object whose body it is.
+pub fn typed_have_values<P: Drop, W: World<P>, N: Names<P>, C: Classes>(
+    world: &W,
+    names: &N,
+    classes: &C,
+)
+    ensures values { TypedHaveValues (C.Classes.below classes.now) (W.World.read world.now) (N.Names.kinds names.now) }
+    ensures this { ThisIsTyped (C.Classes.below classes.now) }
 {}

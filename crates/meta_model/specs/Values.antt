@@ -1,20 +1,20 @@
 -- Which values have a type (docs/language.md, "Values").
-use Rattle.std.specs.Prelude.{◌≡◌, ℕ, ℤ, Bool, List, [], ◌∷◌, Option, Some, None}
+use Rattle.std.specs.Prelude.{ℕ, List, [], ◌∷◌, Option}
 use Rattle.signatures.specs.declared.value.Value.{Value}
-use Rattle.signatures.specs.declared.value.Value.TheVariants as value
+use Rattle.signatures.specs.Values.{Types, Has as AnyHas}
+pub use Rattle.signatures.specs.Values.{number_has, truth_has, text_has, null_has, object_has}
 use Rattle.meta_model.specs.declared.object.ValueType.{ValueType}
 use Rattle.meta_model.specs.declared.object.ValueType.TheVariants as type
 use Rattle.meta_model.specs.Loaded.{Loaded}
 use Rattle.meta_model.specs.Members.{Below}
 
--- A value has a type, where `class` gives the class of each living object: null has every reference type, and an object
--- those of its class and of the classes above it, whether they are const or not.
-pub data Has (p : Loaded) (class : ℕ → Option ℕ) : Value → ValueType → Type 0 where
-  number_has : {n : ℤ} → Has p class (value.Int n) type.Int
-  truth_has : {b : Bool} → Has p class (value.Bool b) type.Bool
-  text_has : {t : List ℕ} → Has p class (value.Text t) type.Text
-  null_has : {c : ℕ} {constant : Bool} → Has p class (value.Ref None) (type.Reference c constant)
-  object_has : {o c d : ℕ} {constant : Bool} → class o ≡ Some d → Below p d c → Has p class (value.Ref (Some o)) (type.Reference c constant)
+-- how the types of values and their classes are numbered
+abbrev pub value_types : Types ValueType ℕ
+value_types = record { number = type.Int; truth = type.Bool; text = type.Text; reference = λ c constant. type.Reference c constant }
+
+-- a value has a type of the program, where `class` gives the class of each living object
+abbrev pub Has : Loaded → (ℕ → Option ℕ) → Value → ValueType → Type 0
+Has p class v T = AnyHas value_types class (Below p) v T
 
 -- as many values as types, each of its type
 abbrev pub HaveTypes : Loaded → (ℕ → Option ℕ) → List Value → List ValueType → Type 0

@@ -2,6 +2,7 @@ pub mod Name
 pub mod Words
 pub mod Text
 pub mod Types
+pub mod Values
 pub mod Normal
 pub mod Tokens
 pub mod Signatures

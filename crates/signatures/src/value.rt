@@ -1,4 +1,4 @@
-ghost use Rattle.std.specs.Prelude.{◌≡◌, IfOk};
+ghost use Rattle.std.specs.Prelude.{◌≡◌, ◌↔◌, IfOk, IsTrue};
 
 use crate::object_id::ObjectId;
 use crate::text::Text;
@@ -39,6 +39,19 @@ impl Value {
             Value::Bool(truth) => Ok(Value::Bool(*truth)),
             Value::Text(text) => Ok(Value::Text(text.copy()?)),
             Value::Ref(object) => Ok(Value::Ref(*object)),
+        }
+    }
+
+    /// Whether both values are equal; texts are compared by their bytes.
+    pub fn is_same(&self, other: &Value) -> bool
+        ensures { IsTrue result ↔ (self.now ≡ other.now) }
+    {
+        match (self, other) {
+            (Value::Int(a), Value::Int(b)) => *a == *b,
+            (Value::Bool(a), Value::Bool(b)) => *a == *b,
+            (Value::Text(a), Value::Text(b)) => a.is_same(b),
+            (Value::Ref(a), Value::Ref(b)) => *a == *b,
+            _ => false,
         }
     }
 }
