@@ -2,7 +2,9 @@
 use Rattle.std.specs.Prelude.{ℕ, ◌+◌, ◌≤◌, length, All, IfSome}
 use Rattle.signatures.specs.Signatures.{most_parameters}
 use Rattle.signatures.specs.declared.sig.Sig.{Sig}
+use Rattle.class_lang.specs.Bodies.{signatures_in}
 use Rattle.texts.specs.declared.program.Class.{Class}
+use Rattle.texts.specs.declared.program.Slot.{Slot}
 use Rattle.texts.specs.declared.program.Wire.{Wire}
 use Rattle.texts.specs.declared.program.Program.{Program}
 
@@ -33,12 +35,17 @@ most_owns = 1000
 abbrev pub HasFewTypes : Sig → Type 0
 HasFewTypes sig = length sig.types ≤ most_parameters
 
+-- nor have the signatures in a slot's body more than a signature may have
+pub record SlotHasFewParameters (slot : Slot) : Type 0 where
+  pub own : length slot.parameters ≤ most_parameters
+  pub body : All HasFewTypes (signatures_in slot.body)
+
 -- no signature of the class has more parameters than one may have
 unfoldable pub ClassHasFewParameters : Class → Type 0
 ClassHasFewParameters class =
     All (λ property. IfSome property.notify HasFewTypes) class.properties
     × All (λ signal. length signal.parameters ≤ most_parameters) class.signals
-    × All (λ slot. length slot.parameters ≤ most_parameters) class.slots
+    × All SlotHasFewParameters class.slots
 
 pub record WireHasFewParameters (wire : Wire) : Type 0 where
   pub signal : HasFewTypes wire.signal

@@ -1,10 +1,11 @@
 //! How large programs may be.
 
-ghost use Rattle.std.specs.Prelude.{◌↔◌, IsTrue, IfSome};
-ghost use Rattle.class_lang.specs.Limits.{HasFewTypes, ClassHasFewParameters, WireHasFewParameters, HasFewParameters, ClassIsWithinLimits, IsWithinLimits};
+ghost use Rattle.std.specs.Prelude.{◌↔◌, IsTrue, IfSome, All};
+ghost use Rattle.class_lang.specs.Bodies.{signatures_of, signatures_in};
+ghost use Rattle.class_lang.specs.Limits.{HasFewTypes, SlotHasFewParameters, ClassHasFewParameters, WireHasFewParameters, HasFewParameters, ClassIsWithinLimits, IsWithinLimits};
 
 use signatures::{MOST_PARAMETERS, Sig};
-use texts::{Class, Program, Property, Wire};
+use texts::{Class, Program, Property, Slot, Stmt, Wire};
 
 /// Bytes of a text.
 pub const MOST_BYTES: usize = 1_048_576;
@@ -36,6 +37,41 @@ fn property_has_few_parameters(property: &Property) -> bool
     }
 }
 
+/// Whether no signature in the body has more than 8 parameters.
+#[cycle(bodies)]
+fn body_has_few_parameters(body: &[Stmt]) -> bool
+    ensures { IsTrue result ↔ All HasFewTypes (signatures_in body.now) }
+{
+    for statement in body {
+        if !statement_has_few_parameters(statement) {
+            return false;
+        }
+    }
+    true
+}
+
+/// Whether none in the statement and its blocks has.
+#[cycle(bodies)]
+fn statement_has_few_parameters(statement: &Stmt) -> bool
+    ensures { IsTrue result ↔ All HasFewTypes (signatures_of statement.now) }
+{
+    match statement {
+        Stmt::Set(_, _, _) => true,
+        Stmt::Emit(_, _) => true,
+        Stmt::Call(_, _, _) => true,
+        Stmt::If(_, body, other) => {
+            body_has_few_parameters(body.as_slice()) && body_has_few_parameters(other.as_slice())
+        }
+    }
+}
+
+/// Whether the slot has at most 8 parameters, and so has each signature in its body.
+fn slot_has_few_parameters(slot: &Slot) -> bool
+    ensures { IsTrue result ↔ SlotHasFewParameters slot.now }
+{
+    slot.parameters.len() <= MOST_PARAMETERS && body_has_few_parameters(slot.body.as_slice())
+}
+
 #[tactic(auto, unfolding(crate::specs::Limits::ClassHasFewParameters))]
 fn class_has_few_parameters(class: &Class) -> bool
     ensures { IsTrue result ↔ ClassHasFewParameters class.now }
@@ -54,7 +90,7 @@ fn class_has_few_parameters(class: &Class) -> bool
             .slots
             .as_slice()
             .iter()
-            .all(|slot| slot.parameters.len() <= MOST_PARAMETERS)
+            .all(|slot| slot_has_few_parameters(slot))
 }
 
 fn class_is_within_limits(class: &Class) -> bool

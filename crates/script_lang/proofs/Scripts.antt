@@ -5,11 +5,16 @@ use Rattle.texts.proofs.Cut.{same_tokens}
 use Rattle.texts.specs.Pieces.{AreTokens}
 use Rattle.texts.specs.Reading.{Found, EndsAnywhere}
 use Rattle.texts.specs.Signatures.{HasPlainReference}
+use Rattle.texts.specs.declared.fault.ParseFault.{ParseFault}
+use Rattle.texts.specs.declared.fault.ParseFault.TheVariants as parse
+use Rattle.texts.specs.declared.lexer.LexFault.{LexFault}
+use Rattle.texts.specs.declared.lexer.LexFault.TheVariants as lex
 use Rattle.texts.specs.declared.token.Token.{Token}
+use Rattle.script_lang.specs.declared.fault.LineFault.TheVariants.{NoEvent}
 use Rattle.script_lang.specs.declared.event.Event.{Event}
 use Rattle.script_lang.specs.Grammar.{Reading, spell_event, tree_of_event, IsWithinLimits}
 use Rattle.texts.specs.Lines.{IsFrontLine, AreFrontLines}
-use Rattle.script_lang.specs.Reads.{IsEmptyLine, IsEventLine, Holds, before, AreEvents, most_bytes, IsScript, IsBadLine}
+use Rattle.script_lang.specs.Reads.{fault_of_cutting, fault_of_parsing, IsEmptyLine, IsEventLine, Holds, before, AreEvents, most_bytes, IsScript, IsBadLine}
 use Rattle.texts.proofs.FrontLines.{one_more_line}
 use Rattle.script_lang.proofs.OneTree.{one_event}
 
@@ -20,6 +25,15 @@ is_so b f h = h.0 f
 
 pub is_not_so : {P : Type 0} (b : Bool) → b ≡ false → (IsTrue b ↔ P) → ¬ P
 is_not_so b f h p = let t = h.1 p in cc
+
+-- the faults below of a line that is no event
+pub only_bad_byte : (fault : LexFault) → fault_of_cutting fault ≡ NoEvent → fault ≡ lex.BadByte
+only_bad_byte lex.BadByte e = refl
+only_bad_byte lex.Memory e = cc
+
+pub only_syntax : (fault : ParseFault) → fault_of_parsing fault ≡ NoEvent → fault ≡ parse.Syntax
+only_syntax parse.Syntax e = refl
+only_syntax parse.Memory e = cc
 
 -- the line is neither empty nor an event
 abbrev pub IsRefused : List ℕ → Type 0

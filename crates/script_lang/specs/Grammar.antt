@@ -13,8 +13,11 @@
 --
 -- `connect`, `set`, `emit` and `call` are reserved words; `new`, `adopt`, `block` and `unblock` are names.
 use Rattle.std.specs.Prelude.{ℕ, ◌≡◌, ◌≢◌, ◌≤◌, List, [], ◌∷◌, map, length, codes}
+use Rattle.std.specs.List.{AllByRecursion}
+use Rattle.signatures.specs.Signatures.{most_parameters}
 use Rattle.signatures.specs.declared.kind.Kind.{Kind}
 use Rattle.signatures.specs.declared.kind.Kind.TheVariants.{Queued}
+use Rattle.signatures.specs.declared.sig.Sig.{Sig}
 use Rattle.signatures.specs.declared.word.Word.TheVariants as word
 use Rattle.texts.specs.Lists.{spell_listed}
 use Rattle.texts.specs.Literals.{LiteralReading, spell_literal, tree_of_literal}
@@ -180,10 +183,37 @@ tree_of_event (call i) = tree_of_call i
 tree_of_event (block object) = tree_of_block object
 tree_of_event (unblock object) = tree_of_unblock object
 
+-- ---- limits
+
+-- the signatures in an event
+abbrev pub signatures_in : Event → List Sig
+signatures_in (tree.New object class) = []
+signatures_in (tree.Adopt parent child) = []
+signatures_in (tree.Connect c) = c.signal ∷ c.method ∷ []
+signatures_in (tree.Set object property value) = []
+signatures_in (tree.Emit object signal arguments) = []
+signatures_in (tree.Call object method arguments) = []
+signatures_in (tree.Block object) = []
+signatures_in (tree.Unblock object) = []
+
+-- the kinds of connections in it
+abbrev pub kinds_in : Event → List Kind
+kinds_in (tree.New object class) = []
+kinds_in (tree.Adopt parent child) = []
+kinds_in (tree.Connect c) = c.kind ∷ []
+kinds_in (tree.Set object property value) = []
+kinds_in (tree.Emit object signal arguments) = []
+kinds_in (tree.Call object method arguments) = []
+kinds_in (tree.Block object) = []
+kinds_in (tree.Unblock object) = []
+
+abbrev pub HasFewTypes : Sig → Type 0
+HasFewTypes sig = length sig.types ≤ most_parameters
+
 -- The signatures have at most 8 types. No connection is queued, as there is one event loop.
-abbrev pub IsWithinLimits : Event → Type 0
-IsWithinLimits (tree.Connect c) = (length c.signal.types ≤ 8) × (length c.method.types ≤ 8) × (c.kind ≢ Queued)
-IsWithinLimits _ = Unit {0}
+pub record IsWithinLimits (event : Event) : Type 0 where
+  pub few_types : AllByRecursion HasFewTypes (signatures_in event)
+  pub not_queued : AllByRecursion (λ kind. kind ≢ Queued) (kinds_in event)
 
 -- the tokens are this event
 pub record IsEvent (tokens : List Token) (event : Event) : Type 0 where

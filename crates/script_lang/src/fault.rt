@@ -41,11 +41,10 @@ pub enum LineFault {
 }
 
 impl From<LexFault> for LineFault {
-    ghost use Rattle.std.specs.Prelude.{◌≡◌, ◌↔◌};
-    ghost use Rattle.script_lang.specs.declared.fault.LineFault.TheVariants.{NoEvent};
-    ghost use Rattle.texts.specs.declared.lexer.LexFault.TheVariants.{BadByte};
+    ghost use Rattle.std.specs.Prelude.{◌≡◌};
+    ghost use Rattle.script_lang.specs.Reads.{fault_of_cutting};
 
-    ghost from_gives = { λ lex fault. (fault ≡ NoEvent) ↔ (lex ≡ BadByte) };
+    ghost from_gives = { λ fault made. made ≡ fault_of_cutting fault };
 
     fn from(fault: LexFault) -> LineFault {
         match fault {
@@ -56,11 +55,10 @@ impl From<LexFault> for LineFault {
 }
 
 impl From<ParseFault> for LineFault {
-    ghost use Rattle.std.specs.Prelude.{◌≡◌, ◌↔◌};
-    ghost use Rattle.script_lang.specs.declared.fault.LineFault.TheVariants.{NoEvent};
-    ghost use Rattle.texts.specs.declared.fault.ParseFault.TheVariants.{Syntax};
+    ghost use Rattle.std.specs.Prelude.{◌≡◌};
+    ghost use Rattle.script_lang.specs.Reads.{fault_of_parsing};
 
-    ghost from_gives = { λ parse fault. (fault ≡ NoEvent) ↔ (parse ≡ Syntax) };
+    ghost from_gives = { λ fault made. made ≡ fault_of_parsing fault };
 
     fn from(fault: ParseFault) -> LineFault {
         match fault {

@@ -1,19 +1,19 @@
-use Rattle.std.proofs.Common.{◌∙◌, ap, Err}
+use Rattle.std.proofs.Common.{◌∙◌, ap, sym, Err}
 use Rattle.std.proofs.lemmas.Result.{err_from_is_err_and}
-use Rattle.script_lang.proofs.Scripts.{no_tokens, no_event, no_normal_form, more_than_event, beyond_limits, is_so, is_not_so}
+use Rattle.script_lang.proofs.Scripts.{only_bad_byte, only_syntax, no_tokens, no_event, no_normal_form, more_than_event, beyond_limits, is_so, is_not_so}
 use Rattle.script_lang.proofs.reader.read_line.Goals as goal
 
 pub returns-in_err-tokens : goal.returns-in_err-tokens
 returns-in_err-tokens c =
     let p = err_from_is_err_and c.from_residual.result c.from_residual.ensures.1 in
-    rw p.1 (λ k. no_tokens (c.in_err-tokens.ensures.refused (ap Err (p.2.0 k))))
+    rw p.1 (λ k. no_tokens (c.in_err-tokens.ensures.refused (ap Err (only_bad_byte c.in_err-tokens.field-0.0 (sym p.2 ∙ k)))))
 
 pub returns-in_err-event : goal.returns-in_err-event
 returns-in_err-event c =
     let p = err_from_is_err_and c.from_residual-in_err-event.result c.from_residual-in_err-event.ensures.1 in
     let same = c.new-cursor.ensures ∙ c.as_slice.ensures in
     let some = is_not_so c.is_empty.result c.if-is_empty.false c.is_empty.ensures in
-    rw p.1 (λ k. no_event c.in_ok-tokens.ensures.cut (rw same at some) (rw same at (c.in_err-event.ensures (p.2.0 k))))
+    rw p.1 (λ k. no_event c.in_ok-tokens.ensures.cut (rw same at some) (rw same at (c.in_err-event.ensures (only_syntax c.in_err-event.field-0.0 (sym p.2 ∙ k)))))
 
 pub returns-then-has_plain_reference : goal.returns-then-has_plain_reference
 returns-then-has_plain_reference c =

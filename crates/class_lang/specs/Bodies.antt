@@ -1,0 +1,20 @@
+-- The signatures in slot bodies (docs/language.md, "Limits").
+use Rattle.std.specs.Prelude.{List, [], ◌++◌, flat_map}
+use Rattle.signatures.specs.declared.sig.Sig.{Sig}
+use Rattle.texts.specs.declared.syntax.Stmt.{Stmt}
+use Rattle.texts.specs.declared.syntax.Stmt.TheOpen as layer
+use Rattle.texts.specs.declared.syntax.Stmt.TheFolds.{fold-Stmt}
+
+-- the signatures in a statement, from those in the statements of its blocks
+abbrev pub signatures_step : layer.Stmt-F (List Sig) → List Sig
+signatures_step (layer.Set path property value) = []
+signatures_step (layer.Emit signal arguments) = []
+signatures_step (layer.Call path method arguments) = []
+signatures_step (layer.If condition body other) = flat_map (λ sigs. sigs) body ++ flat_map (λ sigs. sigs) other
+
+abbrev pub signatures_of : Stmt → List Sig
+signatures_of = fold-Stmt (List Sig) signatures_step
+
+-- the signatures in a body, one statement after another
+abbrev pub signatures_in : List Stmt → List Sig
+signatures_in body = flat_map signatures_of body
