@@ -3,6 +3,5 @@ pub mod Sequences
 pub mod MemberLists
 pub mod DeclarationLists
 pub mod OneTree
-pub mod Bodies
 pub mod Stages
 pub mod OneAnswer

@@ -5,7 +5,7 @@ use Rattle.texts.specs.Signatures.{EndsType}
 use Rattle.texts.specs.declared.symbol.Symbol.TheVariants.{Close}
 use Rattle.texts.specs.declared.token.Token.{Token}
 use Rattle.texts.specs.declared.token.Token.TheVariants as token
-use Rattle.texts.proofs.Listed.{IsPart}
+use Rattle.texts.specs.Lists.{IsPart}
 use Rattle.texts.proofs.Signatures.{types_are_parts}
 use Rattle.class_lang.specs.Optional.{spell_optional_name}
 use Rattle.class_lang.specs.Parameters.{SignalParameter, signal_parameter, spell_signal_parameter, SlotParameter, slot_parameter, spell_slot_parameter, EndsSignalParameter}

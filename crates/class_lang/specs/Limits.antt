@@ -1,8 +1,8 @@
 -- How large programs may be (docs/language.md, "Limits").
 use Rattle.std.specs.Prelude.{ℕ, ◌+◌, ◌≤◌, length, All, IfSome}
 use Rattle.signatures.specs.Signatures.{most_parameters}
-use Rattle.signatures.specs.declared.sig.Sig.{Sig}
-use Rattle.class_lang.specs.Bodies.{signatures_in}
+use Rattle.texts.specs.Signatures.{HasFewTypes}
+use Rattle.slot_lang.specs.Bodies.{signatures_in}
 use Rattle.texts.specs.declared.program.Class.{Class}
 use Rattle.texts.specs.declared.program.Slot.{Slot}
 use Rattle.texts.specs.declared.program.Wire.{Wire}
@@ -31,9 +31,6 @@ most_wires = 1000
 -- declarations of ownership of a program
 abbrev pub most_owns : ℕ
 most_owns = 1000
-
-abbrev pub HasFewTypes : Sig → Type 0
-HasFewTypes sig = length sig.types ≤ most_parameters
 
 -- nor have the signatures in a slot's body more than a signature may have
 pub record SlotHasFewParameters (slot : Slot) : Type 0 where

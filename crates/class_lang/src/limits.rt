@@ -1,11 +1,12 @@
 //! How large programs may be.
 
-ghost use Rattle.std.specs.Prelude.{◌↔◌, IsTrue, IfSome, All};
-ghost use Rattle.class_lang.specs.Bodies.{signatures_of, signatures_in};
-ghost use Rattle.class_lang.specs.Limits.{HasFewTypes, SlotHasFewParameters, ClassHasFewParameters, WireHasFewParameters, HasFewParameters, ClassIsWithinLimits, IsWithinLimits};
+ghost use Rattle.std.specs.Prelude.{◌↔◌, IsTrue, IfSome};
+ghost use Rattle.texts.specs.Signatures.{HasFewTypes};
+ghost use Rattle.class_lang.specs.Limits.{SlotHasFewParameters, ClassHasFewParameters, WireHasFewParameters, HasFewParameters, ClassIsWithinLimits, IsWithinLimits};
 
-use signatures::{MOST_PARAMETERS, Sig};
-use texts::{Class, Program, Property, Slot, Stmt, Wire};
+use signatures::MOST_PARAMETERS;
+use slot_lang::body_has_few_parameters;
+use texts::{Class, Program, Property, Slot, Wire, has_few_types};
 
 /// Bytes of a text.
 pub const MOST_BYTES: usize = 1_048_576;
@@ -20,13 +21,6 @@ const MOST_WIRES: usize = 1000;
 /// Declarations of ownership of a program.
 const MOST_OWNS: usize = 1000;
 
-/// Whether the signature has at most 8 parameters.
-fn has_few_types(sig: &Sig) -> bool
-    ensures { IsTrue result ↔ HasFewTypes sig.now }
-{
-    sig.types.len() <= MOST_PARAMETERS
-}
-
 /// Whether its signal's signature has at most 8 parameters, if it names one.
 fn property_has_few_parameters(property: &Property) -> bool
     ensures { IsTrue result ↔ IfSome property.now.notify HasFewTypes }
@@ -34,34 +28,6 @@ fn property_has_few_parameters(property: &Property) -> bool
     match &property.notify {
         Some(sig) => has_few_types(sig),
         None => true,
-    }
-}
-
-/// Whether no signature in the body has more than 8 parameters.
-#[cycle(bodies)]
-fn body_has_few_parameters(body: &[Stmt]) -> bool
-    ensures { IsTrue result ↔ All HasFewTypes (signatures_in body.now) }
-{
-    for statement in body {
-        if !statement_has_few_parameters(statement) {
-            return false;
-        }
-    }
-    true
-}
-
-/// Whether none in the statement and its blocks has.
-#[cycle(bodies)]
-fn statement_has_few_parameters(statement: &Stmt) -> bool
-    ensures { IsTrue result ↔ All HasFewTypes (signatures_of statement.now) }
-{
-    match statement {
-        Stmt::Set(_, _, _) => true,
-        Stmt::Emit(_, _) => true,
-        Stmt::Call(_, _, _) => true,
-        Stmt::If(_, body, other) => {
-            body_has_few_parameters(body.as_slice()) && body_has_few_parameters(other.as_slice())
-        }
     }
 }
 

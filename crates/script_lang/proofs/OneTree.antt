@@ -6,7 +6,7 @@ use Rattle.texts.specs.Signatures.{spell_sig, tree_of_sig, spell_kind}
 use Rattle.texts.specs.declared.symbol.Symbol.TheVariants.{Close}
 use Rattle.texts.specs.declared.token.Token.{Token}
 use Rattle.texts.specs.declared.token.Token.TheVariants as token
-use Rattle.texts.proofs.Listed.{IsPart}
+use Rattle.texts.specs.Lists.{IsPart}
 use Rattle.texts.proofs.OneTree.{HasOneTree, one_tree_of_listed, one_tree_of_sig, one_tree_of_kind, one_tree_of_literal}
 use Rattle.script_lang.specs.declared.event.Event.TheVariants as tree
 use Rattle.script_lang.specs.declared.event.Input.TheVariants as input

@@ -14,7 +14,6 @@
 -- `connect`, `set`, `emit` and `call` are reserved words; `new`, `adopt`, `block` and `unblock` are names.
 use Rattle.std.specs.Prelude.{ℕ, ◌≡◌, ◌≢◌, ◌≤◌, List, [], ◌∷◌, map, length, codes}
 use Rattle.std.specs.List.{AllByRecursion}
-use Rattle.signatures.specs.Signatures.{most_parameters}
 use Rattle.signatures.specs.declared.kind.Kind.{Kind}
 use Rattle.signatures.specs.declared.kind.Kind.TheVariants.{Queued}
 use Rattle.signatures.specs.declared.sig.Sig.{Sig}
@@ -22,7 +21,7 @@ use Rattle.signatures.specs.declared.word.Word.TheVariants as word
 use Rattle.texts.specs.Lists.{spell_listed}
 use Rattle.texts.specs.Literals.{LiteralReading, spell_literal, tree_of_literal}
 use Rattle.texts.specs.Reading.{spell_name}
-use Rattle.texts.specs.Signatures.{SigReading, spell_sig, tree_of_sig, spell_kind, HasPlainReference}
+use Rattle.texts.specs.Signatures.{SigReading, spell_sig, tree_of_sig, spell_kind, HasFewTypes, HasPlainReference}
 use Rattle.texts.specs.declared.symbol.Symbol.TheVariants.{Dot}
 use Rattle.texts.specs.declared.token.Token.{Token}
 use Rattle.texts.specs.declared.token.Token.TheVariants as token
@@ -206,9 +205,6 @@ kinds_in (tree.Emit object signal arguments) = []
 kinds_in (tree.Call object method arguments) = []
 kinds_in (tree.Block object) = []
 kinds_in (tree.Unblock object) = []
-
-abbrev pub HasFewTypes : Sig → Type 0
-HasFewTypes sig = length sig.types ≤ most_parameters
 
 -- The signatures have at most 8 types. No connection is queued, as there is one event loop.
 pub record IsWithinLimits (event : Event) : Type 0 where

@@ -1,17 +1,11 @@
 //! What an event's form leaves open.
 
 ghost use Rattle.std.specs.Prelude.{◌↔◌, IsTrue};
-ghost use Rattle.script_lang.specs.Grammar.{HasFewTypes, IsWithinLimits};
+ghost use Rattle.script_lang.specs.Grammar.{IsWithinLimits};
 
 use crate::event::Event;
-use signatures::{Kind, MOST_PARAMETERS, Sig};
-
-/// Whether the signature has at most 8 types.
-fn has_few_types(sig: &Sig) -> bool
-    ensures { IsTrue result ↔ HasFewTypes sig.now }
-{
-    sig.types.len() <= MOST_PARAMETERS
-}
+use signatures::Kind;
+use texts::has_few_types;
 
 /// Whether the signatures have at most 8 types, and no connection is queued.
 pub fn is_within_limits(event: &Event) -> bool

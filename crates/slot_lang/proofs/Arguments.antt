@@ -5,7 +5,7 @@ use Rattle.texts.specs.declared.symbol.Symbol.TheVariants.{Close, Comma}
 use Rattle.texts.specs.declared.syntax.Unary.TheVariants as unary
 use Rattle.texts.specs.declared.token.Token.{Token}
 use Rattle.texts.specs.declared.token.Token.TheVariants as token
-use Rattle.texts.proofs.Listed.{IsPart}
+use Rattle.texts.specs.Lists.{IsPart}
 use Rattle.texts.proofs.Literals.{no_symbol}
 use Rattle.slot_lang.proofs.Paths.{root_no_symbol}
 use Rattle.slot_lang.proofs.Precedences.{expression_ends}

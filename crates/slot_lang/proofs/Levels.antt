@@ -1,8 +1,11 @@
 -- The rules of expressions between operands.
-use Rattle.std.proofs.Common.{◌≡◌, ◌∙◌, ◌⊎◌, List, ◌∷◌, inl, inr, refl, sym}
+use Rattle.std.proofs.Common.{◌≡◌, ◌∙◌, ◌⊎◌, ℕ, List, ◌∷◌, inl, inr, refl, sym}
 use Rattle.slot_lang.specs.Expressions.{Expression, expression, Conjunctions, no_conjunction, or_else, Conjunction, conjunction, Comparisons, no_comparison, and_also, Comparison, alone, compared, Sum, sum, Terms, no_term, signed, Term, term, Factors, no_factor, times, Factor, spell_expression, spell_conjunctions, spell_conjunction, spell_comparisons, spell_comparison, spell_sum, spell_terms, spell_term, spell_factors, spell_factor, tree_of_expression, tree_of_conjunctions, tree_of_conjunction, tree_of_comparisons, tree_of_comparison, tree_of_sum, tree_of_terms, tree_of_term, tree_of_factors, tree_of_factor, EndsFactor, EndsTerm, EndsSum, EndsComparison, EndsConjunction}
+use Rattle.slot_lang.specs.Levels.{precedence_at, spell_at, tree_at, spell_operand, tree_of_operand, EndsOperand}
 use Rattle.slot_lang.specs.Precedence.{symbol_of, precedence_of, Operator, NoOperator}
 use Rattle.texts.specs.Reading.{Found}
+use Rattle.slot_lang.specs.declared.precedence.Level.{Level}
+use Rattle.slot_lang.specs.declared.precedence.Level.TheVariants as level
 use Rattle.slot_lang.specs.declared.precedence.Precedence.TheVariants as precedence
 use Rattle.texts.specs.declared.syntax.Binary.{Binary}
 use Rattle.texts.specs.declared.syntax.Expr.{Expr}
@@ -114,6 +117,39 @@ expressions_chain = record {
   cases = conjunctions_cases;
   ends_at = conjunction_ends_at;
 }
+
+-- ---- the rule of each level
+
+abbrev pub MoreAt : Level → Type 0
+MoreAt level.Or = Conjunctions
+MoreAt level.And = Comparisons
+MoreAt level.Sum = Terms
+MoreAt level.Term = Factors
+
+abbrev pub spell_more : (l : Level) → MoreAt l → List Token → List Token
+spell_more level.Or = spell_conjunctions
+spell_more level.And = spell_comparisons
+spell_more level.Sum = spell_terms
+spell_more level.Term = spell_factors
+
+abbrev pub tree_of_more : (l : Level) → MoreAt l → Expr Path → Expr Path
+tree_of_more level.Or = tree_of_conjunctions
+tree_of_more level.And = tree_of_comparisons
+tree_of_more level.Sum = tree_of_terms
+tree_of_more level.Term = tree_of_factors
+
+-- how many rules lie below the operands of the level
+abbrev pub operand_rank : Level → ℕ
+operand_rank level.Term = 1
+operand_rank level.Sum = 3
+operand_rank level.And = 6
+operand_rank level.Or = 8
+
+pub chain_at : (l : Level) → IsChain (precedence_at l) (spell_at l) (tree_at l) (spell_more l) (tree_of_more l) (spell_operand l) (tree_of_operand l) (EndsOperand l)
+chain_at level.Or = expressions_chain
+chain_at level.And = conjunctions_chain
+chain_at level.Sum = sums_chain
+chain_at level.Term = terms_chain
 
 -- ---- comparisons, which don't chain
 

@@ -7,3 +7,5 @@ pub mod OneExpression
 pub mod Arguments
 pub mod Bodies
 pub mod Unique
+pub mod FewTypes
+pub mod OneAnswer

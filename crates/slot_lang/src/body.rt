@@ -1,24 +1,53 @@
 //! Statements and blocks.
 
-ghost use Rattle.std.specs.Prelude.{◌≡◌, ◌<◌, ◌≤◌, List, length, map, IfOk, OnOk, Err};
+ghost use Rattle.std.specs.Prelude.{◌≡◌, ◌<◌, ◌≤◌, List, length, map, IfOk, OnOk, Err, Result, ◌⊎◌};
 ghost use Rattle.slot_lang.specs.Expressions.{tree_of_expression};
 ghost use Rattle.slot_lang.specs.Grammar.{IsBody, spell_value, spell_arguments, spell_condition, spell_assignment, tree_of_assignment, spell_emission, tree_of_emission, spell_call, tree_of_call, spell_choice, tree_of_choice, spell_statement, tree_of_statement, spell_else, tree_of_else, spell_block, tree_of_block, EndsStatement};
+ghost use Rattle.slot_lang.specs.Reads.{ReadsBody};
+ghost use Rattle.slot_lang.specs.declared.fault.BodyFault.{BodyFault};
+ghost use Rattle.slot_lang.specs.declared.fault.BodyFault.TheVariants.{Memory};
 ghost use Rattle.texts.specs.Reading.{Reads, EndsAnywhere};
 ghost use Rattle.texts.specs.declared.fault.ParseFault.TheVariants.{Syntax};
 ghost use Rattle.texts.specs.declared.syntax.Stmt.{Stmt};
 ghost use Rattle.texts.specs.declared.token.Token.{Token};
 
-use crate::expression::{expression, expressions, group};
+use crate::expression::{Argument, expression, group};
+use crate::fault::BodyFault;
+use crate::limits::body_has_few_parameters;
 use crate::path::target;
 use signatures::Word;
 use sqlite_items::Items;
 use std::alloc::Global;
-use texts::{Body, Cursor, Expr, ParseFault, Path, Stmt, Symbol, Token};
+use texts::{Body, Cursor, Expr, ParseFault, Path, Stmt, Symbol, Token, has_plain_reference, list};
 
 /// Reads a slot's body, which all of the tokens are: its statements, in their order.
 ///
-/// `Syntax` where the tokens aren't a body, and only there; `Memory` where a growth of memory was refused.
-pub fn parse_body(alloc: Global, tokens: &[Token]) -> Result<Body, ParseFault>
+/// Of several things that are wrong with the tokens the first of these is the answer:
+/// - `Syntax`: they are no body.
+/// - `BadType`: a reference isn't const, as `T &`.
+/// - `TooMany`: a signature in the body has more than 8 types.
+///
+/// `Memory`, that a growth of memory was refused, can come at any point.
+pub fn parse_body(alloc: Global, tokens: &[Token]) -> Result<Body, BodyFault>
+    ensures { ReadsBody tokens.now result }
+{
+    let body = whole_body(alloc, tokens)?;
+    if has_plain_reference(tokens) {
+        return Err(BodyFault::BadType);
+    }
+    if !body_has_few_parameters(body.as_slice()) {
+        return Err(BodyFault::TooMany);
+    }
+    Ok(body)
+}
+
+/// Tokens have at most one answer as a body, want of memory aside.
+pub fn one_answer()
+    ensures { (tokens : List Token) → (a b : Result (List Stmt) BodyFault) → ReadsBody tokens a → ReadsBody tokens b → (a ≡ Err Memory) ⊎ (b ≡ Err Memory) ⊎ (a ≡ b) }
+{}
+
+/// The body that all of the tokens are.
+fn whole_body(alloc: Global, tokens: &[Token]) -> Result<Body, ParseFault>
     ensures read { IfOk result (λ body. IsBody tokens.now body) }
     ensures refused { result ≡ Err Syntax → (body : List Stmt) → IsBody tokens.now body → ⊥ }
 {
@@ -153,7 +182,7 @@ fn arguments(cursor: &mut Cursor) -> Result<Items<Expr<Path>>, ParseFault>
     ensures reads { Reads spell_arguments (map tree_of_expression) EndsAnywhere cursor.old result cursor.new }
     ensures shorter { OnOk result (length cursor.new < length cursor.old) }
 {
-    let arguments = expressions(cursor)?;
+    let arguments = list::<Argument>(cursor)?;
     cursor.expect(Symbol::Semicolon)?;
     Ok(arguments)
 }

@@ -1,9 +1,9 @@
 //! Expressions, one function a rule.
 
-ghost use Rattle.std.specs.Prelude.{◌≡◌, ◌<◌, ◌≤◌, ◌∷◌, List, length, map, IfOk, OnOk, Err, MatchResult};
+ghost use Rattle.std.specs.Prelude.{◌≡◌, ◌<◌, ◌≤◌, ◌∷◌, List, length, IfOk, OnOk, Err, MatchResult};
 ghost use Rattle.texts.specs.Cursor.{NotAt};
-ghost use Rattle.slot_lang.specs.Expressions.{IsExpr, spell_expression, tree_of_expression, spell_conjunction, tree_of_conjunction, spell_comparison, tree_of_comparison, spell_sum, tree_of_sum, spell_term, tree_of_term, spell_factor, tree_of_factor, spell_group, spell_names, EndsExpression, EndsConjunction, EndsComparison, EndsSum, EndsTerm, EndsFactor};
-ghost use Rattle.texts.specs.Lists.{spell_listed};
+ghost use Rattle.slot_lang.specs.Expressions.{Expression, IsExpr, spell_expression, tree_of_expression, spell_comparison, tree_of_comparison, spell_factor, tree_of_factor, spell_group, spell_names, EndsExpression, EndsComparison, EndsFactor};
+ghost use Rattle.slot_lang.specs.Levels.{spell_at, tree_at, EndsAt, spell_operand, tree_of_operand, EndsOperand};
 ghost use Rattle.texts.specs.Reading.{Reads, EndsAnywhere};
 ghost use Rattle.texts.specs.declared.fault.ParseFault.TheVariants.{Syntax};
 ghost use Rattle.texts.specs.declared.symbol.Symbol.TheVariants.{Close};
@@ -14,11 +14,13 @@ ghost use Rattle.texts.specs.declared.token.Token.{Token};
 ghost use Rattle.texts.specs.declared.token.Token.TheVariants as token;
 
 use crate::path::names;
-use crate::precedence::{Precedence, operator};
+use crate::precedence::{Level, Precedence, operator};
 use signatures::Word;
-use sqlite_items::{Boxed, Items};
+use sqlite_items::Boxed;
 use std::alloc::{AllocError, Global};
-use texts::{Binary, Cursor, Expr, ParseFault, Path, Root, Symbol, Token, Unary, unsigned_literal};
+use texts::{
+    Binary, Cursor, Expr, ParseFault, Part, Path, Root, Symbol, Token, Unary, unsigned_literal,
+};
 
 /// Reads an expression, which all of the tokens are. A number in it is at most 2147483647, and a text has at most 255
 /// bytes.
@@ -50,67 +52,52 @@ pub fn expression(cursor: &mut Cursor) -> Result<Expr<Path>, ParseFault>
     ensures reads { Reads spell_expression tree_of_expression EndsExpression cursor.old result cursor.new }
     ensures shorter { OnOk result (length cursor.new < length cursor.old) }
 {
-    let mut left = conjunction(cursor)?;
-    while let Some(operator) = operator(cursor, Precedence::Or) {
-        let right = conjunction(cursor)?;
-        left = binary(cursor.alloc(), operator, left, right)?;
-    }
-    Ok(left)
+    chain(cursor, Level::Or)
 }
 
+/// `operand {operator operand}`, which groups to the left.
 #[cycle(expression)]
-fn conjunction(cursor: &mut Cursor) -> Result<Expr<Path>, ParseFault>
-    ensures reads { Reads spell_conjunction tree_of_conjunction EndsConjunction cursor.old result cursor.new }
+fn chain(cursor: &mut Cursor, level: Level) -> Result<Expr<Path>, ParseFault>
+    ensures reads { Reads (spell_at level) (tree_at level) (EndsAt level) cursor.old result cursor.new }
     ensures shorter { OnOk result (length cursor.new < length cursor.old) }
 {
-    let mut left = comparison(cursor)?;
-    while let Some(operator) = operator(cursor, Precedence::And) {
-        let right = comparison(cursor)?;
+    let mut left = operand(cursor, level)?;
+    while let Some(operator) = operator(cursor, level.precedence()) {
+        let right = operand(cursor, level)?;
         left = binary(cursor.alloc(), operator, left, right)?;
     }
     Ok(left)
 }
 
+/// What stands between the operators of the level.
+#[cycle(expression)]
+fn operand(cursor: &mut Cursor, level: Level) -> Result<Expr<Path>, ParseFault>
+    ensures reads { Reads (spell_operand level) (tree_of_operand level) (EndsOperand level) cursor.old result cursor.new }
+    ensures shorter { OnOk result (length cursor.new < length cursor.old) }
+{
+    match level {
+        Level::Or => chain(cursor, Level::And),
+        Level::And => comparison(cursor),
+        Level::Sum => chain(cursor, Level::Term),
+        Level::Term => factor(cursor),
+    }
+}
+
+/// Two operands with an operator between them, or one: comparisons don't chain.
 #[cycle(expression)]
 fn comparison(cursor: &mut Cursor) -> Result<Expr<Path>, ParseFault>
     ensures reads { Reads spell_comparison tree_of_comparison EndsComparison cursor.old result cursor.new }
     ensures shorter { OnOk result (length cursor.new < length cursor.old) }
 {
-    let left = sum(cursor)?;
+    let left = chain(cursor, Level::Sum)?;
     match operator(cursor, Precedence::Comparison) {
         Some(operator) => {
-            let right = sum(cursor)?;
+            let right = chain(cursor, Level::Sum)?;
             let compared = binary(cursor.alloc(), operator, left, right)?;
             Ok(compared)
         }
         None => Ok(left),
     }
-}
-
-#[cycle(expression)]
-fn sum(cursor: &mut Cursor) -> Result<Expr<Path>, ParseFault>
-    ensures reads { Reads spell_sum tree_of_sum EndsSum cursor.old result cursor.new }
-    ensures shorter { OnOk result (length cursor.new < length cursor.old) }
-{
-    let mut left = term(cursor)?;
-    while let Some(operator) = operator(cursor, Precedence::Sum) {
-        let right = term(cursor)?;
-        left = binary(cursor.alloc(), operator, left, right)?;
-    }
-    Ok(left)
-}
-
-#[cycle(expression)]
-fn term(cursor: &mut Cursor) -> Result<Expr<Path>, ParseFault>
-    ensures reads { Reads spell_term tree_of_term EndsTerm cursor.old result cursor.new }
-    ensures shorter { OnOk result (length cursor.new < length cursor.old) }
-{
-    let mut left = factor(cursor)?;
-    while let Some(operator) = operator(cursor, Precedence::Term) {
-        let right = factor(cursor)?;
-        left = binary(cursor.alloc(), operator, left, right)?;
-    }
-    Ok(left)
 }
 
 #[cycle(expression)]
@@ -193,24 +180,21 @@ fn binary(
     Ok(Expr::Binary(operator, left, right))
 }
 
-/// `"(" [expr {"," expr}] ")"`
-///
-/// `Syntax` where the tokens begin with no such list, and only there; `Memory` where a growth of memory was refused.
-pub fn expressions(cursor: &mut Cursor) -> Result<Items<Expr<Path>>, ParseFault>
-    ensures reads { Reads (spell_listed spell_expression) (map tree_of_expression) EndsAnywhere cursor.old result cursor.new }
-    ensures shorter { OnOk result (length cursor.new < length cursor.old) }
-{
-    let mut found = Items::new(cursor.alloc());
-    cursor.expect(Symbol::Open)?;
-    if cursor.eat(Symbol::Close) {
-        return Ok(found);
+/// An expression, as a part of a list.
+pub struct Argument;
+
+impl Part for Argument {
+    type Tree = Expr<Path>;
+
+    ghost Reading = { Expression };
+
+    ghost spell = { spell_expression };
+
+    ghost tree = { tree_of_expression };
+
+    ghost Ends = { EndsExpression };
+
+    fn read(cursor: &mut Cursor) -> Result<Expr<Path>, ParseFault> {
+        expression(cursor)
     }
-    let first = expression(cursor)?;
-    found.push(first)?;
-    while cursor.eat(Symbol::Comma) {
-        let next = expression(cursor)?;
-        found.push(next)?;
-    }
-    cursor.expect(Symbol::Close)?;
-    Ok(found)
 }

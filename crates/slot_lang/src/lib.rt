@@ -3,10 +3,14 @@
 
 mod body;
 mod expression;
+mod fault;
+mod limits;
 mod path;
 mod precedence;
 
-pub use body::{block, one_body, parse_body};
+pub use body::{block, one_answer, one_body, parse_body};
 pub use expression::{one_expression, parse_expr};
+pub use fault::BodyFault;
+pub use limits::body_has_few_parameters;
 pub use precedence::Precedence;
 pub use texts::{Binary, Body, Expr, Path, Root, Stmt, Unary};

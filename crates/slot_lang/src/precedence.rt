@@ -2,6 +2,7 @@
 
 ghost use Rattle.std.specs.Prelude.{◌≡◌, ◌<◌, List, ◌∷◌, length, MatchOption, OnSome};
 ghost use Rattle.texts.specs.Cursor.{NotAt};
+ghost use Rattle.slot_lang.specs.Levels.{precedence_at};
 ghost use Rattle.slot_lang.specs.Precedence.{symbol_of, precedence_of, prefix_symbol_of, NoOperator};
 ghost use Rattle.texts.specs.declared.syntax.Binary.{Binary};
 ghost use Rattle.texts.specs.declared.token.Token.TheVariants as token;
@@ -21,6 +22,33 @@ pub enum Precedence {
     Sum,
     /// `*`
     Term,
+}
+
+/// The operators that group to the left, by how tight they bind, the loosest first.
+#[derive(Clone, Copy, Debug, PartialEq, Eq)]
+pub enum Level {
+    /// `||`
+    Or,
+    /// `&&`
+    And,
+    /// `+` and `-`
+    Sum,
+    /// `*`
+    Term,
+}
+
+impl Level {
+    /// How tight they bind.
+    pub fn precedence(self) -> Precedence
+        ensures { result ≡ precedence_at self }
+    {
+        match self {
+            Level::Or => Precedence::Or,
+            Level::And => Precedence::And,
+            Level::Sum => Precedence::Sum,
+            Level::Term => Precedence::Term,
+        }
+    }
 }
 
 /// How the operator is spelled.

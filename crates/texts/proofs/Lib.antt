@@ -12,3 +12,4 @@ pub mod Only
 pub mod Cut
 pub mod Counting
 pub mod FrontLines
+pub mod NormalTypes

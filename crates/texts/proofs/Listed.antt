@@ -6,19 +6,16 @@ use Rattle.texts.specs.Reading.{EndsAnywhere, Found}
 use Rattle.texts.specs.declared.symbol.Symbol.TheVariants.{Open, Close, Comma}
 use Rattle.texts.specs.declared.token.Token.{Token}
 use Rattle.texts.specs.declared.token.Token.TheVariants as token
-use Rattle.texts.specs.Lists.{spell_others, spell_listed}
+use Rattle.texts.specs.Lists.{IsPart, spell_others, spell_listed}
 use Rattle.texts.proofs.Underway.{None, Underway}
 
--- a part may end at a comma and at the closing parenthesis, and doesn't begin with that
-pub record IsPart {R : Type 0} (spell : R → List Token → List Token) (Ends : List Token → Type 0) : Type 0 where
-  pub at_comma : (rest : List Token) → Ends (token.Symbol Comma ∷ rest)
-  pub at_close : (rest : List Token) → Ends (token.Symbol Close ∷ rest)
-  pub unclosed : (r : R) (rest after : List Token) → spell r rest ≡ token.Symbol Close ∷ after → ⊥
+-- found so far, from the opening parenthesis at `before` on
+abbrev pub ListUnderway : {R A : Type 0} → (R → List Token → List Token) → (R → A) → List Token → List A → List Token → Type 0
+ListUnderway spell tree before found now = Underway (spell_listed spell) (map tree) EndsAnywhere (spell_others spell) (λ more found. found ++ map tree more) before found now
 
 module _ {R A : Type 0} (spell : R → List Token → List Token) (tree : R → A) (Ends : List Token → Type 0) (part : IsPart spell Ends) where
-  -- found so far, from the opening parenthesis at `before` on
   abbrev pub ListedSoFar : List Token → List A → List Token → Type 0
-  ListedSoFar before found now = Underway (spell_listed spell) (map tree) EndsAnywhere (spell_others spell) (λ more found. found ++ map tree more) before found now
+  ListedSoFar before found now = ListUnderway spell tree before found now
 
   pub ends_others : (rs : List R) (rest : List Token) → Ends (spell_others spell rs rest)
   ends_others [] rest = part.at_close rest

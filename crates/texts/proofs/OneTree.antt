@@ -6,14 +6,14 @@ use Rattle.signatures.specs.declared.normal.ConstPlace.TheVariants.{Nowhere, Bef
 use Rattle.signatures.specs.declared.normal.TypeEnding.{TypeEnding}
 use Rattle.signatures.specs.declared.normal.TypeEnding.TheVariants.{Bare, Reference, Pointer}
 use Rattle.signatures.specs.declared.value.Value.TheVariants as value
-use Rattle.texts.specs.Lists.{spell_others, spell_listed}
+use Rattle.texts.specs.Lists.{IsPart, spell_others, spell_listed}
 use Rattle.texts.specs.Literals.{UnsignedReading, plain, truth, quoted, null, token_of_unsigned, tree_of_unsigned, unsigned, negative, spell_literal, tree_of_literal}
 use Rattle.texts.specs.Numerals.{value_of}
 use Rattle.texts.specs.Reading.{EndsAnywhere}
 use Rattle.texts.specs.Signatures.{spelled_type, spell_ending, Named, spell_place, EndsNamed, spell_type, tree_of_type, EndsType, sig, spell_sig, tree_of_sig, spell_kind}
 use Rattle.texts.specs.declared.symbol.Symbol.TheVariants.{Minus}
 use Rattle.texts.specs.declared.token.Token.{Token}
-use Rattle.texts.proofs.Listed.{IsPart, ends_others}
+use Rattle.texts.proofs.Listed.{ends_others}
 use Rattle.texts.proofs.Literals.{no_symbol}
 use Rattle.texts.proofs.Signatures.{types_are_parts, ends_at_ending}
 

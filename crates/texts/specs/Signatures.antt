@@ -4,9 +4,10 @@
 --   type = ["const"] Name ["const"] ["&" | "*"]      with at most one "const"
 --   sig  = Name "(" [type {"," type}] ")"
 --   kind = "auto" | "direct" | "queued"
-use Rattle.std.specs.Prelude.{ℕ, ◌≡◌, ◌≢◌, ◌++◌, Bool, true, false, List, [], ◌∷◌, map}
+use Rattle.std.specs.Prelude.{ℕ, ◌≡◌, ◌≢◌, ◌≤◌, ◌++◌, length, ◌↔◌, List, [], ◌∷◌, map, Option, Some, None}
 use Rattle.signatures.specs.Types.{value_type}
-use Rattle.signatures.specs.Normal.{pointer_type}
+use Rattle.signatures.specs.Signatures.{most_parameters}
+use Rattle.signatures.specs.Normal.{normal_of}
 use Rattle.signatures.specs.declared.kind.Kind.{Kind}
 use Rattle.signatures.specs.declared.kind.Kind.TheVariants.{Auto, Direct, Queued}
 use Rattle.signatures.specs.declared.normal.ConstPlace.{ConstPlace}
@@ -54,17 +55,14 @@ pub record IsEnding (ending : TypeEnding) (before after : List Token) : Type 0 w
 abbrev pub spell_type : TypeReading → List Token → List Token
 spell_type (spelled_type place name ending) after = spell_named place name (spell_ending ending after)
 
--- whether `const` stands somewhere
-abbrev pub is_const : ConstPlace → Bool
-is_const Nowhere = false
-is_const Before = true
-is_const After = true
+-- the type where there is one, and else the value type of the name
+abbrev pub or_value : List ℕ → Option QType → QType
+or_value name (Some type) = type
+or_value name None = value_type name
 
 -- the normal form; of `T &`, which has none, the type T: whoever reads types has to refuse it (HasPlainReference)
 abbrev pub tree_of_type : TypeReading → QType
-tree_of_type (spelled_type place name Bare) = value_type name
-tree_of_type (spelled_type place name Reference) = value_type name
-tree_of_type (spelled_type place name Pointer) = pointer_type name (is_const place)
+tree_of_type (spelled_type place name ending) = or_value name (normal_of name place ending)
 
 -- nothing comes next with which a type would go on
 pub record EndsType (after : List Token) : Type 0 where
@@ -86,6 +84,10 @@ spell_kind Auto after = token.Word word.Auto ∷ after
 spell_kind Direct after = token.Word word.Direct ∷ after
 spell_kind Queued after = token.Word word.Queued ∷ after
 
+-- a signature may have at most 8 types (docs/language.md, "Limits")
+abbrev pub HasFewTypes : Sig → Type 0
+HasFewTypes s = length s.types ≤ most_parameters
+
 -- Somewhere among the tokens stands a reference that isn't const: a name, in front of it no `const`, behind it `&`. In
 -- the grammars of programs, scripts and signatures `&` stands nowhere but at the end of a type.
 pub record HasPlainReference (tokens : List Token) : Type 0 where
@@ -94,3 +96,12 @@ pub record HasPlainReference (tokens : List Token) : Type 0 where
   pub after : List Token
   pub is : tokens ≡ front ++ token.Name name ∷ token.Symbol Ampersand ∷ after
   pub plain : (before : List Token) → front ≢ before ++ token.Word word.Const ∷ []
+
+-- A type that has a normal form is read as that: what scans a signature's text and what reads its tokens have the one
+-- normal form.
+abbrev pub TypesAreNormal : Type 0
+TypesAreNormal = (place : ConstPlace) (name : List ℕ) (ending : TypeEnding) (type : QType) → normal_of name place ending ≡ Some type → tree_of_type (spelled_type place name ending) ≡ type
+
+-- and the types without one are those whose tokens are refused
+abbrev pub OthersAreRefused : Type 0
+OthersAreRefused = (place : ConstPlace) (name : List ℕ) (ending : TypeEnding) → normal_of name place ending ≡ None ↔ HasPlainReference (spell_type (spelled_type place name ending) [])

@@ -1,9 +1,8 @@
 //! Types, signatures and the kinds of connections.
 
-ghost use Rattle.std.specs.Prelude.{◌≡◌, ◌<◌, ◌≤◌, List, ◌∷◌, ℕ, length, map, IsTrue, ◌↔◌, OnOk};
-ghost use Rattle.texts.specs.Lists.{spell_listed};
+ghost use Rattle.std.specs.Prelude.{◌≡◌, ◌<◌, ◌≤◌, List, ◌∷◌, ℕ, length, IsTrue, ◌↔◌, OnOk};
 ghost use Rattle.texts.specs.Reading.{Reads, EndsAnywhere};
-ghost use Rattle.texts.specs.Signatures.{spelled_type, spell_place, EndsNamed, IsEnding, spell_type, tree_of_type, EndsType, spell_sig, tree_of_sig, spell_kind, HasPlainReference};
+ghost use Rattle.texts.specs.Signatures.{TypeReading, spelled_type, spell_place, EndsNamed, IsEnding, spell_type, tree_of_type, EndsType, spell_sig, tree_of_sig, spell_kind, HasFewTypes, HasPlainReference, TypesAreNormal, OthersAreRefused};
 ghost use Rattle.signatures.specs.declared.word.Word.TheVariants as word;
 ghost use Rattle.texts.specs.declared.symbol.Symbol.TheVariants.{Ampersand};
 ghost use Rattle.texts.specs.declared.token.Token.{Token};
@@ -11,10 +10,10 @@ ghost use Rattle.texts.specs.declared.token.Token.TheVariants as token;
 
 use crate::cursor::Cursor;
 use crate::fault::ParseFault;
+use crate::lists::{Part, list};
 use crate::symbol::Symbol;
 use crate::token::Token;
-use signatures::{ConstPlace, Kind, Name, QType, Sig, TypeEnding, Word};
-use sqlite_items::Items;
+use signatures::{ConstPlace, Kind, MOST_PARAMETERS, Name, QType, Sig, TypeEnding, Word};
 
 impl<'a> Cursor<'a> {
     /// `["const"] Name ["const"] ["&" | "*"]`, with at most one `const`: the type in its normal form, and T for `T &`,
@@ -61,28 +60,6 @@ impl<'a> Cursor<'a> {
         }
     }
 
-    /// `"(" [type {"," type}] ")"`
-    ///
-    /// `Syntax` where the tokens begin with no such list, and only there; `Memory` where a growth of memory was refused.
-    pub fn kinds(&mut self) -> Result<Items<QType>, ParseFault>
-        ensures reads { Reads (spell_listed spell_type) (map tree_of_type) EndsAnywhere self.old result self.new }
-        ensures shorter { OnOk result (length self.new < length self.old) }
-    {
-        let mut kinds = Items::new(self.alloc());
-        self.expect(Symbol::Open)?;
-        if self.eat(Symbol::Close) {
-            return Ok(kinds);
-        }
-        let first = self.kind()?;
-        kinds.push(first)?;
-        while self.eat(Symbol::Comma) {
-            let kind = self.kind()?;
-            kinds.push(kind)?;
-        }
-        self.expect(Symbol::Close)?;
-        Ok(kinds)
-    }
-
     /// `Name "(" [type {"," type}] ")"`
     ///
     /// `Syntax` where the tokens begin with no signature, and only there; `Memory` where a growth of memory was refused.
@@ -91,7 +68,7 @@ impl<'a> Cursor<'a> {
         ensures shorter { OnOk result (length self.new < length self.old) }
     {
         let name = self.name()?;
-        let types = self.kinds()?;
+        let types = list::<TypePart>(self)?;
         Ok(Sig { name, types })
     }
 
@@ -114,6 +91,25 @@ impl<'a> Cursor<'a> {
     }
 }
 
+/// A type, as a part of a list.
+pub struct TypePart;
+
+impl Part for TypePart {
+    type Tree = QType;
+
+    ghost Reading = { TypeReading };
+
+    ghost spell = { spell_type };
+
+    ghost tree = { tree_of_type };
+
+    ghost Ends = { EndsType };
+
+    fn read(cursor: &mut Cursor) -> Result<QType, ParseFault> {
+        cursor.kind()
+    }
+}
+
 /// The type that is spelled so, which for `T &` is T.
 fn type_of(name: Name, place: ConstPlace, ending: TypeEnding) -> QType
     ensures { result ≡ tree_of_type (spelled_type place name ending) }
@@ -128,6 +124,20 @@ fn type_of(name: Name, place: ConstPlace, ending: TypeEnding) -> QType
         },
     }
 }
+
+/// Whether the signature has at most 8 types.
+pub fn has_few_types(sig: &Sig) -> bool
+    ensures { IsTrue result ↔ HasFewTypes sig.now }
+{
+    sig.types.len() <= MOST_PARAMETERS
+}
+
+/// A type in tokens is read as the normal form that a signature's text has by itself, and the types without a normal
+/// form are those that `has_plain_reference` finds.
+pub fn one_normal_form_of_types()
+    ensures normal { TypesAreNormal }
+    ensures refused { OthersAreRefused }
+{}
 
 /// Whether a reference that isn't const, as `T &`, stands among the tokens.
 pub fn has_plain_reference(tokens: &[Token]) -> bool

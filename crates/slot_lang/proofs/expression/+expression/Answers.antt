@@ -2,118 +2,53 @@ use Rattle.std.proofs.Common.{length, ap, arith}
 use Rattle.std.proofs.lemmas.Result.{err_from_is_err_and}
 use Rattle.slot_lang.proofs.Chains.{chain_no_first, chain_start, chain_step, chain_stuck, chain_done}
 use Rattle.slot_lang.proofs.Factors.{prefix_reads, group_reads, path_reads, literal_found, no_factor_at_symbol, no_factor_at_token, no_factor_at_end}
-use Rattle.slot_lang.proofs.Levels.{terms_chain, sums_chain, conjunctions_chain, expressions_chain, no_left, alone_found, no_right, compared_found}
+use Rattle.slot_lang.proofs.Levels.{chain_at, no_left, alone_found, no_right, compared_found}
 use Rattle.texts.specs.declared.syntax.Root.TheVariants as root
 use Rattle.texts.specs.declared.syntax.Unary.TheVariants as unary
 use Rattle.slot_lang.proofs.expression.+expression.Goals as goal
 
--- ---- term
+-- ---- rules that group to the left
 
-pub term-returns-in_err-left-clause-reads : goal.term-returns-in_err-left-clause-reads
-term-returns-in_err-left-clause-reads t c =
+pub chain-returns-in_err-left-clause-reads : goal.chain-returns-in_err-left-clause-reads
+chain-returns-in_err-left-clause-reads t c =
     let p = err_from_is_err_and c.from_residual.result c.from_residual.ensures.1 in
-    rw (p.1, p.2) (λ k. chain_no_first terms_chain (c.in_err-left.ensures.reads k))
+    rw (p.1, p.2) (λ k. chain_no_first (chain_at c.args.level) (c.in_err-left.ensures.reads k))
 
-pub term-loop-operator-init : goal.term-loop-operator-init
-term-loop-operator-init t c = record { so_far = chain_start terms_chain c.in_ok-left.ensures.reads; shorter = c.in_ok-left.ensures.shorter }
+pub chain-loop-operator-init : goal.chain-loop-operator-init
+chain-loop-operator-init t c = record { so_far = chain_start (chain_at c.args.level) c.in_ok-left.ensures.reads; shorter = c.in_ok-left.ensures.shorter }
 
-pub term-returns-in_err-right-clause-reads : goal.term-returns-in_err-right-clause-reads
-term-returns-in_err-right-clause-reads t c =
+pub chain-returns-in_err-right-clause-reads : goal.chain-returns-in_err-right-clause-reads
+chain-returns-in_err-right-clause-reads t c =
     let p = err_from_is_err_and c.from_residual-in_err-right.result c.from_residual-in_err-right.ensures.1 in
-    let found = c.in-Some.ensures.found in
-    rw (p.1, p.2) (λ k. chain_stuck terms_chain c.loop-operator.invariant.so_far c.in-Some.operator found.0 found.1 (c.in_err-right.ensures.reads k))
+    let found = rw c.precedence.ensures at c.in-Some.ensures.found in
+    rw (p.1, p.2) (λ k. chain_stuck (chain_at c.args.level) c.loop-operator.invariant.so_far c.in-Some.operator found.0 found.1 (c.in_err-right.ensures.reads k))
 
-pub term-loop-operator-preserved : goal.term-loop-operator-preserved
-term-loop-operator-preserved t c =
-    let found = c.in-Some.ensures.found in
+pub chain-loop-operator-preserved : goal.chain-loop-operator-preserved
+chain-loop-operator-preserved t c =
+    let found = rw c.precedence.ensures at c.in-Some.ensures.found in
     record {
-      so_far = rw c.in_ok-left-2.ensures (chain_step terms_chain c.loop-operator.invariant.so_far c.in-Some.operator found.0 found.1 c.in_ok-right.ensures.reads);
+      so_far = rw c.in_ok-left-2.ensures (chain_step (chain_at c.args.level) c.loop-operator.invariant.so_far c.in-Some.operator found.0 found.1 c.in_ok-right.ensures.reads);
       shorter = omega (arith, c.in-Some.ensures.shorter, c.in_ok-right.ensures.shorter);
     }
 
-pub term-returns-clause-reads : goal.term-returns-clause-reads
-term-returns-clause-reads t c = rw c.in_default.ensures.found.0 (chain_done terms_chain c.loop-operator.invariant.so_far c.in_default.ensures.found.1)
+pub chain-returns-clause-reads : goal.chain-returns-clause-reads
+chain-returns-clause-reads t c =
+    let found = rw c.precedence.ensures at c.in_default.ensures.found in
+    rw found.0 (chain_done (chain_at c.args.level) c.loop-operator.invariant.so_far found.1)
 
--- ---- sum
+-- ---- what stands between their operators
 
-pub sum-returns-in_err-left-clause-reads : goal.sum-returns-in_err-left-clause-reads
-sum-returns-in_err-left-clause-reads t c =
-    let p = err_from_is_err_and c.from_residual.result c.from_residual.ensures.1 in
-    rw (p.1, p.2) (λ k. chain_no_first sums_chain (c.in_err-left.ensures.reads k))
+pub operand-returns-in-Or-clause-reads : goal.operand-returns-in-Or-clause-reads
+operand-returns-in-Or-clause-reads t c = rw c.in-Or.is c.chain.ensures.reads
 
-pub sum-loop-operator-init : goal.sum-loop-operator-init
-sum-loop-operator-init t c = record { so_far = chain_start sums_chain c.in_ok-left.ensures.reads; shorter = c.in_ok-left.ensures.shorter }
+pub operand-returns-in-And-clause-reads : goal.operand-returns-in-And-clause-reads
+operand-returns-in-And-clause-reads t c = rw c.in-And.is c.comparison.ensures.reads
 
-pub sum-returns-in_err-right-clause-reads : goal.sum-returns-in_err-right-clause-reads
-sum-returns-in_err-right-clause-reads t c =
-    let p = err_from_is_err_and c.from_residual-in_err-right.result c.from_residual-in_err-right.ensures.1 in
-    let found = c.in-Some.ensures.found in
-    rw (p.1, p.2) (λ k. chain_stuck sums_chain c.loop-operator.invariant.so_far c.in-Some.operator found.0 found.1 (c.in_err-right.ensures.reads k))
+pub operand-returns-in-Sum-clause-reads : goal.operand-returns-in-Sum-clause-reads
+operand-returns-in-Sum-clause-reads t c = rw c.in-Sum.is c.chain-in-Sum.ensures.reads
 
-pub sum-loop-operator-preserved : goal.sum-loop-operator-preserved
-sum-loop-operator-preserved t c =
-    let found = c.in-Some.ensures.found in
-    record {
-      so_far = rw c.in_ok-left-2.ensures (chain_step sums_chain c.loop-operator.invariant.so_far c.in-Some.operator found.0 found.1 c.in_ok-right.ensures.reads);
-      shorter = omega (arith, c.in-Some.ensures.shorter, c.in_ok-right.ensures.shorter);
-    }
-
-pub sum-returns-clause-reads : goal.sum-returns-clause-reads
-sum-returns-clause-reads t c = rw c.in_default.ensures.found.0 (chain_done sums_chain c.loop-operator.invariant.so_far c.in_default.ensures.found.1)
-
--- ---- conjunction
-
-pub conjunction-returns-in_err-left-clause-reads : goal.conjunction-returns-in_err-left-clause-reads
-conjunction-returns-in_err-left-clause-reads t c =
-    let p = err_from_is_err_and c.from_residual.result c.from_residual.ensures.1 in
-    rw (p.1, p.2) (λ k. chain_no_first conjunctions_chain (c.in_err-left.ensures.reads k))
-
-pub conjunction-loop-operator-init : goal.conjunction-loop-operator-init
-conjunction-loop-operator-init t c = record { so_far = chain_start conjunctions_chain c.in_ok-left.ensures.reads; shorter = c.in_ok-left.ensures.shorter }
-
-pub conjunction-returns-in_err-right-clause-reads : goal.conjunction-returns-in_err-right-clause-reads
-conjunction-returns-in_err-right-clause-reads t c =
-    let p = err_from_is_err_and c.from_residual-in_err-right.result c.from_residual-in_err-right.ensures.1 in
-    let found = c.in-Some.ensures.found in
-    rw (p.1, p.2) (λ k. chain_stuck conjunctions_chain c.loop-operator.invariant.so_far c.in-Some.operator found.0 found.1 (c.in_err-right.ensures.reads k))
-
-pub conjunction-loop-operator-preserved : goal.conjunction-loop-operator-preserved
-conjunction-loop-operator-preserved t c =
-    let found = c.in-Some.ensures.found in
-    record {
-      so_far = rw c.in_ok-left-2.ensures (chain_step conjunctions_chain c.loop-operator.invariant.so_far c.in-Some.operator found.0 found.1 c.in_ok-right.ensures.reads);
-      shorter = omega (arith, c.in-Some.ensures.shorter, c.in_ok-right.ensures.shorter);
-    }
-
-pub conjunction-returns-clause-reads : goal.conjunction-returns-clause-reads
-conjunction-returns-clause-reads t c = rw c.in_default.ensures.found.0 (chain_done conjunctions_chain c.loop-operator.invariant.so_far c.in_default.ensures.found.1)
-
--- ---- expression
-
-pub expression-returns-in_err-left-clause-reads : goal.expression-returns-in_err-left-clause-reads
-expression-returns-in_err-left-clause-reads t c =
-    let p = err_from_is_err_and c.from_residual.result c.from_residual.ensures.1 in
-    rw (p.1, p.2) (λ k. chain_no_first expressions_chain (c.in_err-left.ensures.reads k))
-
-pub expression-loop-operator-init : goal.expression-loop-operator-init
-expression-loop-operator-init t c = record { so_far = chain_start expressions_chain c.in_ok-left.ensures.reads; shorter = c.in_ok-left.ensures.shorter }
-
-pub expression-returns-in_err-right-clause-reads : goal.expression-returns-in_err-right-clause-reads
-expression-returns-in_err-right-clause-reads t c =
-    let p = err_from_is_err_and c.from_residual-in_err-right.result c.from_residual-in_err-right.ensures.1 in
-    let found = c.in-Some.ensures.found in
-    rw (p.1, p.2) (λ k. chain_stuck expressions_chain c.loop-operator.invariant.so_far c.in-Some.operator found.0 found.1 (c.in_err-right.ensures.reads k))
-
-pub expression-loop-operator-preserved : goal.expression-loop-operator-preserved
-expression-loop-operator-preserved t c =
-    let found = c.in-Some.ensures.found in
-    record {
-      so_far = rw c.in_ok-left-2.ensures (chain_step expressions_chain c.loop-operator.invariant.so_far c.in-Some.operator found.0 found.1 c.in_ok-right.ensures.reads);
-      shorter = omega (arith, c.in-Some.ensures.shorter, c.in_ok-right.ensures.shorter);
-    }
-
-pub expression-returns-clause-reads : goal.expression-returns-clause-reads
-expression-returns-clause-reads t c = rw c.in_default.ensures.found.0 (chain_done expressions_chain c.loop-operator.invariant.so_far c.in_default.ensures.found.1)
+pub operand-returns-in-Term-clause-reads : goal.operand-returns-in-Term-clause-reads
+operand-returns-in-Term-clause-reads t c = rw c.in-Term.is c.factor.ensures.reads
 
 -- ---- comparison
 

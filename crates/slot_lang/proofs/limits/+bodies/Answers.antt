@@ -1,6 +1,6 @@
 use Rattle.std.proofs.lemmas.List.Elements.{All-nil}
-use Rattle.class_lang.proofs.Bodies.{HasFew, one_more, all_have_few, one_has_many, other_decides, first_has_many}
-use Rattle.class_lang.proofs.limits.+bodies.Goals as goal
+use Rattle.slot_lang.proofs.FewTypes.{HasFew, one_more, all_have_few, one_has_many, other_decides, first_has_many}
+use Rattle.slot_lang.proofs.limits.+bodies.Goals as goal
 
 pub body_has_few_parameters-returns-then-not-statement_has_few_parameters : goal.body_has_few_parameters-returns-then-not-statement_has_few_parameters
 body_has_few_parameters-returns-then-not-statement_has_few_parameters t c =

@@ -9,8 +9,8 @@ use Rattle.texts.specs.declared.syntax.Stmt.{Stmt}
 use Rattle.texts.specs.declared.syntax.Stmt.TheVariants as stmt
 use Rattle.texts.specs.declared.syntax.Stmt.TheOpen as layer
 use Rattle.texts.specs.declared.syntax.Stmt.TheFolds.{fold-roll-Stmt}
-use Rattle.class_lang.specs.Bodies.{signatures_step, signatures_of, signatures_in}
-use Rattle.class_lang.specs.Limits.{HasFewTypes}
+use Rattle.slot_lang.specs.Bodies.{signatures_step, signatures_of, signatures_in}
+use Rattle.texts.specs.Signatures.{HasFewTypes}
 
 -- ---- lists one after another
 
