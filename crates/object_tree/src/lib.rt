@@ -7,8 +7,6 @@ mod creation;
 mod fault;
 mod object;
 mod objects;
-#[cfg(test)]
-mod tests;
 mod tree;
 mod typing;
 mod values;

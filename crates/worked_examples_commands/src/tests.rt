@@ -1,23 +1,19 @@
 //! Expected texts are worked out by hand from the documents.
 
 mod answers;
-mod blocking;
-mod bodies;
-mod classes;
 mod ends;
-mod events;
+mod meta;
 mod operators;
-mod refusals;
-mod rows;
-mod trees;
+mod programs;
+mod sizes;
 mod usage;
-mod values;
 
-use crate::answer_to;
+use qt_runtime::Natives;
 use std::alloc::{AllocError, Global};
 use std::process::Abort;
 use std::str;
 use std::test::Fail;
+use trace_tool::command;
 
 /// A property, a signal and a slot, and a wire between them.
 pub const LAMP: &str =
@@ -34,16 +30,6 @@ pub const PRESSED: &str =
 /// A source whose value is shown by a label.
 pub const SOURCE: &str =
     "class Source { property int value = 0 notify valueChanged(int); signal valueChanged(int); slot setValue(int v) { set this.value = v; } } class Label { property int shown; slot show(int v) { set this.shown = v; } } wire Source valueChanged(int) -> Label show(int) auto;";
-
-/// A command line with its texts, and what it has to answer.
-#[derive(Clone, Copy)]
-pub struct Row {
-    pub words: &'static str,
-    pub program: &'static str,
-    pub script: &'static str,
-    pub text: &'static str,
-    pub status: u8,
-}
 
 /// A program, a line `%%` and a script.
 pub fn joined(alloc: Global, program: &str, script: &str) -> Result<Vec<u8>, AllocError> {
@@ -72,18 +58,15 @@ pub fn expect(
 ) -> Result<(), Fail> {
     let words = parted(rt.alloc(), line)?;
     let mut reader = input;
-    let answer = answer_to(rt.alloc(), words.as_slice(), &mut reader)?;
-    let found = str::from_utf8(answer.text.as_slice())?;
-    assert_eq!(rt; found, text, "at {line}");
-    assert_eq!(rt; answer.status, status, "at {line}, which writes {text}");
-    Ok(())
-}
-
-/// Checks each row.
-pub fn expect_rows(rt: &(impl Abort + AllocGlobal), rows: &[Row]) -> Result<(), Fail> {
-    for row in rows {
-        let input = joined(rt.alloc(), row.program, row.script)?;
-        expect(rt, row.words, input.as_slice(), row.text, row.status)?;
-    }
+    let mut found = Vec::new(rt.alloc());
+    let ended = command(
+        rt.alloc(),
+        words.as_slice(),
+        &mut reader,
+        Natives::none(),
+        &mut found,
+    )?;
+    assert_eq!(rt; str::from_utf8(found.as_slice())?, text, "at {line}");
+    assert_eq!(rt; ended, status, "at {line}, which writes {text}");
     Ok(())
 }

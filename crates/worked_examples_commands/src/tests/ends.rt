@@ -1,7 +1,6 @@
 //! Readers and writers that give and take little, and that fail.
 
 use super::{LAMP, PRESS, PRESSED, joined};
-use crate::answer_to;
 use qt_runtime::Natives;
 use std::io::{self, ErrorKind, Read, Write};
 use std::str;
@@ -71,9 +70,16 @@ fn readers_may_give_little_or_fail(rt: HostRuntime) -> Result<(), Fail> {
             left: input.as_slice(),
             fails_at,
         };
-        let answer = answer_to(rt.alloc(), WORDS.as_slice(), &mut reader)?;
-        assert_eq!(rt; str::from_utf8(answer.text.as_slice())?, text);
-        assert_eq!(rt; answer.status, status);
+        let mut found = Vec::new(rt.alloc());
+        let ended = command(
+            rt.alloc(),
+            WORDS.as_slice(),
+            &mut reader,
+            Natives::none(),
+            &mut found,
+        )?;
+        assert_eq!(rt; str::from_utf8(found.as_slice())?, text);
+        assert_eq!(rt; ended, status);
     }
     Ok(())
 }
@@ -108,9 +114,16 @@ fn inputs_have_at_most_64_mebibytes(rt: HostRuntime) -> Result<(), Fail> {
             *front = *b"%%";
         }
         let mut reader = input.as_slice();
-        let answer = answer_to(rt.alloc(), WORDS.as_slice(), &mut reader)?;
-        assert_eq!(rt; str::from_utf8(answer.text.as_slice())?, text);
-        assert_eq!(rt; answer.status, status);
+        let mut found = Vec::new(rt.alloc());
+        let ended = command(
+            rt.alloc(),
+            WORDS.as_slice(),
+            &mut reader,
+            Natives::none(),
+            &mut found,
+        )?;
+        assert_eq!(rt; str::from_utf8(found.as_slice())?, text);
+        assert_eq!(rt; ended, status);
     }
     Ok(())
 }
