@@ -1,7 +1,7 @@
 -- Who is above whom.
 use Rattle.std.proofs.lemmas.Bool.{eqb-true, eq-eqb}
 use Rattle.std.proofs.Common.{◌≡◌, ◌≢◌, ◌↔◌, ℕ, eqb, not, Bool, true, false, IsTrue, List, Option, None, Some, refl, sym, ap, ◌∙◌, subst}
-use Rattle.std.specs.Prelude.{slice_get, OnErr, Result, Ok, Err}
+use Rattle.std.specs.Prelude.{slice_get}
 use Rattle.std.specs.Option.{option_and_then}
 use Rattle.object_tree.specs.declared.object.Object.{Object}
 use Rattle.object_tree.specs.Family.{parent_of, IsChild, Above, itself, over_parent}
@@ -72,9 +72,3 @@ same-of a b is fails = eqb-true a b (true-of (eqb a b) (sym is ∙ fails))
     true-of : (t : Bool) → not t ≡ false → t ≡ true
     true-of true e = refl
     true-of false e = absurd (cc e)
-
--- ---- results
-
-pub on_err : {X E : Type 0} (r : Result X E) {P : Type 0} → ((x : X) → r ≡ Ok x → ⊥) → OnErr r P → P
-on_err (Ok x) never h = absurd (never x refl)
-on_err (Err e) never h = h

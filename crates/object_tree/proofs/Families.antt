@@ -1,17 +1,16 @@
 -- What every tree keeps.
-use Rattle.std.proofs.Common.{◌≡◌, ◌≢◌, ⊎_elim, ℕ, zero, suc, ◌+◌, ◌<◌, eqb, cond, Bool, true, false, List, [], ◌∷◌, ◌++◌, length, Option, None, Some, refl, sym, ap, ◌∙◌, subst, arith}
+use Rattle.std.proofs.Common.{◌≡◌, ◌≢◌, ⊎_elim, ◌⊎◌, inl, inr, ℕ, ◌<◌, eqb, Bool, true, false, List, [], ◌∷◌, ◌++◌, length, Option, None, Some, refl, sym, ap, ◌∙◌, subst}
 use Rattle.std.specs.Prelude.{slice_get}
 use Rattle.std.specs.Option.{option_and_then, option_map}
 use Rattle.std.proofs.lemmas.Bool.{cases_eq, eq-eqb, ne_eqb}
-use Rattle.std.proofs.lemmas.Option.{slice_get_within}
+use Rattle.std.proofs.lemmas.Option.{slice_get_within, same_Some}
 use Rattle.object_tree.specs.declared.object.Object.{Object}
 use Rattle.object_tree.specs.Children.{without, is_among, are_distinct}
 use Rattle.object_tree.specs.Objects.{Lives, change}
-use Rattle.object_tree.specs.Family.{parent_of, children_in, children_of, Above, itself, over_parent, joined_by, left_by, leaves, put_under, moved, dead, without_life}
-use Rattle.object_tree.specs.Forest.{Forest, given, walk, depth, is_the}
+use Rattle.object_tree.specs.Family.{parent_of, children_in, children_of, IsChild, Above, itself, over_parent, joined_by, left_by, leaves, put_under, moved, dead, without_life}
+use Rattle.object_tree.specs.Forest.{Forest, is_the}
 use Rattle.object_tree.proofs.Lists.{among-without_other, among-without_same, among-join_other, among-join_same, distinct-without, distinct-join}
-use Rattle.object_tree.proofs.Above.{child-is}
-use Rattle.object_tree.proofs.Walks.{Falls, walk-step}
+use Rattle.object_tree.proofs.Above.{child-is, parent-is}
 use Rattle.object_tree.proofs.Changing.{get-change_same, get-change_other, part-change}
 
 -- the part that `parent_of` reads
@@ -34,16 +33,16 @@ parent-there objects parent child listed found =
     let there : (x : Object) × (slice_get objects parent ≡ Some x) = some_child (slice_get objects parent) child among in
     slice_get_within objects parent there.0 there.1
 
--- where some rank falls from each object to its parent, depths do
-pub depths : (objects : List Object) (rank : ℕ → ℕ) → Falls (parent_of objects) rank →
-    ((parent child : ℕ) → is_among child (children_of objects parent) ≡ is_the parent (parent_of objects child)) →
-    (parent child : ℕ) → parent_of objects child ≡ Some parent → depth objects child ≡ suc (depth objects parent)
-depths objects rank falls listed parent child found =
-    walk-step (λ _ above. suc above) (length objects) (parent_of objects) rank falls (λ o p e. parent-there objects p o (listed p o) e) child parent found
+-- ---- who is above whom
 
--- the depths of a forest fall
-pub forest-falls : (objects : List Object) → Forest objects → Falls (parent_of objects) (depth objects)
-forest-falls objects forest o parent e = omega (arith, forest.deeper parent o e)
+-- where each parent was the parent before, who is above whom was so before
+pub above-through : {old new : List Object} → ((parent child : ℕ) → IsChild new parent child → IsChild old parent child) → {a o : ℕ} → Above new a o → Above old a o
+above-through kept itself = itself
+above-through kept (over_parent {o} {parent} child above) = over_parent (kept parent o child) (above-through kept above)
+
+above-over : {objects : List Object} {a b o : ℕ} → Above objects a b → Above objects b o → Above objects a o
+above-over above itself = above
+above-over above (over_parent child next) = over_parent child (above-over above next)
 
 -- ---- changes that leave the family alone
 
@@ -72,10 +71,12 @@ pub forest-same : (old new : List Object) → ((k : ℕ) → parent_of new k ≡
 forest-same old new parents children lives forest =
     let listed : (parent child : ℕ) → is_among child (children_of new parent) ≡ is_the parent (parent_of new child) =
     λ parent child. ap (is_among child) (children parent) ∙ forest.listed parent child ∙ ap (is_the parent) (sym (parents child)) in
+    let kept : (parent child : ℕ) → IsChild new parent child → IsChild old parent child =
+    λ parent child is. child-is old child parent forest (sym (parents child) ∙ parent-is new child parent is) in
     record {
       listed = listed;
       distinct = λ parent. ap are_distinct (children parent) ∙ forest.distinct parent;
-      deeper = depths new (depth old) (λ o p e. forest-falls old forest o p (sym (parents o) ∙ e)) listed;
+      acyclic = λ parent child is above. forest.acyclic parent child (kept parent child is) (above-through kept above);
       orphaned = orphaned-by new (λ o gone. parents o ∙ orphan-of old forest o (sym (lives o) ∙ gone));
     }
 
@@ -142,11 +143,7 @@ leaves-distinct (Some parent) child k objects distinct = ⊎_elim
 
 -- ---- an object that dies
 
--- the parent of an object whose own is changed
-parent-change_same : (n : ℕ) (f : Object → Object) (found : Option ℕ) (objects : List Object) (x : Object) → slice_get objects n ≡ Some x → (f x).parent ≡ found → parent_of (change n f objects) n ≡ found
-parent-change_same n f found objects x is e =
-    ap parent_in (get-change_same n f objects ∙ ap (option_map f) is) ∙ e
-
+-- another object keeps its parent
 parent-change_other : (n k : ℕ) (f : Object → Object) (objects : List Object) → k ≢ n → parent_of (change n f objects) k ≡ parent_of objects k
 parent-change_other n k f objects other = ap parent_in (get-change_other n k f objects other)
 
@@ -174,13 +171,15 @@ forest-died o objects forest =
     (λ (same : child ≡ o). rw same (leaves-gone (parent_of objects o) o parent objects (forest.listed parent o) (forest.distinct parent) ∙ ap (is_the parent) (sym (died-parent o o objects))))
     (λ (other : child ≢ o). leaves-other (parent_of objects o) o child parent objects other ∙ forest.listed parent child ∙ ap (is_the parent) (sym (died-other o child objects other)))
     (cases_eq child o) in
+    let kept : (parent child : ℕ) → IsChild new parent child → IsChild objects parent child =
+    λ parent child is. let e : parent_of new child ≡ Some parent = parent-is new child parent is in ⊎_elim
+    (λ (same : child ≡ o). let none : parent_of new child ≡ None = rw same (died-parent o o objects) in absurd (cc (none, e)))
+    (λ (other : child ≢ o). child-is objects child parent forest (sym (died-other o child objects other) ∙ e))
+    (cases_eq child o) in
     record {
       listed = listed;
       distinct = λ parent. ap are_distinct (died-children o parent objects) ∙ leaves-distinct (parent_of objects o) o parent objects (forest.distinct parent);
-      deeper = depths new (depth objects) (λ child parent e. ⊎_elim
-          (λ (same : child ≡ o). let none : parent_of new child ≡ None = rw same (died-parent o o objects) in absurd (cc (none, e)))
-          (λ (other : child ≢ o). forest-falls objects forest child parent (sym (died-other o child objects other) ∙ e))
-          (cases_eq child o)) listed;
+      acyclic = λ parent child is above. forest.acyclic parent child (kept parent child is) (above-through kept above);
       orphaned = orphaned-by new (λ k gone. ⊎_elim
           (λ (same : k ≡ o). rw same (died-parent o o objects))
           (λ (other : k ≢ o).
@@ -194,27 +193,6 @@ forest-died o objects forest =
 is_the-other : (a : ℕ) (found : Option ℕ) → found ≢ Some a → is_the a found ≡ false
 is_the-other a None other = refl
 is_the-other a (Some b) other = ne_eqb b a (λ e. other (ap Some e))
-
--- a walk up that counts `more` at one object, in place of what is above it
-abbrev meets : ℕ → ℕ → ℕ → ℕ → ℕ
-meets c more o above = cond {A = ℕ} (eqb o c) more above
-
-walk-meets : (c more k : ℕ) (up : ℕ → Option ℕ) → walk (meets c more) up k c ≡ more
-walk-meets c more zero up = rw (eq-eqb c c refl) refl
-walk-meets c more (suc k) up = rw (eq-eqb c c refl) refl
-
--- nobody is met where c isn't above
-walk-misses : (objects : List Object) (c more k o : ℕ) → Forest objects → (¬ Above objects c o) → walk (meets c more) (parent_of objects) k o ≡ 0
-walk-misses objects c more zero o forest apart =
-    let other : eqb o c ≡ false = ne_eqb o c (λ e. apart (subst (λ (q : ℕ). Above objects c q) (sym e) itself)) in
-    rw other refl
-walk-misses objects c more (suc k) o forest apart =
-    let other : eqb o c ≡ false = ne_eqb o c (λ e. apart (subst (λ (q : ℕ). Above objects c q) (sym e) itself)) in
-    rw other (by_parent (parent_of objects o) refl (walk-misses objects c more k))
-  where
-    by_parent : (found : Option ℕ) → parent_of objects o ≡ found → ((q : ℕ) → Forest objects → (¬ Above objects c q) → walk (meets c more) (parent_of objects) k q ≡ 0) → given (walk (meets c more) (parent_of objects) k) found ≡ 0
-    by_parent None e r = refl
-    by_parent (Some parent) e r = r parent forest (λ above. apart (over_parent (child-is objects o parent forest e) above))
 
 -- what a move rests on
 pub record Moves (objects : List Object) (a c : ℕ) : Type 0 where
@@ -302,36 +280,61 @@ moved-distinct objects a c m parent =
     (λ (apart : parent ≢ a). ap are_distinct (children-change_other a parent (joined_by c) objects apart) ∙ m.forest.distinct parent)
     (cases_eq parent a))
 
--- a rank that falls after the move: the child and all below it rise above the new parent's depth
-abbrev risen : List Object → ℕ → ℕ → ℕ → ℕ
-risen objects a c o = depth objects o + walk (meets c (suc (depth objects a))) (parent_of objects) (length objects) o
+module _ (objects : List Object) (a c : ℕ) (m : Moves objects a c) where
+  -- every parent but the moved child's was the parent before
+  moved-child : (parent child : ℕ) → IsChild (moved a c objects) parent child → child ≢ c → IsChild objects parent child
+  moved-child parent child is other = child-is objects child parent m.forest (sym (moved-parent_other objects a c child other) ∙ parent-is (moved a c objects) child parent is)
 
-moved-falls : (objects : List Object) (a c : ℕ) → Moves objects a c → Falls (parent_of (moved a c objects)) (risen objects a c)
-moved-falls objects a c m o parent e = ⊎_elim
-    (λ (same : o ≡ c).
-    let found : Some a ≡ Some parent = sym (moved-parent objects a c m.child m.lives.is) ∙ ap (parent_of (moved a c objects)) (sym same) ∙ e in
-    let is : a ≡ parent = cc found in
-    let top : risen objects a c a < risen objects a c c =
-    let none = walk-misses objects c (suc (depth objects a)) (length objects) a m.forest m.no_cycle in
-    let met = walk-meets c (suc (depth objects a)) (length objects) (parent_of objects) in
-    omega (arith, none, met) in
-    rw (same, ← is) top)
-    (λ (other : o ≢ c).
-    let found : parent_of objects o ≡ Some parent = sym (moved-parent_other objects a c o other) ∙ e in
-    let deep : depth objects o ≡ suc (depth objects parent) = m.forest.deeper parent o found in
-    let step : walk (meets c (suc (depth objects a))) (parent_of objects) (length objects) o ≡ meets c (suc (depth objects a)) o (walk (meets c (suc (depth objects a))) (parent_of objects) (length objects) parent) =
-    walk-step (meets c (suc (depth objects a))) (length objects) (parent_of objects) (depth objects) (forest-falls objects m.forest) (λ q p f. parent-there objects p q (m.forest.listed p q) f) o parent found in
-    let missed : eqb o c ≡ false = ne_eqb o c other in
-    let same : walk (meets c (suc (depth objects a))) (parent_of objects) (length objects) o ≡ walk (meets c (suc (depth objects a))) (parent_of objects) (length objects) parent =
-    step ∙ ap (λ (b : Bool). cond {A = ℕ} b (suc (depth objects a)) (walk (meets c (suc (depth objects a))) (parent_of objects) (length objects) parent)) missed in
-    omega (arith, deep, same))
-    (cases_eq o c)
+  moved-under : (parent : ℕ) → IsChild (moved a c objects) parent c → parent ≡ a
+  moved-under parent is = same_Some _ _ (sym (parent-is (moved a c objects) c parent is) ∙ moved-parent objects a c m.child m.lives.is)
+
+  -- who is above an object that the child isn't above was so before
+  above-apart : (x o : ℕ) → Above (moved a c objects) x o → (¬ Above objects c o) → Above objects x o
+  above-apart x o itself apart = itself
+  above-apart x o (over_parent {parent = p} is above) apart =
+      let other : o ≢ c = λ e. apart (subst (λ (q : ℕ). Above objects c q) (sym e) itself) in
+      let was : IsChild objects p o = moved-child p o is other in
+      over_parent was (above-apart x p above (λ up. apart (over_parent was up)))
+
+  -- who is above an object was so before, or is above the new parent, with the child between
+  above-moved : (x o : ℕ) → Above (moved a c objects) x o → Above objects x o ⊎ (Above objects c o × Above (moved a c objects) x a)
+  above-moved x o itself = inl itself
+  above-moved x o (over_parent {parent = p} is above) = ⊎_elim
+      (λ (same : o ≡ c).
+      let Under : ℕ → Type 0 = λ q. IsChild (moved a c objects) p q in
+      let new : p ≡ a = moved-under p (subst Under same is) in
+      inr (subst (λ (q : ℕ). Above objects c q) (sym same) itself, subst (λ (q : ℕ). Above (moved a c objects) x q) new above))
+      (λ (other : o ≢ c).
+      let was : IsChild objects p o = moved-child p o is other in
+      by_side was (above-moved x p above))
+      (cases_eq o c)
+    where
+      by_side : IsChild objects p o → Above objects x p ⊎ (Above objects c p × Above (moved a c objects) x a) → Above objects x o ⊎ (Above objects c o × Above (moved a c objects) x a)
+      by_side was (inl up) = inl (over_parent was up)
+      by_side was (inr up) = inr (over_parent was up.0, up.1)
+
+  moved-acyclic : (parent child : ℕ) → IsChild (moved a c objects) parent child → ¬ Above (moved a c objects) child parent
+  moved-acyclic parent child is above = ⊎_elim
+      (λ (same : child ≡ c).
+      let Under : ℕ → Type 0 = λ q. IsChild (moved a c objects) parent q in
+      let new : parent ≡ a = moved-under parent (subst Under same is) in
+      let Over : ℕ → ℕ → Type 0 = λ p q. Above (moved a c objects) q p in
+      let over : Above (moved a c objects) c a = subst (Over a) same (subst (λ (p : ℕ). Over p child) new above) in
+      m.no_cycle (above-apart c a over m.no_cycle))
+      (λ (other : child ≢ c).
+      let was : IsChild objects parent child = moved-child parent child is other in
+      by_side was (above-moved child parent above))
+      (cases_eq child c)
+    where
+      by_side : IsChild objects parent child → Above objects child parent ⊎ (Above objects c parent × Above (moved a c objects) child a) → ⊥
+      by_side was (inl up) = m.forest.acyclic parent child was up
+      by_side was (inr up) = m.no_cycle (above-over (over_parent was up.0) (above-apart child a up.1 m.no_cycle))
 
 pub forest-moved : (objects : List Object) (a c : ℕ) → Moves objects a c → Forest (moved a c objects)
 forest-moved objects a c m = record {
   listed = moved-listed objects a c m;
   distinct = moved-distinct objects a c m;
-  deeper = depths (moved a c objects) (risen objects a c) (moved-falls objects a c m) (moved-listed objects a c m);
+  acyclic = moved-acyclic objects a c m;
   orphaned = orphaned-by (moved a c objects) (λ k gone.
       let lives : alive_in (slice_get (moved a c objects) k) ≡ alive_in (slice_get objects k) = moved-part alive_in objects a c k (λ x l. refl) (λ x l. refl) in
       let dead_before : alive_in (slice_get objects k) ≡ false = sym lives ∙ gone in

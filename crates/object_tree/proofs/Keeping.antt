@@ -19,29 +19,16 @@ use Rattle.object_tree.proofs.Families.{parent_in, Moves, moved-part, leaves-par
 
 -- ---- names
 
-named-is : (objects : List Object) (name : List ℕ) (o : ℕ) → name_of objects o ≡ Some name → IsNamed objects name o
-named-is objects name o e = by_object (slice_get objects o) refl e
-  where
-    by_object : (there : Option Object) → slice_get objects o ≡ there → option_map (λ (x : Object). x.name) there ≡ Some name → IsNamed objects name o
-    by_object None is f = absurd (cc f)
-    by_object (Some x) is f = record { object = x; is = is; named = same_Some _ _ f }
-
-name-is : (objects : List Object) (name : List ℕ) (o : ℕ) → IsNamed objects name o → name_of objects o ≡ Some name
-name-is objects name o n = ap (option_map (λ (x : Object). x.name)) n.is ∙ ap Some n.named
-
--- what the index finds has the name
+-- what the index finds has the name, and nothing else has it
 pub found-named : {names : List (List ℕ × ℕ)} (objects : List Object) (name : List ℕ) (o : ℕ) → Kept names objects → place_in names name ≡ Some o → IsNamed objects name o
-found-named objects name o kept e = named-is objects name o ((kept.named name o).0 e)
-
--- .. and nothing else has it
-pub found-only : {names : List (List ℕ × ℕ)} (objects : List Object) (name : List ℕ) (o k : ℕ) → Kept names objects → place_in names name ≡ Some o → IsNamed objects name k → k ≡ o
-found-only objects name o k kept e n = same_Some _ _ (sym ((kept.named name k).1 (name-is objects name k n)) ∙ e)
+found-named objects name o kept e = record {
+  named = (kept.named name o).0 e;
+  only = λ k n. same_Some _ _ (sym ((kept.named name k).1 n) ∙ e);
+}
 
 -- .. nothing has a name that it doesn't find
 pub not_found-free : {names : List (List ℕ × ℕ)} (objects : List Object) (name : List ℕ) → Kept names objects → place_in names name ≡ None → IsFree objects name
-not_found-free objects name kept e o n =
-    let found = (kept.named name o).1 (name-is objects name o n) in
-    cc (e, found)
+not_found-free objects name kept e o n = let found = (kept.named name o).1 n in cc (e, found)
 
 pub used-named : {names : List (List ℕ × ℕ)} (objects : List Object) (name : List ℕ) (found : Option ℕ) → Kept names objects → found ≡ place_in names name → is_some found ≡ true → (o : ℕ) × IsNamed objects name o
 used-named objects name None kept e t = absurd (cc t)
@@ -160,7 +147,7 @@ kept-created old new objects z orphan childless alive free adds kept = record {
       where
         by_place : (found : Option ℕ) → place_in old z.name ≡ found → place_in old z.name ≡ None
         by_place None e = e
-        by_place (Some k) e = absurd (free k (found-named objects z.name k kept e))
+        by_place (Some k) e = absurd (free k ((kept.named z.name k).0 e))
 
     placed : place_in new z.name ≡ Some (length objects)
     placed = adds.named ∙ ap (λ (found : Option ℕ). Some (unwrap_or found (length objects))) unfound
@@ -175,7 +162,7 @@ kept-created old new objects z orphan childless alive free adds kept = record {
     from : (name : List ℕ) (o : ℕ) → name_of (objects ++ z ∷ []) o ≡ Some name → place_in new name ≡ Some o
     from name o e = ⊎_elim
         (λ (was : name_of objects o ≡ Some name).
-        let apart : name ≢ z.name = λ same. free o (subst (λ (n : List ℕ). IsNamed objects n o) same (named-is objects name o was)) in
+        let apart : name ≢ z.name = λ same. free o (was ∙ ap Some same) in
         adds.others name apart ∙ (kept.named name o).1 was)
         (λ (last : (o ≡ length objects) × (z.name ≡ name)). subst (λ (n : List ℕ). place_in new n ≡ Some o) last.1 (placed ∙ ap Some (sym last.0)))
         (name-appended objects z o name e)

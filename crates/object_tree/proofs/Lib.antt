@@ -2,6 +2,7 @@ pub mod Lists
 pub mod Walks
 pub mod Changing
 pub mod Above
+pub mod Errors
 pub mod Families
 pub mod TypedObjects
 pub mod Keeping

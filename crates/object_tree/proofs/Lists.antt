@@ -64,6 +64,13 @@ among-without_none c d (k ∷ ks) n = by_test (eqb k c) (eqb k d) refl n (among-
     by_test true false i h r = h
     by_test false false i h r = rw i (r h)
 
+pub among-without_sub : (c d : ℕ) (ks : List ℕ) → is_among d (without c ks) ≡ true → is_among d ks ≡ true
+among-without_sub c d ks e = by_test (is_among d ks) refl
+  where
+    by_test : (b : Bool) → is_among d ks ≡ b → is_among d ks ≡ true
+    by_test true t = t
+    by_test false t = let none : is_among d (without c ks) ≡ false = among-without_none c d ks t in absurd (cc (none, e))
+
 pub among-without_same : (c : ℕ) (ks : List ℕ) → are_distinct ks ≡ true → is_among c (without c ks) ≡ false
 among-without_same c [] d = refl
 among-without_same c (k ∷ ks) d = by_test (eqb k c) refl (is_among k ks) refl d (among-without_same c ks)
@@ -84,6 +91,14 @@ among-join_same c (k ∷ ks) = by_test (eqb k c) (among-join_same c ks)
     by_test : (b : Bool) → is_among c (ks ++ c ∷ []) ≡ true → (b || is_among c (ks ++ c ∷ [])) ≡ true
     by_test true r = refl
     by_test false r = r
+
+pub length-without : (c : ℕ) (ks : List ℕ) → length ks ≤ suc (length (without c ks))
+length-without c [] = omega arith
+length-without c (k ∷ ks) = by_test (eqb k c) (length-without c ks)
+  where
+    by_test : (b : Bool) → length ks ≤ suc (length (without c ks)) → suc (length ks) ≤ suc (length (cond b ks (k ∷ without c ks)))
+    by_test true r = omega arith
+    by_test false r = omega (arith, r)
 
 -- ---- no child stands there twice
 

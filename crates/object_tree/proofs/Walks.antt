@@ -1,87 +1,102 @@
--- Walks up to the parents, which end where some rank falls at each step.
-use Rattle.std.proofs.Common.{◌≡◌, ◌≢◌, ⊎_elim, ℕ, zero, suc, ◌<◌, ◌≤◌, ltb, Bool, true, false, cond, Option, None, Some, refl, sym, ap, ◌∙◌, arith}
-use Rattle.std.proofs.lemmas.Bool.{cases_eq}
-use Rattle.std.proofs.lemmas.Bool.{ltb-true, lt-ltb, le-ltb}
-use Rattle.object_tree.specs.Forest.{walk, given}
+-- Walks up to the parents: they end, and the number of objects that they meet falls with each step.
+use Rattle.std.proofs.Common.{◌≡◌, ℕ, zero, suc, ◌<◌, ◌≤◌, eqb, Bool, true, false, ◌||◌, ◌&&◌, not, List, [], ◌∷◌, length, Option, None, Some, refl, sym, ap, ◌∙◌, subst, arith}
+use Rattle.std.proofs.lemmas.Bool.{eqb-true, eq-eqb}
+use Rattle.object_tree.specs.declared.object.Object.{Object}
+use Rattle.object_tree.specs.Children.{without, is_among, are_distinct}
+use Rattle.object_tree.specs.Family.{parent_of, Above, itself, over_parent}
+use Rattle.object_tree.specs.Forest.{Forest}
+use Rattle.object_tree.proofs.Above.{child-is}
+use Rattle.object_tree.proofs.Families.{parent-there}
+use Rattle.object_tree.proofs.Lists.{among-without_sub, among-without_same, distinct-without, length-without}
 
--- how many numbers below k pass a test
-abbrev count : ℕ → (ℕ → Bool) → ℕ
-count zero test = 0
-count (suc k) test = cond {A = ℕ} (test k) (suc (count k test)) (count k test)
+-- what a walk meets from the parent on
+abbrev pub rest : (ℕ → List ℕ) → Option ℕ → List ℕ
+rest walked None = []
+rest walked (Some parent) = walked parent
 
-count-bound : (k : ℕ) (test : ℕ → Bool) → count k test ≤ k
-count-bound zero test = omega arith
-count-bound (suc k) test = by_test (test k) (count-bound k test)
-  where
-    by_test : (b : Bool) → count k test ≤ k → cond {A = ℕ} b (suc (count k test)) (count k test) ≤ suc k
-    by_test true l = omega (arith, l)
-    by_test false l = omega (arith, l)
+-- the objects that a walk up of at most so many steps meets, the first one too
+abbrev pub path : (ℕ → Option ℕ) → ℕ → ℕ → List ℕ
+path up zero o = o ∷ []
+path up (suc k) o = o ∷ rest (path up k) (up o)
 
-more : (a b : Bool) (m n : ℕ) → (a ≡ true → b ≡ true) → m ≤ n → cond {A = ℕ} a (suc m) m ≤ cond {A = ℕ} b (suc n) n
-more true true m n h l = omega (arith, l)
-more true false m n h l = absurd (let e : false ≡ true = h refl in cc e)
-more false true m n h l = omega (arith, l)
-more false false m n h l = l
+-- how many objects a walk up from this one meets
+abbrev pub depth : List Object → ℕ → ℕ
+depth objects o = length (path (parent_of objects) (suc (length objects)) o)
 
-more_still : (a b : Bool) (m n : ℕ) → (a ≡ true → b ≡ true) → m < n → cond {A = ℕ} a (suc m) m < cond {A = ℕ} b (suc n) n
-more_still true true m n h l = omega (arith, l)
-more_still true false m n h l = absurd (let e : false ≡ true = h refl in cc e)
-more_still false true m n h l = omega (arith, l)
-more_still false false m n h l = l
+-- distinct numbers below n are at most n
+few : (n : ℕ) (ks : List ℕ) → are_distinct ks ≡ true → ((k : ℕ) → is_among k ks ≡ true → k < n) → length ks ≤ n
+few zero [] d h = omega arith
+few zero (k ∷ ks) d h =
+    let none : k < 0 = h k (rw (eq-eqb k k refl) refl) in
+    absurd (omega (arith, none))
+few (suc n) ks d h =
+    let less : length (without n ks) ≤ n = few n (without n ks) (distinct-without n ks d) (λ k among.
+    let within : k < suc n = h k (among-without_sub n k ks among) in
+    let apart : k ≡ n → ⊥ = λ same.
+    let gone : is_among n (without n ks) ≡ false = among-without_same n ks d in
+    let here : is_among n (without n ks) ≡ true = subst (λ (j : ℕ). is_among j (without n ks) ≡ true) same among in
+    cc (gone, here) in
+    omega (arith, within, apart)) in
+    omega (arith, less, length-without n ks)
 
-more_here : (a b : Bool) (m n : ℕ) → a ≡ false → b ≡ true → m ≤ n → cond {A = ℕ} a (suc m) m < cond {A = ℕ} b (suc n) n
-more_here true b m n x y l = absurd (cc x)
-more_here false true m n x y l = omega (arith, l)
-more_here false false m n x y l = absurd (cc y)
+module _ (objects : List Object) (forest : Forest objects) where
+  -- what a walk meets is above where it began
+  among-above : (k q o : ℕ) → is_among q (path (parent_of objects) k o) ≡ true → Above objects q o
+  among-above zero q o e = by_test (eqb o q) refl e
+    where
+      by_test : (b : Bool) → eqb o q ≡ b → (b || false) ≡ true → Above objects q o
+      by_test true t h = subst (λ (j : ℕ). Above objects q j) (sym (eqb-true o q t)) itself
+      by_test false t h = absurd (cc h)
+  among-above (suc k) q o e = by_test (eqb o q) refl (parent_of objects o) refl e (among-above k q)
+    where
+      by_test : (b : Bool) → eqb o q ≡ b → (found : Option ℕ) → parent_of objects o ≡ found → (b || is_among q (rest (path (parent_of objects) k) found)) ≡ true → ((p : ℕ) → is_among q (path (parent_of objects) k p) ≡ true → Above objects q p) → Above objects q o
+      by_test true t found f h r = subst (λ (j : ℕ). Above objects q j) (sym (eqb-true o q t)) itself
+      by_test false t None f h r = absurd (cc h)
+      by_test false t (Some p) f h r = over_parent (child-is objects o p forest f) (r p h)
 
-count-more : (k : ℕ) (test wider : ℕ → Bool) → ((i : ℕ) → test i ≡ true → wider i ≡ true) → count k test ≤ count k wider
-count-more zero test wider h = omega arith
-count-more (suc k) test wider h = more (test k) (wider k) (count k test) (count k wider) (h k) (count-more k test wider h)
+  -- it meets no object twice
+  distinct-path : (k o : ℕ) → are_distinct (path (parent_of objects) k o) ≡ true
+  distinct-path zero o = refl
+  distinct-path (suc k) o = by_parent (parent_of objects o) refl (distinct-path k)
+    where
+      by_among : (b : Bool) (p : ℕ) → parent_of objects o ≡ Some p → is_among o (path (parent_of objects) k p) ≡ b → are_distinct (path (parent_of objects) k p) ≡ true → (not b && are_distinct (path (parent_of objects) k p)) ≡ true
+      by_among true p f e r = absurd (forest.acyclic p o (child-is objects o p forest f) (among-above k o p e))
+      by_among false p f e r = r
 
--- a wider test that passes one more number
-count-less : (k j : ℕ) (test wider : ℕ → Bool) → ((i : ℕ) → test i ≡ true → wider i ≡ true) → j < k → test j ≡ false → wider j ≡ true → count k test < count k wider
-count-less zero j test wider h l out in_ = absurd (omega (arith, l))
-count-less (suc k) j test wider h l out in_ = ⊎_elim
-    (λ (same : j ≡ k). more_here (test k) (wider k) (count k test) (count k wider) (ap test (sym same) ∙ out) (ap wider (sym same) ∙ in_) (count-more k test wider h))
-    (λ (other : j ≢ k). more_still (test k) (wider k) (count k test) (count k wider) (h k) (count-less k j test wider h (omega (arith, l, other)) out in_))
-    (cases_eq j k)
+      by_parent : (found : Option ℕ) → parent_of objects o ≡ found → ((p : ℕ) → are_distinct (path (parent_of objects) k p) ≡ true) → (not (is_among o (rest (path (parent_of objects) k) found)) && are_distinct (rest (path (parent_of objects) k) found)) ≡ true
+      by_parent None f r = refl
+      by_parent (Some p) f r = by_among (is_among o (path (parent_of objects) k p)) p f refl (r p)
 
--- what a step up does to a rank
-abbrev pub Falls : (ℕ → Option ℕ) → (ℕ → ℕ) → Type 0
-Falls up rank = (o parent : ℕ) → up o ≡ Some parent → rank parent < rank o
+  there : (parent child : ℕ) → parent_of objects child ≡ Some parent → parent < length objects
+  there parent child f = parent-there objects parent child (forest.listed parent child) f
 
--- how many of the first n numbers have a lower rank
-abbrev lower : ℕ → (ℕ → ℕ) → ℕ → ℕ
-lower n rank o = count n (λ i. ltb (rank i) (rank o))
+  -- .. nor one that isn't there
+  path-there : (k q o : ℕ) → o < length objects → is_among q (path (parent_of objects) k o) ≡ true → q < length objects
+  path-there zero q o l e = by_test (eqb o q) refl e
+    where
+      by_test : (b : Bool) → eqb o q ≡ b → (b || false) ≡ true → q < length objects
+      by_test true t h = let same : o ≡ q = eqb-true o q t in omega (arith, same, l)
+      by_test false t h = absurd (cc h)
+  path-there (suc k) q o l e = by_test (eqb o q) refl (parent_of objects o) refl e (path-there k q)
+    where
+      by_test : (b : Bool) → eqb o q ≡ b → (found : Option ℕ) → parent_of objects o ≡ found → (b || is_among q (rest (path (parent_of objects) k) found)) ≡ true → ((p : ℕ) → p < length objects → is_among q (path (parent_of objects) k p) ≡ true → q < length objects) → q < length objects
+      by_test true t found f h r = let same : o ≡ q = eqb-true o q t in omega (arith, same, l)
+      by_test false t None f h r = absurd (cc h)
+      by_test false t (Some p) f h r = r p (there p o f) h
 
-lower-falls : (n : ℕ) (up : ℕ → Option ℕ) (rank : ℕ → ℕ) → Falls up rank → (o parent : ℕ) → parent < n → up o ≡ Some parent → lower n rank parent < lower n rank o
-lower-falls n up rank falls o parent within e =
-    let fall : rank parent < rank o = falls o parent e in
-    count-less n parent (λ i. ltb (rank i) (rank parent)) (λ i. ltb (rank i) (rank o))
-    (λ i t. lt-ltb (rank i) (rank o) (let l : rank i < rank parent = ltb-true (rank i) (rank parent) t in omega (arith, l, fall)))
-    within
-    (le-ltb (rank parent) (rank parent) (omega arith))
-    (lt-ltb (rank parent) (rank o) fall)
+  -- a walk that ends early ends with more steps too
+  steady : (k o : ℕ) → length (path (parent_of objects) k o) ≤ k → path (parent_of objects) k o ≡ path (parent_of objects) (suc k) o
+  steady zero o l = absurd (omega (arith, l))
+  steady (suc k) o l = by_parent (parent_of objects o) l (steady k)
+    where
+      by_parent : (found : Option ℕ) → length (o ∷ rest (path (parent_of objects) k) found) ≤ suc k → ((p : ℕ) → length (path (parent_of objects) k p) ≤ k → path (parent_of objects) k p ≡ path (parent_of objects) (suc k) p) → o ∷ rest (path (parent_of objects) k) found ≡ o ∷ rest (path (parent_of objects) (suc k)) found
+      by_parent None h r = refl
+      by_parent (Some p) h r = ap (λ (ks : List ℕ). o ∷ ks) (r p (omega (arith, h)))
 
--- a walk of as many steps as there are lower ranks is as good as a longer one
-steady : (f : ℕ → ℕ → ℕ) (n : ℕ) (up : ℕ → Option ℕ) (rank : ℕ → ℕ) → Falls up rank → ((o parent : ℕ) → up o ≡ Some parent → parent < n) →
-    (k o : ℕ) → lower n rank o ≤ k → walk f up k o ≡ walk f up (suc k) o
-steady f n up rank falls within zero o l = by_parent (up o) refl
-  where
-    by_parent : (found : Option ℕ) → up o ≡ found → f o 0 ≡ f o (given (walk f up zero) found)
-    by_parent None e = refl
-    by_parent (Some parent) e = absurd (omega (arith, l, lower-falls n up rank falls o parent (within o parent e) e))
-steady f n up rank falls within (suc k) o l = by_parent (up o) refl (steady f n up rank falls within k)
-  where
-    by_parent : (found : Option ℕ) → up o ≡ found → ((q : ℕ) → lower n rank q ≤ k → walk f up k q ≡ walk f up (suc k) q) → f o (given (walk f up k) found) ≡ f o (given (walk f up (suc k)) found)
-    by_parent None e r = refl
-    by_parent (Some parent) e r = ap (f o) (r parent (omega (arith, l, lower-falls n up rank falls o parent (within o parent e) e)))
-
--- what a walk gives for an object, from what it gives for its parent
-pub walk-step : (f : ℕ → ℕ → ℕ) (n : ℕ) (up : ℕ → Option ℕ) (rank : ℕ → ℕ) → Falls up rank → ((o parent : ℕ) → up o ≡ Some parent → parent < n) →
-    (o parent : ℕ) → up o ≡ Some parent → walk f up n o ≡ f o (walk f up n parent)
-walk-step f zero up rank falls within o parent e = absurd (omega (arith, within o parent e))
-walk-step f (suc m) up rank falls within o parent e =
-    let below : lower (suc m) rank parent < lower (suc m) rank o = lower-falls (suc m) up rank falls o parent (within o parent e) e in
-    let few : lower (suc m) rank parent ≤ m = omega (arith, below, count-bound (suc m) (λ i. ltb (rank i) (rank o))) in
-    ap (λ (found : Option ℕ). f o (given (walk f up m) found)) e ∙ ap (f o) (steady f (suc m) up rank falls within m parent few)
+  -- an object meets one more than its parent
+  pub deeper : (o parent : ℕ) → parent_of objects o ≡ Some parent → depth objects o ≡ suc (depth objects parent)
+  deeper o parent f =
+      let bound : length (path (parent_of objects) (length objects) parent) ≤ length objects =
+      few (length objects) (path (parent_of objects) (length objects) parent) (distinct-path (length objects) parent) (λ q among. path-there (length objects) q parent (there parent o f) among) in
+      ap (λ (found : Option ℕ). suc (length (rest (path (parent_of objects) (length objects)) found))) f
+      ∙ ap (λ (ks : List ℕ). suc (length ks)) (steady (length objects) parent bound)

@@ -1,5 +1,5 @@
 -- Objects by number and name (docs/machine.md, "Objects"). An object's number is its place in the order of creation.
-use Rattle.std.specs.Prelude.{◌≡◌, ℕ, zero, suc, Bool, true, List, [], ◌∷◌, Option, None, Some, slice_get, slice_set}
+use Rattle.std.specs.Prelude.{◌≡◌, ◌≢◌, ℕ, zero, suc, Bool, true, List, [], ◌∷◌, Option, None, Some, slice_get, slice_set}
 use Rattle.std.specs.Option.{option_map}
 use Rattle.signatures.specs.declared.value.Value.{Value}
 use Rattle.object_tree.specs.declared.object.Object.{Object}
@@ -9,19 +9,22 @@ pub record Lives (objects : List Object) (o : ℕ) (x : Object) : Type 0 where
   pub is : slice_get objects o ≡ Some x
   pub alive : x.alive ≡ true
 
--- object o, which may be dead, has this name
-pub record IsNamed (objects : List Object) (name : List ℕ) (o : ℕ) : Type 0 where
-  pub object : Object
-  pub is : slice_get objects o ≡ Some object
-  pub named : object.name ≡ name
-
--- no object ever had the name
-abbrev pub IsFree : List Object → List ℕ → Type 0
-IsFree objects name = (o : ℕ) → ¬ IsNamed objects name o
+-- no object lives under this number
+abbrev pub IsGone : List Object → ℕ → Type 0
+IsGone objects o = (x : Object) → ¬ Lives objects o x
 
 -- the name of an object, which may be dead
 abbrev pub name_of : List Object → ℕ → Option (List ℕ)
 name_of objects o = option_map (λ (x : Object). x.name) (slice_get objects o)
+
+-- object o, which may be dead, has this name, and no other object ever had it
+pub record IsNamed (objects : List Object) (name : List ℕ) (o : ℕ) : Type 0 where
+  pub named : name_of objects o ≡ Some name
+  pub only : (k : ℕ) → name_of objects k ≡ Some name → k ≡ o
+
+-- no object ever had the name
+abbrev pub IsFree : List Object → List ℕ → Type 0
+IsFree objects name = (o : ℕ) → name_of objects o ≢ Some name
 
 -- the class of an object, which may be dead
 abbrev pub class_of : List Object → ℕ → Option ℕ

@@ -1,3 +1,4 @@
+use std::alloc::AllocError;
 use thiserror::Error;
 
 /// Why no object is created.
@@ -20,6 +21,17 @@ pub enum CreateFault {
     Memory,
 }
 
+impl From<AllocError> for CreateFault {
+    ghost use Rattle.std.specs.Prelude.{◌≡◌};
+    ghost use Rattle.object_tree.specs.declared.fault.CreateFault.TheVariants.{Memory};
+
+    ghost from_gives = { λ _ fault. fault ≡ Memory };
+
+    fn from(_: AllocError) -> CreateFault {
+        CreateFault::Memory
+    }
+}
+
 /// Why an object doesn't get a parent.
 #[derive(Clone, Copy, Debug, Error, PartialEq, Eq)]
 pub enum AdoptFault {
@@ -35,4 +47,15 @@ pub enum AdoptFault {
     /// A growth of memory was refused.
     #[error("out of memory")]
     Memory,
+}
+
+impl From<AllocError> for AdoptFault {
+    ghost use Rattle.std.specs.Prelude.{◌≡◌};
+    ghost use Rattle.object_tree.specs.declared.fault.AdoptFault.TheVariants.{Memory};
+
+    ghost from_gives = { λ _ fault. fault ≡ Memory };
+
+    fn from(_: AllocError) -> AdoptFault {
+        AdoptFault::Memory
+    }
 }

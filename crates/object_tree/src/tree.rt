@@ -1,4 +1,4 @@
-ghost use Rattle.std.specs.Prelude.{◌≡◌, [], ◌↔◌, length, slice_get, IsTrue, OnErr, IfSome, MatchOption};
+ghost use Rattle.std.specs.Prelude.{◌≡◌, [], ◌↔◌, length, slice_get, IsTrue, Err, OnErr, MatchOption};
 ghost use Rattle.std.specs.Option.{option_copied};
 ghost use Rattle.meta_model.specs.Loaded.{Loaded};
 ghost use Rattle.meta_model.specs.Values.{Has, HaveTypes};
@@ -6,8 +6,9 @@ ghost use Rattle.object_tree.specs.Adopting.{Adopts};
 ghost use Rattle.object_tree.specs.Creating.{Creates};
 ghost use Rattle.object_tree.specs.Family.{IsChild, children_of, without_life};
 ghost use Rattle.object_tree.specs.Forest.{Forest};
-ghost use Rattle.object_tree.specs.Objects.{Lives, IsNamed, IsFree, name_of, class_of, change, blocked, scheduled, written};
+ghost use Rattle.object_tree.specs.Objects.{Lives, IsGone, IsNamed, IsFree, name_of, class_of, change, blocked, scheduled, written};
 ghost use Rattle.object_tree.specs.Typed.{AreTyped, FitsProperty};
+ghost use Rattle.object_tree.specs.declared.fault.AdoptFault.TheVariants.{NotOwned};
 ghost use Rattle.object_tree.specs.declared.object.Object.{Object as AnObject};
 
 use crate::ancestors::may_adopt;
@@ -63,8 +64,7 @@ impl Tree {
 
     /// The number of the object that has or had this name, in time that doesn't grow with the number of objects.
     pub fn find(&self, name: &Name) -> Option<ObjectId>
-        ensures value { MatchOption result (IsFree self.now name.now) (λ o. IsNamed self.now name.now o) }
-        ensures only { IfSome result (λ o. (k : _) → IsNamed self.now name.now k → k ≡ o) }
+        ensures { MatchOption result (IsFree self.now name.now) (λ o. IsNamed self.now name.now o) }
     {
         match self.names.find(name) {
             Some(number) => Some(ObjectId::new(number)),
@@ -74,7 +74,7 @@ impl Tree {
 
     /// A living object with all its parts, or `None` for any other number.
     pub fn get(&self, object: ObjectId) -> Option<&Object>
-        ensures value { MatchOption result ((x : AnObject) → ¬ Lives self.now object x) (λ x. Lives self.now object x.now) }
+        ensures value { MatchOption result (IsGone self.now object) (λ x. Lives self.now object x.now) }
         ensures forest { Forest self.now }
     {
         let found = self.objects.get(object)?;
@@ -164,12 +164,8 @@ impl Tree {
     {
         let (number, kind) = may_create(meta, &self.names, &self.objects, name, class)?;
         let count = self.objects.len();
-        let Ok(object) = new_object(self.alloc, name, number, home, kind) else {
-            return Err(CreateFault::Memory);
-        };
-        let Ok(()) = add(&mut self.names, &mut self.objects, name, object) else {
-            return Err(CreateFault::Memory);
-        };
+        let object = new_object(self.alloc, name, number, home, kind)?;
+        add(&mut self.names, &mut self.objects, name, object)?;
         Ok(ObjectId::new(count))
     }
 
@@ -184,6 +180,8 @@ impl Tree {
         child: ObjectId,
     ) -> Result<(), AdoptFault>
         ensures value { (x y : AnObject) → Lives self.old parent x → Lives self.old child y → Adopts meta.now parent child x y self.old result self.new }
+        ensures no_parent { IsGone self.old parent → result ≡ Err NotOwned }
+        ensures no_child { IsGone self.old child → result ≡ Err NotOwned }
         ensures unchanged { OnErr result (self.new ≡ self.old) }
         ensures typed { (p : Loaded) → AreTyped p self.old → AreTyped p self.new }
     {
@@ -194,9 +192,7 @@ impl Tree {
         if owned.is_under(parent) {
             return Ok(());
         }
-        let Ok(()) = self.objects.move_under(parent, child) else {
-            return Err(AdoptFault::Memory);
-        };
+        self.objects.move_under(parent, child)?;
         Ok(())
     }
 }

@@ -3,6 +3,7 @@ use Rattle.std.proofs.Common.{◌≡◌, ℕ, List, [], ◌∷◌, ◌++◌, Som
 use Rattle.std.proofs.lemmas.Bool.{cases_order}
 use Rattle.std.specs.Prelude.{IfErr}
 use Rattle.std.specs.Result.{IsErrAnd}
+use Rattle.std.specs.Option.{option_map}
 use Rattle.signatures.specs.declared.value.Value.{Value}
 use Rattle.signatures.specs.declared.value.Value.TheVariants as value
 use Rattle.script_lang.specs.declared.event.Input.{Input}
@@ -60,7 +61,7 @@ pass-object {o = o} {x = x} is alive = (record { o = o; x = x; is = is }, (recor
 
 -- 31: no object had the name
 pub bars-free : {s : State} {name : List ℕ} → IsFree s.objects name → Bars (is_object s name) (bar.Refused 31)
-bars-free free = inl (λ (t : IsThere _ _). free t.o (record { object = t.x; is = t.is.is; named = t.is.named }), refl)
+bars-free free = inl (λ (t : IsThere _ _). free t.o (ap (option_map (λ (z : Object). z.name)) t.is.is ∙ ap Some t.is.named), refl)
 
 -- ---- inputs
 

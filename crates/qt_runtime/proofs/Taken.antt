@@ -154,7 +154,7 @@ module _ {p : Loaded} (w : World) (name class : List ℕ) (typed : AreTyped p w.
       subst Answers (sym x.answers) (subst In (sym x.same) here)
 
   took-not-created : {d : ℕ} {v : World} {r : Result Answer Fault} {f : CreateFault} → IsNotCreated p w.objects name class f → RefusesCreation w f v r → Took p d w (New name class) v r
-  took-not-created {r = r} (name_used is) x = took-refused 30 (New name class) r typed (inl ((λ free. free _ is), refl)) some x
+  took-not-created {r = r} (name_used is) x = took-refused 30 (New name class) r typed (inl ((λ free. free _ is.named), refl)) some x
   took-not-created {r = r} (no_class free none) x = took-refused 33 (New name class) r typed (inr (free, inl ((λ q. none q.0 q.1), refl))) some x
   took-not-created {r = r} (too_many free named many) x = took-refused 37 (New name class) r typed (inr (free, inr ((_, named), inl ((λ few. absurd (omega (arith, few, many))), refl)))) some x
   took-not-created (bad_type free named is room ill) x = took-ill free named is room ill x

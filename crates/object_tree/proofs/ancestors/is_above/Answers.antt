@@ -1,4 +1,5 @@
-use Rattle.std.proofs.Common.{sym, ◌∙◌}
+use Rattle.std.proofs.Common.{sym, ◌∙◌, arith}
+use Rattle.object_tree.proofs.Walks.{deeper}
 use Rattle.object_tree.proofs.Above.{above-parent, here-above, apart-of, same-of}
 use Rattle.object_tree.proofs.ancestors.is_above.Goals as goal
 
@@ -8,3 +9,6 @@ climb-preserved c =
 
 pub returns : goal.returns
 returns c = here-above c.args.objects.now c.args.above c.climb.at (same-of c.climb.at c.args.above c.ne.ensures c.climb-test.false) c.climb.invariant
+
+pub climb-smaller : goal.climb-smaller
+climb-smaller c = omega (arith, deeper c.args.objects.now c.requires c.climb.at c.in-Some.parent (sym c.parent.ensures ∙ c.in-Some.is))

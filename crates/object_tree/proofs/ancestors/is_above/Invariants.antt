@@ -1,6 +1,6 @@
 use Rattle.std.proofs.Common.{◌↔◌}
 use Rattle.object_tree.specs.Family.{Above}
-use Rattle.object_tree.specs.Forest.{depth}
+use Rattle.object_tree.proofs.Walks.{depth}
 use Rattle.object_tree.proofs.ancestors.is_above.Given as goal
 
 -- the object is above the first one exactly where it is above the one that the walk has come to
