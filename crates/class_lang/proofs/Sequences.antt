@@ -3,7 +3,7 @@ use Rattle.std.proofs.Common.{◌≡◌, List, ◌∷◌, ℕ, sym, ◌∙◌, a
 use Rattle.signatures.specs.declared.kind.Kind.{Kind}
 use Rattle.signatures.specs.declared.qtype.QType.{QType}
 use Rattle.signatures.specs.declared.sig.Sig.{Sig}
-use Rattle.signatures.specs.declared.value.Value.{Value}
+use Rattle.texts.specs.declared.syntax.Literal.{Literal}
 use Rattle.signatures.specs.declared.word.Word.TheVariants as word
 use Rattle.texts.specs.Cursor.{NotAt, NotAtWord}
 use Rattle.slot_lang.specs.Grammar.{spell_block, tree_of_block}
@@ -77,7 +77,7 @@ module _ {before at_name : List Token} {kind : QType} (k : Found spell_type tree
         only = λ r rest ends g. slot_parameter_only r after rest n g;
       }
 
-  module _ {name : List ℕ} {initial : Option Value} {notify : Option Sig} {at_initial at_notify at_end : List Token} (n : Found spell_name (λ n. n) EndsAnywhere at_name name at_initial) (i : Found spell_initial (option_map tree_of_literal) (NotAt Assign) at_initial initial at_notify) (s : Found spell_notify (option_map tree_of_sig) (NotAtWord word.Notify) at_notify notify at_end) where
+  module _ {name : List ℕ} {initial : Option Literal} {notify : Option Sig} {at_initial at_notify at_end : List Token} (n : Found spell_name (λ n. n) EndsAnywhere at_name name at_initial) (i : Found spell_initial (option_map tree_of_literal) (NotAt Assign) at_initial initial at_notify) (s : Found spell_notify (option_map tree_of_sig) (NotAtWord word.Notify) at_notify notify at_end) where
     property_only : (r : PropertyReading) (after rest : List Token) → at_end ≡ token.Symbol Semicolon ∷ after → before ≡ spell_property r rest → after ≡ rest
     property_only (property t x value changed) after rest e g =
         let last = token.Symbol Semicolon ∷ rest in

@@ -7,14 +7,15 @@
 --   wire        = end "->" end kind ";"
 --   end         = Name sig
 --   owns        = Name Name ";"
-use Rattle.std.specs.Prelude.{ℕ, ◌≡◌, List, [], ◌∷◌, ◌++◌, map, Option}
+use Rattle.std.specs.Prelude.{ℕ, ◌≡◌, List, [], ◌∷◌, ◌++◌, map, Option, Result}
 use Rattle.signatures.specs.declared.kind.Kind.{Kind}
 use Rattle.signatures.specs.declared.sig.Sig.{Sig}
 use Rattle.texts.specs.Cursor.{NotAt}
 use Rattle.texts.specs.Lists.{spell_each}
-use Rattle.texts.specs.Reading.{spell_name}
+use Rattle.texts.specs.Reading.{Reads, EndsAnywhere, spell_name}
 use Rattle.texts.specs.Signatures.{SigReading, spell_sig, tree_of_sig, spell_kind}
 use Rattle.texts.specs.declared.symbol.Symbol.TheVariants.{Semicolon, Colon, OpenBrace, CloseBrace, Arrow}
+use Rattle.texts.specs.declared.fault.ParseFault.{ParseFault}
 use Rattle.texts.specs.declared.token.Token.{Token}
 use Rattle.texts.specs.declared.token.Token.TheVariants as token
 use Rattle.signatures.specs.declared.word.Word.TheVariants as word
@@ -157,6 +158,18 @@ tree_of_program declarations = record {
   wires = wires_in (map tree_of_declaration declarations);
   owns = owns_in (map tree_of_declaration declarations);
 }
+
+-- ---- what the readers answer
+
+-- .. for the members of a class with this name and base
+abbrev pub ReadsMembers : List ℕ → Option (List ℕ) → List Token → Result Class ParseFault → List Token → Type 0
+ReadsMembers name base before result after = Reads spell_members (class_of name base) EndsAnywhere before result after
+
+abbrev pub ReadsDeclaration : List Token → Result Declaration ParseFault → List Token → Type 0
+ReadsDeclaration before result after = Reads spell_declaration tree_of_declaration EndsDeclaration before result after
+
+abbrev pub ReadsDeclarations : List Token → Result Program ParseFault → List Token → Type 0
+ReadsDeclarations before result after = Reads (spell_each spell_declaration) tree_of_program IsAtEnd before result after
 
 -- the tokens are this program
 pub record IsProgram (tokens : List Token) (program : Program) : Type 0 where

@@ -5,12 +5,17 @@
 --   property = type Name ["=" literal] ["notify" sig] ";"
 --   signal   = Name "(" [signal_parameter {"," signal_parameter}] ")" ";"
 --   slot     = Name "(" [slot_parameter {"," slot_parameter}] ")" block
-use Rattle.std.specs.Prelude.{ℕ, List, [], ◌∷◌, ◌++◌, map, Option, option_map}
+use Rattle.std.specs.Prelude.{ℕ, List, [], ◌∷◌, ◌++◌, map, Option, option_map, Result}
 use Rattle.slot_lang.specs.Grammar.{Body, spell_block, tree_of_block}
+use Rattle.texts.specs.Cursor.{NotAt, NotAtWord}
 use Rattle.texts.specs.Lists.{spell_listed}
 use Rattle.texts.specs.Literals.{LiteralReading, spell_literal, tree_of_literal}
+use Rattle.texts.specs.Reading.{Reads, EndsAnywhere}
 use Rattle.texts.specs.Signatures.{TypeReading, spell_type, tree_of_type, SigReading, spell_sig, tree_of_sig}
 use Rattle.texts.specs.declared.symbol.Symbol.TheVariants.{Semicolon, Assign}
+use Rattle.signatures.specs.declared.sig.Sig.{Sig}
+use Rattle.texts.specs.declared.fault.ParseFault.{ParseFault}
+use Rattle.texts.specs.declared.syntax.Literal.{Literal}
 use Rattle.texts.specs.declared.token.Token.{Token}
 use Rattle.texts.specs.declared.token.Token.TheVariants as token
 use Rattle.signatures.specs.declared.word.Word.TheVariants as word
@@ -81,6 +86,17 @@ abbrev pub tree_of_member : MemberReading → Member
 tree_of_member (a_property p) = member.Property (tree_of_property p)
 tree_of_member (a_signal s) = member.Signal (tree_of_signal s)
 tree_of_member (a_slot s) = member.Slot (tree_of_slot s)
+
+-- ---- what the readers answer
+
+abbrev pub ReadsInitial : List Token → Result (Option Literal) ParseFault → List Token → Type 0
+ReadsInitial before result after = Reads spell_initial (option_map tree_of_literal) (NotAt Assign) before result after
+
+abbrev pub ReadsNotify : List Token → Result (Option Sig) ParseFault → List Token → Type 0
+ReadsNotify before result after = Reads spell_notify (option_map tree_of_sig) (NotAtWord word.Notify) before result after
+
+abbrev pub ReadsProperty : List Token → Result Property ParseFault → List Token → Type 0
+ReadsProperty before result after = Reads spell_property tree_of_property EndsAnywhere before result after
 
 -- ---- the members of each sort, in their order
 

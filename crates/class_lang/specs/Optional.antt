@@ -1,5 +1,7 @@
 -- Optional parts of a grammar.
-use Rattle.std.specs.Prelude.{ℕ, ◌≡◌, List, ◌∷◌, Option, Some, None}
+use Rattle.std.specs.Prelude.{ℕ, ◌≡◌, List, ◌∷◌, Option, Some, None, Result}
+use Rattle.texts.specs.Reading.{Reads}
+use Rattle.texts.specs.declared.fault.ParseFault.{ParseFault}
 use Rattle.texts.specs.declared.token.Token.{Token}
 use Rattle.texts.specs.declared.token.Token.TheVariants as token
 
@@ -20,3 +22,6 @@ spell_optional_name (Some name) after = token.Name name ∷ after
 -- no name comes next
 abbrev pub EndsWithoutName : List Token → Type 0
 EndsWithoutName after = (name : List ℕ) (rest : List Token) → after ≡ token.Name name ∷ rest → ⊥
+
+abbrev pub ReadsOptionalName : List Token → Result (Option (List ℕ)) ParseFault → List Token → Type 0
+ReadsOptionalName before result after = Reads spell_optional_name (λ name. name) EndsWithoutName before result after

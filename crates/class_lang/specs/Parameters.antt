@@ -3,8 +3,10 @@
 --
 --   signal_parameter = type [Name]
 --   slot_parameter   = type Name
-use Rattle.std.specs.Prelude.{ℕ, List, ◌∷◌, Option, Some}
+use Rattle.std.specs.Prelude.{ℕ, List, ◌∷◌, Option, Some, Result}
+use Rattle.texts.specs.Reading.{Reads, EndsAnywhere}
 use Rattle.texts.specs.Signatures.{TypeReading, spell_type, tree_of_type, EndsType}
+use Rattle.texts.specs.declared.fault.ParseFault.{ParseFault}
 use Rattle.texts.specs.declared.token.Token.{Token}
 use Rattle.texts.specs.declared.token.Token.TheVariants as token
 use Rattle.class_lang.specs.Optional.{spell_optional_name, EndsWithoutName}
@@ -32,3 +34,11 @@ spell_slot_parameter (slot_parameter kind name) after = spell_type kind (token.N
 
 abbrev pub tree_of_slot_parameter : SlotParameter → Parameter
 tree_of_slot_parameter (slot_parameter kind name) = record { kind = tree_of_type kind; name = Some name }
+
+-- ---- what the readers answer
+
+abbrev pub ReadsSignalParameter : List Token → Result Parameter ParseFault → List Token → Type 0
+ReadsSignalParameter before result after = Reads spell_signal_parameter tree_of_signal_parameter EndsSignalParameter before result after
+
+abbrev pub ReadsSlotParameter : List Token → Result Parameter ParseFault → List Token → Type 0
+ReadsSlotParameter before result after = Reads spell_slot_parameter tree_of_slot_parameter EndsAnywhere before result after

@@ -1,5 +1,5 @@
 -- What the reader answers for a text (docs/language.md, "Programs" and "Limits").
-use Rattle.std.specs.Prelude.{ℕ, ◌<◌, ◌≤◌, ◌⊎◌, List, length, Result, Ok, Err, Option, Some, None}
+use Rattle.std.specs.Prelude.{ℕ, ◌≡◌, ◌<◌, ◌≤◌, ◌⊎◌, List, length, Result, Ok, Err, Option, Some, None}
 use Rattle.texts.specs.Nesting.{IsTooDeep}
 use Rattle.texts.specs.Pieces.{AreTokens}
 use Rattle.texts.specs.Signatures.{HasPlainReference}
@@ -107,3 +107,18 @@ ReadsProgram bytes (Err Syntax) = IsOutsideGrammar bytes
 ReadsProgram bytes (Err BadType) = HasBadType bytes
 ReadsProgram bytes (Err TooMany) = HasTooManyParameters bytes
 ReadsProgram bytes (Err Memory) = Unit {0}
+
+-- ---- laws
+
+-- the tokens are one program at most
+abbrev pub HasOneReading : List Token → Type 0
+HasOneReading tokens = (p q : Program) → IsProgram tokens p → IsProgram tokens q → p ≡ q
+
+-- so is the text
+abbrev pub HasOneProgram : List ℕ → Type 0
+HasOneProgram bytes = (p q : Program) → IsProgramText bytes p → IsProgramText bytes q → p ≡ q
+
+-- the text has one answer at most, want of memory aside
+abbrev pub HasOneAnswer : List ℕ → Type 0
+HasOneAnswer bytes =
+    (a b : Result Program TextFault) → ReadsProgram bytes a → ReadsProgram bytes b → (a ≡ Err Memory) ⊎ (b ≡ Err Memory) ⊎ (a ≡ b)

@@ -2,11 +2,10 @@
 
 ghost use Rattle.std.specs.Prelude.{◌≡◌, ◌<◌, ◌≤◌, [], ◌∷◌, length, OnOk};
 ghost use Rattle.texts.specs.Cursor.{NotAt};
-ghost use Rattle.texts.specs.Lists.{spell_each};
 ghost use Rattle.texts.specs.Reading.{Reads, EndsAnywhere};
 ghost use Rattle.texts.specs.declared.symbol.Symbol.TheVariants.{Colon};
 ghost use Rattle.class_lang.specs.Members.{with_members};
-ghost use Rattle.class_lang.specs.Declarations.{spell_ending, spell_members, spell_class, tree_of_class, spell_base, class_of, spell_end, tree_of_end, spell_wire, tree_of_wire, spell_owns, tree_of_owns, spell_declaration, tree_of_declaration, tree_of_program, with_declarations, EndsDeclaration, IsAtEnd};
+ghost use Rattle.class_lang.specs.Declarations.{ReadsMembers, ReadsDeclaration, ReadsDeclarations, spell_class, tree_of_class, spell_base, spell_end, tree_of_end, spell_wire, tree_of_wire, spell_owns, tree_of_owns, with_declarations, EndsDeclaration};
 
 use crate::members::{add_member, next_member};
 use signatures::{Name, Sig};
@@ -47,7 +46,7 @@ fn base(cursor: &mut Cursor) -> Result<Option<Name>, ParseFault>
 
 /// `{member} "}"`, the members of a class with this name and base.
 fn members(cursor: &mut Cursor, name: Name, base: Option<Name>) -> Result<Class, ParseFault>
-    ensures reads { Reads spell_members (class_of name base) EndsAnywhere cursor.old result cursor.new }
+    ensures reads { ReadsMembers name base cursor.old result cursor.new }
     ensures shorter { OnOk result (length cursor.new < length cursor.old) }
 {
     let mut class = Class::new(cursor.alloc(), name, base);
@@ -113,7 +112,7 @@ fn owns(cursor: &mut Cursor) -> Result<Owns, ParseFault>
 
 /// `"class" class | "wire" wire | "owns" owns`
 fn next_declaration(cursor: &mut Cursor) -> Result<Declaration, ParseFault>
-    ensures reads { Reads spell_declaration tree_of_declaration EndsDeclaration cursor.old result cursor.new }
+    ensures reads { ReadsDeclaration cursor.old result cursor.new }
     ensures shorter { OnOk result (length cursor.new < length cursor.old) }
 {
     if cursor.eat_word(Word::Class) {
@@ -129,7 +128,7 @@ fn next_declaration(cursor: &mut Cursor) -> Result<Declaration, ParseFault>
 
 /// `{declaration}`, to the end.
 pub fn program(cursor: &mut Cursor) -> Result<Program, ParseFault>
-    ensures reads { Reads (spell_each spell_declaration) tree_of_program IsAtEnd cursor.old result cursor.new }
+    ensures reads { ReadsDeclarations cursor.old result cursor.new }
     ensures at_end { OnOk result (cursor.new ≡ []) }
 {
     let mut program = Program::new(cursor.alloc());

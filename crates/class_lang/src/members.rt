@@ -1,19 +1,14 @@
 //! The members of a class.
 
-ghost use Rattle.std.specs.Prelude.{◌≡◌, ◌<◌, ◌≤◌, [], ◌∷◌, length, OnOk, option_map};
-ghost use Rattle.signatures.specs.declared.word.Word.TheVariants as word;
-ghost use Rattle.texts.specs.Cursor.{NotAt, NotAtWord};
-ghost use Rattle.texts.specs.Literals.{tree_of_literal};
+ghost use Rattle.std.specs.Prelude.{◌≡◌, ◌<◌, ◌≤◌, [], ◌∷◌, length, OnOk};
 ghost use Rattle.texts.specs.Reading.{Reads, EndsAnywhere};
-ghost use Rattle.texts.specs.Signatures.{tree_of_sig};
-ghost use Rattle.texts.specs.declared.symbol.Symbol.TheVariants.{Assign};
-ghost use Rattle.class_lang.specs.Members.{spell_initial, spell_notify, spell_property, tree_of_property, spell_signal, tree_of_signal, spell_slot, tree_of_slot, spell_member, tree_of_member, with_members};
+ghost use Rattle.class_lang.specs.Members.{ReadsInitial, ReadsNotify, ReadsProperty, spell_signal, tree_of_signal, spell_slot, tree_of_slot, spell_member, tree_of_member, with_members};
 
-use crate::parameters::{signal_parameters, slot_parameters};
-use signatures::{Sig, Value};
+use crate::parameters::{SignalParameterPart, SlotParameterPart};
+use signatures::Sig;
 use slot_lang::block;
 use std::alloc::AllocError;
-use texts::{Class, Cursor, ParseFault, Property, Signal, Slot, Symbol, Word};
+use texts::{Class, Cursor, Literal, ParseFault, Property, Signal, Slot, Symbol, Word, list};
 
 /// A member of a class.
 #[derive(Drop)]
@@ -35,8 +30,8 @@ pub fn add_member(class: &mut Class, member: Member) -> Result<(), AllocError>
 }
 
 /// `["=" literal]`
-fn initial(cursor: &mut Cursor) -> Result<Option<Value>, ParseFault>
-    ensures reads { Reads spell_initial (option_map tree_of_literal) (NotAt Assign) cursor.old result cursor.new }
+fn initial(cursor: &mut Cursor) -> Result<Option<Literal>, ParseFault>
+    ensures reads { ReadsInitial cursor.old result cursor.new }
     ensures no_longer { OnOk result (length cursor.new ≤ length cursor.old) }
 {
     if cursor.eat(Symbol::Assign) {
@@ -49,7 +44,7 @@ fn initial(cursor: &mut Cursor) -> Result<Option<Value>, ParseFault>
 
 /// `["notify" sig]`
 fn notify(cursor: &mut Cursor) -> Result<Option<Sig>, ParseFault>
-    ensures reads { Reads spell_notify (option_map tree_of_sig) (NotAtWord word.Notify) cursor.old result cursor.new }
+    ensures reads { ReadsNotify cursor.old result cursor.new }
     ensures no_longer { OnOk result (length cursor.new ≤ length cursor.old) }
 {
     if cursor.eat_word(Word::Notify) {
@@ -62,7 +57,7 @@ fn notify(cursor: &mut Cursor) -> Result<Option<Sig>, ParseFault>
 
 /// `type Name ["=" literal] ["notify" sig] ";"`
 fn property(cursor: &mut Cursor) -> Result<Property, ParseFault>
-    ensures reads { Reads spell_property tree_of_property EndsAnywhere cursor.old result cursor.new }
+    ensures reads { ReadsProperty cursor.old result cursor.new }
     ensures shorter { OnOk result (length cursor.new < length cursor.old) }
 {
     let kind = cursor.kind()?;
@@ -84,7 +79,7 @@ fn signal(cursor: &mut Cursor) -> Result<Signal, ParseFault>
     ensures shorter { OnOk result (length cursor.new < length cursor.old) }
 {
     let name = cursor.name()?;
-    let parameters = signal_parameters(cursor)?;
+    let parameters = list::<SignalParameterPart>(cursor)?;
     cursor.expect(Symbol::Semicolon)?;
     Ok(Signal { name, parameters })
 }
@@ -95,7 +90,7 @@ fn slot(cursor: &mut Cursor) -> Result<Slot, ParseFault>
     ensures shorter { OnOk result (length cursor.new < length cursor.old) }
 {
     let name = cursor.name()?;
-    let parameters = slot_parameters(cursor)?;
+    let parameters = list::<SlotParameterPart>(cursor)?;
     let body = block(cursor)?;
     Ok(Slot {
         name,

@@ -1,18 +1,16 @@
 //! The parameters of signals and slots.
 
-ghost use Rattle.std.specs.Prelude.{◌<◌, ◌≤◌, length, map, OnOk};
-ghost use Rattle.texts.specs.Lists.{spell_listed};
-ghost use Rattle.texts.specs.Reading.{Reads, EndsAnywhere};
-ghost use Rattle.class_lang.specs.Optional.{spell_optional_name, EndsWithoutName};
-ghost use Rattle.class_lang.specs.Parameters.{spell_signal_parameter, tree_of_signal_parameter, EndsSignalParameter, spell_slot_parameter, tree_of_slot_parameter};
+ghost use Rattle.std.specs.Prelude.{◌<◌, ◌≤◌, length, OnOk};
+ghost use Rattle.texts.specs.Reading.{EndsAnywhere};
+ghost use Rattle.class_lang.specs.Optional.{ReadsOptionalName};
+ghost use Rattle.class_lang.specs.Parameters.{ReadsSignalParameter, ReadsSlotParameter, SignalParameter, spell_signal_parameter, tree_of_signal_parameter, EndsSignalParameter, SlotParameter, spell_slot_parameter, tree_of_slot_parameter};
 
 use signatures::Name;
-use sqlite_items::Items;
-use texts::{Cursor, Parameter, ParseFault, Symbol, Token};
+use texts::{Cursor, Parameter, ParseFault, Part, Token};
 
 /// `[Name]`
 fn optional_name(cursor: &mut Cursor) -> Result<Option<Name>, ParseFault>
-    ensures reads { Reads spell_optional_name (λ name. name) EndsWithoutName cursor.old result cursor.new }
+    ensures reads { ReadsOptionalName cursor.old result cursor.new }
     ensures no_longer { OnOk result (length cursor.new ≤ length cursor.old) }
 {
     match cursor.rest().first() {
@@ -23,7 +21,7 @@ fn optional_name(cursor: &mut Cursor) -> Result<Option<Name>, ParseFault>
 
 /// `type [Name]`
 fn signal_parameter(cursor: &mut Cursor) -> Result<Parameter, ParseFault>
-    ensures reads { Reads spell_signal_parameter tree_of_signal_parameter EndsSignalParameter cursor.old result cursor.new }
+    ensures reads { ReadsSignalParameter cursor.old result cursor.new }
     ensures shorter { OnOk result (length cursor.new < length cursor.old) }
 {
     let kind = cursor.kind()?;
@@ -33,7 +31,7 @@ fn signal_parameter(cursor: &mut Cursor) -> Result<Parameter, ParseFault>
 
 /// `type Name`
 fn slot_parameter(cursor: &mut Cursor) -> Result<Parameter, ParseFault>
-    ensures reads { Reads spell_slot_parameter tree_of_slot_parameter EndsAnywhere cursor.old result cursor.new }
+    ensures reads { ReadsSlotParameter cursor.old result cursor.new }
     ensures shorter { OnOk result (length cursor.new < length cursor.old) }
 {
     let kind = cursor.kind()?;
@@ -44,42 +42,40 @@ fn slot_parameter(cursor: &mut Cursor) -> Result<Parameter, ParseFault>
     })
 }
 
-/// `"(" [signal_parameter {"," signal_parameter}] ")"`
-pub fn signal_parameters(cursor: &mut Cursor) -> Result<Items<Parameter>, ParseFault>
-    ensures reads { Reads (spell_listed spell_signal_parameter) (map tree_of_signal_parameter) EndsAnywhere cursor.old result cursor.new }
-    ensures shorter { OnOk result (length cursor.new < length cursor.old) }
-{
-    let mut parameters = Items::new(cursor.alloc());
-    cursor.expect(Symbol::Open)?;
-    if cursor.eat(Symbol::Close) {
-        return Ok(parameters);
+/// A signal's parameter, as a part of a list.
+pub struct SignalParameterPart;
+
+impl Part for SignalParameterPart {
+    type Tree = Parameter;
+
+    ghost Reading = { SignalParameter };
+
+    ghost spell = { spell_signal_parameter };
+
+    ghost tree = { tree_of_signal_parameter };
+
+    ghost Ends = { EndsSignalParameter };
+
+    fn read(cursor: &mut Cursor) -> Result<Parameter, ParseFault> {
+        signal_parameter(cursor)
     }
-    let first = signal_parameter(cursor)?;
-    parameters.push(first)?;
-    while cursor.eat(Symbol::Comma) {
-        let parameter = signal_parameter(cursor)?;
-        parameters.push(parameter)?;
-    }
-    cursor.expect(Symbol::Close)?;
-    Ok(parameters)
 }
 
-/// `"(" [slot_parameter {"," slot_parameter}] ")"`
-pub fn slot_parameters(cursor: &mut Cursor) -> Result<Items<Parameter>, ParseFault>
-    ensures reads { Reads (spell_listed spell_slot_parameter) (map tree_of_slot_parameter) EndsAnywhere cursor.old result cursor.new }
-    ensures shorter { OnOk result (length cursor.new < length cursor.old) }
-{
-    let mut parameters = Items::new(cursor.alloc());
-    cursor.expect(Symbol::Open)?;
-    if cursor.eat(Symbol::Close) {
-        return Ok(parameters);
+/// A slot's parameter, as a part of a list.
+pub struct SlotParameterPart;
+
+impl Part for SlotParameterPart {
+    type Tree = Parameter;
+
+    ghost Reading = { SlotParameter };
+
+    ghost spell = { spell_slot_parameter };
+
+    ghost tree = { tree_of_slot_parameter };
+
+    ghost Ends = { EndsAnywhere };
+
+    fn read(cursor: &mut Cursor) -> Result<Parameter, ParseFault> {
+        slot_parameter(cursor)
     }
-    let first = slot_parameter(cursor)?;
-    parameters.push(first)?;
-    while cursor.eat(Symbol::Comma) {
-        let parameter = slot_parameter(cursor)?;
-        parameters.push(parameter)?;
-    }
-    cursor.expect(Symbol::Close)?;
-    Ok(parameters)
 }

@@ -1,12 +1,10 @@
 //! From a text to its program.
 
-ghost use Rattle.std.specs.Prelude.{◌≡◌, ◌⊎◌, ℕ, List, Result, Err, IfOk};
+ghost use Rattle.std.specs.Prelude.{◌≡◌, ℕ, List, Err, IfOk};
 ghost use Rattle.texts.specs.declared.fault.ParseFault.TheVariants.{Syntax};
 ghost use Rattle.texts.specs.declared.token.Token.{Token};
 ghost use Rattle.class_lang.specs.Declarations.{IsProgram};
-ghost use Rattle.class_lang.specs.Reads.{IsProgramText, ReadsProgram};
-ghost use Rattle.class_lang.specs.declared.fault.TextFault.{TextFault};
-ghost use Rattle.class_lang.specs.declared.fault.TextFault.TheVariants.{Memory};
+ghost use Rattle.class_lang.specs.Reads.{ReadsProgram, HasOneReading, HasOneProgram, HasOneAnswer};
 ghost use Rattle.texts.specs.declared.program.Program.{Program};
 
 use crate::declarations::program;
@@ -62,11 +60,11 @@ fn parse(alloc: Global, tokens: &[Token]) -> Result<Program, ParseFault>
 
 /// Tokens, and so a text, are at most one program.
 pub fn one_reading()
-    ensures tokens { (tokens : List Token) → (p q : Program) → IsProgram tokens p → IsProgram tokens q → p ≡ q }
-    ensures text { (bytes : List ℕ) → (p q : Program) → IsProgramText bytes p → IsProgramText bytes q → p ≡ q }
+    ensures tokens { (tokens : List Token) → HasOneReading tokens }
+    ensures text { (bytes : List ℕ) → HasOneProgram bytes }
 {}
 
 /// A text has at most one answer, want of memory aside.
 pub fn one_answer()
-    ensures { (bytes : List ℕ) → (a b : Result Program TextFault) → ReadsProgram bytes a → ReadsProgram bytes b → (a ≡ Err Memory) ⊎ (b ≡ Err Memory) ⊎ (a ≡ b) }
+    ensures { (bytes : List ℕ) → HasOneAnswer bytes }
 {}

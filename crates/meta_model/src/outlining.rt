@@ -11,10 +11,10 @@ use crate::fault::MetaFault;
 use crate::outline::{Heading, Outline, Sort};
 use crate::places::find;
 use crate::qobject::qobject;
-use signatures::{Name, QType, Sig, Value};
+use signatures::{Name, QType, Sig};
 use sqlite_items::Items;
 use std::alloc::{AllocError, Global};
-use texts::{Class, Parameter, Property, Signal, Slot};
+use texts::{Class, Literal, Parameter, Property, Signal, Slot};
 
 /// `QObject` and the program's classes, as declared; `NoBase` where a base doesn't stand before its class.
 pub fn outline_classes(alloc: Global, classes: &[Class]) -> Result<Items<Outline>, MetaFault>
@@ -163,7 +163,7 @@ fn copy_property(alloc: Global, property: &Property) -> Result<Property, AllocEr
 {
     let kind = property.kind.copy()?;
     let name = property.name.copy()?;
-    let initial = copy_value(&property.initial)?;
+    let initial = copy_literal(&property.initial)?;
     let notify = copy_sig(alloc, &property.notify)?;
     Ok(Property {
         kind,
@@ -173,11 +173,11 @@ fn copy_property(alloc: Global, property: &Property) -> Result<Property, AllocEr
     })
 }
 
-/// The same value, if there is one.
-fn copy_value(value: &Option<Value>) -> Result<Option<Value>, AllocError>
-    ensures { IfOk result (λ copy. copy ≡ value.now) }
+/// The same literal, if there is one.
+fn copy_literal(literal: &Option<Literal>) -> Result<Option<Literal>, AllocError>
+    ensures { IfOk result (λ copy. copy ≡ literal.now) }
 {
-    match value {
+    match literal {
         Some(found) => {
             let found = found.copy()?;
             Ok(Some(found))

@@ -6,6 +6,8 @@ use Rattle.std.specs.Option.{option_and_then}
 use Rattle.signatures.specs.declared.sig.Sig.{Sig}
 use Rattle.signatures.specs.declared.value.Value.{Value}
 use Rattle.signatures.specs.declared.value.Value.TheVariants as value
+use Rattle.texts.specs.Literals.{literal_value}
+use Rattle.texts.specs.declared.syntax.Literal.{Literal}
 use Rattle.texts.specs.declared.program.Property.{Property}
 use Rattle.texts.specs.declared.program.Wire.{Wire}
 use Rattle.texts.specs.declared.program.Owns.{Owns}
@@ -59,9 +61,9 @@ default type.Bool = value.Bool false
 default type.Text = value.Text []
 default (type.Reference c constant) = value.Ref None
 
-abbrev pub initial_of : Option Value → ValueType → Value
+abbrev pub initial_of : Option Literal → ValueType → Value
 initial_of None kind = default kind
-initial_of (Some v) kind = v
+initial_of (Some l) kind = literal_value l
 
 -- the number of the notify signal, if one is given and is there
 abbrev pub IsNotify : Outline → Option Sig → Option ℕ → Type 0

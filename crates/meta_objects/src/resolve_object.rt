@@ -11,7 +11,7 @@ use meta_model::{
 use signatures::{Text, Value};
 use sqlite_items::Items;
 use std::alloc::{AllocError, Global};
-use texts::Property;
+use texts::{Literal, Property};
 
 /// The classes in their order, with these bodies of the program's slots.
 pub fn resolve_objects(
@@ -177,11 +177,11 @@ fn notify_of(outline: &Outline, declared: &Property) -> Option<usize>
 }
 
 /// The value that a property of this type has at first, where this literal is given for it.
-fn initial_of(alloc: Global, given: &Option<Value>, kind: ValueType) -> Result<Value, AllocError>
+fn initial_of(alloc: Global, given: &Option<Literal>, kind: ValueType) -> Result<Value, AllocError>
     ensures { IfOk result (λ value. value ≡ initial_of given.now kind) }
 {
     match given {
-        Some(value) => value.copy(),
+        Some(literal) => literal.value(),
         None => default_of(alloc, kind),
     }
 }

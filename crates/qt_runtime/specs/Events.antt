@@ -14,6 +14,7 @@ use Rattle.meta_model.specs.Values.{Has, HaveTypes}
 use Rattle.script_lang.specs.declared.event.Connect.{Connect as Connecting}
 use Rattle.script_lang.specs.declared.event.Event.{Event}
 use Rattle.script_lang.specs.declared.event.Event.TheVariants.{New, Adopt, Connect, Set, Emit, Call, Block, Unblock}
+use Rattle.texts.specs.Literals.{literal_value}
 use Rattle.script_lang.specs.declared.event.Input.{Input}
 use Rattle.script_lang.specs.declared.event.Input.TheVariants as input
 use Rattle.object_tree.specs.declared.object.Object.{Object}
@@ -123,7 +124,7 @@ pub record IsWired (p : Loaded) (s : State) (c : Connecting) : Type 0 where
 
 -- what a script writes for a value: a literal, or the name of an object
 abbrev pub IsValue : State → Input → Value → Type 0
-IsValue s (input.Literal v) w = w ≡ v
+IsValue s (input.Literal l) w = w ≡ literal_value l
 IsValue s (input.Object name) w = (o : ℕ) × (x : Object) × IsNamed s.objects name o x × (w ≡ value.Ref (Some o))
 
 abbrev pub AreValues : State → List Input → List Value → Type 0
@@ -131,7 +132,7 @@ AreValues s inputs values = AllZip (IsValue s) inputs values
 
 -- each name among them is that of an object
 abbrev pub is_input : State → Input → List Condition
-is_input s (input.Literal v) = []
+is_input s (input.Literal l) = []
 is_input s (input.Object name) = is_object s name
 
 abbrev pub are_inputs : State → List Input → List Condition

@@ -18,9 +18,9 @@ pub fn read_input(world: &World, input: &Input) -> Result<Value, Bar>
     ensures bars { IfErr result (λ b. Bars (is_input (at world.now []) input.now) b) }
 {
     match input {
-        Input::Literal(value) => {
-            let copy = value.copy()?;
-            Ok(copy)
+        Input::Literal(literal) => {
+            let value = literal.value()?;
+            Ok(value)
         }
         Input::Object(name) => {
             let (object, _) = find_living(world, name)?;

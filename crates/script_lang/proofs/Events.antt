@@ -2,7 +2,6 @@
 use Rattle.std.proofs.Common.{ℕ, ◌≡◌, Result, Ok, Err, List, ◌∷◌, map, refl, sym, ◌∙◌, ap}
 use Rattle.signatures.specs.declared.kind.Kind.{Kind}
 use Rattle.signatures.specs.declared.sig.Sig.{Sig}
-use Rattle.signatures.specs.declared.value.Value.{Value}
 use Rattle.signatures.specs.declared.word.Word.TheVariants as word
 use Rattle.texts.specs.Cursor.{NotAtWord}
 use Rattle.texts.specs.Lists.{spell_listed}
@@ -10,6 +9,7 @@ use Rattle.texts.specs.Literals.{spell_literal, tree_of_literal}
 use Rattle.texts.specs.Reading.{Found, Reads, EndsAnywhere, spell_name}
 use Rattle.texts.specs.Signatures.{spell_sig, tree_of_sig, spell_kind}
 use Rattle.texts.specs.declared.fault.ParseFault.{ParseFault}
+use Rattle.texts.specs.declared.syntax.Literal.{Literal}
 use Rattle.texts.specs.declared.token.Token.{Token}
 use Rattle.texts.specs.declared.token.Token.TheVariants as token
 use Rattle.texts.proofs.Underway.{None}
@@ -28,11 +28,11 @@ within outer f = record { reading = f.reading; spelled = f.spelled; tree_is = ap
 
 -- ---- values
 
-literal_only : {before after : List Token} (r : InputReading) (rest : List Token) {v : Value} → Found spell_literal tree_of_literal EndsAnywhere before v after → before ≡ spell_input r rest → after ≡ rest
+literal_only : {before after : List Token} (r : InputReading) (rest : List Token) {l : Literal} → Found spell_literal tree_of_literal EndsAnywhere before l after → before ≡ spell_input r rest → after ≡ rest
 literal_only (literal l) rest f g = f.only l rest tt g
 literal_only {after = after} (named name) rest f g = absurd (literal_unnamed f.reading name after rest (sym f.spelled ∙ g))
 
-pub literal_found : {before after : List Token} {v : Value} → Found spell_literal tree_of_literal EndsAnywhere before v after → Found spell_input tree_of_input EndsAnywhere before (input.Literal v) after
+pub literal_found : {before after : List Token} {l : Literal} → Found spell_literal tree_of_literal EndsAnywhere before l after → Found spell_input tree_of_input EndsAnywhere before (input.Literal l) after
 literal_found f = record {
   reading = literal f.reading;
   spelled = f.spelled;

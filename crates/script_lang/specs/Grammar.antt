@@ -12,7 +12,7 @@
 --   value = literal | Name
 --
 -- `connect`, `set`, `emit` and `call` are reserved words; `new`, `adopt`, `block` and `unblock` are names.
-use Rattle.std.specs.Prelude.{ℕ, ◌≡◌, ◌≢◌, ◌≤◌, List, [], ◌∷◌, map, length, codes}
+use Rattle.std.specs.Prelude.{ℕ, ◌≡◌, ◌≢◌, ◌≤◌, List, [], ◌∷◌, map, length, codes, Option, Some, None}
 use Rattle.std.specs.List.{AllByRecursion}
 use Rattle.signatures.specs.declared.kind.Kind.{Kind}
 use Rattle.signatures.specs.declared.kind.Kind.TheVariants.{Queued}
@@ -55,6 +55,11 @@ verb_spelling verb.New = codes "new"
 verb_spelling verb.Adopt = codes "adopt"
 verb_spelling verb.Block = codes "block"
 verb_spelling verb.Unblock = codes "unblock"
+
+-- the verb that is written so, if there is one
+abbrev pub IsVerbOf : List ℕ → Option Verb → Type 0
+IsVerbOf letters (Some verb) = letters ≡ verb_spelling verb
+IsVerbOf letters None = (verb : Verb) → letters ≢ verb_spelling verb
 
 abbrev pub spell_verb : Verb → List Token → List Token
 spell_verb v after = token.Name (verb_spelling v) ∷ after

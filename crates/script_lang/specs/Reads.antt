@@ -1,5 +1,5 @@
 -- What the reader answers for a text (docs/language.md, "Scripts").
-use Rattle.std.specs.Prelude.{ℕ, ◌≡◌, ◌+◌, ◌≤◌, ◌<◌, List, [], ◌∷◌, length, Option, Some, None, Result, Ok, Err}
+use Rattle.std.specs.Prelude.{ℕ, ◌≡◌, ◌≢◌, ◌+◌, ◌≤◌, ◌<◌, List, [], ◌∷◌, length, Option, Some, None, Result, Ok, Err}
 use Rattle.texts.specs.Pieces.{AreTokens}
 use Rattle.texts.specs.declared.fault.ParseFault.{ParseFault}
 use Rattle.texts.specs.declared.fault.ParseFault.TheVariants as parse
@@ -85,3 +85,18 @@ ReadsScript text (Ok events) = IsScript text events
 ReadsScript text (Err (BadLine n)) = IsBadLine text n
 ReadsScript text (Err TooLarge) = most_bytes < length text
 ReadsScript text (Err Memory) = Unit {0}
+
+-- ---- laws
+
+-- the line is empty or one event
+abbrev pub HasOneContent : List ℕ → Type 0
+HasOneContent line = (a b : Option Event) → Holds line a → Holds line b → a ≡ b
+
+-- the text has one list of events at most
+abbrev pub HasOneScript : List ℕ → Type 0
+HasOneScript text = (a b : List Event) → IsScript text a → IsScript text b → a ≡ b
+
+-- .. and one answer, where memory isn't refused
+abbrev pub HasOneAnswer : List ℕ → Type 0
+HasOneAnswer text =
+    (a b : Result (List Event) ScriptFault) → ReadsScript text a → ReadsScript text b → a ≢ Err Memory → b ≢ Err Memory → a ≡ b

@@ -1,13 +1,14 @@
 //! The events of a script.
 
-use signatures::{Kind, Name, Sig, Value};
+use signatures::{Kind, Name, Sig};
 use sqlite_items::Items;
+use texts::Literal;
 
 /// A value as a script writes it.
 #[derive(Drop)]
 pub enum Input {
-    /// A literal.
-    Literal(Value),
+    /// A number, a truth value, a text or null.
+    Literal(Literal),
     /// An object's name.
     Object(Name),
 }

@@ -1,10 +1,7 @@
 //! Reads a script, line by line.
 
-ghost use Rattle.std.specs.Prelude.{◌≡◌, ◌≢◌, ℕ, List, Option, Result, Err};
-ghost use Rattle.script_lang.specs.declared.event.Event.{Event};
-ghost use Rattle.script_lang.specs.declared.fault.ScriptFault.TheVariants.{Memory};
-ghost use Rattle.script_lang.specs.declared.fault.ScriptFault.{ScriptFault};
-ghost use Rattle.script_lang.specs.Reads.{Holds, IsScript, ReadsScript, ReadsLine};
+ghost use Rattle.std.specs.Prelude.{ℕ, List};
+ghost use Rattle.script_lang.specs.Reads.{ReadsScript, ReadsLine, HasOneContent, HasOneScript, HasOneAnswer};
 
 use crate::event::Event;
 use crate::fault::{LineFault, ScriptFault};
@@ -49,13 +46,13 @@ pub fn read_script(alloc: Global, bytes: &[u8]) -> Result<Items<Event>, ScriptFa
 
 /// A line is empty or one event, and a script has one list of events.
 pub fn one_reading()
-    ensures line { (line : List ℕ) → (a b : Option Event) → Holds line a → Holds line b → a ≡ b }
-    ensures script { (text : List ℕ) → (a b : List Event) → IsScript text a → IsScript text b → a ≡ b }
+    ensures line { (line : List ℕ) → HasOneContent line }
+    ensures script { (text : List ℕ) → HasOneScript text }
 {}
 
 /// Only one answer fits a text, where memory isn't refused.
 pub fn one_answer()
-    ensures { (text : List ℕ) → (a b : Result (List Event) ScriptFault) → ReadsScript text a → ReadsScript text b → a ≢ Err Memory → b ≢ Err Memory → a ≡ b }
+    ensures { (text : List ℕ) → HasOneAnswer text }
 {}
 
 /// Reads a line: its event, or `None` where it has no tokens.

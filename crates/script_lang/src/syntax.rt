@@ -1,15 +1,14 @@
 //! The grammar of events, one function a rule.
 
-ghost use Rattle.std.specs.Prelude.{◌<◌, length, map, OnOk};
-ghost use Rattle.script_lang.specs.Grammar.{spell_input, tree_of_input, spell_verb, spell_member, spell_invocation, tree_of_invocation, spell_event, tree_of_event, spell_new, tree_of_new, spell_adopt, tree_of_adopt, spell_connect, tree_of_connect, spell_assignment, tree_of_assignment, tree_of_emit, tree_of_call, tree_of_block, tree_of_unblock};
-ghost use Rattle.texts.specs.Lists.{spell_listed};
+ghost use Rattle.std.specs.Prelude.{◌<◌, length, OnOk};
+ghost use Rattle.script_lang.specs.Grammar.{InputReading, spell_input, tree_of_input, spell_verb, spell_member, spell_invocation, tree_of_invocation, spell_event, tree_of_event, spell_new, tree_of_new, spell_adopt, tree_of_adopt, spell_connect, tree_of_connect, spell_assignment, tree_of_assignment, tree_of_emit, tree_of_call, tree_of_block, tree_of_unblock};
 ghost use Rattle.texts.specs.Reading.{Reads, EndsAnywhere, spell_name};
 
 use crate::event::{Connect, Event, Input};
 use crate::verb::Verb;
 use signatures::{Name, Word};
 use sqlite_items::Items;
-use texts::{Cursor, ParseFault, Symbol, Token};
+use texts::{Cursor, ParseFault, Part, Symbol, Token, list};
 
 /// Takes the event that has to come next.
 pub fn event(cursor: &mut Cursor) -> Result<Event, ParseFault>
@@ -126,7 +125,7 @@ fn invocation(cursor: &mut Cursor) -> Result<(Name, Name, Items<Input>), ParseFa
     ensures { Reads spell_invocation tree_of_invocation EndsAnywhere cursor.old result cursor.new }
 {
     let (object, method) = member(cursor)?;
-    let arguments = inputs(cursor)?;
+    let arguments = list::<InputPart>(cursor)?;
     Ok((object, method, arguments))
 }
 
@@ -140,25 +139,6 @@ fn member(cursor: &mut Cursor) -> Result<(Name, Name), ParseFault>
     Ok((object, name))
 }
 
-/// `(V,..)`
-fn inputs(cursor: &mut Cursor) -> Result<Items<Input>, ParseFault>
-    ensures { Reads (spell_listed spell_input) (map tree_of_input) EndsAnywhere cursor.old result cursor.new }
-{
-    let mut found = Items::new(cursor.alloc());
-    cursor.expect(Symbol::Open)?;
-    if cursor.eat(Symbol::Close) {
-        return Ok(found);
-    }
-    let first = input(cursor)?;
-    found.push(first)?;
-    while cursor.eat(Symbol::Comma) {
-        let next = input(cursor)?;
-        found.push(next)?;
-    }
-    cursor.expect(Symbol::Close)?;
-    Ok(found)
-}
-
 /// `V`
 fn input(cursor: &mut Cursor) -> Result<Input, ParseFault>
     ensures reads { Reads spell_input tree_of_input EndsAnywhere cursor.old result cursor.new }
@@ -168,5 +148,24 @@ fn input(cursor: &mut Cursor) -> Result<Input, ParseFault>
         Ok(Input::Object(cursor.name()?))
     } else {
         Ok(Input::Literal(cursor.literal()?))
+    }
+}
+
+/// A value that a script writes, as a part of a list.
+struct InputPart;
+
+impl Part for InputPart {
+    type Tree = Input;
+
+    ghost Reading = { InputReading };
+
+    ghost spell = { spell_input };
+
+    ghost tree = { tree_of_input };
+
+    ghost Ends = { EndsAnywhere };
+
+    fn read(cursor: &mut Cursor) -> Result<Input, ParseFault> {
+        input(cursor)
     }
 }

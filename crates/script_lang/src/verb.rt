@@ -1,8 +1,6 @@
 //! What an event begins with that begins with a plain name.
 
-ghost use Rattle.std.specs.Prelude.{◌≡◌, ◌≢◌, MatchOption};
-ghost use Rattle.script_lang.specs.Grammar.{verb_spelling};
-ghost use Rattle.script_lang.specs.declared.verb.Verb.{Verb};
+ghost use Rattle.script_lang.specs.Grammar.{IsVerbOf};
 
 use signatures::Name;
 
@@ -22,7 +20,7 @@ pub enum Verb {
 impl Verb {
     /// The verb that is written so, or `None` where the name is no verb.
     pub fn of(name: &Name) -> Option<Verb>
-        ensures { MatchOption result ((verb : Verb) → name.now ≢ verb_spelling verb) (λ verb. name.now ≡ verb_spelling verb) }
+        ensures { IsVerbOf name.now result }
     {
         let letters = name.bytes();
         if letters == b"new".as_slice() {

@@ -1,10 +1,9 @@
 -- Factors.
 use Rattle.std.proofs.Common.{◌≡◌, ◌∙◌, ℕ, List, [], ◌∷◌, Result, Ok, Err, MatchResult, true, false, refl, sym, ap}
-use Rattle.signatures.specs.declared.value.Value.{Value}
 use Rattle.signatures.specs.declared.word.Word.TheVariants as word
 use Rattle.texts.specs.Cursor.{NotAt, NotAtWord}
 use Rattle.slot_lang.specs.Expressions.{Expression, Factor, prefixed, literal, path, grouped, spell_expression, spell_factor, spell_group, spell_names, spell_root, tree_of_expression, tree_of_factor, EndsExpression, EndsFactor}
-use Rattle.texts.specs.Literals.{UnsignedReading, plain, truth, quoted, null, token_of_unsigned, IsUnsigned}
+use Rattle.texts.specs.Literals.{UnsignedReading, plain, truth, quoted, null, token_of_unsigned, IsUnsigned, literal_value}
 use Rattle.slot_lang.specs.Precedence.{prefix_symbol_of}
 use Rattle.texts.specs.Reading.{EndsAnywhere, Found, Reads}
 use Rattle.texts.specs.declared.fault.ParseFault.{ParseFault}
@@ -18,6 +17,7 @@ use Rattle.texts.specs.declared.syntax.Root.{Root}
 use Rattle.texts.specs.declared.syntax.Root.TheVariants as root
 use Rattle.texts.specs.declared.syntax.Unary.{Unary}
 use Rattle.texts.specs.declared.syntax.Unary.TheVariants as unary
+use Rattle.texts.specs.declared.syntax.Literal.{Literal}
 use Rattle.texts.specs.declared.token.Token.{Token}
 use Rattle.texts.specs.declared.token.Token.TheVariants as token
 use Rattle.texts.proofs.Literals.{no_symbol}
@@ -109,13 +109,13 @@ path_reads {before} r between after (Ok e) at h = record {
 }
 path_reads {before} r between after (Err e) at h = λ q f rest ends g. let w = after_root f r between rest (sym at ∙ g) in h q w.0 rest ends w.1
 
-pub literal_found : {before after : List Token} {v : Value} (t : Token) → before ≡ t ∷ after → IsUnsigned t v → Found spell_factor tree_of_factor EndsFactor before (tree.Literal v) after
-literal_found {before} {after} {v} t at h =
+pub literal_found : {before after : List Token} {l : Literal} (t : Token) → before ≡ t ∷ after → IsUnsigned t l → Found spell_factor tree_of_factor EndsFactor before (tree.Literal (literal_value l)) after
+literal_found {before} {after} {l} t at h =
     let is = h.is in
     record {
       reading = literal h.reading;
       spelled = cc;
-      tree_is = ap (λ x. tree.Literal x) h.tree;
+      tree_is = ap (λ x. tree.Literal (literal_value x)) h.tree;
       only = λ r rest ends g. after_unsigned r h.reading after rest cc;
     }
 

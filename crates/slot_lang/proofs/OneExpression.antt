@@ -1,5 +1,6 @@
 -- No two readings of an expression with the same tokens stand for different trees.
 use Rattle.std.proofs.Common.{◌≡◌, ◌∙◌, ℕ, List, [], ◌∷◌, refl, sym, ap}
+use Rattle.texts.specs.Literals.{literal_value}
 use Rattle.texts.specs.Cursor.{NotAt}
 use Rattle.slot_lang.specs.Expressions.{Expression, expression, Conjunctions, no_conjunction, or_else, Conjunction, conjunction, Comparisons, no_comparison, and_also, Comparison, alone, compared, Sum, sum, Terms, no_term, signed, Term, term, Factors, no_factor, times, Factor, prefixed, literal, path, grouped, spell_root, spell_names, spell_path, spell_expression, spell_conjunctions, spell_conjunction, spell_comparisons, spell_comparison, spell_sum, spell_terms, spell_term, spell_factors, spell_factor, spell_group, tree_of_expression, tree_of_conjunctions, tree_of_conjunction, tree_of_comparisons, tree_of_comparison, tree_of_sum, tree_of_terms, tree_of_term, tree_of_factors, tree_of_factor, EndsFactor, EndsTerm, EndsSum, EndsComparison, EndsConjunction, EndsExpression, IsExpr}
 use Rattle.slot_lang.specs.Precedence.{symbol_of, prefix_symbol_of}
@@ -122,7 +123,7 @@ mutual
       let same = one_prefix u v cc in
       let h : (tree_of_factor f ≡ tree_of_factor g) × (r ≡ s) = one_tree_of_factor f g r s er es cc in
       (ap (λ x. tree.Unary x (tree_of_factor f)) same ∙ ap (λ x. tree.Unary v x) h.0, h.1)
-  one_tree_of_factor (literal a) (literal b) r s er es e = (ap (λ x. tree.Literal x) (one_unsigned a b cc), cc)
+  one_tree_of_factor (literal a) (literal b) r s er es e = (ap (λ x. tree.Literal (literal_value x)) (one_unsigned a b cc), cc)
   one_tree_of_factor (path p) (path q) r s er es e = let h = one_path p q r s er es e in (ap (λ x. tree.Path x) h.0, h.1)
   one_tree_of_factor (grouped c) (grouped d) r s er es e =
       let h : (tree_of_expression c ≡ tree_of_expression d) × (token.Symbol Close ∷ r ≡ token.Symbol Close ∷ s) = one_tree_of_expression c d (token.Symbol Close ∷ r) (token.Symbol Close ∷ s) (ends_at_close r) (ends_at_close s) cc in

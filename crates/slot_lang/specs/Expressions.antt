@@ -11,7 +11,7 @@
 use Rattle.std.specs.Prelude.{ℕ, ◌≡◌, List, [], ◌∷◌}
 use Rattle.signatures.specs.declared.word.Word.TheVariants as word
 use Rattle.texts.specs.Cursor.{NotAt}
-use Rattle.texts.specs.Literals.{UnsignedReading, token_of_unsigned, tree_of_unsigned}
+use Rattle.texts.specs.Literals.{UnsignedReading, token_of_unsigned, tree_of_unsigned, literal_value}
 use Rattle.slot_lang.specs.Precedence.{symbol_of, prefix_symbol_of, Operator, NoOperator}
 use Rattle.slot_lang.specs.declared.precedence.Precedence.{Precedence}
 use Rattle.slot_lang.specs.declared.precedence.Precedence.TheVariants as precedence
@@ -162,7 +162,7 @@ abbrev mutual
 
   pub tree_of_factor : Factor → Expr Path
   tree_of_factor (prefixed u f) = tree.Unary u (tree_of_factor f)
-  tree_of_factor (literal u) = tree.Literal (tree_of_unsigned u)
+  tree_of_factor (literal u) = tree.Literal (literal_value (tree_of_unsigned u))
   tree_of_factor (path p) = tree.Path p
   tree_of_factor (grouped e) = tree_of_expression e
 

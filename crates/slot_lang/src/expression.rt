@@ -121,8 +121,8 @@ fn factor(cursor: &mut Cursor) -> Result<Expr<Path>, ParseFault>
             path_from(cursor, Root::Name(root))
         }
         _ => {
-            let value = unsigned_literal(cursor.alloc(), token)?;
-            Ok(Expr::Literal(value))
+            let literal = unsigned_literal(cursor.alloc(), token)?;
+            Ok(Expr::Literal(literal.into_value()))
         }
     }
 }

@@ -1,8 +1,8 @@
 -- Numbers and literals.
 use Rattle.std.proofs.Common.{◌≡◌, ◌<◌, ◌≤◌, ◌∙◌, ℕ, List, [], ◌∷◌, true, false, pos, ◌-ℤ◌, refl, sym, ap, arith}
 use Rattle.signatures.specs.Text.{IsText}
-use Rattle.signatures.specs.declared.value.Value.{Value}
-use Rattle.signatures.specs.declared.value.Value.TheVariants as value
+use Rattle.texts.specs.declared.syntax.Literal.{Literal}
+use Rattle.texts.specs.declared.syntax.Literal.TheVariants as literal
 use Rattle.signatures.specs.declared.word.Word.{Word}
 use Rattle.signatures.specs.declared.word.Word.TheVariants as word
 use Rattle.texts.specs.Cursor.{NotAt}
@@ -39,11 +39,11 @@ numeral_fits h = omega (arith, h.tree_is, h.reading.fits)
 
 -- ---- unsigned literals
 
-pub is_number : (t : Token) (digits : List ℕ) (n : ℕ) → t ≡ token.Number digits → n ≡ value_of digits → n ≤ greatest → IsUnsigned t (value.Int (pos n))
+pub is_number : (t : Token) (digits : List ℕ) (n : ℕ) → t ≡ token.Number digits → n ≡ value_of digits → n ≤ greatest → IsUnsigned t (literal.Int (pos n))
 is_number t digits n e same fits = record {
   reading = plain (record { digits = digits; fits = omega arith });
   is = e;
-  tree = ap (λ m. value.Int (pos m)) (sym same);
+  tree = ap (λ m. literal.Int (pos m)) (sym same);
 }
 
 pub is_too_large : (t : Token) (digits : List ℕ) → t ≡ token.Number digits → greatest < value_of digits → (r : UnsignedReading) → t ≡ token_of_unsigned r → ⊥
@@ -56,7 +56,7 @@ is_too_large t digits e large (truth false) g = cc
 is_too_large t digits e large (quoted q) g = cc
 is_too_large t digits e large null g = cc
 
-pub is_quoted : (t : Token) (bytes : List ℕ) → t ≡ token.Text bytes → IsText bytes → IsUnsigned t (value.Text bytes)
+pub is_quoted : (t : Token) (bytes : List ℕ) → t ≡ token.Text bytes → IsText bytes → IsUnsigned t (literal.Text bytes)
 is_quoted t bytes e fits = record { reading = quoted (record { bytes = bytes; fits = fits }); is = e; tree = refl }
 
 pub is_no_text : (t : Token) (bytes : List ℕ) → t ≡ token.Text bytes → ¬ IsText bytes → (r : UnsignedReading) → t ≡ token_of_unsigned r → ⊥
@@ -86,7 +86,7 @@ unsigned_only : (r : LiteralReading) (t : Token) (after rest : List Token) → (
 unsigned_only (unsigned u) t after rest other g = cc
 unsigned_only (negative n) t after rest other g = absurd (other cc)
 
-pub unsigned_found : {before after : List Token} {v : Value} (t : Token) → before ≡ t ∷ after → NotAt Minus before → IsUnsigned t v → Found spell_literal tree_of_literal EndsAnywhere before v after
+pub unsigned_found : {before after : List Token} {v : Literal} (t : Token) → before ≡ t ∷ after → NotAt Minus before → IsUnsigned t v → Found spell_literal tree_of_literal EndsAnywhere before v after
 unsigned_found {before} {after} {v} t e none h =
     let is = h.is in
     record {
@@ -115,11 +115,11 @@ negative_only : (r : LiteralReading) (before between after rest : List Token) {n
 negative_only (unsigned u) before between after rest e h g = absurd (no_symbol u Minus cc)
 negative_only (negative m) before between after rest e h g = h.only m rest tt cc
 
-pub negative_found : {before between after : List Token} {n : ℕ} → before ≡ token.Symbol Minus ∷ between → Found (spell_numeral deepest) (λ m. value_of m.digits) EndsAnywhere between n after → Found spell_literal tree_of_literal EndsAnywhere before (value.Int (pos 0 -ℤ pos n)) after
+pub negative_found : {before between after : List Token} {n : ℕ} → before ≡ token.Symbol Minus ∷ between → Found (spell_numeral deepest) (λ m. value_of m.digits) EndsAnywhere between n after → Found spell_literal tree_of_literal EndsAnywhere before (literal.Int (pos 0 -ℤ pos n)) after
 negative_found {before} {between} {after} e h = record {
   reading = negative h.reading;
   spelled = e ∙ ap (λ ts. token.Symbol Minus ∷ ts) h.spelled;
-  tree_is = ap (λ n. value.Int (pos 0 -ℤ pos n)) h.tree_is;
+  tree_is = ap (λ n. literal.Int (pos 0 -ℤ pos n)) h.tree_is;
   only = λ r rest ends g. negative_only r before between after rest e h g;
 }
 

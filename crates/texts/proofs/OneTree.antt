@@ -5,7 +5,7 @@ use Rattle.signatures.specs.declared.normal.ConstPlace.{ConstPlace}
 use Rattle.signatures.specs.declared.normal.ConstPlace.TheVariants.{Nowhere, Before, After}
 use Rattle.signatures.specs.declared.normal.TypeEnding.{TypeEnding}
 use Rattle.signatures.specs.declared.normal.TypeEnding.TheVariants.{Bare, Reference, Pointer}
-use Rattle.signatures.specs.declared.value.Value.TheVariants as value
+use Rattle.texts.specs.declared.syntax.Literal.TheVariants as literal
 use Rattle.texts.specs.Lists.{IsPart, spell_others, spell_listed}
 use Rattle.texts.specs.Literals.{UnsignedReading, plain, truth, quoted, null, token_of_unsigned, tree_of_unsigned, unsigned, negative, spell_literal, tree_of_literal}
 use Rattle.texts.specs.Numerals.{value_of}
@@ -91,10 +91,10 @@ one_tree_of_kind _ _ r s er es e = cc
 -- ---- literals
 
 pub one_unsigned : (a b : UnsignedReading) → token_of_unsigned a ≡ token_of_unsigned b → tree_of_unsigned a ≡ tree_of_unsigned b
-one_unsigned (plain m) (plain n) e = let h : m.digits ≡ n.digits = cc in ap (λ ds. value.Int (pos (value_of ds))) h
+one_unsigned (plain m) (plain n) e = let h : m.digits ≡ n.digits = cc in ap (λ ds. literal.Int (pos (value_of ds))) h
 one_unsigned (truth true) (truth true) e = refl
 one_unsigned (truth false) (truth false) e = refl
-one_unsigned (quoted p) (quoted q) e = let h : p.bytes ≡ q.bytes = cc in ap (λ bytes. value.Text bytes) h
+one_unsigned (quoted p) (quoted q) e = let h : p.bytes ≡ q.bytes = cc in ap (λ bytes. literal.Text bytes) h
 one_unsigned null null e = refl
 one_unsigned (plain m) (truth true) e = cc
 one_unsigned (plain m) (truth false) e = cc
@@ -111,6 +111,6 @@ one_unsigned _ _ e = cc
 pub one_tree_of_literal : HasOneTree spell_literal tree_of_literal EndsAnywhere
 one_tree_of_literal (unsigned a) (unsigned b) r s er es e = (one_unsigned a b cc, cc)
 one_tree_of_literal (negative m) (negative n) r s er es e =
-    let h : m.digits ≡ n.digits = cc in (ap (λ ds. value.Int (pos 0 -ℤ pos (value_of ds))) h, cc)
+    let h : m.digits ≡ n.digits = cc in (ap (λ ds. literal.Int (pos 0 -ℤ pos (value_of ds))) h, cc)
 one_tree_of_literal (unsigned a) (negative n) r s er es e = absurd (no_symbol a Minus cc)
 one_tree_of_literal (negative m) (unsigned b) r s er es e = absurd (no_symbol b Minus cc)

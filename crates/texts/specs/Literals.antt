@@ -11,6 +11,8 @@ use Rattle.signatures.specs.declared.value.Value.TheVariants as value
 use Rattle.signatures.specs.declared.word.Word.TheVariants as word
 use Rattle.texts.specs.Numerals.{Numeral, spell_numeral, value_of}
 use Rattle.texts.specs.declared.symbol.Symbol.TheVariants.{Minus}
+use Rattle.texts.specs.declared.syntax.Literal.{Literal}
+use Rattle.texts.specs.declared.syntax.Literal.TheVariants as literal
 use Rattle.texts.specs.declared.token.Token.{Token}
 use Rattle.texts.specs.declared.token.Token.TheVariants as token
 
@@ -40,11 +42,11 @@ token_of_unsigned (truth false) = token.Word word.False
 token_of_unsigned (quoted q) = token.Text q.bytes
 token_of_unsigned null = token.Word word.Null
 
-abbrev pub tree_of_unsigned : UnsignedReading → Value
-tree_of_unsigned (plain n) = value.Int (pos (value_of n.digits))
-tree_of_unsigned (truth b) = value.Bool b
-tree_of_unsigned (quoted q) = value.Text q.bytes
-tree_of_unsigned null = value.Ref None
+abbrev pub tree_of_unsigned : UnsignedReading → Literal
+tree_of_unsigned (plain n) = literal.Int (pos (value_of n.digits))
+tree_of_unsigned (truth b) = literal.Bool b
+tree_of_unsigned (quoted q) = literal.Text q.bytes
+tree_of_unsigned null = literal.Null
 
 pub data LiteralReading : Type 0 where
   unsigned : UnsignedReading → LiteralReading
@@ -54,12 +56,19 @@ abbrev pub spell_literal : LiteralReading → List Token → List Token
 spell_literal (unsigned u) after = token_of_unsigned u ∷ after
 spell_literal (negative n) after = token.Symbol Minus ∷ spell_numeral deepest n after
 
-abbrev pub tree_of_literal : LiteralReading → Value
+abbrev pub tree_of_literal : LiteralReading → Literal
 tree_of_literal (unsigned u) = tree_of_unsigned u
-tree_of_literal (negative n) = value.Int (pos 0 -ℤ pos (value_of n.digits))
+tree_of_literal (negative n) = literal.Int (pos 0 -ℤ pos (value_of n.digits))
 
--- the token is an unsigned literal of this value
-pub record IsUnsigned (t : Token) (v : Value) : Type 0 where
+-- the value that a literal stands for, which refers to no object
+abbrev pub literal_value : Literal → Value
+literal_value (literal.Int n) = value.Int n
+literal_value (literal.Bool b) = value.Bool b
+literal_value (literal.Text bytes) = value.Text bytes
+literal_value literal.Null = value.Ref None
+
+-- the token is this unsigned literal
+pub record IsUnsigned (t : Token) (l : Literal) : Type 0 where
   pub reading : UnsignedReading
   pub is : t ≡ token_of_unsigned reading
-  pub tree : tree_of_unsigned reading ≡ v
+  pub tree : tree_of_unsigned reading ≡ l

@@ -26,5 +26,5 @@ pub use program::{Class, Owns, Parameter, Program, Property, Signal, Slot, Wire}
 pub use signature::{TypePart, has_few_types, has_plain_reference, one_normal_form_of_types};
 pub use signatures::Word;
 pub use symbol::Symbol;
-pub use syntax::{Binary, Body, Expr, Path, Root, Stmt, Unary};
+pub use syntax::{Binary, Body, Expr, Literal, Path, Root, Stmt, Unary};
 pub use token::Token;

@@ -9,8 +9,9 @@ ghost use Rattle.texts.specs.declared.fault.ParseFault.TheVariants.{Syntax};
 use crate::cursor::Cursor;
 use crate::fault::ParseFault;
 use crate::symbol::Symbol;
+use crate::syntax::Literal;
 use crate::token::Token;
-use signatures::{Text, Value, Word};
+use signatures::{Text, Word};
 use std::alloc::Global;
 
 /// The greatest number that stands without a sign.
@@ -34,24 +35,24 @@ pub fn value_of(digits: &[u8], most: u32) -> Result<u32, ParseFault>
     Ok(value)
 }
 
-/// The value of the literal that the token is by itself: a number of at most 2147483647, `true`, `false`, a text of at
+/// The literal that the token is by itself: a number of at most 2147483647, `true`, `false`, a text of at
 /// most 255 bytes or `null`.
-pub fn unsigned_literal(alloc: Global, token: &Token) -> Result<Value, ParseFault>
-    ensures { MatchResult result (λ value. IsUnsigned token.now value) (λ fault. fault ≡ Syntax → (reading : UnsignedReading) → token.now ≡ token_of_unsigned reading → ⊥) }
+pub fn unsigned_literal(alloc: Global, token: &Token) -> Result<Literal, ParseFault>
+    ensures { MatchResult result (λ literal. IsUnsigned token.now literal) (λ fault. fault ≡ Syntax → (reading : UnsignedReading) → token.now ≡ token_of_unsigned reading → ⊥) }
 {
     match token {
         Token::Number(digits) => {
             let value = value_of(digits.as_slice(), GREATEST)?;
-            Ok(Value::Int(value as i32))
+            Ok(Literal::Int(value as i32))
         }
         Token::Text(bytes) => match Text::of(alloc, bytes.as_slice())? {
-            Some(text) => Ok(Value::Text(text)),
+            Some(text) => Ok(Literal::Text(text)),
             None => Err(ParseFault::Syntax),
         },
         Token::Word(word) => match word {
-            Word::True => Ok(Value::Bool(true)),
-            Word::False => Ok(Value::Bool(false)),
-            Word::Null => Ok(Value::Ref(None)),
+            Word::True => Ok(Literal::Bool(true)),
+            Word::False => Ok(Literal::Bool(false)),
+            Word::Null => Ok(Literal::Null),
             _ => Err(ParseFault::Syntax),
         },
         _ => Err(ParseFault::Syntax),
@@ -88,13 +89,13 @@ impl<'a> Cursor<'a> {
     /// 255 bytes.
     ///
     /// `Syntax` where the tokens begin with no literal, and only there; `Memory` where a growth of memory was refused.
-    pub fn literal(&mut self) -> Result<Value, ParseFault>
+    pub fn literal(&mut self) -> Result<Literal, ParseFault>
         ensures reads { Reads spell_literal tree_of_literal EndsAnywhere self.old result self.new }
         ensures shorter { OnOk result (length self.new < length self.old) }
     {
         if self.eat(Symbol::Minus) {
             let depth = self.number(DEEPEST)?;
-            return Ok(Value::Int(negated(depth)));
+            return Ok(Literal::Int(negated(depth)));
         }
         let token = self.next()?;
         let value = unsigned_literal(self.alloc(), token)?;

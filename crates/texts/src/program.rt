@@ -2,8 +2,8 @@
 
 ghost use Rattle.std.specs.Prelude.{◌≡◌, []};
 
-use crate::syntax::Body;
-use signatures::{Kind, Name, QType, Sig, Value};
+use crate::syntax::{Body, Literal};
+use signatures::{Kind, Name, QType, Sig};
 use sqlite_items::Items;
 use std::alloc::Global;
 
@@ -24,7 +24,7 @@ pub struct Property {
     /// What it is called in its class.
     pub name: Name,
     /// The literal that it starts with, if one is given.
-    pub initial: Option<Value>,
+    pub initial: Option<Literal>,
     /// The signal that is emitted when its value changes, if one is given; with at most 8 types.
     pub notify: Option<Sig>,
 }

@@ -1,7 +1,11 @@
 //! The trees of slot bodies.
 
-use signatures::{Name, Value};
+ghost use Rattle.std.specs.Prelude.{◌≡◌, IfOk};
+ghost use Rattle.texts.specs.Literals.{literal_value};
+
+use signatures::{Name, Text, Value};
 use sqlite_items::{Boxed, Items};
+use std::alloc::AllocError;
 
 /// An operator in front of its operand.
 #[derive(Clone, Copy, Debug, PartialEq, Eq)]
@@ -37,6 +41,53 @@ pub enum Binary {
     And,
     /// `||`
     Or,
+}
+
+/// A literal, as programs and scripts write it; it refers to no object.
+#[derive(Drop)]
+pub enum Literal {
+    /// A number of 32 bits.
+    Int(i32),
+    /// A truth value.
+    Bool(bool),
+    /// A text of at most 255 bytes.
+    Text(Text),
+    /// The reference to no object.
+    Null,
+}
+
+impl Literal {
+    /// An equal literal, which takes no memory: a text is shared.
+    pub fn copy(&self) -> Result<Literal, AllocError>
+        ensures { IfOk result (λ copy. copy ≡ self.now) }
+    {
+        match self {
+            Literal::Int(number) => Ok(Literal::Int(*number)),
+            Literal::Bool(truth) => Ok(Literal::Bool(*truth)),
+            Literal::Text(text) => Ok(Literal::Text(text.copy()?)),
+            Literal::Null => Ok(Literal::Null),
+        }
+    }
+
+    /// The value that it stands for, which takes no memory: a text is shared.
+    pub fn value(&self) -> Result<Value, AllocError>
+        ensures { IfOk result (λ value. value ≡ literal_value self.now) }
+    {
+        let literal = self.copy()?;
+        Ok(literal.into_value())
+    }
+
+    /// The value that it stands for.
+    pub fn into_value(self) -> Value
+        ensures { result ≡ literal_value self }
+    {
+        match self {
+            Literal::Int(number) => Value::Int(number),
+            Literal::Bool(truth) => Value::Bool(truth),
+            Literal::Text(text) => Value::Text(text),
+            Literal::Null => Value::Ref(None),
+        }
+    }
 }
 
 /// An expression, whose paths are of type P: as they are spelled, or with their names resolved.

@@ -82,12 +82,12 @@ factor-returns-in_err-token-clause-reads t c =
     let same = c.if-eat_word.ensures.found.0 in
     rw (p.1, p.2) (λ k. no_factor_at_end (rw same at c.in_err-token.ensures.found.1))
 
-pub factor-returns-in_err-value-in_default : goal.factor-returns-in_err-value-in_default
-factor-returns-in_err-value-in_default t c =
-    let p = err_from_is_err_and c.from_residual-in_err-value-in_default.result c.from_residual-in_err-value-in_default.ensures.1 in
+pub factor-returns-in_err-literal-in_default : goal.factor-returns-in_err-literal-in_default
+factor-returns-in_err-literal-in_default t c =
+    let p = err_from_is_err_and c.from_residual-in_err-literal-in_default.result c.from_residual-in_err-literal-in_default.ensures.1 in
     let same = c.if-eat_word.ensures.found.0 in
     record {
-      reads = rw (p.1, p.2) (λ k. no_factor_at_token c.in_ok-token.token.now (rw same at c.in_ok-token.ensures.found) c.if-eat_word.ensures.found.1 c.in_default.not-Symbol c.in_default.not-Name (c.in_err-value-in_default.ensures k));
+      reads = rw (p.1, p.2) (λ k. no_factor_at_token c.in_ok-token.token.now (rw same at c.in_ok-token.ensures.found) c.if-eat_word.ensures.found.1 c.in_default.not-Symbol c.in_default.not-Name (c.in_err-literal-in_default.ensures k));
       shorter = rw p.1 tt;
     }
 
@@ -120,10 +120,10 @@ factor-returns-in_ok-root-in-Name-clause-reads t c =
     let copied = c.in_ok-root-in-Name.ensures in
     path_reads (root.Name c.in_ok-root-in-Name.root) c.next.new.self c.path_from-in-Name.new.cursor c.path_from-in-Name.result (rw (same, c.in-Name.is, ← copied) at c.in_ok-token.ensures.found) c.path_from-in-Name.ensures.reads
 
-pub factor-returns-in_ok-value-in_default : goal.factor-returns-in_ok-value-in_default
-factor-returns-in_ok-value-in_default t c =
+pub factor-returns-in_ok-literal-in_default : goal.factor-returns-in_ok-literal-in_default
+factor-returns-in_ok-literal-in_default t c =
     let same = c.if-eat_word.ensures.found.0 in
     record {
-      reads = literal_found c.in_ok-token.token.now (rw same at c.in_ok-token.ensures.found) c.in_ok-value-in_default.ensures;
+      reads = rw c.into_value.ensures (literal_found c.in_ok-token.token.now (rw same at c.in_ok-token.ensures.found) c.in_ok-literal-in_default.ensures);
       shorter = omega (arith, ap length same, c.in_ok-token.ensures.shorter);
     }
