@@ -1,254 +1,124 @@
 -- What a body's statements do.
-use Rattle.std.proofs.Common.{◌≡◌, ◌≢◌, ℕ, suc, ◌+◌, ◌<◌, Bool, true, false, List, [], ◌∷◌, ◌++◌, length, Result, Ok, Err, Option, Some, None, refl, sym, ap, ◌∙◌, subst, arith}
+use Rattle.std.proofs.Common.{◌≡◌, ◌≢◌, ℕ, suc, ◌+◌, ◌-◌, ◌<◌, List, [], ◌∷◌, ◌++◌, length, Result, Ok, Err, Option, Some, None, refl, sym, ap, ◌∙◌, subst, arith}
+use Rattle.std.specs.Result.{IsErrAnd}
 use Rattle.signatures.specs.declared.value.Value.{Value}
-use Rattle.signatures.specs.declared.value.Value.TheVariants as value
-use Rattle.texts.specs.declared.syntax.Expr.{Expr}
-use Rattle.meta_model.specs.declared.object.MetaPath.{MetaPath}
 use Rattle.meta_model.specs.declared.object.Statement.{Statement}
-use Rattle.meta_model.specs.declared.object.Statement.TheVariants.{Set, Emit as EmitStatement, Call, If, outs-Set, outs-Emit, outs-Call, outs-If}
-use Rattle.meta_model.specs.declared.object.Statement.TheOpen as layer
+use Rattle.meta_model.specs.declared.object.Statement.TheViews.{out-Statement}
 use Rattle.meta_model.specs.Loaded.{Loaded}
 use Rattle.expressions.specs.declared.evaluation.EvalFault.{EvalFault}
 use Rattle.expressions.specs.declared.evaluation.EvalFault.TheVariants as eval
-use Rattle.expressions.specs.Evaluation.{Evaluates, EvaluatesAll}
 use Rattle.machine_state.specs.declared.entry.Entry.TheVariants.{OnNull}
 use Rattle.machine_state.specs.declared.fault.Fault.{Fault}
 use Rattle.machine_state.specs.declared.fault.Fault.TheVariants.{BadType}
 use Rattle.object_tree.specs.declared.object.Object.{Object}
 use Rattle.machine_state.specs.declared.world.World.{World}
-use Rattle.machine_rules.specs.Paths.{path_value, value_of, values_of}
 use Rattle.machine_state.specs.State.{State, Activation, Body}
-use Rattle.machine_rules.specs.Rules.{Rule, StatementRule, OnObject, Chooses, Begins, Writes, on_null}
+use Rattle.machine_rules.specs.declared.doing.Doing.{Doing as Coded}
+use Rattle.machine_rules.specs.Doings.{Doing, Write, Begin, Choose, Nothing, doing}
+use Rattle.machine_rules.specs.Coded.{Yields}
+use Rattle.machine_rules.specs.Rules.{Rule, StatementRule, Does, Begins, Writes, on_null}
 use Rattle.machine_rules.specs.Good.{AreTyped}
+use Rattle.machine_rules.specs.Runs.{Rules, done, then}
 use Rattle.machine_state.specs.Worlds.{at, noted, Ticks, Notes}
-use Rattle.machine_rules.specs.Goes.{Finds, Judges, Goes, Breaks, Ends, Calls, OnlyCalls, Sets, chosen_of}
-use Rattle.machine_rules.proofs.Going.{breaks-stuck, ends-noted, goes-ticked}
+use Rattle.machine_rules.specs.Goes.{Goes, Breaks, Ends, Advances, Calls, OnlyCalls, Sets}
+use Rattle.machine_rules.proofs.Going.{breaks-stuck, ends-noted, goes-ticked, ends-ticked}
+use Rattle.machine_rules.proofs.Keeps.{some-stack, rules-kept}
 
--- ---- the object that a path leads to
+-- ---- the rule of a body whose next statement does this
 
-at-object : (Act : ℕ → Type 0) (Nothing : Type 0) {found : Option Value} {x : ℕ} → found ≡ Some (value.Ref (Some x)) → Act x → OnObject Act Nothing found
-at-object Act Nothing e a = let F : Option Value → Type 0 = λ v. OnObject Act Nothing v in subst F (sym e) a
+-- the state in which it is
+abbrev next : World → ℕ → ℕ → List Value → Statement → List Statement → List Activation → State
+next w o m arguments x rest below = at w (Body o m arguments (x ∷ rest) ∷ below)
 
-of-object : (Act : ℕ → Type 0) (Nothing : Type 0) {found : Option Value} {x : ℕ} → found ≡ Some (value.Ref (Some x)) → OnObject Act Nothing found → Act x
-of-object Act Nothing e r = let F : Option Value → Type 0 = λ v. OnObject Act Nothing v in subst F e r
+does-rule : (p : Loaded) (w : World) (o m : ℕ) (arguments : List Value) (x : Statement) (rest : List Statement) (d : Doing) (below : List Activation) (t : State) → doing w.objects o arguments (out-Statement x) ≡ Some d → Does p (next w o m arguments x rest below) o m arguments rest below d t → Rule p (next w o m arguments x rest below) t
+does-rule p w o m arguments x rest d below t is does =
+    let r : StatementRule p (next w o m arguments x rest below) o m arguments x rest below t = record { what = d; is = is; does = does } in
+    r
 
-at-null : (Act : ℕ → Type 0) (Nothing : Type 0) {found : Option Value} → found ≡ Some (value.Ref None) → Nothing → OnObject Act Nothing found
-at-null Act Nothing e a = let F : Option Value → Type 0 = λ v. OnObject Act Nothing v in subst F (sym e) a
+rule-does : (p : Loaded) (w : World) (o m : ℕ) (arguments : List Value) (x : Statement) (rest : List Statement) (d : Doing) (below : List Activation) (t : State) → doing w.objects o arguments (out-Statement x) ≡ Some d → Rule p (next w o m arguments x rest below) t → Does p (next w o m arguments x rest below) o m arguments rest below d t
+rule-does p w o m arguments x rest d below t is rule =
+    let r : StatementRule p (next w o m arguments x rest below) o m arguments x rest below t = rule in
+    let both : Some r.what ≡ Some d = sym r.is ∙ is in
+    let same : r.what ≡ d = cc both in
+    let Done : Doing → Type 0 = λ e. Does p (next w o m arguments x rest below) o m arguments rest below e t in
+    subst Done same r.does
 
-not-object : (Act : ℕ → Type 0) (Nothing : Type 0) (found : Option Value) → ((r : Option ℕ) → found ≢ Some (value.Ref r)) → ¬ OnObject Act Nothing found
-not-object Act Nothing None none r = absurd r
-not-object Act Nothing (Some (value.Ref o)) none r = absurd (none o refl)
-not-object Act Nothing (Some (value.Int n)) none r = absurd r
-not-object Act Nothing (Some (value.Bool b)) none r = absurd r
-not-object Act Nothing (Some (value.Text t)) none r = absurd r
+-- a method begins
+pub does-call : {p : Loaded} {w : World} {o : ℕ} {arguments : List Value} {x : Statement} (m : ℕ) (rest : List Statement) {y n : ℕ} {given : List Value} → doing w.objects o arguments (out-Statement x) ≡ Some (Begin y n given) → Calls p w (Body o m arguments (x ∷ rest)) (Body o m arguments rest) y n given
+does-call {p} {w} {o} {arguments} {x} m rest {y} {n} {given} is = record { gives = λ below t b. does-rule p w o m arguments x rest (Begin y n given) below t is b }
+
+pub does-call-alone : {p : Loaded} {w : World} {o : ℕ} {arguments : List Value} {x : Statement} (m : ℕ) (rest : List Statement) {y n : ℕ} {given : List Value} → doing w.objects o arguments (out-Statement x) ≡ Some (Begin y n given) → OnlyCalls p w (Body o m arguments (x ∷ rest)) (Body o m arguments rest) y n given
+does-call-alone {p} {w} {o} {arguments} {x} m rest {y} {n} {given} is = record { begins = λ below t r. rule-does p w o m arguments x rest (Begin y n given) below t is r }
+
+-- a property is written
+pub does-set : {p : Loaded} {w : World} {o : ℕ} {arguments : List Value} {x : Statement} (m : ℕ) (rest : List Statement) {y q : ℕ} {new : Value} → doing w.objects o arguments (out-Statement x) ≡ Some (Write y q new) → Sets p w (Body o m arguments (x ∷ rest)) (Body o m arguments rest) y q new
+does-set {p} {w} {o} {arguments} {x} m rest {y} {q} {new} is = record {
+  gives = λ below t b. does-rule p w o m arguments x rest (Write y q new) below t is b;
+  only = λ below t r. rule-does p w o m arguments x rest (Write y q new) below t is r;
+}
+
+-- nothing is done
+pub does-nothing : {p : Loaded} {w : World} {o : ℕ} {arguments : List Value} {x : Statement} (m : ℕ) (rest : List Statement) {d h : ℕ} {v : World} (r : Result (Unit {0}) Fault) → doing w.objects o arguments (out-Statement x) ≡ Some Nothing → h < d → AreTyped p w.objects → 0 < w.left → Notes w (noted w (OnNull (h + 1))) v r → Ends p d h w (Body o m arguments (x ∷ rest) ∷ []) v (Body o m arguments rest ∷ []) r
+does-nothing {p} {w} {o} {arguments} {x} m rest {d} {h} {v} r is room typed some notes =
+    ends-noted (noted w (OnNull (h + 1))) r
+    (λ below k.
+    let t : State = at (noted w (OnNull (h + 1))) (Body o m arguments rest ∷ below) in
+    let depth_is : h + 1 ≡ suc (length below) = omega (arith, k) in
+    let null_is : t ≡ on_null (next w o m arguments x rest below) (Body o m arguments rest ∷ below) = ap (λ (n : ℕ). at (noted w (OnNull n)) (Body o m arguments rest ∷ below)) depth_is in
+    does-rule p w o m arguments x rest Nothing below t is null_is)
+    room typed refl some notes
+
+-- a block comes next
+pub does-choose : {p : Loaded} {w : World} {o : ℕ} {arguments : List Value} {x : Statement} (m : ℕ) (rest : List Statement) {d h : ℕ} {v : World} (r : Result (Unit {0}) Fault) (block : List Statement) → doing w.objects o arguments (out-Statement x) ≡ Some (Choose block) → h < d → AreTyped p w.objects → Ticks w v r → Ends p d h w (Body o m arguments (x ∷ rest) ∷ []) v (Body o m arguments (block ++ rest) ∷ []) r
+does-choose {p} {w} {o} {arguments} {x} m rest r block is room typed ticks =
+    ends-ticked {b = Body o m arguments (block ++ rest) ∷ []} r (λ below k. does-rule p w o m arguments x rest (Choose block) below _ is refl) (omega arith) room typed ticks
+
+-- a statement that lacks a value has no rule
+pub lacks-rule : {p : Loaded} {w : World} {o : ℕ} {arguments : List Value} {x : Statement} (m : ℕ) (rest : List Statement) {d h : ℕ} → 0 < w.left → doing w.objects o arguments (out-Statement x) ≡ None → Breaks p d h w (Body o m arguments (x ∷ rest) ∷ []) w BadType
+lacks-rule {p} {w} {o} {arguments} {x} m rest some none =
+    breaks-stuck some (λ below t rule.
+    let r : StatementRule p (next w o m arguments x rest below) o m arguments x rest below t = rule in
+    let both : None ≡ Some r.what = sym none ∙ r.is in
+    absurd (cc both))
 
 -- what was read is what the state has
-moved : {a b : List Object} {n o : ℕ} {k l : List Value} (F : List Object → ℕ → List Value → Type 0) → a ≡ b → n ≡ o → k ≡ l → F a n k → F b o l
+pub moved : {a b : List Object} {n o : ℕ} {k l : List Value} (F : List Object → ℕ → List Value → Type 0) → a ≡ b → n ≡ o → k ≡ l → F a n k → F b o l
 moved {a} {b} {n} {o} {k} {l} F objects this arguments x =
     subst (λ (i : List Value). F b o i) arguments (subst (λ (i : ℕ). F b i k) this (subst (λ (i : List Object). F i n k) objects x))
 
--- ---- `set`
+pub lacks-read : {p : Loaded} {d h o : ℕ} {w : World} {arguments : List Value} {x : Statement} {f : EvalFault} {a : List Object} {i : ℕ} {l : List Value} (m : ℕ) (rest : List Statement) → 0 < w.left → a ≡ w.objects → i ≡ o → l ≡ arguments → Yields (doing a i l (out-Statement x)) (Err f) → f ≡ eval.BadType → Breaks p d h w (Body o m arguments (x ∷ rest) ∷ []) w BadType
+lacks-read {p} {o = o} {w = w} {arguments = arguments} {x = x} {a = a} {i = i} {l = l} m rest some objects this given yields is =
+    let At : EvalFault → Type 0 = λ g. Yields (doing a i l (out-Statement x)) (Err g) in
+    let none : doing w.objects o arguments (out-Statement x) ≡ None = moved (λ b j k. doing b j k (out-Statement x) ≡ None) objects this given (subst At is yields) in
+    lacks-rule m rest some none
 
-abbrev pub SetAct : Loaded → State → ℕ → ℕ → List Value → List Statement → List Activation → State → ℕ → Expr MetaPath → ℕ → Type 0
-SetAct p s o m arguments rest below t q e x = (new : Value) × (value_of s.objects o arguments e ≡ Some new) × Writes p s (Body o m arguments rest ∷ below) x q new t
+-- ---- a statement uses a rule
 
-set-rule : (p : Loaded) (w : World) (o m : ℕ) (arguments : List Value) (path : MetaPath) (q : ℕ) (e : Expr MetaPath) (rest : List Statement) (below : List Activation) (t : State) → StatementRule p (at w (Body o m arguments (Set path q e ∷ rest) ∷ below)) o m arguments rest below t (layer.Set path q e) → Rule p (at w (Body o m arguments (Set path q e ∷ rest) ∷ below)) t
-set-rule p w o m arguments path q e rest below t r =
-    let s : State = at w (Body o m arguments (Set path q e ∷ rest) ∷ below) in
-    let F : layer.Statement-F Statement → Type 0 = λ x. StatementRule p s o m arguments rest below t x in
-    subst F (sym (outs-Set path q e)) r
+rules-fewer : {p : Loaded} {d : ℕ} {s t : State} {n k : ℕ} → Rules p d s n t k → s ≢ t → k < n
+rules-fewer done other = absurd (other refl)
+rules-fewer (then r good rest) other = let more = rules-kept rest in omega (arith, more.1)
 
-rule-set : (p : Loaded) (w : World) (o m : ℕ) (arguments : List Value) (path : MetaPath) (q : ℕ) (e : Expr MetaPath) (rest : List Statement) (below : List Activation) (t : State) → Rule p (at w (Body o m arguments (Set path q e ∷ rest) ∷ below)) t → StatementRule p (at w (Body o m arguments (Set path q e ∷ rest) ∷ below)) o m arguments rest below t (layer.Set path q e)
-rule-set p w o m arguments path q e rest below t r =
-    let s : State = at w (Body o m arguments (Set path q e ∷ rest) ∷ below) in
-    let F : layer.Statement-F Statement → Type 0 = λ x. StatementRule p s o m arguments rest below t x in
-    subst F (outs-Set path q e) r
+-- what follows a statement isn't the statement with what follows it
+longer : (o m : ℕ) (arguments : List Value) (x : Statement) (rest : List Statement) (w v : World) (below : List Activation) → at w (Body o m arguments (x ∷ rest) ∷ below) ≡ at v (Body o m arguments rest ∷ below) → ⊥
+longer o m arguments x rest w v below e =
+    let stacks : (Body o m arguments (x ∷ rest) ∷ below) ≡ (Body o m arguments rest ∷ below) = ap (λ (s : State). s.stack) e in
+    let left : (x ∷ rest) ≡ rest = cc stacks in
+    let lengths : suc (length rest) ≡ length rest = ap length left in
+    absurd (omega (arith, lengths))
 
--- the object's property is written
-pub set-sets : {p : Loaded} {w : World} {o q x : ℕ} {arguments : List Value} {path : MetaPath} {e : Expr MetaPath} {new : Value} (m : ℕ) (rest : List Statement) → path_value w.objects o arguments path ≡ Some (value.Ref (Some x)) → value_of w.objects o arguments e ≡ Some new → Sets p w (Body o m arguments (Set path q e ∷ rest)) (Body o m arguments rest) x q new
-set-sets {p} {w} {o} {q} {x} {arguments} {path} {e} {new} m rest found gives = record {
-  gives = λ below t wr.
-      let s : State = at w (Body o m arguments (Set path q e ∷ rest) ∷ below) in
-      set-rule p w o m arguments path q e rest below t (at-object (SetAct p s o m arguments rest below t q e) (t ≡ on_null s (Body o m arguments rest ∷ below)) found (new, gives, wr));
-  only = λ below t r.
-      let s : State = at w (Body o m arguments (Set path q e ∷ rest) ∷ below) in
-      let q3 = of-object (SetAct p s o m arguments rest below t q e) (t ≡ on_null s (Body o m arguments rest ∷ below)) found (rule-set p w o m arguments path q e rest below t r) in
-      let same_some : Some q3.0 ≡ Some new = sym q3.1 ∙ gives in
-      let same : q3.0 ≡ new = cc same_some in
-      let F : Value → Type 0 = λ v. Writes p s (Body o m arguments rest ∷ below) x q v t in
-      subst F same q3.2;
-}
+pub advances-one : {p : Loaded} {d h o m : ℕ} {w v : World} {arguments : List Value} {x : Statement} {rest : List Statement} (r : Result (Unit {0}) Fault) → Ends p d h w (Body o m arguments (x ∷ rest) ∷ []) v (Body o m arguments rest ∷ []) r → Advances p d h w (Body o m arguments (x ∷ rest) ∷ []) v (Body o m arguments rest ∷ []) r
+advances-one {h = h} {o = o} {m = m} {w = w} {v = v} {arguments = arguments} {x = x} {rest = rest} (Ok _) ends =
+    let q = some-stack h in
+    record { cases = (ends.cases, rules-fewer (ends.cases.runs q.0 q.1) (longer o m arguments x rest w v q.0)) }
+advances-one (Err f) ends = record { cases = ends.cases }
 
--- .. or nothing is done
-pub set-null : {p : Loaded} {d h o q : ℕ} {w v : World} {arguments : List Value} {path : MetaPath} {e : Expr MetaPath} {r : Result (Unit {0}) Fault} (m : ℕ) (rest : List Statement) → path_value w.objects o arguments path ≡ Some (value.Ref None) → h < d → AreTyped p w.objects → 0 < w.left → Notes w (noted w (OnNull (h + 1))) v r → Ends p d h w (Body o m arguments (Set path q e ∷ rest) ∷ []) v (Body o m arguments rest ∷ []) r
-set-null {p} {d} {h} {o} {q} {w} {v} {arguments} {path} {e} {r} m rest found room typed some x =
-    ends-noted (noted w (OnNull (h + 1))) r
-    (λ below k.
-    let s : State = at w (Body o m arguments (Set path q e ∷ rest) ∷ below) in
-    let t : State = at (noted w (OnNull (h + 1))) (Body o m arguments rest ∷ below) in
-    let depth_is : h + 1 ≡ suc (length below) = omega (arith, k) in
-    let null_is : t ≡ on_null s (Body o m arguments rest ∷ below) = ap (λ (n : ℕ). at (noted w (OnNull n)) (Body o m arguments rest ∷ below)) depth_is in
-    set-rule p w o m arguments path q e rest below t (at-null (SetAct p s o m arguments rest below t q e) (t ≡ on_null s (Body o m arguments rest ∷ below)) found null_is))
-    room typed refl some x
+pub advances-ticked : {p : Loaded} {d h : ℕ} {w v : World} {a b : List Activation} (r : Result (Unit {0}) Fault) → Ticks w v r → Ends p d h w a v b r → Advances p d h w a v b r
+advances-ticked {w = w} {v = v} (Ok _) ticks ends =
+    let less : v.left ≡ w.left - 1 = ap (λ (u : World). u.left) ticks.1 in
+    record { cases = (ends.cases, omega (arith, less, ticks.0)) }
+advances-ticked (Err f) ticks ends = record { cases = ends.cases }
 
--- the path leads to no object
-pub set-stuck-path : {p : Loaded} {d h o q : ℕ} {w : World} {arguments : List Value} {path : MetaPath} {e : Expr MetaPath} {f : EvalFault} {a : List Object} {i : ℕ} {l : List Value} (m : ℕ) (rest : List Statement) → 0 < w.left → a ≡ w.objects → i ≡ o → l ≡ arguments → Finds (path_value a i l path) (Err f) → f ≡ eval.BadType → Breaks p d h w (Body o m arguments (Set path q e ∷ rest) ∷ []) w BadType
-set-stuck-path {p} {o = o} {q = q} {w = w} {arguments = arguments} {path = path} {e = e} {a = a} {i = i} {l = l} m rest some objects this given finds is =
-    let F : EvalFault → Type 0 = λ g. Finds (path_value a i l path) (Err g) in
-    let none : (r : Option ℕ) → path_value w.objects o arguments path ≢ Some (value.Ref r) = moved (λ b j k. (r : Option ℕ) → path_value b j k path ≢ Some (value.Ref r)) objects this given (subst F is finds) in
-    breaks-stuck some (λ below t r.
-    let s : State = at w (Body o m arguments (Set path q e ∷ rest) ∷ below) in
-    not-object (SetAct p s o m arguments rest below t q e) (t ≡ on_null s (Body o m arguments rest ∷ below)) (path_value w.objects o arguments path) none (rule-set p w o m arguments path q e rest below t r))
-
--- the expression has no value
-pub set-stuck-value : {p : Loaded} {d h o q x : ℕ} {w : World} {arguments : List Value} {path : MetaPath} {e : Expr MetaPath} {f : EvalFault} {a : List Object} {i : ℕ} {l : List Value} (m : ℕ) (rest : List Statement) → 0 < w.left → path_value w.objects o arguments path ≡ Some (value.Ref (Some x)) → a ≡ w.objects → i ≡ o → l ≡ arguments → Evaluates (value_of a i l e) (Err f) → f ≡ eval.BadType → Breaks p d h w (Body o m arguments (Set path q e ∷ rest) ∷ []) w BadType
-set-stuck-value {p} {o = o} {q = q} {w = w} {arguments = arguments} {path = path} {e = e} {a = a} {i = i} {l = l} m rest some found objects this given evaluates is =
-    let F : EvalFault → Type 0 = λ g. Evaluates (value_of a i l e) (Err g) in
-    let none : value_of w.objects o arguments e ≡ None = moved (λ b j k. value_of b j k e ≡ None) objects this given (subst F is evaluates) in
-    breaks-stuck some (λ below t r.
-    let s : State = at w (Body o m arguments (Set path q e ∷ rest) ∷ below) in
-    let q3 = of-object (SetAct p s o m arguments rest below t q e) (t ≡ on_null s (Body o m arguments rest ∷ below)) found (rule-set p w o m arguments path q e rest below t r) in
-    let both : None ≡ Some q3.0 = sym none ∙ q3.1 in
-    absurd (cc both))
-
--- ---- `emit`
-
-emit-rule : (p : Loaded) (w : World) (o m : ℕ) (arguments : List Value) (g : ℕ) (es : List (Expr MetaPath)) (rest : List Statement) (below : List Activation) (t : State) → StatementRule p (at w (Body o m arguments (EmitStatement g es ∷ rest) ∷ below)) o m arguments rest below t (layer.Emit g es) → Rule p (at w (Body o m arguments (EmitStatement g es ∷ rest) ∷ below)) t
-emit-rule p w o m arguments g es rest below t r =
-    let s : State = at w (Body o m arguments (EmitStatement g es ∷ rest) ∷ below) in
-    let F : layer.Statement-F Statement → Type 0 = λ x. StatementRule p s o m arguments rest below t x in
-    subst F (sym (outs-Emit g es)) r
-
-rule-emit : (p : Loaded) (w : World) (o m : ℕ) (arguments : List Value) (g : ℕ) (es : List (Expr MetaPath)) (rest : List Statement) (below : List Activation) (t : State) → Rule p (at w (Body o m arguments (EmitStatement g es ∷ rest) ∷ below)) t → StatementRule p (at w (Body o m arguments (EmitStatement g es ∷ rest) ∷ below)) o m arguments rest below t (layer.Emit g es)
-rule-emit p w o m arguments g es rest below t r =
-    let s : State = at w (Body o m arguments (EmitStatement g es ∷ rest) ∷ below) in
-    let F : layer.Statement-F Statement → Type 0 = λ x. StatementRule p s o m arguments rest below t x in
-    subst F (outs-Emit g es) r
-
-pub emit-calls : {p : Loaded} {w : World} {o g : ℕ} {arguments given : List Value} {es : List (Expr MetaPath)} (m : ℕ) (rest : List Statement) → values_of w.objects o arguments es ≡ Some given → Calls p w (Body o m arguments (EmitStatement g es ∷ rest)) (Body o m arguments rest) o g given
-emit-calls {p} {w} {o} {g} {arguments} {given} {es} m rest gives = record { gives = λ below t b. emit-rule p w o m arguments g es rest below t (given, gives, b) }
-
-pub emit-only : {p : Loaded} {w : World} {o g : ℕ} {arguments given : List Value} {es : List (Expr MetaPath)} (m : ℕ) (rest : List Statement) → values_of w.objects o arguments es ≡ Some given → OnlyCalls p w (Body o m arguments (EmitStatement g es ∷ rest)) (Body o m arguments rest) o g given
-emit-only {p} {w} {o} {g} {arguments} {given} {es} m rest gives = record {
-  begins = λ below t r.
-      let q = rule-emit p w o m arguments g es rest below t r in
-      let same_some : Some q.0 ≡ Some given = sym q.1 ∙ gives in
-      let same : q.0 ≡ given = cc same_some in
-      let F : List Value → Type 0 = λ l. Begins p (at w (Body o m arguments (EmitStatement g es ∷ rest) ∷ below)) (Body o m arguments rest ∷ below) o g l t in
-      subst F same q.2;
-}
-
-pub emit-stuck : {p : Loaded} {d h o g : ℕ} {w : World} {arguments : List Value} {es : List (Expr MetaPath)} {f : EvalFault} {a : List Object} {i : ℕ} {l : List Value} (m : ℕ) (rest : List Statement) → 0 < w.left → a ≡ w.objects → i ≡ o → l ≡ arguments → EvaluatesAll (values_of a i l es) (Err f) → f ≡ eval.BadType → Breaks p d h w (Body o m arguments (EmitStatement g es ∷ rest) ∷ []) w BadType
-emit-stuck {p} {o = o} {g = g} {w = w} {arguments = arguments} {es = es} {a = a} {i = i} {l = l} m rest some objects this given evaluates is =
-    let F : EvalFault → Type 0 = λ k. EvaluatesAll (values_of a i l es) (Err k) in
-    let none : values_of w.objects o arguments es ≡ None = moved (λ b j k. values_of b j k es ≡ None) objects this given (subst F is evaluates) in
-    breaks-stuck some (λ below t r.
-    let q = rule-emit p w o m arguments g es rest below t r in
-    let both : None ≡ Some q.0 = sym none ∙ q.1 in
-    absurd (cc both))
-
--- ---- `call`
-
-abbrev pub CallAct : Loaded → State → ℕ → ℕ → List Value → List Statement → List Activation → State → ℕ → List (Expr MetaPath) → ℕ → Type 0
-CallAct p s o m arguments rest below t n es x = (given : List Value) × (values_of s.objects o arguments es ≡ Some given) × Begins p s (Body o m arguments rest ∷ below) x n given t
-
-call-rule : (p : Loaded) (w : World) (o m : ℕ) (arguments : List Value) (path : MetaPath) (n : ℕ) (es : List (Expr MetaPath)) (rest : List Statement) (below : List Activation) (t : State) → StatementRule p (at w (Body o m arguments (Call path n es ∷ rest) ∷ below)) o m arguments rest below t (layer.Call path n es) → Rule p (at w (Body o m arguments (Call path n es ∷ rest) ∷ below)) t
-call-rule p w o m arguments path n es rest below t r =
-    let s : State = at w (Body o m arguments (Call path n es ∷ rest) ∷ below) in
-    let F : layer.Statement-F Statement → Type 0 = λ x. StatementRule p s o m arguments rest below t x in
-    subst F (sym (outs-Call path n es)) r
-
-rule-call : (p : Loaded) (w : World) (o m : ℕ) (arguments : List Value) (path : MetaPath) (n : ℕ) (es : List (Expr MetaPath)) (rest : List Statement) (below : List Activation) (t : State) → Rule p (at w (Body o m arguments (Call path n es ∷ rest) ∷ below)) t → StatementRule p (at w (Body o m arguments (Call path n es ∷ rest) ∷ below)) o m arguments rest below t (layer.Call path n es)
-rule-call p w o m arguments path n es rest below t r =
-    let s : State = at w (Body o m arguments (Call path n es ∷ rest) ∷ below) in
-    let F : layer.Statement-F Statement → Type 0 = λ x. StatementRule p s o m arguments rest below t x in
-    subst F (outs-Call path n es) r
-
-pub call-calls : {p : Loaded} {w : World} {o n x : ℕ} {arguments given : List Value} {path : MetaPath} {es : List (Expr MetaPath)} (m : ℕ) (rest : List Statement) → path_value w.objects o arguments path ≡ Some (value.Ref (Some x)) → values_of w.objects o arguments es ≡ Some given → Calls p w (Body o m arguments (Call path n es ∷ rest)) (Body o m arguments rest) x n given
-call-calls {p} {w} {o} {n} {x} {arguments} {given} {path} {es} m rest found gives = record {
-  gives = λ below t b.
-      let s : State = at w (Body o m arguments (Call path n es ∷ rest) ∷ below) in
-      call-rule p w o m arguments path n es rest below t (at-object (CallAct p s o m arguments rest below t n es) (t ≡ on_null s (Body o m arguments rest ∷ below)) found (given, gives, b));
-}
-
-pub call-only : {p : Loaded} {w : World} {o n x : ℕ} {arguments given : List Value} {path : MetaPath} {es : List (Expr MetaPath)} (m : ℕ) (rest : List Statement) → path_value w.objects o arguments path ≡ Some (value.Ref (Some x)) → values_of w.objects o arguments es ≡ Some given → OnlyCalls p w (Body o m arguments (Call path n es ∷ rest)) (Body o m arguments rest) x n given
-call-only {p} {w} {o} {n} {x} {arguments} {given} {path} {es} m rest found gives = record {
-  begins = λ below t r.
-      let s : State = at w (Body o m arguments (Call path n es ∷ rest) ∷ below) in
-      let q = of-object (CallAct p s o m arguments rest below t n es) (t ≡ on_null s (Body o m arguments rest ∷ below)) found (rule-call p w o m arguments path n es rest below t r) in
-      let same_some : Some q.0 ≡ Some given = sym q.1 ∙ gives in
-      let same : q.0 ≡ given = cc same_some in
-      let F : List Value → Type 0 = λ l. Begins p s (Body o m arguments rest ∷ below) x n l t in
-      subst F same q.2;
-}
-
-pub call-null : {p : Loaded} {d h o n : ℕ} {w v : World} {arguments : List Value} {path : MetaPath} {es : List (Expr MetaPath)} {r : Result (Unit {0}) Fault} (m : ℕ) (rest : List Statement) → path_value w.objects o arguments path ≡ Some (value.Ref None) → h < d → AreTyped p w.objects → 0 < w.left → Notes w (noted w (OnNull (h + 1))) v r → Ends p d h w (Body o m arguments (Call path n es ∷ rest) ∷ []) v (Body o m arguments rest ∷ []) r
-call-null {p} {d} {h} {o} {n} {w} {v} {arguments} {path} {es} {r} m rest found room typed some x =
-    ends-noted (noted w (OnNull (h + 1))) r
-    (λ below k.
-    let s : State = at w (Body o m arguments (Call path n es ∷ rest) ∷ below) in
-    let t : State = at (noted w (OnNull (h + 1))) (Body o m arguments rest ∷ below) in
-    let depth_is : h + 1 ≡ suc (length below) = omega (arith, k) in
-    let null_is : t ≡ on_null s (Body o m arguments rest ∷ below) = ap (λ (i : ℕ). at (noted w (OnNull i)) (Body o m arguments rest ∷ below)) depth_is in
-    call-rule p w o m arguments path n es rest below t (at-null (CallAct p s o m arguments rest below t n es) (t ≡ on_null s (Body o m arguments rest ∷ below)) found null_is))
-    room typed refl some x
-
-pub call-stuck-path : {p : Loaded} {d h o n : ℕ} {w : World} {arguments : List Value} {path : MetaPath} {es : List (Expr MetaPath)} {f : EvalFault} {a : List Object} {i : ℕ} {l : List Value} (m : ℕ) (rest : List Statement) → 0 < w.left → a ≡ w.objects → i ≡ o → l ≡ arguments → Finds (path_value a i l path) (Err f) → f ≡ eval.BadType → Breaks p d h w (Body o m arguments (Call path n es ∷ rest) ∷ []) w BadType
-call-stuck-path {p} {o = o} {n = n} {w = w} {arguments = arguments} {path = path} {es = es} {a = a} {i = i} {l = l} m rest some objects this given finds is =
-    let F : EvalFault → Type 0 = λ g. Finds (path_value a i l path) (Err g) in
-    let none : (r : Option ℕ) → path_value w.objects o arguments path ≢ Some (value.Ref r) = moved (λ b j k. (r : Option ℕ) → path_value b j k path ≢ Some (value.Ref r)) objects this given (subst F is finds) in
-    breaks-stuck some (λ below t r.
-    let s : State = at w (Body o m arguments (Call path n es ∷ rest) ∷ below) in
-    not-object (CallAct p s o m arguments rest below t n es) (t ≡ on_null s (Body o m arguments rest ∷ below)) (path_value w.objects o arguments path) none (rule-call p w o m arguments path n es rest below t r))
-
-pub call-stuck-values : {p : Loaded} {d h o n x : ℕ} {w : World} {arguments : List Value} {path : MetaPath} {es : List (Expr MetaPath)} {f : EvalFault} {a : List Object} {i : ℕ} {l : List Value} (m : ℕ) (rest : List Statement) → 0 < w.left → path_value w.objects o arguments path ≡ Some (value.Ref (Some x)) → a ≡ w.objects → i ≡ o → l ≡ arguments → EvaluatesAll (values_of a i l es) (Err f) → f ≡ eval.BadType → Breaks p d h w (Body o m arguments (Call path n es ∷ rest) ∷ []) w BadType
-call-stuck-values {p} {o = o} {n = n} {w = w} {arguments = arguments} {path = path} {es = es} {a = a} {i = i} {l = l} m rest some found objects this given evaluates is =
-    let F : EvalFault → Type 0 = λ g. EvaluatesAll (values_of a i l es) (Err g) in
-    let none : values_of w.objects o arguments es ≡ None = moved (λ b j k. values_of b j k es ≡ None) objects this given (subst F is evaluates) in
-    breaks-stuck some (λ below t r.
-    let s : State = at w (Body o m arguments (Call path n es ∷ rest) ∷ below) in
-    let q = of-object (CallAct p s o m arguments rest below t n es) (t ≡ on_null s (Body o m arguments rest ∷ below)) found (rule-call p w o m arguments path n es rest below t r) in
-    let both : None ≡ Some q.0 = sym none ∙ q.1 in
-    absurd (cc both))
-
--- ---- `if`
-
-chooses-is : (holds : Bool) (block other : List Statement) → Chooses (Some (value.Bool holds)) block other (chosen_of holds block other)
-chooses-is true block other = refl
-chooses-is false block other = refl
-
-if-rule : (p : Loaded) (w : World) (o m : ℕ) (arguments : List Value) (e : Expr MetaPath) (block other : List Statement) (rest : List Statement) (below : List Activation) (t : State) → StatementRule p (at w (Body o m arguments (If e block other ∷ rest) ∷ below)) o m arguments rest below t (layer.If e block other) → Rule p (at w (Body o m arguments (If e block other ∷ rest) ∷ below)) t
-if-rule p w o m arguments e block other rest below t r =
-    let s : State = at w (Body o m arguments (If e block other ∷ rest) ∷ below) in
-    let F : layer.Statement-F Statement → Type 0 = λ x. StatementRule p s o m arguments rest below t x in
-    subst F (sym (outs-If e block other)) r
-
-rule-if : (p : Loaded) (w : World) (o m : ℕ) (arguments : List Value) (e : Expr MetaPath) (block other : List Statement) (rest : List Statement) (below : List Activation) (t : State) → Rule p (at w (Body o m arguments (If e block other ∷ rest) ∷ below)) t → StatementRule p (at w (Body o m arguments (If e block other ∷ rest) ∷ below)) o m arguments rest below t (layer.If e block other)
-rule-if p w o m arguments e block other rest below t r =
-    let s : State = at w (Body o m arguments (If e block other ∷ rest) ∷ below) in
-    let F : layer.Statement-F Statement → Type 0 = λ x. StatementRule p s o m arguments rest below t x in
-    subst F (outs-If e block other) r
-
--- the block that the condition chooses comes before what follows
-pub if-goes : {p : Loaded} {d h o : ℕ} {w v : World} {arguments : List Value} {e : Expr MetaPath} {chosen : List Statement} {holds : Bool} (block other : List Statement) (m : ℕ) (rest : List Statement) → value_of w.objects o arguments e ≡ Some (value.Bool holds) → chosen ≡ chosen_of holds block other → h < d → AreTyped p w.objects → Ticks w v (Ok tt) → Goes p d h w (Body o m arguments (If e block other ∷ rest) ∷ []) v (Body o m arguments (chosen ++ rest) ∷ [])
-if-goes {p} {d} {h} {o} {w} {v} {arguments} {e} {chosen} {holds} block other m rest gives chosen_is room typed x =
-    let F : Option Value → Type 0 = λ found. Chooses found block other (chosen_of holds block other) in
-    let chooses : Chooses (value_of w.objects o arguments e) block other (chosen_of holds block other) = subst F (sym gives) (chooses-is holds block other) in
-    let Chosen : List Statement → Type 0 = λ l. Goes p d h w (Body o m arguments (If e block other ∷ rest) ∷ []) v (Body o m arguments (l ++ rest) ∷ []) in
-    let went : Chosen (chosen_of holds block other) =
-    goes-ticked {b = Body o m arguments (chosen_of holds block other ++ rest) ∷ []} (λ below k. if-rule p w o m arguments e block other rest below _ (chosen_of holds block other, chooses, refl)) (omega arith) room typed x in
-    subst Chosen (sym chosen_is) went
-
-not-chosen : (found : Option Value) (block other chosen : List Statement) → ((b : Bool) → found ≢ Some (value.Bool b)) → ¬ Chooses found block other chosen
-not-chosen None block other chosen none r = absurd r
-not-chosen (Some (value.Bool true)) block other chosen none r = absurd (none true refl)
-not-chosen (Some (value.Bool false)) block other chosen none r = absurd (none false refl)
-not-chosen (Some (value.Int n)) block other chosen none r = absurd r
-not-chosen (Some (value.Text t)) block other chosen none r = absurd r
-not-chosen (Some (value.Ref o)) block other chosen none r = absurd r
-
-pub if-stuck : {p : Loaded} {d h o : ℕ} {w : World} {arguments : List Value} {e : Expr MetaPath} {f : EvalFault} {a : List Object} {i : ℕ} {l : List Value} (block other : List Statement) (m : ℕ) (rest : List Statement) → 0 < w.left → a ≡ w.objects → i ≡ o → l ≡ arguments → Judges (value_of a i l e) (Err f) → f ≡ eval.BadType → Breaks p d h w (Body o m arguments (If e block other ∷ rest) ∷ []) w BadType
-if-stuck {p} {o = o} {w = w} {arguments = arguments} {e = e} {a = a} {i = i} {l = l} block other m rest some objects this given judges is =
-    let F : EvalFault → Type 0 = λ g. Judges (value_of a i l e) (Err g) in
-    let none : (b : Bool) → value_of w.objects o arguments e ≢ Some (value.Bool b) = moved (λ d j k. (b : Bool) → value_of d j k e ≢ Some (value.Bool b)) objects this given (subst F is judges) in
-    breaks-stuck some (λ below t r. let q = rule-if p w o m arguments e block other rest below t r in not-chosen (value_of w.objects o arguments e) block other q.0 none q.1)
+-- memory was refused
+pub advances-left : {p : Loaded} {d h : ℕ} {w v : World} {a b : List Activation} (f : Fault) (r : Result (Unit {0}) Fault) → Ends p d h w a v b r → IsErrAnd r (λ y. y ≡ f) → Advances p d h w a v b r
+advances-left f (Ok _) ends is = absurd is
+advances-left f (Err g) ends is = record { cases = ends.cases }

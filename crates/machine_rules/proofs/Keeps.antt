@@ -1,11 +1,8 @@
 -- What each rule leaves as it was.
 use Rattle.std.proofs.Common.{◌≡◌, ℕ, zero, suc, ◌≤◌, List, [], ◌∷◌, length, Option, Some, None, slice_get, refl, sym, ap, ◌∙◌, subst, arith, Result, Ok, Err}
 use Rattle.signatures.specs.declared.value.Value.{Value}
-use Rattle.signatures.specs.declared.value.Value.TheVariants as value
 use Rattle.meta_model.specs.Loaded.{Loaded}
 use Rattle.meta_model.specs.declared.object.Statement.{Statement}
-use Rattle.meta_model.specs.declared.object.Statement.TheOpen as layer
-use Rattle.meta_model.specs.declared.object.Statement.TheViews.{out-Statement}
 use Rattle.meta_model.specs.declared.object.Work.{Work}
 use Rattle.meta_model.specs.declared.object.Work.TheVariants.{Signal, Slot}
 use Rattle.meta_model.specs.declared.object.MetaMethod.{MetaMethod}
@@ -14,9 +11,9 @@ use Rattle.machine_state.specs.declared.connections.Connection.{Connection}
 use Rattle.machine_state.specs.declared.fault.Fault.{Fault}
 use Rattle.machine_state.specs.declared.world.World.{World}
 use Rattle.machine_state.specs.Objects.{Shape, shapes_of}
-use Rattle.machine_rules.specs.Paths.{path_value, value_of, values_of}
 use Rattle.machine_state.specs.State.{State, Place, Activation, Body, Emit, Update}
-use Rattle.machine_rules.specs.Rules.{RuleAt, BodyRule, StatementRule, EmitRule, UpdateRule, OnObject, Begins, Writes, begun, on_null}
+use Rattle.machine_rules.specs.Rules.{RuleAt, BodyRule, Does, EmitRule, UpdateRule, Begins, Writes, begun}
+use Rattle.machine_rules.specs.Doings.{Doing, Write, Begin, Choose, Nothing}
 use Rattle.machine_state.specs.Connections.{next_used}
 use Rattle.meta_model.specs.Values.{HaveTypes}
 use Rattle.machine_rules.specs.Good.{AreTyped, ArgumentsFit}
@@ -50,29 +47,15 @@ begins-kept {s = s} {below = below} {o = o} {m = m} {arguments = arguments} {t =
 pub writes-kept : {p : Loaded} {s : State} {below : List Activation} {o q : ℕ} {new : Value} {t : State} → Writes p s below o q new t → Kept s t
 writes-kept {s = s} {o = o} {q = q} {new = new} x = kept-is x.gives (record { objects = shapes-written s.objects o x.object q new x.is_object; connections = refl; connected = refl; events = refl })
 
-pub on-object : (Act : ℕ → Type 0) (Nothing K : Type 0) (found : Option Value) → ((x : ℕ) → Act x → K) → (Nothing → K) → OnObject Act Nothing found → K
-on-object Act Nothing K (Some (value.Ref (Some x))) act nothing r = act x r
-on-object Act Nothing K (Some (value.Ref None)) act nothing r = nothing r
-on-object Act Nothing K (Some (value.Int n)) act nothing r = absurd r
-on-object Act Nothing K (Some (value.Bool b)) act nothing r = absurd r
-on-object Act Nothing K (Some (value.Text t)) act nothing r = absurd r
-on-object Act Nothing K None act nothing r = absurd r
-
-statement-kept : (p : Loaded) (s : State) (o m : ℕ) (arguments : List Value) (rest : List Statement) (below : List Activation) (t : State) (x : layer.Statement-F Statement) → StatementRule p s o m arguments rest below t x → Kept s t
-statement-kept p s o m arguments rest below t (layer.Set path q e) r =
-    on-object (λ x. (new : Value) × (value_of s.objects o arguments e ≡ Some new) × Writes p s (Body o m arguments rest ∷ below) x q new t)
-    (t ≡ on_null s (Body o m arguments rest ∷ below)) (Kept s t) (path_value s.objects o arguments path)
-    (λ x w. writes-kept w.2) (λ e. kept-is e (record { objects = refl; connections = refl; connected = refl; events = refl })) r
-statement-kept p s o m arguments rest below t (layer.Emit g es) r = begins-kept r.2
-statement-kept p s o m arguments rest below t (layer.Call path n es) r =
-    on-object (λ x. (given : List Value) × (values_of s.objects o arguments es ≡ Some given) × Begins p s (Body o m arguments rest ∷ below) x n given t)
-    (t ≡ on_null s (Body o m arguments rest ∷ below)) (Kept s t) (path_value s.objects o arguments path)
-    (λ x w. begins-kept w.2) (λ e. kept-is e (record { objects = refl; connections = refl; connected = refl; events = refl })) r
-statement-kept p s o m arguments rest below t (layer.If e block other) r = kept-is r.2 (record { objects = refl; connections = refl; connected = refl; events = refl })
+does-kept : (p : Loaded) (s : State) (o m : ℕ) (arguments : List Value) (rest : List Statement) (below : List Activation) (d : Doing) (t : State) → Does p s o m arguments rest below d t → Kept s t
+does-kept p s o m arguments rest below (Write x q new) t does = writes-kept does
+does-kept p s o m arguments rest below (Begin x n given) t does = begins-kept does
+does-kept p s o m arguments rest below (Choose block) t does = kept-is does (record { objects = refl; connections = refl; connected = refl; events = refl })
+does-kept p s o m arguments rest below Nothing t does = kept-is does (record { objects = refl; connections = refl; connected = refl; events = refl })
 
 body-kept : (p : Loaded) (s : State) (o m : ℕ) (arguments : List Value) (below : List Activation) (t : State) (left : List Statement) → BodyRule p s o m arguments below t left → Kept s t
 body-kept p s o m arguments below t [] r = kept-is r (record { objects = refl; connections = refl; connected = refl; events = refl })
-body-kept p s o m arguments below t (x ∷ rest) r = statement-kept p s o m arguments rest below t (out-Statement x) r
+body-kept p s o m arguments below t (x ∷ rest) r = does-kept p s o m arguments rest below r.what t r.does
 
 emit-kept : (p : Loaded) (s : State) (o g : ℕ) (arguments : List Value) (last : ℕ) (below : List Activation) (t : State) (found : Option Connection) → EmitRule p s o g arguments last below t found → Kept s t
 emit-kept p s o g arguments last below t None r = kept-is r (record { objects = refl; connections = refl; connected = refl; events = refl })

@@ -6,3 +6,6 @@ pub mod Beginning
 pub mod Writing
 pub mod Bodies
 pub mod Reading
+pub mod Yielding
+pub mod Blocks
+pub mod OneRule

@@ -1,12 +1,11 @@
 -- What a call of the machine's code does, whatever activations are below (docs/machine.md, "Runs").
-use Rattle.std.specs.Prelude.{◌≡◌, ◌≢◌, ℕ, ◌≤◌, List, [], ◌∷◌, ◌++◌, length, Result, Ok, Err, MatchResult, Bool, true, false, Option, Some, None, slice_get}
+use Rattle.std.specs.Prelude.{◌≡◌, ◌≢◌, ℕ, ◌≤◌, ◌<◌, List, [], ◌∷◌, ◌++◌, length, Result, Ok, Err, MatchResult, Bool, Option, Some, None, slice_get}
 use Rattle.meta_model.specs.Loaded.{Loaded}
 use Rattle.signatures.specs.declared.value.Value.{Value}
 use Rattle.signatures.specs.declared.value.Value.TheVariants as value
 use Rattle.meta_model.specs.declared.object.MetaMethod.{MetaMethod}
 use Rattle.meta_model.specs.declared.object.MetaObject.{MetaObject}
 use Rattle.meta_model.specs.declared.object.MetaProperty.{MetaProperty}
-use Rattle.meta_model.specs.declared.object.Statement.{Statement}
 use Rattle.meta_model.specs.declared.object.Work.{Work}
 use Rattle.meta_model.specs.declared.object.Work.TheVariants.{Signal, Slot}
 use Rattle.meta_model.specs.Members.{IsClass, IsMethod}
@@ -54,6 +53,10 @@ pub record Breaks (p : Loaded) (depth height : ℕ) (w : World) (top : List Acti
 pub record Ends (p : Loaded) (depth height : ℕ) (w : World) (top : List Activation) (v : World) (after : List Activation) (result : Result (Unit {0}) Fault) : Type 0 where
   pub cases : MatchResult result (λ _. Goes p depth height w top v after) (Breaks p depth height w top v)
 
+-- a call carried out one rule or more, or stopped on the way
+pub record Advances (p : Loaded) (depth height : ℕ) (w : World) (top : List Activation) (v : World) (after : List Activation) (result : Result (Unit {0}) Fault) : Type 0 where
+  pub cases : MatchResult result (λ _. Goes p depth height w top v after × (v.left < w.left)) (Breaks p depth height w top v)
+
 -- a method of an object may begin by the next rule of an activation, over what is left of it
 pub record Calls (p : Loaded) (w : World) (from to : Activation) (o m : ℕ) (arguments : List Value) : Type 0 where
   pub gives : (below : List Activation) (t : State) → Begins p (at w (from ∷ below)) (to ∷ below) o m arguments t → Rule p (at w (from ∷ below)) t
@@ -89,11 +92,6 @@ pub data Changes (old new : Value) : Option ℕ → Option ℕ → Type 0 where
   changed : {signal : ℕ} → old ≢ new → Changes old new (Some signal) (Some signal)
   unchanged : {signal : ℕ} → old ≡ new → Changes old new (Some signal) None
   silent : Changes old new None None
-
--- the block that a condition chooses
-abbrev pub chosen_of : Bool → List Statement → List Statement → List Statement
-chosen_of true block other = block
-chosen_of false block other = other
 
 -- the signal is the notify signal of an object's property
 pub record Announces (p : Loaded) (objects : List Object) (o q signal : ℕ) : Type 0 where

@@ -1,6 +1,10 @@
 pub mod Paths
+pub mod Doings
 pub mod Rules
 pub mod Good
 pub mod Runs
 pub mod Sound
+pub mod Remaining
+pub mod Coded
 pub mod Goes
+pub mod Laws

@@ -1,10 +1,9 @@
 -- What may follow a state by one rule, beside the taking of events (docs/machine.md, "Rules"). No rule is forbidden
 -- because activations would nest too deep or a value is of a wrong type: those are faults of a run, and not of a rule.
-use Rattle.std.specs.Prelude.{◌≡◌, ◌≢◌, ℕ, true, false, List, [], ◌∷◌, ◌++◌, length, take, Option, None, Some, slice_get, slice_set}
+use Rattle.std.specs.Prelude.{◌≡◌, ◌≢◌, ℕ, List, [], ◌∷◌, ◌++◌, length, take, Option, None, Some, slice_get, slice_set}
 use Rattle.signatures.specs.declared.value.Value.{Value}
 use Rattle.signatures.specs.declared.value.Value.TheVariants as value
 use Rattle.meta_model.specs.declared.object.Statement.{Statement}
-use Rattle.meta_model.specs.declared.object.Statement.TheOpen as layer
 use Rattle.meta_model.specs.declared.object.Statement.TheViews.{out-Statement}
 use Rattle.meta_model.specs.declared.object.Work.{Work}
 use Rattle.meta_model.specs.declared.object.Work.TheVariants.{Signal, Slot}
@@ -20,7 +19,7 @@ use Rattle.machine_state.specs.declared.entry.Entry.{Entry}
 use Rattle.machine_state.specs.declared.entry.Entry.TheVariants as entry
 use Rattle.machine_state.specs.Connections.{is_silent, next_used}
 use Rattle.machine_state.specs.Objects.{shown, all_shown}
-use Rattle.machine_rules.specs.Paths.{path_value, value_of, values_of}
+use Rattle.machine_rules.specs.Doings.{Doing, Write, Begin, Choose, Nothing, doing}
 use Rattle.machine_state.specs.State.{State, Place, Activation, Body, Emit, Update}
 
 -- one more activation over a stack, and the entry that is written down, with the length of the stack
@@ -92,42 +91,23 @@ UpdateRule p s below t (place ∷ places) = Notifies p s (Update places ∷ belo
 abbrev pub on_null : State → List Activation → State
 on_null s stack = record s { stack = stack; trace = s.trace ++ entry.OnNull (length stack) ∷ [] }
 
--- what is done with the object that a path leads to, and what where it leads to null
-abbrev pub OnObject : (ℕ → Type 0) → Type 0 → Option Value → Type 0
-OnObject Act Nothing (Some (value.Ref (Some x))) = Act x
-OnObject Act Nothing (Some (value.Ref None)) = Nothing
-OnObject Act Nothing (Some (value.Int n)) = ⊥
-OnObject Act Nothing (Some (value.Bool b)) = ⊥
-OnObject Act Nothing (Some (value.Text t)) = ⊥
-OnObject Act Nothing None = ⊥
+-- this is done by a statement of the body of method m of object o, over what is left of the body and what is below it
+abbrev pub Does : Loaded → State → ℕ → ℕ → List Value → List Statement → List Activation → Doing → State → Type 0
+Does p s o m arguments rest below (Write x q new) t = Writes p s (Body o m arguments rest ∷ below) x q new t
+Does p s o m arguments rest below (Begin x n given) t = Begins p s (Body o m arguments rest ∷ below) x n given t
+Does p s o m arguments rest below (Choose block) t = t ≡ record s { stack = Body o m arguments (block ++ rest) ∷ below }
+Does p s o m arguments rest below Nothing t = t ≡ on_null s (Body o m arguments rest ∷ below)
 
--- the block that a condition chooses
-abbrev pub Chooses : Option Value → List Statement → List Statement → List Statement → Type 0
-Chooses (Some (value.Bool true)) block other chosen = chosen ≡ block
-Chooses (Some (value.Bool false)) block other chosen = chosen ≡ other
-Chooses (Some (value.Int n)) block other chosen = ⊥
-Chooses (Some (value.Text t)) block other chosen = ⊥
-Chooses (Some (value.Ref r)) block other chosen = ⊥
-Chooses None block other chosen = ⊥
-
--- A statement of the body of method m of object o; `rest` follows it. On null its expressions aren't evaluated.
-abbrev pub StatementRule : Loaded → State → ℕ → ℕ → List Value → List Statement → List Activation → State → layer.Statement-F Statement → Type 0
-StatementRule p s o m arguments rest below t (layer.Set path q e) =
-    OnObject (λ x. (new : Value) × (value_of s.objects o arguments e ≡ Some new) × Writes p s (Body o m arguments rest ∷ below) x q new t)
-    (t ≡ on_null s (Body o m arguments rest ∷ below)) (path_value s.objects o arguments path)
-StatementRule p s o m arguments rest below t (layer.Emit g es) =
-    (given : List Value) × (values_of s.objects o arguments es ≡ Some given) × Begins p s (Body o m arguments rest ∷ below) o g given t
-StatementRule p s o m arguments rest below t (layer.Call path n es) =
-    OnObject (λ x. (given : List Value) × (values_of s.objects o arguments es ≡ Some given) × Begins p s (Body o m arguments rest ∷ below) x n given t)
-    (t ≡ on_null s (Body o m arguments rest ∷ below)) (path_value s.objects o arguments path)
-StatementRule p s o m arguments rest below t (layer.If e block other) =
-    (chosen : List Statement) × Chooses (value_of s.objects o arguments e) block other chosen
-    × (t ≡ record s { stack = Body o m arguments (chosen ++ rest) ∷ below })
+-- a statement is carried out, and `rest` follows it
+pub record StatementRule (p : Loaded) (s : State) (o m : ℕ) (arguments : List Value) (statement : Statement) (rest : List Statement) (below : List Activation) (t : State) : Type 0 where
+  pub what : Doing
+  pub is : doing s.objects o arguments (out-Statement statement) ≡ Some what
+  pub does : Does p s o m arguments rest below what t
 
 -- the next statement is carried out; with none left the body ends
 abbrev pub BodyRule : Loaded → State → ℕ → ℕ → List Value → List Activation → State → List Statement → Type 0
 BodyRule p s o m arguments below t [] = t ≡ record s { stack = below }
-BodyRule p s o m arguments below t (statement ∷ rest) = StatementRule p s o m arguments rest below t (out-Statement statement)
+BodyRule p s o m arguments below t (statement ∷ rest) = StatementRule p s o m arguments statement rest below t
 
 -- ---- emissions
 

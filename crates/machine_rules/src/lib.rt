@@ -2,10 +2,14 @@
 #![tactic(auto)]
 
 mod body;
+mod doing;
 mod emission;
+mod laws;
 mod paths;
+mod remaining;
 mod setting;
 mod update;
 
+pub use laws::one_rule;
 pub use setting::Setting;
 pub use update::signal_of_change;

@@ -1,6 +1,7 @@
 -- What goes on in a run lacks a next rule only for want of a value.
 use Rattle.std.proofs.Common.{◌≡◌, ◌≢◌, ℕ, inl, inr, Bool, true, false, List, [], ◌∷◌, Option, Some, None, slice_get, refl, sym, subst}
 use Rattle.std.specs.List.{AllByRecursion}
+use Rattle.std.specs.Option.{option_map}
 use Rattle.signatures.specs.declared.value.Value.{Value}
 use Rattle.signatures.specs.declared.value.Value.TheVariants as value
 use Rattle.texts.specs.declared.syntax.Expr.{Expr}
@@ -20,23 +21,19 @@ use Rattle.machine_state.specs.declared.fault.Fault.TheVariants.{BadType, TooDee
 use Rattle.object_tree.specs.declared.object.Object.{Object}
 use Rattle.machine_rules.specs.Paths.{path_value, value_of, values_of}
 use Rattle.machine_state.specs.State.{State, Place, Activation, Body, Emit, Update}
-use Rattle.machine_rules.specs.Rules.{RuleAt, StatementRule, EmitRule, UpdateRule, OnObject, Chooses, Begins, Writes, IsNotified, changed, unchanged, silent, on_null}
+use Rattle.machine_rules.specs.Rules.{RuleAt, StatementRule, Does, EmitRule, UpdateRule, Begins, Writes, IsNotified, changed, unchanged, silent}
+use Rattle.machine_rules.specs.Doings.{Doing, Write, Begin, Choose, Nothing, on_object, chosen_by, doing}
 use Rattle.machine_state.specs.Connections.{is_next}
 use Rattle.machine_state.specs.Connections.{next_used}
 use Rattle.machine_rules.specs.Runs.{IsStuck}
 use Rattle.qt_runtime.specs.Runs.{Reason}
-use Rattle.qt_runtime.specs.Causes.{IsObject, Lacks, LacksValue, Cause}
-use Rattle.machine_rules.specs.Goes.{IsField, chosen_of}
+use Rattle.qt_runtime.specs.Causes.{LacksValue, Cause}
+use Rattle.machine_rules.specs.Goes.{IsField}
 use Rattle.machine_rules.proofs.Beginning.{find-some, used-is}
 use Rattle.machine_rules.proofs.Fields.{old-there}
 use Rattle.qt_runtime.proofs.Inherited.{method-below, property-below}
 use Rattle.qt_runtime.proofs.Leading.{Reaches, to_null, to_object, path-reaches}
 use Rattle.qt_runtime.proofs.Standing.{BodyStands, PlaceStands, Stands, Delivers, Upright}
-
--- what can't be found isn't there
-none-found : {X : Type 0} (found : Option X) → ((x : X) → found ≢ Some x) → found ≡ None
-none-found None none = refl
-none-found (Some x) none = absurd (none x refl)
 
 -- whether the value has changed or not, something may be notified
 notified-somehow : (old new : Value) (place : Place) (notify : Option ℕ) → ((places : List Place) → ¬ IsNotified old new place notify places) → ⊥
@@ -44,10 +41,6 @@ notified-somehow old new place None none = none [] silent
 notified-somehow old new place (Some signal) none =
     let differs : old ≢ new = λ same. none [] (unchanged same) in
     none (place ∷ []) (changed differs)
-
-chooses-either : (holds : Bool) (block other : List Statement) → Chooses (Some (value.Bool holds)) block other (chosen_of holds block other)
-chooses-either true block other = refl
-chooses-either false block other = refl
 
 module _ {p : Loaded} {s : State} (sound : IsSound p) (up : Upright p s) where
   -- a property that is there may be written
@@ -63,41 +56,59 @@ module _ {p : Loaded} {s : State} (sound : IsSound p) (up : Upright p s) where
   no-begin {x = x} {method = method} there beneath is none = none _ (record { object = x; is_object = there; method = method; is_method = method-below sound beneath is; gives = refl })
 
   module _ (o m : ℕ) (arguments : List Value) (rest : List Statement) (below : List Activation) where
+    -- nothing of this can be done
+    abbrev None_does : Option Doing → Type 0
+    None_does found = (d : Doing) (t : State) → found ≡ Some d → ¬ Does p s o m arguments rest below d t
+
+    map-lacks : {X : Type 0} (act : X → Doing) (given : Option X) → ((v : X) → ((t : State) → ¬ Does p s o m arguments rest below (act v) t) → ⊥) → None_does (option_map act given) → option_map act given ≡ None
+    map-lacks act None may none = refl
+    map-lacks act (Some v) may none = absurd (may v (λ t does. none (act v) t refl does))
+
+    -- a path leads to null, or to an object with which it could be done
+    object-lacks : {c : ℕ} (act : ℕ → Option Doing) (found : Option Value) → Reaches p s.objects c found → ((y : ℕ) (x : Object) → slice_get s.objects y ≡ Some x → Below p x.class c → None_does (act y) → act y ≡ None) → None_does (on_object act found) → on_object act found ≡ None
+    object-lacks act found to_null may none = absurd (none Nothing _ refl refl)
+    object-lacks act found (to_object {o = y} {x = x} there beneath) may none = may y x there beneath none
+
     set-lacks : {q c : ℕ} {property : MetaProperty} (e : Expr MetaPath) (found : Option Value) → Reaches p s.objects c found → IsProperty p c q property →
-        ((t : State) → ¬ OnObject (λ x. (new : Value) × (value_of s.objects o arguments e ≡ Some new) × Writes p s (Body o m arguments rest ∷ below) x q new t) (t ≡ on_null s (Body o m arguments rest ∷ below)) found) →
-        IsObject found × (value_of s.objects o arguments e ≡ None)
-    set-lacks e found to_null is stuck = absurd (stuck _ refl)
-    set-lacks e found (to_object {o = x} there beneath) is stuck =
-        ((x, refl), none-found (value_of s.objects o arguments e) (λ new gives. no-write {new = new} {below = Body o m arguments rest ∷ below} there beneath is (λ t w. stuck t (new, gives, w))))
+        None_does (on_object (λ y. option_map (λ (new : Value). Write y q new) (value_of s.objects o arguments e)) found) →
+        on_object (λ y. option_map (λ (new : Value). Write y q new) (value_of s.objects o arguments e)) found ≡ None
+    set-lacks {q} e found reaches is none =
+        object-lacks (λ y. option_map (λ (new : Value). Write y q new) (value_of s.objects o arguments e)) found reaches
+        (λ y x there beneath. map-lacks (λ (new : Value). Write y q new) (value_of s.objects o arguments e) (λ new no. no-write {new = new} {below = Body o m arguments rest ∷ below} there beneath is no)) none
 
     call-lacks : {n c : ℕ} {method : MetaMethod} (es : List (Expr MetaPath)) (found : Option Value) → Reaches p s.objects c found → IsMethod p c n method →
-        ((t : State) → ¬ OnObject (λ x. (given : List Value) × (values_of s.objects o arguments es ≡ Some given) × Begins p s (Body o m arguments rest ∷ below) x n given t) (t ≡ on_null s (Body o m arguments rest ∷ below)) found) →
-        IsObject found × (values_of s.objects o arguments es ≡ None)
-    call-lacks es found to_null is stuck = absurd (stuck _ refl)
-    call-lacks es found (to_object {o = x} there beneath) is stuck =
-        ((x, refl), none-found (values_of s.objects o arguments es) (λ given gives. no-begin {arguments = given} {below = Body o m arguments rest ∷ below} there beneath is (λ t b. stuck t (given, gives, b))))
+        None_does (on_object (λ y. option_map (λ (given : List Value). Begin y n given) (values_of s.objects o arguments es)) found) →
+        on_object (λ y. option_map (λ (given : List Value). Begin y n given) (values_of s.objects o arguments es)) found ≡ None
+    call-lacks {n} es found reaches is none =
+        object-lacks (λ y. option_map (λ (given : List Value). Begin y n given) (values_of s.objects o arguments es)) found reaches
+        (λ y x there beneath. map-lacks (λ (given : List Value). Begin y n given) (values_of s.objects o arguments es) (λ given no. no-begin {arguments = given} {below = Body o m arguments rest ∷ below} there beneath is no)) none
 
-    if-lacks : (e : Expr MetaPath) (block other : List Statement) → ((t : State) → ¬ StatementRule p s o m arguments rest below t (layer.If e block other)) → Lacks s o arguments (layer.If e block other)
-    if-lacks e block other stuck = λ holds is.
-        let Family : Option Value → Type 0 = λ found. Chooses found block other (chosen_of holds block other) in
-        stuck _ (chosen_of holds block other, subst Family (sym is) (chooses-either holds block other), refl)
+    if-lacks : (block other : List Statement) (found : Option Value) → None_does (chosen_by block other found) → chosen_by block other found ≡ None
+    if-lacks block other None none = refl
+    if-lacks block other (Some (value.Bool true)) none = absurd (none (Choose block) _ refl refl)
+    if-lacks block other (Some (value.Bool false)) none = absurd (none (Choose other) _ refl refl)
+    if-lacks block other (Some (value.Int n)) none = refl
+    if-lacks block other (Some (value.Text n)) none = refl
+    if-lacks block other (Some (value.Ref n)) none = refl
+
+    layer-lacks : (x : Statement) (f : layer.Statement-F Statement) → out-Statement x ≡ f → (None_does (doing s.objects o arguments f) → doing s.objects o arguments f ≡ None) → ((t : State) → ¬ StatementRule p s o m arguments x rest below t) → doing s.objects o arguments (out-Statement x) ≡ None
+    layer-lacks x f out lacks stuck =
+        let Family : layer.Statement-F Statement → Type 0 = λ g. None_does (doing s.objects o arguments g) → doing s.objects o arguments g ≡ None in
+        (subst Family (sym out) lacks) (λ d t is does. stuck t (record { what = d; is = is; does = does }))
 
   -- a statement that has no next rule lacks a value
-  statement-lacks : (o m : ℕ) (arguments : List Value) (x : Statement) (rest : List Statement) (below : List Activation) → (body : BodyStands p s.objects o arguments (x ∷ rest)) → AreSound p body.declaring body.kinds (x ∷ rest) → ((t : State) → ¬ StatementRule p s o m arguments rest below t (out-Statement x)) → Lacks s o arguments (out-Statement x)
+  statement-lacks : (o m : ℕ) (arguments : List Value) (x : Statement) (rest : List Statement) (below : List Activation) → (body : BodyStands p s.objects o arguments (x ∷ rest)) → AreSound p body.declaring body.kinds (x ∷ rest) → ((t : State) → ¬ StatementRule p s o m arguments x rest below t) → doing s.objects o arguments (out-Statement x) ≡ None
   statement-lacks o m arguments x rest below body (set_sound {path = path} {q = q} {e = e} out is more) stuck =
-      let Family : layer.Statement-F Statement → Type 0 = λ f. ((t : State) → ¬ StatementRule p s o m arguments rest below t f) → Lacks s o arguments f in
       let reaches = path-reaches s.objects o body.declaring body.object arguments body.kinds path sound up.typed body.is_object body.below body.typed is.leads in
-      (subst Family (sym out) (λ none. set-lacks o m arguments rest below e (path_value s.objects o arguments path) reaches is.is none)) stuck
+      layer-lacks o m arguments rest below x (layer.Set path q e) out (λ none. set-lacks o m arguments rest below e (path_value s.objects o arguments path) reaches is.is none) stuck
   statement-lacks o m arguments x rest below body (emit_sound {m = g} {es = es} out is more) stuck =
-      let Family : layer.Statement-F Statement → Type 0 = λ f. ((t : State) → ¬ StatementRule p s o m arguments rest below t f) → Lacks s o arguments f in
-      (subst Family (sym out) (λ none. none-found (values_of s.objects o arguments es) (λ given gives. no-begin {arguments = given} {below = Body o m arguments rest ∷ below} body.is_object body.below is.is (λ t b. none t (given, gives, b))))) stuck
+      layer-lacks o m arguments rest below x (layer.Emit g es) out
+      (λ none. map-lacks o m arguments rest below (λ (given : List Value). Begin o g given) (values_of s.objects o arguments es) (λ given no. no-begin {arguments = given} {below = Body o m arguments rest ∷ below} body.is_object body.below is.is no) none) stuck
   statement-lacks o m arguments x rest below body (call_sound {path = path} {m = n} {es = es} out is more) stuck =
-      let Family : layer.Statement-F Statement → Type 0 = λ f. ((t : State) → ¬ StatementRule p s o m arguments rest below t f) → Lacks s o arguments f in
       let reaches = path-reaches s.objects o body.declaring body.object arguments body.kinds path sound up.typed body.is_object body.below body.typed is.leads in
-      (subst Family (sym out) (λ none. call-lacks o m arguments rest below es (path_value s.objects o arguments path) reaches is.is none)) stuck
+      layer-lacks o m arguments rest below x (layer.Call path n es) out (λ none. call-lacks o m arguments rest below es (path_value s.objects o arguments path) reaches is.is none) stuck
   statement-lacks o m arguments x rest below body (if_sound {e = e} {chosen = block} {other = other} out is first second more) stuck =
-      let Family : layer.Statement-F Statement → Type 0 = λ f. ((t : State) → ¬ StatementRule p s o m arguments rest below t f) → Lacks s o arguments f in
-      (subst Family (sym out) (λ none. if-lacks o m arguments rest below e block other none)) stuck
+      layer-lacks o m arguments rest below x (layer.If e block other) out (λ none. if-lacks o m arguments rest below block other (value_of s.objects o arguments e) none) stuck
 
   -- an emission has a next rule
   emission-goes : (o g : ℕ) (arguments : List Value) (last : ℕ) (below : List Activation) (found : Option Connection) → ((c : Connection) → found ≡ Some c → Delivers p s.objects c) → ((t : State) → ¬ EmitRule p s o g arguments last below t found) → ⊥

@@ -12,6 +12,7 @@ mod Keeping
 mod Applying
 pub mod Inherited
 pub mod Leading
+mod Choosing
 pub mod Standing
 pub mod Lacking
 pub mod Halting

@@ -2,15 +2,12 @@
 use Rattle.std.proofs.Common.{◌≡◌, ℕ, suc, ◌<◌, List, [], ◌∷◌, ◌++◌, length, take, true, false, Option, Some, None, slice_get, slice_set, refl, sym, ap, ◌∙◌, subst, arith}
 use Rattle.std.specs.List.{AllByRecursion}
 use Rattle.signatures.specs.declared.value.Value.{Value}
-use Rattle.signatures.specs.declared.value.Value.TheVariants as value
-use Rattle.texts.specs.declared.syntax.Expr.{Expr}
 use Rattle.script_lang.specs.declared.event.Event.{Event}
 use Rattle.script_lang.specs.declared.event.Event.TheVariants.{New, Adopt, Connect, Set, Emit as EmitEvent, Call as CallEvent, Block, Unblock}
 use Rattle.meta_model.specs.declared.object.MetaMethod.{MetaMethod}
-use Rattle.meta_model.specs.declared.object.MetaPath.{MetaPath}
 use Rattle.meta_model.specs.declared.object.MetaProperty.{MetaProperty}
 use Rattle.meta_model.specs.declared.object.Statement.{Statement}
-use Rattle.meta_model.specs.declared.object.Statement.TheOpen as layer
+use Rattle.meta_model.specs.declared.object.Statement.TheViews.{out-Statement}
 use Rattle.meta_model.specs.declared.object.ValueType.{ValueType}
 use Rattle.meta_model.specs.declared.object.Work.{Work}
 use Rattle.meta_model.specs.declared.object.Work.TheVariants.{Signal, Slot}
@@ -24,9 +21,10 @@ use Rattle.object_tree.specs.Creating.{fresh, initial_values}
 use Rattle.object_tree.specs.Objects.{class_of, written, change, blocked}
 use Rattle.machine_state.specs.Objects.{Shape, shape_of, shapes_of}
 use Rattle.machine_state.specs.Worlds.{main}
-use Rattle.machine_rules.specs.Paths.{path_value, value_of, values_of}
+use Rattle.machine_rules.specs.Doings.{Doing, Write, Begin, Choose, Nothing, doing}
+use Rattle.qt_runtime.proofs.Choosing.{block-sound}
 use Rattle.machine_state.specs.State.{State, Place, Activation, Body, Emit, Update}
-use Rattle.machine_rules.specs.Rules.{Rule, RuleAt, BodyRule, StatementRule, EmitRule, UpdateRule, Chooses, Begins, Writes, IsNotified, changed, unchanged, silent, begun, on_null}
+use Rattle.machine_rules.specs.Rules.{Rule, RuleAt, BodyRule, Does, EmitRule, UpdateRule, Begins, Writes, IsNotified, changed, unchanged, silent, begun}
 use Rattle.machine_state.specs.Connections.{next_used}
 use Rattle.qt_runtime.specs.Events.{Takes, accepts, refuses, Effect, accepted}
 use Rattle.machine_rules.specs.Good.{AreTyped, ArgumentsFit, TopFits, IsWell}
@@ -38,7 +36,7 @@ use Rattle.machine_rules.specs.Goes.{IsField}
 use Rattle.machine_rules.proofs.Fields.{some-is, method-unique, field-written}
 use Rattle.qt_runtime.proofs.Changes.{map-change, map-adopted}
 use Rattle.qt_runtime.proofs.Keeping.{all-snoc, all-weaken}
-use Rattle.machine_rules.proofs.Keeps.{Kept, on-object, rule-kept, begins-kept, writes-kept}
+use Rattle.machine_rules.proofs.Keeps.{Kept, rule-kept, begins-kept, writes-kept}
 use Rattle.machine_rules.proofs.Shapes.{shape-there, shape-of-there, classes-same, shapes-written}
 use Rattle.qt_runtime.proofs.Typed.{get-append}
 
@@ -195,46 +193,17 @@ module _ {p : Loaded} {s t : State} (sound : IsSound p) (well : IsWell p s t) wh
   as-is : {u : State} → t ≡ u → AllStand p u → AllStand p t
   as-is e lower = let Family : State → Type 0 = λ v. AllStand p v in subst Family (sym e) lower
 
-  module _ (o m : ℕ) (arguments : List Value) (rest : List Statement) (below : List Activation) (high : length s.stack ≡ suc (length below)) (lower : AllByRecursion (Stands p s.objects) (Body o m arguments rest ∷ below)) where
-    set-stands : (path : MetaPath) (q : ℕ) (e : Expr MetaPath) → StatementRule p s o m arguments rest below t (layer.Set path q e) → AllStand p t
-    set-stands path q e r =
-        on-object (λ x. (new : Value) × (value_of s.objects o arguments e ≡ Some new) × Writes p s (Body o m arguments rest ∷ below) x q new t)
-        (t ≡ on_null s (Body o m arguments rest ∷ below)) (AllStand p t) (path_value s.objects o arguments path)
-        (λ x w. writes-stands w.2 lower) (λ null. as-is null lower) r
+  -- what a statement does, over what stands
+  does-stands : (o m : ℕ) (arguments : List Value) (x : Statement) (rest : List Statement) (below : List Activation) (d : Doing) → BodyStands p s.objects o arguments (x ∷ rest) → doing s.objects o arguments (out-Statement x) ≡ Some d → AllByRecursion (Stands p s.objects) below → length s.stack ≡ suc (length below) → Does p s o m arguments rest below d t → AllStand p t
+  does-stands o m arguments x rest below (Write y q new) body is lower high does = writes-stands does (body-rest body, lower)
+  does-stands o m arguments x rest below (Begin y n given) body is lower high does = begins-stands does (omega (arith, high)) (body-rest body, lower)
+  does-stands o m arguments x rest below (Choose block) body is lower high does =
+      as-is does (body-with body (block ++ rest) (sound-append (block-sound s.objects o arguments block body.sound is) (sound-rest body.sound)), lower)
+  does-stands o m arguments x rest below Nothing body is lower high does = as-is does (body-rest body, lower)
 
-    emit-stands : (g : ℕ) (es : List (Expr MetaPath)) → StatementRule p s o m arguments rest below t (layer.Emit g es) → AllStand p t
-    emit-stands g es r = begins-stands r.2 (omega (arith, high)) lower
-
-    call-stands : (path : MetaPath) (n : ℕ) (es : List (Expr MetaPath)) → StatementRule p s o m arguments rest below t (layer.Call path n es) → AllStand p t
-    call-stands path n es r =
-        on-object (λ x. (given : List Value) × (values_of s.objects o arguments es ≡ Some given) × Begins p s (Body o m arguments rest ∷ below) x n given t)
-        (t ≡ on_null s (Body o m arguments rest ∷ below)) (AllStand p t) (path_value s.objects o arguments path)
-        (λ x w. begins-stands w.2 (omega (arith, high)) lower) (λ null. as-is null lower) r
-
-  chosen-sound : {me : ℕ} {kinds : List ValueType} (found : Option Value) (block other chosen : List Statement) → AreSound p me kinds block → AreSound p me kinds other → Chooses found block other chosen → AreSound p me kinds chosen
-  chosen-sound {me} {kinds} (Some (value.Bool true)) block other chosen a b is = let Family : List Statement → Type 0 = λ l. AreSound p me kinds l in subst Family (sym is) a
-  chosen-sound {me} {kinds} (Some (value.Bool false)) block other chosen a b is = let Family : List Statement → Type 0 = λ l. AreSound p me kinds l in subst Family (sym is) b
-  chosen-sound (Some (value.Int n)) block other chosen a b is = absurd is
-  chosen-sound (Some (value.Text n)) block other chosen a b is = absurd is
-  chosen-sound (Some (value.Ref n)) block other chosen a b is = absurd is
-  chosen-sound None block other chosen a b is = absurd is
-
-  body-stands : (o m : ℕ) (arguments : List Value) (below : List Activation) (left : List Statement) → (body : BodyStands p s.objects o arguments left) → AreSound p body.declaring body.kinds left → AllByRecursion (Stands p s.objects) below → length s.stack ≡ suc (length below) → BodyRule p s o m arguments below t left → AllStand p t
-  body-stands o m arguments below [] body none_sound lower high r = as-is r lower
-  body-stands o m arguments below (x ∷ rest) body (set_sound {path = path} {q = q} {e = e} out is more) lower high r =
-      let Family : layer.Statement-F Statement → Type 0 = λ f. StatementRule p s o m arguments rest below t f in
-      set-stands o m arguments rest below high (body-with body rest more, lower) path q e (subst Family out r)
-  body-stands o m arguments below (x ∷ rest) body (emit_sound {m = g} {es = es} out is more) lower high r =
-      let Family : layer.Statement-F Statement → Type 0 = λ f. StatementRule p s o m arguments rest below t f in
-      emit-stands o m arguments rest below high (body-with body rest more, lower) g es (subst Family out r)
-  body-stands o m arguments below (x ∷ rest) body (call_sound {path = path} {m = n} {es = es} out is more) lower high r =
-      let Family : layer.Statement-F Statement → Type 0 = λ f. StatementRule p s o m arguments rest below t f in
-      call-stands o m arguments rest below high (body-with body rest more, lower) path n es (subst Family out r)
-  body-stands o m arguments below (x ∷ rest) body (if_sound {e = e} {chosen = block} {other = other} out is first second more) lower high r =
-      let Family : layer.Statement-F Statement → Type 0 = λ f. StatementRule p s o m arguments rest below t f in
-      let chosen = subst Family out r in
-      let sounds = chosen-sound (value_of s.objects o arguments e) block other chosen.0 first second chosen.1 in
-      as-is chosen.2 (body-with body (chosen.0 ++ rest) (sound-append sounds more), lower)
+  body-stands : (o m : ℕ) (arguments : List Value) (below : List Activation) (left : List Statement) → BodyStands p s.objects o arguments left → AllByRecursion (Stands p s.objects) below → length s.stack ≡ suc (length below) → BodyRule p s o m arguments below t left → AllStand p t
+  body-stands o m arguments below [] body lower high r = as-is r lower
+  body-stands o m arguments below (x ∷ rest) body lower high r = does-stands o m arguments x rest below r.what body r.is lower high r.does
 
   emission-stands : (o g : ℕ) (arguments : List Value) (last : ℕ) (below : List Activation) (found : Option Connection) → AllByRecursion (Stands p s.objects) below → length s.stack ≡ suc (length below) → EmitRule p s o g arguments last below t found → AllStand p t
   emission-stands o g arguments last below None lower high r = as-is r lower
@@ -247,7 +216,7 @@ module _ {p : Loaded} {s t : State} (sound : IsSound p) (well : IsWell p s t) wh
 
   rule-stands : (stack : List Activation) → AllByRecursion (Stands p s.objects) stack → length s.stack ≡ length stack → RuleAt p s t stack → AllStand p t
   rule-stands [] all high r = absurd r
-  rule-stands (Body o m arguments left ∷ below) all high r = body-stands o m arguments below left all.0 all.0.sound all.1 high r
+  rule-stands (Body o m arguments left ∷ below) all high r = body-stands o m arguments below left all.0 all.1 high r
   rule-stands (Emit o g arguments used last ∷ below) all high r = emission-stands o g arguments last below (next_used s.objects s.connections o g used last) all.1 high r
   rule-stands (Update places ∷ below) all high r = update-stands below places all.0 all.1 r
 

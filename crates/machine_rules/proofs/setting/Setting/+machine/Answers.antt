@@ -4,10 +4,10 @@ use Rattle.machine_state.specs.declared.world.World.{World}
 use Rattle.machine_rules.proofs.Fields.{old-there}
 use Rattle.std.proofs.lemmas.List.{drop_more, drop_all}
 use Rattle.machine_rules.proofs.Going.{goes-same, goes-then, breaks-after, breaks-as, ends-after, ends-left, ends-undue, ends-short, ends-unchanged, ends-faulted, ends-ticked}
-use Rattle.machine_rules.proofs.Keeps.{same-refl, same-trans, ends-same, ends-sound, fit-still, goes-typed}
+use Rattle.machine_rules.proofs.Keeps.{same-refl, same-trans, ends-same, ends-sound, fit-still, goes-typed, goes-same-world, goes-sound}
 use Rattle.machine_rules.proofs.Beginning.{ends-begun, breaks-begin, breaks-no-member, breaks-ill-typed, fit-of, fit-member, next-joined, next-fits, joined-member, delivered-fits, delivery-calls, not-true}
 use Rattle.machine_rules.proofs.Writing.{ends-written, breaks-write-deep, breaks-write-ill, breaks-no-field, announces-in, announced-member, announced-value, announced-fits, announcement-calls, sound-written}
-use Rattle.machine_rules.proofs.Bodies.{set-sets, set-null, set-stuck-path, set-stuck-value, emit-calls, emit-only, emit-stuck, call-calls, call-only, call-null, call-stuck-path, call-stuck-values, if-goes, if-stuck}
+use Rattle.machine_rules.proofs.Bodies.{does-call, does-call-alone, does-set, does-nothing, does-choose, lacks-read, moved, advances-one, advances-ticked, advances-left}
 use Rattle.machine_rules.proofs.setting.Setting.+machine.Goals as goal
 
 -- ---- emissions
@@ -102,126 +102,65 @@ begin-returns-in-Slot t c = record {
 
 -- ---- bodies
 
-pub run_body-returns-in_err-run_statements : goal.run_body-returns-in_err-run_statements
-run_body-returns-in_err-run_statements t c =
-    let all = rw append-nil at (c.in_err-run_statements.ensures.ends c.args.method []).cases in
-    record { ends = ends-left _ all c.from_residual.ensures.1 }
+pub run_body-loop-statement-init : goal.run_body-loop-statement-init
+run_body-loop-statement-init t c = record { goes = rw c.all-left.ensures goes-same; same = same-refl; fewer = omega arith; sound = c.requires.sound }
+
+pub run_body-returns-in_err-is_due : goal.run_body-returns-in_err-is_due
+run_body-returns-in_err-is_due t c = record { ends = ends-after c.loop-statement.invariant.goes (ends-undue _ c.in_err-is_due.ensures c.from_residual.ensures.1) }
+
+pub run_body-returns-in_err-doing : goal.run_body-returns-in_err-doing
+run_body-returns-in_err-doing t c =
+    let came = rw c.in-Some.ensures at c.loop-statement.invariant.goes in
+    record { ends = ends-after came (ends-faulted _ c.in_ok-is_due.ensures (λ is. lacks-read _ _ c.in_ok-is_due.ensures c.scope.ensures.objects c.scope.ensures.this c.scope.ensures.arguments c.in_err-doing.ensures is) c.from_residual-in_err-doing.ensures.1) }
+
+pub run_body-carry_out-requires : goal.run_body-carry_out-requires
+run_body-carry_out-requires t c = (omega (arith, c.loop-statement.invariant.fewer), (c.requires.room, (c.loop-statement.invariant.sound, c.in_ok-is_due.ensures)))
+
+pub run_body-returns-in_err-carry_out : goal.run_body-returns-in_err-carry_out
+run_body-returns-in_err-carry_out t c =
+    let came = rw c.in-Some.ensures at c.loop-statement.invariant.goes in
+    let is = rw (c.scope.ensures.objects, c.scope.ensures.this, c.scope.ensures.arguments) at c.in_ok-doing.ensures in
+    record { ends = ends-left _ (breaks-after came ((c.in_err-carry_out.ensures.advances _ _ _ _ is).cases)) c.from_residual-in_err-carry_out.ensures.1 }
+
+pub run_body-loop-statement-preserved : goal.run_body-loop-statement-preserved
+run_body-loop-statement-preserved t c =
+    let came = rw c.in-Some.ensures at c.loop-statement.invariant.goes in
+    let is = rw (c.scope.ensures.objects, c.scope.ensures.this, c.scope.ensures.arguments) at c.in_ok-doing.ensures in
+    let one = (c.in_ok-carry_out.ensures.advances c.args.object c.args.method c.args.arguments.now _ is).cases in
+    let same = same-trans c.loop-statement.invariant.same (goes-same-world one.0) in
+    record { goes = goes-then came one.0; same = same; fewer = same.fewer; sound = goes-sound one.0 c.loop-statement.invariant.sound }
+
+pub run_body-loop-statement-smaller : goal.run_body-loop-statement-smaller
+run_body-loop-statement-smaller t c =
+    let is = rw (c.scope.ensures.objects, c.scope.ensures.this, c.scope.ensures.arguments) at c.in_ok-doing.ensures in
+    (c.in_ok-carry_out.ensures.advances c.args.object c.args.method c.args.arguments.now _ is).cases.1
 
 pub run_body-returns : goal.run_body-returns
 run_body-returns t c =
-    let all = rw append-nil at (c.in_ok-run_statements.ensures.ends c.args.method []).cases in
-    record { ends = ends-after all (ends-ticked {b = []} _ (λ below e. refl) (omega arith) c.requires.room (goes-typed all c.requires.sound.typed) c.tick.ensures) }
+    let came = rw c.in_default.ensures.0 at c.loop-statement.invariant.goes in
+    record { ends = ends-after came (ends-ticked {b = []} _ (λ below e. refl) (omega arith) c.requires.room c.loop-statement.invariant.sound.typed c.tick.ensures) }
 
-pub run_statements-loop-statement-init : goal.run_statements-loop-statement-init
-run_statements-loop-statement-init t c = record { goes = λ m rest. goes-same; same = same-refl; fewer = omega arith; sound = c.requires.sound }
+pub carry_out-returns-in-Write : goal.carry_out-returns-in-Write
+carry_out-returns-in-Write t c = record { advances = λ o m arguments x is. advances-one _ (c.write.ensures.ends _ _ (does-set m c.args.left.now (rw c.in-Write.is at is))) }
 
-pub run_statements-loop-statement-preserved : goal.run_statements-loop-statement-preserved
-run_statements-loop-statement-preserved t c =
-    let more = drop_more c.args.statements.now c.loop-statement.statement-index c.statement-item.result c.loop-statement-test.true in
-    let one = c.in_ok-run_statement.ensures.ends 0 [] in
-    let same = same-trans c.loop-statement.invariant.same (ends-same _ one) in
-    record {
-      goes = λ m rest. goes-then (c.loop-statement.invariant.goes m rest) (rw (more, ← c.statement-item.is) ((c.in_ok-run_statement.ensures.ends m _).cases));
-      same = same;
-      fewer = same.fewer;
-      sound = ends-sound _ one c.loop-statement.invariant.sound;
-    }
-
-pub run_statements-returns-in_err-run_statement : goal.run_statements-returns-in_err-run_statement
-run_statements-returns-in_err-run_statement t c = record {
-  ends = λ m rest.
-      let more = drop_more c.args.statements.now c.loop-statement.statement-index c.statement-item.result c.loop-statement-test.true in
-      ends-left _ (breaks-after (c.loop-statement.invariant.goes m rest) (rw (more, ← c.statement-item.is) ((c.in_err-run_statement.ensures.ends m _).cases))) c.from_residual.ensures.1;
+pub carry_out-returns-in-Begin : goal.carry_out-returns-in-Begin
+carry_out-returns-in-Begin t c = record {
+  advances = λ o m arguments x is.
+      let begins = rw (c.in-Begin.is, ← c.as_slice.ensures) at is in
+      advances-one _ (c.begin_typed.ensures.ends _ _ (does-call m c.args.left.now begins) (does-call-alone m c.args.left.now begins));
 }
 
-pub run_statements-returns : goal.run_statements-returns
-run_statements-returns t c = record {
-  ends = λ m rest.
-      let none = drop_all c.loop-statement.statement-index c.args.statements.now c.loop-statement-test.false in
-      record { cases = rw none at c.loop-statement.invariant.goes m rest };
+pub carry_out-returns-in_err-put-in-Choose : goal.carry_out-returns-in_err-put-in-Choose
+carry_out-returns-in_err-put-in-Choose t c = record { advances = λ o m arguments x is. advances-left _ _ (ends-short _ c.requires.due c.from_residual.ensures.1) c.from_residual.ensures.1 }
+
+pub carry_out-returns-in_ok-put-in-Choose : goal.carry_out-returns-in_ok-put-in-Choose
+carry_out-returns-in_ok-put-in-Choose t c = record {
+  advances = λ o m arguments x is.
+      rw c.in_ok-put-in-Choose.ensures.ok (advances-ticked _ c.tick.ensures (does-choose m c.args.left.now _ _ (rw c.in-Choose.is at is) c.requires.room c.requires.sound.typed c.tick.ensures));
 }
 
-pub run_set-returns-in_err-is_due : goal.run_set-returns-in_err-is_due
-run_set-returns-in_err-is_due t c = record { ends = λ m rest. ends-undue _ c.in_err-is_due.ensures c.from_residual.ensures.1 }
-
-pub run_set-returns-in_err-target : goal.run_set-returns-in_err-target
-run_set-returns-in_err-target t c = record { ends = λ m rest. ends-faulted _ c.in_ok-is_due.ensures (λ is. set-stuck-path m rest c.in_ok-is_due.ensures c.scope-scope.ensures.objects c.scope-scope.ensures.this c.scope-scope.ensures.arguments c.in_err-target.ensures is) c.from_residual-in_err-target.ensures.1 }
-
-pub run_set-returns-in_default : goal.run_set-returns-in_default
-run_set-returns-in_default t c = record {
-  ends = λ m rest.
-      let found = rw (c.scope-scope.ensures.objects, c.scope-scope.ensures.this, c.scope-scope.ensures.arguments, c.in_default.is) at c.in_ok-target.ensures in
-      set-null m rest found c.requires.room c.requires.sound.typed c.in_ok-is_due.ensures c.note.ensures;
-}
-
-pub run_set-returns-in_err-new : goal.run_set-returns-in_err-new
-run_set-returns-in_err-new t c = record {
-  ends = λ m rest.
-      let found = rw (c.scope-scope.ensures.objects, c.scope-scope.ensures.this, c.scope-scope.ensures.arguments, c.in-Some.is) at c.in_ok-target.ensures in
-      ends-faulted _ c.in_ok-is_due.ensures (λ is. set-stuck-value m rest c.in_ok-is_due.ensures found c.scope-scope.ensures.objects c.scope-scope.ensures.this c.scope-scope.ensures.arguments c.in_err-new.ensures is) c.from_residual-in_err-new.ensures.1;
-}
-
-pub run_set-returns : goal.run_set-returns
-run_set-returns t c = record {
-  ends = λ m rest.
-      let found = rw (c.scope-scope.ensures.objects, c.scope-scope.ensures.this, c.scope-scope.ensures.arguments, c.in-Some.is) at c.in_ok-target.ensures in
-      let gives = rw (c.scope-scope.ensures.objects, c.scope-scope.ensures.this, c.scope-scope.ensures.arguments) at c.in_ok-new.ensures in
-      c.write.ensures.ends _ _ (set-sets m rest found gives);
-}
-
-pub run_emit-returns-in_err-is_due : goal.run_emit-returns-in_err-is_due
-run_emit-returns-in_err-is_due t c = record { ends = λ m rest. ends-undue _ c.in_err-is_due.ensures c.from_residual.ensures.1 }
-
-pub run_emit-returns-in_err-values : goal.run_emit-returns-in_err-values
-run_emit-returns-in_err-values t c = record { ends = λ m rest. ends-faulted _ c.in_ok-is_due.ensures (λ is. emit-stuck m rest c.in_ok-is_due.ensures c.scope.ensures.objects c.scope.ensures.this c.scope.ensures.arguments c.in_err-values.ensures is) c.from_residual-in_err-values.ensures.1 }
-
-pub run_emit-returns : goal.run_emit-returns
-run_emit-returns t c = record {
-  ends = λ m rest.
-      let gives = rw (c.scope.ensures.objects, c.scope.ensures.this, c.scope.ensures.arguments, ← c.as_slice.ensures) at c.in_ok-values.ensures in
-      c.begin_typed.ensures.ends _ _ (emit-calls m rest gives) (emit-only m rest gives);
-}
-
-pub run_call-returns-in_err-is_due : goal.run_call-returns-in_err-is_due
-run_call-returns-in_err-is_due t c = record { ends = λ m rest. ends-undue _ c.in_err-is_due.ensures c.from_residual.ensures.1 }
-
-pub run_call-returns-in_err-target : goal.run_call-returns-in_err-target
-run_call-returns-in_err-target t c = record { ends = λ m rest. ends-faulted _ c.in_ok-is_due.ensures (λ is. call-stuck-path m rest c.in_ok-is_due.ensures c.scope-scope.ensures.objects c.scope-scope.ensures.this c.scope-scope.ensures.arguments c.in_err-target.ensures is) c.from_residual-in_err-target.ensures.1 }
-
-pub run_call-returns-in_default : goal.run_call-returns-in_default
-run_call-returns-in_default t c = record {
-  ends = λ m rest.
-      let found = rw (c.scope-scope.ensures.objects, c.scope-scope.ensures.this, c.scope-scope.ensures.arguments, c.in_default.is) at c.in_ok-target.ensures in
-      call-null m rest found c.requires.room c.requires.sound.typed c.in_ok-is_due.ensures c.note.ensures;
-}
-
-pub run_call-returns-in_err-values : goal.run_call-returns-in_err-values
-run_call-returns-in_err-values t c = record {
-  ends = λ m rest.
-      let found = rw (c.scope-scope.ensures.objects, c.scope-scope.ensures.this, c.scope-scope.ensures.arguments, c.in-Some.is) at c.in_ok-target.ensures in
-      ends-faulted _ c.in_ok-is_due.ensures (λ is. call-stuck-values m rest c.in_ok-is_due.ensures found c.scope-scope.ensures.objects c.scope-scope.ensures.this c.scope-scope.ensures.arguments c.in_err-values.ensures is) c.from_residual-in_err-values.ensures.1;
-}
-
-pub run_call-returns : goal.run_call-returns
-run_call-returns t c = record {
-  ends = λ m rest.
-      let found = rw (c.scope-scope.ensures.objects, c.scope-scope.ensures.this, c.scope-scope.ensures.arguments, c.in-Some.is) at c.in_ok-target.ensures in
-      let gives = rw (c.scope-scope.ensures.objects, c.scope-scope.ensures.this, c.scope-scope.ensures.arguments, ← c.as_slice.ensures) at c.in_ok-values.ensures in
-      c.begin_typed.ensures.ends _ _ (call-calls m rest found gives) (call-only m rest found gives);
-}
-
-pub run_if-returns-in_err-is_due : goal.run_if-returns-in_err-is_due
-run_if-returns-in_err-is_due t c = record { ends = λ m rest. ends-undue _ c.in_err-is_due.ensures c.from_residual.ensures.1 }
-
-pub run_if-returns-in_err-holds : goal.run_if-returns-in_err-holds
-run_if-returns-in_err-holds t c = record { ends = λ m rest. ends-faulted _ c.in_ok-is_due.ensures (λ is. if-stuck _ _ m rest c.in_ok-is_due.ensures c.scope.ensures.objects c.scope.ensures.this c.scope.ensures.arguments c.in_err-holds.ensures is) c.from_residual-in_err-holds.ensures.1 }
-
-pub run_if-returns : goal.run_if-returns
-run_if-returns t c = record {
-  ends = λ m rest.
-      let gives = rw (c.scope.ensures.objects, c.scope.ensures.this, c.scope.ensures.arguments) at c.in_ok-holds.ensures in
-      ends-after (if-goes _ _ m rest gives c.choose-chosen.ensures c.requires.room c.requires.sound.typed c.in_ok-tick.ensures) (c.run_statements.ensures.ends m rest);
-}
+pub carry_out-returns-in-Nothing : goal.carry_out-returns-in-Nothing
+carry_out-returns-in-Nothing t c = record { advances = λ o m arguments x is. advances-one _ (does-nothing m c.args.left.now _ (rw c.in-Nothing.is at is) c.requires.room c.requires.sound.typed c.requires.due c.note.ensures) }
 
 -- ---- writes
 

@@ -1,5 +1,4 @@
-use Rattle.std.proofs.Common.{◌≤◌, ◌+◌, ◌-◌, ◌*◌, ℕ, List, [], ◌∷◌, ◌++◌, drop}
-use Rattle.meta_model.specs.declared.object.Statement.{Statement}
+use Rattle.std.proofs.Common.{◌≤◌, ◌+◌, ◌-◌, ◌*◌, [], ◌∷◌}
 use Rattle.machine_state.specs.State.{Body, Emit}
 use Rattle.machine_rules.specs.Sound.{Sound}
 use Rattle.machine_rules.specs.Goes.{Goes, Same}
@@ -20,23 +19,8 @@ decreases-begin l = 6 * l.world.now.left + 0
 abbrev pub decreases-run_body : goal.decreases-run_body
 decreases-run_body l = 6 * l.world.now.left + 5
 
-abbrev pub decreases-run_statements : goal.decreases-run_statements
-decreases-run_statements l = 6 * l.world.now.left + 4
-
-abbrev pub decreases-run_statement : goal.decreases-run_statement
-decreases-run_statement l = 6 * l.world.now.left + 3
-
-abbrev pub decreases-run_set : goal.decreases-run_set
-decreases-run_set l = 6 * l.world.now.left + 1
-
-abbrev pub decreases-run_emit : goal.decreases-run_emit
-decreases-run_emit l = 6 * l.world.now.left + 2
-
-abbrev pub decreases-run_call : goal.decreases-run_call
-decreases-run_call l = 6 * l.world.now.left + 2
-
-abbrev pub decreases-run_if : goal.decreases-run_if
-decreases-run_if l = 6 * l.world.now.left + 2
+abbrev pub decreases-carry_out : goal.decreases-carry_out
+decreases-carry_out l = 6 * l.world.now.left + 2
 
 abbrev pub decreases-write : goal.decreases-write
 decreases-write l = 6 * l.world.now.left + 0
@@ -47,14 +31,17 @@ decreases-run_update l = 6 * l.world.now.left + 2
 abbrev pub decreases-notify : goal.decreases-notify
 decreases-notify l = 6 * l.world.now.left + 1
 
-abbrev pub invariant-run_statements-loop-statement : goal.invariant-run_statements-loop-statement
-invariant-run_statements-loop-statement l =
+abbrev pub invariant-run_body-loop-statement : goal.invariant-run_body-loop-statement
+invariant-run_body-loop-statement l =
     record {
-      goes : (m : ℕ) (rest : List Statement) → Goes l.self.meta l.self.depth l.height l.fn.world (Body l.object m l.arguments (l.statements ++ rest) ∷ []) l.world (Body l.object m l.arguments (drop l.statement-index l.statements ++ rest) ∷ []);
+      goes : Goes l.self.meta l.self.depth l.height l.fn.world (Body l.object l.method l.arguments l.statements ∷ []) l.world (Body l.object l.method l.arguments l.left ∷ []);
       same : Same l.fn.world l.world;
       fewer : l.world.left ≤ l.fn.world.left;
       sound : Sound l.self.meta l.world.objects l.world.connections;
     }
+
+abbrev pub decreases-run_body-loop-statement : goal.decreases-run_body-loop-statement
+decreases-run_body-loop-statement l = l.world.left
 
 abbrev pub invariant-run_emission-loop-connection : goal.invariant-run_emission-loop-connection
 invariant-run_emission-loop-connection l =

@@ -1,0 +1,124 @@
+-- From one state at most one follows by a rule.
+use Rattle.std.proofs.Common.{◌≡◌, ℕ, List, [], ◌∷◌, length, take, Option, Some, None, slice_get, slice_set, refl, sym, ap, ◌∙◌, subst}
+use Rattle.signatures.specs.declared.value.Value.{Value}
+use Rattle.meta_model.specs.declared.object.MetaMethod.{MetaMethod}
+use Rattle.meta_model.specs.declared.object.MetaObject.{MetaObject}
+use Rattle.meta_model.specs.declared.object.MetaProperty.{MetaProperty}
+use Rattle.meta_model.specs.declared.object.Statement.{Statement}
+use Rattle.meta_model.specs.declared.object.Work.TheVariants.{Signal}
+use Rattle.meta_model.specs.Loaded.{Loaded}
+use Rattle.meta_model.specs.Members.{IsClass, IsMethod}
+use Rattle.object_tree.specs.declared.object.Object.{Object}
+use Rattle.object_tree.specs.Objects.{written}
+use Rattle.machine_state.specs.declared.connections.Connection.{Connection}
+use Rattle.machine_state.specs.declared.entry.Entry.TheVariants as entry
+use Rattle.machine_state.specs.Connections.{next_used}
+use Rattle.machine_state.specs.Objects.{shown}
+use Rattle.machine_state.specs.State.{State, Place, Activation, Body, Emit, Update}
+use Rattle.machine_rules.specs.Doings.{Doing, Write, Begin, Choose, Nothing}
+use Rattle.machine_rules.specs.Rules.{Rule, RuleAt, BodyRule, StatementRule, Does, EmitRule, Uses, UpdateRule, Notifies, Begins, Writes, IsNotified, changed, unchanged, silent, begun, pushed}
+use Rattle.machine_rules.proofs.Fields.{some-is, class-unique, method-unique}
+
+-- two methods of one number of one object's class
+method-is : {p : Loaded} {x y : Object} {m n : ℕ} {a b : MetaMethod} → x ≡ y → m ≡ n → IsMethod p x.class m a → IsMethod p y.class n b → a ≡ b
+method-is {p} {x} {y} {m} {n} {a} {b} object_is number_is f g =
+    let At : Object → Type 0 = λ z. IsMethod p z.class n b in
+    let Numbered : ℕ → Type 0 = λ k. IsMethod p x.class k b in
+    method-unique f (subst Numbered (sym number_is) (subst At (sym object_is) g))
+
+class-is : {p : Loaded} {x y : Object} {a b : MetaObject} → x ≡ y → IsClass p x.class a → IsClass p y.class b → a ≡ b
+class-is {p} {b = b} object_is f g = let At : Object → Type 0 = λ z. IsClass p z.class b in class-unique f (subst At (sym object_is) g)
+
+property-is : (q : ℕ) {k l : MetaObject} {a b : MetaProperty} → k ≡ l → slice_get k.properties q ≡ Some a → slice_get l.properties q ≡ Some b → a ≡ b
+property-is q {b = b} class_is f g = let At : MetaObject → Type 0 = λ c. slice_get c.properties q ≡ Some b in some-is f (subst At (sym class_is) g)
+
+value-is : (q : ℕ) {x y : Object} {a b : Value} → x ≡ y → slice_get x.values q ≡ Some a → slice_get y.values q ≡ Some b → a ≡ b
+value-is q {b = b} object_is f g = let At : Object → Type 0 = λ z. slice_get z.values q ≡ Some b in some-is f (subst At (sym object_is) g)
+
+pub begins-one : {p : Loaded} {s t u : State} {below : List Activation} {o m : ℕ} {arguments : List Value} → Begins p s below o m arguments t → Begins p s below o m arguments u → t ≡ u
+begins-one {s = s} {below = below} {o = o} {m = m} {arguments = arguments} a b =
+    let object_is : a.object ≡ b.object = some-is a.is_object b.is_object in
+    let method_is : a.method ≡ b.method = method-is object_is refl a.is_method b.is_method in
+    a.gives
+    ∙ ap (λ (x : Object). begun s below o x m a.method arguments a.method.work) object_is
+    ∙ ap (λ (k : MetaMethod). begun s below o b.object m k arguments k.work) method_is
+    ∙ sym b.gives
+
+notified-one : {old new : Value} {place : Place} {notify : Option ℕ} {ps qs : List Place} → IsNotified old new place notify ps → IsNotified old new place notify qs → ps ≡ qs
+notified-one (changed h) (changed g) = refl
+notified-one (changed h) (unchanged g) = absurd (h g)
+notified-one (unchanged h) (changed g) = absurd (g h)
+notified-one (unchanged h) (unchanged g) = refl
+notified-one silent silent = refl
+
+pub writes-one : {p : Loaded} {s t u : State} {below : List Activation} {o q : ℕ} {new : Value} → Writes p s below o q new t → Writes p s below o q new u → t ≡ u
+writes-one {s = s} {below = below} {o = o} {q = q} {new = new} a b =
+    let object_is : a.object ≡ b.object = some-is a.is_object b.is_object in
+    let class_is : a.class ≡ b.class = class-is object_is a.is_class b.is_class in
+    let property_is : a.property ≡ b.property = property-is _ class_is a.is_property b.is_property in
+    let old_is : a.old ≡ b.old = value-is _ object_is a.is_old b.is_old in
+    let place : Place = record { object = o; property = q } in
+    let Of : Value → MetaProperty → Type 0 = λ v k. IsNotified v new place k.notify b.places in
+    let notified : Of a.old a.property = subst (λ (v : Value). Of v a.property) (sym old_is) (subst (λ (k : MetaProperty). Of b.old k) (sym property_is) b.notified) in
+    let places_are : a.places ≡ b.places = notified-one a.notified notified in
+    let state_of : Object → MetaProperty → List Place → State = λ x k ps. pushed (record s { objects = slice_set s.objects o (written q new x) }) (Update ps) below (λ d. entry.Written d x.name k.name (shown s.objects new)) in
+    a.gives
+    ∙ ap (λ (x : Object). state_of x a.property a.places) object_is
+    ∙ ap (λ (k : MetaProperty). state_of b.object k a.places) property_is
+    ∙ ap (λ (ps : List Place). state_of b.object b.property ps) places_are
+    ∙ sym b.gives
+
+does-one : (p : Loaded) (s : State) (o m : ℕ) (arguments : List Value) (rest : List Statement) (below : List Activation) (d : Doing) (t u : State) → Does p s o m arguments rest below d t → Does p s o m arguments rest below d u → t ≡ u
+does-one p s o m arguments rest below (Write x q new) t u a b = writes-one a b
+does-one p s o m arguments rest below (Begin x n given) t u a b = begins-one a b
+does-one p s o m arguments rest below (Choose block) t u a b = a ∙ sym b
+does-one p s o m arguments rest below Nothing t u a b = a ∙ sym b
+
+body-one : (p : Loaded) (s : State) (o m : ℕ) (arguments : List Value) (below : List Activation) (t u : State) (left : List Statement) → BodyRule p s o m arguments below t left → BodyRule p s o m arguments below u left → t ≡ u
+body-one p s o m arguments below t u [] a b = a ∙ sym b
+body-one p s o m arguments below t u (x ∷ rest) a b =
+    let both : Some a.what ≡ Some b.what = sym a.is ∙ b.is in
+    let same : a.what ≡ b.what = cc both in
+    let Done : Doing → Type 0 = λ d. Does p s o m arguments rest below d u in
+    does-one p s o m arguments rest below a.what t u a.does (subst Done (sym same) b.does)
+
+uses-one : {p : Loaded} {s t u : State} {below : List Activation} {c : Connection} {arguments : List Value} → Uses p s below c arguments t → Uses p s below c arguments u → t ≡ u
+uses-one {s = s} {below = below} {c = c} {arguments = arguments} a b =
+    let receiver_is : a.receiver ≡ b.receiver = some-is a.is_receiver b.is_receiver in
+    let method_is : a.method ≡ b.method = method-is receiver_is refl a.is_method b.is_method in
+    let state_of : Object → MetaMethod → State = λ x k. begun s below c.receiver x c.method k (take (length k.kinds) arguments) k.work in
+    a.gives ∙ ap (λ (x : Object). state_of x a.method) receiver_is ∙ ap (λ (k : MetaMethod). state_of b.receiver k) method_is ∙ sym b.gives
+
+emit-one : (p : Loaded) (s : State) (o g : ℕ) (arguments : List Value) (last : ℕ) (below : List Activation) (t u : State) (found : Option Connection) → EmitRule p s o g arguments last below t found → EmitRule p s o g arguments last below u found → t ≡ u
+emit-one p s o g arguments last below t u None a b = a ∙ sym b
+emit-one p s o g arguments last below t u (Some c) a b = uses-one a b
+
+notifies-one : {p : Loaded} {s t u : State} {below : List Activation} {place : Place} → Notifies p s below place t → Notifies p s below place u → t ≡ u
+notifies-one {s = s} {below = below} {place = place} a b =
+    let object_is : a.object ≡ b.object = some-is a.is_object b.is_object in
+    let class_is : a.class ≡ b.class = class-is object_is a.is_class b.is_class in
+    let property_is : a.property ≡ b.property = property-is _ class_is a.is_property b.is_property in
+    let both : Some a.signal ≡ Some b.signal = sym a.is_signal ∙ ap (λ (k : MetaProperty). k.notify) property_is ∙ b.is_signal in
+    let signal_is : a.signal ≡ b.signal = cc both in
+    let present_is : a.present ≡ b.present = value-is _ object_is a.is_present b.is_present in
+    let method_is : a.method ≡ b.method = method-is object_is signal_is a.is_method b.is_method in
+    let state_of : Object → ℕ → Value → MetaMethod → State = λ x g v k. begun s below place.object x g k (take (length k.kinds) (v ∷ [])) Signal in
+    a.gives
+    ∙ ap (λ (x : Object). state_of x a.signal a.present a.method) object_is
+    ∙ ap (λ (g : ℕ). state_of b.object g a.present a.method) signal_is
+    ∙ ap (λ (v : Value). state_of b.object b.signal v a.method) present_is
+    ∙ ap (λ (k : MetaMethod). state_of b.object b.signal b.present k) method_is
+    ∙ sym b.gives
+
+update-one : (p : Loaded) (s : State) (below : List Activation) (t u : State) (places : List Place) → UpdateRule p s below t places → UpdateRule p s below u places → t ≡ u
+update-one p s below t u [] a b = a ∙ sym b
+update-one p s below t u (place ∷ places) a b = notifies-one a b
+
+stack-one : (p : Loaded) (s t u : State) (stack : List Activation) → RuleAt p s t stack → RuleAt p s u stack → t ≡ u
+stack-one p s t u [] a b = absurd a
+stack-one p s t u (Body o m arguments left ∷ below) a b = body-one p s o m arguments below t u left a b
+stack-one p s t u (Emit o g arguments used last ∷ below) a b = emit-one p s o g arguments last below t u (next_used s.objects s.connections o g used last) a b
+stack-one p s t u (Update places ∷ below) a b = update-one p s below t u places a b
+
+pub rule-one : (p : Loaded) (s t u : State) → Rule p s t → Rule p s u → t ≡ u
+rule-one p s t u a b = stack-one p s t u s.stack a b

@@ -1,0 +1,127 @@
+-- What a statement does, from what the code found out.
+use Rattle.std.proofs.Common.{◌≡◌, ◌≢◌, ℕ, Bool, true, false, List, Result, Ok, Err, Option, Some, None, refl, sym, ap, ◌∙◌, subst}
+use Rattle.std.specs.Option.{option_map}
+use Rattle.std.specs.Result.{IsErrAnd}
+use Rattle.signatures.specs.declared.value.Value.{Value}
+use Rattle.signatures.specs.declared.value.Value.TheVariants as value
+use Rattle.expressions.specs.declared.evaluation.EvalFault.{EvalFault}
+use Rattle.expressions.specs.declared.evaluation.EvalFault.TheVariants.{BadType, Memory}
+use Rattle.expressions.specs.Evaluation.{Evaluates, EvaluatesAll}
+use Rattle.texts.specs.declared.syntax.Expr.{Expr}
+use Rattle.meta_model.specs.declared.object.MetaPath.{MetaPath}
+use Rattle.meta_model.specs.declared.object.Statement.{Statement}
+use Rattle.meta_model.specs.declared.object.Statement.TheOpen as layer
+use Rattle.meta_model.specs.declared.object.Statement.TheViews.{out-Statement}
+use Rattle.object_tree.specs.declared.object.Object.{Object}
+use Rattle.machine_rules.specs.declared.doing.Doing.{Doing as Coded}
+use Rattle.machine_rules.specs.Doings.{Doing, Write, Begin, Choose, Nothing, on_object, chosen_by, doing}
+use Rattle.machine_rules.specs.Paths.{path_value, value_of, values_of}
+use Rattle.machine_rules.specs.Coded.{Yields, chosen_of}
+use Rattle.machine_rules.specs.Goes.{Finds, Judges}
+
+-- a path that leads to no object
+no-object : (act : ℕ → Option Doing) (found : Option Value) → ((r : Option ℕ) → found ≢ Some (value.Ref r)) → on_object act found ≡ None
+no-object act None none = refl
+no-object act (Some (value.Ref r)) none = absurd (none r refl)
+no-object act (Some (value.Int n)) none = refl
+no-object act (Some (value.Bool b)) none = refl
+no-object act (Some (value.Text t)) none = refl
+
+-- a condition that is no truth value
+no-truth : (block other : List Statement) (found : Option Value) → ((b : Bool) → found ≢ Some (value.Bool b)) → chosen_by block other found ≡ None
+no-truth block other None none = refl
+no-truth block other (Some (value.Bool b)) none = absurd (none b refl)
+no-truth block other (Some (value.Int n)) none = refl
+no-truth block other (Some (value.Text t)) none = refl
+no-truth block other (Some (value.Ref r)) none = refl
+
+-- what a call that failed leaves behind a `?`
+yields-left : (found : Option Doing) (e : EvalFault) (r : Result Coded EvalFault) → (e ≡ BadType → found ≡ None) → IsErrAnd r (λ y. y ≡ e) → Yields found r
+yields-left found e (Ok d) lacks is = absurd is
+yields-left found e (Err BadType) lacks is = lacks (sym is)
+yields-left found e (Err Memory) lacks is = tt
+
+-- no value of an expression, or of expressions
+no-value : {X : Type 0} (act : X → Doing) (found : Option X) → found ≡ None → option_map act found ≡ None
+no-value act found none = ap (option_map act) none
+
+module _ (objects : List Object) (o : ℕ) (arguments : List Value) where
+  -- ---- a path to an object, and what is done with it
+
+  module _ (act : ℕ → Option Doing) (path : MetaPath) where
+    abbrev found : Option Value
+    found = path_value objects o arguments path
+
+    pub no-target : (f : EvalFault) (r : Result Coded EvalFault) → Finds (path_value objects o arguments path) (Err f) → IsErrAnd r (λ y. y ≡ f) → Yields (on_object act (path_value objects o arguments path)) r
+    no-target f r finds is =
+        let At : EvalFault → Type 0 = λ g. Finds found (Err g) in
+        yields-left (on_object act found) f r (λ bad. no-object act found (subst At bad finds)) is
+
+    pub at-null : path_value objects o arguments path ≡ Some (value.Ref None) → on_object act (path_value objects o arguments path) ≡ Some Nothing
+    at-null is = ap (on_object act) is
+
+    pub at-object : {x : ℕ} {d : Option Doing} → path_value objects o arguments path ≡ Some (value.Ref (Some x)) → act x ≡ d → on_object act (path_value objects o arguments path) ≡ d
+    at-object is does = ap (on_object act) is ∙ does
+
+  -- ---- the four statements
+
+  abbrev set-act : ℕ → Expr MetaPath → ℕ → Option Doing
+  set-act q e x = option_map (λ (new : Value). Write x q new) (value_of objects o arguments e)
+
+  abbrev call-act : ℕ → List (Expr MetaPath) → ℕ → Option Doing
+  call-act n es x = option_map (λ (given : List Value). Begin x n given) (values_of objects o arguments es)
+
+  pub set-no-target : (path : MetaPath) (q : ℕ) (e : Expr MetaPath) (f : EvalFault) (r : Result Coded EvalFault) → Finds (path_value objects o arguments path) (Err f) → IsErrAnd r (λ y. y ≡ f) → Yields (doing objects o arguments (layer.Set path q e)) r
+  set-no-target path q e f r finds is = no-target (set-act q e) path f r finds is
+
+  pub set-nothing : (path : MetaPath) (q : ℕ) (e : Expr MetaPath) → path_value objects o arguments path ≡ Some (value.Ref None) → doing objects o arguments (layer.Set path q e) ≡ Some Nothing
+  set-nothing path q e is = at-null (set-act q e) path is
+
+  pub set-no-value : (path : MetaPath) (q : ℕ) (e : Expr MetaPath) (x : ℕ) (f : EvalFault) (r : Result Coded EvalFault) → path_value objects o arguments path ≡ Some (value.Ref (Some x)) → Evaluates (value_of objects o arguments e) (Err f) → IsErrAnd r (λ y. y ≡ f) → Yields (doing objects o arguments (layer.Set path q e)) r
+  set-no-value path q e x f r there evaluates is =
+      let At : EvalFault → Type 0 = λ g. Evaluates (value_of objects o arguments e) (Err g) in
+      yields-left (doing objects o arguments (layer.Set path q e)) f r
+      (λ bad. at-object (set-act q e) path there (no-value (λ (new : Value). Write x q new) (value_of objects o arguments e) (subst At bad evaluates))) is
+
+  pub set-writes : (path : MetaPath) (q : ℕ) (e : Expr MetaPath) {x : ℕ} {new : Value} → path_value objects o arguments path ≡ Some (value.Ref (Some x)) → value_of objects o arguments e ≡ Some new → doing objects o arguments (layer.Set path q e) ≡ Some (Write x q new)
+  set-writes path q e {x} there gives = at-object (set-act q e) path there (ap (option_map (λ (new : Value). Write x q new)) gives)
+
+  pub emit-no-values : (g : ℕ) (es : List (Expr MetaPath)) (f : EvalFault) (r : Result Coded EvalFault) → EvaluatesAll (values_of objects o arguments es) (Err f) → IsErrAnd r (λ y. y ≡ f) → Yields (doing objects o arguments (layer.Emit g es)) r
+  emit-no-values g es f r evaluates is =
+      let At : EvalFault → Type 0 = λ h. EvaluatesAll (values_of objects o arguments es) (Err h) in
+      yields-left (doing objects o arguments (layer.Emit g es)) f r
+      (λ bad. no-value (λ (given : List Value). Begin o g given) (values_of objects o arguments es) (subst At bad evaluates)) is
+
+  pub emit-begins : (g : ℕ) (es : List (Expr MetaPath)) {given : List Value} → values_of objects o arguments es ≡ Some given → doing objects o arguments (layer.Emit g es) ≡ Some (Begin o g given)
+  emit-begins g es gives = ap (option_map (λ (given : List Value). Begin o g given)) gives
+
+  pub call-no-target : (path : MetaPath) (n : ℕ) (es : List (Expr MetaPath)) (f : EvalFault) (r : Result Coded EvalFault) → Finds (path_value objects o arguments path) (Err f) → IsErrAnd r (λ y. y ≡ f) → Yields (doing objects o arguments (layer.Call path n es)) r
+  call-no-target path n es f r finds is = no-target (call-act n es) path f r finds is
+
+  pub call-nothing : (path : MetaPath) (n : ℕ) (es : List (Expr MetaPath)) → path_value objects o arguments path ≡ Some (value.Ref None) → doing objects o arguments (layer.Call path n es) ≡ Some Nothing
+  call-nothing path n es is = at-null (call-act n es) path is
+
+  pub call-no-values : (path : MetaPath) (n : ℕ) (es : List (Expr MetaPath)) (x : ℕ) (f : EvalFault) (r : Result Coded EvalFault) → path_value objects o arguments path ≡ Some (value.Ref (Some x)) → EvaluatesAll (values_of objects o arguments es) (Err f) → IsErrAnd r (λ y. y ≡ f) → Yields (doing objects o arguments (layer.Call path n es)) r
+  call-no-values path n es x f r there evaluates is =
+      let At : EvalFault → Type 0 = λ g. EvaluatesAll (values_of objects o arguments es) (Err g) in
+      yields-left (doing objects o arguments (layer.Call path n es)) f r
+      (λ bad. at-object (call-act n es) path there (no-value (λ (given : List Value). Begin x n given) (values_of objects o arguments es) (subst At bad evaluates))) is
+
+  pub call-begins : (path : MetaPath) (n : ℕ) (es : List (Expr MetaPath)) {x : ℕ} {given : List Value} → path_value objects o arguments path ≡ Some (value.Ref (Some x)) → values_of objects o arguments es ≡ Some given → doing objects o arguments (layer.Call path n es) ≡ Some (Begin x n given)
+  call-begins path n es {x} there gives = at-object (call-act n es) path there (ap (option_map (λ (given : List Value). Begin x n given)) gives)
+
+  pub if-no-truth : (e : Expr MetaPath) (block other : List Statement) (f : EvalFault) (r : Result Coded EvalFault) → Judges (value_of objects o arguments e) (Err f) → IsErrAnd r (λ y. y ≡ f) → Yields (doing objects o arguments (layer.If e block other)) r
+  if-no-truth e block other f r judges is =
+      let At : EvalFault → Type 0 = λ g. Judges (value_of objects o arguments e) (Err g) in
+      yields-left (doing objects o arguments (layer.If e block other)) f r (λ bad. no-truth block other (value_of objects o arguments e) (subst At bad judges)) is
+
+  pub if-chooses : (e : Expr MetaPath) (block other chosen : List Statement) (holds : Bool) → value_of objects o arguments e ≡ Some (value.Bool holds) → chosen ≡ chosen_of holds block other → doing objects o arguments (layer.If e block other) ≡ Some (Choose chosen)
+  if-chooses e block other chosen holds gives is = ap (chosen_by block other) gives ∙ chosen-is holds ∙ ap (λ (l : List Statement). Some (Choose l)) (sym is)
+    where
+      chosen-is : (holds : Bool) → chosen_by block other (Some (value.Bool holds)) ≡ Some (Choose (chosen_of holds block other))
+      chosen-is true = refl
+      chosen-is false = refl
+
+  -- what is done by a statement is what its one layer does
+  pub yields-out : (s : Statement) (x : layer.Statement-F Statement) (r : Result Coded EvalFault) → out-Statement s ≡ x → Yields (doing objects o arguments x) r → Yields (doing objects o arguments (out-Statement s)) r
+  yields-out s x r is yields = let F : layer.Statement-F Statement → Type 0 = λ y. Yields (doing objects o arguments y) r in subst F (sym is) yields

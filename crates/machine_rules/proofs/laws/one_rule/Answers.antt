@@ -1,0 +1,5 @@
+use Rattle.machine_rules.proofs.OneRule.{rule-one}
+use Rattle.machine_rules.proofs.laws.one_rule.Goals as goal
+
+pub returns : goal.returns
+returns c = rule-one

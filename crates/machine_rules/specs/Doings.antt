@@ -1,0 +1,48 @@
+-- What the statements of a body do (docs/machine.md, "Rules").
+use Rattle.std.specs.Prelude.{◌≡◌, ℕ, true, false, List, Option, None, Some, Result, Ok, Err}
+use Rattle.std.specs.Option.{option_map}
+use Rattle.signatures.specs.declared.value.Value.{Value}
+use Rattle.signatures.specs.declared.value.Value.TheVariants as value
+use Rattle.meta_model.specs.declared.object.Statement.{Statement}
+use Rattle.meta_model.specs.declared.object.Statement.TheOpen as layer
+use Rattle.object_tree.specs.declared.object.Object.{Object}
+use Rattle.machine_rules.specs.Paths.{path_value, value_of, values_of}
+
+-- what one statement does
+pub data Doing : Type 0 where
+  -- a property of an object is written
+  Write : (object property : ℕ) (value : Value) → Doing
+  -- a method of an object begins
+  Begin : (object method : ℕ) (arguments : List Value) → Doing
+  -- these statements come next
+  Choose : (block : List Statement) → Doing
+  -- nothing, since a path leads to null
+  Nothing : Doing
+
+-- what is done with the object that a path leads to; on null nothing is done, and no expression is evaluated
+abbrev pub on_object : (ℕ → Option Doing) → Option Value → Option Doing
+on_object act None = None
+on_object act (Some (value.Ref None)) = Some Nothing
+on_object act (Some (value.Ref (Some x))) = act x
+on_object act (Some (value.Int n)) = None
+on_object act (Some (value.Bool b)) = None
+on_object act (Some (value.Text t)) = None
+
+-- the block that a condition chooses
+abbrev pub chosen_by : List Statement → List Statement → Option Value → Option Doing
+chosen_by block other None = None
+chosen_by block other (Some (value.Bool true)) = Some (Choose block)
+chosen_by block other (Some (value.Bool false)) = Some (Choose other)
+chosen_by block other (Some (value.Int n)) = None
+chosen_by block other (Some (value.Text t)) = None
+chosen_by block other (Some (value.Ref r)) = None
+
+-- What a statement of a body of object o does. `None`: it lacks a value that it needs, or its path leads to no object,
+-- or its condition is no truth value.
+abbrev pub doing : List Object → ℕ → List Value → layer.Statement-F Statement → Option Doing
+doing objects o arguments (layer.Set path q e) =
+    on_object (λ x. option_map (λ new. Write x q new) (value_of objects o arguments e)) (path_value objects o arguments path)
+doing objects o arguments (layer.Emit g es) = option_map (λ given. Begin o g given) (values_of objects o arguments es)
+doing objects o arguments (layer.Call path n es) =
+    on_object (λ x. option_map (λ given. Begin x n given) (values_of objects o arguments es)) (path_value objects o arguments path)
+doing objects o arguments (layer.If e block other) = chosen_by block other (value_of objects o arguments e)
