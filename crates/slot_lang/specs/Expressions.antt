@@ -8,13 +8,16 @@
 --   term   = factor {"*" factor}
 --   factor = ("!" | "-") factor | unsigned | path | "(" expr ")"
 --   path   = ("this" | Name) {"." Name}
-use Rattle.std.specs.Prelude.{ℕ, ◌≡◌, List, [], ◌∷◌}
+use Rattle.std.specs.Prelude.{ℕ, ◌≡◌, List, [], ◌∷◌, Result, MatchResult}
 use Rattle.signatures.specs.declared.word.Word.TheVariants as word
 use Rattle.texts.specs.Cursor.{NotAt}
+use Rattle.texts.specs.Reading.{Reads}
 use Rattle.texts.specs.Literals.{UnsignedReading, token_of_unsigned, tree_of_unsigned, literal_value}
 use Rattle.slot_lang.specs.Precedence.{symbol_of, prefix_symbol_of, Operator, NoOperator}
 use Rattle.slot_lang.specs.declared.precedence.Precedence.{Precedence}
 use Rattle.slot_lang.specs.declared.precedence.Precedence.TheVariants as precedence
+use Rattle.texts.specs.declared.fault.ParseFault.{ParseFault}
+use Rattle.texts.specs.declared.fault.ParseFault.TheVariants.{Syntax}
 use Rattle.texts.specs.declared.symbol.Symbol.TheVariants.{Dot, Open, Close}
 use Rattle.texts.specs.declared.syntax.Expr.{Expr}
 use Rattle.texts.specs.declared.syntax.Expr.TheVariants as tree
@@ -196,3 +199,33 @@ pub record IsExpr (tokens : List Token) (e : Expr Path) : Type 0 where
   pub reading : Expression
   pub spelled : tokens ≡ spell_expression reading []
   pub tree : tree_of_expression reading ≡ e
+
+-- tokens are an expression in at most one way
+abbrev pub OneExpression : Type 0
+OneExpression = (tokens : List Token) (a b : Expr Path) → IsExpr tokens a → IsExpr tokens b → a ≡ b
+
+-- ---- what the readers answer
+
+abbrev pub Answer : Type 0
+Answer = Result (Expr Path) ParseFault
+
+abbrev pub ReadsExpression : List Token → Answer → List Token → Type 0
+ReadsExpression before result after = Reads spell_expression tree_of_expression EndsExpression before result after
+
+abbrev pub ReadsComparison : List Token → Answer → List Token → Type 0
+ReadsComparison before result after = Reads spell_comparison tree_of_comparison EndsComparison before result after
+
+-- what follows an operator in front
+abbrev pub ReadsPrefixed : Unary → List Token → Answer → List Token → Type 0
+ReadsPrefixed operator before result after =
+    Reads spell_factor (λ f. tree.Unary operator (tree_of_factor f)) EndsFactor before result after
+
+-- what follows the root of a path
+abbrev pub ReadsPathFrom : Root → List Token → Answer → List Token → Type 0
+ReadsPathFrom r before result after =
+    Reads spell_names (λ names. tree.Path (record { root = r; properties = names })) EndsFactor before result after
+
+-- the tree itself, where `)` comes next, and a fault of syntax where it doesn't
+abbrev pub Closes : Expr Path → List Token → Answer → List Token → Type 0
+Closes inner before result after =
+    MatchResult result (λ e. (e ≡ inner) × (before ≡ token.Symbol Close ∷ after)) (λ e. (e ≡ Syntax) × NotAt Close before)

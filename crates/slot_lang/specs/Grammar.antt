@@ -6,11 +6,14 @@
 --         | "emit" Name "(" [expr {"," expr}] ")" ";"
 --         | "call" path "." Name "(" [expr {"," expr}] ")" ";"
 --         | "if" "(" expr ")" block ["else" block]
-use Rattle.std.specs.Prelude.{ℕ, ◌≡◌, List, [], ◌∷◌, map}
+use Rattle.std.specs.Prelude.{ℕ, ◌≡◌, List, [], ◌∷◌, map, Result}
 use Rattle.signatures.specs.declared.word.Word.TheVariants as word
 use Rattle.texts.specs.Cursor.{NotAtWord}
 use Rattle.slot_lang.specs.Expressions.{Expression, spell_expression, spell_group, spell_path, tree_of_expression}
 use Rattle.texts.specs.Lists.{spell_listed}
+use Rattle.texts.specs.Reading.{Reads, EndsAnywhere}
+use Rattle.texts.specs.declared.fault.ParseFault.{ParseFault}
+use Rattle.texts.specs.declared.syntax.Expr.{Expr}
 use Rattle.texts.specs.declared.symbol.Symbol.TheVariants.{Dot, Assign, Semicolon, Open, OpenBrace, CloseBrace}
 use Rattle.texts.specs.declared.syntax.Path.{Path}
 use Rattle.texts.specs.declared.syntax.Stmt.{Stmt}
@@ -142,3 +145,15 @@ pub record IsBody (tokens : List Token) (body : List Stmt) : Type 0 where
   pub reading : Body
   pub spelled : tokens ≡ spell_block reading []
   pub tree : tree_of_block reading ≡ body
+
+-- tokens are a slot's body in at most one way
+abbrev pub OneBody : Type 0
+OneBody = (tokens : List Token) (a b : List Stmt) → IsBody tokens a → IsBody tokens b → a ≡ b
+
+-- ---- what the readers answer
+
+abbrev pub ReadsAssignment : List Token → Result Stmt ParseFault → List Token → Type 0
+ReadsAssignment before result after = Reads spell_assignment tree_of_assignment EndsAnywhere before result after
+
+abbrev pub ReadsArguments : List Token → Result (List (Expr Path)) ParseFault → List Token → Type 0
+ReadsArguments before result after = Reads spell_arguments (map tree_of_expression) EndsAnywhere before result after

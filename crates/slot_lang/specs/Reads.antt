@@ -1,5 +1,5 @@
 -- What the reader answers for the tokens of a body (docs/language.md, "Slot bodies" and "Limits").
-use Rattle.std.specs.Prelude.{ℕ, List, Result, Ok, Err, Option, Some, None, All}
+use Rattle.std.specs.Prelude.{ℕ, ◌≡◌, ◌⊎◌, List, Result, Ok, Err, Option, Some, None, All}
 use Rattle.slot_lang.specs.Bodies.{signatures_in}
 use Rattle.slot_lang.specs.Grammar.{IsBody}
 use Rattle.slot_lang.specs.declared.fault.BodyFault.{BodyFault}
@@ -55,3 +55,8 @@ ReadsBody tokens (Err Syntax) = IsOutsideGrammar tokens
 ReadsBody tokens (Err BadType) = HasBadType tokens
 ReadsBody tokens (Err TooMany) = HasTooManyParameters tokens
 ReadsBody tokens (Err Memory) = Unit {0}
+
+-- tokens have at most one answer, want of memory aside
+abbrev pub OneAnswer : Type 0
+OneAnswer =
+    (tokens : List Token) (a b : Result (List Stmt) BodyFault) → ReadsBody tokens a → ReadsBody tokens b → (a ≡ Err Memory) ⊎ (b ≡ Err Memory) ⊎ (a ≡ b)

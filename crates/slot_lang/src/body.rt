@@ -1,11 +1,9 @@
 //! Statements and blocks.
 
-ghost use Rattle.std.specs.Prelude.{◌≡◌, ◌<◌, ◌≤◌, List, length, map, IfOk, OnOk, Err, Result, ◌⊎◌};
+ghost use Rattle.std.specs.Prelude.{◌≡◌, ◌<◌, ◌≤◌, List, length, IfOk, OnOk, Err};
 ghost use Rattle.slot_lang.specs.Expressions.{tree_of_expression};
-ghost use Rattle.slot_lang.specs.Grammar.{IsBody, spell_value, spell_arguments, spell_condition, spell_assignment, tree_of_assignment, spell_emission, tree_of_emission, spell_call, tree_of_call, spell_choice, tree_of_choice, spell_statement, tree_of_statement, spell_else, tree_of_else, spell_block, tree_of_block, EndsStatement};
-ghost use Rattle.slot_lang.specs.Reads.{ReadsBody};
-ghost use Rattle.slot_lang.specs.declared.fault.BodyFault.{BodyFault};
-ghost use Rattle.slot_lang.specs.declared.fault.BodyFault.TheVariants.{Memory};
+ghost use Rattle.slot_lang.specs.Grammar.{IsBody, OneBody, ReadsAssignment, ReadsArguments, spell_value, spell_condition, spell_emission, tree_of_emission, spell_call, tree_of_call, spell_choice, tree_of_choice, spell_statement, tree_of_statement, spell_else, tree_of_else, spell_block, tree_of_block, EndsStatement};
+ghost use Rattle.slot_lang.specs.Reads.{ReadsBody, OneAnswer};
 ghost use Rattle.texts.specs.Reading.{Reads, EndsAnywhere};
 ghost use Rattle.texts.specs.declared.fault.ParseFault.TheVariants.{Syntax};
 ghost use Rattle.texts.specs.declared.syntax.Stmt.{Stmt};
@@ -43,7 +41,7 @@ pub fn parse_body(alloc: Global, tokens: &[Token]) -> Result<Body, BodyFault>
 
 /// Tokens have at most one answer as a body, want of memory aside.
 pub fn one_answer()
-    ensures { (tokens : List Token) → (a b : Result (List Stmt) BodyFault) → ReadsBody tokens a → ReadsBody tokens b → (a ≡ Err Memory) ⊎ (b ≡ Err Memory) ⊎ (a ≡ b) }
+    ensures { OneAnswer }
 {}
 
 /// The body that all of the tokens are.
@@ -62,7 +60,7 @@ fn whole_body(alloc: Global, tokens: &[Token]) -> Result<Body, ParseFault>
 
 /// Tokens are a slot's body in at most one way.
 pub fn one_body()
-    ensures { (tokens : List Token) → (a b : List Stmt) → IsBody tokens a → IsBody tokens b → a ≡ b }
+    ensures { OneBody }
 {}
 
 /// Takes the block that has to come next: `{`, statements and `}`.
@@ -138,7 +136,7 @@ fn condition(cursor: &mut Cursor) -> Result<Expr<Path>, ParseFault>
 
 /// What follows `set`.
 fn assignment(cursor: &mut Cursor) -> Result<Stmt, ParseFault>
-    ensures reads { Reads spell_assignment tree_of_assignment EndsAnywhere cursor.old result cursor.new }
+    ensures reads { ReadsAssignment cursor.old result cursor.new }
     ensures shorter { OnOk result (length cursor.new < length cursor.old) }
 {
     let (path, property) = target(cursor)?;
@@ -179,7 +177,7 @@ fn value(cursor: &mut Cursor) -> Result<Expr<Path>, ParseFault>
 
 /// `"(" [expr {"," expr}] ")" ";"`
 fn arguments(cursor: &mut Cursor) -> Result<Items<Expr<Path>>, ParseFault>
-    ensures reads { Reads spell_arguments (map tree_of_expression) EndsAnywhere cursor.old result cursor.new }
+    ensures reads { ReadsArguments cursor.old result cursor.new }
     ensures shorter { OnOk result (length cursor.new < length cursor.old) }
 {
     let arguments = list::<Argument>(cursor)?;

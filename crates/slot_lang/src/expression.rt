@@ -1,17 +1,13 @@
 //! Expressions, one function a rule.
 
-ghost use Rattle.std.specs.Prelude.{◌≡◌, ◌<◌, ◌≤◌, ◌∷◌, List, length, IfOk, OnOk, Err, MatchResult};
-ghost use Rattle.texts.specs.Cursor.{NotAt};
-ghost use Rattle.slot_lang.specs.Expressions.{Expression, IsExpr, spell_expression, tree_of_expression, spell_comparison, tree_of_comparison, spell_factor, tree_of_factor, spell_group, spell_names, EndsExpression, EndsComparison, EndsFactor};
-ghost use Rattle.slot_lang.specs.Levels.{spell_at, tree_at, EndsAt, spell_operand, tree_of_operand, EndsOperand};
+ghost use Rattle.std.specs.Prelude.{◌≡◌, ◌<◌, ◌≤◌, length, IfOk, OnOk, Err};
+ghost use Rattle.slot_lang.specs.Expressions.{Expression, IsExpr, OneExpression, spell_expression, tree_of_expression, spell_factor, tree_of_factor, spell_group, EndsExpression, EndsFactor, ReadsExpression, ReadsComparison, ReadsPrefixed, ReadsPathFrom, Closes};
+ghost use Rattle.slot_lang.specs.Levels.{ReadsChain, ReadsOperand};
 ghost use Rattle.texts.specs.Reading.{Reads, EndsAnywhere};
 ghost use Rattle.texts.specs.declared.fault.ParseFault.TheVariants.{Syntax};
-ghost use Rattle.texts.specs.declared.symbol.Symbol.TheVariants.{Close};
 ghost use Rattle.texts.specs.declared.syntax.Expr.{Expr};
 ghost use Rattle.texts.specs.declared.syntax.Expr.TheVariants as tree;
 ghost use Rattle.texts.specs.declared.syntax.Path.{Path};
-ghost use Rattle.texts.specs.declared.token.Token.{Token};
-ghost use Rattle.texts.specs.declared.token.Token.TheVariants as token;
 
 use crate::path::names;
 use crate::precedence::{Level, Precedence, operator};
@@ -41,7 +37,7 @@ pub fn parse_expr(alloc: Global, tokens: &[Token]) -> Result<Expr<Path>, ParseFa
 
 /// Tokens are an expression in at most one way.
 pub fn one_expression()
-    ensures { (tokens : List Token) → (a b : Expr Path) → IsExpr tokens a → IsExpr tokens b → a ≡ b }
+    ensures { OneExpression }
 {}
 
 /// Takes the expression that has to come next.
@@ -49,7 +45,7 @@ pub fn one_expression()
 /// `Syntax` where the tokens begin with no expression, and only there; `Memory` where a growth of memory was refused.
 #[cycle(expression)]
 pub fn expression(cursor: &mut Cursor) -> Result<Expr<Path>, ParseFault>
-    ensures reads { Reads spell_expression tree_of_expression EndsExpression cursor.old result cursor.new }
+    ensures reads { ReadsExpression cursor.old result cursor.new }
     ensures shorter { OnOk result (length cursor.new < length cursor.old) }
 {
     chain(cursor, Level::Or)
@@ -58,7 +54,7 @@ pub fn expression(cursor: &mut Cursor) -> Result<Expr<Path>, ParseFault>
 /// `operand {operator operand}`, which groups to the left.
 #[cycle(expression)]
 fn chain(cursor: &mut Cursor, level: Level) -> Result<Expr<Path>, ParseFault>
-    ensures reads { Reads (spell_at level) (tree_at level) (EndsAt level) cursor.old result cursor.new }
+    ensures reads { ReadsChain level cursor.old result cursor.new }
     ensures shorter { OnOk result (length cursor.new < length cursor.old) }
 {
     let mut left = operand(cursor, level)?;
@@ -72,7 +68,7 @@ fn chain(cursor: &mut Cursor, level: Level) -> Result<Expr<Path>, ParseFault>
 /// What stands between the operators of the level.
 #[cycle(expression)]
 fn operand(cursor: &mut Cursor, level: Level) -> Result<Expr<Path>, ParseFault>
-    ensures reads { Reads (spell_operand level) (tree_of_operand level) (EndsOperand level) cursor.old result cursor.new }
+    ensures reads { ReadsOperand level cursor.old result cursor.new }
     ensures shorter { OnOk result (length cursor.new < length cursor.old) }
 {
     match level {
@@ -86,7 +82,7 @@ fn operand(cursor: &mut Cursor, level: Level) -> Result<Expr<Path>, ParseFault>
 /// Two operands with an operator between them, or one: comparisons don't chain.
 #[cycle(expression)]
 fn comparison(cursor: &mut Cursor) -> Result<Expr<Path>, ParseFault>
-    ensures reads { Reads spell_comparison tree_of_comparison EndsComparison cursor.old result cursor.new }
+    ensures reads { ReadsComparison cursor.old result cursor.new }
     ensures shorter { OnOk result (length cursor.new < length cursor.old) }
 {
     let left = chain(cursor, Level::Sum)?;
@@ -130,7 +126,7 @@ fn factor(cursor: &mut Cursor) -> Result<Expr<Path>, ParseFault>
 /// What follows an operator in front of its operand.
 #[cycle(expression)]
 fn prefixed(cursor: &mut Cursor, operator: Unary) -> Result<Expr<Path>, ParseFault>
-    ensures reads { Reads spell_factor (λ f. tree.Unary operator (tree_of_factor f)) EndsFactor cursor.old result cursor.new }
+    ensures reads { ReadsPrefixed operator cursor.old result cursor.new }
     ensures shorter { OnOk result (length cursor.new < length cursor.old) }
 {
     let operand = factor(cursor)?;
@@ -150,7 +146,7 @@ pub fn group(cursor: &mut Cursor) -> Result<Expr<Path>, ParseFault>
 
 /// Gives the tree back, if a closing parenthesis comes next.
 fn close(cursor: &mut Cursor, inner: Expr<Path>) -> Result<Expr<Path>, ParseFault>
-    ensures found { MatchResult result (λ e. (e ≡ inner) × (cursor.old ≡ token.Symbol Close ∷ cursor.new)) (λ e. (e ≡ Syntax) × NotAt Close cursor.old) }
+    ensures found { Closes inner cursor.old result cursor.new }
     ensures shorter { OnOk result (length cursor.new < length cursor.old) }
 {
     cursor.expect(Symbol::Close)?;
@@ -159,7 +155,7 @@ fn close(cursor: &mut Cursor, inner: Expr<Path>) -> Result<Expr<Path>, ParseFaul
 
 /// The path that goes on from the root.
 fn path_from(cursor: &mut Cursor, root: Root) -> Result<Expr<Path>, ParseFault>
-    ensures reads { Reads spell_names (λ names. tree.Path (record { root = root; properties = names })) EndsFactor cursor.old result cursor.new }
+    ensures reads { ReadsPathFrom root cursor.old result cursor.new }
     ensures no_longer { OnOk result (length cursor.new ≤ length cursor.old) }
 {
     let properties = names(cursor)?;

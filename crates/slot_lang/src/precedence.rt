@@ -1,11 +1,8 @@
 //! Operators between operands: how they are spelled, and how tight they bind.
 
-ghost use Rattle.std.specs.Prelude.{◌≡◌, ◌<◌, List, ◌∷◌, length, MatchOption, OnSome};
-ghost use Rattle.texts.specs.Cursor.{NotAt};
+ghost use Rattle.std.specs.Prelude.{◌≡◌, ◌<◌, length, OnSome};
 ghost use Rattle.slot_lang.specs.Levels.{precedence_at};
-ghost use Rattle.slot_lang.specs.Precedence.{symbol_of, precedence_of, prefix_symbol_of, NoOperator};
-ghost use Rattle.texts.specs.declared.syntax.Binary.{Binary};
-ghost use Rattle.texts.specs.declared.token.Token.TheVariants as token;
+ghost use Rattle.slot_lang.specs.Precedence.{symbol_of, precedence_of, IsOperatorOf, IsNextOperator, TakesOperator};
 
 use texts::{Binary, Cursor, Symbol, Token};
 
@@ -72,7 +69,7 @@ fn symbol_of(binary: Binary) -> Symbol
 
 /// The operator that is spelled so.
 fn operator_of(symbol: Symbol) -> Option<Binary>
-    ensures { MatchOption result ((binary : Binary) → symbol ≡ symbol_of binary → ⊥) (λ binary. symbol ≡ symbol_of binary) }
+    ensures { IsOperatorOf symbol result }
 {
     match symbol {
         Symbol::Plus => Some(Binary::Add),
@@ -106,7 +103,7 @@ fn precedence_of(binary: Binary) -> Precedence
 
 /// Takes the operator that binds so tight, if one comes next.
 pub fn operator(cursor: &mut Cursor, precedence: Precedence) -> Option<Binary>
-    ensures found { MatchOption result ((cursor.new ≡ cursor.old) × NoOperator precedence cursor.old) (λ binary. (precedence_of binary ≡ precedence) × (cursor.old ≡ token.Symbol (symbol_of binary) ∷ cursor.new)) }
+    ensures found { TakesOperator precedence cursor.old result cursor.new }
     ensures shorter { OnSome result (length cursor.new < length cursor.old) }
 {
     let Some(binary) = next_operator(cursor.rest()) else {
@@ -121,7 +118,7 @@ pub fn operator(cursor: &mut Cursor, precedence: Precedence) -> Option<Binary>
 
 /// The operator with which the tokens begin.
 fn next_operator(tokens: &[Token]) -> Option<Binary>
-    ensures { MatchOption result ((binary : Binary) → NotAt (symbol_of binary) tokens.now) (λ binary. (rest : List Token) × (tokens.now ≡ token.Symbol (symbol_of binary) ∷ rest)) }
+    ensures { IsNextOperator tokens.now result }
 {
     match tokens.split_first() {
         Some((Token::Symbol(symbol), _)) => operator_of(*symbol),
