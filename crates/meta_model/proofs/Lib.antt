@@ -9,3 +9,4 @@ pub mod ReadTypes
 pub mod Once
 pub mod OutlineSteps
 pub mod Outlined
+pub mod Roots

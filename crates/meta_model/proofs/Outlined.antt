@@ -1,5 +1,5 @@
 -- What each class of an outlined program is: `QObject`, or a declared class with its base's members and its own.
-use Rattle.std.proofs.Common.{◌≡◌, ◌≢◌, ℕ, zero, suc, ◌+◌, ◌<◌, List, [], ◌∷◌, ◌++◌, map, length, slice_get, Some, ◌⊎◌, inl, inr, refl, sym, ap, ◌∙◌, subst, arith, length-append, append_assoc}
+use Rattle.std.proofs.Common.{◌≡◌, ◌≢◌, ℕ, zero, suc, ◌+◌, ◌<◌, ◌≤◌, List, [], ◌∷◌, ◌++◌, map, length, slice_get, Some, ◌⊎◌, inl, inr, refl, sym, ap, ◌∙◌, subst, arith, length-append}
 use Rattle.std.specs.Prelude.{codes}
 use Rattle.std.proofs.lemmas.Option.{slice_get_within, none-some, same_Some}
 use Rattle.texts.specs.declared.program.Signal.{Signal}
@@ -102,7 +102,8 @@ pub data Reaches (all : List Outline) : ℕ → ℕ → Type 0 where
   here : {c : ℕ} → Reaches all c c
   up : {c b d : ℕ} (o : Outline) → slice_get all c ≡ Some o → o.base ≡ Some b → Reaches all b d → Reaches all c d
 
-pub record HasSlot (classes : List Class) (all : List Outline) (c i j : ℕ) (h : Heading) : Type 0 where
+-- .. as method m of class c; class i declares it, and its base doesn't have it
+pub record HasSlot (classes : List Class) (all : List Outline) (c i j m : ℕ) (h : Heading) : Type 0 where
   pub class : Class
   pub is_class : slice_get classes i ≡ Some class
   pub slot : Slot
@@ -112,6 +113,12 @@ pub record HasSlot (classes : List Class) (all : List Outline) (c i j : ℕ) (h 
   pub outline : Outline
   pub is_outline : slice_get all (suc i) ≡ Some outline
   pub named : outline.name ≡ class.name
+  pub base_number : ℕ
+  pub based : outline.base ≡ Some base_number
+  pub base : Outline
+  pub is_base : slice_get all base_number ≡ Some base
+  pub after : length base.methods ≤ m
+  pub within : m < length outline.methods
 
 module _ (classes : List Class) (all : List Outline) (are : Outlines classes all) where
   pub outline_of : (c : ℕ) (o : Outline) → slice_get all c ≡ Some o → ((c ≡ 0) × (o ≡ qobject)) ⊎ Declared classes all c o
@@ -121,8 +128,8 @@ module _ (classes : List Class) (all : List Outline) (are : Outlines classes all
         | inl f ↦ let last = last_of qobject o c f in inl (last.0, sym last.1)
       ]
 
-  own_slot : (c : ℕ) (o : Outline) → slice_get all c ≡ Some o → (d : Declared classes all c o) (k : ℕ) (h : Heading) → slice_get (own_methods d.i d.class) k ≡ Some h → (i j : ℕ) → h.sort ≡ sort.Slot i j → HasSlot classes all c i j h
-  own_slot c o e d k h at i j is =
+  own_slot : (c : ℕ) (o : Outline) → slice_get all c ≡ Some o → (d : Declared classes all c o) (k : ℕ) (h : Heading) → slice_get (own_methods d.i d.class) k ≡ Some h → (i j m : ℕ) → h.sort ≡ sort.Slot i j → m ≡ length d.base.methods + k → m < length o.methods → HasSlot classes all c i j m h
+  own_slot c o e d k h at i j m is after within =
       elim (get_split_at (map signal_heading d.class.signals) (slot_headings d.i 0 d.class.slots) k h at) [
         | inl f ↦ let s = signal_at d.i d.class.signals k h f in absurd (cc)
         | inr r ↦
@@ -142,11 +149,17 @@ module _ (classes : List Class) (all : List Outline) (are : Outlines classes all
               outline = o;
               is_outline = subst (λ n. slice_get all n ≡ Some o) (sym number) e;
               named = ap (λ (x : Outline). x.name) d.shape;
+              base_number = d.base_number;
+              based = ap (λ (x : Outline). x.base) d.shape;
+              base = d.base;
+              is_base = d.is_base;
+              after = omega (arith, after);
+              within = within;
             }
       ]
 
-  inherited_slot : (c b : ℕ) (o : Outline) → slice_get all c ≡ Some o → o.base ≡ Some b → (i j : ℕ) (h : Heading) → HasSlot classes all b i j h → HasSlot classes all c i j h
-  inherited_slot c b o e based i j h r = record {
+  inherited_slot : (c b : ℕ) (o : Outline) → slice_get all c ≡ Some o → o.base ≡ Some b → (i j m : ℕ) (h : Heading) → HasSlot classes all b i j m h → HasSlot classes all c i j m h
+  inherited_slot c b o e based i j m h r = record {
     class = r.class;
     is_class = r.is_class;
     slot = r.slot;
@@ -156,34 +169,59 @@ module _ (classes : List Class) (all : List Outline) (are : Outlines classes all
     outline = r.outline;
     is_outline = r.is_outline;
     named = r.named;
+    base_number = r.base_number;
+    based = r.based;
+    base = r.base;
+    is_base = r.is_base;
+    after = r.after;
+    within = r.within;
   }
 
-  has_slot : (n c : ℕ) → c < n → (o : Outline) → slice_get all c ≡ Some o → (m : ℕ) (h : Heading) → slice_get o.methods m ≡ Some h → (i j : ℕ) → h.sort ≡ sort.Slot i j → HasSlot classes all c i j h
+  has_slot : (n c : ℕ) → c < n → (o : Outline) → slice_get all c ≡ Some o → (m : ℕ) (h : Heading) → slice_get o.methods m ≡ Some h → (i j : ℕ) → h.sort ≡ sort.Slot i j → HasSlot classes all c i j m h
   has_slot zero c below o e m h at i j is = absurd (omega arith)
   has_slot (suc n) c below o e m h at i j is =
       elim (outline_of c o e) [
         | inl q ↦ absurd (qobject_sort m h (subst (λ (x : Outline). slice_get x.methods m ≡ Some h) q.1 at) i j is)
         | inr d ↦ elim (get_split_at d.base.methods (own_methods d.i d.class) m h (subst (λ (x : Outline). slice_get x.methods m ≡ Some h) d.shape at)) [
           | inl f ↦
-              inherited_slot c d.base_number o e (ap (λ (x : Outline). x.base) d.shape) i j h
+              inherited_slot c d.base_number o e (ap (λ (x : Outline). x.base) d.shape) i j m h
               (has_slot n d.base_number (omega (arith, d.smaller)) d.base d.is_base m h f i j is)
-          | inr r ↦ own_slot c o e d r.0 h r.2 i j is
+          | inr r ↦ own_slot c o e d r.0 h r.2 i j m is r.1 (slice_get_within o.methods m h at)
         ]
       ]
 
-  -- every class's methods begin with those of `QObject`
-  pub begins : (n c : ℕ) → c < n → (o : Outline) → slice_get all c ≡ Some o → (own : List Heading) × (o.methods ≡ qobject.methods ++ own)
-  begins zero c below o e = absurd (omega arith)
-  begins (suc n) c below o e =
+  -- `QObject` is the first class, and every class is below it
+  pub root_at : slice_get all 0 ≡ Some qobject
+  root_at = extends classes (qobject ∷ []) 0 all are 0 qobject refl
+
+  pub reaches_root : (n c : ℕ) → c < n → (o : Outline) → slice_get all c ≡ Some o → Reaches all c 0
+  reaches_root zero c below o e = absurd (omega arith)
+  reaches_root (suc n) c below o e =
       elim (outline_of c o e) [
-        | inl q ↦ ([], ap (λ (x : Outline). x.methods) q.1)
-        | inr d ↦
-            let base = begins n d.base_number (omega (arith, d.smaller)) d.base d.is_base in
-            (base.0 ++ own_methods d.i d.class, ap (λ (x : Outline). x.methods) d.shape ∙ ap (λ ms. ms ++ own_methods d.i d.class) base.1 ∙ append_assoc qobject.methods base.0 (own_methods d.i d.class))
+        | inl q ↦ subst (λ x. Reaches all x 0) (sym q.0) here
+        | inr d ↦ up o e (ap (λ (x : Outline). x.base) d.shape) (reaches_root n d.base_number (omega (arith, d.smaller)) d.base d.is_base)
+      ]
+
+  -- `deleteLater()` stands among `QObject`'s methods
+  pub delete_later_in_root : (n c : ℕ) → c < n → (o : Outline) → slice_get all c ≡ Some o → (m : ℕ) (h : Heading) → slice_get o.methods m ≡ Some h → h.sort ≡ sort.DeleteLater → m < 4
+  delete_later_in_root zero c below o e m h at is = absurd (omega arith)
+  delete_later_in_root (suc n) c below o e m h at is =
+      elim (outline_of c o e) [
+        | inl q ↦ slice_get_within qobject.methods m h (subst (λ (x : Outline). slice_get x.methods m ≡ Some h) q.1 at)
+        | inr d ↦ elim (get_split_at d.base.methods (own_methods d.i d.class) m h (subst (λ (x : Outline). slice_get x.methods m ≡ Some h) d.shape at)) [
+          | inl f ↦ delete_later_in_root n d.base_number (omega (arith, d.smaller)) d.base d.is_base m h f is
+          | inr r ↦ elim (get_split_at (map signal_heading d.class.signals) (slot_headings d.i 0 d.class.slots) r.0 h r.2) [
+            | inl g ↦ let s = signal_at d.i d.class.signals r.0 h g in absurd (cc)
+            | inr k ↦
+                let found = slot_at d.i d.class.slots 0 k.0 h k.2 in
+                let s : sort.Slot d.i (0 + k.0) ≡ sort.DeleteLater = sym (ap (λ (x : Heading). x.sort) found.shape) ∙ is in
+                absurd (cc)
+          ]
+        ]
       ]
 
   -- where a heading's body stands
-  pub slot_of : (c : ℕ) (o : Outline) → slice_get all c ≡ Some o → (m : ℕ) (h : Heading) → slice_get o.methods m ≡ Some h → (i j : ℕ) → h.sort ≡ sort.Slot i j → HasSlot classes all c i j h
+  pub slot_of : (c : ℕ) (o : Outline) → slice_get all c ≡ Some o → (m : ℕ) (h : Heading) → slice_get o.methods m ≡ Some h → (i j : ℕ) → h.sort ≡ sort.Slot i j → HasSlot classes all c i j m h
   slot_of c o e m h at i j is = has_slot (suc c) c (omega arith) o e m h at i j is
 
 -- no two classes have one name

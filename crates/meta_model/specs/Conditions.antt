@@ -11,6 +11,7 @@ use Rattle.texts.specs.declared.program.Program.{Program}
 use Rattle.meta_model.specs.declared.outline.Heading.{Heading}
 use Rattle.meta_model.specs.declared.outline.Outline.{Outline}
 use Rattle.meta_model.specs.declared.outline.Sort.TheVariants as sort
+use Rattle.meta_model.specs.declared.qobject.TheConstants.{DELETE_LATER}
 use Rattle.meta_model.specs.Places.{StandsFirst}
 use Rattle.meta_model.specs.Twice.{StandsTwice}
 use Rattle.meta_model.specs.Outlines.{base_name}
@@ -68,7 +69,7 @@ IsSignalOf sig h = (h.sig ≡ sig) × (h.sort ≡ sort.Signal)
 pub record IsNotifiedBy (outline : Outline) (property : Property) (sig : Sig) (m : ℕ) : Type 0 where
   pub signal : StandsFirst (IsSignalOf sig) outline.methods m
   pub fits : (sig.types ≡ []) ⊎ (sig.types ≡ property.kind ∷ [])
-  pub own : (3 < m) ⊎ (property.name ≡ codes "objectName")
+  pub own : (DELETE_LATER < m) ⊎ (property.name ≡ codes "objectName")
 
 abbrev pub LacksNotifier : Outline → Property → Option Sig → Type 0
 LacksNotifier outline property None = ⊥

@@ -1,6 +1,8 @@
 pub mod Loaded
 pub mod Members
 pub mod Values
+pub mod Literals
+pub mod Root
 pub mod Sound
 pub mod NamePlaces
 pub mod Places

@@ -1,6 +1,6 @@
 -- Classes and their members, by name, signature and number (Qt 6, "The Meta-Object System"; docs/machine.md,
 -- "Meta-objects").
-use Rattle.std.specs.Prelude.{◌≡◌, ℕ, List, [], ◌∷◌, length, Option, None, Some, slice_get, ◌⊎◌}
+use Rattle.std.specs.Prelude.{◌≡◌, ◌<◌, ◌≤◌, ℕ, List, [], ◌∷◌, length, Option, None, Some, slice_get, ◌⊎◌}
 use Rattle.std.specs.Option.{option_and_then}
 use Rattle.signatures.specs.declared.sig.Sig.{Sig}
 use Rattle.signatures.specs.declared.kind.Kind.{Kind}
@@ -78,6 +78,11 @@ methods_before p (Some b) = method_count p b
 
 abbrev pub method_offset : Loaded → ℕ → ℕ
 method_offset p c = methods_before p (base_of p c)
+
+-- the class declares method m, which its base doesn't have
+pub record Declares (p : Loaded) (c m : ℕ) : Type 0 where
+  pub after : method_offset p c ≤ m
+  pub within : m < method_count p c
 
 abbrev pub IsIn : {X : Type 0} → X → List X → Type 0
 IsIn x [] = ⊥

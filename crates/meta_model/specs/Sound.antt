@@ -1,6 +1,7 @@
--- What every loaded program keeps: its numbers are those of members, and no two members are alike (docs/machine.md,
--- "Loading").
-use Rattle.std.specs.Prelude.{◌≡◌, ℕ, ◌<◌, ◌⊎◌, Bool, true, false, List, [], ◌∷◌, ◌++◌, length, Some, slice_get, codes}
+-- What every loaded program keeps: class 0 is `QObject`, which is above all others; numbers are those of members, and no
+-- two members are alike; a body speaks of objects of the class that declares its slot; literals hold no object
+-- (docs/machine.md, "Loading").
+use Rattle.std.specs.Prelude.{◌≡◌, ℕ, ◌<◌, ◌⊎◌, Bool, true, false, List, [], ◌∷◌, ◌++◌, length, None, Some, slice_get, codes}
 use Rattle.std.specs.List.{AllZip}
 use Rattle.signatures.specs.declared.qtype.QType.{QType}
 use Rattle.signatures.specs.declared.value.Value.{Value}
@@ -27,7 +28,10 @@ use Rattle.meta_model.specs.declared.object.MetaProperty.{MetaProperty}
 use Rattle.meta_model.specs.declared.object.MetaWire.{MetaWire}
 use Rattle.meta_model.specs.declared.object.MetaOwns.{MetaOwns}
 use Rattle.meta_model.specs.Loaded.{Loaded}
-use Rattle.meta_model.specs.Members.{IsClass, IsClassNamed, IsMethod, IsProperty, Below, IsIn}
+use Rattle.meta_model.specs.declared.qobject.TheConstants.{QOBJECT, OBJECT_NAME_CHANGED, DELETE_LATER}
+use Rattle.meta_model.specs.Members.{IsClass, IsClassNamed, IsMethod, IsProperty, Below, Declares, IsIn}
+use Rattle.meta_model.specs.Literals.{HoldsNoObject}
+use Rattle.meta_model.specs.Root.{root_class, BeginsAsRoot}
 
 -- ---- types
 -- a declared type, its class replaced by its number
@@ -61,9 +65,9 @@ pub record LeadsToClass (p : Loaded) (me : ℕ) (kinds : List ValueType) (path :
   pub leads : LeadsTo p me kinds path (type.Reference c constant)
 
 -- ---- bodies
--- each path of the expression leads somewhere
+-- each path of the expression leads somewhere, and no literal holds an object
 pub data IsSoundExpr (p : Loaded) (me : ℕ) (kinds : List ValueType) : Expr MetaPath → Type 0 where
-  literal_sound : {e : Expr MetaPath} {v : Value} → out-Expr MetaPath e ≡ expr.Literal v → IsSoundExpr p me kinds e
+  literal_sound : {e : Expr MetaPath} {v : Value} → out-Expr MetaPath e ≡ expr.Literal v → HoldsNoObject v → IsSoundExpr p me kinds e
   path_sound : {e : Expr MetaPath} {path : MetaPath} {T : ValueType} → out-Expr MetaPath e ≡ expr.Path path → LeadsTo p me kinds path T → IsSoundExpr p me kinds e
   unary_sound : {e : Expr MetaPath} {op : Unary} {a : Expr MetaPath} → out-Expr MetaPath e ≡ expr.Unary op a → IsSoundExpr p me kinds a → IsSoundExpr p me kinds e
   binary_sound : {e : Expr MetaPath} {op : Binary} {a b : Expr MetaPath} → out-Expr MetaPath e ≡ expr.Binary op a b → IsSoundExpr p me kinds a → IsSoundExpr p me kinds b → IsSoundExpr p me kinds e
@@ -85,7 +89,7 @@ pub record IsSoundEmit (p : Loaded) (me : ℕ) (kinds : List ValueType) (m : ℕ
   pub signal : MetaMethod
   pub is : IsMethod p me m signal
   pub signals : signal.work ≡ Signal
-  pub emitted : 2 < m
+  pub emitted : OBJECT_NAME_CHANGED < m
   pub counted : length signal.kinds ≡ length es
   pub values : AreSoundExprs p me kinds es
 
@@ -112,20 +116,21 @@ pub data AreSound (p : Loaded) (me : ℕ) (kinds : List ValueType) : List Statem
   if_sound : {s : Statement} {e : Expr MetaPath} {chosen other rest : List Statement} → out-Statement s ≡ statement.If e chosen other
       → IsSoundExpr p me kinds e → AreSound p me kinds chosen → AreSound p me kinds other → AreSound p me kinds rest → AreSound p me kinds (s ∷ rest)
 
--- a body is that of a slot of class c or of one above it, of whose objects it speaks
-pub record IsSoundBody (p : Loaded) (c : ℕ) (kinds : List ValueType) (body : List Statement) : Type 0 where
+-- the body of method m of class c speaks of objects of the class that declares the method, which is c or above it
+pub record IsSoundBody (p : Loaded) (c m : ℕ) (kinds : List ValueType) (body : List Statement) : Type 0 where
   pub declaring : ℕ
   pub below : Below p c declaring
+  pub declares : Declares p declaring m
   pub sound : AreSound p declaring kinds body
 
-abbrev pub IsSoundWork : Loaded → ℕ → List ValueType → Work → Type 0
-IsSoundWork p c kinds Signal = Unit {0}
-IsSoundWork p c kinds (Slot body) = IsSoundBody p c kinds body
+abbrev pub IsSoundWork : Loaded → ℕ → ℕ → List ValueType → Work → Type 0
+IsSoundWork p c m kinds Signal = Unit {0}
+IsSoundWork p c m kinds (Slot body) = IsSoundBody p c m kinds body
 
 -- ---- members of class c
-pub record IsSoundMethod (p : Loaded) (c : ℕ) (method : MetaMethod) : Type 0 where
+pub record IsSoundMethod (p : Loaded) (c m : ℕ) (method : MetaMethod) : Type 0 where
   pub kinds : AllZip (IsKind p) method.sig.types method.kinds
-  pub work : IsSoundWork p c method.kinds method.work
+  pub work : IsSoundWork p c m method.kinds method.work
 
 -- the notify signal is a signal of the class, without parameter or with one of the property's type
 pub record IsNotifier (class : MetaObject) (property : MetaProperty) (m : ℕ) : Type 0 where
@@ -136,6 +141,7 @@ pub record IsNotifier (class : MetaObject) (property : MetaProperty) (m : ℕ) :
 
 pub record IsSoundProperty (p : Loaded) (class : MetaObject) (property : MetaProperty) : Type 0 where
   pub kind : IsKind p property.declared property.kind
+  pub initial : HoldsNoObject property.initial
   pub notifies : (m : ℕ) → property.notify ≡ Some m → IsNotifier class property m
 
 -- a class's members begin with those of its base, which has a smaller number
@@ -161,8 +167,10 @@ HasDistinctProperties class =
     → a.name ≡ b.name → i ≡ j
 
 pub record IsSoundClass (p : Loaded) (c : ℕ) (class : MetaObject) : Type 0 where
+  pub rooted : class.base ≡ None → c ≡ QOBJECT
   pub under : (b : ℕ) → class.base ≡ Some b → IsUnder p c class b
-  pub methods : (m : ℕ) (method : MetaMethod) → slice_get class.methods m ≡ Some method → IsSoundMethod p c method
+  pub begins : BeginsAsRoot class
+  pub methods : (m : ℕ) (method : MetaMethod) → slice_get class.methods m ≡ Some method → IsSoundMethod p c m method
   pub properties : (q : ℕ) (property : MetaProperty) → slice_get class.properties q ≡ Some property → IsSoundProperty p class property
   pub distinct_methods : HasDistinctMethods class
   pub distinct_properties : HasDistinctProperties class
@@ -175,7 +183,7 @@ pub record IsSoundWire (p : Loaded) (wire : MetaWire) : Type 0 where
   pub signals : signal.work ≡ Signal
   pub method : MetaMethod
   pub to : IsMethod p wire.receiver wire.method method
-  pub called : 3 < wire.method
+  pub called : DELETE_LATER < wire.method
 
 pub record IsSoundOwns (p : Loaded) (owns : MetaOwns) : Type 0 where
   pub parent : owns.parent < length p.classes
@@ -187,9 +195,8 @@ AreDistinctClasses classes =
     (i j : ℕ) (a b : MetaObject) → slice_get classes i ≡ Some a → slice_get classes j ≡ Some b → a.name ≡ b.name → i ≡ j
 
 pub record IsSound (p : Loaded) : Type 0 where
+  pub root : IsClass p QOBJECT root_class
   pub classes : (c : ℕ) (class : MetaObject) → IsClass p c class → IsSoundClass p c class
   pub distinct_classes : AreDistinctClasses p.classes
   pub wires : (wire : MetaWire) → IsIn wire p.wires → IsSoundWire p wire
   pub owns : (owns : MetaOwns) → IsIn owns p.owns → IsSoundOwns p owns
-  -- method 1 of every class is `destroyed()`, which has no parameters
-  pub destroyed : (c : ℕ) (method : MetaMethod) → IsMethod p c 1 method → method.sig.types ≡ []

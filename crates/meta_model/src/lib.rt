@@ -26,5 +26,8 @@ pub use object::{
 pub use outline::{Heading, Outline, Sort};
 pub use outlining::outline_classes;
 pub use places::{Named, find, place_of};
-pub use qobject::reference_to;
+pub use qobject::{
+    DELETE_LATER, DESTROYED, DESTROYED_ALONE, OBJECT_NAME, OBJECT_NAME_CHANGED, QOBJECT,
+    reference_to,
+};
 pub use slot_body::SlotBody;

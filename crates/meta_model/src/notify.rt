@@ -5,6 +5,7 @@ ghost use Rattle.meta_model.specs.Conditions.{IsSignalOf, IsNotifiedBy, LacksNot
 ghost use Rattle.meta_model.specs.Places.{IsPlace};
 
 use crate::outline::{Heading, Outline};
+use crate::qobject::DELETE_LATER;
 use signatures::{QType, Sig};
 use texts::Property;
 
@@ -71,7 +72,7 @@ fn carries(types: &[QType], kind: &QType) -> bool
 
 /// Whether the signal isn't one of `QObject`'s, or notifies `QObject`'s property.
 fn may_notify(signal: usize, property: &Property) -> bool
-    ensures { IsTrue result ↔ ((3 < signal) ⊎ (property.now.name ≡ codes "objectName")) }
+    ensures { IsTrue result ↔ ((DELETE_LATER < signal) ⊎ (property.now.name ≡ codes "objectName")) }
 {
-    3 < signal || property.name.bytes() == b"objectName".as_slice()
+    DELETE_LATER < signal || property.name.bytes() == b"objectName".as_slice()
 }

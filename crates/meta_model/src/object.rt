@@ -83,7 +83,7 @@ pub struct MetaProperty {
     pub declared: QType,
     /// Its type, by the number of its class.
     pub kind: ValueType,
-    /// The value that it has at first, which may be of another type where a literal is given.
+    /// The value that it has at first, which may be of another type where a literal is given, and is no object.
     pub initial: Value,
     /// The number of the signal that is emitted when its value changes, if it has one.
     pub notify: Option<usize>,

@@ -3,6 +3,7 @@ use Rattle.std.proofs.Common.{◌≡◌, ℕ, List, [], ◌∷◌, length, slice
 use Rattle.std.proofs.lemmas.Option.{same_Some}
 use Rattle.signatures.specs.declared.qtype.QType.{QType}
 use Rattle.texts.specs.declared.syntax.Expr.{Expr}
+use Rattle.texts.specs.declared.syntax.Expr.TheOpen as expr
 use Rattle.texts.specs.declared.syntax.Expr.TheViews.{out-Expr, roll-Expr, roll-out-Expr}
 use Rattle.texts.specs.declared.syntax.Root.{Root}
 use Rattle.texts.specs.declared.syntax.Path.{Path}
@@ -21,6 +22,7 @@ use Rattle.meta_model.specs.declared.outline.Outline.{Outline}
 use Rattle.meta_model.specs.Places.{StandsFirst}
 use Rattle.meta_model.specs.Outlines.{IsOutlineNamed}
 use Rattle.meta_model.specs.Kinds.{IsReadAs}
+use Rattle.meta_model.specs.Literals.{literal}
 use Rattle.meta_objects.specs.Bodies.{Scope, IsRoot, this_root, parameter_root, PointsTo, HasMember, IsStep, AreSteps, IsPath, IsExpr, literal_is, path_is, unary_is, binary_is, AreExprs, IsSet, IsCallOf, IsEmit, IsCall, AreStatements, none_are, set_is, emit_is, call_is, if_is, IsStatement}
 use Rattle.meta_model.proofs.Searches.{same_first}
 use Rattle.meta_model.proofs.Firsts.{first_item}
@@ -93,7 +95,8 @@ module _ (s : Scope) where
 
   -- ---- expressions
   pub same_exprs : (e : Expr Path) (f g : Expr MetaPath) → IsExpr s e f → IsExpr s e g → f ≡ g
-  same_exprs e f g (literal_is a b) (literal_is c d) = same_expr f g (cc)
+  same_exprs e f g (literal_is {v = v} a b) (literal_is {v = w} c d) =
+      let same : v ≡ w = cc in same_expr f g (b ∙ ap (λ u. expr.Literal (literal u)) same ∙ sym d)
   same_exprs e f g (literal_is a b) (path_is c d k0) = absurd (cc)
   same_exprs e f g (literal_is a b) (unary_is c d k0) = absurd (cc)
   same_exprs e f g (literal_is a b) (binary_is c d k0 k1) = absurd (cc)

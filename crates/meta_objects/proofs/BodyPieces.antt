@@ -32,6 +32,7 @@ use Rattle.meta_model.specs.declared.object.Statement.TheVariants as statement_b
 use Rattle.meta_model.specs.declared.outline.Outline.{Outline}
 use Rattle.meta_model.specs.Places.{StandsAt, StandsFirst, Found}
 use Rattle.meta_model.specs.Kinds.{IsReadAs}
+use Rattle.meta_model.specs.Literals.{literal}
 use Rattle.meta_objects.specs.Bodies.{Scope, IsRoot, this_root, parameter_root, IsSet, PointsTo, PointsToThis, HasMember, AreSteps, IsPath, IsExpr, literal_is, path_is, unary_is, binary_is, AreExprs, IsStatement, AreStatements, none_are, set_is, emit_is, call_is, if_is, LacksInBody}
 use Rattle.meta_model.proofs.OutlineSteps.{drop_at, drop_end}
 use Rattle.meta_model.proofs.Firsts.{first_item}
@@ -114,8 +115,8 @@ module _ (outlines : List Outline) (start : QType) (names : List (List ℕ)) whe
 
 -- ---- expressions
 module _ (s : Scope) where
-  pub literal_piece : (v : Value) → IsExpr s (e.Literal v) (e.Literal v)
-  literal_piece v = literal_is (e.outs-Literal v) (e.outs-Literal v)
+  pub literal_piece : (v : Value) → IsExpr s (e.Literal v) (e.Literal (literal v))
+  literal_piece v = literal_is (e.outs-Literal v) (e.outs-Literal (literal v))
 
   pub path_piece : (path : Path) (found : MetaPath) (T : QType) → IsPath s path found T → IsExpr s (e.Path path) (e.Path found)
   path_piece path found T h = path_is (e.outs-Path path) (e.outs-Path found) h

@@ -3,6 +3,8 @@ use Rattle.std.proofs.Common.{◌≡◌, ◌≢◌, ℕ, zero, suc, false, List,
 use Rattle.std.specs.List.{AllZip}
 use Rattle.std.proofs.lemmas.Option.{none-some, same_Some}
 use Rattle.signatures.specs.declared.qtype.QType.{QType}
+use Rattle.signatures.specs.declared.value.Value.{Value}
+use Rattle.signatures.specs.declared.value.Value.TheVariants as value
 use Rattle.texts.specs.declared.syntax.Expr.{Expr}
 use Rattle.texts.specs.declared.syntax.Root.{Root}
 use Rattle.texts.specs.declared.syntax.Path.{Path}
@@ -26,6 +28,7 @@ use Rattle.meta_model.specs.declared.outline.Outline.{Outline}
 use Rattle.meta_model.specs.Loaded.{Loaded}
 use Rattle.meta_model.specs.Members.{IsClassNamed, IsMethod, IsProperty}
 use Rattle.meta_model.specs.Sound.{IsKind, HasRoot, this_has, parameter_has, Leads, here, on, LeadsTo, LeadsToClass, IsSoundExpr, literal_sound, path_sound, unary_sound, binary_sound, AreSoundExprs, IsSoundSet, IsSoundEmit, IsSoundCall, AreSound, none_sound, set_sound, emit_sound, call_sound, if_sound}
+use Rattle.meta_model.specs.Literals.{literal, HoldsNoObject}
 use Rattle.meta_model.specs.Outlines.{IsOutlineNamed, kinds_of}
 use Rattle.meta_model.specs.Kinds.{IsKindIn, IsReadAs}
 use Rattle.meta_objects.specs.Bodies.{Scope, IsRoot, this_root, parameter_root, PointsTo, HasMember, AreSteps, IsPath, IsExpr, literal_is, path_is, unary_is, binary_is, AreExprs, IsSet, IsEmit, IsCall, AreStatements, none_are, set_is, emit_is, call_is, if_is}
@@ -34,11 +37,18 @@ use Rattle.meta_model.proofs.Zips.{zip_left}
 use Rattle.meta_model.proofs.Searches.{same_first}
 use Rattle.meta_model.proofs.ReadTypes.{same_read}
 
-zip_length : {A B : Type 0} (R : A → B → Type 0) (xs : List A) (ys : List B) → AllZip R xs ys → length xs ≡ length ys
+pub zip_length : {A B : Type 0} (R : A → B → Type 0) (xs : List A) (ys : List B) → AllZip R xs ys → length xs ≡ length ys
 zip_length R [] [] h = refl
 zip_length R [] (y ∷ ys) h = absurd h
 zip_length R (x ∷ xs) [] h = absurd h
 zip_length R (x ∷ xs) (y ∷ ys) h = ap suc (zip_length R xs ys h.1)
+
+-- a literal holds no object
+pub no_object : (v : Value) → HoldsNoObject (literal v)
+no_object (value.Int n) o e = absurd (cc)
+no_object (value.Bool b) o e = absurd (cc)
+no_object (value.Text t) o e = absurd (cc)
+no_object (value.Ref r) o e = absurd (cc)
 
 map_at : {A B : Type 0} (f : A → B) (xs : List A) (i : ℕ) (x : A) → slice_get xs i ≡ Some x → slice_get (map f xs) i ≡ Some (f x)
 map_at f [] i x e = absurd (none-some x e)
@@ -126,7 +136,7 @@ module _ (outlines : List Outline) (bodies : List (List (List Statement))) (p : 
         record { constant = T.constant; leads = subst (λ k. LeadsTo p me kinds f k) (points T c path_to.0 to path_to.1) path_to.2 }
 
     sound_expr : (e : Expr Path) (f : Expr MetaPath) → IsExpr scope e f → IsSoundExpr p me kinds f
-    sound_expr e f (literal_is a b) = literal_sound b
+    sound_expr e f (literal_is {v = v} a b) = literal_sound b (no_object v)
     sound_expr e f (path_is {path = path} {found = found} {T = T} a b h) = path_sound b ((path_leads path found T h).2)
     sound_expr e f (unary_is {a = x} {b = y} a b h) = unary_sound b (sound_expr x y h)
     sound_expr e f (binary_is {a = x} {c = x2} {b = y} {d = y2} a b h k) = binary_sound b (sound_expr x y h) (sound_expr x2 y2 k)

@@ -111,7 +111,7 @@ module _ (outlines : List Outline) where
   same_property : (o : Outline) (d : Property) (p q : MetaProperty) → IsPropertyOf outlines o d p → IsPropertyOf outlines o d q → p ≡ q
   same_property o d p q a b = same_property_by o o d p q a b (same_notify o d.notify p.notify q.notify a.notify b.notify)
 
-  same_object : (bodies : List (List (List Statement))) (o : Outline) (x y : MetaObject) → IsObject outlines bodies o x → IsObject outlines bodies o y → x ≡ y
+  pub same_object : (bodies : List (List (List Statement))) (o : Outline) (x y : MetaObject) → IsObject outlines bodies o x → IsObject outlines bodies o y → x ≡ y
   same_object bodies o x y a b =
       ap (λ n. object_of n x.base x.methods x.properties) (a.named ∙ sym b.named)
       ∙ ap (λ n. object_of y.name n x.methods x.properties) (a.based ∙ sym b.based)

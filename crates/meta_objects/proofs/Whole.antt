@@ -1,13 +1,17 @@
 -- A loaded program is sound.
-use Rattle.std.proofs.Common.{◌≡◌, ℕ, suc, ◌<◌, List, [], ◌∷◌, ◌++◌, length, slice_get, Option, Some, None, Any, ◌⊎◌, inl, inr, refl, sym, ap, ◌∙◌, subst, arith}
+use Rattle.std.proofs.Common.{◌≡◌, ℕ, zero, suc, ◌<◌, Bool, false, List, [], ◌∷◌, ◌++◌, length, slice_get, Option, Some, None, Any, ◌⊎◌, inl, inr, refl, sym, ap, ◌∙◌, subst, arith, append_assoc}
+use Rattle.std.specs.Prelude.{codes}
 use Rattle.std.specs.List.{AllZip}
 use Rattle.std.specs.Option.{option_and_then}
 use Rattle.std.proofs.lemmas.Option.{slice_get_within, none-some, same_Some}
 use Rattle.signatures.specs.declared.qtype.QType.{QType}
 use Rattle.signatures.specs.declared.sig.Sig.{Sig}
+use Rattle.texts.specs.declared.syntax.Literal.{Literal}
+use Rattle.texts.specs.declared.syntax.Literal.TheVariants as literal
 use Rattle.texts.specs.declared.program.Property.{Property}
 use Rattle.texts.specs.declared.program.Program.{Program}
 use Rattle.meta_model.specs.declared.object.ValueType.{ValueType}
+use Rattle.meta_model.specs.declared.object.ValueType.TheVariants as type
 use Rattle.meta_model.specs.declared.object.MetaMethod.{MetaMethod}
 use Rattle.meta_model.specs.declared.object.MetaProperty.{MetaProperty}
 use Rattle.meta_model.specs.declared.object.MetaObject.{MetaObject}
@@ -19,22 +23,24 @@ use Rattle.meta_model.specs.declared.outline.Heading.{Heading}
 use Rattle.meta_model.specs.declared.outline.Outline.{Outline}
 use Rattle.meta_model.specs.Loaded.{Loaded}
 use Rattle.meta_model.specs.Places.{StandsAt, StandsFirst}
-use Rattle.meta_model.specs.Members.{IsClass, IsMethod, base_of, Below, same, under, IsIn}
+use Rattle.meta_model.specs.Members.{IsClass, methods_in, method_count, methods_before, method_offset, Declares, base_of, Below, same, under, IsIn}
 use Rattle.meta_model.specs.Sound.{IsKind, AreSound, none_sound, IsSoundBody, IsSoundWork, IsSoundMethod, IsNotifier, IsSoundProperty, IsUnder, HasDistinctMethods, HasDistinctProperties, IsSoundClass, IsSoundWire, IsSoundOwns, IsSound}
-use Rattle.meta_model.specs.Outlines.{IsOutlineNamed, kinds_of, own_methods, heading, destroyed_alone}
+use Rattle.meta_model.specs.Literals.{HoldsNoObject}
+use Rattle.meta_model.specs.Root.{root_methods, root_class, BeginsAsRoot}
+use Rattle.meta_model.specs.Outlines.{IsOutlineNamed, kinds_of, own_methods, heading, destroyed, destroyed_alone, name_changed, qobject}
 use Rattle.meta_model.specs.Kinds.{LacksType, IsReadAs}
 use Rattle.meta_model.specs.Conditions.{AreOneCall, HasTwoMembers, IsSignalOf, LacksNotifier, LacksTypes}
 use Rattle.meta_objects.specs.Bodies.{IsBody, AreBodies}
-use Rattle.meta_objects.specs.Loading.{body_at, found_body, work_of, IsMethodOf, IsNotify, IsPropertyOf, IsObject, IsWire, IsOwns, IsLoaded}
+use Rattle.meta_objects.specs.Loading.{body_at, found_body, work_of, initial_of, IsMethodOf, IsNotify, IsPropertyOf, IsObject, IsWire, IsOwns, IsLoaded}
 use Rattle.meta_objects.specs.Builds.{HasOutlines, IsClean}
 use Rattle.meta_model.proofs.Zips.{zip_left, zip_right, get_front}
 use Rattle.meta_model.proofs.Searches.{place_in}
 use Rattle.meta_model.proofs.Once.{once, none_at, get_split_at}
 use Rattle.meta_model.proofs.ReadTypes.{same_read}
 use Rattle.meta_objects.proofs.Deciding.{carries}
-use Rattle.meta_objects.proofs.Unique.{same_zip, same_method, same_property_by, same_place}
-use Rattle.meta_model.proofs.Outlined.{Declared, Reaches, here, up, HasSlot, outline_of, slot_of, begins, distinct_outlines}
-use Rattle.meta_objects.proofs.Soundness.{object_at, kind_in, method_at, sound_statements}
+use Rattle.meta_objects.proofs.Unique.{same_zip, same_method, same_property_by, same_place, same_object}
+use Rattle.meta_model.proofs.Outlined.{Declared, Reaches, here, up, HasSlot, outline_of, slot_of, root_at, reaches_root, delete_later_in_root, distinct_outlines}
+use Rattle.meta_objects.proofs.Soundness.{zip_length, object_at, kind_in, method_at, sound_statements}
 
 module _ {A B : Type 0} (R : A → B → Type 0) where
   -- a list that relates to two lists in a row
@@ -84,6 +90,40 @@ first_in_front P xs ys m h = record {
   first = λ k below at. h.first k below (in_front P xs ys m k below (slice_get_within xs m h.at.item h.at.is) at);
 }
 
+-- `objectNameChanged(QString)` stands at its number alone
+name_changed_first : StandsFirst (IsSignalOf name_changed) qobject.methods 2
+name_changed_first = record { at = record { item = heading name_changed sort.Signal; is = refl; has = (refl, refl) }; first = before }
+  where
+    front_points : List QType → Bool
+    front_points [] = false
+    front_points (T ∷ Ts) = T.pointer
+
+    types : Heading → List QType
+    types h = h.sig.types
+
+    before : (k : ℕ) → k < 2 → ¬ StandsAt (IsSignalOf name_changed) qobject.methods k
+    before zero less at =
+        let e : heading destroyed sort.Signal ≡ at.item = same_Some _ _ at.is in
+        let f : destroyed.types ≡ name_changed.types = ap types e ∙ ap (λ (s : Sig). s.types) at.has.0 in
+        let pointer = ap front_points f in
+        absurd (cc)
+    before (suc zero) less at =
+        let e : heading destroyed_alone sort.Signal ≡ at.item = same_Some _ _ at.is in
+        let f : destroyed_alone.types ≡ name_changed.types = ap types e ∙ ap (λ (s : Sig). s.types) at.has.0 in
+        absurd (cc)
+    before (suc (suc k)) less at = absurd (omega arith)
+
+-- what a property holds at first
+initial_holds_none : (given : Option Literal) (kind : ValueType) → HoldsNoObject (initial_of given kind)
+initial_holds_none (Some (literal.Int n)) kind o e = absurd (cc)
+initial_holds_none (Some (literal.Bool b)) kind o e = absurd (cc)
+initial_holds_none (Some (literal.Text t)) kind o e = absurd (cc)
+initial_holds_none (Some literal.Null) kind o e = absurd (cc)
+initial_holds_none None type.Int o e = absurd (cc)
+initial_holds_none None type.Bool o e = absurd (cc)
+initial_holds_none None type.Text o e = absurd (cc)
+initial_holds_none None (type.Reference c constant) o e = absurd (cc)
+
 module _ (program : Program) (o : List Outline) (outlined : HasOutlines program o) (clean : IsClean program o) (p : Loaded) (loaded : IsLoaded program o p) where
   -- a class and its outline
   record OutlineOf (c : ℕ) (class : MetaObject) : Type 0 where
@@ -104,6 +144,20 @@ module _ (program : Program) (o : List Outline) (outlined : HasOutlines program 
   below : (c d : ℕ) → Reaches o c d → Below p c d
   below c d here = same
   below c d (up u e based rest) = under (base_is c u e ∙ based) (below _ d rest)
+
+  -- as many methods as outlined
+  count_is : (c : ℕ) (u : Outline) → slice_get o c ≡ Some u → method_count p c ≡ length u.methods
+  count_is c u e =
+      let x = object_at o loaded.bodies p loaded.objects c u e in
+      ap methods_in x.1 ∙ sym (zip_length (IsMethodOf o loaded.bodies) u.methods x.0.methods x.2.methods)
+
+  -- class i declares its slots
+  slot_declared : (c i j m : ℕ) (h : Heading) → HasSlot program.classes o c i j m h → Declares p (suc i) m
+  slot_declared c i j m h slot =
+      let offset : method_offset p (suc i) ≡ length slot.base.methods =
+      ap (methods_before p) (base_is (suc i) slot.outline slot.is_outline ∙ slot.based) ∙ count_is slot.base_number slot.base slot.is_base in
+      let count = count_is (suc i) slot.outline slot.is_outline in
+      record { after = omega (arith, offset, slot.after); within = omega (arith, count, slot.within) }
 
   -- ---- types
   has_types : (c : ℕ) (u : Outline) → slice_get o c ≡ Some u → ¬ LacksTypes o u
@@ -126,8 +180,8 @@ module _ (program : Program) (o : List Outline) (outlined : HasOutlines program 
     first = λ k less at. let same_place : k ≡ c = distinct_outlines program o outlined.are outlined.distinct k c at.item u at.is e (at.has ∙ sym named) in absurd (omega (arith, same_place));
   }
 
-  slot_sound : (c i j : ℕ) (h : Heading) (kinds : List ValueType) → HasSlot program.classes o c i j h → AllZip (IsReadAs o) h.sig.types kinds → IsSoundBody p c kinds (found_body (body_at loaded.bodies i j))
-  slot_sound c i j h kinds slot typed =
+  slot_sound : (c i j m : ℕ) (h : Heading) (kinds : List ValueType) → HasSlot program.classes o c i j m h → AllZip (IsReadAs o) h.sig.types kinds → IsSoundBody p c m kinds (found_body (body_at loaded.bodies i j))
+  slot_sound c i j m h kinds slot typed =
       let of_class = zip_left (AreBodies o) program.classes loaded.bodies loaded.uses.are_bodies i slot.class slot.is_class in
       let body = zip_left (IsBody o slot.class) slot.class.slots of_class.0 of_class.2 j slot.slot slot.is_slot in
       let found : found_body (body_at loaded.bodies i j) ≡ body.0 =
@@ -136,18 +190,28 @@ module _ (program : Program) (o : List Outline) (outlined : HasOutlines program 
       record {
         declaring = suc i;
         below = below c (suc i) slot.reaches;
+        declares = slot_declared c i j m h slot;
         sound =
             subst (λ b. AreSound p (suc i) kinds b) (sym found)
             (sound_statements o loaded.bodies p loaded.objects slot.class.name slot.slot.parameters (suc i)
             (is_first slot.class.name (suc i) slot.outline slot.is_outline slot.named) kinds types slot.slot.body body.0 body.2);
       }
 
-  work_sound : (c : ℕ) (u : Outline) → slice_get o c ≡ Some u → (m : ℕ) (h : Heading) → slice_get u.methods m ≡ Some h → (kinds : List ValueType) → AllZip (IsReadAs o) h.sig.types kinds → (s : Sort) → h.sort ≡ s → IsSoundWork p c kinds (work_of loaded.bodies s)
+  work_sound : (c : ℕ) (u : Outline) → slice_get o c ≡ Some u → (m : ℕ) (h : Heading) → slice_get u.methods m ≡ Some h → (kinds : List ValueType) → AllZip (IsReadAs o) h.sig.types kinds → (s : Sort) → h.sort ≡ s → IsSoundWork p c m kinds (work_of loaded.bodies s)
   work_sound c u e m h at kinds typed sort.Signal is = tt
-  work_sound c u e m h at kinds typed sort.DeleteLater is = record { declaring = c; below = same; sound = none_sound }
-  work_sound c u e m h at kinds typed (sort.Slot i j) is = slot_sound c i j h kinds (slot_of program.classes o outlined.are c u e m h at i j is) typed
+  work_sound c u e m h at kinds typed sort.DeleteLater is =
+      let offset : method_offset p 0 ≡ 0 = ap (methods_before p) (base_is 0 qobject (root_at program.classes o outlined.are)) in
+      let count = count_is 0 qobject (root_at program.classes o outlined.are) in
+      let early = delete_later_in_root program.classes o outlined.are (suc c) c (omega arith) u e m h at is in
+      record {
+        declaring = 0;
+        below = below c 0 (reaches_root program.classes o outlined.are (suc c) c (omega arith) u e);
+        declares = record { after = omega (arith, offset); within = omega (arith, count, early) };
+        sound = none_sound;
+      }
+  work_sound c u e m h at kinds typed (sort.Slot i j) is = slot_sound c i j m h kinds (slot_of program.classes o outlined.are c u e m h at i j is) typed
 
-  method_sound : (c : ℕ) (class : MetaObject) (u : OutlineOf c class) (m : ℕ) (method : MetaMethod) → slice_get class.methods m ≡ Some method → IsSoundMethod p c method
+  method_sound : (c : ℕ) (class : MetaObject) (u : OutlineOf c class) (m : ℕ) (method : MetaMethod) → slice_get class.methods m ≡ Some method → IsSoundMethod p c m method
   method_sound c class u m method at =
       let h = zip_right (IsMethodOf o loaded.bodies) u.outline.methods class.methods u.by.methods m method at in
       record {
@@ -156,7 +220,7 @@ module _ (program : Program) (o : List Outline) (outlined : HasOutlines program 
             (kinds_sound h.0.sig.types method.kinds
             (λ i T e. none_at (LacksType o) h.0.sig.types (none_at (λ (x : Heading). Any (LacksType o) x.sig.types) u.outline.methods (λ any. has_types c u.outline u.is (inr any)) m h.0 h.1) i T e)
             h.2.kinds);
-        work = subst (λ w. IsSoundWork p c method.kinds w) (sym h.2.work) (work_sound c u.outline u.is m h.0 h.1 method.kinds h.2.kinds h.0.sort refl);
+        work = subst (λ w. IsSoundWork p c m method.kinds w) (sym h.2.work) (work_sound c u.outline u.is m h.0 h.1 method.kinds h.2.kinds h.0.sort refl);
       }
 
   -- ---- properties
@@ -191,6 +255,7 @@ module _ (program : Program) (o : List Outline) (outlined : HasOutlines program 
         kind =
             subst (λ T. IsKind p T property.kind) (sym d.2.typed)
             (kind_sound d.0.kind property.kind (none_at (λ (y : Property). LacksType o y.kind) u.outline.properties (λ any. has_types c u.outline u.is (inl any)) q d.0 d.1) d.2.kind);
+        initial = subst HoldsNoObject (sym d.2.initial) (initial_holds_none d.0.initial property.kind);
         notifies = λ m is. notifier c class u q d.0 d.1 property d.2 d.0.notify refl m is (subst (λ n. IsNotify u.outline d.0.notify n) is d.2.notify);
       }
 
@@ -237,6 +302,55 @@ module _ (program : Program) (o : List Outline) (outlined : HasOutlines program 
         | inr d ↦ under_declared c class u b based d
       ]
 
+  -- ---- `QObject`
+  named_root : IsOutlineNamed o (codes "QObject") 0
+  named_root = is_first (codes "QObject") 0 qobject (root_at program.classes o outlined.are) refl
+
+  root_object : IsObject o loaded.bodies qobject root_class
+  root_object = record {
+    named = refl;
+    based = refl;
+    methods = (
+      record { signed = refl; kinds = (inl (refl, refl, named_root), tt); work = refl },
+      (
+        record { signed = refl; kinds = tt; work = refl },
+        (record { signed = refl; kinds = (inl refl, tt); work = refl }, (record { signed = refl; kinds = tt; work = refl }, tt)),
+      ),
+    );
+    properties = (record { named = refl; typed = refl; kind = inl refl; initial = refl; notify = name_changed_first }, tt);
+  }
+
+  root_is : slice_get p.classes 0 ≡ Some root_class
+  root_is =
+      let x = object_at o loaded.bodies p loaded.objects 0 qobject (root_at program.classes o outlined.are) in
+      x.1 ∙ ap Some (same_object o loaded.bodies qobject x.0 root_class x.2 root_object)
+
+  is_rooted : (c : ℕ) (class : MetaObject) → OutlineOf c class → class.base ≡ None → c ≡ 0
+  is_rooted c class u none =
+      elim (outline_of program.classes o outlined.are c u.outline u.is) [
+        | inl q ↦ q.0
+        | inr d ↦ absurd (none-some d.base_number (sym none ∙ u.by.based ∙ ap (λ (x : Outline). x.base) d.shape))
+      ]
+
+  begins : (n c : ℕ) → c < n → (class : MetaObject) → slice_get p.classes c ≡ Some class → BeginsAsRoot class
+  begins zero c less class is = absurd (omega arith)
+  begins (suc n) c less class is = by (begins n) class.base refl
+    where
+      by : ((b : ℕ) → b < n → (base : MetaObject) → slice_get p.classes b ≡ Some base → BeginsAsRoot base) → (base : Option ℕ) → class.base ≡ base → BeginsAsRoot class
+      by before None e =
+          let first : c ≡ 0 = is_rooted c class (outline_at c class is) e in
+          let one : root_class ≡ class = same_Some _ _ (sym root_is ∙ subst (λ k. slice_get p.classes k ≡ Some class) first is) in
+          subst BeginsAsRoot one (record { own_methods = []; methods = refl; own_properties = []; properties = refl })
+      by before (Some b) e =
+          let above = is_under c class (outline_at c class is) b e in
+          let rest = before b (omega (arith, above.smaller)) above.base above.is.is in
+          record {
+            own_methods = rest.own_methods ++ above.own_methods;
+            methods = above.methods ∙ ap (λ ms. ms ++ above.own_methods) rest.methods ∙ append_assoc root_methods rest.own_methods above.own_methods;
+            own_properties = rest.own_properties ++ above.own_properties;
+            properties = above.properties ∙ ap (λ ps. ps ++ above.own_properties) rest.properties;
+          }
+
   -- ---- members that stand once
   has_one : (c : ℕ) (u : Outline) → slice_get o c ≡ Some u → ¬ HasTwoMembers u
   has_one c u e = none_at HasTwoMembers o (λ any. clean.members (inl any)) c u e
@@ -260,7 +374,9 @@ module _ (program : Program) (o : List Outline) (outlined : HasOutlines program 
   class_sound c class is =
       let u = outline_at c class is.is in
       record {
+        rooted = is_rooted c class u;
         under = λ b based. is_under c class u b based;
+        begins = begins (suc c) c (omega arith) class is.is;
         methods = λ m method at. method_sound c class u m method at;
         properties = λ q property at. property_sound c class u q property at;
         distinct_methods = distinct_methods c class u;
@@ -295,17 +411,9 @@ module _ (program : Program) (o : List Outline) (outlined : HasOutlines program 
       let w = zip_right (IsOwns o) program.owns p.owns loaded.uses.owned at.0 owns at.1 in
       record { parent = class_there w.0.parent owns.parent w.2.parent; child = class_there w.0.child owns.child w.2.child }
 
-  -- every class's methods begin with `QObject`'s
-  destroyed_alone_at : (c : ℕ) (method : MetaMethod) → IsMethod p c 1 method → method.sig.types ≡ []
-  destroyed_alone_at c method is =
-      let u = outline_at c is.class is.is_class.is in
-      let h = zip_right (IsMethodOf o loaded.bodies) u.outline.methods is.class.methods u.by.methods 1 method is.is in
-      let root = begins program.classes o outlined.are (suc c) c (omega arith) u.outline u.is in
-      let same_heading : Some h.0 ≡ Some (heading destroyed_alone sort.Signal) = sym h.1 ∙ ap (λ ms. slice_get ms 1) root.1 in
-      ap (λ (s : Sig). s.types) h.2.signed ∙ ap (λ (x : Heading). x.sig.types) (same_Some _ _ same_heading)
-
   pub sound : IsSound p
   sound = record {
+    root = record { is = root_is };
     classes = class_sound;
     distinct_classes = λ i j a b ea eb named.
         let u = outline_at i a ea in
@@ -313,5 +421,4 @@ module _ (program : Program) (o : List Outline) (outlined : HasOutlines program 
         distinct_outlines program o outlined.are outlined.distinct i j u.outline v.outline u.is v.is (sym u.by.named ∙ named ∙ v.by.named);
     wires = wire_sound;
     owns = owns_sound;
-    destroyed = destroyed_alone_at;
   }

@@ -31,6 +31,8 @@ use Rattle.meta_model.specs.declared.outline.Outline.{Outline}
 use Rattle.meta_model.specs.declared.outline.Sort.TheVariants as sort
 use Rattle.meta_model.specs.Places.{StandsFirst}
 use Rattle.meta_model.specs.Outlines.{IsOutlineNamed, reference_to}
+use Rattle.meta_model.specs.declared.qobject.TheConstants.{OBJECT_NAME_CHANGED}
+use Rattle.meta_model.specs.Literals.{literal}
 use Rattle.meta_model.specs.Kinds.{IsReadAs}
 
 -- where a body stands: the classes, the name of its own, and its slot's parameters
@@ -87,7 +89,7 @@ pub record IsPath (s : Scope) (path : Path) (found : MetaPath) (T : QType) : Typ
 
 -- ---- expressions
 pub data IsExpr (s : Scope) : Expr Path → Expr MetaPath → Type 0 where
-  literal_is : {e : Expr Path} {f : Expr MetaPath} {v : Value} → out-Expr Path e ≡ expr.Literal v → out-Expr MetaPath f ≡ expr.Literal v → IsExpr s e f
+  literal_is : {e : Expr Path} {f : Expr MetaPath} {v : Value} → out-Expr Path e ≡ expr.Literal v → out-Expr MetaPath f ≡ expr.Literal (literal v) → IsExpr s e f
   path_is : {e : Expr Path} {f : Expr MetaPath} {path : Path} {found : MetaPath} {T : QType} → out-Expr Path e ≡ expr.Path path → out-Expr MetaPath f ≡ expr.Path found
       → IsPath s path found T → IsExpr s e f
   unary_is : {e a : Expr Path} {f b : Expr MetaPath} {op : Unary} → out-Expr Path e ≡ expr.Unary op a → out-Expr MetaPath f ≡ expr.Unary op b
@@ -120,7 +122,7 @@ pub record IsEmit (s : Scope) (name : List ℕ) (es : List (Expr Path)) (m : ℕ
   pub class : IsOutlineNamed s.outlines s.me number
   pub method : StandsFirst (IsCallOf name (length es)) class.at.item.methods m
   pub signal : method.at.item.sort ≡ sort.Signal
-  pub emitted : 2 < m
+  pub emitted : OBJECT_NAME_CHANGED < m
   pub values : AreExprs s es fs
 
 -- `call`: the object's class has the slot, which isn't `deleteLater()`

@@ -29,6 +29,7 @@ use Rattle.meta_model.specs.declared.outline.Outline.{Outline}
 use Rattle.meta_model.specs.Loaded.{Loaded}
 use Rattle.meta_model.specs.Places.{IsPlace}
 use Rattle.meta_model.specs.Outlines.{IsOutlineNamed}
+use Rattle.meta_model.specs.declared.qobject.TheConstants.{DELETE_LATER}
 use Rattle.meta_model.specs.Kinds.{IsReadAs}
 use Rattle.meta_model.specs.Conditions.{IsSignalOf}
 use Rattle.meta_model.specs.Ends.{IsSigned, IsEnd}
@@ -89,7 +90,7 @@ pub record IsObject (outlines : List Outline) (bodies : List (List (List Stateme
 pub record IsWire (outlines : List Outline) (wire : Wire) (loaded : MetaWire) : Type 0 where
   pub from : IsEnd (IsSignalOf wire.signal) outlines wire.sender loaded.sender loaded.signal
   pub to : IsEnd (IsSigned wire.method) outlines wire.receiver loaded.receiver loaded.method
-  pub called : 3 < loaded.method
+  pub called : DELETE_LATER < loaded.method
   pub same_kind : loaded.kind ≡ wire.kind
 
 pub record IsOwns (outlines : List Outline) (owns : Owns) (loaded : MetaOwns) : Type 0 where

@@ -4,6 +4,7 @@
 mod body_resolution;
 mod class_index;
 mod laws;
+mod literals;
 mod meta;
 mod resolve_object;
 mod resolve_uses;

@@ -185,7 +185,7 @@ impl Meta {
     /// The method of this number, of the class of this number, or `None` where either isn't there.
     pub fn method_at(&self, class: usize, method: usize) -> Option<&MetaMethod>
         ensures value { MatchOption result ((m : MetaMethod) → ¬ IsMethod self.now class method m) (λ m. IsMethod self.now class method m.now) }
-        ensures sound { IfSome result (λ m. IsSoundMethod self.now class m.now) }
+        ensures sound { IfSome result (λ m. IsSoundMethod self.now class method m.now) }
     {
         self.object(class)?.methods.get(method)
     }

@@ -10,7 +10,7 @@ ghost use Rattle.meta_model.specs.Places.{IsPlace};
 ghost use Rattle.meta_model.specs.declared.fault.MetaFault.TheVariants as fault;
 
 use meta_model::{
-    Heading, MetaFault, MetaOwns, MetaWire, Outline, find, place_of, place_of_signal,
+    DELETE_LATER, Heading, MetaFault, MetaOwns, MetaWire, Outline, find, place_of, place_of_signal,
 };
 use signatures::{Name, Sig};
 use sqlite_items::Items;
@@ -45,7 +45,7 @@ fn resolve_wire(outlines: &[Outline], wire: &Wire) -> Option<MetaWire>
     let Some((receiver, method)) = method_end(outlines, &wire.receiver, &wire.method) else {
         return None;
     };
-    if 3 < method {
+    if DELETE_LATER < method {
         Some(MetaWire {
             sender,
             signal,

@@ -10,6 +10,7 @@ use Rattle.meta_model.specs.Loaded.{Loaded}
 use Rattle.meta_model.specs.Members.{IsMethod}
 use Rattle.meta_model.specs.Sound.{IsKind, IsSound, AreDistinctClasses}
 use Rattle.qt_runtime.specs.Events.{named_signal}
+use Rattle.meta_model.proofs.Roots.{destroyed_alone_types}
 
 -- of what `int`, `bool` and `QString` differ
 int-bool : value_type (codes "int") ≡ value_type (codes "bool") → ⊥
@@ -85,7 +86,7 @@ pub kinds-fit : {p : Loaded} {c d g m : ℕ} {signal method : MetaMethod} → Is
 kinds-fit {p} {g = zero} {signal = signal} {method = method} sound is has fits =
     (signal, is, kinds-front p signal.sig.types method.sig.types signal.kinds method.kinds fits.0 sound.distinct_classes (kinds-of sound is) (kinds-of sound has) fits.1)
 kinds-fit {p} {c} {g = suc zero} {signal = signal} {method = method} sound is has fits =
-    let none = sound.destroyed c signal is in
+    let none = destroyed_alone_types sound c signal is in
     let takes_none = front-none method.sig.types fits.0 (sym none ∙ fits.1) in
     let empty : method.kinds ≡ [] = none-kinds p method.sig.types method.kinds takes_none (kinds-of sound has) in
     let first = first-there is.class.methods signal is.is in

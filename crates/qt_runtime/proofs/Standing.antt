@@ -153,8 +153,8 @@ called-stands {p} {objects} {m = m} {x = x} {method = method} {arguments = argum
     let At : Object → Type 0 = λ y. IsMethod p y.class m fit.method in
     let method_is : fit.method ≡ method = method-unique (subst At (some-is fit.is_object there) fit.is_method) is in
     let Typed : MetaMethod → Type 0 = λ k. HaveTypes p (class_of objects) arguments k.kinds in
-    let Sound_work : Work → Type 0 = λ w. IsSoundWork p x.class method.kinds w in
-    let body : IsSoundBody p x.class method.kinds statements = subst Sound_work work_is ((sound.classes x.class is.class is.is_class).methods m method is.is).work in
+    let Sound_work : Work → Type 0 = λ w. IsSoundWork p x.class m method.kinds w in
+    let body : IsSoundBody p x.class m method.kinds statements = subst Sound_work work_is ((sound.classes x.class is.class is.is_class).methods m method is.is).work in
     record { object = x; is_object = there; declaring = body.declaring; below = body.below; kinds = method.kinds; typed = subst Typed method_is fit.typed; sound = body.sound }
 
 -- what stands in a state

@@ -10,7 +10,7 @@ ghost use Rattle.meta_model.specs.declared.object.Statement.{Statement as AState
 
 use crate::body_resolution::expr::{resolve_expr, resolve_exprs};
 use crate::body_resolution::path::{Led, find_class, find_member, resolve_path};
-use meta_model::{Heading, MetaFault, Outline, Statement, find};
+use meta_model::{Heading, MetaFault, OBJECT_NAME_CHANGED, Outline, Statement, find};
 use signatures::Name;
 use sqlite_items::Items;
 use std::alloc::Global;
@@ -111,7 +111,7 @@ fn resolve_emit(
     let Some((signal, heading)) = find_call(class.methods.as_slice(), name, values.len()) else {
         return Err(MetaFault::NoMember);
     };
-    if signal < 3 || !heading.is_signal() {
+    if signal <= OBJECT_NAME_CHANGED || !heading.is_signal() {
         return Err(MetaFault::NoMember);
     }
     let values = resolve_exprs(alloc, outlines, me, parameters, values)?;

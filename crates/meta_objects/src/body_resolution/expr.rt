@@ -8,6 +8,7 @@ ghost use Rattle.meta_model.specs.declared.fault.MetaFault.TheVariants as fault;
 ghost use Rattle.meta_model.specs.declared.object.MetaPath.{MetaPath as AMetaPath};
 
 use crate::body_resolution::path::{Led, resolve_path};
+use crate::literals::literal_of;
 use meta_model::{MetaFault, MetaPath, Outline};
 use signatures::Name;
 use sqlite_items::{Boxed, Items};
@@ -46,7 +47,7 @@ pub fn resolve_expr(
 {
     match expression {
         Expr::Literal(value) => {
-            let value = value.copy()?;
+            let value = literal_of(value)?;
             Ok(Expr::Literal(value))
         }
         Expr::Path(path) => {

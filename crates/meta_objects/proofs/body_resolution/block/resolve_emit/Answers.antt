@@ -7,7 +7,7 @@ use Rattle.meta_model.specs.declared.fault.MetaFault.TheVariants as fault
 use Rattle.meta_objects.specs.Bodies.{scope, AreExprs, IsStatement}
 use Rattle.meta_model.proofs.OutlineSteps.{failed}
 use Rattle.meta_objects.proofs.BodyCalls.{no_emit_class, no_emit_values, no_emit_method, no_emit, emit_piece}
-use Rattle.meta_objects.proofs.body_resolution.block.resolve_emit.Goals.{then-signal-lt3-via-then-signal-lt3, then-signal-lt3-via-else-signal-lt3+then-not-is_signal}
+use Rattle.meta_objects.proofs.body_resolution.block.resolve_emit.Goals.{then-signal-le-OBJECT_NAME_CHANGED-via-then-signal-le-OBJECT_NAME_CHANGED, then-signal-le-OBJECT_NAME_CHANGED-via-else-signal-le-OBJECT_NAME_CHANGED+then-not-is_signal}
 use Rattle.meta_objects.proofs.body_resolution.block.resolve_emit.Goals as goal
 
 pub returns-in_default : goal.returns-in_default
@@ -17,15 +17,15 @@ pub returns-in_default-find_call : goal.returns-in_default-find_call
 returns-in_default-find_call c =
     inr (refl, no_emit_method (scope c.args.outlines.now c.args.me.now c.args.parameters.now) _ _ _ _ c.in-Some.ensures (rw c.as_slice.ensures at c.in_default-find_call.ensures))
 
-pub returns-then-signal-lt3 : goal.returns-then-signal-lt3
-returns-then-signal-lt3 c =
+pub returns-then-signal-le-OBJECT_NAME_CHANGED : goal.returns-then-signal-le-OBJECT_NAME_CHANGED
+returns-then-signal-le-OBJECT_NAME_CHANGED c =
     inr (
       refl,
       no_emit (scope c.args.outlines.now c.args.me.now c.args.parameters.now) _ _ _ _ c.in-Some.ensures _ _ (rw c.as_slice.ensures at c.in-Some-find_call.ensures)
           (λ signal more.
-          elim c.then-signal-lt3.branch [
-            | then-signal-lt3-via-then-signal-lt3 w ↦ let below = w.if-signal-lt3.true in omega arith
-            | then-signal-lt3-via-else-signal-lt3+then-not-is_signal w ↦ let e = w.if-not-is_signal.ensures.1 signal in absurd (cc)
+          elim c.then-signal-le-OBJECT_NAME_CHANGED.branch [
+            | then-signal-le-OBJECT_NAME_CHANGED-via-then-signal-le-OBJECT_NAME_CHANGED w ↦ let below = w.if-signal-le-OBJECT_NAME_CHANGED.true in omega arith
+            | then-signal-le-OBJECT_NAME_CHANGED-via-else-signal-le-OBJECT_NAME_CHANGED+then-not-is_signal w ↦ let e = w.if-not-is_signal.ensures.1 signal in absurd (cc)
           ]),
     )
 
@@ -38,6 +38,6 @@ returns-in_err-values c =
 
 pub returns : goal.returns
 returns c =
-    let above = c.if-signal-lt3.false in
+    let above = c.if-signal-le-OBJECT_NAME_CHANGED.false in
     emit_piece (scope c.args.outlines.now c.args.me.now c.args.parameters.now) _ _ _ _ c.in-Some.ensures _ _ (rw c.as_slice.ensures at c.in-Some-find_call.ensures) _
     (c.if-not-is_signal.ensures.0 refl) (omega arith) c.in_ok-values.ensures
