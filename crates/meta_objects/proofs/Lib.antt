@@ -9,3 +9,4 @@ pub mod Deciding
 pub mod Whole
 pub mod Refusals
 pub mod Indexing
+pub mod OnlyAnswer

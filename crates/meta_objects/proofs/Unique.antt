@@ -22,7 +22,7 @@ use Rattle.meta_model.specs.declared.outline.Heading.{Heading}
 use Rattle.meta_model.specs.declared.outline.Outline.{Outline}
 use Rattle.meta_model.specs.Loaded.{Loaded}
 use Rattle.meta_model.specs.Places.{IsPlace}
-use Rattle.meta_model.specs.Outlines.{IsOutline, AreOutlines, base_name, own_methods, qobject}
+use Rattle.meta_model.specs.Outlines.{IsOutline, AreOutlines, Outlines, base_name, own_methods, qobject}
 use Rattle.meta_model.specs.Kinds.{IsReadAs}
 use Rattle.meta_model.specs.Conditions.{IsSignalOf}
 use Rattle.meta_objects.specs.Bodies.{IsBody, AreBodies, AllBodies}
@@ -147,6 +147,9 @@ module _ (outlines : List Outline) where
       ap (λ x. loaded_of x a.wires a.owns) classes
       ∙ ap (λ x. loaded_of b.classes x a.owns) (same_zip (IsWire outlines) program.wires a.wires b.wires same_wire h.uses.wired k.uses.wired)
       ∙ ap (λ x. loaded_of b.classes b.wires x) (same_zip (IsOwns outlines) program.owns a.owns b.owns same_owns h.uses.owned k.uses.owned)
+
+pub same_all : (program : Program) (all more : List Outline) → Outlines program.classes all → Outlines program.classes more → all ≡ more
+same_all program all more h k = same_outlines program.classes (qobject ∷ []) 0 all more h k
 
 pub one_loading : OneLoading
 one_loading program a b h k =

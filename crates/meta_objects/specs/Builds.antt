@@ -1,5 +1,5 @@
 -- When a program loads, and what its meta-objects are (docs/machine.md, "Loading").
-use Rattle.std.specs.Prelude.{◌≡◌, List, Result, Ok, Err}
+use Rattle.std.specs.Prelude.{◌≡◌, ◌≢◌, List, Result, Ok, Err}
 use Rattle.texts.specs.declared.program.Program.{Program}
 use Rattle.meta_model.specs.declared.fault.MetaFault.{MetaFault}
 use Rattle.meta_model.specs.declared.fault.MetaFault.TheVariants as fault
@@ -40,3 +40,9 @@ Builds program (Err fault.Memory) = Unit {0}
 -- a program is loaded in one way at most
 abbrev pub OneLoading : Type 0
 OneLoading = (program : Program) (a b : Loaded) → Builds program (Ok a) → Builds program (Ok b) → a ≡ b
+
+-- but for want of memory, a program has one answer: one refusal, or one loaded form
+abbrev pub OneAnswer : Type 0
+OneAnswer =
+    (program : Program) (a b : Result Loaded MetaFault) → Builds program a → Builds program b
+    → a ≢ Err fault.Memory → b ≢ Err fault.Memory → a ≡ b
