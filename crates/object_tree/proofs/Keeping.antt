@@ -8,7 +8,7 @@ use Rattle.meta_model.specs.NamePlaces.{place_in, Adds}
 use Rattle.object_tree.specs.declared.object.Object.{Object}
 use Rattle.object_tree.specs.Children.{is_among}
 use Rattle.object_tree.specs.Objects.{Lives, IsNamed, IsFree, change, name_of}
-use Rattle.object_tree.specs.Family.{leaves, moved, dead, without_life, parent_of, children_of, IsChild}
+use Rattle.object_tree.specs.Family.{leaves, moved, dead, without_life, parent_of, children_of, IsChild, IsChildless}
 use Rattle.object_tree.specs.Forest.{Forest, is_the}
 use Rattle.object_tree.specs.Kept.{Kept}
 use Rattle.meta_model.specs.Loaded.{Loaded}
@@ -78,7 +78,7 @@ is-the : (a : ℕ) (found : Option ℕ) → found ≡ Some a → is_the a found 
 is-the a found e = rw e (eq-eqb a a refl)
 
 -- the first child of an object is a child
-pub first-child : (objects : List Object) (a : ℕ) (found : Option ℕ) → Forest objects → found ≡ slice_get (children_of objects a) 0 → MatchOption found ((o : ℕ) → ¬ IsChild objects a o) (λ o. IsChild objects a o)
+pub first-child : (objects : List Object) (a : ℕ) (found : Option ℕ) → Forest objects → found ≡ slice_get (children_of objects a) 0 → MatchOption found (IsChildless objects a) (IsChild objects a)
 first-child objects a None forest e = λ o child.
     let none : is_among o (children_of objects a) ≡ false = none-among o (children_of objects a) (sym e) in
     let some : is_among o (children_of objects a) ≡ true = forest.listed a o ∙ is-the a (parent_of objects o) (parent-is objects o a child) in

@@ -130,7 +130,7 @@ typed-died p o objects all k x lives = ⊎_elim
 
 -- ---- a property that is written
 
-written-typed : (p : Loaded) (objects : List Object) (o q : ℕ) (v : Value) (y : Object) → slice_get objects o ≡ Some y → FitsProperty p objects o q v → IsTyped p objects y → IsTyped p objects (written q v y)
+written-typed : (p : Loaded) (objects : List Object) (o q : ℕ) (v : Value) (y : Object) → slice_get objects o ≡ Some y → FitsProperty objects o q v p → IsTyped p objects y → IsTyped p objects (written q v y)
 written-typed p objects o q v y is fits t =
     let same : fits.object ≡ y = same_Some _ _ (sym fits.is ∙ is) in
     let class_is : slice_get p.classes y.class ≡ Some fits.is_property.class = ap (λ (w : Object). slice_get p.classes w.class) (sym same) ∙ fits.is_property.is_class.is in
@@ -147,7 +147,7 @@ written-typed p objects o q v y is fits t =
     kind-at (z ∷ ps) zero w e = ap (λ (u : MetaProperty). Some u.kind) (same_Some _ _ e)
     kind-at (z ∷ ps) (suc n) w e = kind-at ps n w e
 
-pub typed-written : (p : Loaded) (objects : List Object) (o q : ℕ) (v : Value) → FitsProperty p objects o q v → AreTyped p objects → AreTyped p (change o (written q v) objects)
+pub typed-written : (p : Loaded) (objects : List Object) (o q : ℕ) (v : Value) → FitsProperty objects o q v p → AreTyped p objects → AreTyped p (change o (written q v) objects)
 typed-written p objects o q v fits all k x lives = ⊎_elim
     (λ (same : k ≡ o).
     let found : option_map (written q v) (slice_get objects o) ≡ Some x = sym (get-change_same o (written q v) objects) ∙ ap (slice_get (change o (written q v) objects)) (sym same) ∙ lives.is in

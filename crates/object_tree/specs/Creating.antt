@@ -1,5 +1,5 @@
 -- When an object is created, and why not (docs/machine.md, "Objects" and "Events").
-use Rattle.std.specs.Prelude.{◌≡◌, ℕ, ◌<◌, ◌≤◌, true, false, List, [], ◌∷◌, ◌++◌, length, map, All, Result, Ok, Err, None}
+use Rattle.std.specs.Prelude.{◌≡◌, ℕ, ◌<◌, ◌≤◌, true, false, List, [], ◌∷◌, ◌++◌, length, map, All, Result, Ok, Err, Option, None}
 use Rattle.signatures.specs.declared.value.Value.{Value}
 use Rattle.meta_model.specs.declared.object.MetaObject.{MetaObject}
 use Rattle.meta_model.specs.declared.object.MetaProperty.{MetaProperty}
@@ -15,13 +15,20 @@ use Rattle.object_tree.specs.Objects.{IsNamed, IsFree, class_with}
 abbrev pub most_objects : ℕ
 most_objects = 100000
 
+-- the property has at first a value of its type, where `class` gives the class of each living object
+abbrev pub BeginsAs : Loaded → (ℕ → Option ℕ) → MetaProperty → Type 0
+BeginsAs p class q = Has p class q.initial q.kind
+
 -- each property of a new object of this class has at first a value of its type
 abbrev pub BeginsWell : Loaded → List Object → ℕ → MetaObject → Type 0
-BeginsWell p objects number class = All (λ (q : MetaProperty). Has p (class_with objects number) q.initial q.kind) class.properties
+BeginsWell p objects number class = All (BeginsAs p (class_with objects number)) class.properties
 
--- the values that its properties have at first
+-- the values that properties have at first
+abbrev pub initials : List MetaProperty → List Value
+initials properties = map (λ (q : MetaProperty). q.initial) properties
+
 abbrev pub initial_values : MetaObject → List Value
-initial_values class = map (λ (q : MetaProperty). q.initial) class.properties
+initial_values class = initials class.properties
 
 -- a new object
 abbrev pub fresh : List ℕ → ℕ → ℕ → List Value → Object
@@ -38,7 +45,8 @@ fresh name class home values = record {
 }
 
 -- an object of this name and class may be created: the class has this number and this meta-object
-pub record MayCreate (p : Loaded) (objects : List Object) (name class : List ℕ) (number : ℕ) (kind : MetaObject) : Type 0 where
+pub record MayCreate (p : Loaded) (objects : List Object) (name class : List ℕ) (number : ℕ) (kind : MetaObject)
+    : Type 0 where
   pub free : IsFree objects name
   pub named : IsClassNamed p class number
   pub is : IsClass p number kind
@@ -48,15 +56,17 @@ pub record MayCreate (p : Loaded) (objects : List Object) (name class : List ℕ
 -- why it may not: the first of these that holds; or memory was refused
 pub data IsNotCreated (p : Loaded) (objects : List Object) (name class : List ℕ) : CreateFault → Type 0 where
   name_used : {o : ℕ} → IsNamed objects name o → IsNotCreated p objects name class NameUsed
-  no_class : IsFree objects name → ((c : ℕ) → ¬ IsClassNamed p class c) → IsNotCreated p objects name class NoClass
+  no_class : IsFree objects name → ((c : ℕ) → ¬ IsClassNamed p class c)
+      → IsNotCreated p objects name class NoClass
   too_many : {c : ℕ} → IsFree objects name → IsClassNamed p class c → most_objects ≤ length objects
       → IsNotCreated p objects name class TooMany
-  bad_type : {c : ℕ} {kind : MetaObject} → IsFree objects name → IsClassNamed p class c → IsClass p c kind → length objects < most_objects
-      → (¬ BeginsWell p objects c kind) → IsNotCreated p objects name class BadType
+  bad_type : {c : ℕ} {kind : MetaObject} → IsFree objects name → IsClassNamed p class c → IsClass p c kind
+      → length objects < most_objects → (¬ BeginsWell p objects c kind) → IsNotCreated p objects name class BadType
   no_memory : IsNotCreated p objects name class Memory
 
 -- an object is created: it is the last one, and the others stay as they were
-pub record IsCreated (p : Loaded) (old : List Object) (name class : List ℕ) (home o : ℕ) (new : List Object) : Type 0 where
+pub record IsCreated (p : Loaded) (old : List Object) (name class : List ℕ) (home o : ℕ) (new : List Object)
+    : Type 0 where
   pub number : ℕ
   pub kind : MetaObject
   pub may : MayCreate p old name class number kind
@@ -64,6 +74,7 @@ pub record IsCreated (p : Loaded) (old : List Object) (name class : List ℕ) (h
   pub appended : new ≡ old ++ fresh name number home (initial_values kind) ∷ []
 
 -- what `create` answers, with the objects before and after it
-abbrev pub Creates : Loaded → List Object → List ℕ → List ℕ → ℕ → Result ℕ CreateFault → List Object → Type 0
+abbrev pub Creates : Loaded → List Object → List ℕ → List ℕ → ℕ → Result ℕ CreateFault → List Object
+    → Type 0
 Creates p old name class home (Ok o) new = IsCreated p old name class home o new
 Creates p old name class home (Err fault) new = IsNotCreated p old name class fault × (new ≡ old)

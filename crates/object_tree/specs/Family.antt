@@ -23,6 +23,10 @@ pub record IsChild (objects : List Object) (parent o : ℕ) : Type 0 where
   pub lives : Lives objects o object
   pub under : object.parent ≡ Some parent
 
+-- no living object has this parent
+abbrev pub IsChildless : List Object → ℕ → Type 0
+IsChildless objects parent = (o : ℕ) → ¬ IsChild objects parent o
+
 -- a is o or one of its ancestors, which are counted up to the first dead one
 pub data Above (objects : List Object) (a : ℕ) : ℕ → Type 0 where
   itself : Above objects a a
@@ -46,7 +50,9 @@ put_under parent x = record x { parent = Some parent }
 
 -- the child comes last among the new parent's children, and leaves those of its old parent
 abbrev pub moved : ℕ → ℕ → List Object → List Object
-moved parent child objects = change child (put_under parent) (leaves (parent_of objects child) child (change parent (joined_by child) objects))
+moved parent child objects =
+    change child (put_under parent)
+    (leaves (parent_of objects child) child (change parent (joined_by child) objects))
 
 -- an object that lives no more
 abbrev pub dead : Object → Object

@@ -19,8 +19,16 @@ pub record IsTyped (p : Loaded) (objects : List Object) (x : Object) : Type 0 wh
 abbrev pub AreTyped : Loaded → List Object → Type 0
 AreTyped p objects = (o : ℕ) (x : Object) → Lives objects o x → IsTyped p objects x
 
+-- what was typed stays so, by whatever program
+abbrev pub StayTyped : List Object → List Object → Type 0
+StayTyped old new = (p : Loaded) → AreTyped p old → AreTyped p new
+
+-- .. by each program of which this holds
+abbrev pub StayTypedIf : (Loaded → Type 0) → List Object → List Object → Type 0
+StayTypedIf holds old new = (p : Loaded) → holds p → AreTyped p old → AreTyped p new
+
 -- the value has the type of an object's property
-pub record FitsProperty (p : Loaded) (objects : List Object) (o q : ℕ) (v : Value) : Type 0 where
+pub record FitsProperty (objects : List Object) (o q : ℕ) (v : Value) (p : Loaded) : Type 0 where
   pub object : Object
   pub is : slice_get objects o ≡ Some object
   pub property : MetaProperty

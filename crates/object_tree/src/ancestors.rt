@@ -1,11 +1,9 @@
 //! Who is above whom, and who may be adopted by whom.
 
-ghost use Rattle.std.specs.Prelude.{◌≡◌, ◌↔◌, IsTrue, MatchResult};
-ghost use Rattle.object_tree.specs.Adopting.{MayAdopt, IsNotAdopted};
+ghost use Rattle.std.specs.Prelude.{◌↔◌, IsTrue};
+ghost use Rattle.object_tree.specs.Adopting.{JudgesAdoption};
 ghost use Rattle.object_tree.specs.Family.{Above};
 ghost use Rattle.object_tree.specs.Forest.{Forest};
-ghost use Rattle.object_tree.specs.Objects.{Lives};
-ghost use Rattle.object_tree.specs.declared.object.Object.{Object as AnObject};
 
 use crate::fault::AdoptFault;
 use crate::object::Object;
@@ -38,7 +36,7 @@ pub fn may_adopt(
     owned: &Object,
 ) -> Result<(), AdoptFault>
     requires { Forest objects.now }
-    ensures { MatchResult result (λ _. MayAdopt meta.now objects.now parent child owner.now owned.now) (λ fault. IsNotAdopted meta.now objects.now parent child owner.now owned.now fault) }
+    ensures { JudgesAdoption meta.now objects.now parent child owner.now owned.now result }
 {
     if !meta.owns(owner.class, owned.class) {
         return Err(AdoptFault::NotOwned);

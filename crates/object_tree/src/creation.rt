@@ -1,6 +1,6 @@
 //! How an object is created.
 
-ghost use Rattle.std.specs.Prelude.{◌≡◌, [], ◌∷◌, ◌++◌, length, IfOk, OnOk, OnErr, MatchResult};
+ghost use Rattle.std.specs.Prelude.{◌≡◌, [], ◌∷◌, ◌++◌, length, IfOk, OnOk, OnErr, IfErr};
 ghost use Rattle.meta_model.specs.NamePlaces.{Adds};
 ghost use Rattle.object_tree.specs.Creating.{MayCreate, IsNotCreated, fresh, initial_values};
 ghost use Rattle.object_tree.specs.Kept.{Kept};
@@ -28,7 +28,8 @@ pub fn may_create<'a>(
     class: &Name,
 ) -> Result<(usize, &'a MetaObject), CreateFault>
     requires { Kept names.now objects.now }
-    ensures { MatchResult result (λ k. MayCreate meta.now objects.now name.now class.now k.0 k.1.now) (λ fault. IsNotCreated meta.now objects.now name.now class.now fault) }
+    ensures may { IfOk result (λ k. MayCreate meta.now objects.now name.now class.now k.0 k.1.now) }
+    ensures not { IfErr result (IsNotCreated meta.now objects.now name.now class.now) }
 {
     if names.find(name).is_some() {
         return Err(CreateFault::NameUsed);
@@ -57,7 +58,7 @@ pub fn new_object(
     home: LoopId,
     kind: &MetaObject,
 ) -> Result<Object, AllocError>
-    ensures { IfOk result (λ object. object ≡ fresh name.now number home (initial_values kind.now)) }
+    ensures { IfOk result (λ x. x ≡ fresh name.now number home (initial_values kind.now)) }
 {
     let values = Values::initial(alloc, kind.properties.as_slice())?;
     Ok(Object {

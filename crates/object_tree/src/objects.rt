@@ -112,7 +112,7 @@ impl Objects {
 
     /// Takes the last object off again.
     pub fn pop(&mut self)
-        ensures { (front : _) (last : AnObject) → self.old ≡ front ++ last ∷ [] → self.new ≡ front }
+        ensures { (front : _) (x : AnObject) → self.old ≡ front ++ x ∷ [] → self.new ≡ front }
     {
         let _last = self.items.pop();
     }

@@ -1,15 +1,13 @@
 ghost use Rattle.std.specs.Prelude.{◌≡◌, [], ◌↔◌, length, slice_get, IsTrue, Err, OnErr, MatchOption};
 ghost use Rattle.std.specs.Option.{option_copied};
-ghost use Rattle.meta_model.specs.Loaded.{Loaded};
 ghost use Rattle.meta_model.specs.Values.{Has, HaveTypes};
-ghost use Rattle.object_tree.specs.Adopting.{Adopts};
+ghost use Rattle.object_tree.specs.Adopting.{AdoptsLiving};
 ghost use Rattle.object_tree.specs.Creating.{Creates};
-ghost use Rattle.object_tree.specs.Family.{IsChild, children_of, without_life};
+ghost use Rattle.object_tree.specs.Family.{IsChild, IsChildless, children_of, without_life};
 ghost use Rattle.object_tree.specs.Forest.{Forest};
 ghost use Rattle.object_tree.specs.Objects.{Lives, IsGone, IsNamed, IsFree, name_of, class_of, change, blocked, scheduled, written};
-ghost use Rattle.object_tree.specs.Typed.{AreTyped, FitsProperty};
+ghost use Rattle.object_tree.specs.Typed.{AreTyped, StayTyped, StayTypedIf, FitsProperty};
 ghost use Rattle.object_tree.specs.declared.fault.AdoptFault.TheVariants.{NotOwned};
-ghost use Rattle.object_tree.specs.declared.object.Object.{Object as AnObject};
 
 use crate::ancestors::may_adopt;
 use crate::creation::{add, may_create, new_object};
@@ -64,7 +62,7 @@ impl Tree {
 
     /// The number of the object that has or had this name, in time that doesn't grow with the number of objects.
     pub fn find(&self, name: &Name) -> Option<ObjectId>
-        ensures { MatchOption result (IsFree self.now name.now) (λ o. IsNamed self.now name.now o) }
+        ensures { MatchOption result (IsFree self.now name.now) (IsNamed self.now name.now) }
     {
         match self.names.find(name) {
             Some(number) => Some(ObjectId::new(number)),
@@ -112,7 +110,7 @@ impl Tree {
     /// The first living child of an object, which may be dead, in the order of adoption.
     pub fn first_child(&self, parent: ObjectId) -> Option<ObjectId>
         ensures first { result ≡ slice_get (children_of self.now parent) 0 }
-        ensures lives { MatchOption result ((o : _) → ¬ IsChild self.now parent o) (λ o. IsChild self.now parent o) }
+        ensures lives { MatchOption result (IsChildless self.now parent) (IsChild self.now parent) }
     {
         self.objects.first_child(parent)
     }
@@ -120,7 +118,7 @@ impl Tree {
     /// Blocks an object, or lets it emit again; a number of no object changes nothing.
     pub fn block(&mut self, object: ObjectId, on: bool)
         ensures value { self.new ≡ change object (blocked on) self.old }
-        ensures typed { (p : Loaded) → AreTyped p self.old → AreTyped p self.new }
+        ensures typed { StayTyped self.old self.new }
     {
         self.objects.block(object, on);
     }
@@ -128,7 +126,7 @@ impl Tree {
     /// Marks that an object's deletion is scheduled; a number of no object changes nothing.
     pub fn mark_scheduled(&mut self, object: ObjectId)
         ensures value { self.new ≡ change object scheduled self.old }
-        ensures typed { (p : Loaded) → AreTyped p self.old → AreTyped p self.new }
+        ensures typed { StayTyped self.old self.new }
     {
         self.objects.schedule(object);
     }
@@ -136,7 +134,7 @@ impl Tree {
     /// Writes a property of an object; a number of no object or of no property changes nothing.
     pub fn set_value(&mut self, object: ObjectId, property: usize, value: Value)
         ensures value { self.new ≡ change object (written property value) self.old }
-        ensures typed { (p : Loaded) → FitsProperty p self.old object property value → AreTyped p self.old → AreTyped p self.new }
+        ensures typed { StayTypedIf (FitsProperty self.old object property value) self.old self.new }
     {
         self.objects.write(object, property, value);
     }
@@ -144,7 +142,7 @@ impl Tree {
     /// The object lives no more and leaves its parent's children; its own children stay its children.
     pub fn mark_dead(&mut self, object: ObjectId)
         ensures value { self.new ≡ without_life object self.old }
-        ensures typed { (p : Loaded) → AreTyped p self.old → AreTyped p self.new }
+        ensures typed { StayTyped self.old self.new }
     {
         self.objects.mark_dead(object);
     }
@@ -179,11 +177,11 @@ impl Tree {
         parent: ObjectId,
         child: ObjectId,
     ) -> Result<(), AdoptFault>
-        ensures value { (x y : AnObject) → Lives self.old parent x → Lives self.old child y → Adopts meta.now parent child x y self.old result self.new }
+        ensures value { AdoptsLiving meta.now parent child self.old result self.new }
         ensures no_parent { IsGone self.old parent → result ≡ Err NotOwned }
         ensures no_child { IsGone self.old child → result ≡ Err NotOwned }
         ensures unchanged { OnErr result (self.new ≡ self.old) }
-        ensures typed { (p : Loaded) → AreTyped p self.old → AreTyped p self.new }
+        ensures typed { StayTyped self.old self.new }
     {
         let (Some(owner), Some(owned)) = (self.get(parent), self.get(child)) else {
             return Err(AdoptFault::NotOwned);

@@ -1,7 +1,8 @@
 //! Whether values are of the types that are declared.
 
-ghost use Rattle.std.specs.Prelude.{◌≡◌, ◌↔◌, All, IsTrue};
+ghost use Rattle.std.specs.Prelude.{◌↔◌, All, IsTrue};
 ghost use Rattle.meta_model.specs.Values.{Has, HaveTypes};
+ghost use Rattle.object_tree.specs.Creating.{BeginsAs};
 ghost use Rattle.object_tree.specs.Objects.{class_of, class_with};
 
 use crate::objects::Objects;
@@ -10,7 +11,7 @@ use signatures::Value;
 
 /// Whether each property of a new object of the class `new` has at first a value of its type.
 pub fn begin_well(meta: &Meta, objects: &Objects, new: usize, properties: &[MetaProperty]) -> bool
-    ensures { IsTrue result ↔ All (λ q. Has meta.now (class_with objects.now new) q.initial q.kind) properties.now }
+    ensures { IsTrue result ↔ All (BeginsAs meta.now (class_with objects.now new)) properties.now }
 {
     properties
         .iter()
@@ -19,7 +20,7 @@ pub fn begin_well(meta: &Meta, objects: &Objects, new: usize, properties: &[Meta
 
 /// Whether the property of a new object of the class `new` has at first a value of its type.
 fn begins_well(meta: &Meta, objects: &Objects, new: usize, property: &MetaProperty) -> bool
-    ensures { IsTrue result ↔ Has meta.now (class_with objects.now new) property.now.initial property.now.kind }
+    ensures { IsTrue result ↔ BeginsAs meta.now (class_with objects.now new) property.now }
 {
     match &property.initial {
         Value::Ref(Some(object)) => {

@@ -1,6 +1,6 @@
-ghost use Rattle.std.specs.Prelude.{◌≡◌, [], map, slice_get, slice_set, IfOk};
+ghost use Rattle.std.specs.Prelude.{◌≡◌, [], slice_get, slice_set, IfOk};
 ghost use Rattle.std.specs.Option.{option_copied};
-ghost use Rattle.meta_model.specs.declared.object.MetaProperty.{MetaProperty as AMetaProperty};
+ghost use Rattle.object_tree.specs.Creating.{initials};
 
 use meta_objects::MetaProperty;
 use signatures::Value;
@@ -25,7 +25,7 @@ impl Model for Values {
 impl Values {
     /// The values that these properties have at first.
     pub fn initial(alloc: Global, properties: &[MetaProperty]) -> Result<Values, AllocError>
-        ensures { IfOk result (λ values. values ≡ map (λ (q : AMetaProperty). q.initial) properties.now) }
+        ensures { IfOk result (λ values. values ≡ initials properties.now) }
     {
         let mut items = Vec::with_capacity(alloc, properties.len())?;
         for property in properties {

@@ -19,7 +19,7 @@ invariant_of-self-2 c =
     let objects : List Object = c.self.inside.objects in
     let made : Object = fresh c.args.name.now c.in_ok-number.number c.args.home (initial_values c.in_ok-number.kind.now) in
     let appended : c.add.new.objects ≡ objects ++ made ∷ [] = c.in_ok-add.ensures.added ∙ ap (λ (z : Object). objects ++ z ∷ []) c.in_ok-object.ensures in
-    subst (λ (xs : List Object). Kept c.add.new.names xs) (sym appended) (kept-created c.self.inside.names c.add.new.names objects made refl refl refl c.in_ok-number.ensures.free c.in_ok-add.ensures.named c.self.invariant)
+    subst (λ (xs : List Object). Kept c.add.new.names xs) (sym appended) (kept-created c.self.inside.names c.add.new.names objects made refl refl refl c.in_ok-number.ensures.may.free c.in_ok-add.ensures.named c.self.invariant)
 
 pub returns-clause-value : goal.returns-clause-value
 returns-clause-value c =
@@ -27,7 +27,7 @@ returns-clause-value c =
     record {
       number = c.in_ok-number.number;
       kind = c.in_ok-number.kind.now;
-      may = subst (λ (xs : List Object). MayCreate c.args.meta.now xs c.args.name.now c.args.class.now c.in_ok-number.number c.in_ok-number.kind.now) c.self.view_is c.in_ok-number.ensures;
+      may = subst (λ (xs : List Object). MayCreate c.args.meta.now xs c.args.name.now c.args.class.now c.in_ok-number.number c.in_ok-number.kind.now) c.self.view_is c.in_ok-number.ensures.may;
       last = c.new.ensures ∙ c.len-count.ensures ∙ ap (λ (xs : List Object). length xs) c.self.view_is;
       appended = c.in_ok-add.ensures.added ∙ ap (λ (z : Object). objects ++ z ∷ []) c.in_ok-object.ensures ∙ ap (λ (xs : List Object). xs ++ fresh c.args.name.now c.in_ok-number.number c.args.home (initial_values c.in_ok-number.kind.now) ∷ []) c.self.view_is;
     }
@@ -38,4 +38,4 @@ returns-clause-typed c = λ all.
     let made : Object = fresh c.args.name.now c.in_ok-number.number c.args.home (initial_values c.in_ok-number.kind.now) in
     let appended : c.add.new.objects ≡ objects ++ made ∷ [] = c.in_ok-add.ensures.added ∙ ap (λ (z : Object). objects ++ z ∷ []) c.in_ok-object.ensures in
     let before : AreTyped c.args.meta.now objects = subst (λ (xs : List Object). AreTyped c.args.meta.now xs) (sym c.self.view_is) all in
-    subst (λ (xs : List Object). AreTyped c.args.meta.now xs) (sym appended) (typed-created c.args.meta.now objects c.args.name.now c.in_ok-number.number c.args.home c.in_ok-number.kind.now c.in_ok-number.ensures.is c.in_ok-number.ensures.begins before)
+    subst (λ (xs : List Object). AreTyped c.args.meta.now xs) (sym appended) (typed-created c.args.meta.now objects c.args.name.now c.in_ok-number.number c.args.home c.in_ok-number.kind.now c.in_ok-number.ensures.may.is c.in_ok-number.ensures.may.begins before)

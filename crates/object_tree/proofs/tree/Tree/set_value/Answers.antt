@@ -15,5 +15,5 @@ pub returns-clause-typed : goal.returns-clause-typed
 returns-clause-typed c = λ p fits all.
     let objects = c.self.inside.objects in
     subst (λ (xs : List Object). AreTyped p xs) (sym c.write.ensures) (typed-written p objects c.args.object c.args.property c.args.value
-    (subst (λ (xs : List Object). FitsProperty p xs c.args.object c.args.property c.args.value) (sym c.self.view_is) fits)
+    (subst (λ (xs : List Object). FitsProperty xs c.args.object c.args.property c.args.value p) (sym c.self.view_is) fits)
     (subst (λ (xs : List Object). AreTyped p xs) (sym c.self.view_is) all))
