@@ -4,7 +4,6 @@ ghost use Rattle.std.specs.Prelude.{◌≡◌, ◌<◌, ◌≤◌, [], ◌∷◌
 ghost use Rattle.texts.specs.Cursor.{NotAt};
 ghost use Rattle.texts.specs.Reading.{Reads, EndsAnywhere};
 ghost use Rattle.texts.specs.declared.symbol.Symbol.TheVariants.{Colon};
-ghost use Rattle.class_lang.specs.Members.{with_members};
 ghost use Rattle.class_lang.specs.Declarations.{ReadsMembers, ReadsDeclaration, ReadsDeclarations, spell_class, tree_of_class, spell_base, spell_end, tree_of_end, spell_wire, tree_of_wire, spell_owns, tree_of_owns, with_declarations, EndsDeclaration};
 
 use crate::members::{add_member, next_member};

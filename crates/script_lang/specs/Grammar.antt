@@ -12,7 +12,7 @@
 --   value = literal | Name
 --
 -- `connect`, `set`, `emit` and `call` are reserved words; `new`, `adopt`, `block` and `unblock` are names.
-use Rattle.std.specs.Prelude.{ℕ, ◌≡◌, ◌≢◌, ◌≤◌, List, [], ◌∷◌, map, length, codes, Option, Some, None}
+use Rattle.std.specs.Prelude.{ℕ, ◌≡◌, ◌≢◌, List, [], ◌∷◌, map, codes, Option, Some, None}
 use Rattle.std.specs.List.{AllByRecursion}
 use Rattle.signatures.specs.declared.kind.Kind.{Kind}
 use Rattle.signatures.specs.declared.kind.Kind.TheVariants.{Queued}
