@@ -20,8 +20,8 @@ named-first objects name (Some o) is = by_object (slice_get objects o) refl is.n
         is = found;
         named = same_Some _ _ e;
         first = λ k y less there named.
-        let same : k ≡ o = is.only k (ap (option_map (λ (z : Object). z.name)) there ∙ ap Some named) in
-        absurd (omega (arith, less, same));
+            let same : k ≡ o = is.only k (ap (option_map (λ (z : Object). z.name)) there ∙ ap Some named) in
+            absurd (omega (arith, less, same));
       },
     )
 
