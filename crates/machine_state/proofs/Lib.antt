@@ -1,2 +1,1 @@
-mod Errors
-mod Found
+pub mod Found

@@ -1,5 +1,7 @@
 pub mod Faults
+pub mod Refusals
 pub mod State
 pub mod Objects
 pub mod Connections
+pub mod Accepting
 pub mod Worlds

@@ -1,13 +1,17 @@
 //! What the world becomes where an event is refused or accepted.
 
-ghost use Rattle.std.specs.Prelude.{◌≡◌, ◌+◌, ◌-◌, ◌<◌, ◌^◌, ◌∷◌, [], ◌++◌, slice_get, slice_set, Some};
+ghost use Rattle.std.specs.Prelude.{◌≡◌, ◌+◌, ◌-◌, ◌<◌, ◌^◌, ◌∷◌, [], ◌++◌, OnOk, OnErr};
+ghost use Rattle.object_tree.specs.Adopting.{AdoptsLiving};
+ghost use Rattle.object_tree.specs.Creating.{Creates};
 ghost use Rattle.object_tree.specs.Objects.{Lives, change, blocked, written};
 ghost use Rattle.object_tree.specs.declared.object.Object.{Object as AnObject};
-ghost use Rattle.machine_state.specs.Worlds.{accepted, accepted_with, Becomes, Refuses, Creates, RefusesCreation, Adopts, RefusesAdoption};
+ghost use Rattle.machine_state.specs.Accepting.{accepted, with_entry};
+ghost use Rattle.machine_state.specs.Worlds.{at, after, main, connected_by, Becomes, Refuses};
 
-use crate::connections::{Connection, Joint};
+use crate::connections::{Connection, Endpoints};
 use crate::entry::Entry;
 use crate::fault::{Answer, Fault};
+use crate::refusal::Refusal;
 use crate::world::World;
 use meta_objects::Meta;
 use object_tree::{AdoptFault, CreateFault};
@@ -18,14 +22,15 @@ const MAIN: usize = 0;
 
 impl World {
     /// Writes down that the event is refused; without memory nothing changes.
-    pub fn refuse(&mut self, reason: u8) -> Result<Answer, Fault>
+    pub fn refuse(&mut self, refusal: Refusal) -> Result<Answer, Fault>
         requires left { 0 < self.old.left }
         requires few { self.old.events < 2 ^ 63 }
-        ensures { Refuses self.old reason self.new result }
+        ensures { Refuses self.old refusal self.new result }
     {
-        self.trace.push(Entry::Refused(self.events + 1, reason))?;
+        let number = refusal.number();
+        self.trace.push(Entry::Refused(self.events + 1, number))?;
         self.count_event();
-        Ok(Answer::Refused(reason))
+        Ok(Answer::Refused(number))
     }
 
     /// Counts an event that is taken, which is one rule.
@@ -38,71 +43,63 @@ impl World {
         self.left -= 1;
     }
 
-    /// Creates an object of the class of this name in the loop `main`, or refuses the event; `BadType` where an initial
-    /// value isn't of its property's type. Then, and without memory, nothing changes.
-    pub fn create(&mut self, meta: &Meta, name: &Name, class: &Name) -> Result<Answer, Fault>
+    /// Creates an object of the class of this name in the loop `main` for an accepted event, or answers the first of
+    /// `NameUsed`, `NoClass`, `TooMany` and `BadType` that holds, or `Memory`; then nothing changes.
+    pub fn create(
+        &mut self,
+        meta: &Meta,
+        name: &Name,
+        class: &Name,
+    ) -> Result<ObjectId, CreateFault>
         requires left { 0 < self.old.left }
         requires few { self.old.events < 2 ^ 63 }
-        ensures { Creates meta.now self.old name.now class.now self.new result }
+        ensures objects { Creates meta.now self.old.objects name.now class.now main result self.new.objects }
+        ensures ok { OnOk result (self.new ≡ after self.old (record (accepted (at self.old [])) { objects = self.new.objects })) }
+        ensures err { OnErr result (self.new ≡ self.old) }
     {
-        self.trace.push(Entry::Accepted(self.events + 1))?;
+        let Ok(()) = self.trace.push(Entry::Accepted(self.events + 1)) else {
+            return Err(CreateFault::Memory);
+        };
         match self.objects.create(meta, name, class, LoopId::new(MAIN)) {
-            Ok(_object) => {
+            Ok(object) => {
                 self.count_event();
-                Ok(Answer::Done)
+                Ok(object)
             }
             Err(fault) => {
                 self.trace.pop();
-                self.refuse_creation(fault)
+                Err(fault)
             }
         }
     }
 
-    /// Refuses the event that doesn't create an object, or stops.
-    fn refuse_creation(&mut self, fault: CreateFault) -> Result<Answer, Fault>
+    /// Makes one living object the parent of another for an accepted event, or answers the first of `NotOwned`, `Cycle`
+    /// and `OtherLoop` that holds, or `Memory`; then nothing changes.
+    pub fn adopt(
+        &mut self,
+        meta: &Meta,
+        parent: ObjectId,
+        child: ObjectId,
+    ) -> Result<(), AdoptFault>
         requires left { 0 < self.old.left }
         requires few { self.old.events < 2 ^ 63 }
-        ensures { RefusesCreation self.old fault self.new result }
+        requires parent { (x : AnObject) × Lives self.old.objects parent x }
+        requires child { (y : AnObject) × Lives self.old.objects child y }
+        ensures objects { AdoptsLiving meta.now parent child self.old.objects result self.new.objects }
+        ensures ok { OnOk result (self.new ≡ after self.old (record (accepted (at self.old [])) { objects = self.new.objects })) }
+        ensures err { OnErr result (self.new ≡ self.old) }
     {
-        match fault {
-            CreateFault::NameUsed => self.refuse(30),
-            CreateFault::NoClass => self.refuse(33),
-            CreateFault::TooMany => self.refuse(37),
-            CreateFault::BadType => Err(Fault::BadType),
-            CreateFault::Memory => Err(Fault::Memory),
-        }
-    }
-
-    /// Makes one living object the parent of another, or refuses the event; without memory nothing changes.
-    pub fn adopt(&mut self, meta: &Meta, parent: ObjectId, child: ObjectId) -> Result<Answer, Fault>
-        requires left { 0 < self.old.left }
-        requires few { self.old.events < 2 ^ 63 }
-        ensures { (x y : AnObject) → Lives self.old.objects parent x → Lives self.old.objects child y → Adopts meta.now self.old parent child x y self.new result }
-    {
-        self.trace.push(Entry::Accepted(self.events + 1))?;
+        let Ok(()) = self.trace.push(Entry::Accepted(self.events + 1)) else {
+            return Err(AdoptFault::Memory);
+        };
         match self.objects.adopt(meta, parent, child) {
             Ok(()) => {
                 self.count_event();
-                Ok(Answer::Done)
+                Ok(())
             }
             Err(fault) => {
                 self.trace.pop();
-                self.refuse_adoption(fault)
+                Err(fault)
             }
-        }
-    }
-
-    /// Refuses the event that doesn't give an object a parent, or stops.
-    fn refuse_adoption(&mut self, fault: AdoptFault) -> Result<Answer, Fault>
-        requires left { 0 < self.old.left }
-        requires few { self.old.events < 2 ^ 63 }
-        ensures { RefusesAdoption self.old fault self.new result }
-    {
-        match fault {
-            AdoptFault::NotOwned => self.refuse(34),
-            AdoptFault::Cycle => self.refuse(35),
-            AdoptFault::OtherLoop => self.refuse(36),
-            AdoptFault::Memory => Err(Fault::Memory),
         }
     }
 
@@ -110,7 +107,7 @@ impl World {
     pub fn accept_block(&mut self, object: ObjectId, on: bool) -> Result<(), Fault>
         requires left { 0 < self.old.left }
         requires few { self.old.events < 2 ^ 63 }
-        ensures { Becomes self.old (record (accepted self.old) { objects = change object (blocked on) self.old.objects }) self.new result }
+        ensures { Becomes self.old (after self.old (record (accepted (at self.old [])) { objects = change object (blocked on) self.old.objects })) self.new result }
     {
         self.trace.push(Entry::Accepted(self.events + 1))?;
         self.objects.block(object, on);
@@ -122,7 +119,7 @@ impl World {
     pub fn accept_with(&mut self, entry: Entry) -> Result<(), Fault>
         requires left { 0 < self.old.left }
         requires few { self.old.events < 2 ^ 63 }
-        ensures { Becomes self.old (accepted_with self.old entry) self.new result }
+        ensures { Becomes self.old (after self.old (with_entry (accepted (at self.old [])) entry)) self.new result }
     {
         self.trace.push(Entry::Accepted(self.events + 1))?;
         if self.trace.push(entry).is_err() {
@@ -133,7 +130,8 @@ impl World {
         Ok(())
     }
 
-    /// Writes a property for an accepted event, and writes it down; without memory nothing changes.
+    /// Writes a property for an accepted event, and writes it down; without memory nothing changes. A number of no object
+    /// or of no property writes nothing.
     pub fn accept_write(
         &mut self,
         entry: Entry,
@@ -143,7 +141,7 @@ impl World {
     ) -> Result<(), Fault>
         requires left { 0 < self.old.left }
         requires few { self.old.events < 2 ^ 63 }
-        ensures { (x : AnObject) → slice_get self.old.objects object ≡ Some x → Becomes self.old (record (accepted_with self.old entry) { objects = slice_set self.old.objects object (written property value x) }) self.new result }
+        ensures { Becomes self.old (after self.old (record (with_entry (accepted (at self.old [])) entry) { objects = change object (written property value) self.old.objects })) self.new result }
     {
         self.accept_with(entry)?;
         self.objects.set_value(object, property, value);
@@ -151,20 +149,20 @@ impl World {
     }
 
     /// Adds the connection of an accepted event; without memory nothing changes.
-    pub fn accept_connection(&mut self, j: Joint) -> Result<(), Fault>
+    pub fn accept_connection(&mut self, ends: Endpoints) -> Result<(), Fault>
         requires left { 0 < self.old.left }
         requires few { self.old.events < 2 ^ 63 }
         requires few_connected { self.old.connected < 2 ^ 63 }
-        ensures { Becomes self.old (record (accepted self.old) { connections = self.old.connections ++ record { number = self.old.connected + 1; sender = j.sender; signal = j.signal; receiver = j.receiver; method = j.method; kind = j.kind } ∷ []; connected = self.old.connected + 1 }) self.new result }
+        ensures { Becomes self.old (after self.old (connected_by (accepted (at self.old [])) ends)) self.new result }
     {
         let number = self.connected + 1;
         self.connections.push(Connection {
             number,
-            sender: j.sender,
-            signal: j.signal,
-            receiver: j.receiver,
-            method: j.method,
-            kind: j.kind,
+            sender: ends.sender,
+            signal: ends.signal,
+            receiver: ends.receiver,
+            method: ends.method,
+            kind: ends.kind,
         })?;
         if self.trace.push(Entry::Accepted(self.events + 1)).is_err() {
             self.connections.pop();

@@ -27,7 +27,7 @@ pub struct Connection {
 
 /// The numbers of a connection's objects and methods, and its kind.
 #[derive(Clone, Copy)]
-pub struct Joint {
+pub struct Endpoints {
     /// The object whose signal is connected.
     pub sender: ObjectId,
     /// The signal's number in the sender's class.

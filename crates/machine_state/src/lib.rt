@@ -6,14 +6,16 @@ mod connections;
 mod entry;
 mod fault;
 mod natives;
+mod refusal;
 mod showing;
 mod values;
 mod world;
 
-pub use connections::{Connection, Connections, Joint};
+pub use connections::{Connection, Connections, Endpoints};
 pub use entry::{Entry, Shown, Trace};
 pub use fault::{Answer, Fault};
 pub use natives::Natives;
+pub use refusal::Refusal;
 pub use showing::{show, show_all, stored};
 pub use values::same_value;
 pub use world::{World, is_silent, may_nest};

@@ -1,123 +1,89 @@
--- What every machine's world keeps, as objects and connections are added.
-use Rattle.std.proofs.Common.{◌≡◌, ℕ, ◌+◌, ◌<◌, List, [], ◌∷◌, ◌++◌, Result, Ok, Err, sym, subst, arith}
-use Rattle.std.specs.List.{AllByRecursion}
-use Rattle.script_lang.specs.declared.event.Connect.{Connect as Connecting}
+-- What every machine's world keeps.
+use Rattle.std.proofs.Common.{◌≡◌, ℕ, ◌+◌, ◌≤◌, List, [], ◌∷◌, Bool, true, false, Result, Ok, Err, refl, ap, ◌∙◌, arith}
+use Rattle.script_lang.specs.declared.event.Event.{Event}
+use Rattle.script_lang.specs.declared.event.Event.TheVariants.{New, Adopt, Connect, Set, Emit, Call, Block, Unblock}
+use Rattle.script_lang.specs.declared.event.Input.{Input}
 use Rattle.meta_model.specs.Loaded.{Loaded}
-use Rattle.object_tree.specs.declared.object.Object.{Object}
-use Rattle.machine_state.specs.declared.connections.Connection.{Connection}
-use Rattle.machine_state.specs.declared.connections.Joint.{Joint}
-use Rattle.machine_state.specs.declared.entry.Entry.{Entry}
+use Rattle.meta_model.specs.Sound.{IsSound}
 use Rattle.machine_state.specs.declared.fault.Answer.{Answer}
 use Rattle.machine_state.specs.declared.fault.Fault.{Fault}
 use Rattle.machine_state.specs.declared.world.World.{World}
-use Rattle.machine_state.specs.Objects.{shapes_of}
-use Rattle.machine_state.specs.State.{Activation}
-use Rattle.machine_state.specs.Worlds.{accepted, accepted_with, Refuses, Halts}
-use Rattle.machine_rules.specs.Goes.{Ends, Same}
-use Rattle.machine_rules.specs.Good.{AreTyped}
-use Rattle.machine_rules.specs.Sound.{Joined, Sound}
-use Rattle.machine_rules.proofs.Keeps.{all-joined-still, ends-same, ends-sound}
-use Rattle.qt_runtime.specs.declared.bar.Bar.{Bar}
-use Rattle.qt_runtime.specs.declared.bar.Bar.TheVariants as bar
-use Rattle.qt_runtime.specs.Judging.{Barred, IsJoint}
-use Rattle.qt_runtime.specs.Taking.{Keeps}
-use Rattle.qt_runtime.proofs.Typed.{get-append}
+use Rattle.machine_state.specs.State.{State, Activation}
+use Rattle.machine_state.specs.Worlds.{at}
+use Rattle.machine_rules.specs.Sound.{Sound}
+use Rattle.machine_rules.proofs.Keeps.{begins-kept, writes-kept, rules-kept}
+use Rattle.qt_runtime.specs.declared.events.invoke.Invocation.{Invocation}
+use Rattle.qt_runtime.specs.declared.events.invoke.Invocation.TheVariants.{Emit as EmitIt, Call as CallIt}
+use Rattle.qt_runtime.specs.Judgement.{becomes, gives, goes_on}
+use Rattle.qt_runtime.specs.Runs.{Runs, done, rules, takes}
+use Rattle.qt_runtime.specs.Takes.{judged, Takes, accepts, refuses}
+use Rattle.qt_runtime.specs.Taking.{Keeps, Took}
+use Rattle.qt_runtime.specs.events.Block.{block}
+use Rattle.qt_runtime.specs.events.Invoke.{invoke}
+use Rattle.qt_runtime.proofs.Preservation.{Invariant, runs-invariant}
 
-pub all-snoc : {X : Type 0} (P : X → Type 0) (xs : List X) (x : X) → AllByRecursion P xs → P x → AllByRecursion P (xs ++ x ∷ [])
-all-snoc P [] x all p = (p, tt)
-all-snoc P (y ∷ ys) x all p = (all.0, all-snoc P ys x all.1 p)
+-- ---- counts
 
-pub all-weaken : {X : Type 0} (P Q : X → Type 0) (xs : List X) → ((x : X) → P x → Q x) → AllByRecursion P xs → AllByRecursion Q xs
-all-weaken P Q [] f all = tt
-all-weaken P Q (x ∷ xs) f all = (f x all.0, all-weaken P Q xs f all.1)
+-- an event is counted, and makes at most one connection
+record Counts (s t : State) : Type 0 where
+  pub events : t.events ≡ s.events + 1
+  pub connected : t.connected ≤ s.connected + 1
 
-joined-more : {p : Loaded} (objects more : List Object) (c : Connection) → Joined p objects c → Joined p (objects ++ more) c
-joined-more objects more c j = record {
-  sender = j.sender;
-  is_sender = get-append objects more c.sender j.sender j.is_sender;
-  signal = j.signal;
-  is_signal = j.is_signal;
-  receiver = j.receiver;
-  is_receiver = get-append objects more c.receiver j.receiver j.is_receiver;
-  method = j.method;
-  is_method = j.is_method;
-  rest = j.rest;
-  fits = j.fits;
-}
+counts-invoked : (p : Loaded) {s t : State} (a : Invocation) (name called : List ℕ) (inputs : List Input) → invoke p s a name called inputs (Ok t) → Counts s t
+counts-invoked p a name called inputs (goes_on _ o (goes_on _ m (goes_on _ vs (goes_on _ fit (becomes begins))))) =
+    let kept = begins-kept begins in
+    record { events = kept.events; connected = omega (arith, kept.connected) }
 
-joint-joined : {p : Loaded} {c : Connecting} {j : Joint} (objects : List Object) (n : ℕ) → IsJoint p objects c j → Joined p objects (record { number = n; sender = j.sender; signal = j.signal; receiver = j.receiver; method = j.method; kind = j.kind })
-joint-joined objects n i = record {
-  sender = i.sender;
-  is_sender = i.is_sender.is;
-  signal = i.signal;
-  is_signal = i.is_signal;
-  receiver = i.receiver;
-  is_receiver = i.is_receiver.is;
-  method = i.has_method.method;
-  is_method = i.has_method.is;
-  rest = i.rest;
-  fits = i.fits;
-}
+counts-blocked : {s t : State} (name : List ℕ) (on : Bool) → block s name on (Ok t) → Counts s t
+counts-blocked name on (goes_on _ lives gives) = record { events = refl; connected = omega arith }
 
--- an object is added to those that are there
-pub keeps-appended : {p : Loaded} {w v : World} (x : Object) → Keeps p w → 0 < w.left → AreTyped p (w.objects ++ x ∷ []) → v ≡ record (accepted w) { objects = w.objects ++ x ∷ [] } → Keeps p v
-keeps-appended {p} {w} x keeps some typed is =
-    let Family : World → Type 0 = λ u. Keeps p u in
-    subst Family (sym is) (record {
-      sound = record {
-        typed = typed;
-        joined = all-weaken (Joined p w.objects) (Joined p (w.objects ++ x ∷ [])) w.connections (joined-more w.objects (x ∷ [])) keeps.sound.joined;
-      };
-      events = omega (arith, keeps.events, some);
-      connected = omega (arith, keeps.connected, some);
-    })
+counts-judged : (p : Loaded) {s t : State} (e : Event) → judged p s e (Ok t) → Counts s t
+counts-judged p (New name class) (goes_on _ free (goes_on _ is (goes_on _ room gives))) = record { events = refl; connected = omega arith }
+counts-judged p (Adopt parent child) (goes_on _ a (goes_on _ c (goes_on _ owns (goes_on _ over (goes_on _ home (becomes x)))))) =
+    let events = ap (λ (u : State). u.events) x.gives in
+    let connected = ap (λ (u : State). u.connected) x.gives in
+    record { events = events; connected = omega (arith, connected) }
+counts-judged p (Connect e) (goes_on _ sender (goes_on _ receiver (goes_on _ signal (goes_on _ method (goes_on _ kind (goes_on _ covers (goes_on _ fits gives))))))) = record { events = refl; connected = omega arith }
+counts-judged p (Set name property i) (goes_on _ o (goes_on _ q (goes_on _ v (goes_on _ fits (becomes writes))))) =
+    let kept = writes-kept writes in
+    record { events = kept.events; connected = omega (arith, kept.connected) }
+counts-judged p (Emit name signal inputs) x = counts-invoked p EmitIt name signal inputs x
+counts-judged p (Call name slot inputs) x = counts-invoked p CallIt name slot inputs x
+counts-judged p (Block name) x = counts-blocked name true x
+counts-judged p (Unblock name) x = counts-blocked name false x
 
--- objects change, and none its name or class
-pub keeps-changed : {p : Loaded} {w v : World} (objects : List Object) → Keeps p w → 0 < w.left → shapes_of objects ≡ shapes_of w.objects → AreTyped p objects → v ≡ record (accepted w) { objects = objects } → Keeps p v
-keeps-changed {p} {w} objects keeps some same typed is =
-    let Family : World → Type 0 = λ u. Keeps p u in
-    subst Family (sym is) (record {
-      sound = record { typed = typed; joined = all-joined-still p w.objects objects w.connections same keeps.sound.joined };
-      events = omega (arith, keeps.events, some);
-      connected = omega (arith, keeps.connected, some);
-    })
+counts-takes : {p : Loaded} {s t : State} {e : Event} → Takes p e s t → Counts s t
+counts-takes {p = p} {e = e} (accepts idle x) = counts-judged p e x
+counts-takes (refuses k idle x) = record { events = refl; connected = omega arith }
 
--- a refused event
-pub keeps-refused : {p : Loaded} {w v : World} (k : ℕ) (r : Result Answer Fault) → Keeps p w → 0 < w.left → Refuses w k v r → Keeps p v
-keeps-refused {p} {w} {v} k (Ok a) keeps some x =
-    let Family : World → Type 0 = λ u. Keeps p u in
-    subst Family (sym x.1) (record { sound = keeps.sound; events = omega (arith, keeps.events, some); connected = omega (arith, keeps.connected, some) })
-keeps-refused {p} k (Err f) keeps some x = subst (λ (u : World). Keeps p u) (sym x.1) keeps
+-- what a run counts it pays for with rules
+record Pays (s : State) (n : ℕ) (t : State) (k : ℕ) : Type 0 where
+  pub events : t.events + k ≤ s.events + n
+  pub connected : t.connected + k ≤ s.connected + n
 
-pub keeps-halted : {p : Loaded} {w v : World} {f : Fault} {r : Result Answer Fault} → Keeps p w → Halts w f v r → Keeps p v
-keeps-halted {p} keeps x = subst (λ (u : World). Keeps p u) (sym x.same) keeps
+runs-pay : {p : Loaded} {d : ℕ} {s t : State} {n k : ℕ} {es : List Event} → Runs p d s n es t k → Pays s n t k
+runs-pay done = record { events = omega arith; connected = omega arith }
+runs-pay (rules r rest) =
+    let kept = rules-kept r in
+    let more = runs-pay rest in
+    record { events = omega (arith, kept.0.events, kept.1, more.events); connected = omega (arith, kept.0.connected, kept.1, more.connected) }
+runs-pay (takes x good rest) =
+    let one = counts-takes x in
+    let more = runs-pay rest in
+    record { events = omega (arith, one.events, more.events); connected = omega (arith, one.connected, more.connected) }
 
-pub keeps-barred : {p : Loaded} {w v : World} (b : Bar) (r : Result Answer Fault) → Keeps p w → 0 < w.left → Barred w b v r → Keeps p v
-keeps-barred (bar.Refused k) r keeps some x = keeps-refused k r keeps some x
-keeps-barred bar.Memory r keeps some x = keeps-halted keeps x
+-- ---- what a run keeps
 
--- an event that changes nothing but the count of events and the trace
-pub keeps-written : {p : Loaded} {w v : World} (entry : Entry) → Keeps p w → 0 < w.left → v ≡ accepted_with w entry → Keeps p v
-keeps-written {p} entry keeps some is =
-    let Family : World → Type 0 = λ u. Keeps p u in
-    subst Family (sym is) (record { sound = keeps.sound; events = omega (arith, keeps.events, some); connected = omega (arith, keeps.connected, some) })
+-- where nothing is going on, all that is going on stands
+pub invariant-at : {p : Loaded} (w : World) → Sound p w.objects w.connections → Invariant p (at w [])
+invariant-at w sound = record { typed = sound.typed; joined = sound.joined; stands = tt }
 
-pub keeps-connected : {p : Loaded} {w v : World} {c : Connecting} {j : Joint} → Keeps p w → 0 < w.left → IsJoint p w.objects c j → v ≡ record (accepted w) { connections = w.connections ++ record { number = w.connected + 1; sender = j.sender; signal = j.signal; receiver = j.receiver; method = j.method; kind = j.kind } ∷ []; connected = w.connected + 1 } → Keeps p v
-keeps-connected {p} {w} {v} {c} {j} keeps some joint is =
-    let Family : World → Type 0 = λ u. Keeps p u in
-    subst Family (sym is) (record {
-      sound = record { typed = keeps.sound.typed; joined = all-snoc (Joined p w.objects) w.connections _ keeps.sound.joined (joint-joined w.objects (w.connected + 1) joint) };
-      events = omega (arith, keeps.events, some);
-      connected = omega (arith, keeps.connected, some);
-    })
+keeps-run : {p : Loaded} {d : ℕ} {w v : World} {stack : List Activation} {es : List Event} → IsSound p → Keeps p w → Runs p d (at w []) w.left es (at v stack) v.left → Keeps p v
+keeps-run {w = w} sound keeps runs =
+    let up = runs-invariant sound runs (invariant-at w keeps.sound) in
+    let pays = runs-pay runs in
+    record { sound = record { typed = up.typed; joined = up.joined }; events = omega (arith, keeps.events, pays.events); connected = omega (arith, keeps.connected, pays.connected) }
 
--- what runs afterwards keeps it too
-pub keeps-still : {p : Loaded} {w v : World} → Same w v → Sound p v.objects v.connections → Keeps p w → Keeps p v
-keeps-still same sound keeps = record {
-  sound = sound;
-  events = omega (arith, keeps.events, same.events, same.fewer);
-  connected = omega (arith, keeps.connected, same.connected, same.fewer);
-}
-
-pub keeps-ends : {p : Loaded} {d h : ℕ} {w v : World} {top after : List Activation} (r : Result (Unit {0}) Fault) → Ends p d h w top v after r → Keeps p w → Keeps p v
-keeps-ends r ends keeps = keeps-still (ends-same r ends) (ends-sound r ends keeps.sound) keeps
+pub keeps-took : {p : Loaded} {d : ℕ} {w v : World} {e : Event} (r : Result Answer Fault) → IsSound p → Keeps p w → Took p d w e v r → Keeps p v
+keeps-took (Ok a) sound keeps took = keeps-run sound keeps took.cases.0.runs
+keeps-took (Err f) sound keeps took = keeps-run sound keeps took.cases.runs

@@ -1,18 +1,19 @@
-pub mod Running
+mod Lists
 mod Changes
-mod Conditions
 mod Typed
 mod Fitting
-mod Verdicts
-mod Asked
-mod Assigned
+mod Running
+mod Judged
 mod Taken
 mod Pushed
+mod Judging
 mod Keeping
+mod OneAnswer
+mod OneTaking
 mod Applying
 pub mod Inherited
-pub mod Leading
+pub mod TypedPaths
 mod Choosing
-pub mod Standing
-pub mod Lacking
+pub mod Preservation
+pub mod Progress
 pub mod Halting

@@ -10,11 +10,6 @@ use Rattle.object_tree.specs.Objects.{class_of}
 use Rattle.object_tree.specs.Typed.{IsTyped}
 use Rattle.machine_rules.specs.Good.{AreTyped}
 
-pub get-append : {X : Type 0} (xs ys : List X) (k : ℕ) (x : X) → slice_get xs k ≡ Some x → slice_get (xs ++ ys) k ≡ Some x
-get-append [] ys k x e = absurd (cc e)
-get-append (y ∷ xs) ys zero x e = e
-get-append (y ∷ xs) ys (suc k) x e = get-append xs ys k x e
-
 -- the last of a list
 pub get-last : {X : Type 0} (xs : List X) (x : X) → slice_get (xs ++ x ∷ []) (length xs) ≡ Some x
 get-last [] x = refl

@@ -8,7 +8,7 @@ use Rattle.machine_state.specs.State.{State, IsIdle}
 use Rattle.machine_rules.specs.Rules.{Rule}
 use Rattle.machine_rules.specs.Good.{IsWell, IsGood}
 use Rattle.machine_rules.specs.Runs.{Rules, IsStuck}
-use Rattle.qt_runtime.specs.Events.{Takes}
+use Rattle.qt_runtime.specs.Takes.{Takes}
 
 -- From s, with so many rules left, to t, with so many left: rules are carried out and these events are taken in their
 -- order, and nothing of it brings a bad moment.

@@ -9,9 +9,9 @@ use Rattle.machine_state.specs.declared.fault.Fault.{Fault}
 use Rattle.machine_state.specs.declared.fault.Fault.TheVariants as fault
 use Rattle.machine_state.specs.State.{Activation}
 use Rattle.machine_state.specs.Worlds.{at}
-use Rattle.qt_runtime.specs.Events.{conditions, Pass, Refuse}
 use Rattle.qt_runtime.specs.Runs.{Runs}
 use Rattle.qt_runtime.specs.Causes.{Cause}
+use Rattle.qt_runtime.specs.Taking.{IsAccepted, IsRefusedAs}
 
 pub record Seen : Type 0 where
   pub program : Loaded
@@ -56,11 +56,24 @@ abbrev pub RunsAll : Seen → List Event → Result (Unit {0}) Fault → Seen �
 RunsAll before events (Ok done) after = Completes before events after
 RunsAll before events (Err f) after = Halts before events f after ⊎ Stays before f after
 
--- the event is refused exactly where its conditions refuse it, for the first that fails
-abbrev pub Answers : Seen → Event → Answer → Type 0
-Answers before e answer.Done = Pass (conditions before.program (at before.world []) e)
-Answers before e (answer.Refused k) = Refuse (conditions before.program (at before.world []) e) k
+-- ---- one event
 
-abbrev pub Applies : Seen → Event → Result Answer Fault → Seen → Type 0
-Applies before e (Ok a) after = Completes before (e ∷ []) after × Answers before e a
-Applies before e (Err f) after = Halts before (e ∷ []) f after ⊎ Stays before f after
+-- the event was accepted, and the machine went on until nothing was going on
+pub record Accepts (before : Seen) (e : Event) (after : Seen) : Type 0 where
+  pub completes : Completes before (e ∷ []) after
+  pub accepted : IsAccepted before.program before.world e
+
+-- the event was refused for the reason of this number, and only its line was written
+pub record Refuses (before : Seen) (e : Event) (n : ℕ) (after : Seen) : Type 0 where
+  pub completes : Completes before (e ∷ []) after
+  pub refused : IsRefusedAs before.program before.world e n after.world
+
+abbrev pub OnDone : Result Answer Fault → Type 0 → Type 0
+OnDone (Ok answer.Done) Holds = Holds
+OnDone (Ok (answer.Refused n)) Holds = Unit {0}
+OnDone (Err f) Holds = Unit {0}
+
+abbrev pub OnRefused : Result Answer Fault → (ℕ → Type 0) → Type 0
+OnRefused (Ok answer.Done) Holds = Unit {0}
+OnRefused (Ok (answer.Refused n)) Holds = Holds n
+OnRefused (Err f) Holds = Unit {0}

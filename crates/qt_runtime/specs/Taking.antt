@@ -1,19 +1,38 @@
 -- What the machine's code does with an event (docs/machine.md, "Events").
 use Rattle.std.specs.Prelude.{◌≡◌, ℕ, ◌+◌, ◌<◌, ◌^◌, Bool, true, false, List, [], ◌∷◌, ◌++◌, Result, Ok, Err}
 use Rattle.signatures.specs.declared.value.Value.{Value}
-use Rattle.script_lang.specs.declared.event.Event.{Event}
-use Rattle.script_lang.specs.declared.event.Event.TheVariants.{Block, Unblock}
+use Rattle.meta_model.specs.declared.object.MetaProperty.{MetaProperty}
 use Rattle.meta_model.specs.Loaded.{Loaded}
+use Rattle.meta_model.specs.Values.{Has}
+use Rattle.object_tree.specs.declared.fault.AdoptFault.{AdoptFault}
+use Rattle.object_tree.specs.declared.fault.AdoptFault.TheVariants as adopt
+use Rattle.object_tree.specs.declared.fault.CreateFault.{CreateFault}
+use Rattle.object_tree.specs.declared.fault.CreateFault.TheVariants as create
+use Rattle.object_tree.specs.declared.object.Object.{Object}
+use Rattle.object_tree.specs.Objects.{class_of}
+use Rattle.script_lang.specs.declared.event.Event.{Event}
+use Rattle.script_lang.specs.declared.event.Event.TheVariants as event
+use Rattle.script_lang.specs.declared.event.Input.{Input}
 use Rattle.machine_state.specs.declared.fault.Answer.{Answer}
 use Rattle.machine_state.specs.declared.fault.Answer.TheVariants as answer
 use Rattle.machine_state.specs.declared.fault.Fault.{Fault}
+use Rattle.machine_state.specs.declared.fault.Fault.TheVariants.{BadType, Memory}
+use Rattle.machine_state.specs.declared.refusal.Refusal.{Refusal}
+use Rattle.machine_state.specs.declared.refusal.Refusal.TheVariants.{NameUsed, NoClass, TooManyObjects, NotOwned, Cycle, OtherLoop}
 use Rattle.machine_state.specs.declared.world.World.{World}
+use Rattle.machine_state.specs.Accepting.{accepted, refused}
+use Rattle.machine_state.specs.Refusals.{refusal_number}
 use Rattle.machine_state.specs.State.{State, Activation}
-use Rattle.machine_state.specs.Worlds.{at}
-use Rattle.qt_runtime.specs.Events.{conditions, Pass, Refuse, Effect, accepted}
+use Rattle.machine_state.specs.Worlds.{at, after, Refuses}
+use Rattle.machine_rules.specs.Goes.{IsField}
 use Rattle.machine_rules.specs.Rules.{Begins, Writes}
-use Rattle.qt_runtime.specs.Runs.{Runs, Reason}
 use Rattle.machine_rules.specs.Sound.{Sound}
+use Rattle.qt_runtime.specs.declared.events.invoke.Invocation.{Invocation}
+use Rattle.qt_runtime.specs.declared.events.invoke.Invocation.TheVariants.{Emit, Call}
+use Rattle.qt_runtime.specs.declared.judgement.NotAccepted.{NotAccepted}
+use Rattle.qt_runtime.specs.declared.judgement.NotAccepted.TheVariants as reason
+use Rattle.qt_runtime.specs.Runs.{Runs, Reason}
+use Rattle.qt_runtime.specs.Takes.{judged}
 
 -- what every machine's world keeps: its parts fit together, and no count is near its limit
 pub record Keeps (p : Loaded) (w : World) : Type 0 where
@@ -33,32 +52,74 @@ pub record Halted (p : Loaded) (depth : ℕ) (w : World) (e : Event) (v : World)
 pub record Taken (p : Loaded) (depth : ℕ) (w : World) (e : Event) (v : World) : Type 0 where
   pub runs : Runs p depth (at w []) w.left (e ∷ []) (at v []) v.left
 
-abbrev pub Answered : Loaded → World → Event → Answer → Type 0
-Answered p w e answer.Done = Pass (conditions p (at w []) e)
-Answered p w e (answer.Refused k) = Refuse (conditions p (at w []) e) k
+-- the event is accepted
+pub record IsAccepted (p : Loaded) (w : World) (e : Event) : Type 0 where
+  pub effect : State
+  pub why : judged p (at w []) e (Ok effect)
+
+-- the event is refused for the reason of this number, and only its line is written
+pub record IsRefusedAs (p : Loaded) (w : World) (e : Event) (n : ℕ) (v : World) : Type 0 where
+  pub refusal : Refusal
+  pub numbered : n ≡ refusal_number refusal
+  pub why : judged p (at w []) e (Err refusal)
+  pub line : v ≡ after w (refused (at w []) refusal)
+
+abbrev pub Answered : Loaded → World → Event → World → Answer → Type 0
+Answered p w e v answer.Done = IsAccepted p w e
+Answered p w e v (answer.Refused n) = IsRefusedAs p w e n v
 
 abbrev pub TookCases : Loaded → ℕ → World → Event → World → Result Answer Fault → Type 0
-TookCases p depth w e v (Ok a) = Taken p depth w e v × Answered p w e a
+TookCases p depth w e v (Ok a) = Taken p depth w e v × Answered p w e v a
 TookCases p depth w e v (Err f) = Halted p depth w e v f
 
 -- the event was taken and the run went on to its end, or stopped
 pub record Took (p : Loaded) (depth : ℕ) (w : World) (e : Event) (v : World) (result : Result Answer Fault) : Type 0 where
   pub cases : TookCases p depth w e v result
 
--- the event passes, and its effect is that the method begins
+-- what becomes of an event that isn't accepted
+abbrev pub IsRefused : World → NotAccepted → World → Result Answer Fault → Type 0
+IsRefused w (reason.Refused k) v result = Refuses w k v result
+IsRefused w reason.Memory v result = (result ≡ Err Memory) × (v ≡ w)
+
+-- why an event is refused, or the run stops, where no object is created
+abbrev pub creation_reason : CreateFault → Result Refusal Fault
+creation_reason create.NameUsed = Ok NameUsed
+creation_reason create.NoClass = Ok NoClass
+creation_reason create.TooMany = Ok TooManyObjects
+creation_reason create.BadType = Err BadType
+creation_reason create.Memory = Err Memory
+
+-- .. where an object isn't adopted
+abbrev pub adoption_reason : AdoptFault → Result Refusal Fault
+adoption_reason adopt.NotOwned = Ok NotOwned
+adoption_reason adopt.Cycle = Ok Cycle
+adoption_reason adopt.OtherLoop = Ok OtherLoop
+adoption_reason adopt.Memory = Err Memory
+
+-- the event is accepted, and its effect is that the method begins
 pub record AsksFor (p : Loaded) (w : World) (o m : ℕ) (values : List Value) (e : Event) : Type 0 where
-  pub passes : Pass (conditions p (at w []) e)
-  pub effect : (t : State) → Begins p (accepted (at w [])) [] o m values t → Effect p (accepted (at w [])) e t
+  pub effect : (t : State) → Begins p (accepted (at w [])) [] o m values t → judged p (at w []) e (Ok t)
 
 -- .. that the property is written
 pub record WritesTo (p : Loaded) (w : World) (o q : ℕ) (value : Value) (e : Event) : Type 0 where
-  pub passes : Pass (conditions p (at w []) e)
-  pub effect : (t : State) → Writes p (accepted (at w [])) [] o q value t → Effect p (accepted (at w [])) e t
+  pub effect : (t : State) → Writes p (accepted (at w [])) [] o q value t → judged p (at w []) e (Ok t)
+
+-- the value is of the type of an object's property
+pub record ValueFits (p : Loaded) (objects : List Object) (o q : ℕ) (v : Value) : Type 0 where
+  pub object : Object
+  pub property : MetaProperty
+  pub is : IsField p objects o q object property
+  pub has : Has p (class_of objects) v property.kind
+
+-- the event that asks this of a method
+abbrev pub invoking : Invocation → List ℕ → List ℕ → List Input → Event
+invoking Emit name called inputs = event.Emit name called inputs
+invoking Call name called inputs = event.Call name called inputs
 
 -- the event that blocks an object or unblocks it
 abbrev pub blocking : Bool → List ℕ → Event
-blocking true name = Block name
-blocking false name = Unblock name
+blocking true name = event.Block name
+blocking false name = event.Unblock name
 
 -- what every machine keeps
 pub record IsKept (p : Loaded) (depth : ℕ) (w : World) : Type 0 where

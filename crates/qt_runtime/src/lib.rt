@@ -1,14 +1,13 @@
 //! The object machine: a run of a program, event by event.
 #![tactic(auto)]
 
-mod asking;
-mod assigning;
-mod bar;
-mod connecting;
-mod inputs;
+mod events;
+mod judgement;
+mod laws;
 mod machine;
 mod taking;
 
+pub use laws::{one_judgement, one_taking};
 pub use machine::Machine;
 pub use machine_state::{Answer, Entry, Fault, Natives, Shown};
 pub use meta_objects::{Meta, MetaFault};

@@ -1,5 +1,5 @@
-ghost use Rattle.std.specs.Prelude.{◌≡◌, ◌<◌, ◌≤◌, ◌^◌, IfOk};
-ghost use Rattle.qt_runtime.specs.Seen.{Applies, RunsAll, begun};
+ghost use Rattle.std.specs.Prelude.{◌≡◌, ◌<◌, ◌≤◌, ◌^◌, ◌∷◌, [], ◌⊎◌, IfOk, IfErr};
+ghost use Rattle.qt_runtime.specs.Seen.{OnDone, OnRefused, Accepts, Refuses, Halts, Stays, RunsAll, begun};
 
 use crate::taking::take_event;
 use machine_rules::Setting;
@@ -60,7 +60,9 @@ impl Machine {
     /// growth of memory was refused. The trace then ends with the last whole rule. On a machine that has stopped the
     /// answer is `Stopped`, and nothing changes.
     pub fn apply(&mut self, event: &Event) -> Result<Answer, Fault>
-        ensures { Applies self.old event.now result self.new }
+        ensures done { OnDone result (Accepts self.old event.now self.new) }
+        ensures refused { OnRefused result (λ number. Refuses self.old event.now number self.new) }
+        ensures stopped { IfErr result (λ fault. Halts self.old (event.now ∷ []) fault self.new ⊎ Stays self.old fault self.new) }
     {
         if self.stopped {
             return Err(Fault::Stopped);

@@ -2,6 +2,7 @@ use Rattle.std.proofs.Common.{◌≡◌, ◌+◌, ◌++◌, ◌∷◌, List, tak
 use Rattle.std.proofs.lemmas.List.{take_more, drop_more}
 use Rattle.script_lang.specs.declared.event.Event.{Event}
 use Rattle.qt_runtime.specs.Seen.{RunsAll}
+use Rattle.qt_runtime.proofs.Halting.{completes-of}
 use Rattle.qt_runtime.proofs.Applying.{completes-none, completes-then, run-stops}
 use Rattle.qt_runtime.proofs.machine.Machine.run.Goals as goal
 
@@ -11,7 +12,7 @@ loop-event-init c = completes-none (sym c.is_stopped.ensures ∙ c.if-is_stopped
 pub loop-event-preserved : goal.loop-event-preserved
 loop-event-preserved c =
     let more = take_more c.args.events.now c.loop-event.event-index c.event-item.result c.loop-event-test.true in
-    rw (more, ← c.event-item.is) (completes-then c.loop-event.invariant c.in_ok-_answer.ensures.0)
+    rw (more, ← c.event-item.is) (completes-then c.loop-event.invariant (completes-of c.in_ok-_answer._answer c.in_ok-_answer.ensures.done c.in_ok-_answer.ensures.refused))
 
 pub returns-in_err-_answer : goal.returns-in_err-_answer
 returns-in_err-_answer c =
@@ -19,4 +20,4 @@ returns-in_err-_answer c =
     let rest = drop (c.loop-event.event-index + 1) c.args.events.now in
     let split : take c.loop-event.event-index c.args.events.now ++ c.event-item.result ∷ rest ≡ c.args.events.now =
     ap (λ (l : List Event). take c.loop-event.event-index c.args.events.now ++ l) (sym (rw (← c.event-item.is) at more)) ∙ take-append-drop c.loop-event.event-index c.args.events.now in
-    subst (λ (l : List Event). RunsAll c.args.self.now l c.from_residual.result c.apply.new.self) split (run-stops rest _ c.loop-event.invariant c.in_err-_answer.ensures c.from_residual.ensures.1)
+    subst (λ (l : List Event). RunsAll c.args.self.now l c.from_residual.result c.apply.new.self) split (run-stops rest _ c.loop-event.invariant c.in_err-_answer.ensures.stopped c.from_residual.ensures.1)

@@ -1,0 +1,19 @@
+-- What every event does to the state, whatever its effect (docs/machine.md, "Events").
+use Rattle.std.specs.Prelude.{◌+◌, [], ◌∷◌, ◌++◌}
+use Rattle.machine_state.specs.declared.entry.Entry.{Entry}
+use Rattle.machine_state.specs.declared.entry.Entry.TheVariants as entry
+use Rattle.machine_state.specs.declared.refusal.Refusal.{Refusal}
+use Rattle.machine_state.specs.Refusals.{refusal_number}
+use Rattle.machine_state.specs.State.{State}
+
+-- an entry is written down
+abbrev pub with_entry : State → Entry → State
+with_entry s entry = record s { trace = s.trace ++ entry ∷ [] }
+
+-- an event is taken, and its line is written down
+abbrev pub accepted : State → State
+accepted s = record s { events = s.events + 1; trace = s.trace ++ entry.Accepted (s.events + 1) ∷ [] }
+
+-- a refused event leaves all else as it was
+abbrev pub refused : State → Refusal → State
+refused s r = record s { events = s.events + 1; trace = s.trace ++ entry.Refused (s.events + 1) (refusal_number r) ∷ [] }

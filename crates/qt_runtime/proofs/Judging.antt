@@ -1,0 +1,9 @@
+-- Which step of an event's judgement decides, one file an event.
+pub mod Naming
+pub mod Reading
+pub mod Creating
+pub mod Adopting
+pub mod Connecting
+pub mod Assigning
+pub mod Invoking
+pub mod Blocking

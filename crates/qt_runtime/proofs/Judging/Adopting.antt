@@ -1,0 +1,61 @@
+-- `adopt`.
+use Rattle.std.proofs.Common.{◌≡◌, ◌<◌, ℕ, List, [], Result, Ok, Err, MatchResult, refl, sym, subst}
+use Rattle.meta_model.specs.Loaded.{Loaded}
+use Rattle.object_tree.specs.declared.fault.AdoptFault.{AdoptFault}
+use Rattle.object_tree.specs.declared.object.Object.{Object}
+use Rattle.object_tree.specs.Adopting.{IsAdopted, IsNotAdopted, MayAdopt, not_owned, cycle, other_loop, no_memory}
+use Rattle.script_lang.specs.declared.event.Event.TheVariants.{Adopt}
+use Rattle.machine_state.specs.declared.fault.Fault.{Fault}
+use Rattle.machine_state.specs.declared.refusal.Refusal.{Refusal}
+use Rattle.machine_state.specs.declared.world.World.{World}
+use Rattle.machine_state.specs.Accepting.{accepted}
+use Rattle.machine_state.specs.Objects.{shape_of}
+use Rattle.machine_state.specs.Worlds.{at}
+use Rattle.machine_rules.specs.Good.{AreTyped}
+use Rattle.qt_runtime.specs.Judgement.{Numbered, holds, fails, becomes, goes_on, ends, IsNotAccepted}
+use Rattle.qt_runtime.specs.declared.judgement.NotAccepted.{NotAccepted}
+use Rattle.qt_runtime.specs.Taking.{Halted, adoption_reason}
+use Rattle.qt_runtime.specs.events.Adopt.{adopt}
+use Rattle.qt_runtime.specs.events.Named.{IsLiving, living}
+use Rattle.qt_runtime.proofs.Changes.{map-adopted, content_of, typed-same}
+use Rattle.qt_runtime.proofs.Judged.{then-ends, then-on}
+use Rattle.qt_runtime.proofs.Taken.{halted-short}
+use Rattle.qt_runtime.proofs.Judging.Naming.{living-ok}
+
+-- the parent's name isn't accepted
+pub no-parent : (p : Loaded) (w : World) (parent child : List ℕ) {n : NotAccepted} → IsNotAccepted (living w.objects parent) n → IsNotAccepted (adopt p (at w []) parent child) n
+no-parent p w parent child x = then-ends x
+
+pub typed-adopted : {p : Loaded} {a c : ℕ} {y : Object} {old new : List Object} → AreTyped p old → IsAdopted a c y old new → AreTyped p new
+typed-adopted {p} {old = old} {new = new} typed is =
+    typed-same p old new (map-adopted content_of (λ z l. refl) (λ z l. refl) is) (map-adopted shape_of (λ z l. refl) (λ z l. refl) is) typed
+
+module _ (p : Loaded) (w : World) (parent child : List ℕ) (a : Numbered Object) (above : IsLiving w.objects parent a) where
+  -- .. nor the child's
+  pub no-child : {n : NotAccepted} → IsNotAccepted (living w.objects child) n → IsNotAccepted (adopt p (at w []) parent child) n
+  no-child x = then-on a (living-ok a above) (then-ends x)
+
+  module _ (c : Numbered Object) (below : IsLiving w.objects child c) where
+    pub adopts : {new : List Object} → MayAdopt p w.objects a.number c.number a.it c.it → IsAdopted a.number c.number c.it w.objects new → adopt p (at w []) parent child (Ok (record (accepted (at w [])) { objects = new }))
+    adopts {new} may is =
+        goes_on a (living-ok a above) (goes_on c (living-ok c below)
+        (goes_on tt (holds may.owns) (goes_on tt (holds may.no_cycle) (goes_on tt (holds may.one_loop) (becomes (record { objects = new; is = is; gives = refl }))))))
+
+    -- the object isn't adopted
+    pub not-adopted : (d : ℕ) {f : AdoptFault} → IsNotAdopted p w.objects a.number c.number a.it c.it f → 0 < w.left → MatchResult (adoption_reason f) (λ k. adopt p (at w []) parent child (Err k)) (λ g. Halted p d w (Adopt parent child) w g)
+    not-adopted d (not_owned none) some = goes_on a (living-ok a above) (goes_on c (living-ok c below) (ends (fails none)))
+    not-adopted d (cycle owns over) some =
+        goes_on a (living-ok a above) (goes_on c (living-ok c below) (goes_on tt (holds owns) (ends (fails (λ free. free over)))))
+    not-adopted d (other_loop owns free apart) some =
+        goes_on a (living-ok a above) (goes_on c (living-ok c below) (goes_on tt (holds owns) (goes_on tt (holds free) (ends (fails apart)))))
+    not-adopted d no_memory some = halted-short (Adopt parent child) some
+
+    pub adoption-stops : (d : ℕ) {f : AdoptFault} {g : Fault} → IsNotAdopted p w.objects a.number c.number a.it c.it f → 0 < w.left → Err g ≡ adoption_reason f → Halted p d w (Adopt parent child) w g
+    adoption-stops d is some e =
+        let Decides : Result Refusal Fault → Type 0 = λ r. MatchResult r (λ k. adopt p (at w []) parent child (Err k)) (λ h. Halted p d w (Adopt parent child) w h) in
+        subst Decides (sym e) (not-adopted d is some)
+
+    pub adoption-refuses : {f : AdoptFault} {k : Refusal} → IsNotAdopted p w.objects a.number c.number a.it c.it f → 0 < w.left → Ok k ≡ adoption_reason f → adopt p (at w []) parent child (Err k)
+    adoption-refuses is some e =
+        let Decides : Result Refusal Fault → Type 0 = λ r. MatchResult r (λ k. adopt p (at w []) parent child (Err k)) (λ h. Halted p 0 w (Adopt parent child) w h) in
+        subst Decides (sym e) (not-adopted 0 is some)

@@ -1,0 +1,139 @@
+-- An event has one answer.
+use Rattle.std.proofs.Common.{◌≡◌, ℕ, List, [], ◌∷◌, Option, Some, slice_get, slice_set, length, Result, Ok, Err, true, false, refl, sym, ap, ◌∙◌, subst}
+use Rattle.signatures.specs.declared.sig.Sig.{Sig}
+use Rattle.signatures.specs.declared.qtype.QType.{QType}
+use Rattle.signatures.specs.declared.value.Value.{Value}
+use Rattle.meta_model.specs.declared.object.MetaMethod.{MetaMethod}
+use Rattle.meta_model.specs.declared.object.MetaObject.{MetaObject}
+use Rattle.meta_model.specs.declared.object.MetaProperty.{MetaProperty}
+use Rattle.meta_model.specs.Loaded.{Loaded}
+use Rattle.meta_model.specs.Members.{IsClass, IsMethod}
+use Rattle.meta_model.specs.Sound.{IsSound}
+use Rattle.object_tree.specs.declared.object.Object.{Object}
+use Rattle.script_lang.specs.declared.event.Connect.{Connect as Connecting}
+use Rattle.script_lang.specs.declared.event.Event.{Event}
+use Rattle.script_lang.specs.declared.event.Event.TheVariants as event
+use Rattle.script_lang.specs.declared.event.Input.{Input}
+use Rattle.machine_state.specs.declared.refusal.Refusal.{Refusal}
+use Rattle.machine_state.specs.Accepting.{accepted, refused}
+use Rattle.machine_state.specs.State.{State, Place, Activation, Update}
+use Rattle.machine_state.specs.declared.entry.Entry.TheVariants as entry
+use Rattle.machine_state.specs.Objects.{shown}
+use Rattle.object_tree.specs.Objects.{written}
+use Rattle.machine_rules.specs.Rules.{Begins, Writes, IsNotified, changed, unchanged, silent, begun, pushed}
+use Rattle.machine_rules.proofs.Fields.{some-is, class-unique, method-unique}
+use Rattle.qt_runtime.specs.declared.events.invoke.Invocation.{Invocation}
+use Rattle.qt_runtime.specs.declared.events.invoke.Invocation.TheVariants.{Emit, Call}
+use Rattle.qt_runtime.specs.Judgement.{Numbered}
+use Rattle.qt_runtime.specs.Laws.{HasOneAnswer, OneJudgement, OneTaking}
+use Rattle.qt_runtime.specs.Takes.{judged, Takes, accepts, refuses}
+use Rattle.qt_runtime.specs.events.Adopt.{adopt, Adopts}
+use Rattle.qt_runtime.specs.events.Assign.{assign, IsPropertyOf}
+use Rattle.qt_runtime.specs.events.Block.{block}
+use Rattle.qt_runtime.specs.events.Connect.{connect, IsMethodOf, IsSignalOf}
+use Rattle.qt_runtime.specs.events.Create.{create, IsClassOf}
+use Rattle.qt_runtime.specs.events.Invoke.{invoke, IsAskedOf}
+use Rattle.qt_runtime.proofs.OneAnswer.{one-find, one-check, one-gives, one-becomes, one-then, numbered-is, one-living, one-value, one-values, one-method, one-property, one-adopted}
+
+one-class : {p : Loaded} {name : List ℕ} → IsSound p → (a b : Numbered MetaObject) → IsClassOf p name a → IsClassOf p name b → a ≡ b
+one-class {p} sound a b f g =
+    let same : a.number ≡ b.number = sound.distinct_classes a.number b.number a.it b.it f.is.is g.is.is (f.named ∙ sym g.named) in
+    let it : Some a.it ≡ Some b.it = sym f.is.is ∙ ap (λ (n : ℕ). slice_get p.classes n) same ∙ g.is.is in
+    numbered-is same (cc it)
+
+one-sig : {p : Loaded} {class : ℕ} {sig : Sig} → IsSound p → (a b : Numbered MetaMethod) → IsMethodOf p class sig a → IsMethodOf p class sig b → a ≡ b
+one-sig sound a b f g =
+    let signed : a.it.sig ≡ b.it.sig = f.signed ∙ sym g.signed in
+    one-method sound a b f.is g.is (ap (λ (s : Sig). s.name) signed) (ap (λ (s : Sig). length s.types) signed)
+
+one-create : (p : Loaded) (s : State) (name class : List ℕ) → IsSound p → HasOneAnswer (create p s name class)
+one-create p s name class sound = one-then one-check (λ free. one-then (one-find (one-class sound)) (λ c. one-then one-check (λ room. one-gives _)))
+
+one-adopts : (s : State) (a c : Numbered Object) (t u : State) → Adopts s a c t → Adopts s a c u → t ≡ u
+one-adopts s a c t u f g = f.gives ∙ ap (λ (l : List Object). record s { objects = l }) (one-adopted f.is g.is) ∙ sym g.gives
+
+one-adopt : (p : Loaded) (s : State) (parent child : List ℕ) → HasOneAnswer (adopt p s parent child)
+one-adopt p s parent child =
+    one-then (one-living s.objects parent) (λ a. one-then (one-living s.objects child) (λ c.
+    one-then one-check (λ owns. one-then one-check (λ over. one-then one-check (λ home. one-becomes (one-adopts (accepted s) a c))))))
+
+one-connect : (p : Loaded) (s : State) (e : Connecting) → IsSound p → HasOneAnswer (connect p s e)
+one-connect p s e sound =
+    one-then (one-living s.objects e.sender) (λ a. one-then (one-living s.objects e.receiver) (λ b.
+    one-then (one-find (λ g h f k. one-sig sound g h f.of k.of)) (λ g. one-then (one-find (one-sig sound)) (λ m.
+    one-then one-check (λ kind. one-then one-check (λ covers. one-then one-check (λ fits. one-gives _)))))))
+
+one-block : (s : State) (name : List ℕ) (on : _) → HasOneAnswer (block s name on)
+one-block s name on = one-then (one-living s.objects name) (λ o. one-gives _)
+
+-- ---- what begins and what is written
+
+one-begins : {p : Loaded} {s t u : State} {below : List Activation} {o m : ℕ} {arguments : List Value} → Begins p s below o m arguments t → Begins p s below o m arguments u → t ≡ u
+one-begins {p} {s} {below = below} {o = o} {m = m} {arguments = arguments} f g =
+    let object : f.object ≡ g.object = some-is f.is_object g.is_object in
+    let At : Object → Type 0 = λ x. IsMethod p x.class m g.method in
+    let method : f.method ≡ g.method = method-unique f.is_method (subst At (sym object) g.is_method) in
+    f.gives
+    ∙ ap (λ (x : Object). begun s below o x m f.method arguments f.method.work) object
+    ∙ ap (λ (k : MetaMethod). begun s below o g.object m k arguments k.work) method
+    ∙ sym g.gives
+
+one-notified : {old new : Value} {place : Place} {notify : Option ℕ} {a b : List Place} → IsNotified old new place notify a → IsNotified old new place notify b → a ≡ b
+one-notified (changed f) (changed g) = refl
+one-notified (changed f) (unchanged g) = absurd (f g)
+one-notified (unchanged f) (changed g) = absurd (g f)
+one-notified (unchanged f) (unchanged g) = refl
+one-notified silent silent = refl
+
+one-writes : {p : Loaded} {s t u : State} {below : List Activation} {o q : ℕ} {new : Value} → Writes p s below o q new t → Writes p s below o q new u → t ≡ u
+one-writes {p} {s} {below = below} {o = o} {q = q} {new = new} f g =
+    let object : f.object ≡ g.object = some-is f.is_object g.is_object in
+    let Class : Object → Type 0 = λ x. IsClass p x.class g.class in
+    let class : f.class ≡ g.class = class-unique f.is_class (subst Class (sym object) g.is_class) in
+    let Property : MetaObject → Type 0 = λ k. slice_get k.properties q ≡ Some g.property in
+    let property : f.property ≡ g.property = some-is f.is_property (subst Property (sym class) g.is_property) in
+    let Old : Object → Type 0 = λ x. slice_get x.values q ≡ Some g.old in
+    let old : f.old ≡ g.old = some-is f.is_old (subst Old (sym object) g.is_old) in
+    let Before : Value → Type 0 = λ v. IsNotified v new (record { object = o; property = q }) g.property.notify g.places in
+    let Of : MetaProperty → Type 0 = λ k. IsNotified f.old new (record { object = o; property = q }) k.notify g.places in
+    let places : f.places ≡ g.places = one-notified f.notified (subst Of (sym property) (subst Before (sym old) g.notified)) in
+    let written_as : Object → MetaProperty → List Place → State = λ x k l.
+    pushed (record s { objects = slice_set s.objects o (written q new x) }) (Update l) below (λ d. entry.Written d x.name k.name (shown s.objects new)) in
+    f.gives
+    ∙ ap (λ (x : Object). written_as x f.property f.places) object
+    ∙ ap (λ (k : MetaProperty). written_as g.object k f.places) property
+    ∙ ap (λ (l : List Place). written_as g.object g.property l) places
+    ∙ sym g.gives
+
+-- ---- events
+
+one-assign : (p : Loaded) (s : State) (name property : List ℕ) (i : Input) → IsSound p → HasOneAnswer (assign p s name property i)
+one-assign p s name property i sound =
+    one-then (one-living s.objects name) (λ o. one-then (one-find (λ a b f g. one-property sound a b f.is g.is (f.named ∙ sym g.named))) (λ q.
+    one-then (one-value s.objects i) (λ v. one-then one-check (λ fits. one-becomes (λ t u f g. one-writes f g)))))
+
+one-invoke : (p : Loaded) (s : State) (a : Invocation) (name called : List ℕ) (inputs : List Input) → IsSound p → HasOneAnswer (invoke p s a name called inputs)
+one-invoke p s a name called inputs sound =
+    one-then (one-living s.objects name) (λ o. one-then (one-find (λ x y f g. one-method sound x y f.is g.is (f.named ∙ sym g.named) (f.counted ∙ sym g.counted))) (λ m.
+    one-then (one-values s.objects inputs) (λ vs. one-then one-check (λ fits. one-becomes (λ t u f g. one-begins f g)))))
+
+pub one_judgement : OneJudgement
+one_judgement p s (event.New name class) sound = one-create p s name class sound
+one_judgement p s (event.Adopt parent child) sound = one-adopt p s parent child
+one_judgement p s (event.Connect e) sound = one-connect p s e sound
+one_judgement p s (event.Set name property i) sound = one-assign p s name property i sound
+one_judgement p s (event.Emit name signal inputs) sound = one-invoke p s Emit name signal inputs sound
+one_judgement p s (event.Call name slot inputs) sound = one-invoke p s Call name slot inputs sound
+one_judgement p s (event.Block name) sound = one-block s name true
+one_judgement p s (event.Unblock name) sound = one-block s name false
+
+pub one_taking : OneTaking
+one_taking p e s t u sound (accepts f a) (accepts g b) =
+    let answers = one_judgement p s e sound (Ok t) (Ok u) a b in
+    cc answers
+one_taking p e s t u sound (accepts f a) (refuses k g b) = let no = one_judgement p s e sound (Ok t) (Err k) a b in absurd (cc no)
+one_taking p e s t u sound (refuses k f a) (accepts g b) = let no = one_judgement p s e sound (Err k) (Ok u) a b in absurd (cc no)
+one_taking p e s t u sound (refuses k f a) (refuses j g b) =
+    let answers = one_judgement p s e sound (Err k) (Err j) a b in
+    let same : k ≡ j = cc answers in
+    ap (λ (r : Refusal). refused s r) same

@@ -1,0 +1,339 @@
+-- Why what is going on goes on: its objects, members and statements are there.
+use Rattle.std.proofs.Common.{◌≡◌, ℕ, suc, ◌+◌, ◌<◌, Bool, List, [], ◌∷◌, ◌++◌, length, take, true, false, Option, Some, None, slice_get, slice_set, refl, sym, ap, ◌∙◌, subst, Ok, arith}
+use Rattle.std.specs.List.{AllByRecursion}
+use Rattle.signatures.specs.declared.value.Value.{Value}
+use Rattle.script_lang.specs.declared.event.Event.{Event}
+use Rattle.script_lang.specs.declared.event.Event.TheVariants.{New, Adopt, Connect, Set, Emit as EmitEvent, Call as CallEvent, Block, Unblock}
+use Rattle.meta_model.specs.declared.object.MetaMethod.{MetaMethod}
+use Rattle.meta_model.specs.declared.object.MetaProperty.{MetaProperty}
+use Rattle.meta_model.specs.declared.object.Statement.{Statement}
+use Rattle.meta_model.specs.declared.object.Statement.TheViews.{out-Statement}
+use Rattle.meta_model.specs.declared.object.ValueType.{ValueType}
+use Rattle.meta_model.specs.declared.object.Work.{Work}
+use Rattle.meta_model.specs.declared.object.Work.TheVariants.{Signal, Slot}
+use Rattle.meta_model.specs.Loaded.{Loaded}
+use Rattle.meta_model.specs.Members.{IsClass, IsMethod, Below}
+use Rattle.meta_model.specs.Sound.{IsSound, IsSoundWork, IsSoundBody, AreSound, none_sound, set_sound, emit_sound, call_sound, if_sound}
+use Rattle.meta_model.specs.Values.{HaveTypes}
+use Rattle.machine_state.specs.declared.connections.Connection.{Connection}
+use Rattle.object_tree.specs.declared.object.Object.{Object}
+use Rattle.object_tree.specs.Creating.{fresh, initial_values}
+use Rattle.object_tree.specs.Objects.{class_of, written, change, blocked}
+use Rattle.machine_state.specs.Objects.{Shape, shape_of, shapes_of}
+use Rattle.machine_state.specs.Worlds.{main}
+use Rattle.machine_rules.specs.Doings.{Doing, Write, Begin, Choose, Nothing, doing}
+use Rattle.qt_runtime.proofs.Choosing.{block-sound}
+use Rattle.machine_state.specs.State.{State, IsIdle, Place, Activation, Body, Emit, Update}
+use Rattle.machine_rules.specs.Rules.{Rule, RuleAt, BodyRule, Does, EmitRule, UpdateRule, Begins, Writes, IsNotified, changed, unchanged, silent, begun}
+use Rattle.machine_state.specs.Connections.{next_used}
+use Rattle.signatures.specs.declared.sig.Sig.{Sig}
+use Rattle.signatures.specs.Types.{Fits}
+use Rattle.script_lang.specs.declared.event.Connect.{Connect as Connecting}
+use Rattle.script_lang.specs.declared.event.Input.{Input}
+use Rattle.machine_state.specs.Accepting.{accepted}
+use Rattle.qt_runtime.specs.declared.events.invoke.Invocation.{Invocation}
+use Rattle.qt_runtime.specs.declared.events.invoke.Invocation.TheVariants.{Emit as EmitIt, Call as CallIt}
+use Rattle.qt_runtime.specs.Judgement.{Numbered, found as finds, holds as so, becomes, gives as just, goes_on}
+use Rattle.qt_runtime.specs.Takes.{judged, Takes, accepts, refuses}
+use Rattle.qt_runtime.specs.events.Block.{block}
+use Rattle.qt_runtime.specs.events.Connect.{named_signal, IsMethodOf, IsSignalOf}
+use Rattle.qt_runtime.specs.events.Invoke.{invoke}
+use Rattle.qt_runtime.specs.events.Named.{IsLiving}
+use Rattle.qt_runtime.proofs.Fitting.{kinds-fit}
+use Rattle.qt_runtime.proofs.Judging.Naming.{living-is}
+use Rattle.machine_rules.specs.Good.{AreTyped, ArgumentsFit, TopFits, IsWell}
+use Rattle.qt_runtime.specs.Runs.{Runs, done, rules, takes}
+use Rattle.machine_rules.specs.Runs.{Rules}
+use Rattle.machine_rules.specs.Runs as of_rules
+use Rattle.machine_rules.specs.Sound.{Joined}
+use Rattle.machine_rules.specs.Goes.{IsField}
+use Rattle.machine_rules.proofs.Fields.{some-is, method-unique, field-written}
+use Rattle.qt_runtime.proofs.Changes.{map-change, map-adopted}
+use Rattle.qt_runtime.proofs.Lists.{all-snoc, all-weaken, get-append}
+use Rattle.machine_rules.proofs.Keeps.{Kept, all-joined-still, rule-kept, begins-kept, writes-kept}
+use Rattle.machine_rules.proofs.Shapes.{shape-there, shape-of-there, classes-same, shapes-written}
+
+-- ---- what stands
+
+-- a body is of an object that is there, and what is left of it is sound for the arguments
+pub record BodyStands (p : Loaded) (objects : List Object) (o : ℕ) (arguments : List Value) (left : List Statement) : Type 0 where
+  pub object : Object
+  pub is_object : slice_get objects o ≡ Some object
+  pub declaring : ℕ
+  pub below : Below p object.class declaring
+  pub kinds : List ValueType
+  pub typed : HaveTypes p (class_of objects) arguments kinds
+  pub sound : AreSound p declaring kinds left
+
+-- a property that is to be notified is there, and has a notify signal
+pub record PlaceStands (p : Loaded) (objects : List Object) (place : Place) : Type 0 where
+  pub object : Object
+  pub property : MetaProperty
+  pub is : IsField p objects place.object place.property object property
+  pub signal : ℕ
+  pub notifies : property.notify ≡ Some signal
+
+abbrev pub Stands : Loaded → List Object → Activation → Type 0
+Stands p objects (Body o m arguments left) = BodyStands p objects o arguments left
+Stands p objects (Emit o g arguments used last) = Unit {0}
+Stands p objects (Update places) = AllByRecursion (PlaceStands p objects) places
+
+-- properties have values of their types, connections join what is there, and what is going on stands
+pub record Invariant (p : Loaded) (s : State) : Type 0 where
+  pub typed : AreTyped p s.objects
+  pub joined : AllByRecursion (Joined p s.objects) s.connections
+  pub stands : AllByRecursion (Stands p s.objects) s.stack
+
+-- ---- it stands as long as the objects are those that they were
+
+object-still : (old new : List Object) (o : ℕ) {x : Object} → shapes_of new ≡ shapes_of old → slice_get old o ≡ Some x → (y : Object) × (slice_get new o ≡ Some y) × (x.class ≡ y.class)
+object-still old new o {x} same is =
+    let moved : slice_get (shapes_of new) o ≡ Some _ = ap (λ (l : List Shape). slice_get l o) same ∙ shape-of-there old o x is in
+    let q = shape-there new o _ moved in
+    (q.0, q.1, sym (ap (λ (a : Shape). a.class) q.2))
+
+place-still : {p : Loaded} (old new : List Object) → shapes_of new ≡ shapes_of old → (place : Place) → PlaceStands p old place → PlaceStands p new place
+place-still {p} old new same place x =
+    let y = object-still old new place.object same x.is.is_object in
+    let Classes : ℕ → Type 0 = λ k. IsClass p k x.is.class in
+    record {
+      object = y.0;
+      property = x.property;
+      is = record { is_object = y.1; class = x.is.class; is_class = subst Classes y.2 x.is.is_class; is_property = x.is.is_property };
+      signal = x.signal;
+      notifies = x.notifies;
+    }
+
+stands-still : (p : Loaded) (old new : List Object) → shapes_of new ≡ shapes_of old → (a : Activation) → Stands p old a → Stands p new a
+stands-still p old new same (Body o m arguments left) x =
+    let y = object-still old new o same x.is_object in
+    let Classes : ℕ → Type 0 = λ k. Below p k x.declaring in
+    let Typed : (ℕ → Option ℕ) → Type 0 = λ f. HaveTypes p f arguments x.kinds in
+    record {
+      object = y.0;
+      is_object = y.1;
+      declaring = x.declaring;
+      below = subst Classes y.2 x.below;
+      kinds = x.kinds;
+      typed = subst Typed (sym (classes-same new old same)) x.typed;
+      sound = x.sound;
+    }
+stands-still p old new same (Emit o g arguments used last) x = tt
+stands-still p old new same (Update places) x = all-weaken (PlaceStands p old) (PlaceStands p new) places (place-still old new same) x
+
+-- ---- statements
+
+sound-append : {p : Loaded} {me : ℕ} {kinds : List ValueType} {chosen rest : List Statement} → AreSound p me kinds chosen → AreSound p me kinds rest → AreSound p me kinds (chosen ++ rest)
+sound-append none_sound b = b
+sound-append (set_sound out is more) b = set_sound out is (sound-append more b)
+sound-append (emit_sound out is more) b = emit_sound out is (sound-append more b)
+sound-append (call_sound out is more) b = call_sound out is (sound-append more b)
+sound-append (if_sound out is chosen other more) b = if_sound out is chosen other (sound-append more b)
+
+-- what follows a statement
+sound-rest : {p : Loaded} {me : ℕ} {kinds : List ValueType} {x : Statement} {rest : List Statement} → AreSound p me kinds (x ∷ rest) → AreSound p me kinds rest
+sound-rest (set_sound out is more) = more
+sound-rest (emit_sound out is more) = more
+sound-rest (call_sound out is more) = more
+sound-rest (if_sound out is chosen other more) = more
+
+body-with : {p : Loaded} {objects : List Object} {o : ℕ} {arguments : List Value} {left : List Statement} (x : BodyStands p objects o arguments left) (rest : List Statement) → AreSound p x.declaring x.kinds rest → BodyStands p objects o arguments rest
+body-with x rest sound = record { object = x.object; is_object = x.is_object; declaring = x.declaring; below = x.below; kinds = x.kinds; typed = x.typed; sound = sound }
+
+body-rest : {p : Loaded} {objects : List Object} {o : ℕ} {arguments : List Value} {x : Statement} {rest : List Statement} → BodyStands p objects o arguments (x ∷ rest) → BodyStands p objects o arguments rest
+body-rest {rest = rest} x = body-with x rest (sound-rest x.sound)
+
+-- ---- rules
+
+-- a slot that is called with arguments that fit
+called-stands : {p : Loaded} {objects : List Object} {o m : ℕ} {x : Object} {method : MetaMethod} {arguments : List Value} {statements : List Statement} → IsSound p → slice_get objects o ≡ Some x → IsMethod p x.class m method → method.work ≡ Slot statements → ArgumentsFit p objects o m arguments → BodyStands p objects o arguments statements
+called-stands {p} {objects} {m = m} {x = x} {method = method} {arguments = arguments} {statements = statements} sound there is work_is fit =
+    let At : Object → Type 0 = λ y. IsMethod p y.class m fit.method in
+    let method_is : fit.method ≡ method = method-unique (subst At (some-is fit.is_object there) fit.is_method) is in
+    let Typed : MetaMethod → Type 0 = λ k. HaveTypes p (class_of objects) arguments k.kinds in
+    let Sound_work : Work → Type 0 = λ w. IsSoundWork p x.class m method.kinds w in
+    let body : IsSoundBody p x.class m method.kinds statements = subst Sound_work work_is ((sound.classes x.class is.class is.is_class).methods m method is.is).work in
+    record { object = x; is_object = there; declaring = body.declaring; below = body.below; kinds = method.kinds; typed = subst Typed method_is fit.typed; sound = body.sound }
+
+-- what stands in a state
+abbrev pub AllStand : Loaded → State → Type 0
+AllStand p s = AllByRecursion (Stands p s.objects) s.stack
+
+-- a method that begins, over what stands
+begun-stands : (p : Loaded) (s : State) (below : List Activation) (o : ℕ) (x : Object) (m : ℕ) (method : MetaMethod) (arguments : List Value) (work : Work) (t : State) → IsSound p → slice_get s.objects o ≡ Some x → IsMethod p x.class m method → method.work ≡ work → t ≡ begun s below o x m method arguments work → length s.stack < suc (length below) → IsWell p s t → AllByRecursion (Stands p s.objects) below → AllStand p t
+begun-stands p s below o x m method arguments Signal t sound there is work_is e higher well lower =
+    let Family : State → Type 0 = λ u. AllStand p u in
+    subst Family (sym e) (tt, lower)
+begun-stands p s below o x m method arguments (Slot statements) t sound there is work_is e higher well lower =
+    let Family : State → Type 0 = λ u. AllStand p u in
+    let Fit : State → Type 0 = λ u. length s.stack < length u.stack → TopFits p u.objects u.stack in
+    let fits : Fit (begun s below o x m method arguments (Slot statements)) = subst Fit e well.arguments in
+    subst Family (sym e) (called-stands sound there is work_is (fits higher), lower)
+
+module _ {p : Loaded} {s t : State} (sound : IsSound p) (well : IsWell p s t) where
+  begins-stands : {below : List Activation} {o m : ℕ} {arguments : List Value} → Begins p s below o m arguments t → length s.stack < suc (length below) → AllByRecursion (Stands p s.objects) below → AllStand p t
+  begins-stands {below} {o} {m} {arguments} b higher lower = begun-stands p s below o b.object m b.method arguments b.method.work t sound b.is_object b.is_method refl b.gives higher well lower
+
+  notified-stands : {objects : List Object} {old new : Value} {place : Place} {x : Object} {property : MetaProperty} {notify : Option ℕ} {places : List Place} → IsField p objects place.object place.property x property → property.notify ≡ notify → IsNotified old new place notify places → AllByRecursion (PlaceStands p objects) places
+  notified-stands {x = x} {property = property} f e (changed {signal = signal} h) = (record { object = x; property = property; is = f; signal = signal; notifies = e }, tt)
+  notified-stands f e (unchanged h) = tt
+  notified-stands f e silent = tt
+
+  writes-stands : {below : List Activation} {o q : ℕ} {new : Value} → Writes p s below o q new t → AllByRecursion (Stands p s.objects) below → AllStand p t
+  writes-stands {below} {o} {q} {new} w lower =
+      let after : List Object = slice_set s.objects o (written q new w.object) in
+      let field : IsField p s.objects o q w.object w.property = record { is_object = w.is_object; class = w.class; is_class = w.is_class; is_property = w.is_property } in
+      let places : AllByRecursion (PlaceStands p after) w.places = notified-stands (field-written new field) refl w.notified in
+      let Family : State → Type 0 = λ u. AllStand p u in
+      subst Family (sym w.gives) (places, all-weaken (Stands p s.objects) (Stands p after) below (stands-still p s.objects after (shapes-written s.objects o w.object q new w.is_object)) lower)
+
+  -- the stack is another one, and the objects are the same
+  as-is : {u : State} → t ≡ u → AllStand p u → AllStand p t
+  as-is e lower = let Family : State → Type 0 = λ v. AllStand p v in subst Family (sym e) lower
+
+  -- what a statement does, over what stands
+  does-stands : (o m : ℕ) (arguments : List Value) (x : Statement) (rest : List Statement) (below : List Activation) (d : Doing) → BodyStands p s.objects o arguments (x ∷ rest) → doing s.objects o arguments (out-Statement x) ≡ Some d → AllByRecursion (Stands p s.objects) below → length s.stack ≡ suc (length below) → Does p s o m arguments rest below d t → AllStand p t
+  does-stands o m arguments x rest below (Write y q new) body is lower high does = writes-stands does (body-rest body, lower)
+  does-stands o m arguments x rest below (Begin y n given) body is lower high does = begins-stands does (omega (arith, high)) (body-rest body, lower)
+  does-stands o m arguments x rest below (Choose block) body is lower high does =
+      as-is does (body-with body (block ++ rest) (sound-append (block-sound s.objects o arguments block body.sound is) (sound-rest body.sound)), lower)
+  does-stands o m arguments x rest below Nothing body is lower high does = as-is does (body-rest body, lower)
+
+  body-stands : (o m : ℕ) (arguments : List Value) (below : List Activation) (left : List Statement) → BodyStands p s.objects o arguments left → AllByRecursion (Stands p s.objects) below → length s.stack ≡ suc (length below) → BodyRule p s o m arguments below t left → AllStand p t
+  body-stands o m arguments below [] body lower high r = as-is r lower
+  body-stands o m arguments below (x ∷ rest) body lower high r = does-stands o m arguments x rest below r.what body r.is lower high r.does
+
+  emission-stands : (o g : ℕ) (arguments : List Value) (last : ℕ) (below : List Activation) (found : Option Connection) → AllByRecursion (Stands p s.objects) below → length s.stack ≡ suc (length below) → EmitRule p s o g arguments last below t found → AllStand p t
+  emission-stands o g arguments last below None lower high r = as-is r lower
+  emission-stands o g arguments last below (Some c) lower high r =
+      begun-stands p s (Emit o g arguments c.number last ∷ below) c.receiver r.receiver c.method r.method (take (length r.method.kinds) arguments) r.method.work t sound r.is_receiver r.is_method refl r.gives (omega (arith, high)) well (tt, lower)
+
+  update-stands : (below : List Activation) (places : List Place) → AllByRecursion (PlaceStands p s.objects) places → AllByRecursion (Stands p s.objects) below → UpdateRule p s below t places → AllStand p t
+  update-stands below [] there lower r = as-is r lower
+  update-stands below (place ∷ places) there lower r = as-is r.gives (tt, (there.1, lower))
+
+  rule-stands : (stack : List Activation) → AllByRecursion (Stands p s.objects) stack → length s.stack ≡ length stack → RuleAt p s t stack → AllStand p t
+  rule-stands [] all high r = absurd r
+  rule-stands (Body o m arguments left ∷ below) all high r = body-stands o m arguments below left all.0 all.1 high r
+  rule-stands (Emit o g arguments used last ∷ below) all high r = emission-stands o g arguments last below (next_used s.objects s.connections o g used last) all.1 high r
+  rule-stands (Update places ∷ below) all high r = update-stands below places all.0 all.1 r
+
+  -- objects keep their shapes and connections stay: what is going on stands where the stack does
+  kept-invariant : Invariant p s → Kept s t → AllStand p t → Invariant p t
+  kept-invariant up kept stands =
+      let Made : List Connection → Type 0 = λ l. AllByRecursion (Joined p t.objects) l in
+      record {
+        typed = well.values;
+        joined = subst Made (sym kept.connections) (all-joined-still p s.objects t.objects s.connections kept.objects up.joined);
+        stands = stands;
+      }
+
+  rule-invariant : Invariant p s → Rule p s t → Invariant p t
+  rule-invariant up r = kept-invariant up (rule-kept p s t s.stack r) (rule-stands s.stack up.stands refl r)
+
+-- ---- events
+
+joined-more : {p : Loaded} (objects more : List Object) (c : Connection) → Joined p objects c → Joined p (objects ++ more) c
+joined-more objects more c j = record {
+  sender = j.sender;
+  is_sender = get-append objects more c.sender j.sender j.is_sender;
+  signal = j.signal;
+  is_signal = j.is_signal;
+  receiver = j.receiver;
+  is_receiver = get-append objects more c.receiver j.receiver j.is_receiver;
+  method = j.method;
+  is_method = j.is_method;
+  rest = j.rest;
+  fits = j.fits;
+}
+
+-- nothing is going on
+none-stand : (p : Loaded) {s : State} (objects : List Object) → IsIdle s → AllByRecursion (Stands p objects) s.stack
+none-stand p objects idle = let Family : List Activation → Type 0 = λ l. AllByRecursion (Stands p objects) l in subst Family (sym idle.empty) tt
+
+abbrev AllJoined : Loaded → State → Type 0
+AllJoined p s = AllByRecursion (Joined p s.objects) s.connections
+
+-- an object is added
+created-invariant : {p : Loaded} {s : State} (x : Object) → IsIdle s → Invariant p s → AreTyped p (s.objects ++ x ∷ []) → Invariant p (record (accepted s) { objects = s.objects ++ x ∷ [] })
+created-invariant {p} {s} x idle up typed = record {
+  typed = typed;
+  joined = all-weaken (Joined p s.objects) (Joined p (s.objects ++ x ∷ [])) s.connections (joined-more s.objects (x ∷ [])) up.joined;
+  stands = none-stand p (s.objects ++ x ∷ []) idle;
+}
+
+-- objects change, and none its name or class
+changed-invariant : {p : Loaded} {s : State} (objects : List Object) → IsIdle s → Invariant p s → AreTyped p objects → shapes_of objects ≡ shapes_of s.objects → Invariant p (record (accepted s) { objects = objects })
+changed-invariant {p} {s} objects idle up typed same = record {
+  typed = typed;
+  joined = all-joined-still p s.objects objects s.connections same up.joined;
+  stands = none-stand p objects idle;
+}
+
+-- a connection joins what it names
+connection-joined : {p : Loaded} {objects : List Object} (e : Connecting) (n : ℕ) (a b : Numbered Object) (g m : Numbered MetaMethod) → IsSound p → IsLiving objects e.sender a → IsLiving objects e.receiver b → IsSignalOf p a.it.class e.signal g → IsMethodOf p b.it.class e.method m → Fits e.signal e.method →
+    Joined p objects (record { number = n; sender = a.number; signal = named_signal g.number; receiver = b.number; method = m.number; kind = e.kind })
+connection-joined e n a b g m sound sender receiver signal method fits =
+    let Signal_types : Sig → Type 0 = λ t. Fits t e.method in
+    let Method_types : Sig → Type 0 = λ t. Fits g.it.sig t in
+    let front = kinds-fit sound signal.of.is method.is (subst Method_types (sym method.signed) (subst Signal_types (sym signal.of.signed) fits)) in
+    record {
+      sender = a.it;
+      is_sender = sender.is.is;
+      signal = front.0;
+      is_signal = front.1;
+      receiver = b.it;
+      is_receiver = receiver.is.is;
+      method = m.it;
+      is_method = method.is;
+      rest = front.2.0;
+      fits = front.2.1;
+    }
+
+-- the state in which an event is taken
+accepted-invariant : {p : Loaded} {s : State} → Invariant p s → Invariant p (accepted s)
+accepted-invariant up = record { typed = up.typed; joined = up.joined; stands = up.stands }
+
+accepted-well : {p : Loaded} {s t : State} → IsWell p s t → IsWell p (accepted s) t
+accepted-well well = record { arguments = well.arguments; values = well.values }
+
+invoked-invariant : {p : Loaded} {s t : State} (a : Invocation) (name called : List ℕ) (inputs : List Input) → IsSound p → Invariant p s → IsWell p s t → invoke p s a name called inputs (Ok t) → Invariant p t
+invoked-invariant {p} {s} a name called inputs sound up well (goes_on _ o (goes_on _ m (goes_on _ vs (goes_on _ fit (becomes begins))))) =
+    kept-invariant sound (accepted-well well) (accepted-invariant up) (begins-kept begins) (begins-stands sound (accepted-well well) begins (omega arith) up.stands)
+
+blocked-invariant : {p : Loaded} {s t : State} (name : List ℕ) (on : Bool) → IsIdle s → Invariant p s → IsWell p s t → block s name on (Ok t) → Invariant p t
+blocked-invariant {p} {s} name on idle up well (goes_on o lives just) =
+    changed-invariant (change o.number (blocked on) s.objects) idle up well.values (map-change shape_of o.number (blocked on) s.objects (λ z. refl))
+
+judged-invariant : {p : Loaded} {s t : State} (e : Event) → IsSound p → IsIdle s → Invariant p s → judged p s e (Ok t) → IsWell p s t → Invariant p t
+judged-invariant (New name class) sound idle up (goes_on _ free (goes_on c is (goes_on _ room just))) well = created-invariant (fresh name c.number main (initial_values c.it)) idle up well.values
+judged-invariant {p} (Adopt parent child) sound idle up (goes_on _ a (goes_on _ c (goes_on _ owns (goes_on _ over (goes_on _ home (becomes x)))))) well =
+    let Family : State → Type 0 = λ u. Invariant p u in
+    let Typed : State → Type 0 = λ u. AreTyped p u.objects in
+    subst Family (sym x.gives) (changed-invariant x.objects idle up (subst Typed x.gives well.values) (map-adopted shape_of (λ z l. refl) (λ z l. refl) x.is))
+judged-invariant {p} {s} (Connect e) sound idle up (goes_on a sender (goes_on b receiver (goes_on g (finds signal) (goes_on m (finds method) (goes_on _ kind (goes_on _ covers (goes_on _ (so fits) just))))))) well = record {
+  typed = well.values;
+  joined = all-snoc (Joined p s.objects) s.connections _ up.joined (connection-joined e (s.connected + 1) a b g m sound (living-is sender) (living-is receiver) signal method fits);
+  stands = up.stands;
+}
+judged-invariant {p} {s} (Set name property i) sound idle up (goes_on _ o (goes_on _ q (goes_on _ v (goes_on _ fits (becomes writes))))) well =
+    kept-invariant sound (accepted-well well) (accepted-invariant up) (writes-kept writes) (writes-stands sound (accepted-well well) writes up.stands)
+judged-invariant (EmitEvent name signal inputs) sound idle up x well = invoked-invariant EmitIt name signal inputs sound up well x
+judged-invariant (CallEvent name slot inputs) sound idle up x well = invoked-invariant CallIt name slot inputs sound up well x
+judged-invariant (Block name) sound idle up x well = blocked-invariant name true idle up well x
+judged-invariant (Unblock name) sound idle up x well = blocked-invariant name false idle up well x
+
+takes-invariant : {p : Loaded} {s t : State} {e : Event} → IsSound p → Invariant p s → Takes p e s t → IsWell p s t → Invariant p t
+takes-invariant {e = e} sound up (accepts idle x) well = judged-invariant e sound idle up x well
+takes-invariant sound up (refuses k idle x) well = record { typed = up.typed; joined = up.joined; stands = up.stands }
+
+-- every state that rules lead to stands
+rules-invariant : {p : Loaded} {d : ℕ} {s t : State} {n k : ℕ} → IsSound p → Rules p d s n t k → Invariant p s → Invariant p t
+rules-invariant sound of_rules.done up = up
+rules-invariant sound (of_rules.then r good rest) up = rules-invariant sound rest (rule-invariant sound good.well up r)
+
+-- every state of a run keeps it
+pub runs-invariant : {p : Loaded} {d : ℕ} {s t : State} {n k : ℕ} {es : List Event} → IsSound p → Runs p d s n es t k → Invariant p s → Invariant p t
+runs-invariant sound done up = up
+runs-invariant sound (rules r rest) up = runs-invariant sound rest (rules-invariant sound r up)
+runs-invariant sound (takes x good rest) up = runs-invariant sound rest (takes-invariant sound up x good.well)

@@ -1,0 +1,162 @@
+-- What goes on in a run lacks a next rule only for want of a value.
+use Rattle.std.proofs.Common.{◌≡◌, ◌≢◌, ℕ, inl, inr, Bool, true, false, List, [], ◌∷◌, Option, Some, None, slice_get, refl, sym, subst}
+use Rattle.std.specs.List.{AllByRecursion}
+use Rattle.std.specs.Option.{option_map}
+use Rattle.signatures.specs.declared.value.Value.{Value}
+use Rattle.signatures.specs.declared.value.Value.TheVariants as value
+use Rattle.texts.specs.declared.syntax.Expr.{Expr}
+use Rattle.script_lang.specs.declared.event.Event.{Event}
+use Rattle.meta_model.specs.declared.object.MetaMethod.{MetaMethod}
+use Rattle.meta_model.specs.declared.object.MetaPath.{MetaPath}
+use Rattle.meta_model.specs.declared.object.MetaProperty.{MetaProperty}
+use Rattle.meta_model.specs.declared.object.Statement.{Statement}
+use Rattle.meta_model.specs.declared.object.Statement.TheOpen as layer
+use Rattle.meta_model.specs.declared.object.Statement.TheViews.{out-Statement}
+use Rattle.meta_model.specs.Loaded.{Loaded}
+use Rattle.meta_model.specs.Members.{IsMethod, IsProperty, Below}
+use Rattle.meta_model.specs.Sound.{IsSound, AreSound, set_sound, emit_sound, call_sound, if_sound}
+use Rattle.machine_state.specs.declared.connections.Connection.{Connection}
+use Rattle.machine_state.specs.declared.fault.Fault.{Fault}
+use Rattle.machine_state.specs.declared.fault.Fault.TheVariants.{BadType, TooDeep, Steps, Memory, Stopped}
+use Rattle.object_tree.specs.declared.object.Object.{Object}
+use Rattle.machine_rules.specs.Paths.{path_value, value_of, values_of}
+use Rattle.machine_state.specs.State.{State, Place, Activation, Body, Emit, Update}
+use Rattle.machine_rules.specs.Rules.{RuleAt, StatementRule, Does, EmitRule, UpdateRule, Begins, Writes, IsNotified, changed, unchanged, silent}
+use Rattle.machine_rules.specs.Doings.{Doing, Write, Begin, Choose, Nothing, on_object, chosen_by, doing}
+use Rattle.machine_state.specs.Connections.{is_next}
+use Rattle.machine_state.specs.Connections.{next_used}
+use Rattle.machine_rules.specs.Runs.{IsStuck}
+use Rattle.qt_runtime.specs.Runs.{Reason}
+use Rattle.qt_runtime.specs.Causes.{LacksValue, Cause}
+use Rattle.machine_rules.specs.Goes.{IsField}
+use Rattle.machine_rules.proofs.Beginning.{find-some, used-is}
+use Rattle.machine_rules.proofs.Fields.{old-there}
+use Rattle.qt_runtime.proofs.Inherited.{method-below, property-below}
+use Rattle.qt_runtime.proofs.TypedPaths.{Reaches, to_null, to_object, path-reaches}
+use Rattle.qt_runtime.proofs.Preservation.{BodyStands, PlaceStands, Stands, Invariant}
+use Rattle.machine_rules.specs.Sound.{Joined}
+
+-- whether the value has changed or not, something may be notified
+notified-somehow : (old new : Value) (place : Place) (notify : Option ℕ) → ((places : List Place) → ¬ IsNotified old new place notify places) → ⊥
+notified-somehow old new place None none = none [] silent
+notified-somehow old new place (Some signal) none =
+    let differs : old ≢ new = λ same. none [] (unchanged same) in
+    none (place ∷ []) (changed differs)
+
+module _ {p : Loaded} {s : State} (sound : IsSound p) (up : Invariant p s) where
+  -- a property that is there may be written
+  no-write : {o q c : ℕ} {x : Object} {property : MetaProperty} {new : Value} {below : List Activation} → slice_get s.objects o ≡ Some x → Below p x.class c → IsProperty p c q property → ((t : State) → ¬ Writes p s below o q new t) → ⊥
+  no-write {o} {q} {c} {x} {property} {new} there beneath is none =
+      let own = property-below sound beneath is in
+      let field : IsField p s.objects o q x property = record { is_object = there; class = own.class; is_class = own.is_class; is_property = own.is } in
+      let old = old-there field up.typed in
+      notified-somehow old.0 new (record { object = o; property = q }) property.notify (λ places notified. none _ (record { object = x; is_object = there; class = own.class; is_class = own.is_class; property = property; is_property = own.is; old = old.0; is_old = old.1; places = places; notified = notified; gives = refl }))
+
+  -- a method that is there may begin
+  no-begin : {o m c : ℕ} {x : Object} {method : MetaMethod} {arguments : List Value} {below : List Activation} → slice_get s.objects o ≡ Some x → Below p x.class c → IsMethod p c m method → ((t : State) → ¬ Begins p s below o m arguments t) → ⊥
+  no-begin {x = x} {method = method} there beneath is none = none _ (record { object = x; is_object = there; method = method; is_method = method-below sound beneath is; gives = refl })
+
+  module _ (o m : ℕ) (arguments : List Value) (rest : List Statement) (below : List Activation) where
+    -- nothing of this can be done
+    abbrev None_does : Option Doing → Type 0
+    None_does found = (d : Doing) (t : State) → found ≡ Some d → ¬ Does p s o m arguments rest below d t
+
+    map-lacks : {X : Type 0} (act : X → Doing) (given : Option X) → ((v : X) → ((t : State) → ¬ Does p s o m arguments rest below (act v) t) → ⊥) → None_does (option_map act given) → option_map act given ≡ None
+    map-lacks act None may none = refl
+    map-lacks act (Some v) may none = absurd (may v (λ t does. none (act v) t refl does))
+
+    -- a path leads to null, or to an object with which it could be done
+    object-lacks : {c : ℕ} (act : ℕ → Option Doing) (found : Option Value) → Reaches p s.objects c found → ((y : ℕ) (x : Object) → slice_get s.objects y ≡ Some x → Below p x.class c → None_does (act y) → act y ≡ None) → None_does (on_object act found) → on_object act found ≡ None
+    object-lacks act found to_null may none = absurd (none Nothing _ refl refl)
+    object-lacks act found (to_object {o = y} {x = x} there beneath) may none = may y x there beneath none
+
+    set-lacks : {q c : ℕ} {property : MetaProperty} (e : Expr MetaPath) (found : Option Value) → Reaches p s.objects c found → IsProperty p c q property →
+        None_does (on_object (λ y. option_map (λ (new : Value). Write y q new) (value_of s.objects o arguments e)) found) →
+        on_object (λ y. option_map (λ (new : Value). Write y q new) (value_of s.objects o arguments e)) found ≡ None
+    set-lacks {q} e found reaches is none =
+        object-lacks (λ y. option_map (λ (new : Value). Write y q new) (value_of s.objects o arguments e)) found reaches
+        (λ y x there beneath. map-lacks (λ (new : Value). Write y q new) (value_of s.objects o arguments e) (λ new no. no-write {new = new} {below = Body o m arguments rest ∷ below} there beneath is no)) none
+
+    call-lacks : {n c : ℕ} {method : MetaMethod} (es : List (Expr MetaPath)) (found : Option Value) → Reaches p s.objects c found → IsMethod p c n method →
+        None_does (on_object (λ y. option_map (λ (given : List Value). Begin y n given) (values_of s.objects o arguments es)) found) →
+        on_object (λ y. option_map (λ (given : List Value). Begin y n given) (values_of s.objects o arguments es)) found ≡ None
+    call-lacks {n} es found reaches is none =
+        object-lacks (λ y. option_map (λ (given : List Value). Begin y n given) (values_of s.objects o arguments es)) found reaches
+        (λ y x there beneath. map-lacks (λ (given : List Value). Begin y n given) (values_of s.objects o arguments es) (λ given no. no-begin {arguments = given} {below = Body o m arguments rest ∷ below} there beneath is no)) none
+
+    if-lacks : (block other : List Statement) (found : Option Value) → None_does (chosen_by block other found) → chosen_by block other found ≡ None
+    if-lacks block other None none = refl
+    if-lacks block other (Some (value.Bool true)) none = absurd (none (Choose block) _ refl refl)
+    if-lacks block other (Some (value.Bool false)) none = absurd (none (Choose other) _ refl refl)
+    if-lacks block other (Some (value.Int n)) none = refl
+    if-lacks block other (Some (value.Text n)) none = refl
+    if-lacks block other (Some (value.Ref n)) none = refl
+
+    layer-lacks : (x : Statement) (f : layer.Statement-F Statement) → out-Statement x ≡ f → (None_does (doing s.objects o arguments f) → doing s.objects o arguments f ≡ None) → ((t : State) → ¬ StatementRule p s o m arguments x rest below t) → doing s.objects o arguments (out-Statement x) ≡ None
+    layer-lacks x f out lacks stuck =
+        let Family : layer.Statement-F Statement → Type 0 = λ g. None_does (doing s.objects o arguments g) → doing s.objects o arguments g ≡ None in
+        (subst Family (sym out) lacks) (λ d t is does. stuck t (record { what = d; is = is; does = does }))
+
+  -- a statement that has no next rule lacks a value
+  statement-lacks : (o m : ℕ) (arguments : List Value) (x : Statement) (rest : List Statement) (below : List Activation) → (body : BodyStands p s.objects o arguments (x ∷ rest)) → AreSound p body.declaring body.kinds (x ∷ rest) → ((t : State) → ¬ StatementRule p s o m arguments x rest below t) → doing s.objects o arguments (out-Statement x) ≡ None
+  statement-lacks o m arguments x rest below body (set_sound {path = path} {q = q} {e = e} out is more) stuck =
+      let reaches = path-reaches s.objects o body.declaring body.object arguments body.kinds path sound up.typed body.is_object body.below body.typed is.leads in
+      layer-lacks o m arguments rest below x (layer.Set path q e) out (λ none. set-lacks o m arguments rest below e (path_value s.objects o arguments path) reaches is.is none) stuck
+  statement-lacks o m arguments x rest below body (emit_sound {m = g} {es = es} out is more) stuck =
+      layer-lacks o m arguments rest below x (layer.Emit g es) out
+      (λ none. map-lacks o m arguments rest below (λ (given : List Value). Begin o g given) (values_of s.objects o arguments es) (λ given no. no-begin {arguments = given} {below = Body o m arguments rest ∷ below} body.is_object body.below is.is no) none) stuck
+  statement-lacks o m arguments x rest below body (call_sound {path = path} {m = n} {es = es} out is more) stuck =
+      let reaches = path-reaches s.objects o body.declaring body.object arguments body.kinds path sound up.typed body.is_object body.below body.typed is.leads in
+      layer-lacks o m arguments rest below x (layer.Call path n es) out (λ none. call-lacks o m arguments rest below es (path_value s.objects o arguments path) reaches is.is none) stuck
+  statement-lacks o m arguments x rest below body (if_sound {e = e} {chosen = block} {other = other} out is first second more) stuck =
+      layer-lacks o m arguments rest below x (layer.If e block other) out (λ none. if-lacks o m arguments rest below block other (value_of s.objects o arguments e) none) stuck
+
+  -- an emission has a next rule
+  emission-goes : (o g : ℕ) (arguments : List Value) (last : ℕ) (below : List Activation) (found : Option Connection) → ((c : Connection) → found ≡ Some c → Joined p s.objects c) → ((t : State) → ¬ EmitRule p s o g arguments last below t found) → ⊥
+  emission-goes o g arguments last below None delivers stuck = stuck _ refl
+  emission-goes o g arguments last below (Some c) delivers stuck =
+      let d = delivers c refl in
+      stuck _ (record { receiver = d.receiver; is_receiver = d.is_receiver; method = d.method; is_method = d.is_method; gives = refl })
+
+  -- .. and so has an update
+  update-goes : (below : List Activation) (places : List Place) → AllByRecursion (PlaceStands p s.objects) places → ((t : State) → ¬ UpdateRule p s below t places) → ⊥
+  update-goes below [] all stuck = stuck _ refl
+  update-goes below (place ∷ places) all stuck =
+      let x = all.0 in
+      let notifier = ((sound.classes x.object.class x.is.class x.is.is_class).properties place.property x.property x.is.is_property).notifies x.signal x.notifies in
+      let present = old-there x.is up.typed in
+      stuck _ (record {
+        object = x.object;
+        is_object = x.is.is_object;
+        class = x.is.class;
+        is_class = x.is.is_class;
+        property = x.property;
+        is_property = x.is.is_property;
+        signal = x.signal;
+        is_signal = x.notifies;
+        present = present.0;
+        is_present = present.1;
+        method = notifier.signal;
+        is_method = record { class = x.is.class; is_class = x.is.is_class; is = notifier.is };
+        gives = refl;
+      })
+
+  stack-lacks : (stack : List Activation) → s.stack ≡ stack → stack ≢ [] → AllByRecursion (Stands p s.objects) stack → ((t : State) → ¬ RuleAt p s t stack) → LacksValue s
+  stack-lacks [] e goes_on all stuck = absurd (goes_on refl)
+  stack-lacks (Body o m arguments [] ∷ below) e goes_on all stuck = absurd (stuck _ refl)
+  stack-lacks (Body o m arguments (x ∷ rest) ∷ below) e goes_on all stuck =
+      record { object = o; method = m; arguments = arguments; statement = x; rest = rest; below = below; is_next = e; lacks = statement-lacks o m arguments x rest below all.0 all.0.sound stuck }
+  stack-lacks (Emit o g arguments used last ∷ below) e goes_on all stuck =
+      absurd (emission-goes o g arguments last below (next_used s.objects s.connections o g used last) (λ c found. (find-some (Joined p s.objects) (is_next o g used last) s.connections c up.joined (used-is s.objects s.connections o g used last c found)).0) stuck)
+  stack-lacks (Update places ∷ below) e goes_on all stuck = absurd (update-goes below places all.0 stuck)
+
+  -- what goes on without a next rule lacks a value
+  pub stuck-lacks : IsStuck p s → LacksValue s
+  stuck-lacks x = stack-lacks s.stack refl (λ empty. x.goes_on (record { empty = empty })) up.stands x.stuck
+
+  pub cause-of : (d left : ℕ) (es : List Event) (f : Fault) → Reason p d s left es f → Cause p d s left es f
+  cause-of d left es BadType r = (r.0, elim r.1 [ inl stuck ↦ inl (stuck, stuck-lacks stuck) | inr ill ↦ inr ill ])
+  cause-of d left es TooDeep r = r
+  cause-of d left es Steps r = r
+  cause-of d left es Memory r = r
+  cause-of d left es Stopped r = r

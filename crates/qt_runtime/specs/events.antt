@@ -1,0 +1,9 @@
+-- One file an event: what it asks for, in its order, and what it does (docs/machine.md, "Events").
+pub mod Named
+pub mod Create
+pub mod Adopt
+pub mod Connect
+pub mod Values
+pub mod Assign
+pub mod Invoke
+pub mod Block

@@ -1,0 +1,41 @@
+-- `emit O.M(V,..)` and `call O.M(V,..)` (docs/machine.md, "Events").
+use Rattle.std.specs.Prelude.{◌≡◌, ◌≢◌, ℕ, ◌<◌, List, length, Result}
+use Rattle.meta_model.specs.declared.object.MetaMethod.{MetaMethod}
+use Rattle.meta_model.specs.declared.object.Work.TheVariants.{Signal}
+use Rattle.meta_model.specs.Loaded.{Loaded}
+use Rattle.meta_model.specs.Members.{IsMethod}
+use Rattle.meta_model.specs.Values.{HaveTypes}
+use Rattle.object_tree.specs.Objects.{class_of}
+use Rattle.script_lang.specs.declared.event.Input.{Input}
+use Rattle.machine_state.specs.declared.refusal.Refusal.{Refusal}
+use Rattle.machine_state.specs.declared.refusal.Refusal.TheVariants.{NoMember, BadArgs}
+use Rattle.machine_state.specs.Accepting.{accepted}
+use Rattle.machine_state.specs.State.{State}
+use Rattle.machine_rules.specs.Rules.{Begins}
+use Rattle.qt_runtime.specs.declared.events.invoke.Invocation.{Invocation}
+use Rattle.qt_runtime.specs.declared.events.invoke.Invocation.TheVariants.{Emit, Call}
+use Rattle.qt_runtime.specs.Judgement.{Numbered, Find, Check, Becomes, ◌>>=◌}
+use Rattle.qt_runtime.specs.events.Named.{living}
+use Rattle.qt_runtime.specs.events.Values.{values}
+
+-- What an event may ask of a method. `QObject`'s own methods have the numbers 0 to 3 in every class: only the runtime
+-- emits its signals, and its slot isn't called by events.
+abbrev pub May : Invocation → ℕ → MetaMethod → Type 0
+May Emit m method = (2 < m) × (method.work ≡ Signal)
+May Call m method = (3 < m) × (method.work ≢ Signal)
+
+-- the class's method of this name and number of parameters, of which the event may ask this
+pub record IsAskedOf (p : Loaded) (class : ℕ) (invocation : Invocation) (name : List ℕ) (count : ℕ) (m : Numbered MetaMethod) : Type 0 where
+  pub is : IsMethod p class m.number m.it
+  pub named : m.it.sig.name ≡ name
+  pub counted : length m.it.sig.types ≡ count
+  pub may : May invocation m.number m.it
+
+-- the method begins
+abbrev pub invoke : Loaded → State → Invocation → List ℕ → List ℕ → List Input → Result State Refusal → Type 0
+invoke p s invocation name called inputs =
+    living s.objects name >>= λ o.
+    Find NoMember (IsAskedOf p o.it.class invocation called (length inputs)) >>= λ m.
+    values s.objects inputs >>= λ vs.
+    Check BadArgs (HaveTypes p (class_of s.objects) vs m.it.kinds) >>= λ _.
+    Becomes (Begins p (accepted s) s.stack o.number m.number vs)

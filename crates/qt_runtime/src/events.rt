@@ -1,0 +1,10 @@
+//! One module an event: how it is judged, and what it does.
+
+pub mod adopt;
+pub mod assign;
+pub mod block;
+pub mod connect;
+pub mod create;
+pub mod invoke;
+pub mod named;
+pub mod values;

@@ -1,0 +1,53 @@
+//! `adopt`: an object gets a parent.
+
+ghost use Rattle.std.specs.Prelude.{◌≡◌, ◌<◌, [], IfOk, IfErr};
+ghost use Rattle.script_lang.specs.declared.event.Event.TheVariants.{Adopt};
+ghost use Rattle.qt_runtime.specs.Taking.{Keeps, Took};
+ghost use Rattle.qt_runtime.specs.Taking.{adoption_reason};
+
+use crate::events::named::find_living;
+use crate::judgement::refuse;
+use machine_rules::Setting;
+use machine_state::{Answer, Fault, Refusal, World};
+use object_tree::AdoptFault;
+use signatures::{Name, ObjectId};
+
+/// Makes one object the parent of another.
+pub fn adopt(
+    setting: &Setting,
+    world: &mut World,
+    parent: &Name,
+    child: &Name,
+) -> Result<Answer, Fault>
+    requires left { 0 < world.old.left }
+    requires keeps { Keeps setting.now.meta world.old }
+    ensures { Took setting.now.meta setting.now.depth world.old (Adopt parent.now child.now) world.new result }
+{
+    let parent = match find_living(world, parent) {
+        Ok((number, _)) => ObjectId::new(number),
+        Err(reason) => return refuse(world, reason),
+    };
+    let child = match find_living(world, child) {
+        Ok((number, _)) => ObjectId::new(number),
+        Err(reason) => return refuse(world, reason),
+    };
+    match world.adopt(&setting.meta, parent, child) {
+        Ok(()) => Ok(Answer::Done),
+        Err(fault) => {
+            let refusal = reason(fault)?;
+            world.refuse(refusal)
+        }
+    }
+}
+
+/// Why the event is refused, or the run stops, where an object isn't adopted.
+fn reason(fault: AdoptFault) -> Result<Refusal, Fault>
+    ensures { result ≡ adoption_reason fault }
+{
+    match fault {
+        AdoptFault::NotOwned => Ok(Refusal::NotOwned),
+        AdoptFault::Cycle => Ok(Refusal::Cycle),
+        AdoptFault::OtherLoop => Ok(Refusal::OtherLoop),
+        AdoptFault::Memory => Err(Fault::Memory),
+    }
+}

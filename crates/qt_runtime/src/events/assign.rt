@@ -1,0 +1,116 @@
+//! `set`: a property is written.
+
+ghost use Rattle.std.specs.Prelude.{◌≡◌, ◌<◌, [], Ok, IfOk, IfErr, MatchOption};
+ghost use Rattle.script_lang.specs.declared.event.Event.TheVariants.{Set};
+ghost use Rattle.meta_model.specs.declared.object.MetaProperty.{MetaProperty as AMetaProperty};
+ghost use Rattle.machine_state.specs.Worlds.{at};
+ghost use Rattle.qt_runtime.specs.Judgement.{IsNotAccepted, Numbered};
+ghost use Rattle.qt_runtime.specs.Taking.{Keeps, Took, WritesTo, ValueFits};
+ghost use Rattle.qt_runtime.specs.events.Assign.{assign, IsPropertyOf};
+ghost use Rattle.script_lang.specs.declared.event.Event.{Event as AnEvent};
+
+use crate::events::named::find_living;
+use crate::events::values::read_input;
+use crate::judgement::{NotAccepted, refuse};
+use machine_rules::{Setting, signal_of_change};
+use machine_state::{Answer, Fault, Refusal, World};
+use meta_objects::{Meta, MetaProperty};
+use script_lang::Input;
+use signatures::{Name, ObjectId, Value};
+
+/// The numbers of an object and of its property, and the property's new value.
+#[derive(Drop)]
+struct Assignment {
+    object: ObjectId,
+    property: usize,
+    value: Value,
+}
+
+/// Writes a property, and runs what it notifies.
+pub fn assign(
+    setting: &Setting,
+    world: &mut World,
+    name: &Name,
+    property: &Name,
+    input: &Input,
+) -> Result<Answer, Fault>
+    requires depth { 0 < setting.now.depth }
+    requires left { 0 < world.old.left }
+    requires keeps { Keeps setting.now.meta world.old }
+    ensures { Took setting.now.meta setting.now.depth world.old (Set name.now property.now input.now) world.new result }
+{
+    match judge(setting, world, name, property, input) {
+        Err(reason) => refuse(world, reason),
+        Ok(
+            Assignment {
+                object,
+                property,
+                value,
+            },
+        ) => write(setting, world, object, property, value),
+    }
+}
+
+/// What the event writes, or why it isn't accepted.
+fn judge(
+    setting: &Setting,
+    world: &World,
+    name: &Name,
+    property: &Name,
+    input: &Input,
+) -> Result<Assignment, NotAccepted>
+    ensures accepted { IfOk result (λ a. WritesTo setting.now.meta world.now a.object a.property a.value (Set name.now property.now input.now)) }
+    ensures fits { IfOk result (λ a. ValueFits setting.now.meta world.now.objects a.object a.property a.value) }
+    ensures refused { IfErr result (λ reason. IsNotAccepted (assign setting.now.meta (at world.now []) name.now property.now input.now) reason) }
+{
+    let (object, found) = find_living(world, name)?;
+    let Some((property, declared)) = property_of(&setting.meta, found.class, property) else {
+        return Err(NotAccepted::Refused(Refusal::NoMember));
+    };
+    let value = read_input(world, input)?;
+    if world.objects.has_type(&setting.meta, &value, declared.kind) {
+        Ok(Assignment {
+            object: ObjectId::new(object),
+            property,
+            value,
+        })
+    } else {
+        Err(NotAccepted::Refused(Refusal::BadArgs))
+    }
+}
+
+/// The class's property of this name.
+fn property_of<'m>(meta: &'m Meta, class: usize, name: &Name) -> Option<(usize, &'m MetaProperty)>
+    ensures { MatchOption result ((q : Numbered AMetaProperty) → ¬ IsPropertyOf meta.now class name.now q) (λ f. IsPropertyOf meta.now class name.now (record { number = f.0; it = f.1.now })) }
+{
+    let Some(number) = meta.property(class, name) else {
+        return None;
+    };
+    let found = meta.object(class)?;
+    let declared = found.properties.get(number)?;
+    Some((number, declared))
+}
+
+/// Writes a property for an event that is accepted, and runs what it notifies.
+fn write(
+    setting: &Setting,
+    world: &mut World,
+    object: ObjectId,
+    property: usize,
+    value: Value,
+) -> Result<Answer, Fault>
+    requires depth { 0 < setting.now.depth }
+    requires left { 0 < world.old.left }
+    requires keeps { Keeps setting.now.meta world.old }
+    requires fits { ValueFits setting.now.meta world.old.objects object property value }
+    ensures { (e : AnEvent) → WritesTo setting.now.meta world.old object property value e → Took setting.now.meta setting.now.depth world.old e world.new result }
+{
+    let Some((found, declared)) = setting.field(world, object, property) else {
+        unreachable!()
+    };
+    let changed = signal_of_change(declared.notify, found.values.get(property), &value);
+    let entry = setting.write_entry(world, 1, found, declared, &value)?;
+    world.accept_write(entry, object, property, value)?;
+    setting.run_update(world, 0, object, property, changed)?;
+    Ok(Answer::Done)
+}

@@ -1,0 +1,24 @@
+//! `block` and `unblock`: an object's emissions call nothing, or call again.
+
+ghost use Rattle.std.specs.Prelude.{◌<◌};
+ghost use Rattle.qt_runtime.specs.Taking.{Keeps, Took, blocking};
+
+use crate::events::named::find_living;
+use crate::judgement::refuse;
+use machine_rules::Setting;
+use machine_state::{Answer, Fault, World};
+use signatures::{Name, ObjectId};
+
+/// Blocks an object, or lets it emit again.
+pub fn block(setting: &Setting, world: &mut World, name: &Name, on: bool) -> Result<Answer, Fault>
+    requires left { 0 < world.old.left }
+    requires keeps { Keeps setting.now.meta world.old }
+    ensures { Took setting.now.meta setting.now.depth world.old (blocking on name.now) world.new result }
+{
+    let object = match find_living(world, name) {
+        Ok((number, _)) => ObjectId::new(number),
+        Err(reason) => return refuse(world, reason),
+    };
+    world.accept_block(object, on)?;
+    Ok(Answer::Done)
+}

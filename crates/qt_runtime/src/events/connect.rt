@@ -1,0 +1,104 @@
+//! `connect`: a connection is made.
+
+ghost use Rattle.std.specs.Prelude.{◌≡◌, ◌↔◌, ◌<◌, [], Ok, IfOk, IfErr, IsTrue, MatchOption};
+ghost use Rattle.script_lang.specs.declared.event.Event.TheVariants.{Connect as ConnectEvent};
+ghost use Rattle.meta_model.specs.declared.object.MetaMethod.{MetaMethod as AMetaMethod};
+ghost use Rattle.meta_model.specs.declared.object.Work.TheVariants.{Signal};
+ghost use Rattle.signatures.specs.declared.kind.Kind.TheVariants.{Queued};
+ghost use Rattle.machine_state.specs.Accepting.{accepted};
+ghost use Rattle.machine_state.specs.Worlds.{at, connected_by};
+ghost use Rattle.qt_runtime.specs.Judgement.{IsNotAccepted, Numbered};
+ghost use Rattle.qt_runtime.specs.Taking.{Keeps, Took};
+ghost use Rattle.qt_runtime.specs.events.Connect.{connect, named_signal, IsMethodOf, IsSignalOf};
+
+use crate::events::named::find_living;
+use crate::judgement::{NotAccepted, refuse};
+use machine_rules::Setting;
+use machine_state::{Answer, Endpoints, Fault, Refusal, World};
+use meta_objects::{Meta, MetaMethod, Wired, Work};
+use script_lang::Connect;
+use signatures::{Kind, ObjectId, Sig};
+
+/// Makes a connection.
+pub fn connect(setting: &Setting, world: &mut World, c: &Connect) -> Result<Answer, Fault>
+    requires left { 0 < world.old.left }
+    requires keeps { Keeps setting.now.meta world.old }
+    ensures { Took setting.now.meta setting.now.depth world.old (ConnectEvent c.now) world.new result }
+{
+    match judge(setting, world, c) {
+        Err(reason) => refuse(world, reason),
+        Ok(ends) => {
+            world.accept_connection(ends)?;
+            Ok(Answer::Done)
+        }
+    }
+}
+
+/// The numbers of a connection's objects and methods, or why the event isn't accepted.
+fn judge(setting: &Setting, world: &World, c: &Connect) -> Result<Endpoints, NotAccepted>
+    ensures accepted { IfOk result (λ ends. connect setting.now.meta (at world.now []) c.now (Ok (connected_by (accepted (at world.now [])) ends))) }
+    ensures refused { IfErr result (λ reason. IsNotAccepted (connect setting.now.meta (at world.now []) c.now) reason) }
+{
+    let (sender, from) = find_living(world, &c.sender)?;
+    let (receiver, to) = find_living(world, &c.receiver)?;
+    let Some(signal) = signal_of(&setting.meta, from.class, &c.signal) else {
+        return Err(NotAccepted::Refused(Refusal::NoMember));
+    };
+    let Some(method) = setting.meta.method(to.class, &c.method) else {
+        return Err(NotAccepted::Refused(Refusal::NoMember));
+    };
+    if is_queued(c.kind) {
+        return Err(NotAccepted::Refused(Refusal::NotWired));
+    }
+    match setting
+        .meta
+        .wired(from.class, &c.signal, to.class, &c.method, c.kind)
+    {
+        Wired::No => Err(NotAccepted::Refused(Refusal::NotWired)),
+        Wired::Unfit => Err(NotAccepted::Refused(Refusal::Incompatible)),
+        Wired::Fit => Ok(Endpoints {
+            sender: ObjectId::new(sender),
+            signal: named_signal(signal),
+            receiver: ObjectId::new(receiver),
+            method,
+            kind: c.kind,
+        }),
+    }
+}
+
+/// The number of the class's signal of this signature.
+fn signal_of(meta: &Meta, class: usize, sig: &Sig) -> Option<usize>
+    ensures { MatchOption result ((g : Numbered AMetaMethod) → ¬ IsSignalOf meta.now class sig.now g) (λ m. (method : AMetaMethod) × IsSignalOf meta.now class sig.now (record { number = m; it = method })) }
+{
+    let Some(number) = meta.method(class, sig) else {
+        return None;
+    };
+    match meta.method_at(class, number) {
+        Some(method) if is_signal(method) => Some(number),
+        _ => None,
+    }
+}
+
+/// Whether the method is a signal.
+pub fn is_signal(method: &MetaMethod) -> bool
+    ensures { IsTrue result ↔ (method.now.work ≡ Signal) }
+{
+    matches!(method.work, Work::Signal)
+}
+
+/// Whether the connection is queued.
+fn is_queued(kind: Kind) -> bool
+    ensures { IsTrue result ↔ (kind ≡ Queued) }
+{
+    matches!(kind, Kind::Queued)
+}
+
+/// The signal that a spelling names: `destroyed()` is `destroyed(QObject*)`.
+fn named_signal(signal: usize) -> usize
+    ensures { result ≡ named_signal signal }
+{
+    match signal {
+        1 => 0,
+        _ => signal,
+    }
+}

@@ -1,0 +1,44 @@
+//! `new`: an object is created.
+
+ghost use Rattle.std.specs.Prelude.{◌≡◌, ◌<◌};
+ghost use Rattle.script_lang.specs.declared.event.Event.TheVariants.{New};
+ghost use Rattle.qt_runtime.specs.Taking.{Keeps, Took};
+ghost use Rattle.qt_runtime.specs.Taking.{creation_reason};
+
+use machine_rules::Setting;
+use machine_state::{Answer, Fault, Refusal, World};
+use object_tree::CreateFault;
+use signatures::Name;
+
+/// Creates an object.
+pub fn create(
+    setting: &Setting,
+    world: &mut World,
+    name: &Name,
+    class: &Name,
+) -> Result<Answer, Fault>
+    requires left { 0 < world.old.left }
+    requires keeps { Keeps setting.now.meta world.old }
+    ensures { Took setting.now.meta setting.now.depth world.old (New name.now class.now) world.new result }
+{
+    match world.create(&setting.meta, name, class) {
+        Ok(_object) => Ok(Answer::Done),
+        Err(fault) => {
+            let refusal = reason(fault)?;
+            world.refuse(refusal)
+        }
+    }
+}
+
+/// Why the event is refused, or the run stops, where no object is created.
+fn reason(fault: CreateFault) -> Result<Refusal, Fault>
+    ensures { result ≡ creation_reason fault }
+{
+    match fault {
+        CreateFault::NameUsed => Ok(Refusal::NameUsed),
+        CreateFault::NoClass => Ok(Refusal::NoClass),
+        CreateFault::TooMany => Ok(Refusal::TooManyObjects),
+        CreateFault::BadType => Err(Fault::BadType),
+        CreateFault::Memory => Err(Fault::Memory),
+    }
+}

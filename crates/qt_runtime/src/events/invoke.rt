@@ -1,0 +1,162 @@
+//! `emit` and `call`: a method begins.
+
+ghost use Rattle.std.specs.Prelude.{◌≡◌, ◌↔◌, ◌<◌, [], Ok, length, IfOk, IfErr, IsTrue, MatchOption};
+ghost use Rattle.meta_model.specs.declared.object.MetaMethod.{MetaMethod as AMetaMethod};
+ghost use Rattle.machine_state.specs.Worlds.{at};
+ghost use Rattle.machine_rules.specs.Good.{ArgumentsFit};
+ghost use Rattle.qt_runtime.specs.Judgement.{IsNotAccepted, Numbered};
+ghost use Rattle.qt_runtime.specs.Taking.{Keeps, Took, AsksFor, invoking};
+ghost use Rattle.qt_runtime.specs.events.Invoke.{invoke, May, IsAskedOf};
+ghost use Rattle.script_lang.specs.declared.event.Event.{Event as AnEvent};
+
+use crate::events::connect::is_signal;
+use crate::events::named::find_living;
+use crate::events::values::read_inputs;
+use crate::judgement::{NotAccepted, refuse};
+use machine_rules::Setting;
+use machine_state::{Answer, Fault, Refusal, World};
+use meta_objects::{Meta, MetaMethod, Work};
+use script_lang::Input;
+use signatures::{Arguments, Name, ObjectId, Value};
+
+/// What an event asks of a method.
+#[derive(Clone, Copy, Debug, PartialEq, Eq)]
+pub enum Invocation {
+    /// That the signal is emitted.
+    Emit,
+    /// That the slot is called.
+    Call,
+}
+
+impl Invocation {
+    /// Whether an event may ask this of the method of this number. `QObject`'s own methods have the numbers 0 to 3.
+    fn may(self, number: usize, method: &MetaMethod) -> bool
+        ensures { IsTrue result ↔ May self number method.now }
+    {
+        match self {
+            Invocation::Emit => number > 2 && is_signal(method),
+            Invocation::Call => number > 3 && !is_signal(method),
+        }
+    }
+}
+
+/// The numbers of an object and of its method, and the values that it is given.
+#[derive(Drop)]
+struct Invoked {
+    object: ObjectId,
+    method: usize,
+    values: Arguments,
+}
+
+/// Emits a signal or calls a slot, and runs it.
+pub fn invoke(
+    setting: &Setting,
+    world: &mut World,
+    invocation: Invocation,
+    name: &Name,
+    called: &Name,
+    inputs: &[Input],
+) -> Result<Answer, Fault>
+    requires depth { 0 < setting.now.depth }
+    requires left { 0 < world.old.left }
+    requires keeps { Keeps setting.now.meta world.old }
+    ensures { Took setting.now.meta setting.now.depth world.old (invoking invocation name.now called.now inputs.now) world.new result }
+{
+    match judge(setting, world, invocation, name, called, inputs) {
+        Err(reason) => refuse(world, reason),
+        Ok(
+            Invoked {
+                object,
+                method,
+                values,
+            },
+        ) => begin(setting, world, object, method, values.as_slice()),
+    }
+}
+
+/// What the event begins, or why it isn't accepted.
+fn judge(
+    setting: &Setting,
+    world: &World,
+    invocation: Invocation,
+    name: &Name,
+    called: &Name,
+    inputs: &[Input],
+) -> Result<Invoked, NotAccepted>
+    ensures accepted { IfOk result (λ i. AsksFor setting.now.meta world.now i.object i.method i.values (invoking invocation name.now called.now inputs.now)) }
+    ensures fits { IfOk result (λ i. ArgumentsFit setting.now.meta world.now.objects i.object i.method i.values) }
+    ensures refused { IfErr result (λ reason. IsNotAccepted (invoke setting.now.meta (at world.now []) invocation name.now called.now inputs.now) reason) }
+{
+    let (object, found) = find_living(world, name)?;
+    let Some((method, declared)) = method_of(
+        &setting.meta,
+        found.class,
+        invocation,
+        called,
+        inputs.len(),
+    ) else {
+        return Err(NotAccepted::Refused(Refusal::NoMember));
+    };
+    let values = read_inputs(setting.alloc, world, inputs)?;
+    if world.objects.have_types(&setting.meta, values.as_slice(), declared.kinds.as_slice()) {
+        Ok(Invoked {
+            object: ObjectId::new(object),
+            method,
+            values,
+        })
+    } else {
+        Err(NotAccepted::Refused(Refusal::BadArgs))
+    }
+}
+
+/// The class's method of this name and number of parameters of which the event may ask this.
+fn method_of<'m>(
+    meta: &'m Meta,
+    class: usize,
+    invocation: Invocation,
+    name: &Name,
+    count: usize,
+) -> Option<(usize, &'m MetaMethod)>
+    ensures { MatchOption result ((m : Numbered AMetaMethod) → ¬ IsAskedOf meta.now class invocation name.now count m) (λ f. IsAskedOf meta.now class invocation name.now count (record { number = f.0; it = f.1.now })) }
+{
+    let Some(number) = meta.by_name(class, name, count) else {
+        return None;
+    };
+    let Some(method) = meta.method_at(class, number) else {
+        return None;
+    };
+    if invocation.may(number, method) {
+        Some((number, method))
+    } else {
+        None
+    }
+}
+
+/// Begins a method for an event that is accepted, and runs it.
+fn begin(
+    setting: &Setting,
+    world: &mut World,
+    object: ObjectId,
+    method: usize,
+    values: &[Value],
+) -> Result<Answer, Fault>
+    requires depth { 0 < setting.now.depth }
+    requires left { 0 < world.old.left }
+    requires keeps { Keeps setting.now.meta world.old }
+    requires fit { ArgumentsFit setting.now.meta world.old.objects object method values.now }
+    ensures { (e : AnEvent) → AsksFor setting.now.meta world.old object method values.now e → Took setting.now.meta setting.now.depth world.old e world.new result }
+{
+    let Some((found, declared)) = setting.member(world, object, method) else {
+        unreachable!()
+    };
+    let last = world.connected;
+    let entry = setting.begin_entry(world, 1, found, method, declared, values)?;
+    world.accept_with(entry)?;
+    match &declared.work {
+        Work::Signal => setting.run_emission(world, 0, object, method, values, last)?,
+        Work::Slot(body) => {
+            setting.run_body(world, 0, object, method, values, body.as_slice())?;
+        }
+    }
+    Ok(Answer::Done)
+}

@@ -1,0 +1,24 @@
+//! The objects that events name.
+
+ghost use Rattle.std.specs.Prelude.{IfOk, IfErr};
+ghost use Rattle.qt_runtime.specs.Judgement.{IsNotAccepted};
+ghost use Rattle.qt_runtime.specs.events.Named.{living, IsLiving};
+
+use crate::judgement::NotAccepted;
+use machine_state::{Refusal, World};
+use object_tree::Object;
+use signatures::Name;
+
+/// The living object of this name.
+pub fn find_living<'w>(world: &'w World, name: &Name) -> Result<(usize, &'w Object), NotAccepted>
+    ensures found { IfOk result (λ f. IsLiving world.now.objects name.now (record { number = f.0; it = f.1.now })) }
+    ensures refused { IfErr result (λ reason. IsNotAccepted (living world.now.objects name.now) reason) }
+{
+    let Some(number) = world.find(name) else {
+        return Err(NotAccepted::Refused(Refusal::NoObject));
+    };
+    match world.objects.object(number) {
+        Some(object) if object.alive => Ok((number.number(), object)),
+        _ => Err(NotAccepted::Refused(Refusal::Dead)),
+    }
+}
