@@ -10,7 +10,7 @@ use Rattle.meta_model.specs.declared.object.ValueType.{ValueType}
 use Rattle.meta_model.specs.Loaded.{Loaded}
 use Rattle.meta_model.specs.Sound.{AreSound, set_sound, emit_sound, call_sound, if_sound}
 use Rattle.object_tree.specs.declared.object.Object.{Object}
-use Rattle.machine_rules.specs.Doings.{Doing, Write, Begin, Choose, Nothing, on_object, chosen_by, doing}
+use Rattle.machine_rules.specs.Doings.{Doing, Write, Begin, Choose, on_object, chosen_by, doing}
 use Rattle.machine_rules.specs.Paths.{path_value, value_of, values_of}
 
 never-map : {X : Type 0} (act : X → Doing) (found : Option X) (block : List Statement) → ((x : X) → act x ≢ Choose block) → option_map act found ≢ Some (Choose block)

@@ -1,5 +1,5 @@
 -- What an event comes to for a machine.
-use Rattle.std.proofs.Common.{◌≡◌, ℕ, ◌⊎◌, Bool, false, inl, List, [], ◌∷◌, Result, Ok, Err, sym, ap, ◌∙◌}
+use Rattle.std.proofs.Common.{◌≡◌, ℕ, ◌⊎◌, Bool, false, inl, [], ◌∷◌, Result, Ok, Err, sym, ap, ◌∙◌}
 use Rattle.std.specs.Prelude.{IfErr}
 use Rattle.std.specs.Result.{is_err}
 use Rattle.script_lang.specs.declared.event.Event.{Event}
@@ -9,7 +9,6 @@ use Rattle.machine_state.specs.declared.fault.Answer.{Answer}
 use Rattle.machine_state.specs.declared.fault.Answer.TheVariants as answer
 use Rattle.machine_state.specs.declared.fault.Fault.{Fault}
 use Rattle.machine_state.specs.declared.world.World.{World}
-use Rattle.machine_state.specs.Worlds.{at}
 use Rattle.machine_rules.specs.Sound.{Sound}
 use Rattle.qt_runtime.specs.Seen.{Seen, Completes, Accepts, Refuses, OnDone, OnRefused, Halts, Stays}
 use Rattle.qt_runtime.specs.Taking.{Took}

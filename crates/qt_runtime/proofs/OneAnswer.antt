@@ -1,9 +1,6 @@
 -- Judgements have at most one answer.
 use Rattle.std.proofs.Common.{◌≡◌, ℕ, List, [], ◌∷◌, Option, None, Some, slice_get, length, Result, Ok, Err, refl, sym, ap, ◌∙◌, subst, inl, inr}
 use Rattle.std.proofs.lemmas.Bool.{cases_eq, cases_order}
-use Rattle.signatures.specs.declared.sig.Sig.{Sig}
-use Rattle.signatures.specs.declared.qtype.QType.{QType}
-use Rattle.signatures.specs.declared.value.Value.{Value}
 use Rattle.meta_model.specs.declared.object.MetaMethod.{MetaMethod}
 use Rattle.meta_model.specs.declared.object.MetaObject.{MetaObject}
 use Rattle.meta_model.specs.declared.object.MetaProperty.{MetaProperty}
@@ -12,16 +9,10 @@ use Rattle.meta_model.specs.Members.{IsMethod, IsProperty}
 use Rattle.meta_model.specs.Sound.{IsSound}
 use Rattle.object_tree.specs.declared.object.Object.{Object}
 use Rattle.object_tree.specs.Adopting.{IsAdopted}
-use Rattle.script_lang.specs.declared.event.Event.{Event}
-use Rattle.script_lang.specs.declared.event.Event.TheVariants as event
 use Rattle.script_lang.specs.declared.event.Input.{Input}
 use Rattle.script_lang.specs.declared.event.Input.TheVariants as input
 use Rattle.machine_state.specs.declared.refusal.Refusal.{Refusal}
-use Rattle.machine_state.specs.Accepting.{refused}
-use Rattle.machine_state.specs.State.{State}
-use Rattle.machine_rules.proofs.Fields.{some-is, class-unique, method-unique}
-use Rattle.qt_runtime.specs.declared.events.invoke.Invocation.{Invocation}
-use Rattle.qt_runtime.specs.declared.events.invoke.Invocation.TheVariants.{Emit, Call}
+use Rattle.machine_rules.proofs.Fields.{class-unique}
 use Rattle.qt_runtime.specs.Judgement.{Numbered, Find, Check, Gives, Becomes, Then, found, missing, holds, fails, gives, becomes, goes_on, ends}
 use Rattle.qt_runtime.specs.Laws.{HasOneAnswer}
 use Rattle.qt_runtime.specs.events.Named.{IsObject, living}

@@ -1,7 +1,6 @@
 -- An event has one answer.
-use Rattle.std.proofs.Common.{◌≡◌, ℕ, List, [], ◌∷◌, Option, Some, slice_get, slice_set, length, Result, Ok, Err, true, false, refl, sym, ap, ◌∙◌, subst}
+use Rattle.std.proofs.Common.{◌≡◌, ℕ, List, Option, Some, slice_get, slice_set, length, Ok, Err, true, false, refl, sym, ap, ◌∙◌, subst}
 use Rattle.signatures.specs.declared.sig.Sig.{Sig}
-use Rattle.signatures.specs.declared.qtype.QType.{QType}
 use Rattle.signatures.specs.declared.value.Value.{Value}
 use Rattle.meta_model.specs.declared.object.MetaMethod.{MetaMethod}
 use Rattle.meta_model.specs.declared.object.MetaObject.{MetaObject}
@@ -11,7 +10,6 @@ use Rattle.meta_model.specs.Members.{IsClass, IsMethod}
 use Rattle.meta_model.specs.Sound.{IsSound}
 use Rattle.object_tree.specs.declared.object.Object.{Object}
 use Rattle.script_lang.specs.declared.event.Connect.{Connect as Connecting}
-use Rattle.script_lang.specs.declared.event.Event.{Event}
 use Rattle.script_lang.specs.declared.event.Event.TheVariants as event
 use Rattle.script_lang.specs.declared.event.Input.{Input}
 use Rattle.machine_state.specs.declared.refusal.Refusal.{Refusal}
@@ -26,13 +24,13 @@ use Rattle.qt_runtime.specs.declared.events.invoke.Invocation.{Invocation}
 use Rattle.qt_runtime.specs.declared.events.invoke.Invocation.TheVariants.{Emit, Call}
 use Rattle.qt_runtime.specs.Judgement.{Numbered}
 use Rattle.qt_runtime.specs.Laws.{HasOneAnswer, OneJudgement, OneTaking}
-use Rattle.qt_runtime.specs.Takes.{judged, Takes, accepts, refuses}
+use Rattle.qt_runtime.specs.Takes.{accepts, refuses}
 use Rattle.qt_runtime.specs.events.Adopt.{adopt, Adopts}
-use Rattle.qt_runtime.specs.events.Assign.{assign, IsPropertyOf}
+use Rattle.qt_runtime.specs.events.Assign.{assign}
 use Rattle.qt_runtime.specs.events.Block.{block}
-use Rattle.qt_runtime.specs.events.Connect.{connect, IsMethodOf, IsSignalOf}
+use Rattle.qt_runtime.specs.events.Connect.{connect, IsMethodOf}
 use Rattle.qt_runtime.specs.events.Create.{create, IsClassOf}
-use Rattle.qt_runtime.specs.events.Invoke.{invoke, IsAskedOf}
+use Rattle.qt_runtime.specs.events.Invoke.{invoke}
 use Rattle.qt_runtime.proofs.OneAnswer.{one-find, one-check, one-gives, one-becomes, one-then, numbered-is, one-living, one-value, one-values, one-method, one-property, one-adopted}
 
 one-class : {p : Loaded} {name : List ℕ} → IsSound p → (a b : Numbered MetaObject) → IsClassOf p name a → IsClassOf p name b → a ≡ b

@@ -1,5 +1,5 @@
 -- What goes on in a run lacks a next rule only for want of a value.
-use Rattle.std.proofs.Common.{◌≡◌, ◌≢◌, ℕ, inl, inr, Bool, true, false, List, [], ◌∷◌, Option, Some, None, slice_get, refl, sym, subst}
+use Rattle.std.proofs.Common.{◌≡◌, ◌≢◌, ℕ, inl, inr, true, false, List, [], ◌∷◌, Option, Some, None, slice_get, refl, sym, subst}
 use Rattle.std.specs.List.{AllByRecursion}
 use Rattle.std.specs.Option.{option_map}
 use Rattle.signatures.specs.declared.value.Value.{Value}

@@ -16,7 +16,7 @@ use Rattle.machine_state.specs.declared.fault.Answer.TheVariants.{Done}
 use Rattle.machine_state.specs.declared.fault.Fault.{Fault}
 use Rattle.machine_state.specs.declared.world.World.{World}
 use Rattle.machine_state.specs.Objects.{shown, all_shown}
-use Rattle.machine_state.specs.State.{State, Activation, Update}
+use Rattle.machine_state.specs.State.{Activation, Update}
 use Rattle.machine_state.specs.Accepting.{accepted, with_entry}
 use Rattle.machine_state.specs.Worlds.{at, after}
 use Rattle.machine_state.proofs.Found.{change-there}

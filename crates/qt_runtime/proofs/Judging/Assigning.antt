@@ -1,5 +1,5 @@
 -- `set`.
-use Rattle.std.proofs.Common.{◌≡◌, ℕ, List, [], Some, slice_get, Result, Ok, Err, sym, subst}
+use Rattle.std.proofs.Common.{◌≡◌, ℕ, List, [], Some, slice_get, Ok, Err, sym, subst}
 use Rattle.signatures.specs.declared.value.Value.{Value}
 use Rattle.meta_model.specs.declared.object.MetaObject.{MetaObject}
 use Rattle.meta_model.specs.declared.object.MetaProperty.{MetaProperty}

@@ -1,5 +1,5 @@
 -- `block` and `unblock`.
-use Rattle.std.proofs.Common.{ℕ, List, Bool, true, false, [], Result, Ok, Err, refl}
+use Rattle.std.proofs.Common.{ℕ, List, Bool, true, false, [], Result, Ok, refl}
 use Rattle.meta_model.specs.Loaded.{Loaded}
 use Rattle.object_tree.specs.declared.object.Object.{Object}
 use Rattle.object_tree.specs.Objects.{change, blocked}

@@ -1,5 +1,5 @@
 -- `connect`.
-use Rattle.std.proofs.Common.{◌≡◌, ◌≢◌, ℕ, List, Result, Ok, Err, subst}
+use Rattle.std.proofs.Common.{◌≡◌, ◌≢◌, ℕ, Ok, Err, subst}
 use Rattle.signatures.specs.declared.kind.Kind.TheVariants.{Queued}
 use Rattle.signatures.specs.declared.sig.Sig.{Sig}
 use Rattle.signatures.specs.Types.{Fits}
@@ -15,7 +15,7 @@ use Rattle.machine_state.specs.State.{State}
 use Rattle.machine_state.specs.Worlds.{connected_by}
 use Rattle.machine_rules.proofs.Fields.{method-unique}
 use Rattle.qt_runtime.specs.Judgement.{Numbered, found, missing, holds, fails, gives, goes_on, ends}
-use Rattle.qt_runtime.specs.events.Connect.{connect, named_signal, IsMethodOf, IsSignalOf}
+use Rattle.qt_runtime.specs.events.Connect.{connect, named_signal, IsSignalOf}
 use Rattle.qt_runtime.specs.events.Named.{IsLiving}
 use Rattle.qt_runtime.proofs.Judging.Naming.{living-ok}
 

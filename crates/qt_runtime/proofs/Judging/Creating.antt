@@ -1,5 +1,5 @@
 -- `new`.
-use Rattle.std.proofs.Common.{◌≡◌, ℕ, ◌<◌, ◌≤◌, List, [], ◌∷◌, ◌++◌, length, Result, Ok, Err, MatchResult, refl, sym, ap, ◌∙◌, subst, inl, inr, arith}
+use Rattle.std.proofs.Common.{◌≡◌, ℕ, ◌<◌, List, [], ◌∷◌, ◌++◌, length, Result, Ok, Err, MatchResult, refl, sym, ap, ◌∙◌, subst, inr, arith}
 use Rattle.meta_model.specs.declared.object.MetaObject.{MetaObject}
 use Rattle.meta_model.specs.Loaded.{Loaded}
 use Rattle.meta_model.specs.Members.{IsClass, IsClassNamed}
@@ -18,7 +18,7 @@ use Rattle.machine_state.specs.State.{State}
 use Rattle.machine_state.specs.Worlds.{at, main}
 use Rattle.machine_rules.specs.Good.{AreTyped, IsWell}
 use Rattle.machine_rules.proofs.Fields.{class-unique}
-use Rattle.qt_runtime.specs.Judgement.{Numbered, found, missing, holds, fails, gives, goes_on, ends}
+use Rattle.qt_runtime.specs.Judgement.{found, missing, holds, fails, gives, goes_on, ends}
 use Rattle.qt_runtime.specs.Runs.{done, by_event}
 use Rattle.qt_runtime.specs.Takes.{accepts}
 use Rattle.qt_runtime.specs.Taking.{Halted, creation_reason}

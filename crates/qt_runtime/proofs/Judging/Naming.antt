@@ -1,11 +1,9 @@
 -- Objects that events name.
-use Rattle.std.proofs.Common.{◌≡◌, ℕ, List, true, Some, slice_get, Ok, Err, sym, ap, ◌∙◌, inl, inr}
-use Rattle.std.proofs.lemmas.Bool.{cases_order}
+use Rattle.std.proofs.Common.{◌≡◌, ℕ, List, true, Some, Ok, Err, ap, ◌∙◌}
 use Rattle.std.specs.Option.{option_map}
 use Rattle.object_tree.specs.declared.object.Object.{Object}
 use Rattle.object_tree.specs.Objects.{IsFree}
 use Rattle.machine_state.specs.declared.refusal.Refusal.TheVariants.{NoObject, Dead}
-use Rattle.machine_state.specs.Objects.{IsNamed}
 use Rattle.qt_runtime.specs.Judgement.{Numbered, found, missing, holds, fails, gives, goes_on, ends}
 use Rattle.qt_runtime.specs.events.Named.{IsObject, IsLiving, living}
 

@@ -1,5 +1,5 @@
 -- The values that a script writes: a literal, or the name of a living object (docs/machine.md, "Events").
-use Rattle.std.specs.Prelude.{ℕ, List, [], ◌∷◌, Result, Some}
+use Rattle.std.specs.Prelude.{List, [], ◌∷◌, Result, Some}
 use Rattle.signatures.specs.declared.value.Value.{Value}
 use Rattle.signatures.specs.declared.value.Value.TheVariants.{Ref}
 use Rattle.texts.specs.Literals.{literal_value}

@@ -1,7 +1,4 @@
-use Rattle.std.proofs.Common.{[], ◌≡◌, ◌≢◌}
-use Rattle.meta_model.specs.Loaded.{Loaded}
-use Rattle.script_lang.specs.declared.event.Connect.{Connect as Connecting}
-use Rattle.machine_state.specs.State.{State}
+use Rattle.std.proofs.Common.{[]}
 use Rattle.machine_state.specs.Worlds.{at}
 use Rattle.qt_runtime.specs.Judgement.{refused}
 use Rattle.qt_runtime.specs.events.Connect.{connect}
