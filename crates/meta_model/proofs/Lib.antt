@@ -10,3 +10,4 @@ pub mod Once
 pub mod OutlineSteps
 pub mod Outlined
 pub mod Roots
+pub mod Indexing

@@ -4,7 +4,7 @@ use Rattle.std.proofs.lemmas.Option.{slice_get_within, same_Some, none-some, sli
 use Rattle.meta_model.specs.Places.{StandsAt, StandsFirst, IsPlace}
 use Rattle.meta_model.specs.Members.{IsIn}
 
-order : (i j : ℕ) → (i < j) ⊎ ((i ≡ j) ⊎ (j < i))
+pub order : (i j : ℕ) → (i < j) ⊎ ((i ≡ j) ⊎ (j < i))
 order zero zero = inr (inl refl)
 order zero (suc j) = inl (omega arith)
 order (suc i) zero = inr (inr (omega arith))

@@ -1,12 +1,14 @@
 //! Names that stand twice.
 
-ghost use Rattle.std.specs.Prelude.{◌≡◌, ◌↔◌, ℕ, List, length, IsTrue, Some, Any};
+ghost use Rattle.std.specs.Prelude.{◌≡◌, ◌↔◌, ℕ, List, IsTrue, IfOk, Some, Any};
 ghost use Rattle.meta_model.specs.Twice.{StandsTwice};
-ghost use Rattle.meta_model.specs.Conditions.{IsTaken, DuplicateClass, AreOneCall, HasTwoMembers, RepeatsParameter, DuplicateMember, AreOneParameter};
+ghost use Rattle.meta_model.specs.Conditions.{IsTaken, DuplicateClass, HasTwoMembers, RepeatsParameter, DuplicateMember, AreOneParameter};
 
-use crate::outline::{Heading, Outline};
+use crate::call_index::has_two_alike;
+use crate::outline::Outline;
 use signatures::Name;
-use texts::{Class, Parameter, Program, Property, Signal, Slot};
+use std::alloc::{AllocError, Global};
+use texts::{Class, Parameter, Program, Signal, Slot};
 
 /// What may not stand twice in a list.
 trait Alike {
@@ -22,22 +24,6 @@ impl Alike for Class {
 
     fn is_alike(&self, other: &Class) -> bool {
         self.name.is_same(&other.name)
-    }
-}
-
-impl Alike for Property {
-    ghost alike = { λ a b. a.name ≡ b.name };
-
-    fn is_alike(&self, other: &Property) -> bool {
-        self.name.is_same(&other.name)
-    }
-}
-
-impl Alike for Heading {
-    ghost alike = { AreOneCall };
-
-    fn is_alike(&self, other: &Heading) -> bool {
-        self.sig.types.len() == other.sig.types.len() && self.sig.name.is_same(&other.sig.name)
     }
 }
 
@@ -92,22 +78,37 @@ fn is_taken(name: &Name) -> bool
         || bytes == b"QString".as_slice()
 }
 
-/// Whether a member of a class stands twice, inherited ones too, or a parameter of a method.
-pub fn has_duplicate_member(program: &Program, outlines: &[Outline]) -> bool
-    ensures { IsTrue result ↔ DuplicateMember program.now outlines.now }
+/// Whether a member of a class stands twice, inherited ones too, or a parameter of a method. The error is that memory was
+/// refused.
+pub fn has_duplicate_member(
+    alloc: Global,
+    program: &Program,
+    outlines: &[Outline],
+) -> Result<bool, AllocError>
+    ensures { IfOk result (λ twice. IsTrue twice ↔ DuplicateMember program.now outlines.now) }
 {
-    let classes = program.classes.as_slice();
-    outlines.iter().any(|outline| has_two_members(outline))
-        || classes.iter().any(|class| repeats_parameter(class))
+    for outline in outlines {
+        if has_two_members(alloc, outline)? {
+            return Ok(true);
+        }
+    }
+    Ok(has_repeated_parameter(program.classes.as_slice()))
+}
+
+/// Whether a parameter stands twice in a method of one of the classes.
+fn has_repeated_parameter(classes: &[Class]) -> bool
+    ensures { IsTrue result ↔ Any RepeatsParameter classes.now }
+{
+    classes.iter().any(|class| repeats_parameter(class))
 }
 
 /// Whether two methods or two properties of the class are one.
-fn has_two_members(outline: &Outline) -> bool
-    ensures { IsTrue result ↔ HasTwoMembers outline.now }
+fn has_two_members(alloc: Global, outline: &Outline) -> Result<bool, AllocError>
+    ensures { IfOk result (λ two. IsTrue two ↔ HasTwoMembers outline.now) }
 {
-    let methods = outline.methods.as_slice();
-    let properties = outline.properties.as_slice();
-    stands_twice(methods) || stands_twice(properties)
+    let in_methods = has_two_alike(alloc, outline.methods.as_slice())?;
+    let in_properties = has_two_alike(alloc, outline.properties.as_slice())?;
+    Ok(in_methods || in_properties)
 }
 
 /// Whether a parameter stands twice in a method of the class.

@@ -2,6 +2,7 @@
 //! refuse a program before a body is read.
 #![tactic(auto)]
 
+mod call_index;
 mod clashes;
 mod fault;
 mod kinds;
@@ -14,6 +15,7 @@ mod places;
 mod qobject;
 mod slot_body;
 
+pub use call_index::{Called, find_call, has_two_alike, index_calls};
 pub use clashes::{has_duplicate_class, has_duplicate_member};
 pub use fault::MetaFault;
 pub use kinds::{has_no_type, kind_of, read_kind, read_kinds};

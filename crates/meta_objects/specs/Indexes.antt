@@ -4,20 +4,13 @@ use Rattle.std.specs.Prelude.{◌≡◌, ℕ, List, length, Option, slice_get}
 use Rattle.std.specs.Option.{option_and_then}
 use Rattle.std.specs.List.{AllZip}
 use Rattle.meta_model.specs.NamePlaces.{place_in}
+use Rattle.meta_model.specs.CallPlaces.{Index, place_by, IndexesCalls}
 use Rattle.meta_model.specs.declared.object.MetaObject.{MetaObject}
 use Rattle.meta_model.specs.declared.object.MetaMethod.{MetaMethod}
 use Rattle.meta_model.specs.declared.object.MetaProperty.{MetaProperty}
 use Rattle.meta_objects.specs.declared.class_index.MemberIndex.{MemberIndex}
 use Rattle.meta_objects.specs.declared.class_index.ClassIndex.{ClassIndex}
 use Rattle.meta_model.specs.Places.{IsPlace}
-
--- names with the places that they were given
-abbrev pub Index : Type 0
-Index = List (List ℕ × ℕ)
-
--- the place of a name in the index for so many parameters
-abbrev pub place_by : List Index → ℕ → List ℕ → Option ℕ
-place_by indexes count name = option_and_then (λ (index : Index). place_in index name) (slice_get indexes count)
 
 -- ---- what an index says of what it was made of
 abbrev pub IndexesClasses : List MetaObject → Index → Type 0
@@ -29,9 +22,7 @@ IndexesProperties properties index =
 
 -- a method is found by its name and its number of parameters
 abbrev pub IndexesMethods : List MetaMethod → List Index → Type 0
-IndexesMethods methods indexes =
-    (name : List ℕ) (count : ℕ)
-    → IsPlace (λ (method : MetaMethod). (method.sig.name ≡ name) × (length method.sig.types ≡ count)) methods (place_by indexes count name)
+IndexesMethods methods indexes = IndexesCalls (λ (method : MetaMethod). method.sig.name) (λ (method : MetaMethod). length method.sig.types) methods indexes
 
 -- the members of a class, inherited ones too
 pub record IndexesMembers (class : MetaObject) (index : MemberIndex) : Type 0 where

@@ -1,11 +1,11 @@
 //! Indexes by which classes and their members are found by name.
 
-ghost use Rattle.std.specs.Prelude.{◌≡◌, ℕ, ◌<◌, List, IfOk, OnOk, vec_len};
+ghost use Rattle.std.specs.Prelude.{◌≡◌, IfOk};
 ghost use Rattle.std.specs.List.{AllZip};
 ghost use Rattle.meta_model.specs.NamePlaces.{place_in};
-ghost use Rattle.meta_objects.specs.Indexes.{place_by, IndexesClasses, IndexesProperties, IndexesMethods, IndexesMembers, IsIndexOf, property_in, method_in};
+ghost use Rattle.meta_objects.specs.Indexes.{IndexesClasses, IndexesProperties, IndexesMembers, IsIndexOf, property_in, method_in};
 
-use meta_model::{MetaMethod, MetaObject, MetaProperty, NameIndex};
+use meta_model::{MetaObject, MetaProperty, NameIndex, find_call, index_calls};
 use signatures::Name;
 use sqlite_items::Items;
 use std::alloc::{AllocError, Global};
@@ -59,7 +59,7 @@ impl ClassIndex {
     pub fn method(&self, class: usize, name: &Name, count: usize) -> Option<usize>
         ensures { result ≡ method_in self.now.members class name.now count }
     {
-        self.members.get(class)?.methods.get(count)?.find(name)
+        find_call(self.members.get(class)?.methods.as_slice(), name, count)
     }
 }
 
@@ -91,7 +91,7 @@ fn index_class(alloc: Global, class: &MetaObject) -> Result<MemberIndex, AllocEr
     ensures { IfOk result (IndexesMembers class.now) }
 {
     let properties = index_properties(alloc, class.properties.as_slice())?;
-    let methods = index_methods(alloc, class.methods.as_slice())?;
+    let methods = index_calls(alloc, class.methods.as_slice())?;
     Ok(MemberIndex {
         properties,
         methods,
@@ -107,28 +107,4 @@ fn index_properties(alloc: Global, properties: &[MetaProperty]) -> Result<NameIn
         index.insert(&property.name, number)?;
     }
     Ok(index)
-}
-
-/// The methods' numbers by their names, for each number of parameters.
-fn index_methods(alloc: Global, methods: &[MetaMethod]) -> Result<Items<NameIndex>, AllocError>
-    ensures { IfOk result (IndexesMethods methods.now) }
-{
-    let mut indexes = Vec::new(alloc);
-    for (number, method) in methods.iter().enumerate() {
-        let count = method.sig.types.len();
-        grow_past(alloc, &mut indexes, count)?;
-        indexes[count].insert(&method.sig.name, number)?;
-    }
-    Ok(Items::from_vec(indexes))
-}
-
-/// Adds empty indexes until there is one of this number.
-fn grow_past(alloc: Global, indexes: &mut Vec<NameIndex>, count: usize) -> Result<(), AllocError>
-    ensures same { OnOk result ((k : ℕ) (name : List ℕ) → place_by indexes.new.items k name ≡ place_by indexes.old.items k name) }
-    ensures there { OnOk result (count < vec_len indexes.new) }
-{
-    while indexes.len() <= count {
-        indexes.push(NameIndex::new(alloc))?;
-    }
-    Ok(())
 }

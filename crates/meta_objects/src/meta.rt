@@ -75,7 +75,8 @@ impl Meta {
         let declared = program.classes.as_slice();
         let outlines = outline_classes(alloc, declared)?;
         let all = outlines.as_slice();
-        if has_duplicate_member(program, all) {
+        let twice = has_duplicate_member(alloc, program, all)?;
+        if twice {
             return Err(MetaFault::DuplicateMember);
         }
         let Uses {

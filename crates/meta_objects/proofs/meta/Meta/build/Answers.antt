@@ -13,18 +13,18 @@ returns-in_err-outlines c =
     (rw c.as_slice-declared.ensures at c.in_err-outlines.ensures))
     _ c.from_residual.ensures.0 c.from_residual.ensures.1
 
-pub returns-then-has_duplicate_member : goal.returns-then-has_duplicate_member
-returns-then-has_duplicate_member c = (
+pub returns-then-twice : goal.returns-then-twice
+returns-then-twice c = (
   _,
   outlined _ _ (fails _ c.has_duplicate_class.ensures c.if-has_duplicate_class.false) (rw c.as_slice-declared.ensures at c.in_ok-outlines.ensures),
-  rw c.as_slice-all.ensures at (c.has_duplicate_member.ensures.0 c.if-has_duplicate_member.true),
+  rw c.as_slice-all.ensures at (c.in_ok-twice.ensures.0 c.if-twice.true),
 )
 
 pub returns-in_err-bodies : goal.returns-in_err-bodies
 returns-in_err-bodies c =
     answers _ _
     (refused_use _ _ _ (outlined _ _ (fails _ c.has_duplicate_class.ensures c.if-has_duplicate_class.false) (rw c.as_slice-declared.ensures at c.in_ok-outlines.ensures))
-    (rw c.as_slice-all.ensures at (fails _ c.has_duplicate_member.ensures c.if-has_duplicate_member.false))
+    (rw c.as_slice-all.ensures at (fails _ c.in_ok-twice.ensures c.if-twice.false))
     (λ (uses : Uses). HasUses c.args.program.now c.in_ok-outlines.outlines uses.bodies uses.wires uses.owns)
     (rw c.as_slice-all.ensures at c.in_err-bodies.ensures))
     _ c.from_residual-in_err-bodies.ensures.0 c.from_residual-in_err-bodies.ensures.1
@@ -33,7 +33,7 @@ pub returns-then-has_bad_notify : goal.returns-then-has_bad_notify
 returns-then-has_bad_notify c = (
   _,
   outlined _ _ (fails _ c.has_duplicate_class.ensures c.if-has_duplicate_class.false) (rw c.as_slice-declared.ensures at c.in_ok-outlines.ensures),
-  rw c.as_slice-all.ensures at (fails _ c.has_duplicate_member.ensures c.if-has_duplicate_member.false),
+  rw c.as_slice-all.ensures at (fails _ c.in_ok-twice.ensures c.if-twice.false),
   nothing_lacks _ _ _ _ _ (rw c.as_slice-all.ensures at c.in_ok-bodies.ensures),
   rw c.as_slice-all.ensures at (c.has_bad_notify.ensures.0 c.if-has_bad_notify.true),
 )
@@ -42,7 +42,7 @@ pub returns-then-has_no_type : goal.returns-then-has_no_type
 returns-then-has_no_type c = (
   _,
   outlined _ _ (fails _ c.has_duplicate_class.ensures c.if-has_duplicate_class.false) (rw c.as_slice-declared.ensures at c.in_ok-outlines.ensures),
-  rw c.as_slice-all.ensures at (fails _ c.has_duplicate_member.ensures c.if-has_duplicate_member.false),
+  rw c.as_slice-all.ensures at (fails _ c.in_ok-twice.ensures c.if-twice.false),
   nothing_lacks _ _ _ _ _ (rw c.as_slice-all.ensures at c.in_ok-bodies.ensures),
   rw c.as_slice-all.ensures at (fails _ c.has_bad_notify.ensures c.if-has_bad_notify.false),
   rw c.as_slice-all.ensures at (c.has_no_type.ensures.0 c.if-has_no_type.true),
@@ -54,7 +54,7 @@ returns c =
       _,
       outlined _ _ (fails _ c.has_duplicate_class.ensures c.if-has_duplicate_class.false) (rw c.as_slice-declared.ensures at c.in_ok-outlines.ensures),
       record {
-        members = rw c.as_slice-all.ensures at (fails _ c.has_duplicate_member.ensures c.if-has_duplicate_member.false);
+        members = rw c.as_slice-all.ensures at (fails _ c.in_ok-twice.ensures c.if-twice.false);
         names = nothing_lacks _ _ _ _ _ uses;
         notifiers = rw c.as_slice-all.ensures at (fails _ c.has_bad_notify.ensures c.if-has_bad_notify.false);
         types = rw c.as_slice-all.ensures at (fails _ c.has_no_type.ensures c.if-has_no_type.false);
@@ -68,7 +68,7 @@ invariant_of-result c =
       sound c.args.program.now _
           (outlined _ _ (fails _ c.has_duplicate_class.ensures c.if-has_duplicate_class.false) (rw c.as_slice-declared.ensures at c.in_ok-outlines.ensures))
           (record {
-            members = rw c.as_slice-all.ensures at (fails _ c.has_duplicate_member.ensures c.if-has_duplicate_member.false);
+            members = rw c.as_slice-all.ensures at (fails _ c.in_ok-twice.ensures c.if-twice.false);
             names = nothing_lacks _ _ _ _ _ uses;
             notifiers = rw c.as_slice-all.ensures at (fails _ c.has_bad_notify.ensures c.if-has_bad_notify.false);
             types = rw c.as_slice-all.ensures at (fails _ c.has_no_type.ensures c.if-has_no_type.false);

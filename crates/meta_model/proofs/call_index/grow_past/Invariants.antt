@@ -1,6 +1,6 @@
 use Rattle.std.proofs.Common.{◌≡◌, ℕ, ◌+◌, ◌-◌, List, vec_len}
-use Rattle.meta_objects.specs.Indexes.{place_by}
-use Rattle.meta_objects.proofs.class_index.grow_past.Given as goal
+use Rattle.meta_model.specs.CallPlaces.{place_by}
+use Rattle.meta_model.proofs.call_index.grow_past.Given as goal
 
 -- nothing is found that wasn't before
 abbrev pub invariant-loop-alloc : goal.invariant-loop-alloc
