@@ -96,7 +96,7 @@ lacks-read {p} {o = o} {w = w} {arguments = arguments} {x = x} {a = a} {i = i} {
 
 rules-fewer : {p : Loaded} {d : ℕ} {s t : State} {n k : ℕ} → Rules p d s n t k → s ≢ t → k < n
 rules-fewer done other = absurd (other refl)
-rules-fewer (then r good rest) other = let more = rules-kept rest in omega (arith, more.1)
+rules-fewer (then r good rest) other = let more = rules-kept rest in omega (arith, more.fewer)
 
 -- what follows a statement isn't the statement with what follows it
 longer : (o m : ℕ) (arguments : List Value) (x : Statement) (rest : List Statement) (w v : World) (below : List Activation) → at w (Body o m arguments (x ∷ rest) ∷ below) ≡ at v (Body o m arguments rest ∷ below) → ⊥

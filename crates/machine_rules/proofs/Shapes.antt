@@ -25,10 +25,6 @@ shape-of-there (y ∷ xs) (suc i) x e = shape-of-there xs i x e
 pub shapes-written : (objects : List Object) (o : ℕ) (x : Object) (q : ℕ) (v : Value) → slice_get objects o ≡ Some x → shapes_of (slice_set objects o (written q v x)) ≡ shapes_of objects
 shapes-written objects o x q v e = map-set_same shape_of objects o (written q v x) x (ap shape_of (sym (get_or_from_slice_get objects o x x e)))
 
--- the classes of objects by their shapes
-pub shape_class_of : List Shape → ℕ → Option ℕ
-shape_class_of shapes o = option_map (λ (x : Shape). x.class) (slice_get shapes o)
-
 pub class-by-shape : (objects : List Object) (o : ℕ) → class_of objects o ≡ option_map (λ (x : Shape). x.class) (slice_get (shapes_of objects) o)
 class-by-shape [] o = refl
 class-by-shape (x ∷ xs) zero = refl

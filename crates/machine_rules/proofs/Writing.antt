@@ -29,7 +29,7 @@ use Rattle.machine_rules.proofs.Going.{goes-high, ends-after, ends-lifted, break
 use Rattle.machine_rules.proofs.Fields.{some-is, class-unique, method-unique, typed-written, written-typed, field-written, old-there, types-get, map-get, kind_of}
 use Rattle.machine_rules.specs.Sound.{Sound}
 use Rattle.machine_rules.proofs.Beginning.{fit-of}
-use Rattle.machine_rules.proofs.Keeps.{all-joined-still}
+use Rattle.machine_rules.proofs.Keeps.{all-joined-still, same-stay}
 use Rattle.machine_rules.proofs.Shapes.{shapes-written}
 
 -- ---- writes
@@ -186,7 +186,7 @@ announcement-calls {p} {w} {o} {q} {signal} {count} {x} {method} {present} {take
 pub sound-written : {p : Loaded} {v : World} {o q : ℕ} {x : Object} {property : MetaProperty} {new : Value} (w : World) (entry : Entry) → v ≡ set_in w entry o x q new → IsField p w.objects o q x property → Has p (class_of w.objects) new property.kind → Sound p w.objects w.connections → Sound p v.objects v.connections
 sound-written {p} {v} {o} {q} {x} {property} {new} w entry is f has sound =
     let target : World = set_in w entry o x q new in
-    let kept : Sound p target.objects target.connections = record { typed = typed-written f sound.typed has; joined = all-joined-still p w.objects _ w.connections (shapes-written w.objects o x q new f.is_object) sound.joined } in
+    let kept : Sound p target.objects target.connections = record { typed = typed-written f sound.typed has; joined = all-joined-still p w.objects _ w.connections (same-stay w.objects _ (shapes-written w.objects o x q new f.is_object)) sound.joined } in
     let Family : World → Type 0 = λ u. Sound p u.objects u.connections in
     subst Family (sym is) kept
 

@@ -19,7 +19,6 @@ use Rattle.object_tree.specs.declared.object.Object.{Object}
 use Rattle.machine_state.specs.declared.fault.Fault.{Fault}
 use Rattle.machine_state.specs.declared.world.World.{World}
 use Rattle.machine_state.specs.Connections.{is_silent}
-use Rattle.machine_state.specs.Objects.{shapes_of}
 use Rattle.machine_state.specs.State.{State, Place, Activation}
 use Rattle.machine_rules.specs.Rules.{Rule, Begins, Writes}
 use Rattle.machine_rules.specs.Runs.{Rules, Reason}
@@ -109,11 +108,3 @@ MayAnnounce p objects o q (Some signal) = Announces p objects o q signal
 abbrev pub begin_entry : ℕ → Object → ℕ → List ℕ → List Shown → Work → Entry
 begin_entry depth x m method given Signal = entry.Emitted depth x.name method given (is_silent x m)
 begin_entry depth x m method given (Slot statements) = entry.Called depth x.name method given
-
--- the objects are those that they were, and so are the connections and all numbers; rules may have been used
-pub record Same (w v : World) : Type 0 where
-  pub objects : shapes_of v.objects ≡ shapes_of w.objects
-  pub connections : v.connections ≡ w.connections
-  pub connected : v.connected ≡ w.connected
-  pub events : v.events ≡ w.events
-  pub fewer : v.left ≤ w.left

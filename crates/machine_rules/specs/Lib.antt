@@ -4,6 +4,7 @@ pub mod Rules
 pub mod Good
 pub mod Runs
 pub mod Sound
+pub mod Keeps
 pub mod Remaining
 pub mod Coded
 pub mod Goes

@@ -5,7 +5,8 @@ ghost use Rattle.machine_state.specs.Connections.{next_used};
 ghost use Rattle.machine_rules.specs.Good.{ArgumentsFit};
 ghost use Rattle.machine_rules.specs.Sound.{Sound, Joined};
 ghost use Rattle.machine_state.specs.State.{Activation, Emit};
-ghost use Rattle.machine_rules.specs.Goes.{Ends, Same, Calls, OnlyCalls};
+ghost use Rattle.machine_rules.specs.Goes.{Ends, Calls, OnlyCalls};
+ghost use Rattle.machine_rules.specs.Keeps.{KeepsWorld};
 
 use crate::setting::{Setting, front};
 use machine_state::{Connection, Fault, World, may_nest};
@@ -28,7 +29,7 @@ impl Setting {
         requires sound { Sound self.now.meta world.old.objects world.old.connections }
         requires emitted { ArgumentsFit self.now.meta world.old.objects object signal arguments.now }
         ensures ends { Ends self.now.meta self.now.depth height world.old (Emit object signal arguments.now 0 last ∷ []) world.new [] result }
-        ensures same { Same world.old world.new }
+        ensures keeps { KeepsWorld self.now.meta world.old world.new }
         ensures sound { Sound self.now.meta world.new.objects world.new.connections }
     {
         let mut used = 0;

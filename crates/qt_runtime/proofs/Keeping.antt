@@ -32,7 +32,7 @@ record Counts (s t : State) : Type 0 where
 counts-invoked : (p : Loaded) {s t : State} (a : Invocation) (name called : List ℕ) (inputs : List Input) → invoke p s a name called inputs (Ok t) → Counts s t
 counts-invoked p a name called inputs (goes_on _ o (goes_on _ m (goes_on _ vs (goes_on _ fit (becomes begins))))) =
     let kept = begins-kept begins in
-    record { events = kept.events; connected = omega (arith, kept.connected) }
+    record { events = kept.events; connected = omega (arith, kept.paid) }
 
 counts-blocked : {s t : State} (name : List ℕ) (on : Bool) → block s name on (Ok t) → Counts s t
 counts-blocked name on (goes_on _ lives gives) = record { events = refl; connected = omega arith }
@@ -46,7 +46,7 @@ counts-judged p (Adopt parent child) (goes_on _ a (goes_on _ c (goes_on _ owns (
 counts-judged p (Connect e) (goes_on _ sender (goes_on _ receiver (goes_on _ signal (goes_on _ method (goes_on _ kind (goes_on _ covers (goes_on _ fits gives))))))) = record { events = refl; connected = omega arith }
 counts-judged p (Set name property i) (goes_on _ o (goes_on _ q (goes_on _ v (goes_on _ fits (becomes writes))))) =
     let kept = writes-kept writes in
-    record { events = kept.events; connected = omega (arith, kept.connected) }
+    record { events = kept.events; connected = omega (arith, kept.paid) }
 counts-judged p (Emit name signal inputs) x = counts-invoked p EmitIt name signal inputs x
 counts-judged p (Call name slot inputs) x = counts-invoked p CallIt name slot inputs x
 counts-judged p (Block name) x = counts-blocked name true x
@@ -66,7 +66,7 @@ runs-pay done = record { events = omega arith; connected = omega arith }
 runs-pay (rules r rest) =
     let kept = rules-kept r in
     let more = runs-pay rest in
-    record { events = omega (arith, kept.0.events, kept.1, more.events); connected = omega (arith, kept.0.connected, kept.1, more.connected) }
+    record { events = omega (arith, kept.events, kept.fewer, more.events); connected = omega (arith, kept.paid, more.connected) }
 runs-pay (takes x good rest) =
     let one = counts-takes x in
     let more = runs-pay rest in
@@ -76,13 +76,13 @@ runs-pay (takes x good rest) =
 
 -- where nothing is going on, all that is going on stands
 pub invariant-at : {p : Loaded} (w : World) → Sound p w.objects w.connections → Invariant p (at w [])
-invariant-at w sound = record { typed = sound.typed; joined = sound.joined; stands = tt }
+invariant-at w sound = record { sound = record { typed = sound.typed; joined = sound.joined }; stands = tt }
 
 keeps-run : {p : Loaded} {d : ℕ} {w v : World} {stack : List Activation} {es : List Event} → IsSound p → Keeps p w → Runs p d (at w []) w.left es (at v stack) v.left → Keeps p v
 keeps-run {w = w} sound keeps runs =
     let up = runs-invariant sound runs (invariant-at w keeps.sound) in
     let pays = runs-pay runs in
-    record { sound = record { typed = up.typed; joined = up.joined }; events = omega (arith, keeps.events, pays.events); connected = omega (arith, keeps.connected, pays.connected) }
+    record { sound = record { typed = up.sound.typed; joined = up.sound.joined }; events = omega (arith, keeps.events, pays.events); connected = omega (arith, keeps.connected, pays.connected) }
 
 pub keeps-took : {p : Loaded} {d : ℕ} {w v : World} {e : Event} (r : Result Answer Fault) → IsSound p → Keeps p w → Took p d w e v r → Keeps p v
 keeps-took (Ok a) sound keeps took = keeps-run sound keeps took.cases.0.runs

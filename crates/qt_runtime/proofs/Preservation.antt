@@ -19,7 +19,7 @@ use Rattle.machine_state.specs.declared.connections.Connection.{Connection}
 use Rattle.object_tree.specs.declared.object.Object.{Object}
 use Rattle.object_tree.specs.Creating.{fresh, initial_values}
 use Rattle.object_tree.specs.Objects.{class_of, written, change, blocked}
-use Rattle.machine_state.specs.Objects.{Shape, shape_of, shapes_of}
+use Rattle.machine_state.specs.Objects.{shape_of, shapes_of}
 use Rattle.machine_state.specs.Worlds.{main}
 use Rattle.machine_rules.specs.Doings.{Doing, Write, Begin, Choose, Nothing, doing}
 use Rattle.qt_runtime.proofs.Choosing.{block-sound}
@@ -45,13 +45,14 @@ use Rattle.machine_rules.specs.Good.{AreTyped, ArgumentsFit, TopFits, IsWell}
 use Rattle.qt_runtime.specs.Runs.{Runs, done, rules, takes}
 use Rattle.machine_rules.specs.Runs.{Rules}
 use Rattle.machine_rules.specs.Runs as of_rules
-use Rattle.machine_rules.specs.Sound.{Joined}
+use Rattle.machine_rules.specs.Sound.{Sound, Joined}
+use Rattle.machine_rules.specs.Keeps.{StayThere, Keeps}
 use Rattle.machine_rules.specs.Goes.{IsField}
 use Rattle.machine_rules.proofs.Fields.{some-is, method-unique, field-written}
 use Rattle.qt_runtime.proofs.Changes.{map-change, map-adopted}
 use Rattle.qt_runtime.proofs.Lists.{all-snoc, all-weaken, get-append}
-use Rattle.machine_rules.proofs.Keeps.{Kept, all-joined-still, rule-kept, begins-kept, writes-kept}
-use Rattle.machine_rules.proofs.Shapes.{shape-there, shape-of-there, classes-same, shapes-written}
+use Rattle.machine_rules.proofs.Keeps.{stays, values-stay, same-stay, all-joined-still, rule-kept, begins-kept, writes-kept}
+use Rattle.machine_rules.proofs.Shapes.{shapes-written}
 
 -- ---- what stands
 
@@ -78,48 +79,40 @@ Stands p objects (Body o m arguments left) = BodyStands p objects o arguments le
 Stands p objects (Emit o g arguments used last) = Unit {0}
 Stands p objects (Update places) = AllByRecursion (PlaceStands p objects) places
 
--- properties have values of their types, connections join what is there, and what is going on stands
+-- the world is sound, and what is going on stands
 pub record Invariant (p : Loaded) (s : State) : Type 0 where
-  pub typed : AreTyped p s.objects
-  pub joined : AllByRecursion (Joined p s.objects) s.connections
+  pub sound : Sound p s.objects s.connections
   pub stands : AllByRecursion (Stands p s.objects) s.stack
 
 -- ---- it stands as long as the objects are those that they were
 
-object-still : (old new : List Object) (o : ℕ) {x : Object} → shapes_of new ≡ shapes_of old → slice_get old o ≡ Some x → (y : Object) × (slice_get new o ≡ Some y) × (x.class ≡ y.class)
-object-still old new o {x} same is =
-    let moved : slice_get (shapes_of new) o ≡ Some _ = ap (λ (l : List Shape). slice_get l o) same ∙ shape-of-there old o x is in
-    let q = shape-there new o _ moved in
-    (q.0, q.1, sym (ap (λ (a : Shape). a.class) q.2))
-
-place-still : {p : Loaded} (old new : List Object) → shapes_of new ≡ shapes_of old → (place : Place) → PlaceStands p old place → PlaceStands p new place
-place-still {p} old new same place x =
-    let y = object-still old new place.object same x.is.is_object in
+place-still : {p : Loaded} (old new : List Object) → StayThere old new → (place : Place) → PlaceStands p old place → PlaceStands p new place
+place-still {p} old new stay place x =
+    let y = stays old new place.object stay x.is.is_object in
     let Classes : ℕ → Type 0 = λ k. IsClass p k x.is.class in
     record {
       object = y.0;
       property = x.property;
-      is = record { is_object = y.1; class = x.is.class; is_class = subst Classes y.2 x.is.is_class; is_property = x.is.is_property };
+      is = record { is_object = y.1; class = x.is.class; is_class = subst Classes (sym y.2) x.is.is_class; is_property = x.is.is_property };
       signal = x.signal;
       notifies = x.notifies;
     }
 
-stands-still : (p : Loaded) (old new : List Object) → shapes_of new ≡ shapes_of old → (a : Activation) → Stands p old a → Stands p new a
-stands-still p old new same (Body o m arguments left) x =
-    let y = object-still old new o same x.is_object in
+stands-still : (p : Loaded) (old new : List Object) → StayThere old new → (a : Activation) → Stands p old a → Stands p new a
+stands-still p old new stay (Body o m arguments left) x =
+    let y = stays old new o stay x.is_object in
     let Classes : ℕ → Type 0 = λ k. Below p k x.declaring in
-    let Typed : (ℕ → Option ℕ) → Type 0 = λ f. HaveTypes p f arguments x.kinds in
     record {
       object = y.0;
       is_object = y.1;
       declaring = x.declaring;
-      below = subst Classes y.2 x.below;
+      below = subst Classes (sym y.2) x.below;
       kinds = x.kinds;
-      typed = subst Typed (sym (classes-same new old same)) x.typed;
+      typed = values-stay p (class_of old) (class_of new) stay arguments x.kinds x.typed;
       sound = x.sound;
     }
-stands-still p old new same (Emit o g arguments used last) x = tt
-stands-still p old new same (Update places) x = all-weaken (PlaceStands p old) (PlaceStands p new) places (place-still old new same) x
+stands-still p old new stay (Emit o g arguments used last) x = tt
+stands-still p old new stay (Update places) x = all-weaken (PlaceStands p old) (PlaceStands p new) places (place-still old new stay) x
 
 -- ---- statements
 
@@ -185,7 +178,7 @@ module _ {p : Loaded} {s t : State} (sound : IsSound p) (well : IsWell p s t) wh
       let field : IsField p s.objects o q w.object w.property = record { is_object = w.is_object; class = w.class; is_class = w.is_class; is_property = w.is_property } in
       let places : AllByRecursion (PlaceStands p after) w.places = notified-stands (field-written new field) refl w.notified in
       let Family : State → Type 0 = λ u. AllStand p u in
-      subst Family (sym w.gives) (places, all-weaken (Stands p s.objects) (Stands p after) below (stands-still p s.objects after (shapes-written s.objects o w.object q new w.is_object)) lower)
+      subst Family (sym w.gives) (places, all-weaken (Stands p s.objects) (Stands p after) below (stands-still p s.objects after (same-stay s.objects after (shapes-written s.objects o w.object q new w.is_object))) lower)
 
   -- the stack is another one, and the objects are the same
   as-is : {u : State} → t ≡ u → AllStand p u → AllStand p t
@@ -218,15 +211,9 @@ module _ {p : Loaded} {s t : State} (sound : IsSound p) (well : IsWell p s t) wh
   rule-stands (Emit o g arguments used last ∷ below) all high r = emission-stands o g arguments last below (next_used s.objects s.connections o g used last) all.1 high r
   rule-stands (Update places ∷ below) all high r = update-stands below places all.0 all.1 r
 
-  -- objects keep their shapes and connections stay: what is going on stands where the stack does
-  kept-invariant : Invariant p s → Kept s t → AllStand p t → Invariant p t
-  kept-invariant up kept stands =
-      let Made : List Connection → Type 0 = λ l. AllByRecursion (Joined p t.objects) l in
-      record {
-        typed = well.values;
-        joined = subst Made (sym kept.connections) (all-joined-still p s.objects t.objects s.connections kept.objects up.joined);
-        stands = stands;
-      }
+  -- what is going on stands where the stack does
+  kept-invariant : Invariant p s → Keeps p s 1 t 0 → AllStand p t → Invariant p t
+  kept-invariant up kept stands = record { sound = record { typed = well.values; joined = kept.joined up.sound.joined }; stands = stands }
 
   rule-invariant : Invariant p s → Rule p s t → Invariant p t
   rule-invariant up r = kept-invariant up (rule-kept p s t s.stack r) (rule-stands s.stack up.stands refl r)
@@ -251,22 +238,17 @@ joined-more objects more c j = record {
 none-stand : (p : Loaded) {s : State} (objects : List Object) → IsIdle s → AllByRecursion (Stands p objects) s.stack
 none-stand p objects idle = let Family : List Activation → Type 0 = λ l. AllByRecursion (Stands p objects) l in subst Family (sym idle.empty) tt
 
-abbrev AllJoined : Loaded → State → Type 0
-AllJoined p s = AllByRecursion (Joined p s.objects) s.connections
-
 -- an object is added
 created-invariant : {p : Loaded} {s : State} (x : Object) → IsIdle s → Invariant p s → AreTyped p (s.objects ++ x ∷ []) → Invariant p (record (accepted s) { objects = s.objects ++ x ∷ [] })
 created-invariant {p} {s} x idle up typed = record {
-  typed = typed;
-  joined = all-weaken (Joined p s.objects) (Joined p (s.objects ++ x ∷ [])) s.connections (joined-more s.objects (x ∷ [])) up.joined;
+  sound = record { typed = typed; joined = all-weaken (Joined p s.objects) (Joined p (s.objects ++ x ∷ [])) s.connections (joined-more s.objects (x ∷ [])) up.sound.joined };
   stands = none-stand p (s.objects ++ x ∷ []) idle;
 }
 
 -- objects change, and none its name or class
 changed-invariant : {p : Loaded} {s : State} (objects : List Object) → IsIdle s → Invariant p s → AreTyped p objects → shapes_of objects ≡ shapes_of s.objects → Invariant p (record (accepted s) { objects = objects })
 changed-invariant {p} {s} objects idle up typed same = record {
-  typed = typed;
-  joined = all-joined-still p s.objects objects s.connections same up.joined;
+  sound = record { typed = typed; joined = all-joined-still p s.objects objects s.connections (same-stay s.objects objects same) up.sound.joined };
   stands = none-stand p objects idle;
 }
 
@@ -292,7 +274,7 @@ connection-joined e n a b g m sound sender receiver signal method fits =
 
 -- the state in which an event is taken
 accepted-invariant : {p : Loaded} {s : State} → Invariant p s → Invariant p (accepted s)
-accepted-invariant up = record { typed = up.typed; joined = up.joined; stands = up.stands }
+accepted-invariant up = record { sound = record { typed = up.sound.typed; joined = up.sound.joined }; stands = up.stands }
 
 accepted-well : {p : Loaded} {s t : State} → IsWell p s t → IsWell p (accepted s) t
 accepted-well well = record { arguments = well.arguments; values = well.values }
@@ -312,8 +294,10 @@ judged-invariant {p} (Adopt parent child) sound idle up (goes_on _ a (goes_on _ 
     let Typed : State → Type 0 = λ u. AreTyped p u.objects in
     subst Family (sym x.gives) (changed-invariant x.objects idle up (subst Typed x.gives well.values) (map-adopted shape_of (λ z l. refl) (λ z l. refl) x.is))
 judged-invariant {p} {s} (Connect e) sound idle up (goes_on a sender (goes_on b receiver (goes_on g (finds signal) (goes_on m (finds method) (goes_on _ kind (goes_on _ covers (goes_on _ (so fits) just))))))) well = record {
-  typed = well.values;
-  joined = all-snoc (Joined p s.objects) s.connections _ up.joined (connection-joined e (s.connected + 1) a b g m sound (living-is sender) (living-is receiver) signal method fits);
+  sound = record {
+    typed = well.values;
+    joined = all-snoc (Joined p s.objects) s.connections _ up.sound.joined (connection-joined e (s.connected + 1) a b g m sound (living-is sender) (living-is receiver) signal method fits);
+  };
   stands = up.stands;
 }
 judged-invariant {p} {s} (Set name property i) sound idle up (goes_on _ o (goes_on _ q (goes_on _ v (goes_on _ fits (becomes writes))))) well =
@@ -325,7 +309,7 @@ judged-invariant (Unblock name) sound idle up x well = blocked-invariant name fa
 
 takes-invariant : {p : Loaded} {s t : State} {e : Event} → IsSound p → Invariant p s → Takes p e s t → IsWell p s t → Invariant p t
 takes-invariant {e = e} sound up (accepts idle x) well = judged-invariant e sound idle up x well
-takes-invariant sound up (refuses k idle x) well = record { typed = up.typed; joined = up.joined; stands = up.stands }
+takes-invariant sound up (refuses k idle x) well = record { sound = record { typed = up.sound.typed; joined = up.sound.joined }; stands = up.stands }
 
 -- every state that rules lead to stands
 rules-invariant : {p : Loaded} {d : ℕ} {s t : State} {n k : ℕ} → IsSound p → Rules p d s n t k → Invariant p s → Invariant p t

@@ -49,7 +49,7 @@ module _ {p : Loaded} {s : State} (sound : IsSound p) (up : Invariant p s) where
   no-write {o} {q} {c} {x} {property} {new} there beneath is none =
       let own = property-below sound beneath is in
       let field : IsField p s.objects o q x property = record { is_object = there; class = own.class; is_class = own.is_class; is_property = own.is } in
-      let old = old-there field up.typed in
+      let old = old-there field up.sound.typed in
       notified-somehow old.0 new (record { object = o; property = q }) property.notify (λ places notified. none _ (record { object = x; is_object = there; class = own.class; is_class = own.is_class; property = property; is_property = own.is; old = old.0; is_old = old.1; places = places; notified = notified; gives = refl }))
 
   -- a method that is there may begin
@@ -100,13 +100,13 @@ module _ {p : Loaded} {s : State} (sound : IsSound p) (up : Invariant p s) where
   -- a statement that has no next rule lacks a value
   statement-lacks : (o m : ℕ) (arguments : List Value) (x : Statement) (rest : List Statement) (below : List Activation) → (body : BodyStands p s.objects o arguments (x ∷ rest)) → AreSound p body.declaring body.kinds (x ∷ rest) → ((t : State) → ¬ StatementRule p s o m arguments x rest below t) → doing s.objects o arguments (out-Statement x) ≡ None
   statement-lacks o m arguments x rest below body (set_sound {path = path} {q = q} {e = e} out is more) stuck =
-      let reaches = path-reaches s.objects o body.declaring body.object arguments body.kinds path sound up.typed body.is_object body.below body.typed is.leads in
+      let reaches = path-reaches s.objects o body.declaring body.object arguments body.kinds path sound up.sound.typed body.is_object body.below body.typed is.leads in
       layer-lacks o m arguments rest below x (layer.Set path q e) out (λ none. set-lacks o m arguments rest below e (path_value s.objects o arguments path) reaches is.is none) stuck
   statement-lacks o m arguments x rest below body (emit_sound {m = g} {es = es} out is more) stuck =
       layer-lacks o m arguments rest below x (layer.Emit g es) out
       (λ none. map-lacks o m arguments rest below (λ (given : List Value). Begin o g given) (values_of s.objects o arguments es) (λ given no. no-begin {arguments = given} {below = Body o m arguments rest ∷ below} body.is_object body.below is.is no) none) stuck
   statement-lacks o m arguments x rest below body (call_sound {path = path} {m = n} {es = es} out is more) stuck =
-      let reaches = path-reaches s.objects o body.declaring body.object arguments body.kinds path sound up.typed body.is_object body.below body.typed is.leads in
+      let reaches = path-reaches s.objects o body.declaring body.object arguments body.kinds path sound up.sound.typed body.is_object body.below body.typed is.leads in
       layer-lacks o m arguments rest below x (layer.Call path n es) out (λ none. call-lacks o m arguments rest below es (path_value s.objects o arguments path) reaches is.is none) stuck
   statement-lacks o m arguments x rest below body (if_sound {e = e} {chosen = block} {other = other} out is first second more) stuck =
       layer-lacks o m arguments rest below x (layer.If e block other) out (λ none. if-lacks o m arguments rest below block other (value_of s.objects o arguments e) none) stuck
@@ -124,7 +124,7 @@ module _ {p : Loaded} {s : State} (sound : IsSound p) (up : Invariant p s) where
   update-goes below (place ∷ places) all stuck =
       let x = all.0 in
       let notifier = ((sound.classes x.object.class x.is.class x.is.is_class).properties place.property x.property x.is.is_property).notifies x.signal x.notifies in
-      let present = old-there x.is up.typed in
+      let present = old-there x.is up.sound.typed in
       stuck _ (record {
         object = x.object;
         is_object = x.is.is_object;
@@ -147,7 +147,7 @@ module _ {p : Loaded} {s : State} (sound : IsSound p) (up : Invariant p s) where
   stack-lacks (Body o m arguments (x ∷ rest) ∷ below) e goes_on all stuck =
       record { object = o; method = m; arguments = arguments; statement = x; rest = rest; below = below; is_next = e; lacks = statement-lacks o m arguments x rest below all.0 all.0.sound stuck }
   stack-lacks (Emit o g arguments used last ∷ below) e goes_on all stuck =
-      absurd (emission-goes o g arguments last below (next_used s.objects s.connections o g used last) (λ c found. (find-some (Joined p s.objects) (is_next o g used last) s.connections c up.joined (used-is s.objects s.connections o g used last c found)).0) stuck)
+      absurd (emission-goes o g arguments last below (next_used s.objects s.connections o g used last) (λ c found. (find-some (Joined p s.objects) (is_next o g used last) s.connections c up.sound.joined (used-is s.objects s.connections o g used last c found)).0) stuck)
   stack-lacks (Update places ∷ below) e goes_on all stuck = absurd (update-goes below places all.0 stuck)
 
   -- what goes on without a next rule lacks a value

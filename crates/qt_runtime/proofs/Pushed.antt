@@ -26,7 +26,7 @@ use Rattle.machine_rules.specs.Good.{AreTyped, ArgumentsFit, TopFits}
 use Rattle.machine_rules.specs.Rules.{begun}
 use Rattle.machine_rules.proofs.Beginning.{top_of, top-fits}
 use Rattle.machine_rules.proofs.Fields.{typed-written}
-use Rattle.machine_rules.proofs.Keeps.{all-joined-still}
+use Rattle.machine_rules.proofs.Keeps.{all-joined-still, same-stay}
 use Rattle.machine_rules.proofs.Shapes.{shapes-written}
 use Rattle.machine_rules.proofs.Writing.{notified}
 use Rattle.machine_rules.specs.Sound.{Sound}
@@ -124,5 +124,5 @@ sound-written {p} {o} {q} {v} {x} w entry value sound f has v_is =
     let objects : List Object = slice_set w.objects o (written q value x) in
     subst Family (sym (set-there w entry value f v_is)) (record {
       typed = typed-written f sound.typed has;
-      joined = all-joined-still p w.objects objects w.connections (shapes-written w.objects o x q value f.is_object) sound.joined;
+      joined = all-joined-still p w.objects objects w.connections (same-stay w.objects objects (shapes-written w.objects o x q value f.is_object)) sound.joined;
     })

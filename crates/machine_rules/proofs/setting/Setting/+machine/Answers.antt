@@ -4,7 +4,7 @@ use Rattle.machine_state.specs.declared.world.World.{World}
 use Rattle.machine_rules.proofs.Fields.{old-there}
 use Rattle.std.proofs.lemmas.List.{drop_more, drop_all}
 use Rattle.machine_rules.proofs.Going.{goes-same, goes-then, breaks-after, breaks-as, ends-after, ends-left, ends-undue, ends-short, ends-unchanged, ends-faulted, ends-ticked}
-use Rattle.machine_rules.proofs.Keeps.{same-refl, same-trans, ends-same, ends-sound, fit-still, goes-typed, goes-same-world, goes-sound}
+use Rattle.machine_rules.proofs.Keeps.{keeps-refl, keeps-trans, ends-keeps, ends-sound, fit-still, goes-typed, goes-keeps, goes-sound}
 use Rattle.machine_rules.proofs.Beginning.{ends-begun, breaks-begin, breaks-no-member, breaks-ill-typed, fit-of, fit-member, next-joined, next-fits, joined-member, delivered-fits, delivery-calls, not-true}
 use Rattle.machine_rules.proofs.Writing.{ends-written, breaks-write-deep, breaks-write-ill, breaks-no-field, announces-in, announced-member, announced-value, announced-fits, announcement-calls, sound-written}
 use Rattle.machine_rules.proofs.Bodies.{does-call, does-call-alone, does-set, does-nothing, does-choose, lacks-read, moved, advances-one, advances-ticked, advances-left}
@@ -13,26 +13,26 @@ use Rattle.machine_rules.proofs.setting.Setting.+machine.Goals as goal
 -- ---- emissions
 
 pub run_emission-loop-connection-init : goal.run_emission-loop-connection-init
-run_emission-loop-connection-init t c = record { goes = goes-same; same = same-refl; fewer = omega arith; sound = c.requires.sound }
+run_emission-loop-connection-init t c = record { goes = goes-same; keeps = keeps-refl; fewer = omega arith; sound = c.requires.sound }
 
 pub run_emission-deliver-requires : goal.run_emission-deliver-requires
 run_emission-deliver-requires t c = let sound = c.loop-connection.invariant.sound in
     let found = sym c.in-Some.ensures.value in
-    (omega (arith, c.loop-connection.invariant.fewer), (c.requires.room, (sound, (next-joined c.loop-connection.world.objects c.loop-connection.world.connections c.args.object c.args.signal c.loop-connection.used c.args.last _ sound.joined found, next-fits c.loop-connection.world.objects c.loop-connection.world.connections c.args.object c.args.signal c.loop-connection.used c.args.last _ sound.joined found (fit-still c.loop-connection.invariant.same c.requires.emitted)))))
+    (omega (arith, c.loop-connection.invariant.fewer), (c.requires.room, (sound, (next-joined c.loop-connection.world.objects c.loop-connection.world.connections c.args.object c.args.signal c.loop-connection.used c.args.last _ sound.joined found, next-fits c.loop-connection.world.objects c.loop-connection.world.connections c.args.object c.args.signal c.loop-connection.used c.args.last _ sound.joined found (fit-still c.loop-connection.invariant.keeps c.requires.emitted)))))
 
 pub run_emission-loop-connection-preserved : goal.run_emission-loop-connection-preserved
 run_emission-loop-connection-preserved t c =
     let went = c.in_ok-deliver.ensures.ends _ _ _ _ (sym c.in-Some.ensures.value) in
-    let same = same-trans c.loop-connection.invariant.same (ends-same _ went) in
-    record { goes = goes-then c.loop-connection.invariant.goes went.cases; same = same; fewer = same.fewer; sound = ends-sound _ went c.loop-connection.invariant.sound }
+    let keeps = keeps-trans c.loop-connection.invariant.keeps (ends-keeps _ went) in
+    record { goes = goes-then c.loop-connection.invariant.goes went.cases; keeps = keeps; fewer = keeps.fewer; sound = ends-sound _ went c.loop-connection.invariant.sound }
 
 pub run_emission-returns-in_err-deliver-clause-ends : goal.run_emission-returns-in_err-deliver-clause-ends
 run_emission-returns-in_err-deliver-clause-ends t c =
     ends-left _ (breaks-after c.loop-connection.invariant.goes ((c.in_err-deliver.ensures.ends _ _ _ _ (sym c.in-Some.ensures.value)).cases)) c.from_residual.ensures.1
 
-pub run_emission-returns-in_err-deliver-clause-same : goal.run_emission-returns-in_err-deliver-clause-same
-run_emission-returns-in_err-deliver-clause-same t c =
-    same-trans c.loop-connection.invariant.same (ends-same _ (c.in_err-deliver.ensures.ends _ _ _ _ (sym c.in-Some.ensures.value)))
+pub run_emission-returns-in_err-deliver-clause-keeps : goal.run_emission-returns-in_err-deliver-clause-keeps
+run_emission-returns-in_err-deliver-clause-keeps t c =
+    keeps-trans c.loop-connection.invariant.keeps (ends-keeps _ (c.in_err-deliver.ensures.ends _ _ _ _ (sym c.in-Some.ensures.value)))
 
 pub run_emission-returns-in_err-deliver-clause-sound : goal.run_emission-returns-in_err-deliver-clause-sound
 run_emission-returns-in_err-deliver-clause-sound t c =
@@ -103,7 +103,7 @@ begin-returns-in-Slot t c = record {
 -- ---- bodies
 
 pub run_body-loop-statement-init : goal.run_body-loop-statement-init
-run_body-loop-statement-init t c = record { goes = rw c.all-left.ensures goes-same; same = same-refl; fewer = omega arith; sound = c.requires.sound }
+run_body-loop-statement-init t c = record { goes = rw c.all-left.ensures goes-same; keeps = keeps-refl; fewer = omega arith; sound = c.requires.sound }
 
 pub run_body-returns-in_err-is_due : goal.run_body-returns-in_err-is_due
 run_body-returns-in_err-is_due t c = record { ends = ends-after c.loop-statement.invariant.goes (ends-undue _ c.in_err-is_due.ensures c.from_residual.ensures.1) }
@@ -127,8 +127,8 @@ run_body-loop-statement-preserved t c =
     let came = rw c.in-Some.ensures at c.loop-statement.invariant.goes in
     let is = rw (c.scope.ensures.objects, c.scope.ensures.this, c.scope.ensures.arguments) at c.in_ok-doing.ensures in
     let one = (c.in_ok-carry_out.ensures.advances c.args.object c.args.method c.args.arguments.now _ is).cases in
-    let same = same-trans c.loop-statement.invariant.same (goes-same-world one.0) in
-    record { goes = goes-then came one.0; same = same; fewer = same.fewer; sound = goes-sound one.0 c.loop-statement.invariant.sound }
+    let keeps = keeps-trans c.loop-statement.invariant.keeps (goes-keeps one.0) in
+    record { goes = goes-then came one.0; keeps = keeps; fewer = keeps.fewer; sound = goes-sound one.0 c.loop-statement.invariant.sound }
 
 pub run_body-loop-statement-smaller : goal.run_body-loop-statement-smaller
 run_body-loop-statement-smaller t c =

@@ -1,7 +1,8 @@
 use Rattle.std.proofs.Common.{◌≤◌, ◌+◌, ◌-◌, ◌*◌, [], ◌∷◌}
 use Rattle.machine_state.specs.State.{Body, Emit}
 use Rattle.machine_rules.specs.Sound.{Sound}
-use Rattle.machine_rules.specs.Goes.{Goes, Same}
+use Rattle.machine_rules.specs.Goes.{Goes}
+use Rattle.machine_rules.specs.Keeps.{KeepsWorld}
 use Rattle.machine_rules.proofs.setting.Setting.+machine.Given as goal
 
 abbrev pub decreases-run_emission : goal.decreases-run_emission
@@ -35,7 +36,7 @@ abbrev pub invariant-run_body-loop-statement : goal.invariant-run_body-loop-stat
 invariant-run_body-loop-statement l =
     record {
       goes : Goes l.self.meta l.self.depth l.height l.fn.world (Body l.object l.method l.arguments l.statements ∷ []) l.world (Body l.object l.method l.arguments l.left ∷ []);
-      same : Same l.fn.world l.world;
+      keeps : KeepsWorld l.self.meta l.fn.world l.world;
       fewer : l.world.left ≤ l.fn.world.left;
       sound : Sound l.self.meta l.world.objects l.world.connections;
     }
@@ -47,7 +48,7 @@ abbrev pub invariant-run_emission-loop-connection : goal.invariant-run_emission-
 invariant-run_emission-loop-connection l =
     record {
       goes : Goes l.self.meta l.self.depth l.height l.fn.world (Emit l.object l.signal l.arguments 0 l.last ∷ []) l.world (Emit l.object l.signal l.arguments l.used l.last ∷ []);
-      same : Same l.fn.world l.world;
+      keeps : KeepsWorld l.self.meta l.fn.world l.world;
       fewer : l.world.left ≤ l.fn.world.left;
       sound : Sound l.self.meta l.world.objects l.world.connections;
     }

@@ -1,0 +1,33 @@
+-- What rules never take back (docs/machine.md, "What every run keeps").
+use Rattle.std.specs.Prelude.{◌≡◌, ℕ, ◌+◌, ◌≤◌, List, [], Some}
+use Rattle.std.specs.List.{AllByRecursion}
+use Rattle.meta_model.specs.Loaded.{Loaded}
+use Rattle.object_tree.specs.declared.object.Object.{Object}
+use Rattle.object_tree.specs.Objects.{class_of}
+use Rattle.machine_state.specs.declared.connections.Connection.{Connection}
+use Rattle.machine_state.specs.declared.world.World.{World}
+use Rattle.machine_state.specs.State.{State}
+use Rattle.machine_state.specs.Worlds.{at}
+use Rattle.machine_rules.specs.Sound.{Joined}
+
+-- objects that are there stay there, each of its class; others may come
+abbrev pub StayThere : List Object → List Object → Type 0
+StayThere old new = (o class : ℕ) → class_of old o ≡ Some class → class_of new o ≡ Some class
+
+-- every connection joins what is there
+abbrev pub AllJoined : Loaded → List Object → List Connection → Type 0
+AllJoined p objects connections = AllByRecursion (Joined p objects) connections
+
+-- From s, with so many rules left, to t, with so many left: no object goes, connections go on to join what is there, no
+-- count falls, a number of a connection is paid with a rule, and no event is taken.
+pub record Keeps (p : Loaded) (s : State) (left : ℕ) (t : State) (after : ℕ) : Type 0 where
+  pub objects : StayThere s.objects t.objects
+  pub joined : AllJoined p s.objects s.connections → AllJoined p t.objects t.connections
+  pub connected : s.connected ≤ t.connected
+  pub paid : t.connected + after ≤ s.connected + left
+  pub events : t.events ≡ s.events
+  pub fewer : after ≤ left
+
+-- .. from one world to another, whatever is going on in them
+abbrev pub KeepsWorld : Loaded → World → World → Type 0
+KeepsWorld p w v = Keeps p (at w []) w.left (at v []) v.left
