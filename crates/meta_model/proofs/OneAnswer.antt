@@ -1,6 +1,7 @@
 -- What a sound program has one of, and where its bases lead.
 use Rattle.std.proofs.Common.{◌≡◌, ℕ, ◌<◌, List, length, slice_get, Option, Some, None, MatchOption, refl, sym, ap, subst, ◌∙◌}
 use Rattle.std.specs.Prelude.{IfSome}
+use Rattle.std.specs.Option.{option_and_then}
 use Rattle.std.proofs.lemmas.Option.{none-some, same_Some}
 use Rattle.signatures.specs.declared.sig.Sig.{Sig}
 use Rattle.meta_model.specs.declared.object.MetaMethod.{MetaMethod}
@@ -42,12 +43,20 @@ module _ (p : Loaded) (is : IsSound p) where
 module _ (p : Loaded) where
   -- a class that isn't the other is below it where its base is
   pub below_base : (c b d : ℕ) → base_of p c ≡ Some b → (¬ (c ≡ d)) → Below p c d → Below p b d
-  below_base c b d base differs same = absurd (differs refl)
+  below_base c b d base differs (same is) = absurd (differs refl)
   below_base c b d base differs (under e rest) = subst (λ x. Below p x d) (same_Some _ _ (sym e ∙ base)) rest
 
   pub below_none : (c d : ℕ) → base_of p c ≡ None → (¬ (c ≡ d)) → ¬ Below p c d
-  below_none c d none differs same = differs refl
+  below_none c d none differs (same is) = differs refl
   below_none c d none differs (under e rest) = none-some _ (sym none ∙ e)
+
+  -- a class that is there is below itself, and a number of no class is below none
+  pub below_itself : (c : ℕ) {class : MetaObject} → slice_get p.classes c ≡ Some class → Below p c c
+  below_itself c there = same (record { is = there })
+
+  pub below_absent : (c d : ℕ) → slice_get p.classes c ≡ None → ¬ Below p c d
+  below_absent c d none (same is) = none-some _ (sym none ∙ is.is)
+  below_absent c d none (under e rest) = none-some _ (sym (ap (option_and_then (λ (class : MetaObject). class.base)) none) ∙ e)
 
   -- a base has a smaller number
   pub base_smaller : (c : ℕ) (class : MetaObject) → IsSoundClass p c class → (base : Option ℕ) → class.base ≡ base → IfSome base (λ b. b < c)

@@ -1,5 +1,5 @@
 -- Every class is below `QObject` and begins with its members.
-use Rattle.std.proofs.Common.{◌≡◌, ℕ, zero, suc, ◌<◌, List, [], ◌∷◌, ◌++◌, slice_get, Option, Some, None, refl, sym, ap, ◌∙◌, subst, arith}
+use Rattle.std.proofs.Common.{◌≡◌, ℕ, zero, suc, ◌<◌, [], ◌++◌, slice_get, Option, Some, None, refl, sym, ap, ◌∙◌, subst, arith}
 use Rattle.std.specs.Option.{option_and_then}
 use Rattle.std.proofs.lemmas.Option.{same_Some}
 use Rattle.meta_model.specs.declared.object.MetaMethod.{MetaMethod}
@@ -22,7 +22,7 @@ module _ {p : Loaded} (sound : IsSound p) where
   below_root (suc n) c less class is = by (below_root n) class.base refl
     where
       by : ((b : ℕ) → b < n → (base : MetaObject) → IsClass p b base → Below p b 0) → (base : Option ℕ) → class.base ≡ base → Below p c 0
-      by above_ones None e = subst (λ d. Below p d 0) (sym ((sound.classes c class is).rooted e)) same
+      by above_ones None e = subst (λ d. Below p d 0) (sym ((sound.classes c class is).rooted e)) (same sound.root)
       by above_ones (Some b) e =
           let above = (sound.classes c class is).under b e in
           let based : base_of p c ≡ Some b = ap (option_and_then (λ (x : MetaObject). x.base)) is.is ∙ e in

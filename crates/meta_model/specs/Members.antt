@@ -58,9 +58,9 @@ pub record IsPropertyNamed (p : Loaded) (c : ℕ) (name : List ℕ) (q : ℕ) : 
 abbrev pub base_of : Loaded → ℕ → Option ℕ
 base_of p c = option_and_then (λ (class : MetaObject). class.base) (slice_get p.classes c)
 
--- the first class is the second or below it
+-- the first class, which is one of the program, is the second or below it
 pub data Below (p : Loaded) : ℕ → ℕ → Type 0 where
-  same : {c : ℕ} → Below p c c
+  same : {c : ℕ} {class : MetaObject} → IsClass p c class → Below p c c
   under : {c b d : ℕ} → base_of p c ≡ Some b → Below p b d → Below p c d
 
 -- how many methods a class has, inherited ones too; a number of no class has none

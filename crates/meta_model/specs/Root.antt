@@ -1,6 +1,6 @@
 -- The class `QObject` as every program has it, with which each class begins (Qt 6, "QObject Class"; docs/machine.md,
 -- "Meta-objects").
-use Rattle.std.specs.Prelude.{◌≡◌, ℕ, false, List, [], ◌∷◌, ◌++◌, None, Some, codes}
+use Rattle.std.specs.Prelude.{◌≡◌, false, List, [], ◌∷◌, ◌++◌, None, Some, codes}
 use Rattle.signatures.specs.declared.sig.Sig.{Sig}
 use Rattle.signatures.specs.declared.value.Value.TheVariants as value
 use Rattle.signatures.specs.Types.{value_type}

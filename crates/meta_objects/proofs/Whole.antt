@@ -141,9 +141,15 @@ module _ (program : Program) (o : List Outline) (outlined : HasOutlines program 
       let x = object_at o loaded.bodies p loaded.objects c u e in
       ap (λ found. option_and_then (λ (class : MetaObject). class.base) found) x.1 ∙ x.2.based
 
-  below : (c d : ℕ) → Reaches o c d → Below p c d
-  below c d here = same
-  below c d (up u e based rest) = under (base_is c u e ∙ based) (below _ d rest)
+  below : (c d : ℕ) (class : MetaObject) → IsClass p d class → Reaches o c d → Below p c d
+  below c d class is here = same is
+  below c d class is (up u e based rest) = under (base_is c u e ∙ based) (below _ d class is rest)
+
+  -- the class of an outline
+  class_is : (c : ℕ) (u : Outline) → slice_get o c ≡ Some u → (class : MetaObject) × IsClass p c class
+  class_is c u e =
+      let x = object_at o loaded.bodies p loaded.objects c u e in
+      (x.0, record { is = x.1 })
 
   -- as many methods as outlined
   count_is : (c : ℕ) (u : Outline) → slice_get o c ≡ Some u → method_count p c ≡ length u.methods
@@ -186,10 +192,11 @@ module _ (program : Program) (o : List Outline) (outlined : HasOutlines program 
       let body = zip_left (IsBody o slot.class) slot.class.slots of_class.0 of_class.2 j slot.slot slot.is_slot in
       let found : found_body (body_at loaded.bodies i j) ≡ body.0 =
       ap (λ bs. found_body (option_and_then (λ of_class. slice_get of_class j) bs)) of_class.1 ∙ ap found_body body.1 in
+      let declaring = class_is (suc i) slot.outline slot.is_outline in
       let types : AllZip (IsReadAs o) (kinds_of slot.slot.parameters) kinds = subst (λ (s : Sig). AllZip (IsReadAs o) s.types kinds) slot.signed typed in
       record {
         declaring = suc i;
-        below = below c (suc i) slot.reaches;
+        below = below c (suc i) declaring.0 declaring.1 slot.reaches;
         declares = slot_declared c i j m h slot;
         sound =
             subst (λ b. AreSound p (suc i) kinds b) (sym found)
@@ -200,12 +207,13 @@ module _ (program : Program) (o : List Outline) (outlined : HasOutlines program 
   work_sound : (c : ℕ) (u : Outline) → slice_get o c ≡ Some u → (m : ℕ) (h : Heading) → slice_get u.methods m ≡ Some h → (kinds : List ValueType) → AllZip (IsReadAs o) h.sig.types kinds → (s : Sort) → h.sort ≡ s → IsSoundWork p c m kinds (work_of loaded.bodies s)
   work_sound c u e m h at kinds typed sort.Signal is = tt
   work_sound c u e m h at kinds typed sort.DeleteLater is =
+      let root = class_is 0 qobject (root_at program.classes o outlined.are) in
       let offset : method_offset p 0 ≡ 0 = ap (methods_before p) (base_is 0 qobject (root_at program.classes o outlined.are)) in
       let count = count_is 0 qobject (root_at program.classes o outlined.are) in
       let early = delete_later_in_root program.classes o outlined.are (suc c) c (omega arith) u e m h at is in
       record {
         declaring = 0;
-        below = below c 0 (reaches_root program.classes o outlined.are (suc c) c (omega arith) u e);
+        below = below c 0 root.0 root.1 (reaches_root program.classes o outlined.are (suc c) c (omega arith) u e);
         declares = record { after = omega (arith, offset); within = omega (arith, count, early) };
         sound = none_sound;
       }

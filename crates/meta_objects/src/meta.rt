@@ -149,7 +149,7 @@ impl Meta {
         }
     }
 
-    /// Whether the class is the other or below it.
+    /// Whether the class is the other or below it. A number past the last class is below none.
     pub fn inherits(&self, class: usize, other: usize) -> bool
         ensures { IsTrue result ↔ Below self.now class other }
     {
@@ -160,7 +160,10 @@ impl Meta {
                 None => return false,
             }
         }
-        true
+        match self.object(below) {
+            Some(_) => true,
+            None => false,
+        }
     }
 
     /// How many methods the class has, inherited ones too; 0 past the last class.

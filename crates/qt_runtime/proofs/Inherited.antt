@@ -16,7 +16,7 @@ based None b e = absurd (cc e)
 based (Some class) b e = (class, refl, e)
 
 pub method-below : {p : Loaded} {d c m : ℕ} {method : MetaMethod} → IsSound p → Below p d c → IsMethod p c m method → IsMethod p d m method
-method-below sound same is = is
+method-below sound (same there) is = is
 method-below {p} {d} {m = m} {method = method} sound (under {b = b} e rest) is =
     let found = based (slice_get p.classes d) b e in
     let is_class : IsClass p d found.0 = record { is = found.1 } in
@@ -30,7 +30,7 @@ method-below {p} {d} {m = m} {method = method} sound (under {b = b} e rest) is =
     }
 
 pub property-below : {p : Loaded} {d c q : ℕ} {property : MetaProperty} → IsSound p → Below p d c → IsProperty p c q property → IsProperty p d q property
-property-below sound same is = is
+property-below sound (same there) is = is
 property-below {p} {d} {q = q} {property = property} sound (under {b = b} e rest) is =
     let found = based (slice_get p.classes d) b e in
     let is_class : IsClass p d found.0 = record { is = found.1 } in
