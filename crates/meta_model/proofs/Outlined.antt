@@ -9,7 +9,7 @@ use Rattle.texts.specs.declared.program.Program.{Program}
 use Rattle.meta_model.specs.declared.outline.Heading.{Heading}
 use Rattle.meta_model.specs.declared.outline.Outline.{Outline}
 use Rattle.meta_model.specs.declared.outline.Sort.TheVariants as sort
-use Rattle.meta_model.specs.Outlines.{kinds_of, sig_of, signal_heading, slot_headings, own_methods, qobject, AreOutlines, Outlines}
+use Rattle.meta_model.specs.Outlines.{kinds_of, sig_of, base_name, signal_heading, slot_headings, own_methods, qobject, AreOutlines, Outlines}
 use Rattle.meta_model.specs.Conditions.{DuplicateClass, IsTaken}
 use Rattle.meta_model.proofs.Zips.{get_front, any_of}
 use Rattle.meta_model.proofs.Once.{once, get_split_at}
@@ -24,6 +24,7 @@ pub record Declared (classes : List Class) (all : List Outline) (c : ℕ) (o : O
   pub smaller : base_number < c
   pub base : Outline
   pub is_base : slice_get all base_number ≡ Some base
+  pub base_named : base.name ≡ base_name class.base
   pub shape : o ≡ record { name = class.name; base = Some base_number; methods = base.methods ++ own_methods i class; properties = base.properties ++ class.properties }
 
 -- the outlines so far are the first ones
@@ -58,10 +59,18 @@ described classes (class ∷ cs) done i all h count at c o e =
               smaller = omega (arith, place, inside);
               base = h.1.based.at.item;
               is_base = extends (class ∷ cs) done i all h h.1.number h.1.based.at.item h.1.based.at.is;
+              base_named = h.1.based.at.has;
               shape = sym last.1 ∙ h.1.is;
             })
       ]
     ]
+
+-- as many as there are classes, and those that are done
+outline_count : (cs : List Class) (done : List Outline) (i : ℕ) (all : List Outline) → AreOutlines done i cs all → length all ≡ length done + length cs
+outline_count [] done i all h = let e : length all ≡ length done = ap length h in omega (arith, e)
+outline_count (class ∷ cs) done i all h =
+    let rest : length all ≡ length (done ++ h.0 ∷ []) + length cs = outline_count cs (done ++ h.0 ∷ []) (suc i) all h.2 in
+    omega (arith, rest, length-append done (h.0 ∷ []))
 
 -- ---- own methods
 abbrev heading_by : ℕ → Slot → ℕ → Heading
@@ -189,6 +198,9 @@ module _ (classes : List Class) (all : List Outline) (are : Outlines classes all
           | inr r ↦ own_slot c o e d r.0 h r.2 i j m is r.1 (slice_get_within o.methods m h at)
         ]
       ]
+
+  pub outlines_count : length all ≡ suc (length classes)
+  outlines_count = let e : length all ≡ length (qobject ∷ []) + length classes = outline_count classes (qobject ∷ []) 0 all are in omega (arith, e)
 
   -- `QObject` is the first class, and every class is below it
   pub root_at : slice_get all 0 ≡ Some qobject

@@ -1,14 +1,19 @@
 -- A loaded program is sound.
-use Rattle.std.proofs.Common.{◌≡◌, ℕ, zero, suc, ◌<◌, Bool, false, List, [], ◌∷◌, ◌++◌, length, slice_get, Option, Some, None, Any, ◌⊎◌, inl, inr, refl, sym, ap, ◌∙◌, subst, arith, append_assoc}
+use Rattle.std.proofs.Common.{◌≡◌, ℕ, zero, suc, ◌<◌, Bool, false, List, [], ◌∷◌, ◌++◌, map, length, get_or, slice_get, Option, Some, None, Any, ◌⊎◌, inl, inr, refl, sym, ap, ◌∙◌, subst, arith, append_assoc}
 use Rattle.std.specs.Prelude.{codes}
 use Rattle.std.specs.List.{AllZip}
 use Rattle.std.specs.Option.{option_and_then}
-use Rattle.std.proofs.lemmas.Option.{slice_get_within, none-some, same_Some}
+use Rattle.std.proofs.lemmas.Option.{slice_get_within, slice_get-get_or, none-some, same_Some}
 use Rattle.signatures.specs.declared.qtype.QType.{QType}
 use Rattle.signatures.specs.declared.sig.Sig.{Sig}
 use Rattle.texts.specs.declared.syntax.Literal.{Literal}
 use Rattle.texts.specs.declared.syntax.Literal.TheVariants as literal
 use Rattle.texts.specs.declared.program.Property.{Property}
+use Rattle.texts.specs.declared.program.Signal.{Signal}
+use Rattle.texts.specs.declared.program.Slot.{Slot}
+use Rattle.texts.specs.declared.program.Class.{Class}
+use Rattle.texts.specs.declared.program.Wire.{Wire}
+use Rattle.texts.specs.declared.program.Owns.{Owns}
 use Rattle.texts.specs.declared.program.Program.{Program}
 use Rattle.meta_model.specs.declared.object.ValueType.{ValueType}
 use Rattle.meta_model.specs.declared.object.ValueType.TheVariants as type
@@ -27,20 +32,21 @@ use Rattle.meta_model.specs.Members.{IsClass, methods_in, method_count, methods_
 use Rattle.meta_model.specs.Sound.{IsKind, AreSound, none_sound, IsSoundBody, IsSoundWork, IsSoundMethod, IsNotifier, IsSoundProperty, IsUnder, HasDistinctMethods, HasDistinctProperties, IsSoundClass, IsSoundWire, IsSoundOwns, IsSound}
 use Rattle.meta_model.specs.Literals.{HoldsNoObject}
 use Rattle.meta_model.specs.Root.{root_methods, root_class, BeginsAsRoot}
-use Rattle.meta_model.specs.Outlines.{IsOutlineNamed, kinds_of, own_methods, heading, destroyed, destroyed_alone, name_changed, qobject}
+use Rattle.meta_model.specs.Outlines.{IsOutlineNamed, kinds_of, sig_of, signal_heading, slot_headings, own_methods, heading, destroyed, destroyed_alone, name_changed, qobject}
 use Rattle.meta_model.specs.Kinds.{LacksType, IsReadAs}
 use Rattle.meta_model.specs.Conditions.{AreOneCall, HasTwoMembers, IsSignalOf, LacksNotifier, LacksTypes}
 use Rattle.meta_objects.specs.Bodies.{IsBody, AreBodies}
 use Rattle.meta_objects.specs.Loading.{body_at, found_body, work_of, initial_of, IsMethodOf, IsNotify, IsPropertyOf, IsObject, IsWire, IsOwns, IsLoaded}
 use Rattle.meta_objects.specs.Builds.{HasOutlines, IsClean}
-use Rattle.meta_model.proofs.Zips.{zip_left, zip_right, get_front}
+use Rattle.meta_objects.specs.Classes.{IsLoadedSignal, IsLoadedSlot, HasNotifier, IsLoadedProperty, IsLoadedClass, HasLoadedClass, IsLoadedWire, IsLoadedOwns, IsLoadedProgram}
+use Rattle.meta_model.proofs.Zips.{zip_left, zip_right, get_front, get_back}
 use Rattle.meta_model.proofs.Searches.{place_in}
 use Rattle.meta_model.proofs.Once.{once, none_at, get_split_at}
 use Rattle.meta_model.proofs.ReadTypes.{same_read}
 use Rattle.meta_objects.proofs.Deciding.{carries}
 use Rattle.meta_objects.proofs.Unique.{same_zip, same_method, same_property_by, same_place, same_object}
-use Rattle.meta_model.proofs.Outlined.{Declared, Reaches, here, up, HasSlot, outline_of, slot_of, root_at, reaches_root, delete_later_in_root, distinct_outlines}
-use Rattle.meta_objects.proofs.Soundness.{zip_length, object_at, kind_in, method_at, sound_statements}
+use Rattle.meta_model.proofs.Outlined.{Declared, Reaches, here, up, HasSlot, outline_of, slot_of, outlines_count, root_at, reaches_root, delete_later_in_root, distinct_outlines}
+use Rattle.meta_objects.proofs.Soundness.{zip_length, object_at, named, kind_in, method_at, sound_statements}
 
 module _ {A B : Type 0} (R : A → B → Type 0) where
   -- a list that relates to two lists in a row
@@ -50,6 +56,13 @@ module _ {A B : Type 0} (R : A → B → Type 0) where
   zip_split (x ∷ xs) us (z ∷ zs) h =
       let rest = zip_split xs us zs h.1 in
       (z ∷ rest.0, rest.1, ap (λ r. z ∷ r) rest.2, (h.0, rest.3), rest.4)
+
+-- what relates in one way relates in another
+zip_also : {A B : Type 0} (R S : A → B → Type 0) (xs : List A) (ys : List B) → ((x : A) (y : B) → R x y → S x y) → AllZip R xs ys → AllZip S xs ys
+zip_also R S [] [] f h = tt
+zip_also R S [] (y ∷ ys) f h = absurd h
+zip_also R S (x ∷ xs) [] f h = absurd h
+zip_also R S (x ∷ xs) (y ∷ ys) f h = (f x y h.0, zip_also R S xs ys f h.1)
 
 -- two relations that give the same for each element
 same_zip_by : {A B : Type 0} (R S : A → B → Type 0) (xs : List A) (ys zs : List B) → ((i : ℕ) (x : A) → slice_get xs i ≡ Some x → (y z : B) → R x y → S x z → y ≡ z) → AllZip R xs ys → AllZip S xs zs → ys ≡ zs
@@ -186,22 +199,25 @@ module _ (program : Program) (o : List Outline) (outlined : HasOutlines program 
     first = λ k less at. let same_place : k ≡ c = distinct_outlines program o outlined.are outlined.distinct k c at.item u at.is e (at.has ∙ sym named) in absurd (omega (arith, same_place));
   }
 
-  slot_sound : (c i j m : ℕ) (h : Heading) (kinds : List ValueType) → HasSlot program.classes o c i j m h → AllZip (IsReadAs o) h.sig.types kinds → IsSoundBody p c m kinds (found_body (body_at loaded.bodies i j))
-  slot_sound c i j m h kinds slot typed =
+  body_sound : (c i j m : ℕ) (h : Heading) (kinds : List ValueType) → HasSlot program.classes o c i j m h → AllZip (IsReadAs o) h.sig.types kinds → AreSound p (suc i) kinds (found_body (body_at loaded.bodies i j))
+  body_sound c i j m h kinds slot typed =
       let of_class = zip_left (AreBodies o) program.classes loaded.bodies loaded.uses.are_bodies i slot.class slot.is_class in
       let body = zip_left (IsBody o slot.class) slot.class.slots of_class.0 of_class.2 j slot.slot slot.is_slot in
       let found : found_body (body_at loaded.bodies i j) ≡ body.0 =
       ap (λ bs. found_body (option_and_then (λ of_class. slice_get of_class j) bs)) of_class.1 ∙ ap found_body body.1 in
-      let declaring = class_is (suc i) slot.outline slot.is_outline in
       let types : AllZip (IsReadAs o) (kinds_of slot.slot.parameters) kinds = subst (λ (s : Sig). AllZip (IsReadAs o) s.types kinds) slot.signed typed in
+      subst (λ b. AreSound p (suc i) kinds b) (sym found)
+      (sound_statements o loaded.bodies p loaded.objects slot.class.name slot.slot.parameters (suc i)
+      (is_first slot.class.name (suc i) slot.outline slot.is_outline slot.named) kinds types slot.slot.body body.0 body.2)
+
+  slot_sound : (c i j m : ℕ) (h : Heading) (kinds : List ValueType) → HasSlot program.classes o c i j m h → AllZip (IsReadAs o) h.sig.types kinds → IsSoundBody p c m kinds (found_body (body_at loaded.bodies i j))
+  slot_sound c i j m h kinds slot typed =
+      let declaring = class_is (suc i) slot.outline slot.is_outline in
       record {
         declaring = suc i;
         below = below c (suc i) declaring.0 declaring.1 slot.reaches;
         declares = slot_declared c i j m h slot;
-        sound =
-            subst (λ b. AreSound p (suc i) kinds b) (sym found)
-            (sound_statements o loaded.bodies p loaded.objects slot.class.name slot.slot.parameters (suc i)
-            (is_first slot.class.name (suc i) slot.outline slot.is_outline slot.named) kinds types slot.slot.body body.0 body.2);
+        sound = body_sound c i j m h kinds slot typed;
       }
 
   work_sound : (c : ℕ) (u : Outline) → slice_get o c ≡ Some u → (m : ℕ) (h : Heading) → slice_get u.methods m ≡ Some h → (kinds : List ValueType) → AllZip (IsReadAs o) h.sig.types kinds → (s : Sort) → h.sort ≡ s → IsSoundWork p c m kinds (work_of loaded.bodies s)
@@ -279,28 +295,126 @@ module _ (program : Program) (o : List Outline) (outlined : HasOutlines program 
       let first : StandsFirst (IsSignalOf sig) u.methods m = subst (λ ms. StandsFirst (IsSignalOf sig) ms m) (sym methods) (first_in_front (IsSignalOf sig) base.methods own m k) in
       same_place o (IsSignalOf sig) u.methods x (Some m) h first
 
-  under_declared : (c : ℕ) (class : MetaObject) (u : OutlineOf c class) (b : ℕ) → class.base ≡ Some b → Declared program.classes o c u.outline → IsUnder p c class b
-  under_declared c class u b based d =
-      let same_base : d.base_number ≡ b = same_Some _ _ (sym (ap (λ (x : Outline). x.base) d.shape) ∙ sym u.by.based ∙ based) in
+  -- ---- the own members of a class
+  signals_loaded : (signals : List Signal) (ys : List MetaMethod) → ((k : ℕ) (y : MetaMethod) → slice_get ys k ≡ Some y → AllZip (IsKind p) y.sig.types y.kinds) → AllZip (IsMethodOf o loaded.bodies) (map signal_heading signals) ys → AllZip (IsLoadedSignal p) signals ys
+  signals_loaded [] [] typed h = tt
+  signals_loaded [] (y ∷ ys) typed h = absurd h
+  signals_loaded (signal ∷ signals) [] typed h = absurd h
+  signals_loaded (signal ∷ signals) (y ∷ ys) typed h = (
+    record { signed = h.0.signed; typed = subst (λ (g : Sig). AllZip (IsKind p) g.types y.kinds) h.0.signed (typed 0 y refl); signals = h.0.work },
+    signals_loaded signals ys (λ k. typed (suc k)) h.1,
+  )
+
+  slots_loaded : (i from : ℕ) (slots : List Slot) (ys : List MetaMethod)
+      → ((k : ℕ) (h : Heading) → slice_get (slot_headings i from slots) k ≡ Some h → (j : ℕ) → h.sort ≡ sort.Slot i j → (kinds : List ValueType) → AllZip (IsReadAs o) h.sig.types kinds → AreSound p (suc i) kinds (found_body (body_at loaded.bodies i j)))
+      → ((k : ℕ) (y : MetaMethod) → slice_get ys k ≡ Some y → AllZip (IsKind p) y.sig.types y.kinds)
+      → AllZip (IsMethodOf o loaded.bodies) (slot_headings i from slots) ys → AllZip (IsLoadedSlot p (suc i)) slots ys
+  slots_loaded i from [] [] bodies typed h = tt
+  slots_loaded i from [] (y ∷ ys) bodies typed h = absurd h
+  slots_loaded i from (slot ∷ slots) [] bodies typed h = absurd h
+  slots_loaded i from (slot ∷ slots) (y ∷ ys) bodies typed h = (
+    record {
+      signed = h.0.signed;
+      typed = subst (λ (g : Sig). AllZip (IsKind p) g.types y.kinds) h.0.signed (typed 0 y refl);
+      body = found_body (body_at loaded.bodies i from);
+      slots = h.0.work;
+      sound = bodies 0 (heading (sig_of slot.name (kinds_of slot.parameters)) (sort.Slot i from)) refl from refl y.kinds h.0.kinds;
+    },
+    slots_loaded i (suc from) slots ys (λ k. bodies (suc k)) (λ k. typed (suc k)) h.1,
+  )
+
+  has_notifier : (c : ℕ) (class : MetaObject) (u : OutlineOf c class) (q : ℕ) (d : Property) → slice_get u.outline.properties q ≡ Some d → (s : Option Sig) → d.notify ≡ s → (n : Option ℕ) → IsNotify u.outline s n → HasNotifier class s n
+  has_notifier c class u q d at None given n h = h
+  has_notifier c class u q d at (Some sig) given None h =
+      absurd (none_at (λ (y : Property). LacksNotifier u.outline y y.notify) u.outline.properties
+      (none_at (λ (v : Outline). Any (λ (y : Property). LacksNotifier v y y.notify) v.properties) o clean.notifiers c u.outline u.is)
+      q d at (subst (λ g. LacksNotifier u.outline d g) (sym given) (λ n by_it. h n by_it.signal.at)))
+  has_notifier c class u q d at (Some sig) given (Some m) h =
+      let x = zip_left (IsMethodOf o loaded.bodies) u.outline.methods class.methods u.by.methods m h.at.item h.at.is in
+      record { signal = x.0; is = x.1; signed = x.2.signed ∙ h.at.has.0; signals = x.2.work ∙ ap (λ s. work_of loaded.bodies s) h.at.has.1 }
+
+  properties_loaded : (class : MetaObject) (u : Outline) (ds : List Property) (ys : List MetaProperty)
+      → ((k : ℕ) (y : MetaProperty) → slice_get ys k ≡ Some y → IsKind p y.declared y.kind)
+      → ((k : ℕ) (d : Property) → slice_get ds k ≡ Some d → (n : Option ℕ) → IsNotify u d.notify n → HasNotifier class d.notify n)
+      → AllZip (IsPropertyOf o u) ds ys → AllZip (IsLoadedProperty p class) ds ys
+  properties_loaded class u [] [] typed notified h = tt
+  properties_loaded class u [] (y ∷ ys) typed notified h = absurd h
+  properties_loaded class u (d ∷ ds) [] typed notified h = absurd h
+  properties_loaded class u (d ∷ ds) (y ∷ ys) typed notified h = (
+    record {
+      named = h.0.named;
+      declared_as = h.0.typed;
+      typed = subst (λ T. IsKind p T y.kind) h.0.typed (typed 0 y refl);
+      initial = h.0.initial;
+      notified = notified 0 d refl y.notify h.0.notify;
+    },
+    properties_loaded class u ds ys (λ k. typed (suc k)) (λ k. notified (suc k)) h.1,
+  )
+
+  loaded_class : (c : ℕ) (class : MetaObject) (u : OutlineOf c class) (d : Declared program.classes o c u.outline) → IsLoadedClass p c d.class class
+  loaded_class c class u d =
       let base = object_at o loaded.bodies p loaded.objects d.base_number d.base d.is_base in
+      let outlined_methods : u.outline.methods ≡ d.base.methods ++ own_methods d.i d.class = ap (λ (v : Outline). v.methods) d.shape in
+      let outlined_properties : u.outline.properties ≡ d.base.properties ++ d.class.properties = ap (λ (v : Outline). v.properties) d.shape in
       let methods = zip_split (IsMethodOf o loaded.bodies) d.base.methods (own_methods d.i d.class) class.methods
-      (subst (λ (v : Outline). AllZip (IsMethodOf o loaded.bodies) v.methods class.methods) d.shape u.by.methods) in
+      (subst (λ hs. AllZip (IsMethodOf o loaded.bodies) hs class.methods) outlined_methods u.by.methods) in
+      let own = zip_split (IsMethodOf o loaded.bodies) (map signal_heading d.class.signals) (slot_headings d.i 0 d.class.slots) methods.1 methods.4 in
       let properties = zip_split (IsPropertyOf o u.outline) d.base.properties d.class.properties class.properties
-      (subst (λ ps. AllZip (IsPropertyOf o u.outline) ps class.properties) (ap (λ (v : Outline). v.properties) d.shape) u.by.properties) in
+      (subst (λ ps. AllZip (IsPropertyOf o u.outline) ps class.properties) outlined_properties u.by.properties) in
       let same_methods = same_zip (IsMethodOf o loaded.bodies) d.base.methods methods.0 base.0.methods (same_method o loaded.bodies) methods.3 base.2.methods in
       let same_properties =
       same_zip_by (IsPropertyOf o u.outline) (IsPropertyOf o d.base) d.base.properties properties.0 base.0.properties
       (λ i y e v w h k. same_property_by o u.outline d.base y v w h k
-      (same_notified d.base_number d.base u.outline (own_methods d.i d.class) d.is_base (ap (λ (v : Outline). v.methods) d.shape) i y e y.notify refl v.notify w.notify h.notify k.notify))
+      (same_notified d.base_number d.base u.outline (own_methods d.i d.class) d.is_base outlined_methods i y e y.notify refl v.notify w.notify h.notify k.notify))
       properties.3 base.2.properties in
+      let method_typed : (k : ℕ) (y : MetaMethod) → slice_get methods.1 k ≡ Some y → AllZip (IsKind p) y.sig.types y.kinds =
+      λ k y e. let at = get_back methods.0 methods.1 k y e in (method_sound c class u at.0 y (ap (λ ms. slice_get ms at.0) methods.2 ∙ at.1)).kinds in
+      let property_typed : (k : ℕ) (y : MetaProperty) → slice_get properties.1 k ≡ Some y → IsKind p y.declared y.kind =
+      λ k y e. let at = get_back properties.0 properties.1 k y e in (property_sound c class u at.0 y (ap (λ ps. slice_get ps at.0) properties.2 ∙ at.1)).kind in
+      let bodies : (k : ℕ) (h : Heading) → slice_get (slot_headings d.i 0 d.class.slots) k ≡ Some h → (j : ℕ) → h.sort ≡ sort.Slot d.i j → (kinds : List ValueType) → AllZip (IsReadAs o) h.sig.types kinds → AreSound p (suc d.i) kinds (found_body (body_at loaded.bodies d.i j)) =
+      λ k h e j is kinds typed.
+      let in_own = get_back (map signal_heading d.class.signals) (slot_headings d.i 0 d.class.slots) k h e in
+      let at = get_back d.base.methods (own_methods d.i d.class) in_own.0 h in_own.1 in
+      body_sound c d.i j at.0 h kinds
+      (slot_of program.classes o outlined.are c u.outline u.is at.0 h (ap (λ hs. slice_get hs at.0) outlined_methods ∙ at.1) d.i j is) typed in
+      let notified : (k : ℕ) (y : Property) → slice_get d.class.properties k ≡ Some y → (n : Option ℕ) → IsNotify u.outline y.notify n → HasNotifier class y.notify n =
+      λ k y e n h.
+      let at = get_back d.base.properties d.class.properties k y e in
+      has_notifier c class u at.0 y (ap (λ ps. slice_get ps at.0) outlined_properties ∙ at.1) y.notify refl n h in
       record {
-        smaller = subst (λ n. n < c) same_base d.smaller;
+        named = u.by.named ∙ ap (λ (v : Outline). v.name) d.shape;
+        base_number = d.base_number;
+        smaller = d.smaller;
+        based = u.by.based ∙ ap (λ (v : Outline). v.base) d.shape;
         base = base.0;
-        is = record { is = subst (λ n. slice_get p.classes n ≡ Some base.0) same_base base.1 };
-        own_methods = methods.1;
-        methods = methods.2 ∙ ap (λ ms. ms ++ methods.1) same_methods;
+        is_base = record { is = base.1 };
+        base_named = base.2.named ∙ d.base_named;
+        signals = own.0;
+        are_signals = signals_loaded d.class.signals own.0 (λ k y e. method_typed k y (ap (λ ms. slice_get ms k) own.2 ∙ get_front own.0 own.1 k y e)) own.3;
+        slots = own.1;
+        are_slots =
+            subst (λ n. AllZip (IsLoadedSlot p n) d.class.slots own.1) (sym d.number)
+            (slots_loaded d.i 0 d.class.slots own.1 bodies
+            (λ k y e. let at = get_back own.0 own.1 k y e in method_typed at.0 y (ap (λ ms. slice_get ms at.0) own.2 ∙ at.1))
+            own.4);
+        methods = methods.2 ∙ ap (λ ms. ms ++ methods.1) same_methods ∙ ap (λ ms. base.0.methods ++ ms) own.2 ∙ sym (append_assoc base.0.methods own.0 own.1);
         own_properties = properties.1;
+        are_properties = properties_loaded class u.outline d.class.properties properties.1 property_typed notified properties.4;
         properties = properties.2 ∙ ap (λ ps. ps ++ properties.1) same_properties;
+      }
+
+  under_declared : (c : ℕ) (class : MetaObject) (u : OutlineOf c class) (b : ℕ) → class.base ≡ Some b → Declared program.classes o c u.outline → IsUnder p c class b
+  under_declared c class u b based d =
+      let l = loaded_class c class u d in
+      let same_base : l.base_number ≡ b = same_Some _ _ (sym l.based ∙ based) in
+      record {
+        smaller = subst (λ n. n < c) same_base l.smaller;
+        base = l.base;
+        is = subst (λ n. IsClass p n l.base) same_base l.is_base;
+        own_methods = l.signals ++ l.slots;
+        methods = l.methods ∙ append_assoc l.base.methods l.signals l.slots;
+        own_properties = l.own_properties;
+        properties = l.properties;
       }
 
   is_under : (c : ℕ) (class : MetaObject) (u : OutlineOf c class) (b : ℕ) → class.base ≡ Some b → IsUnder p c class b
@@ -429,4 +543,52 @@ module _ (program : Program) (o : List Outline) (outlined : HasOutlines program 
         distinct_outlines program o outlined.are outlined.distinct i j u.outline v.outline u.is v.is (sym u.by.named ∙ named ∙ v.by.named);
     wires = wire_sound;
     owns = owns_sound;
+  }
+
+  -- ---- the program as declared
+  class_counted : length p.classes ≡ suc (length program.classes)
+  class_counted = sym (zip_length (IsObject o loaded.bodies) o p.classes loaded.objects) ∙ outlines_count program.classes o outlined.are
+
+  has_loaded : (i : ℕ) (declared : Class) → slice_get program.classes i ≡ Some declared → HasLoadedClass p (suc i) declared
+  has_loaded i declared at =
+      let less : i < length program.classes = slice_get_within program.classes i declared at in
+      let inside : suc i < length p.classes = omega (arith, class_counted, less) in
+      let class : MetaObject = get_or p.classes (suc i) root_class in
+      let is : slice_get p.classes (suc i) ≡ Some class = slice_get-get_or p.classes (suc i) root_class inside in
+      let u = outline_at (suc i) class is in
+      elim (outline_of program.classes o outlined.are (suc i) u.outline u.is) [
+        | inl q ↦ absurd (omega (arith, q.0))
+        | inr d ↦
+            let place : d.i ≡ i = omega (arith, d.number) in
+            let same_class : d.class ≡ declared = same_Some _ _ (sym d.is ∙ ap (λ k. slice_get program.classes k) place ∙ at) in
+            record { class = class; is = record { is = is }; loaded = subst (λ x. IsLoadedClass p (suc i) x class) same_class (loaded_class (suc i) class u d) }
+      ]
+
+  wire_loaded : (wire : Wire) (found : MetaWire) → IsWire o wire found → IsLoadedWire p wire found
+  wire_loaded wire found is =
+      let from = is.from in
+      let to = is.to in
+      let signal = method_at o loaded.bodies p loaded.objects found.sender from.class.at.item from.class.at.is found.signal from.method.at.item from.method.at.is in
+      let method = method_at o loaded.bodies p loaded.objects found.receiver to.class.at.item to.class.at.is found.method to.method.at.item to.method.at.is in
+      record {
+        sender = named o loaded.bodies p loaded.objects wire.sender found.sender from.class;
+        signal = record { method = signal.loaded; is = signal.is; signed = signal.by.signed ∙ from.method.at.has.0 };
+        receiver = named o loaded.bodies p loaded.objects wire.receiver found.receiver to.class;
+        method = record { method = method.loaded; is = method.is; signed = method.by.signed ∙ to.method.at.has };
+        same_kind = is.same_kind;
+      }
+
+  owns_loaded : (owns : Owns) (found : MetaOwns) → IsOwns o owns found → IsLoadedOwns p owns found
+  owns_loaded owns found is = record {
+    parent = named o loaded.bodies p loaded.objects owns.parent found.parent is.parent;
+    child = named o loaded.bodies p loaded.objects owns.child found.child is.child;
+  }
+
+  pub as_declared : IsLoadedProgram program p
+  as_declared = record {
+    root = record { is = root_is };
+    counted = class_counted;
+    classes = has_loaded;
+    wires = zip_also (IsWire o) (IsLoadedWire p) program.wires p.wires wire_loaded loaded.uses.wired;
+    owns = zip_also (IsOwns o) (IsLoadedOwns p) program.owns p.owns owns_loaded loaded.uses.owned;
   }

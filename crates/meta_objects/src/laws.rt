@@ -1,6 +1,7 @@
 //! What holds of every program.
 
 ghost use Rattle.meta_objects.specs.Builds.{OneLoading, OneAnswer};
+ghost use Rattle.meta_objects.specs.Classes.{LoadedAsDeclared};
 
 /// A program has at most one loaded form.
 pub fn one_loading()
@@ -10,4 +11,10 @@ pub fn one_loading()
 /// A program has one answer, want of memory aside: one refusal, or one loaded form.
 pub fn one_answer()
     ensures { OneAnswer }
+{}
+
+/// What is loaded is the program as declared: each class has its base's members, then its own signals, slots and
+/// properties in their order, their types and notify signals resolved; wires and owns go by number.
+pub fn loaded_as_declared()
+    ensures { LoadedAsDeclared }
 {}

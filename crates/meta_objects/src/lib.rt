@@ -10,7 +10,7 @@ mod resolve_object;
 mod resolve_uses;
 mod resolve_wire;
 
-pub use laws::{one_answer, one_loading};
+pub use laws::{loaded_as_declared, one_answer, one_loading};
 pub use meta::{Meta, Wired};
 pub use meta_model::{
     MetaFault, MetaMethod, MetaObject, MetaOwns, MetaPath, MetaProperty, MetaRoot, MetaWire,

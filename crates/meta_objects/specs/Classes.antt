@@ -1,0 +1,112 @@
+-- What a loaded program is, in Qt's words: each class has its base's members and then its own, as declared, and names are
+-- replaced by numbers (Qt 6, "The Meta-Object System"; docs/machine.md, "Loading").
+use Rattle.std.specs.Prelude.{◌≡◌, ℕ, suc, ◌<◌, List, ◌++◌, length, Option, None, Some, slice_get, Ok}
+use Rattle.std.specs.List.{AllZip}
+use Rattle.signatures.specs.declared.sig.Sig.{Sig}
+use Rattle.texts.specs.declared.program.Property.{Property}
+use Rattle.texts.specs.declared.program.Signal.{Signal}
+use Rattle.texts.specs.declared.program.Slot.{Slot}
+use Rattle.texts.specs.declared.program.Class.{Class}
+use Rattle.texts.specs.declared.program.Wire.{Wire}
+use Rattle.texts.specs.declared.program.Owns.{Owns}
+use Rattle.texts.specs.declared.program.Program.{Program}
+use Rattle.meta_model.specs.declared.object.Statement.{Statement}
+use Rattle.meta_model.specs.declared.object.Work.TheVariants as work
+use Rattle.meta_model.specs.declared.object.MetaMethod.{MetaMethod}
+use Rattle.meta_model.specs.declared.object.MetaProperty.{MetaProperty}
+use Rattle.meta_model.specs.declared.object.MetaObject.{MetaObject}
+use Rattle.meta_model.specs.declared.object.MetaWire.{MetaWire}
+use Rattle.meta_model.specs.declared.object.MetaOwns.{MetaOwns}
+use Rattle.meta_model.specs.declared.qobject.TheConstants.{QOBJECT}
+use Rattle.meta_model.specs.Loaded.{Loaded}
+use Rattle.meta_model.specs.Members.{IsClass, IsClassNamed, HasSig}
+use Rattle.meta_model.specs.Outlines.{sig_of, kinds_of, base_name}
+use Rattle.meta_model.specs.Root.{root_class}
+use Rattle.meta_model.specs.Sound.{IsKind, AreSound}
+use Rattle.meta_objects.specs.Loading.{initial_of}
+use Rattle.meta_objects.specs.Builds.{Builds}
+
+-- ---- members
+-- a signal: its name, and its parameters' types, each resolved
+pub record IsLoadedSignal (p : Loaded) (declared : Signal) (method : MetaMethod) : Type 0 where
+  pub signed : method.sig ≡ sig_of declared.name (kinds_of declared.parameters)
+  pub typed : AllZip (IsKind p) (kinds_of declared.parameters) method.kinds
+  pub signals : method.work ≡ work.Signal
+
+-- a slot of class c, in whose body `this` is of that class
+pub record IsLoadedSlot (p : Loaded) (c : ℕ) (declared : Slot) (method : MetaMethod) : Type 0 where
+  pub signed : method.sig ≡ sig_of declared.name (kinds_of declared.parameters)
+  pub typed : AllZip (IsKind p) (kinds_of declared.parameters) method.kinds
+  pub body : List Statement
+  pub slots : method.work ≡ work.Slot body
+  pub sound : AreSound p c method.kinds body
+
+-- method m of the class is the signal of this signature
+pub record IsSignalAt (class : MetaObject) (sig : Sig) (m : ℕ) : Type 0 where
+  pub signal : MetaMethod
+  pub is : slice_get class.methods m ≡ Some signal
+  pub signed : signal.sig ≡ sig
+  pub signals : signal.work ≡ work.Signal
+
+-- the notify signal's number, where one is declared
+abbrev pub HasNotifier : MetaObject → Option Sig → Option ℕ → Type 0
+HasNotifier class None number = number ≡ None
+HasNotifier class (Some sig) None = ⊥
+HasNotifier class (Some sig) (Some m) = IsSignalAt class sig m
+
+pub record IsLoadedProperty (p : Loaded) (class : MetaObject) (declared : Property) (property : MetaProperty) : Type 0 where
+  pub named : property.name ≡ declared.name
+  pub declared_as : property.declared ≡ declared.kind
+  pub typed : IsKind p declared.kind property.kind
+  pub initial : property.initial ≡ initial_of declared.initial property.kind
+  pub notified : HasNotifier class declared.notify property.notify
+
+-- ---- classes
+-- Class c: its methods are its base's, then its own signals, then its own slots; its properties are its base's, then its
+-- own.
+pub record IsLoadedClass (p : Loaded) (c : ℕ) (declared : Class) (class : MetaObject) : Type 0 where
+  pub named : class.name ≡ declared.name
+  pub base_number : ℕ
+  pub smaller : base_number < c
+  pub based : class.base ≡ Some base_number
+  pub base : MetaObject
+  pub is_base : IsClass p base_number base
+  pub base_named : base.name ≡ base_name declared.base
+  pub signals : List MetaMethod
+  pub are_signals : AllZip (IsLoadedSignal p) declared.signals signals
+  pub slots : List MetaMethod
+  pub are_slots : AllZip (IsLoadedSlot p c) declared.slots slots
+  pub methods : class.methods ≡ base.methods ++ signals ++ slots
+  pub own_properties : List MetaProperty
+  pub are_properties : AllZip (IsLoadedProperty p class) declared.properties own_properties
+  pub properties : class.properties ≡ base.properties ++ own_properties
+
+pub record HasLoadedClass (p : Loaded) (c : ℕ) (declared : Class) : Type 0 where
+  pub class : MetaObject
+  pub is : IsClass p c class
+  pub loaded : IsLoadedClass p c declared class
+
+-- ---- wires and owns, by the numbers of their classes and methods
+pub record IsLoadedWire (p : Loaded) (declared : Wire) (wire : MetaWire) : Type 0 where
+  pub sender : IsClassNamed p declared.sender wire.sender
+  pub signal : HasSig p wire.sender declared.signal wire.signal
+  pub receiver : IsClassNamed p declared.receiver wire.receiver
+  pub method : HasSig p wire.receiver declared.method wire.method
+  pub same_kind : wire.kind ≡ declared.kind
+
+pub record IsLoadedOwns (p : Loaded) (declared : Owns) (owns : MetaOwns) : Type 0 where
+  pub parent : IsClassNamed p declared.parent owns.parent
+  pub child : IsClassNamed p declared.child owns.child
+
+-- ---- the program
+-- `QObject`, then the declared classes in their order
+pub record IsLoadedProgram (program : Program) (p : Loaded) : Type 0 where
+  pub root : IsClass p QOBJECT root_class
+  pub counted : length p.classes ≡ suc (length program.classes)
+  pub classes : (i : ℕ) (declared : Class) → slice_get program.classes i ≡ Some declared → HasLoadedClass p (suc i) declared
+  pub wires : AllZip (IsLoadedWire p) program.wires p.wires
+  pub owns : AllZip (IsLoadedOwns p) program.owns p.owns
+
+-- what `build` answers is the loaded form of its program
+abbrev pub LoadedAsDeclared : Type 0
+LoadedAsDeclared = (program : Program) (p : Loaded) → Builds program (Ok p) → IsLoadedProgram program p
