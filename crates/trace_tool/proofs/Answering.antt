@@ -1,8 +1,11 @@
 -- From the bytes that were sent to the answer of a command.
-use Rattle.std.proofs.Common.{◌≡◌, ℕ, List, [], ◌∷◌, length, Option, IfSome, sym, subst, arith}
-use Rattle.trace_tool.specs.Commands.{Answers, AnswersCommand, CommandWrites, InputWrites, MetaWrites, RunWrites, other_texts, does}
+use Rattle.std.proofs.Common.{◌≡◌, ℕ, ◌≤◌, List, [], ◌∷◌, length, Option, Result, Ok, Err, sym, subst, arith}
+use Rattle.trace_tool.specs.Commands.{Answers, CommandWrites, InputWrites, MetaWrites, RunWrites, other_texts, does, read, unread, memory}
 use Rattle.trace_tool.specs.Cut.{AreTexts}
-use Rattle.trace_tool.specs.Refusals.{usage_line}
+use Rattle.trace_tool.specs.Refusals.{memory_line, usage_line}
+use Rattle.trace_tool.specs.Words.{IsCommand}
+use Rattle.trace_tool.specs.declared.input.InputFault.{InputFault}
+use Rattle.trace_tool.specs.declared.input.InputFault.TheVariants.{Unread, Memory}
 use Rattle.trace_tool.specs.declared.words.Command.{Command}
 use Rattle.trace_tool.specs.declared.words.Command.TheVariants.{Meta, Run}
 use Rattle.trace_tool.specs.declared.words.Options.{Options}
@@ -16,22 +19,33 @@ answered {Writes} {before} {after} {bytes} {expected} {status} meaning s = recor
   meaning = subst (Writes bytes) (sym s.is) meaning;
 }
 
-pub answered_command : {words : List (List ℕ)} {left before after : Option (List ℕ)} {bytes : List ℕ} {expected status : ℕ} (input : List ℕ) →
-    IfSome left (λ xs. xs ≡ input) → CommandWrites words input bytes expected → SendsWith before after bytes expected status →
-    AnswersCommand words left before after status
-answered_command input all meaning s = record { input = input; all = all; answers = answered meaning s }
+pub read_done : {words : List (List ℕ)} {found : Result (List ℕ) InputFault} {command : Command} {input : List ℕ} {before after : Option (List ℕ)} {status : ℕ} →
+    IsCommand words command → found ≡ Ok input → Answers (InputWrites command input) before after status → Answers (CommandWrites words found) before after status
+read_done {words} {found} {command} {input} {before} {after} {status} said is a = record {
+  bytes = a.bytes;
+  appended = a.appended;
+  meaning = subst (λ r. CommandWrites words r a.bytes status) (sym is) (read command input a.bytes status said a.meaning);
+}
+
+pub unread_done : {words : List (List ℕ)} {found : Result (List ℕ) InputFault} (command : Command) →
+    IsCommand words command → found ≡ Err Unread → CommandWrites words found [] 1
+unread_done {words} {found} command said is = subst (λ r. CommandWrites words r [] 1) (sym is) (unread command said)
+
+pub memory_done : {words : List (List ℕ)} {found : Result (List ℕ) InputFault} (command : Command) →
+    IsCommand words command → found ≡ Err Memory → CommandWrites words found memory_line 1
+memory_done {words} {found} command said is = subst (λ r. CommandWrites words r memory_line 1) (sym is) (memory command said)
 
 -- ---- by the command
 
-pub meta_done : {command : Command} {input program bytes : List ℕ} {status : ℕ} → command ≡ Meta → AreTexts input (program ∷ []) →
+pub meta_done : {command : Command} {input program bytes : List ℕ} {status : ℕ} → command ≡ Meta → length input ≤ 67108864 → AreTexts input (program ∷ []) →
     MetaWrites program bytes status → InputWrites command input bytes status
-meta_done {command} {input} {program} {bytes} {status} e cut w =
-    subst (λ k. InputWrites k input bytes status) (sym e) (does (program ∷ []) bytes status cut w)
+meta_done {command} {input} {program} {bytes} {status} e few cut w =
+    subst (λ k. InputWrites k input bytes status) (sym e) (does (program ∷ []) bytes status few cut w)
 
-pub run_done : {command : Command} {input program script bytes : List ℕ} {status : ℕ} (options : Options) → command ≡ Run options →
+pub run_done : {command : Command} {input program script bytes : List ℕ} {status : ℕ} (options : Options) → command ≡ Run options → length input ≤ 67108864 →
     AreTexts input (program ∷ script ∷ []) → RunWrites program script options.depth options.steps bytes status → InputWrites command input bytes status
-run_done {command} {input} {program} {script} {bytes} {status} options e cut w =
-    subst (λ k. InputWrites k input bytes status) (sym e) (does (program ∷ script ∷ []) bytes status cut w)
+run_done {command} {input} {program} {script} {bytes} {status} options e few cut w =
+    subst (λ k. InputWrites k input bytes status) (sym e) (does (program ∷ script ∷ []) bytes status few cut w)
 
 one_only : (input : List ℕ) → ((text : List ℕ) → AreTexts input (text ∷ []) → ⊥) → (texts : List (List ℕ)) → AreTexts input texts → length texts ≡ 1 → ⊥
 one_only input h [] are e = are
@@ -44,10 +58,10 @@ two_only input h (text ∷ []) are e = omega (arith, e)
 two_only input h (first ∷ second ∷ []) are e = h first second are
 two_only input h (first ∷ second ∷ next ∷ texts) are e = omega (arith, e)
 
-pub meta_undone : {command : Command} {input : List ℕ} → command ≡ Meta → ((text : List ℕ) → AreTexts input (text ∷ []) → ⊥) →
+pub meta_undone : {command : Command} {input : List ℕ} → command ≡ Meta → length input ≤ 67108864 → ((text : List ℕ) → AreTexts input (text ∷ []) → ⊥) →
     InputWrites command input usage_line 1
-meta_undone {command} {input} e h = subst (λ k. InputWrites k input usage_line 1) (sym e) (other_texts (one_only input h))
+meta_undone {command} {input} e few h = subst (λ k. InputWrites k input usage_line 1) (sym e) (other_texts few (one_only input h))
 
-pub run_undone : {command : Command} {input : List ℕ} (options : Options) → command ≡ Run options →
+pub run_undone : {command : Command} {input : List ℕ} (options : Options) → command ≡ Run options → length input ≤ 67108864 →
     ((first second : List ℕ) → AreTexts input (first ∷ second ∷ []) → ⊥) → InputWrites command input usage_line 1
-run_undone {command} {input} options e h = subst (λ k. InputWrites k input usage_line 1) (sym e) (other_texts (two_only input h))
+run_undone {command} {input} options e few h = subst (λ k. InputWrites k input usage_line 1) (sym e) (other_texts few (two_only input h))

@@ -1,5 +1,5 @@
 -- One output after another.
-use Rattle.std.proofs.Common.{ℕ, ◌≡◌, List, [], ◌++◌, Option, Some, None, append_assoc, append-nil, refl, sym, ap, subst, ◌∙◌}
+use Rattle.std.proofs.Common.{ℕ, ◌≡◌, List, [], ◌++◌, Option, Some, None, append_assoc, append-nil, sym, ap, subst, ◌∙◌}
 use Rattle.trace_tool.specs.Sent.{Sends}
 use Rattle.std.specs.Io.KnownBytes.{Appends}
 
@@ -24,9 +24,6 @@ pub record SentSoFar (before after : Option (List ℕ)) (left whole : List ℕ) 
   pub bytes : List ℕ
   pub sends : Sends before after bytes
   pub whole_is : bytes ++ left ≡ whole
-
-pub nothing_so_far : (a : Option (List ℕ)) (whole : List ℕ) → SentSoFar a a whole whole
-nothing_so_far a whole = record { bytes = []; sends = none_sent a; whole_is = refl }
 
 pub more_so_far : {a b c : Option (List ℕ)} {part left whole : List ℕ} → SentSoFar a b (part ++ left) whole → Sends b c part → SentSoFar a c left whole
 more_so_far {part} {left} s p = record {

@@ -1,7 +1,8 @@
 -- What a run and a command line write, and their exit status (docs/commands.md). A definition says which bytes and which
 -- status belong together. Want of memory outside a run may come at any time before the run; that it comes only where a
 -- growth of memory was refused is not stated here.
-use Rattle.std.specs.Prelude.{◌≡◌, ℕ, ◌<◌, ◌≤◌, List, [], ◌∷◌, ◌++◌, length, Option, Result, Ok, Err, IfSome}
+use Rattle.std.specs.Prelude.{◌≡◌, ℕ, ◌<◌, ◌≤◌, List, [], ◌∷◌, ◌++◌, length, take, Option, Result, Ok, Err, IfSome}
+use Rattle.std.specs.Borrow.{Bor}
 use Rattle.std.specs.Io.KnownBytes.{Appends}
 use Rattle.class_lang.specs.Reads.{ReadsProgram, number_of as text_number}
 use Rattle.texts.specs.declared.program.Program.{Program}
@@ -23,6 +24,8 @@ use Rattle.trace_tool.specs.Lines.{trace_text}
 use Rattle.trace_tool.specs.MetaLines.{meta_text}
 use Rattle.trace_tool.specs.Refusals.{numbered, of_script, memory_line, usage_line, fault_line, refusal_line, refusal_status}
 use Rattle.trace_tool.specs.Words.{IsCommand}
+use Rattle.trace_tool.specs.declared.input.InputFault.{InputFault}
+use Rattle.trace_tool.specs.declared.input.InputFault.TheVariants.{Unread, Memory}
 use Rattle.trace_tool.specs.declared.words.Command.{Command}
 use Rattle.trace_tool.specs.declared.words.Command.TheVariants.{Meta, Run}
 
@@ -86,23 +89,29 @@ Does command texts bytes status = ⊥
 
 -- what a command writes for its input
 pub data InputWrites (command : Command) (input : List ℕ) : List ℕ → ℕ → Type 0 where
-  -- there is another number of texts than the command's
-  other_texts : ((texts : List (List ℕ)) → AreTexts input texts → length texts ≡ texts_of command → ⊥) →
-      InputWrites command input usage_line 1
-  does : (texts : List (List ℕ)) (bytes : List ℕ) (status : ℕ) → AreTexts input texts → Does command texts bytes status →
-      InputWrites command input bytes status
-
--- A command line, from its words and its input.
-pub data CommandWrites (words : List (List ℕ)) (input : List ℕ) : List ℕ → ℕ → Type 0 where
-  -- the words are no command
-  unknown : ((command : Command) → IsCommand words command → ⊥) → CommandWrites words input usage_line 1
   -- there are more bytes than 64 MiB
-  large : (command : Command) → IsCommand words command → 67108864 < length input → CommandWrites words input usage_line 1
-  read : (command : Command) (bytes : List ℕ) (status : ℕ) → IsCommand words command → length input ≤ 67108864 →
-      InputWrites command input bytes status → CommandWrites words input bytes status
-  -- a read fails
-  unread : (command : Command) → IsCommand words command → CommandWrites words input [] 1
-  memory : (command : Command) → IsCommand words command → CommandWrites words input memory_line 1
+  large : 67108864 < length input → InputWrites command input usage_line 1
+  -- there is another number of texts than the command's
+  other_texts : length input ≤ 67108864 → ((texts : List (List ℕ)) → AreTexts input texts → length texts ≡ texts_of command → ⊥) →
+      InputWrites command input usage_line 1
+  does : (texts : List (List ℕ)) (bytes : List ℕ) (status : ℕ) → length input ≤ 67108864 → AreTexts input texts →
+      Does command texts bytes status → InputWrites command input bytes status
+
+-- the bytes that were read, or why there are none
+abbrev pub read_of : Result (Bor (List ℕ)) InputFault → Result (List ℕ) InputFault
+read_of (Ok input) = Ok input.now
+read_of (Err fault) = Err fault
+
+-- A command line, from its words and from what was read: the bytes, or why there are none.
+pub data CommandWrites (words : List (List ℕ)) : Result (List ℕ) InputFault → List ℕ → ℕ → Type 0 where
+  -- the words are no command
+  unknown : {input : Result (List ℕ) InputFault} → ((command : Command) → IsCommand words command → ⊥) →
+      CommandWrites words input usage_line 1
+  read : (command : Command) (input bytes : List ℕ) (status : ℕ) → IsCommand words command →
+      InputWrites command input bytes status → CommandWrites words (Ok input) bytes status
+  -- a read failed
+  unread : (command : Command) → IsCommand words command → CommandWrites words (Err Unread) [] 1
+  memory : (command : Command) → IsCommand words command → CommandWrites words (Err Memory) memory_line 1
 
 -- Bytes that belong to the status were added to what the writer held.
 pub record Answers (Writes : List ℕ → ℕ → Type 0) (before after : Option (List ℕ)) (status : ℕ) : Type 0 where
@@ -110,8 +119,14 @@ pub record Answers (Writes : List ℕ → ℕ → Type 0) (before after : Option
   pub appended : Appends before after bytes
   pub meaning : Writes bytes status
 
--- A command line is answered for an input, which is all that the reader had left, where that is known.
+-- What is read of a reader's bytes, where those are known: all, but no more than a byte past 64 MiB. When a read fails
+-- isn't stated, since no contract of a reader says it.
+abbrev pub Reads : Option (List ℕ) → Result (List ℕ) InputFault → Type 0
+Reads left (Ok input) = IfSome left (λ all. input ≡ take 67108865 all)
+Reads left (Err fault) = Unit {0}
+
+-- A command line is answered for what was read.
 pub record AnswersCommand (words : List (List ℕ)) (left before after : Option (List ℕ)) (status : ℕ) : Type 0 where
-  pub input : List ℕ
-  pub all : IfSome left (λ bytes. bytes ≡ input)
+  pub input : Result (List ℕ) InputFault
+  pub reads : Reads left input
   pub answers : Answers (CommandWrites words input) before after status

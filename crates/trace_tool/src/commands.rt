@@ -1,5 +1,5 @@
 ghost use Rattle.std.specs.Prelude.{◌≡◌, ◌≤◌, ◌<◌, ◌^◌, map, IfOk};
-ghost use Rattle.trace_tool.specs.Commands.{Answers, AnswersCommand, InputWrites};
+ghost use Rattle.trace_tool.specs.Commands.{Answers, AnswersCommand, CommandWrites, InputWrites, read_of};
 ghost use Rattle.trace_tool.specs.Refusals.{usage_line};
 ghost use Rattle.trace_tool.specs.Sent.{SendsWith};
 ghost use Rattle.trace_tool.specs.Words.{IsCommand};
@@ -17,16 +17,9 @@ use qt_runtime::Natives;
 use std::alloc::Global;
 use std::io::{Read, Write};
 
-/// Does what a command line's words say, on the bytes that the reader has left, and answers the exit status.
-///
-/// - `meta` takes one text, a program, and writes its classes.
-/// - `run --unchecked N [--steps M]` takes two texts, a program and a script, with a line `%%` between them, and runs
-///   the one on the other; N is from 1 to 256, M from 1 to 2^63 - 1, or 1,000,000 where it isn't given.
-///
-/// Other words, another number of texts and an input of more than 67,108,864 bytes write `usage`; for other words
-/// nothing is read. After a read that fails nothing is written. All of these end with 1.
-///
-/// There is a `WriteFault` only where the writer failed; nothing is written after that.
+/// Does what a command line's words say, on the bytes that the reader has left, and answers the exit status: reads them,
+/// no more than a byte past the largest input, and leaves the rest to [`respond`]. For words that are no command nothing
+/// is read.
 pub fn command<R: Read, W: Write>(
     alloc: Global,
     words: &[&str],
@@ -34,21 +27,49 @@ pub fn command<R: Read, W: Write>(
     natives: Natives,
     w: &mut W,
 ) -> Result<u8, WriteFault>
-    ensures answers { IfOk result (λ status. AnswersCommand (map (λ word. word.now) words.now) (R.remaining reader.old) (W.contents w.old) (W.contents w.new) status) }
-    ensures unread { ((c : ACommand) → IsCommand (map (λ word. word.now) words.now) c → ⊥) → reader.new ≡ reader.old }
+    ensures answers { let said = map (λ word. word.now) words.now in
+        IfOk result (λ status. AnswersCommand said (R.remaining reader.old) (W.contents w.old) (W.contents w.new) status) }
+    ensures unread { let said = map (λ word. word.now) words.now in
+        ((c : ACommand) → IsCommand said c → ⊥) → reader.new ≡ reader.old }
+{
+    let Some(_) = Command::of(words) else {
+        return respond(alloc, words, Err(InputFault::Unread), natives, w);
+    };
+    match read_input(alloc, reader) {
+        Ok(input) => respond(alloc, words, Ok(input.as_slice()), natives, w),
+        Err(fault) => respond(alloc, words, Err(fault), natives, w),
+    }
+}
+
+/// Does what a command line's words say, on the bytes that were read or on why there are none, and answers the exit
+/// status.
+///
+/// - `meta` takes one text, a program, and writes its classes.
+/// - `run --unchecked N [--steps M]` takes two texts, a program and a script, with a line `%%` between them, and runs
+///   the one on the other; N is from 1 to 256, M from 1 to 2^63 - 1, or 1,000,000 where it isn't given.
+///
+/// Other words, another number of texts and an input of more than 67,108,864 bytes write `usage`. After a read that
+/// failed nothing is written, and `memory` where there was none for the input. All of these end with 1.
+///
+/// There is a `WriteFault` only where the writer failed; nothing is written after that.
+pub fn respond<W: Write>(
+    alloc: Global,
+    words: &[&str],
+    input: Result<&[u8], InputFault>,
+    natives: Natives,
+    w: &mut W,
+) -> Result<u8, WriteFault>
+    ensures { let Writes = CommandWrites (map (λ word. word.now) words.now) (read_of input.entry) in
+        IfOk result (λ status. Answers Writes (W.contents w.old) (W.contents w.new) status) }
 {
     let Some(command) = Command::of(words) else {
         return refuse_usage(w);
     };
-    let input = match read_input(alloc, reader) {
-        Ok(input) => input,
-        Err(InputFault::Unread) => return Ok(UNDONE),
-        Err(InputFault::Memory) => return refuse(alloc, &Refusal::Memory, w),
-    };
-    if input.len() > LARGEST_INPUT {
-        return refuse_usage(w);
+    match input {
+        Ok(bytes) => perform(alloc, command, bytes, natives, w),
+        Err(InputFault::Unread) => Ok(UNDONE),
+        Err(InputFault::Memory) => refuse(alloc, &Refusal::Memory, w),
     }
-    perform(alloc, command, input.as_slice(), natives, w)
 }
 
 /// Does what a command says on its input.
@@ -61,8 +82,12 @@ fn perform<W: Write>(
 ) -> Result<u8, WriteFault>
     requires depth { (o : _) → command ≡ Run o → (1 ≤ o.depth) × (o.depth ≤ 256) }
     requires steps { (o : _) → command ≡ Run o → (1 ≤ o.steps) × (o.steps < 2 ^ 63) }
-    ensures { IfOk result (λ status. Answers (InputWrites command input.now) (W.contents w.old) (W.contents w.new) status) }
+    ensures { let Writes = InputWrites command input.now in
+        IfOk result (λ status. Answers Writes (W.contents w.old) (W.contents w.new) status) }
 {
+    if input.len() > LARGEST_INPUT {
+        return refuse_usage(w);
+    }
     match command {
         Command::Meta => match one_text(input) {
             Some(program) => meta(alloc, program, w),

@@ -8,7 +8,7 @@ use thiserror::Error;
 pub const LARGEST_INPUT: usize = 67108864;
 
 /// Why there is no input.
-#[derive(Debug, Drop, Error)]
+#[derive(Clone, Copy, Debug, Error)]
 pub enum InputFault {
     /// A read failed.
     #[error("the input can't be read")]
@@ -20,7 +20,8 @@ pub enum InputFault {
 
 /// Reads all that is left, but no more than a byte past the largest input.
 pub fn read_input<R: Read>(alloc: Global, reader: &mut R) -> Result<Vec<u8>, InputFault>
-    ensures { IfOk result (λ input. IfSome (R.remaining reader.old) (λ left. input.items ≡ take 67108865 left)) }
+    ensures { IfOk result (λ input.
+        IfSome (R.remaining reader.old) (λ left. input.items ≡ take 67108865 left)) }
 {
     let mut input = Vec::new(alloc);
     match reader

@@ -13,8 +13,9 @@ mod refusal;
 mod run;
 mod words;
 
-pub use commands::command;
+pub use commands::{command, respond};
 pub use description::meta;
 pub use fault::WriteFault;
+pub use input::InputFault;
 pub use refusal::Refusal;
 pub use run::run_unchecked;
