@@ -24,8 +24,8 @@ use Rattle.machine_state.specs.Connections.{is_next, next_connection, silences, 
 use Rattle.machine_rules.specs.Good.{AreTyped, ArgumentsFit, TopFits, IsWell}
 use Rattle.machine_rules.specs.Sound.{Joined}
 use Rattle.machine_state.specs.Worlds.{at, noted}
-use Rattle.machine_rules.specs.Goes.{Goes, Breaks, Ends, Calls, OnlyCalls, IsMember, begin_entry}
-use Rattle.machine_rules.proofs.Going.{goes-high, ends-after, ends-lifted, breaks-deep, breaks-ill, breaks-stuck}
+use Rattle.machine_rules.specs.Reaches.{Reaches, StopsIn, Ends, Calls, OnlyCalls, IsMember, begin_entry}
+use Rattle.machine_rules.proofs.Reaching.{reaches-high, ends-after, ends-lifted, stops-deep, stops-ill, stops-stuck}
 use Rattle.machine_rules.proofs.Fields.{some-is, method-unique, types-front}
 
 -- what is pushed where a method begins
@@ -64,16 +64,16 @@ fits-top : {p : Loaded} {objects : List Object} {o m : ℕ} {arguments : List Va
 fits-top last Signal below fit = fit
 fits-top last (Slot statements) below fit = fit
 
-goes-begun : {p : Loaded} {d h o m : ℕ} {w v : World} {from to : Activation} {x : Object} {method : MetaMethod} {arguments : List Value} {entry : Entry} →
+reaches-begun : {p : Loaded} {d h o m : ℕ} {w v : World} {from to : Activation} {x : Object} {method : MetaMethod} {arguments : List Value} {entry : Entry} →
     Calls p w from to o m arguments → IsMember p w.objects o m x method → ArgumentsFit p w.objects o m arguments → AreTyped p w.objects → h + 1 < d → 0 < w.left →
     entry ≡ begin_entry (h + 2) x m method.sig.name (all_shown w.objects arguments) method.work → v ≡ noted w entry →
-    Goes p d h w (from ∷ []) v (top_of o m arguments w.connected method.work ∷ to ∷ [])
-goes-begun {p} {d} {h} {o} {m} {w} {v} {from} {to} {x} {method} {arguments} {entry} calls is fit typed room some entry_is v_is =
-    let Family : World → Type 0 = λ u. Goes p d h w (from ∷ []) u (top_of o m arguments w.connected method.work ∷ to ∷ []) in
+    Reaches p d h w (from ∷ []) v (top_of o m arguments w.connected method.work ∷ to ∷ [])
+reaches-begun {p} {d} {h} {o} {m} {w} {v} {from} {to} {x} {method} {arguments} {entry} calls is fit typed room some entry_is v_is =
+    let Family : World → Type 0 = λ u. Reaches p d h w (from ∷ []) u (top_of o m arguments w.connected method.work ∷ to ∷ []) in
     let target : World = begun_world w (h + 2) x m method arguments in
     let target_is : v ≡ target = v_is ∙ ap (noted w) entry_is in
-    let went : Goes p d h w (from ∷ []) target (top_of o m arguments w.connected method.work ∷ to ∷ []) =
-    goes-high (λ below e. calls.gives below _ (begins-there w arguments from to below is e)) (λ below. top-fits w.connected method.work (to ∷ below) fit) room typed refl some in
+    let went : Reaches p d h w (from ∷ []) target (top_of o m arguments w.connected method.work ∷ to ∷ []) =
+    reaches-high (λ below e. calls.gives below _ (begins-there w arguments from to below is e)) (λ below. top-fits w.connected method.work (to ∷ below) fit) room typed refl some in
     subst Family (sym target_is) went
 
 -- a method begins, and what it pushed runs
@@ -83,18 +83,18 @@ pub ends-begun : {p : Loaded} {d h o m : ℕ} {w v u : World} {from to : Activat
     Ends p d (h + 1) v (top_of o m arguments w.connected work ∷ []) u [] r → Ends p d h w (from ∷ []) u (to ∷ []) r
 ends-begun {p} {d} {h} {o} {m} {w} {v} {u} {arguments = arguments} {r = r} calls is fit typed room some entry_is v_is work_is x =
     let Run : Work → Type 0 = λ k. Ends p d (h + 1) v (top_of o m arguments w.connected k ∷ []) u [] r in
-    ends-after (goes-begun calls is fit typed room some entry_is v_is) (ends-lifted (subst Run (sym work_is) x))
+    ends-after (reaches-begun calls is fit typed room some entry_is v_is) (ends-lifted (subst Run (sym work_is) x))
 
 -- activations would nest too deep
-pub breaks-begin : {p : Loaded} {d h o m : ℕ} {w : World} {from to : Activation} {x : Object} {method : MetaMethod} {arguments : List Value} →
-    Calls p w from to o m arguments → IsMember p w.objects o m x method → ArgumentsFit p w.objects o m arguments → AreTyped p w.objects → 0 < w.left → d ≡ h + 1 → Breaks p d h w (from ∷ []) w TooDeep
-breaks-begin {h = h} {o = o} {m = m} {w = w} {from = from} {to = to} {x = x} {method = method} {arguments = arguments} calls is fit typed some deep =
-    breaks-deep some (λ below e. (at (begun_world w (h + 2) x m method arguments) (top_of o m arguments w.connected method.work ∷ to ∷ below), calls.gives below _ (begins-there w arguments from to below is e), record { arguments = λ higher. top-fits w.connected method.work (to ∷ below) fit; values = typed }, omega (arith, e, deep)))
+pub stops-begin : {p : Loaded} {d h o m : ℕ} {w : World} {from to : Activation} {x : Object} {method : MetaMethod} {arguments : List Value} →
+    Calls p w from to o m arguments → IsMember p w.objects o m x method → ArgumentsFit p w.objects o m arguments → AreTyped p w.objects → 0 < w.left → d ≡ h + 1 → StopsIn p d h w (from ∷ []) w TooDeep
+stops-begin {h = h} {o = o} {m = m} {w = w} {from = from} {to = to} {x = x} {method = method} {arguments = arguments} calls is fit typed some deep =
+    stops-deep some (λ below e. (at (begun_world w (h + 2) x m method arguments) (top_of o m arguments w.connected method.work ∷ to ∷ below), calls.gives below _ (begins-there w arguments from to below is e), record { arguments = λ higher. top-fits w.connected method.work (to ∷ below) fit; values = typed }, omega (arith, e, deep)))
 
 -- there is no such method
-pub breaks-no-member : {p : Loaded} {d h o m : ℕ} {w : World} {from to : Activation} {arguments : List Value} →
-    OnlyCalls p w from to o m arguments → ((x : Object) (method : MetaMethod) → ¬ IsMember p w.objects o m x method) → 0 < w.left → Breaks p d h w (from ∷ []) w BadType
-breaks-no-member only none some = breaks-stuck some (λ below t r. let b = only.begins below t r in none b.object b.method (record { is_object = b.is_object; is_method = b.is_method }))
+pub stops-no-member : {p : Loaded} {d h o m : ℕ} {w : World} {from to : Activation} {arguments : List Value} →
+    OnlyCalls p w from to o m arguments → ((x : Object) (method : MetaMethod) → ¬ IsMember p w.objects o m x method) → 0 < w.left → StopsIn p d h w (from ∷ []) w BadType
+stops-no-member only none some = stops-stuck some (λ below t r. let b = only.begins below t r in none b.object b.method (record { is_object = b.is_object; is_method = b.is_method }))
 
 -- the arguments that fit are of the method's types
 fit-typed : {p : Loaded} {objects : List Object} {o m : ℕ} {x : Object} {method : MetaMethod} {arguments : List Value} → IsMember p objects o m x method → ArgumentsFit p objects o m arguments → HaveTypes p (class_of objects) arguments method.kinds
@@ -106,10 +106,10 @@ fit-typed {p} {objects} {o} {m} {x} {method} {arguments} is fit =
     subst Kinds (method-unique there is.is_method) fit.typed
 
 -- the arguments aren't of the method's types
-pub breaks-ill-typed : {p : Loaded} {d h o m : ℕ} {w : World} {from to : Activation} {x : Object} {method : MetaMethod} {arguments : List Value} →
-    Calls p w from to o m arguments → IsMember p w.objects o m x method → (¬ HaveTypes p (class_of w.objects) arguments method.kinds) → 0 < w.left → Breaks p d h w (from ∷ []) w BadType
-breaks-ill-typed {p} {o = o} {m = m} {w = w} {from = from} {to = to} {x = x} {method = method} {arguments = arguments} calls is ill some =
-    breaks-ill some (λ below.
+pub stops-ill-typed : {p : Loaded} {d h o m : ℕ} {w : World} {from to : Activation} {x : Object} {method : MetaMethod} {arguments : List Value} →
+    Calls p w from to o m arguments → IsMember p w.objects o m x method → (¬ HaveTypes p (class_of w.objects) arguments method.kinds) → 0 < w.left → StopsIn p d h w (from ∷ []) w BadType
+stops-ill-typed {p} {o = o} {m = m} {w = w} {from = from} {to = to} {x = x} {method = method} {arguments = arguments} calls is ill some =
+    stops-ill some (λ below.
     let t : State = at (begun_world w (length below + 2) x m method arguments) (top_of o m arguments w.connected method.work ∷ to ∷ below) in (
       t,
       calls.gives below t (begins-there w arguments from to below is refl),

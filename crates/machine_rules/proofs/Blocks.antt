@@ -1,5 +1,5 @@
 -- Blocks of statements, one before the other.
-use Rattle.std.proofs.Common.{◌≡◌, ℕ, true, List, [], ◌∷◌, ◌++◌, length, arith, refl, sym, ap, ◌∙◌, append_assoc, append-nil}
+use Rattle.std.proofs.Common.{◌≡◌, List, [], ◌∷◌, ◌++◌, length, arith, refl, sym, ap, ◌∙◌, append_assoc, append-nil}
 use denote.Bor.{Bor}
 use Rattle.meta_model.specs.declared.object.Statement.{Statement}
 use Rattle.machine_rules.specs.Remaining.{of_blocks}

@@ -1,5 +1,5 @@
 -- What a body's statements do.
-use Rattle.std.proofs.Common.{◌≡◌, ◌≢◌, ℕ, suc, ◌+◌, ◌-◌, ◌<◌, List, [], ◌∷◌, ◌++◌, length, Result, Ok, Err, Option, Some, None, refl, sym, ap, ◌∙◌, subst, arith}
+use Rattle.std.proofs.Common.{◌≡◌, ◌≢◌, ℕ, suc, ◌+◌, ◌-◌, ◌<◌, List, [], ◌∷◌, ◌++◌, length, Result, Ok, Err, Some, None, refl, sym, ap, ◌∙◌, subst, arith}
 use Rattle.std.specs.Result.{IsErrAnd}
 use Rattle.signatures.specs.declared.value.Value.{Value}
 use Rattle.meta_model.specs.declared.object.Statement.{Statement}
@@ -13,15 +13,14 @@ use Rattle.machine_state.specs.declared.fault.Fault.TheVariants.{BadType}
 use Rattle.object_tree.specs.declared.object.Object.{Object}
 use Rattle.machine_state.specs.declared.world.World.{World}
 use Rattle.machine_state.specs.State.{State, Activation, Body}
-use Rattle.machine_rules.specs.declared.doing.Doing.{Doing as Coded}
 use Rattle.machine_rules.specs.Doings.{Doing, Write, Begin, Choose, Nothing, doing}
 use Rattle.machine_rules.specs.Coded.{Yields}
-use Rattle.machine_rules.specs.Rules.{Rule, StatementRule, Does, Begins, Writes, on_null}
+use Rattle.machine_rules.specs.Rules.{Rule, StatementRule, Does, on_null}
 use Rattle.machine_rules.specs.Good.{AreTyped}
 use Rattle.machine_rules.specs.Runs.{Rules, done, then}
 use Rattle.machine_state.specs.Worlds.{at, noted, Ticks, Notes}
-use Rattle.machine_rules.specs.Goes.{Goes, Breaks, Ends, Advances, Calls, OnlyCalls, Sets}
-use Rattle.machine_rules.proofs.Going.{breaks-stuck, ends-noted, goes-ticked, ends-ticked}
+use Rattle.machine_rules.specs.Reaches.{StopsIn, Ends, Advances, Calls, OnlyCalls, Sets}
+use Rattle.machine_rules.proofs.Reaching.{stops-stuck, ends-noted, ends-ticked}
 use Rattle.machine_rules.proofs.Keeps.{some-stack, rules-kept}
 
 -- ---- the rule of a body whose next statement does this
@@ -74,9 +73,9 @@ does-choose {p} {w} {o} {arguments} {x} m rest r block is room typed ticks =
     ends-ticked {b = Body o m arguments (block ++ rest) ∷ []} r (λ below k. does-rule p w o m arguments x rest (Choose block) below _ is refl) (omega arith) room typed ticks
 
 -- a statement that lacks a value has no rule
-pub lacks-rule : {p : Loaded} {w : World} {o : ℕ} {arguments : List Value} {x : Statement} (m : ℕ) (rest : List Statement) {d h : ℕ} → 0 < w.left → doing w.objects o arguments (out-Statement x) ≡ None → Breaks p d h w (Body o m arguments (x ∷ rest) ∷ []) w BadType
+pub lacks-rule : {p : Loaded} {w : World} {o : ℕ} {arguments : List Value} {x : Statement} (m : ℕ) (rest : List Statement) {d h : ℕ} → 0 < w.left → doing w.objects o arguments (out-Statement x) ≡ None → StopsIn p d h w (Body o m arguments (x ∷ rest) ∷ []) w BadType
 lacks-rule {p} {w} {o} {arguments} {x} m rest some none =
-    breaks-stuck some (λ below t rule.
+    stops-stuck some (λ below t rule.
     let r : StatementRule p (next w o m arguments x rest below) o m arguments x rest below t = rule in
     let both : None ≡ Some r.what = sym none ∙ r.is in
     absurd (cc both))
@@ -86,7 +85,7 @@ pub moved : {a b : List Object} {n o : ℕ} {k l : List Value} (F : List Object 
 moved {a} {b} {n} {o} {k} {l} F objects this arguments x =
     subst (λ (i : List Value). F b o i) arguments (subst (λ (i : ℕ). F b i k) this (subst (λ (i : List Object). F i n k) objects x))
 
-pub lacks-read : {p : Loaded} {d h o : ℕ} {w : World} {arguments : List Value} {x : Statement} {f : EvalFault} {a : List Object} {i : ℕ} {l : List Value} (m : ℕ) (rest : List Statement) → 0 < w.left → a ≡ w.objects → i ≡ o → l ≡ arguments → Yields (doing a i l (out-Statement x)) (Err f) → f ≡ eval.BadType → Breaks p d h w (Body o m arguments (x ∷ rest) ∷ []) w BadType
+pub lacks-read : {p : Loaded} {d h o : ℕ} {w : World} {arguments : List Value} {x : Statement} {f : EvalFault} {a : List Object} {i : ℕ} {l : List Value} (m : ℕ) (rest : List Statement) → 0 < w.left → a ≡ w.objects → i ≡ o → l ≡ arguments → Yields (doing a i l (out-Statement x)) (Err f) → f ≡ eval.BadType → StopsIn p d h w (Body o m arguments (x ∷ rest) ∷ []) w BadType
 lacks-read {p} {o = o} {w = w} {arguments = arguments} {x = x} {a = a} {i = i} {l = l} m rest some objects this given yields is =
     let At : EvalFault → Type 0 = λ g. Yields (doing a i l (out-Statement x)) (Err g) in
     let none : doing w.objects o arguments (out-Statement x) ≡ None = moved (λ b j k. doing b j k (out-Statement x) ≡ None) objects this given (subst At is yields) in

@@ -12,7 +12,7 @@ use Rattle.object_tree.specs.declared.object.Object.{Object}
 use Rattle.object_tree.specs.Objects.{written, class_of}
 use Rattle.machine_rules.specs.Good.{AreTyped}
 use Rattle.object_tree.specs.Typed.{IsTyped}
-use Rattle.machine_rules.specs.Goes.{IsMember, IsField}
+use Rattle.machine_rules.specs.Reaches.{IsMember, IsField}
 use Rattle.machine_rules.proofs.Shapes.{classes-same, shapes-written}
 
 -- ---- what numbers lead to is unique

@@ -22,7 +22,7 @@ use Rattle.machine_state.specs.declared.entry.Entry.{Entry}
 use Rattle.machine_rules.specs.Good.{AreTyped, ArgumentsFit}
 use Rattle.machine_rules.specs.Runs.{Rules, done, then}
 use Rattle.machine_rules.specs.Sound.{Sound, Joined}
-use Rattle.machine_rules.specs.Goes.{Goes, Breaks, Ends}
+use Rattle.machine_rules.specs.Reaches.{Reaches, StopsIn, Ends}
 use Rattle.machine_rules.specs.Keeps.{StayThere, AllJoined, Keeps, KeepsWorld}
 use Rattle.machine_rules.proofs.Shapes.{shapes-written, classes-same}
 use Rattle.std.specs.Option.{option_map}
@@ -159,29 +159,29 @@ pub some-stack : (h : ℕ) → (below : List Activation) × (length below ≡ h)
 some-stack zero = ([], refl)
 some-stack (suc h) = let q = some-stack h in (Update [] ∷ q.0, ap suc q.1)
 
-pub goes-keeps : {p : Loaded} {d h : ℕ} {w v : World} {a b : List Activation} → Goes p d h w a v b → KeepsWorld p w v
-goes-keeps {h = h} x =
+pub reaches-keeps : {p : Loaded} {d h : ℕ} {w v : World} {a b : List Activation} → Reaches p d h w a v b → KeepsWorld p w v
+reaches-keeps {h = h} x =
     let q = some-stack h in
     let kept = rules-kept (x.runs q.0 q.1) in
     record { objects = kept.objects; joined = kept.joined; connected = kept.connected; paid = kept.paid; events = kept.events; fewer = kept.fewer }
 
-pub breaks-keeps : {p : Loaded} {d h : ℕ} {w v : World} {a : List Activation} {f : Fault} → Breaks p d h w a v f → KeepsWorld p w v
-breaks-keeps {h = h} x =
+pub stops-keeps : {p : Loaded} {d h : ℕ} {w v : World} {a : List Activation} {f : Fault} → StopsIn p d h w a v f → KeepsWorld p w v
+stops-keeps {h = h} x =
     let q = some-stack h in
-    let kept = rules-kept ((x.breaks q.0 q.1).1) in
+    let kept = rules-kept ((x.stops q.0 q.1).1) in
     record { objects = kept.objects; joined = kept.joined; connected = kept.connected; paid = kept.paid; events = kept.events; fewer = kept.fewer }
 
 -- whatever a call does, it keeps these
 pub ends-keeps : {p : Loaded} {d h : ℕ} {w v : World} {a b : List Activation} (r : Result (Unit {0}) Fault) → Ends p d h w a v b r → KeepsWorld p w v
-ends-keeps (Ok _) x = goes-keeps x.cases
-ends-keeps (Err f) x = breaks-keeps x.cases
+ends-keeps (Ok _) x = reaches-keeps x.cases
+ends-keeps (Err f) x = stops-keeps x.cases
 
-pub goes-typed : {p : Loaded} {d h : ℕ} {w v : World} {a b : List Activation} → Goes p d h w a v b → AreTyped p w.objects → AreTyped p v.objects
-goes-typed {h = h} x typed = let q = some-stack h in rules-typed (x.runs q.0 q.1) typed
+pub reaches-typed : {p : Loaded} {d h : ℕ} {w v : World} {a b : List Activation} → Reaches p d h w a v b → AreTyped p w.objects → AreTyped p v.objects
+reaches-typed {h = h} x typed = let q = some-stack h in rules-typed (x.runs q.0 q.1) typed
 
 pub ends-typed : {p : Loaded} {d h : ℕ} {w v : World} {a b : List Activation} (r : Result (Unit {0}) Fault) → Ends p d h w a v b r → AreTyped p w.objects → AreTyped p v.objects
-ends-typed (Ok _) x typed = goes-typed x.cases typed
-ends-typed {h = h} (Err f) x typed = let q = some-stack h in rules-typed ((x.cases.breaks q.0 q.1).1) typed
+ends-typed (Ok _) x typed = reaches-typed x.cases typed
+ends-typed {h = h} (Err f) x typed = let q = some-stack h in rules-typed ((x.cases.stops q.0 q.1).1) typed
 
 -- ---- the world stays sound
 
@@ -192,8 +192,8 @@ keeps-sound keeps typed sound = record { typed = typed; joined = keeps.joined so
 pub ends-sound : {p : Loaded} {d h : ℕ} {w v : World} {a b : List Activation} (r : Result (Unit {0}) Fault) → Ends p d h w a v b r → Sound p w.objects w.connections → Sound p v.objects v.connections
 ends-sound r x sound = keeps-sound (ends-keeps r x) (ends-typed r x sound.typed) sound
 
-pub goes-sound : {p : Loaded} {d h : ℕ} {w v : World} {a b : List Activation} → Goes p d h w a v b → Sound p w.objects w.connections → Sound p v.objects v.connections
-goes-sound x sound = keeps-sound (goes-keeps x) (goes-typed x sound.typed) sound
+pub reaches-sound : {p : Loaded} {d h : ℕ} {w v : World} {a b : List Activation} → Reaches p d h w a v b → Sound p w.objects w.connections → Sound p v.objects v.connections
+reaches-sound x sound = keeps-sound (reaches-keeps x) (reaches-typed x sound.typed) sound
 
 pub keeps-refl : {p : Loaded} {w : World} → KeepsWorld p w w
 keeps-refl = record { objects = λ o class is. is; joined = λ all. all; connected = omega arith; paid = omega arith; events = refl; fewer = omega arith }

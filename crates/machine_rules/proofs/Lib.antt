@@ -1,6 +1,6 @@
 pub mod Shapes
 pub mod Keeps
-pub mod Going
+pub mod Reaching
 pub mod Fields
 pub mod Beginning
 pub mod Writing

@@ -16,7 +16,7 @@ use Rattle.machine_state.specs.Connections.{next_used}
 use Rattle.machine_state.specs.Objects.{shown}
 use Rattle.machine_state.specs.State.{State, Place, Activation, Body, Emit, Update}
 use Rattle.machine_rules.specs.Doings.{Doing, Write, Begin, Choose, Nothing}
-use Rattle.machine_rules.specs.Rules.{Rule, RuleAt, BodyRule, StatementRule, Does, EmitRule, Uses, UpdateRule, Notifies, Begins, Writes, IsNotified, changed, unchanged, silent, begun, pushed}
+use Rattle.machine_rules.specs.Rules.{Rule, RuleAt, BodyRule, Does, EmitRule, Uses, UpdateRule, Notifies, Begins, Writes, IsNotified, changed, unchanged, silent, begun, pushed}
 use Rattle.machine_rules.proofs.Fields.{some-is, class-unique, method-unique}
 
 -- two methods of one number of one object's class

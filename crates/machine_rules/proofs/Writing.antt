@@ -24,8 +24,8 @@ use Rattle.machine_rules.specs.Rules as rules
 use Rattle.machine_rules.specs.Rules.{Writes, Notifies, IsNotified, begun}
 use Rattle.machine_rules.specs.Good.{AreTyped, ArgumentsFit, IsWell}
 use Rattle.machine_state.specs.Worlds.{at, set_in}
-use Rattle.machine_rules.specs.Goes.{Goes, Breaks, Ends, Calls, Sets, IsMember, IsField, Announces, MayAnnounce, places_of, Changes, changed, unchanged, silent}
-use Rattle.machine_rules.proofs.Going.{goes-high, ends-after, ends-lifted, breaks-deep, breaks-ill, breaks-stuck}
+use Rattle.machine_rules.specs.Reaches.{Reaches, StopsIn, Ends, Calls, Sets, IsMember, IsField, Announces, MayAnnounce, places_of, Changes, changed, unchanged, silent}
+use Rattle.machine_rules.proofs.Reaching.{reaches-high, ends-after, ends-lifted, stops-deep, stops-ill, stops-stuck}
 use Rattle.machine_rules.proofs.Fields.{some-is, class-unique, method-unique, typed-written, written-typed, field-written, old-there, types-get, map-get, kind_of}
 use Rattle.machine_rules.specs.Sound.{Sound}
 use Rattle.machine_rules.proofs.Beginning.{fit-of}
@@ -72,34 +72,34 @@ ends-written {p} {d} {h} {o} {q} {w} {v} {u} {from} {to} {x} {property} {new} {e
     let old = old-there f typed in
     let target : World = written_world w (h + 2) o x q property new in
     let target_is : v ≡ target = v_is ∙ ap (λ (e : Entry). set_in w e o x q new) entry_is in
-    let Family : World → Type 0 = λ k. Goes p d h w (from ∷ []) k (Update (places_of o q result) ∷ to ∷ []) in
-    let went : Goes p d h w (from ∷ []) target (Update (places_of o q result) ∷ to ∷ []) =
-    goes-high (λ below e. sets.gives below _ (writes-there w from to below f old.1 (changes old.0 old.1) e)) (λ below. tt) room (typed-written f typed has) refl some in
+    let Family : World → Type 0 = λ k. Reaches p d h w (from ∷ []) k (Update (places_of o q result) ∷ to ∷ []) in
+    let went : Reaches p d h w (from ∷ []) target (Update (places_of o q result) ∷ to ∷ []) =
+    reaches-high (λ below e. sets.gives below _ (writes-there w from to below f old.1 (changes old.0 old.1) e)) (λ below. tt) room (typed-written f typed has) refl some in
     ends-after (subst Family (sym target_is) went) (ends-lifted rest)
 
 -- activations would nest too deep
-pub breaks-write-deep : {p : Loaded} {d h o q : ℕ} {w : World} {from to : Activation} {x : Object} {property : MetaProperty} {new : Value} {result : Option ℕ} →
+pub stops-write-deep : {p : Loaded} {d h o q : ℕ} {w : World} {from to : Activation} {x : Object} {property : MetaProperty} {new : Value} {result : Option ℕ} →
     Sets p w from to o q new → (f : IsField p w.objects o q x property) → AreTyped p w.objects → Has p (class_of w.objects) new property.kind → 0 < w.left → d ≡ h + 1 →
-    ((old : Value) → slice_get x.values q ≡ Some old → Changes old new property.notify result) → Breaks p d h w (from ∷ []) w TooDeep
-breaks-write-deep {h = h} {o = o} {q = q} {w = w} {from = from} {to = to} {x = x} {property = property} {new = new} {result = result} sets f typed has some deep changes =
+    ((old : Value) → slice_get x.values q ≡ Some old → Changes old new property.notify result) → StopsIn p d h w (from ∷ []) w TooDeep
+stops-write-deep {h = h} {o = o} {q = q} {w = w} {from = from} {to = to} {x = x} {property = property} {new = new} {result = result} sets f typed has some deep changes =
     let old = old-there f typed in
     let change = changes old.0 old.1 in
-    breaks-deep some (λ below e. (at (written_world w (h + 2) o x q property new) (Update (places_of o q result) ∷ to ∷ below), sets.gives below _ (writes-there w from to below f old.1 change e), record { arguments = λ higher. tt; values = typed-written f typed has }, omega (arith, e, deep)))
+    stops-deep some (λ below e. (at (written_world w (h + 2) o x q property new) (Update (places_of o q result) ∷ to ∷ below), sets.gives below _ (writes-there w from to below f old.1 change e), record { arguments = λ higher. tt; values = typed-written f typed has }, omega (arith, e, deep)))
 
 -- the value isn't of the property's type
-pub breaks-write-ill : {p : Loaded} {d h o q : ℕ} {w : World} {from to : Activation} {x : Object} {property : MetaProperty} {new : Value} {result : Option ℕ} →
+pub stops-write-ill : {p : Loaded} {d h o q : ℕ} {w : World} {from to : Activation} {x : Object} {property : MetaProperty} {new : Value} {result : Option ℕ} →
     Sets p w from to o q new → (f : IsField p w.objects o q x property) → AreTyped p w.objects → (¬ Has p (class_of w.objects) new property.kind) → 0 < w.left →
-    ((old : Value) → slice_get x.values q ≡ Some old → Changes old new property.notify result) → Breaks p d h w (from ∷ []) w BadType
-breaks-write-ill {p} {o = o} {q = q} {w = w} {from = from} {to = to} {x = x} {property = property} {new = new} {result = result} sets f typed ill some changes =
+    ((old : Value) → slice_get x.values q ≡ Some old → Changes old new property.notify result) → StopsIn p d h w (from ∷ []) w BadType
+stops-write-ill {p} {o = o} {q = q} {w = w} {from = from} {to = to} {x = x} {property = property} {new = new} {result = result} sets f typed ill some changes =
     let old = old-there f typed in
     let change = changes old.0 old.1 in
-    breaks-ill some (λ below.
+    stops-ill some (λ below.
     let t : State = at (written_world w (length below + 2) o x q property new) (Update (places_of o q result) ∷ to ∷ below) in
     (t, sets.gives below t (writes-there w from to below f old.1 change refl), λ (well : IsWell p (at w (from ∷ below)) t). ill (written-typed f typed well.values)))
 
 -- there is no such property
-pub breaks-no-field : {p : Loaded} {d h o q : ℕ} {w : World} {from to : Activation} {new : Value} → Sets p w from to o q new → ((x : Object) (property : MetaProperty) → ¬ IsField p w.objects o q x property) → 0 < w.left → Breaks p d h w (from ∷ []) w BadType
-breaks-no-field sets none some = breaks-stuck some (λ below t r. let k = sets.only below t r in none k.object k.property (record { is_object = k.is_object; class = k.class; is_class = k.is_class; is_property = k.is_property }))
+pub stops-no-field : {p : Loaded} {d h o q : ℕ} {w : World} {from to : Activation} {new : Value} → Sets p w from to o q new → ((x : Object) (property : MetaProperty) → ¬ IsField p w.objects o q x property) → 0 < w.left → StopsIn p d h w (from ∷ []) w BadType
+stops-no-field sets none some = stops-stuck some (λ below t r. let k = sets.only below t r in none k.object k.property (record { is_object = k.is_object; class = k.class; is_class = k.is_class; is_property = k.is_property }))
 
 -- ---- notifications
 

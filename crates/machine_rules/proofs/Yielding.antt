@@ -17,7 +17,7 @@ use Rattle.machine_rules.specs.declared.doing.Doing.{Doing as Coded}
 use Rattle.machine_rules.specs.Doings.{Doing, Write, Begin, Choose, Nothing, on_object, chosen_by, doing}
 use Rattle.machine_rules.specs.Paths.{path_value, value_of, values_of}
 use Rattle.machine_rules.specs.Coded.{Yields, chosen_of}
-use Rattle.machine_rules.specs.Goes.{Finds, Judges}
+use Rattle.machine_rules.specs.Reaches.{Finds, Judges}
 
 -- a path that leads to no object
 no-object : (act : ℕ → Option Doing) (found : Option Value) → ((r : Option ℕ) → found ≢ Some (value.Ref r)) → on_object act found ≡ None

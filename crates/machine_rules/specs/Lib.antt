@@ -7,5 +7,5 @@ pub mod Sound
 pub mod Keeps
 pub mod Remaining
 pub mod Coded
-pub mod Goes
+pub mod Reaches
 pub mod Laws

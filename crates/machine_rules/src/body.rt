@@ -8,7 +8,7 @@ ghost use Rattle.machine_rules.specs.Sound.{Sound};
 ghost use Rattle.machine_state.specs.State.{Body};
 ghost use Rattle.machine_rules.specs.Coded.{meant};
 ghost use Rattle.machine_rules.specs.Doings.{doing};
-ghost use Rattle.machine_rules.specs.Goes.{Ends, Advances};
+ghost use Rattle.machine_rules.specs.Reaches.{Ends, Advances};
 
 use crate::doing::Doing;
 use crate::paths::Scope;
@@ -36,7 +36,7 @@ impl Setting {
     {
         let mut left = Remaining::all(self.alloc, statements);
         while let Some(statement) = left.next() {
-            world.is_due()?;
+            world.require_rule()?;
             let doing = self.scope(world, object, arguments).doing_of(statement)?;
             self.carry_out(world, height, doing, &mut left)?;
         }

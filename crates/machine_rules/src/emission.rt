@@ -5,7 +5,7 @@ ghost use Rattle.machine_state.specs.Connections.{next_used};
 ghost use Rattle.machine_rules.specs.Good.{ArgumentsFit};
 ghost use Rattle.machine_rules.specs.Sound.{Sound, Joined};
 ghost use Rattle.machine_state.specs.State.{Activation, Emit};
-ghost use Rattle.machine_rules.specs.Goes.{Ends, Calls, OnlyCalls};
+ghost use Rattle.machine_rules.specs.Reaches.{Ends, Calls, OnlyCalls};
 ghost use Rattle.machine_rules.specs.Keeps.{KeepsWorld};
 
 use crate::setting::{Setting, front};
@@ -55,7 +55,7 @@ impl Setting {
         requires emitted { ArgumentsFit self.now.meta world.old.objects connection.sender connection.signal arguments.now }
         ensures ends { (o g used last : ℕ) → next_used world.old.objects world.old.connections o g used last ≡ Some connection → Ends self.now.meta self.now.depth height world.old (Emit o g arguments.now used last ∷ []) world.new (Emit o g arguments.now connection.number last ∷ []) result }
     {
-        world.is_due()?;
+        world.require_rule()?;
         let Some((_, method)) = self.member(world, connection.receiver, connection.method) else {
             unreachable!()
         };

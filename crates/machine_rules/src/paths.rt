@@ -3,7 +3,7 @@
 ghost use Rattle.std.specs.Prelude.{◌≡◌, IfOk};
 ghost use Rattle.std.specs.Option.{option_copied};
 ghost use Rattle.expressions.specs.Evaluation.{Evaluates, EvaluatesAll};
-ghost use Rattle.machine_rules.specs.Goes.{Finds, Judges};
+ghost use Rattle.machine_rules.specs.Reaches.{Finds, Judges};
 ghost use Rattle.machine_rules.specs.Paths.{default, root_value, step_value, path_value, value_of, values_of};
 
 use expressions::{self, EvalFault};

@@ -5,7 +5,7 @@ ghost use Rattle.std.specs.Option.{option_copied};
 ghost use Rattle.signatures.specs.declared.value.Value.{Value as AValue};
 ghost use Rattle.machine_rules.specs.Sound.{Sound};
 ghost use Rattle.machine_state.specs.State.{Activation, Update};
-ghost use Rattle.machine_rules.specs.Goes.{Ends, Sets, Announces, MayAnnounce, places_of, Changes};
+ghost use Rattle.machine_rules.specs.Reaches.{Ends, Sets, Announces, MayAnnounce, places_of, Changes};
 
 use crate::setting::{Setting, front};
 use machine_state::{Fault, World, may_nest, same_value};
@@ -80,7 +80,7 @@ impl Setting {
         requires announces { Announces self.now.meta world.old.objects object property signal }
         ensures ends { Ends self.now.meta self.now.depth height world.old (Update (places_of object property (Some signal)) ∷ []) world.new (Update [] ∷ []) result }
     {
-        world.is_due()?;
+        world.require_rule()?;
         let Some((found, declared)) = self.member(world, object, signal) else {
             unreachable!()
         };

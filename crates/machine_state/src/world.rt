@@ -96,8 +96,8 @@ impl World {
         Ok(())
     }
 
-    /// Whether a rule is left.
-    pub fn is_due(&self) -> Result<(), Fault>
+    /// `Steps` where no rule is left; nothing changes.
+    pub fn require_rule(&self) -> Result<(), Fault>
         ensures { IsLeft self.now result }
     {
         if self.left == 0 {

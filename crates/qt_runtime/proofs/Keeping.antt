@@ -17,7 +17,7 @@ use Rattle.qt_runtime.specs.declared.events.invoke.Invocation.TheVariants.{Emit 
 use Rattle.qt_runtime.specs.Judgement.{becomes, gives, goes_on}
 use Rattle.qt_runtime.specs.Runs.{Runs, done, rules, takes}
 use Rattle.qt_runtime.specs.Takes.{judged, Takes, accepts, refuses}
-use Rattle.qt_runtime.specs.Taking.{Keeps, Took}
+use Rattle.qt_runtime.specs.Taking.{WorldInvariant, Took}
 use Rattle.qt_runtime.specs.events.Block.{block}
 use Rattle.qt_runtime.specs.events.Invoke.{invoke}
 use Rattle.qt_runtime.proofs.Preservation.{Invariant, runs-invariant}
@@ -78,12 +78,12 @@ runs-pay (takes x good rest) =
 pub invariant-at : {p : Loaded} (w : World) → Sound p w.objects w.connections → Invariant p (at w [])
 invariant-at w sound = record { sound = record { typed = sound.typed; joined = sound.joined }; stands = tt }
 
-keeps-run : {p : Loaded} {d : ℕ} {w v : World} {stack : List Activation} {es : List Event} → IsSound p → Keeps p w → Runs p d (at w []) w.left es (at v stack) v.left → Keeps p v
+keeps-run : {p : Loaded} {d : ℕ} {w v : World} {stack : List Activation} {es : List Event} → IsSound p → WorldInvariant p w → Runs p d (at w []) w.left es (at v stack) v.left → WorldInvariant p v
 keeps-run {w = w} sound keeps runs =
     let up = runs-invariant sound runs (invariant-at w keeps.sound) in
     let pays = runs-pay runs in
     record { sound = record { typed = up.sound.typed; joined = up.sound.joined }; events = omega (arith, keeps.events, pays.events); connected = omega (arith, keeps.connected, pays.connected) }
 
-pub keeps-took : {p : Loaded} {d : ℕ} {w v : World} {e : Event} (r : Result Answer Fault) → IsSound p → Keeps p w → Took p d w e v r → Keeps p v
+pub keeps-took : {p : Loaded} {d : ℕ} {w v : World} {e : Event} (r : Result Answer Fault) → IsSound p → WorldInvariant p w → Took p d w e v r → WorldInvariant p v
 keeps-took (Ok a) sound keeps took = keeps-run sound keeps took.cases.0.runs
 keeps-took (Err f) sound keeps took = keeps-run sound keeps took.cases.runs

@@ -47,7 +47,7 @@ use Rattle.machine_rules.specs.Runs.{Rules}
 use Rattle.machine_rules.specs.Runs as of_rules
 use Rattle.machine_rules.specs.Sound.{Sound, Joined}
 use Rattle.machine_rules.specs.Keeps.{StayThere, Keeps}
-use Rattle.machine_rules.specs.Goes.{IsField}
+use Rattle.machine_rules.specs.Reaches.{IsField}
 use Rattle.machine_rules.proofs.Fields.{some-is, method-unique, field-written}
 use Rattle.qt_runtime.proofs.Changes.{map-change, map-adopted}
 use Rattle.qt_runtime.proofs.Lists.{all-snoc, all-weaken, get-append}

@@ -28,7 +28,7 @@ use Rattle.machine_state.specs.Connections.{next_used}
 use Rattle.machine_rules.specs.Runs.{IsStuck}
 use Rattle.qt_runtime.specs.Runs.{Reason}
 use Rattle.qt_runtime.specs.Causes.{LacksValue, Cause}
-use Rattle.machine_rules.specs.Goes.{IsField}
+use Rattle.machine_rules.specs.Reaches.{IsField}
 use Rattle.machine_rules.proofs.Beginning.{find-some, used-is}
 use Rattle.machine_rules.proofs.Fields.{old-there}
 use Rattle.qt_runtime.proofs.Inherited.{method-below, property-below}

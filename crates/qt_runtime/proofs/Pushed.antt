@@ -21,7 +21,7 @@ use Rattle.machine_state.specs.Accepting.{accepted, with_entry}
 use Rattle.machine_state.specs.Worlds.{at, after}
 use Rattle.machine_state.proofs.Found.{change-there}
 use Rattle.qt_runtime.specs.Takes.{judged, accepts}
-use Rattle.machine_rules.specs.Goes.{Ends, IsMember, IsField, begin_entry, Changes, places_of}
+use Rattle.machine_rules.specs.Reaches.{Ends, IsMember, IsField, begin_entry, Changes, places_of}
 use Rattle.machine_rules.specs.Good.{AreTyped, ArgumentsFit, TopFits}
 use Rattle.machine_rules.specs.Rules.{begun}
 use Rattle.machine_rules.proofs.Beginning.{top_of, top-fits}

@@ -12,7 +12,7 @@ use Rattle.machine_state.specs.declared.world.World.{World}
 use Rattle.machine_state.specs.Accepting.{refused}
 use Rattle.machine_state.specs.State.{State, Activation, IsIdle}
 use Rattle.machine_state.specs.Worlds.{at, after, Refuses}
-use Rattle.machine_rules.specs.Goes.{Ends}
+use Rattle.machine_rules.specs.Reaches.{Ends}
 use Rattle.machine_rules.specs.Good.{AreTyped, IsGood, TopFits}
 use Rattle.machine_rules.specs.Runs.{Rules}
 use Rattle.machine_rules.specs.Runs as of_rules
@@ -107,5 +107,5 @@ took-quiet {p} {d} {w} {v} t e judged empty typed some is =
 pub took-run : {p : Loaded} {d : ℕ} {w m v : World} {top : Activation} {r : Result (Unit {0}) Fault} (e : Event) → Takes p e (at w []) (at m (top ∷ [])) → IsGood p d (at w []) (at m (top ∷ [])) → IsAccepted p w e → 0 < w.left → m.left ≡ w.left - 1 → Ends p d 0 m (top ∷ []) v [] r → MatchResult r (λ _. Took p d w e v (Ok answer.Done)) (λ f. Halted p d w e v f)
 took-run {r = Ok _} e x good pass some less ends = record { cases = (record { runs = runs-taken e x good some less (ends.cases.runs [] refl) }, pass) }
 took-run {p = p} {d = d} {v = v} {r = Err f} e x good pass some less ends =
-    let q = ends.cases.breaks [] refl in
+    let q = ends.cases.stops [] refl in
     record { taken = e ∷ []; rest = []; split = refl; stack = q.0; runs = runs-taken e x good some less q.1; reason = reason-of p d (at v q.0) v.left [] f q.2 }

@@ -24,7 +24,7 @@ use Rattle.machine_state.specs.Accepting.{accepted, refused}
 use Rattle.machine_state.specs.Refusals.{refusal_number}
 use Rattle.machine_state.specs.State.{State, Activation}
 use Rattle.machine_state.specs.Worlds.{at, after, Refuses}
-use Rattle.machine_rules.specs.Goes.{IsField}
+use Rattle.machine_rules.specs.Reaches.{IsField}
 use Rattle.machine_rules.specs.Rules.{Begins, Writes}
 use Rattle.machine_rules.specs.Sound.{Sound}
 use Rattle.qt_runtime.specs.declared.events.invoke.Invocation.{Invocation}
@@ -35,7 +35,7 @@ use Rattle.qt_runtime.specs.Runs.{Runs, Reason}
 use Rattle.qt_runtime.specs.Takes.{judged}
 
 -- what every machine's world keeps: its parts fit together, and no count is near its limit
-pub record Keeps (p : Loaded) (w : World) : Type 0 where
+pub record WorldInvariant (p : Loaded) (w : World) : Type 0 where
   pub sound : Sound p w.objects w.connections
   pub events : w.events + w.left < 2 ^ 63
   pub connected : w.connected + w.left < 2 ^ 63
@@ -122,6 +122,6 @@ blocking true name = event.Block name
 blocking false name = event.Unblock name
 
 -- what every machine keeps
-pub record IsKept (p : Loaded) (depth : ℕ) (w : World) : Type 0 where
+pub record MachineInvariant (p : Loaded) (depth : ℕ) (w : World) : Type 0 where
   pub room : 0 < depth
-  pub keeps : Keeps p w
+  pub keeps : WorldInvariant p w

@@ -21,7 +21,7 @@ impl Model for Machine {
     ghost use Rattle.std.specs.Coded.{codes};
     ghost use Rattle.meta_model.specs.contracts.object.Statement as statement;
     ghost use Rattle.qt_runtime.specs.Seen.{Seen};
-    ghost use Rattle.qt_runtime.specs.Taking.{IsKept};
+    ghost use Rattle.qt_runtime.specs.Taking.{MachineInvariant};
 
     ghost Value = { Seen };
 
@@ -29,7 +29,7 @@ impl Model for Machine {
 
     ghost view = { λ m. record { program = m.setting.meta; depth = m.setting.depth; world = m.world; stopped = m.stopped } };
 
-    ghost invariant = { λ m. IsKept m.setting.meta m.setting.depth m.world };
+    ghost invariant = { λ m. MachineInvariant m.setting.meta m.setting.depth m.world };
 }
 
 impl Machine {

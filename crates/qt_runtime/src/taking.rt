@@ -1,7 +1,7 @@
 //! The taking of events.
 
 ghost use Rattle.std.specs.Prelude.{◌<◌};
-ghost use Rattle.qt_runtime.specs.Taking.{Keeps, Took};
+ghost use Rattle.qt_runtime.specs.Taking.{WorldInvariant, Took};
 
 use crate::events::adopt::adopt;
 use crate::events::assign::assign;
@@ -16,7 +16,7 @@ use script_lang::Event;
 /// Takes an event, and runs until nothing is going on.
 pub fn take_event(setting: &Setting, world: &mut World, event: &Event) -> Result<Answer, Fault>
     requires depth { 0 < setting.now.depth }
-    requires keeps { Keeps setting.now.meta world.old }
+    requires keeps { WorldInvariant setting.now.meta world.old }
     ensures { Took setting.now.meta setting.now.depth world.old event.now world.new result }
 {
     if world.left == 0 {

@@ -13,7 +13,7 @@ use Rattle.script_lang.specs.declared.event.Input.{Input}
 use Rattle.machine_state.specs.declared.refusal.Refusal.TheVariants.{NoMember, BadArgs}
 use Rattle.machine_state.specs.declared.world.World.{World}
 use Rattle.machine_state.specs.Worlds.{at}
-use Rattle.machine_rules.specs.Goes.{IsField}
+use Rattle.machine_rules.specs.Reaches.{IsField}
 use Rattle.machine_rules.proofs.Fields.{some-is, class-unique}
 use Rattle.qt_runtime.specs.declared.judgement.NotAccepted.{NotAccepted}
 use Rattle.qt_runtime.specs.Judgement.{Numbered, found, missing, holds, fails, becomes, goes_on, ends, IsNotAccepted}

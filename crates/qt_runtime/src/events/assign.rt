@@ -5,7 +5,7 @@ ghost use Rattle.script_lang.specs.declared.event.Event.TheVariants.{Set};
 ghost use Rattle.meta_model.specs.declared.object.MetaProperty.{MetaProperty as AMetaProperty};
 ghost use Rattle.machine_state.specs.Worlds.{at};
 ghost use Rattle.qt_runtime.specs.Judgement.{IsNotAccepted, Numbered};
-ghost use Rattle.qt_runtime.specs.Taking.{Keeps, Took, WritesTo, ValueFits};
+ghost use Rattle.qt_runtime.specs.Taking.{WorldInvariant, Took, WritesTo, ValueFits};
 ghost use Rattle.qt_runtime.specs.events.Assign.{assign, IsPropertyOf};
 ghost use Rattle.script_lang.specs.declared.event.Event.{Event as AnEvent};
 
@@ -36,7 +36,7 @@ pub fn assign(
 ) -> Result<Answer, Fault>
     requires depth { 0 < setting.now.depth }
     requires left { 0 < world.old.left }
-    requires keeps { Keeps setting.now.meta world.old }
+    requires keeps { WorldInvariant setting.now.meta world.old }
     ensures { Took setting.now.meta setting.now.depth world.old (Set name.now property.now input.now) world.new result }
 {
     match judge(setting, world, name, property, input) {
@@ -101,7 +101,7 @@ fn write(
 ) -> Result<Answer, Fault>
     requires depth { 0 < setting.now.depth }
     requires left { 0 < world.old.left }
-    requires keeps { Keeps setting.now.meta world.old }
+    requires keeps { WorldInvariant setting.now.meta world.old }
     requires fits { ValueFits setting.now.meta world.old.objects object property value }
     ensures { (e : AnEvent) → WritesTo setting.now.meta world.old object property value e → Took setting.now.meta setting.now.depth world.old e world.new result }
 {

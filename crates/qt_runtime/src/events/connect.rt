@@ -8,7 +8,7 @@ ghost use Rattle.signatures.specs.declared.kind.Kind.TheVariants.{Queued};
 ghost use Rattle.machine_state.specs.Accepting.{accepted};
 ghost use Rattle.machine_state.specs.Worlds.{at, connected_by};
 ghost use Rattle.qt_runtime.specs.Judgement.{IsNotAccepted, Numbered};
-ghost use Rattle.qt_runtime.specs.Taking.{Keeps, Took};
+ghost use Rattle.qt_runtime.specs.Taking.{WorldInvariant, Took};
 ghost use Rattle.qt_runtime.specs.events.Connect.{connect, named_signal, IsMethodOf, IsSignalOf};
 
 use crate::events::named::find_living;
@@ -22,7 +22,7 @@ use signatures::{Kind, ObjectId, Sig};
 /// Makes a connection.
 pub fn connect(setting: &Setting, world: &mut World, c: &Connect) -> Result<Answer, Fault>
     requires left { 0 < world.old.left }
-    requires keeps { Keeps setting.now.meta world.old }
+    requires keeps { WorldInvariant setting.now.meta world.old }
     ensures { Took setting.now.meta setting.now.depth world.old (ConnectEvent c.now) world.new result }
 {
     match judge(setting, world, c) {

@@ -2,7 +2,7 @@
 
 ghost use Rattle.std.specs.Prelude.{◌≡◌, ◌<◌};
 ghost use Rattle.script_lang.specs.declared.event.Event.TheVariants.{New};
-ghost use Rattle.qt_runtime.specs.Taking.{Keeps, Took};
+ghost use Rattle.qt_runtime.specs.Taking.{WorldInvariant, Took};
 ghost use Rattle.qt_runtime.specs.Taking.{creation_reason};
 
 use machine_rules::Setting;
@@ -18,7 +18,7 @@ pub fn create(
     class: &Name,
 ) -> Result<Answer, Fault>
     requires left { 0 < world.old.left }
-    requires keeps { Keeps setting.now.meta world.old }
+    requires keeps { WorldInvariant setting.now.meta world.old }
     ensures { Took setting.now.meta setting.now.depth world.old (New name.now class.now) world.new result }
 {
     match world.create(&setting.meta, name, class) {

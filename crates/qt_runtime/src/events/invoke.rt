@@ -5,7 +5,7 @@ ghost use Rattle.meta_model.specs.declared.object.MetaMethod.{MetaMethod as AMet
 ghost use Rattle.machine_state.specs.Worlds.{at};
 ghost use Rattle.machine_rules.specs.Good.{ArgumentsFit};
 ghost use Rattle.qt_runtime.specs.Judgement.{IsNotAccepted, Numbered};
-ghost use Rattle.qt_runtime.specs.Taking.{Keeps, Took, AsksFor, invoking};
+ghost use Rattle.qt_runtime.specs.Taking.{WorldInvariant, Took, AsksFor, invoking};
 ghost use Rattle.qt_runtime.specs.events.Invoke.{invoke, May, IsAskedOf};
 ghost use Rattle.script_lang.specs.declared.event.Event.{Event as AnEvent};
 
@@ -59,7 +59,7 @@ pub fn invoke(
 ) -> Result<Answer, Fault>
     requires depth { 0 < setting.now.depth }
     requires left { 0 < world.old.left }
-    requires keeps { Keeps setting.now.meta world.old }
+    requires keeps { WorldInvariant setting.now.meta world.old }
     ensures { Took setting.now.meta setting.now.depth world.old (invoking invocation name.now called.now inputs.now) world.new result }
 {
     match judge(setting, world, invocation, name, called, inputs) {
@@ -142,7 +142,7 @@ fn begin(
 ) -> Result<Answer, Fault>
     requires depth { 0 < setting.now.depth }
     requires left { 0 < world.old.left }
-    requires keeps { Keeps setting.now.meta world.old }
+    requires keeps { WorldInvariant setting.now.meta world.old }
     requires fit { ArgumentsFit setting.now.meta world.old.objects object method values.now }
     ensures { (e : AnEvent) → AsksFor setting.now.meta world.old object method values.now e → Took setting.now.meta setting.now.depth world.old e world.new result }
 {

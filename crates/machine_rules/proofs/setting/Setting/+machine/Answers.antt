@@ -1,19 +1,18 @@
-use Rattle.std.proofs.Common.{◌∙◌, [], refl, sym, ap, append-nil, arith, Some}
+use Rattle.std.proofs.Common.{◌∙◌, [], refl, sym, ap, arith, Some}
 use Rattle.signatures.specs.declared.value.Value.{Value}
 use Rattle.machine_state.specs.declared.world.World.{World}
 use Rattle.machine_rules.proofs.Fields.{old-there}
-use Rattle.std.proofs.lemmas.List.{drop_more, drop_all}
-use Rattle.machine_rules.proofs.Going.{goes-same, goes-then, breaks-after, breaks-as, ends-after, ends-left, ends-undue, ends-short, ends-unchanged, ends-faulted, ends-ticked}
-use Rattle.machine_rules.proofs.Keeps.{keeps-refl, keeps-trans, ends-keeps, ends-sound, fit-still, goes-typed, goes-keeps, goes-sound}
-use Rattle.machine_rules.proofs.Beginning.{ends-begun, breaks-begin, breaks-no-member, breaks-ill-typed, fit-of, fit-member, next-joined, next-fits, joined-member, delivered-fits, delivery-calls, not-true}
-use Rattle.machine_rules.proofs.Writing.{ends-written, breaks-write-deep, breaks-write-ill, breaks-no-field, announces-in, announced-member, announced-value, announced-fits, announcement-calls, sound-written}
-use Rattle.machine_rules.proofs.Bodies.{does-call, does-call-alone, does-set, does-nothing, does-choose, lacks-read, moved, advances-one, advances-ticked, advances-left}
+use Rattle.machine_rules.proofs.Reaching.{reaches-same, reaches-then, stops-after, stops-as, ends-after, ends-left, ends-undue, ends-short, ends-unchanged, ends-faulted, ends-ticked}
+use Rattle.machine_rules.proofs.Keeps.{keeps-refl, keeps-trans, ends-keeps, ends-sound, fit-still, reaches-typed, reaches-keeps, reaches-sound}
+use Rattle.machine_rules.proofs.Beginning.{ends-begun, stops-begin, stops-no-member, stops-ill-typed, fit-of, fit-member, next-joined, next-fits, joined-member, delivered-fits, delivery-calls, not-true}
+use Rattle.machine_rules.proofs.Writing.{ends-written, stops-write-deep, stops-write-ill, stops-no-field, announces-in, announced-member, announced-value, announced-fits, announcement-calls, sound-written}
+use Rattle.machine_rules.proofs.Bodies.{does-call, does-call-alone, does-set, does-nothing, does-choose, lacks-read, advances-one, advances-ticked, advances-left}
 use Rattle.machine_rules.proofs.setting.Setting.+machine.Goals as goal
 
 -- ---- emissions
 
 pub run_emission-loop-connection-init : goal.run_emission-loop-connection-init
-run_emission-loop-connection-init t c = record { goes = goes-same; keeps = keeps-refl; fewer = omega arith; sound = c.requires.sound }
+run_emission-loop-connection-init t c = record { reaches = reaches-same; keeps = keeps-refl; fewer = omega arith; sound = c.requires.sound }
 
 pub run_emission-deliver-requires : goal.run_emission-deliver-requires
 run_emission-deliver-requires t c = let sound = c.loop-connection.invariant.sound in
@@ -24,11 +23,11 @@ pub run_emission-loop-connection-preserved : goal.run_emission-loop-connection-p
 run_emission-loop-connection-preserved t c =
     let went = c.in_ok-deliver.ensures.ends _ _ _ _ (sym c.in-Some.ensures.value) in
     let keeps = keeps-trans c.loop-connection.invariant.keeps (ends-keeps _ went) in
-    record { goes = goes-then c.loop-connection.invariant.goes went.cases; keeps = keeps; fewer = keeps.fewer; sound = ends-sound _ went c.loop-connection.invariant.sound }
+    record { reaches = reaches-then c.loop-connection.invariant.reaches went.cases; keeps = keeps; fewer = keeps.fewer; sound = ends-sound _ went c.loop-connection.invariant.sound }
 
 pub run_emission-returns-in_err-deliver-clause-ends : goal.run_emission-returns-in_err-deliver-clause-ends
 run_emission-returns-in_err-deliver-clause-ends t c =
-    ends-left _ (breaks-after c.loop-connection.invariant.goes ((c.in_err-deliver.ensures.ends _ _ _ _ (sym c.in-Some.ensures.value)).cases)) c.from_residual.ensures.1
+    ends-left _ (stops-after c.loop-connection.invariant.reaches ((c.in_err-deliver.ensures.ends _ _ _ _ (sym c.in-Some.ensures.value)).cases)) c.from_residual.ensures.1
 
 pub run_emission-returns-in_err-deliver-clause-keeps : goal.run_emission-returns-in_err-deliver-clause-keeps
 run_emission-returns-in_err-deliver-clause-keeps t c =
@@ -41,16 +40,16 @@ run_emission-returns-in_err-deliver-clause-sound t c =
 pub run_emission-returns-clause-ends : goal.run_emission-returns-clause-ends
 run_emission-returns-clause-ends t c =
     let none = sym c.next_used.ensures.value ∙ c.in_default.is in
-    ends-after c.loop-connection.invariant.goes (ends-ticked {b = []} _ (λ below e. rw none refl) (omega arith) c.requires.room c.loop-connection.invariant.sound.typed c.tick.ensures)
+    ends-after c.loop-connection.invariant.reaches (ends-ticked {b = []} _ (λ below e. rw none refl) (omega arith) c.requires.room c.loop-connection.invariant.sound.typed c.tick.ensures)
 
-pub deliver-returns-in_err-is_due : goal.deliver-returns-in_err-is_due
-deliver-returns-in_err-is_due t c = record { ends = λ o g used last found. ends-undue _ c.in_err-is_due.ensures c.from_residual.ensures.1 }
+pub deliver-returns-in_err-require_rule : goal.deliver-returns-in_err-require_rule
+deliver-returns-in_err-require_rule t c = record { ends = λ o g used last found. ends-undue _ c.in_err-require_rule.ensures c.from_residual.ensures.1 }
 
 pub deliver-unreachable-requires : goal.deliver-unreachable-requires
 deliver-unreachable-requires t c = c.in_default.ensures _ _ (joined-member c.requires.joined)
 
 pub deliver-begin-requires : goal.deliver-begin-requires
-deliver-begin-requires t c = (omega arith, (c.requires.room, (c.requires.sound, (c.in_ok-is_due.ensures, delivered-fits c.requires.joined c.requires.emitted c.in-Some.ensures c.front-taken.ensures c.len.ensures))))
+deliver-begin-requires t c = (omega arith, (c.requires.room, (c.requires.sound, (c.in_ok-require_rule.ensures, delivered-fits c.requires.joined c.requires.emitted c.in-Some.ensures c.front-taken.ensures c.len.ensures))))
 
 pub deliver-returns : goal.deliver-returns
 deliver-returns t c = record { ends = λ o g used last found. c.begin.ensures.ends _ _ (delivery-calls o g used last found c.in-Some.ensures c.front-taken.ensures c.len.ensures) }
@@ -58,13 +57,13 @@ deliver-returns t c = record { ends = λ o g used last found. c.begin.ensures.en
 -- ---- the beginning of methods
 
 pub begin_typed-returns-in_default : goal.begin_typed-returns-in_default
-begin_typed-returns-in_default t c = record { ends = λ from to calls only. record { cases = breaks-no-member only (c.in_default.ensures) c.requires.left } }
+begin_typed-returns-in_default t c = record { ends = λ from to calls only. record { cases = stops-no-member only (c.in_default.ensures) c.requires.left } }
 
 pub begin_typed-returns-then-not-have_types : goal.begin_typed-returns-then-not-have_types
 begin_typed-returns-then-not-have_types t c = record {
   ends = λ from to calls only.
       let typed = rw c.as_slice.ensures at c.have_types.ensures in
-      record { cases = breaks-ill-typed calls c.in-Some.ensures (λ h. not-true _ c.if-not-have_types.true (typed.1 h)) c.requires.left };
+      record { cases = stops-ill-typed calls c.in-Some.ensures (λ h. not-true _ c.if-not-have_types.true (typed.1 h)) c.requires.left };
 }
 
 pub begin_typed-begin-requires : goal.begin_typed-begin-requires
@@ -79,7 +78,7 @@ begin-unreachable-requires t c = c.in_default.ensures _ _ (fit-member c.requires
 
 pub begin-returns-in_err-may_nest : goal.begin-returns-in_err-may_nest
 begin-returns-in_err-may_nest t c = record {
-  ends = λ from to calls. ends-left _ (breaks-as c.in_err-may_nest.ensures.1 (breaks-begin calls c.in-Some.ensures c.requires.fit c.requires.sound.typed c.requires.left c.in_err-may_nest.ensures.0)) c.from_residual.ensures.1;
+  ends = λ from to calls. ends-left _ (stops-as c.in_err-may_nest.ensures.1 (stops-begin calls c.in-Some.ensures c.requires.fit c.requires.sound.typed c.requires.left c.in_err-may_nest.ensures.0)) c.from_residual.ensures.1;
 }
 
 pub begin-returns-in_err-entry : goal.begin-returns-in_err-entry
@@ -103,32 +102,32 @@ begin-returns-in-Slot t c = record {
 -- ---- bodies
 
 pub run_body-loop-statement-init : goal.run_body-loop-statement-init
-run_body-loop-statement-init t c = record { goes = rw c.all-left.ensures goes-same; keeps = keeps-refl; fewer = omega arith; sound = c.requires.sound }
+run_body-loop-statement-init t c = record { reaches = rw c.all-left.ensures reaches-same; keeps = keeps-refl; fewer = omega arith; sound = c.requires.sound }
 
-pub run_body-returns-in_err-is_due : goal.run_body-returns-in_err-is_due
-run_body-returns-in_err-is_due t c = record { ends = ends-after c.loop-statement.invariant.goes (ends-undue _ c.in_err-is_due.ensures c.from_residual.ensures.1) }
+pub run_body-returns-in_err-require_rule : goal.run_body-returns-in_err-require_rule
+run_body-returns-in_err-require_rule t c = record { ends = ends-after c.loop-statement.invariant.reaches (ends-undue _ c.in_err-require_rule.ensures c.from_residual.ensures.1) }
 
 pub run_body-returns-in_err-doing : goal.run_body-returns-in_err-doing
 run_body-returns-in_err-doing t c =
-    let came = rw c.in-Some.ensures at c.loop-statement.invariant.goes in
-    record { ends = ends-after came (ends-faulted _ c.in_ok-is_due.ensures (λ is. lacks-read _ _ c.in_ok-is_due.ensures c.scope.ensures.objects c.scope.ensures.this c.scope.ensures.arguments c.in_err-doing.ensures is) c.from_residual-in_err-doing.ensures.1) }
+    let came = rw c.in-Some.ensures at c.loop-statement.invariant.reaches in
+    record { ends = ends-after came (ends-faulted _ c.in_ok-require_rule.ensures (λ is. lacks-read _ _ c.in_ok-require_rule.ensures c.scope.ensures.objects c.scope.ensures.this c.scope.ensures.arguments c.in_err-doing.ensures is) c.from_residual-in_err-doing.ensures.1) }
 
 pub run_body-carry_out-requires : goal.run_body-carry_out-requires
-run_body-carry_out-requires t c = (omega (arith, c.loop-statement.invariant.fewer), (c.requires.room, (c.loop-statement.invariant.sound, c.in_ok-is_due.ensures)))
+run_body-carry_out-requires t c = (omega (arith, c.loop-statement.invariant.fewer), (c.requires.room, (c.loop-statement.invariant.sound, c.in_ok-require_rule.ensures)))
 
 pub run_body-returns-in_err-carry_out : goal.run_body-returns-in_err-carry_out
 run_body-returns-in_err-carry_out t c =
-    let came = rw c.in-Some.ensures at c.loop-statement.invariant.goes in
+    let came = rw c.in-Some.ensures at c.loop-statement.invariant.reaches in
     let is = rw (c.scope.ensures.objects, c.scope.ensures.this, c.scope.ensures.arguments) at c.in_ok-doing.ensures in
-    record { ends = ends-left _ (breaks-after came ((c.in_err-carry_out.ensures.advances _ _ _ _ is).cases)) c.from_residual-in_err-carry_out.ensures.1 }
+    record { ends = ends-left _ (stops-after came ((c.in_err-carry_out.ensures.advances _ _ _ _ is).cases)) c.from_residual-in_err-carry_out.ensures.1 }
 
 pub run_body-loop-statement-preserved : goal.run_body-loop-statement-preserved
 run_body-loop-statement-preserved t c =
-    let came = rw c.in-Some.ensures at c.loop-statement.invariant.goes in
+    let came = rw c.in-Some.ensures at c.loop-statement.invariant.reaches in
     let is = rw (c.scope.ensures.objects, c.scope.ensures.this, c.scope.ensures.arguments) at c.in_ok-doing.ensures in
     let one = (c.in_ok-carry_out.ensures.advances c.args.object c.args.method c.args.arguments.now _ is).cases in
-    let keeps = keeps-trans c.loop-statement.invariant.keeps (goes-keeps one.0) in
-    record { goes = goes-then came one.0; keeps = keeps; fewer = keeps.fewer; sound = goes-sound one.0 c.loop-statement.invariant.sound }
+    let keeps = keeps-trans c.loop-statement.invariant.keeps (reaches-keeps one.0) in
+    record { reaches = reaches-then came one.0; keeps = keeps; fewer = keeps.fewer; sound = reaches-sound one.0 c.loop-statement.invariant.sound }
 
 pub run_body-loop-statement-smaller : goal.run_body-loop-statement-smaller
 run_body-loop-statement-smaller t c =
@@ -137,7 +136,7 @@ run_body-loop-statement-smaller t c =
 
 pub run_body-returns : goal.run_body-returns
 run_body-returns t c =
-    let came = rw c.in_default.ensures.0 at c.loop-statement.invariant.goes in
+    let came = rw c.in_default.ensures.0 at c.loop-statement.invariant.reaches in
     record { ends = ends-after came (ends-ticked {b = []} _ (λ below e. refl) (omega arith) c.requires.room c.loop-statement.invariant.sound.typed c.tick.ensures) }
 
 pub carry_out-returns-in-Write : goal.carry_out-returns-in-Write
@@ -165,17 +164,17 @@ carry_out-returns-in-Nothing t c = record { advances = λ o m arguments x is. ad
 -- ---- writes
 
 pub write-returns-in_default : goal.write-returns-in_default
-write-returns-in_default t c = record { ends = λ from to sets. record { cases = breaks-no-field sets c.in_default.ensures.value c.requires.left } }
+write-returns-in_default t c = record { ends = λ from to sets. record { cases = stops-no-field sets c.in_default.ensures.value c.requires.left } }
 
 pub write-returns-then-not-has_type : goal.write-returns-then-not-has_type
 write-returns-then-not-has_type t c = record {
-  ends = λ from to sets. record { cases = breaks-write-ill sets c.in-Some.ensures.value c.requires.sound.typed (λ h. not-true _ c.if-not-has_type.true (c.has_type.ensures.1 h)) c.requires.left (λ old is. c.signal_of_change-changed.ensures old (c.get.ensures ∙ is)) };
+  ends = λ from to sets. record { cases = stops-write-ill sets c.in-Some.ensures.value c.requires.sound.typed (λ h. not-true _ c.if-not-has_type.true (c.has_type.ensures.1 h)) c.requires.left (λ old is. c.signal_of_change-changed.ensures old (c.get.ensures ∙ is)) };
 }
 
 pub write-returns-in_err-may_nest : goal.write-returns-in_err-may_nest
 write-returns-in_err-may_nest t c = record {
   ends = λ from to sets.
-      ends-left _ (breaks-as c.in_err-may_nest.ensures.1 (breaks-write-deep sets c.in-Some.ensures.value c.requires.sound.typed (c.has_type.ensures.0 c.if-not-has_type.false) c.requires.left c.in_err-may_nest.ensures.0 (λ old is. c.signal_of_change-changed.ensures old (c.get.ensures ∙ is)))) c.from_residual.ensures.1;
+      ends-left _ (stops-as c.in_err-may_nest.ensures.1 (stops-write-deep sets c.in-Some.ensures.value c.requires.sound.typed (c.has_type.ensures.0 c.if-not-has_type.false) c.requires.left c.in_err-may_nest.ensures.0 (λ old is. c.signal_of_change-changed.ensures old (c.get.ensures ∙ is)))) c.from_residual.ensures.1;
 }
 
 pub write-returns-in_err-entry : goal.write-returns-in_err-entry
@@ -204,10 +203,10 @@ run_update-returns-in-None t c = record { ends = rw c.in-None.is (ends-ticked {b
 
 pub run_update-returns-in_ok-notify-in-Some : goal.run_update-returns-in_ok-notify-in-Some
 run_update-returns-in_ok-notify-in-Some t c = let went = c.in_ok-notify-in-Some.ensures.ends.cases in
-    record { ends = rw c.in-Some.is (ends-after went (ends-ticked {b = []} _ (λ below e. refl) (omega arith) c.requires.room (goes-typed went c.requires.sound.typed) c.tick.ensures)) }
+    record { ends = rw c.in-Some.is (ends-after went (ends-ticked {b = []} _ (λ below e. refl) (omega arith) c.requires.room (reaches-typed went c.requires.sound.typed) c.tick.ensures)) }
 
-pub notify-returns-in_err-is_due : goal.notify-returns-in_err-is_due
-notify-returns-in_err-is_due t c = record { ends = ends-undue _ c.in_err-is_due.ensures c.from_residual.ensures.1 }
+pub notify-returns-in_err-require_rule : goal.notify-returns-in_err-require_rule
+notify-returns-in_err-require_rule t c = record { ends = ends-undue _ c.in_err-require_rule.ensures c.from_residual.ensures.1 }
 
 pub notify-unreachable-requires : goal.notify-unreachable-requires
 notify-unreachable-requires t c = c.in_default.ensures _ _ (announced-member c.requires.announces)
@@ -218,12 +217,12 @@ notify-unreachable-requires-in_default-get t c = let there = announced-value c.r
     absurd (cc none)
 
 pub notify-returns-in_err-copy : goal.notify-returns-in_err-copy
-notify-returns-in_err-copy t c = record { ends = ends-short _ c.in_ok-is_due.ensures c.from_residual-in_err-copy.ensures.1 }
+notify-returns-in_err-copy t c = record { ends = ends-short _ c.in_ok-require_rule.ensures c.from_residual-in_err-copy.ensures.1 }
 
 pub notify-begin-requires : goal.notify-begin-requires
 notify-begin-requires t c = let present = sym c.in-Some-get.ensures ∙ ap (λ (v : Value). Some v) (sym c.in_ok-copy.ensures) in
     let cut = rw c.as_slice.ensures at c.front-taken.ensures in
-    (omega arith, (c.requires.room, (c.requires.sound, (c.in_ok-is_due.ensures, announced-fits c.requires.announces c.requires.sound.typed c.in-Some.ensures present cut c.len.ensures))))
+    (omega arith, (c.requires.room, (c.requires.sound, (c.in_ok-require_rule.ensures, announced-fits c.requires.announces c.requires.sound.typed c.in-Some.ensures present cut c.len.ensures))))
 
 pub notify-returns : goal.notify-returns
 notify-returns t c = let present = sym c.in-Some-get.ensures ∙ ap (λ (v : Value). Some v) (sym c.in_ok-copy.ensures) in

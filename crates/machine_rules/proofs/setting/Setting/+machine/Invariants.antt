@@ -1,7 +1,7 @@
 use Rattle.std.proofs.Common.{◌≤◌, ◌+◌, ◌-◌, ◌*◌, [], ◌∷◌}
 use Rattle.machine_state.specs.State.{Body, Emit}
 use Rattle.machine_rules.specs.Sound.{Sound}
-use Rattle.machine_rules.specs.Goes.{Goes}
+use Rattle.machine_rules.specs.Reaches.{Reaches}
 use Rattle.machine_rules.specs.Keeps.{KeepsWorld}
 use Rattle.machine_rules.proofs.setting.Setting.+machine.Given as goal
 
@@ -35,7 +35,7 @@ decreases-notify l = 6 * l.world.now.left + 1
 abbrev pub invariant-run_body-loop-statement : goal.invariant-run_body-loop-statement
 invariant-run_body-loop-statement l =
     record {
-      goes : Goes l.self.meta l.self.depth l.height l.fn.world (Body l.object l.method l.arguments l.statements ∷ []) l.world (Body l.object l.method l.arguments l.left ∷ []);
+      reaches : Reaches l.self.meta l.self.depth l.height l.fn.world (Body l.object l.method l.arguments l.statements ∷ []) l.world (Body l.object l.method l.arguments l.left ∷ []);
       keeps : KeepsWorld l.self.meta l.fn.world l.world;
       fewer : l.world.left ≤ l.fn.world.left;
       sound : Sound l.self.meta l.world.objects l.world.connections;
@@ -47,7 +47,7 @@ decreases-run_body-loop-statement l = l.world.left
 abbrev pub invariant-run_emission-loop-connection : goal.invariant-run_emission-loop-connection
 invariant-run_emission-loop-connection l =
     record {
-      goes : Goes l.self.meta l.self.depth l.height l.fn.world (Emit l.object l.signal l.arguments 0 l.last ∷ []) l.world (Emit l.object l.signal l.arguments l.used l.last ∷ []);
+      reaches : Reaches l.self.meta l.self.depth l.height l.fn.world (Emit l.object l.signal l.arguments 0 l.last ∷ []) l.world (Emit l.object l.signal l.arguments l.used l.last ∷ []);
       keeps : KeepsWorld l.self.meta l.fn.world l.world;
       fewer : l.world.left ≤ l.fn.world.left;
       sound : Sound l.self.meta l.world.objects l.world.connections;

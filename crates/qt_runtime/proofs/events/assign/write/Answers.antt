@@ -1,6 +1,6 @@
 use Rattle.std.proofs.Common.{Ok, Err, List, subst, sym, ◌∙◌}
 use Rattle.object_tree.specs.declared.object.Object.{Object}
-use Rattle.machine_rules.specs.Goes.{MayAnnounce}
+use Rattle.machine_rules.specs.Reaches.{MayAnnounce}
 use Rattle.machine_rules.proofs.Fields.{old-there}
 use Rattle.machine_rules.proofs.Writing.{announces-written}
 use Rattle.qt_runtime.proofs.Judging.Assigning.{fits-field}

@@ -1,5 +1,5 @@
 -- What a call of the machine's code does, whatever activations are below (docs/machine.md, "Runs").
-use Rattle.std.specs.Prelude.{◌≡◌, ◌≢◌, ℕ, ◌≤◌, ◌<◌, List, [], ◌∷◌, ◌++◌, length, Result, Ok, Err, MatchResult, Bool, Option, Some, None, slice_get}
+use Rattle.std.specs.Prelude.{◌≡◌, ◌≢◌, ℕ, ◌<◌, List, [], ◌∷◌, ◌++◌, length, Result, Ok, Err, MatchResult, Bool, Option, Some, None, slice_get}
 use Rattle.meta_model.specs.Loaded.{Loaded}
 use Rattle.signatures.specs.declared.value.Value.{Value}
 use Rattle.signatures.specs.declared.value.Value.TheVariants as value
@@ -41,20 +41,20 @@ Judges found (Err NoMemory) = Unit {0}
 -- ---- what calls of the machine's functions do
 
 -- over any stack of this height, the machine goes from one world and top of the stack to another
-pub record Goes (p : Loaded) (depth height : ℕ) (w : World) (top : List Activation) (v : World) (after : List Activation) : Type 0 where
+pub record Reaches (p : Loaded) (depth height : ℕ) (w : World) (top : List Activation) (v : World) (after : List Activation) : Type 0 where
   pub runs : (below : List Activation) → length below ≡ height → Rules p depth (at w (top ++ below)) w.left (at v (after ++ below)) v.left
 
 -- over any stack of this height, the machine comes to a state where it stops
-pub record Breaks (p : Loaded) (depth height : ℕ) (w : World) (top : List Activation) (v : World) (fault : Fault) : Type 0 where
-  pub breaks : (below : List Activation) → length below ≡ height → (stack : List Activation) × Rules p depth (at w (top ++ below)) w.left (at v stack) v.left × Reason p depth (at v stack) v.left fault
+pub record StopsIn (p : Loaded) (depth height : ℕ) (w : World) (top : List Activation) (v : World) (fault : Fault) : Type 0 where
+  pub stops : (below : List Activation) → length below ≡ height → (stack : List Activation) × Rules p depth (at w (top ++ below)) w.left (at v stack) v.left × Reason p depth (at v stack) v.left fault
 
 -- a call went from one top of the stack to another, or stopped on the way
 pub record Ends (p : Loaded) (depth height : ℕ) (w : World) (top : List Activation) (v : World) (after : List Activation) (result : Result (Unit {0}) Fault) : Type 0 where
-  pub cases : MatchResult result (λ _. Goes p depth height w top v after) (Breaks p depth height w top v)
+  pub cases : MatchResult result (λ _. Reaches p depth height w top v after) (StopsIn p depth height w top v)
 
 -- a call carried out one rule or more, or stopped on the way
 pub record Advances (p : Loaded) (depth height : ℕ) (w : World) (top : List Activation) (v : World) (after : List Activation) (result : Result (Unit {0}) Fault) : Type 0 where
-  pub cases : MatchResult result (λ _. Goes p depth height w top v after × (v.left < w.left)) (Breaks p depth height w top v)
+  pub cases : MatchResult result (λ _. Reaches p depth height w top v after × (v.left < w.left)) (StopsIn p depth height w top v)
 
 -- a method of an object may begin by the next rule of an activation, over what is left of it
 pub record Calls (p : Loaded) (w : World) (from to : Activation) (o m : ℕ) (arguments : List Value) : Type 0 where
