@@ -10,6 +10,7 @@ mod Judging
 mod Keeping
 mod OneAnswer
 mod OneTaking
+mod OneRun
 mod Applying
 pub mod Inherited
 pub mod TypedPaths

@@ -1,6 +1,6 @@
 //! What holds of every program.
 
-ghost use Rattle.qt_runtime.specs.Laws.{OneJudgement, OneTaking};
+ghost use Rattle.qt_runtime.specs.Laws.{OneJudgement, OneRun, OneTaking};
 
 /// An event is accepted with one effect or refused for one reason, and not both.
 pub fn one_judgement()
@@ -10,4 +10,10 @@ pub fn one_judgement()
 /// At most one state follows by the taking of an event.
 pub fn one_taking()
     ensures { OneTaking }
+{}
+
+/// For one list of events, depth and number of rules there is one run: two that go on until nothing is going on end in
+/// the same state, with the same trace and the same rules left.
+pub fn one_run()
+    ensures { OneRun }
 {}
