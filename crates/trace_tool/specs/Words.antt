@@ -1,5 +1,5 @@
 -- The words of a command line (docs/commands.md, "The command line").
-use Rattle.std.specs.Prelude.{◌≡◌, ℕ, ◌-◌, ◌^◌, ◌≤◌, ◌⊎◌, List, [], ◌∷◌, codes}
+use Rattle.std.specs.Prelude.{◌≡◌, ◌≢◌, ℕ, ◌-◌, ◌^◌, ◌≤◌, ◌⊎◌, List, [], ◌∷◌, codes}
 use Rattle.std.specs.Str.Parse.{AllDigits, digits_value}
 use Rattle.trace_tool.specs.declared.words.Command.{Command}
 use Rattle.trace_tool.specs.declared.words.Command.TheVariants.{Meta, Run}
@@ -34,3 +34,25 @@ pub record IsFirstNumber (largest : ℕ) (words : List (List ℕ)) (n : ℕ) (re
 abbrev pub IsCommand : List (List ℕ) → Command → Type 0
 IsCommand words Meta = words ≡ codes "meta" ∷ []
 IsCommand words (Run options) = IsRun words options.depth options.steps
+
+-- what the words don't say
+abbrev pub IsNoNumber : ℕ → List ℕ → Type 0
+IsNoNumber largest word = (n : ℕ) → IsNumber largest word n → ⊥
+
+abbrev pub IsNoLimit : List (List ℕ) → Type 0
+IsNoLimit words = (steps : ℕ) → IsLimit words steps → ⊥
+
+abbrev pub IsNoRun : List (List ℕ) → Type 0
+IsNoRun words = (depth steps : ℕ) → IsRun words depth steps → ⊥
+
+abbrev pub IsNoCommand : List (List ℕ) → Type 0
+IsNoCommand words = (command : Command) → IsCommand words command → ⊥
+
+-- the first word isn't this one
+abbrev pub BeginsOtherwise : List ℕ → List (List ℕ) → Type 0
+BeginsOtherwise word words = (rest : List (List ℕ)) → words ≢ word ∷ rest
+
+-- the first word writes no number
+abbrev pub BeginsWithNoNumber : ℕ → List (List ℕ) → Type 0
+BeginsWithNoNumber largest words =
+    (word : List ℕ) (rest : List (List ℕ)) (n : ℕ) → words ≡ word ∷ rest → IsNumber largest word n → ⊥

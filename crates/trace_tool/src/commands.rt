@@ -28,7 +28,9 @@ pub fn command<R: Read, W: Write>(
     w: &mut W,
 ) -> Result<u8, WriteFault>
     ensures answers { let said = map (λ word. word.now) words.now in
-        IfOk result (λ status. AnswersCommand said (R.remaining reader.old) (W.contents w.old) (W.contents w.new) status) }
+        IfOk result (λ status.
+        AnswersCommand said (R.remaining reader.old)
+        (W.contents w.old) (W.contents w.new) status) }
     ensures unread { let said = map (λ word. word.now) words.now in
         ((c : ACommand) → IsCommand said c → ⊥) → reader.new ≡ reader.old }
 {

@@ -1,12 +1,14 @@
 //! The texts of an input.
 
-ghost use Rattle.std.specs.Prelude.{◌≡◌, ℕ, ◌+◌, ◌-◌, ◌<◌, ◌≤◌, ◌⊎◌, ◌↔◌, List, [], ◌∷◌, length, slice_index, IsTrue, IfSome, MatchOption};
-ghost use Rattle.trace_tool.specs.Cut.{IsMarkAt, HasNoMark, IsParted, AreTexts};
+ghost use Rattle.std.specs.Prelude.{◌≡◌, ◌-◌, ◌<◌, ◌≤◌, ◌⊎◌, ◌↔◌, [], ◌∷◌};
+ghost use Rattle.std.specs.Prelude.{length, slice_index, IsTrue, IfSome, MatchOption};
+ghost use Rattle.trace_tool.specs.Cut.{IsMarkAt, HasNoMark, IsFirstMark, EndsLine, IsParted, IsWholeInput};
+ghost use Rattle.trace_tool.specs.Cut.{AreTexts, AreOnly, IsNoText, AreNotTwo};
 
 /// The one text of an input that has no line `%%`.
 pub fn one_text(input: &[u8]) -> Option<&[u8]>
-    ensures cut { MatchOption result ((text : List ℕ) → AreTexts input.now (text ∷ []) → ⊥) (λ text. AreTexts input.now (text.now ∷ [])) }
-    ensures only { IfSome result (λ text. (others : List (List ℕ)) → AreTexts input.now others → others ≡ text.now ∷ []) }
+    ensures cut { MatchOption result (IsNoText input.now) (λ text. AreTexts input.now (text.now ∷ [])) }
+    ensures only { IfSome result (λ text. AreOnly input.now (text.now ∷ [])) }
 {
     let (text, after) = first_text(input);
     match after {
@@ -17,8 +19,9 @@ pub fn one_text(input: &[u8]) -> Option<&[u8]>
 
 /// The two texts of an input that has just one line `%%`.
 pub fn two_texts(input: &[u8]) -> Option<(&[u8], &[u8])>
-    ensures cut { MatchOption result ((first second : List ℕ) → AreTexts input.now (first ∷ second ∷ []) → ⊥) (λ texts. AreTexts input.now (texts.0.now ∷ texts.1.now ∷ [])) }
-    ensures only { IfSome result (λ texts. (others : List (List ℕ)) → AreTexts input.now others → others ≡ texts.0.now ∷ texts.1.now ∷ []) }
+    ensures cut { MatchOption result (AreNotTwo input.now)
+        (λ texts. AreTexts input.now (texts.0.now ∷ texts.1.now ∷ [])) }
+    ensures only { IfSome result (λ texts. AreOnly input.now (texts.0.now ∷ texts.1.now ∷ [])) }
 {
     let (first, after) = first_text(input);
     let rest = after?;
@@ -31,7 +34,8 @@ pub fn two_texts(input: &[u8]) -> Option<(&[u8], &[u8])>
 
 /// The first text, and what comes after the line `%%` that ends it, if one does.
 fn first_text(input: &[u8]) -> (&[u8], Option<&[u8]>)
-    ensures { MatchOption result.1 ((result.0.now ≡ input.now) × HasNoMark input.now) (λ rest. IsParted input.now result.0.now rest.now) }
+    ensures { MatchOption result.1 (IsWholeInput input.now result.0.now)
+        (λ rest. IsParted input.now result.0.now rest.now) }
 {
     match first_mark(input) {
         Some(place) => {
@@ -44,7 +48,7 @@ fn first_text(input: &[u8]) -> (&[u8], Option<&[u8]>)
 
 /// Where the first line begins that is exactly `%%`.
 fn first_mark(input: &[u8]) -> Option<usize>
-    ensures first { MatchOption result (HasNoMark input.now) (λ place. IsMarkAt input.now place × ((k : ℕ) → k < place → IsMarkAt input.now k → ⊥)) }
+    ensures first { MatchOption result (HasNoMark input.now) (IsFirstMark input.now) }
     ensures within { IfSome result (λ place. place < length input.now) }
 {
     for place in 0..input.len() {
@@ -74,7 +78,7 @@ fn is_behind_line(input: &[u8], place: usize) -> bool
 /// Whether the byte at this place is `%` and its line's last one.
 fn ends_line(input: &[u8], place: usize) -> bool
     requires { place ≤ length input.now }
-    ensures { IsTrue result ↔ ((slice_index input.now place ≡ 37) × ((place + 1 ≡ length input.now) ⊎ (slice_index input.now (place + 1) ≡ 10))) }
+    ensures { IsTrue result ↔ EndsLine input.now place }
 {
     match input[place..].split_first() {
         Some((byte, rest)) => { *byte == b'%' && (rest.is_empty() || rest[0] == b'\n') }

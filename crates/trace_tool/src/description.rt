@@ -17,7 +17,8 @@ use std::io::Write;
 /// The answer is the exit status: 0 where the classes are written, 2 where the program is refused, 1 for want of memory.
 /// There is a `WriteFault` only where the writer failed; nothing is written after that.
 pub fn meta<W: Write>(alloc: Global, program: &[u8], w: &mut W) -> Result<u8, WriteFault>
-    ensures { IfOk result (λ status. Answers (MetaWrites program.now) (W.contents w.old) (W.contents w.new) status) }
+    ensures { IfOk result (λ status.
+        Answers (MetaWrites program.now) (W.contents w.old) (W.contents w.new) status) }
 {
     match load_program(alloc, program) {
         Ok(meta) => describe(alloc, &meta, w),
@@ -27,7 +28,8 @@ pub fn meta<W: Write>(alloc: Global, program: &[u8], w: &mut W) -> Result<u8, Wr
 
 /// Writes the classes of a loaded program.
 fn describe<W: Write>(alloc: Global, meta: &Meta, w: &mut W) -> Result<u8, WriteFault>
-    ensures { IfOk result (λ status. SendsWith (W.contents w.old) (W.contents w.new) (meta_text meta.now) 0 status) }
+    ensures { IfOk result (λ status.
+        SendsWith (W.contents w.old) (W.contents w.new) (meta_text meta.now) 0 status) }
 {
     let mut output = Output::new(alloc);
     output.classes(w, meta)?;

@@ -3,7 +3,7 @@
 ghost use Rattle.std.specs.Prelude.{◌++◌, codes, decimal, OnOk};
 ghost use Rattle.trace_tool.specs.Lines.{newline, value_text, arguments_text, member_text, call_text, blocked_text, emitted_line, called_line, written_line, refused_event_line, entry_line, trace_text};
 ghost use Rattle.trace_tool.specs.Refusals.{refusal_line};
-ghost use Rattle.trace_tool.specs.Sent.{Sends, behind};
+ghost use Rattle.trace_tool.specs.Sent.{Adds};
 
 use crate::fault::WriteFault;
 use crate::output::Output;
@@ -16,7 +16,8 @@ use std::io::Write;
 impl Output {
     /// Adds a number in decimal digits.
     pub fn number<W: Write, I: Integer>(&mut self, w: &mut W, number: I) -> Result<(), WriteFault>
-        ensures { OnOk result (Sends (behind (W.contents w.old) self.old) (behind (W.contents w.new) self.new) (I.text number)) }
+        ensures { OnOk result (Adds (W.contents w.old) self.old (W.contents w.new) self.new
+            (I.text number)) }
     {
         let mut buffer = Buffer::new();
         self.put(w, buffer.format(number).as_bytes())?;
@@ -25,7 +26,8 @@ impl Output {
 
     /// Adds a value.
     fn value<W: Write>(&mut self, w: &mut W, value: &Shown) -> Result<(), WriteFault>
-        ensures { OnOk result (Sends (behind (W.contents w.old) self.old) (behind (W.contents w.new) self.new) (value_text value.now)) }
+        ensures { OnOk result (Adds (W.contents w.old) self.old (W.contents w.new) self.new
+            (value_text value.now)) }
     {
         match value {
             Shown::Int(number) => self.number(w, *number)?,
@@ -40,7 +42,8 @@ impl Output {
 
     /// Adds a text in quotes.
     fn quoted<W: Write>(&mut self, w: &mut W, text: &Text) -> Result<(), WriteFault>
-        ensures { OnOk result (Sends (behind (W.contents w.old) self.old) (behind (W.contents w.new) self.new) (codes "\"" ++ text.now ++ codes "\"")) }
+        ensures { OnOk result (Adds (W.contents w.old) self.old (W.contents w.new) self.new
+            (codes "\"" ++ text.now ++ codes "\"")) }
     {
         self.put(w, b"\"")?;
         self.put(w, text.bytes())?;
@@ -50,7 +53,8 @@ impl Output {
 
     /// Adds values, separated by commas.
     fn arguments<W: Write>(&mut self, w: &mut W, values: &[Shown]) -> Result<(), WriteFault>
-        ensures { OnOk result (Sends (behind (W.contents w.old) self.old) (behind (W.contents w.new) self.new) (arguments_text values.now)) }
+        ensures { OnOk result (Adds (W.contents w.old) self.old (W.contents w.new) self.new
+            (arguments_text values.now)) }
     {
         let Some((first, rest)) = values.split_first() else {
             return Ok(());
@@ -70,7 +74,8 @@ impl Output {
         object: &Name,
         member: &Name,
     ) -> Result<(), WriteFault>
-        ensures { OnOk result (Sends (behind (W.contents w.old) self.old) (behind (W.contents w.new) self.new) (member_text object.now member.now)) }
+        ensures { OnOk result (Adds (W.contents w.old) self.old (W.contents w.new) self.new
+            (member_text object.now member.now)) }
     {
         self.put(w, object.bytes())?;
         self.put(w, b".")?;
@@ -88,7 +93,8 @@ impl Output {
         method: &Name,
         arguments: &[Shown],
     ) -> Result<(), WriteFault>
-        ensures { OnOk result (Sends (behind (W.contents w.old) self.old) (behind (W.contents w.new) self.new) (call_text depth word.now object.now method.now arguments.now)) }
+        ensures { OnOk result (Adds (W.contents w.old) self.old (W.contents w.new) self.new
+            (call_text depth word.now object.now method.now arguments.now)) }
     {
         self.number(w, depth)?;
         self.put(w, word)?;
@@ -109,7 +115,8 @@ impl Output {
         arguments: &[Shown],
         blocked: bool,
     ) -> Result<(), WriteFault>
-        ensures { OnOk result (Sends (behind (W.contents w.old) self.old) (behind (W.contents w.new) self.new) (emitted_line depth object.now signal.now arguments.now blocked)) }
+        ensures { OnOk result (Adds (W.contents w.old) self.old (W.contents w.new) self.new
+            (emitted_line depth object.now signal.now arguments.now blocked)) }
     {
         self.call(w, depth, b" emit ", object, signal, arguments)?;
         self.blocked(w, blocked)?;
@@ -119,7 +126,8 @@ impl Output {
 
     /// Adds what tells that an object is blocked, where it is.
     fn blocked<W: Write>(&mut self, w: &mut W, blocked: bool) -> Result<(), WriteFault>
-        ensures { OnOk result (Sends (behind (W.contents w.old) self.old) (behind (W.contents w.new) self.new) (blocked_text blocked)) }
+        ensures { OnOk result (Adds (W.contents w.old) self.old (W.contents w.new) self.new
+            (blocked_text blocked)) }
     {
         if blocked {
             self.put(w, b" blocked")?;
@@ -136,7 +144,8 @@ impl Output {
         slot: &Name,
         arguments: &[Shown],
     ) -> Result<(), WriteFault>
-        ensures { OnOk result (Sends (behind (W.contents w.old) self.old) (behind (W.contents w.new) self.new) (called_line depth object.now slot.now arguments.now)) }
+        ensures { OnOk result (Adds (W.contents w.old) self.old (W.contents w.new) self.new
+            (called_line depth object.now slot.now arguments.now)) }
     {
         self.call(w, depth, b" call ", object, slot, arguments)?;
         self.put(w, b"\n")?;
@@ -152,7 +161,8 @@ impl Output {
         property: &Name,
         value: &Shown,
     ) -> Result<(), WriteFault>
-        ensures { OnOk result (Sends (behind (W.contents w.old) self.old) (behind (W.contents w.new) self.new) (written_line depth object.now property.now value.now)) }
+        ensures { OnOk result (Adds (W.contents w.old) self.old (W.contents w.new) self.new
+            (written_line depth object.now property.now value.now)) }
     {
         self.number(w, depth)?;
         self.put(w, b" set ")?;
@@ -165,7 +175,8 @@ impl Output {
 
     /// Adds the line of a statement on null.
     fn on_null<W: Write>(&mut self, w: &mut W, depth: usize) -> Result<(), WriteFault>
-        ensures { OnOk result (Sends (behind (W.contents w.old) self.old) (behind (W.contents w.new) self.new) (decimal depth ++ codes " null\n")) }
+        ensures { OnOk result (Adds (W.contents w.old) self.old (W.contents w.new) self.new
+            (decimal depth ++ codes " null\n")) }
     {
         self.number(w, depth)?;
         self.put(w, b" null\n")?;
@@ -179,7 +190,8 @@ impl Output {
         event: u64,
         refusal: u8,
     ) -> Result<(), WriteFault>
-        ensures { OnOk result (Sends (behind (W.contents w.old) self.old) (behind (W.contents w.new) self.new) (refused_event_line event refusal)) }
+        ensures { OnOk result (Adds (W.contents w.old) self.old (W.contents w.new) self.new
+            (refused_event_line event refusal)) }
     {
         self.put(w, b"event ")?;
         self.number(w, event)?;
@@ -194,7 +206,8 @@ impl Output {
         words: &[u8],
         number: I,
     ) -> Result<(), WriteFault>
-        ensures { OnOk result (Sends (behind (W.contents w.old) self.old) (behind (W.contents w.new) self.new) (words.now ++ I.text number ++ newline)) }
+        ensures { OnOk result (Adds (W.contents w.old) self.old (W.contents w.new) self.new
+            (words.now ++ I.text number ++ newline)) }
     {
         self.put(w, words)?;
         self.number(w, number)?;
@@ -204,7 +217,8 @@ impl Output {
 
     /// Adds a refusal's line.
     pub fn refusal<W: Write>(&mut self, w: &mut W, refusal: &Refusal) -> Result<(), WriteFault>
-        ensures { OnOk result (Sends (behind (W.contents w.old) self.old) (behind (W.contents w.new) self.new) (refusal_line refusal.now)) }
+        ensures { OnOk result (Adds (W.contents w.old) self.old (W.contents w.new) self.new
+            (refusal_line refusal.now)) }
     {
         match refusal {
             Refusal::Numbered(number) => self.numbered(w, b"refused ", *number)?,
@@ -216,7 +230,8 @@ impl Output {
 
     /// Adds an entry's line.
     fn entry<W: Write>(&mut self, w: &mut W, entry: &Entry) -> Result<(), WriteFault>
-        ensures { OnOk result (Sends (behind (W.contents w.old) self.old) (behind (W.contents w.new) self.new) (entry_line entry.now)) }
+        ensures { OnOk result (Adds (W.contents w.old) self.old (W.contents w.new) self.new
+            (entry_line entry.now)) }
     {
         match entry {
             Entry::Accepted(event) => self.numbered(w, b"event ", *event)?,
@@ -237,7 +252,8 @@ impl Output {
 
     /// Adds the lines of a trace.
     pub fn entries<W: Write>(&mut self, w: &mut W, entries: &[Entry]) -> Result<(), WriteFault>
-        ensures { OnOk result (Sends (behind (W.contents w.old) self.old) (behind (W.contents w.new) self.new) (trace_text entries.now)) }
+        ensures { OnOk result (Adds (W.contents w.old) self.old (W.contents w.new) self.new
+            (trace_text entries.now)) }
     {
         for entry in entries {
             self.entry(w, entry)?;

@@ -4,7 +4,7 @@ ghost use Rattle.std.specs.Prelude.{◌≡◌, ◌++◌, drop, length, OnOk, opt
 ghost use Rattle.std.specs.List.{flat_map};
 ghost use Rattle.signatures.specs.Spelling.{const_text, star_text, text_of_sig, text_of_type, text_of_types, text_of_others};
 ghost use Rattle.trace_tool.specs.MetaLines.{described, base_of, class_line, class_lines, method_line, method_lines, method_offset, property_offset, notify_text, property_line, meta_text, work_text, base_text};
-ghost use Rattle.trace_tool.specs.Sent.{Sends, behind};
+ghost use Rattle.trace_tool.specs.Sent.{Adds};
 
 use crate::fault::WriteFault;
 use crate::output::Output;
@@ -15,14 +15,16 @@ use std::io::Write;
 impl Output {
     /// Adds a name.
     fn name<W: Write>(&mut self, w: &mut W, name: &Name) -> Result<(), WriteFault>
-        ensures { OnOk result (Sends (behind (W.contents w.old) self.old) (behind (W.contents w.new) self.new) name.now) }
+        ensures { OnOk result (Adds (W.contents w.old) self.old (W.contents w.new) self.new
+            name.now) }
     {
         self.put(w, name.bytes())
     }
 
     /// Adds a type.
     fn kind<W: Write>(&mut self, w: &mut W, kind: &QType) -> Result<(), WriteFault>
-        ensures { OnOk result (Sends (behind (W.contents w.old) self.old) (behind (W.contents w.new) self.new) (text_of_type kind.now)) }
+        ensures { OnOk result (Adds (W.contents w.old) self.old (W.contents w.new) self.new
+            (text_of_type kind.now)) }
     {
         self.put(w, const_text(kind.constant))?;
         self.name(w, &kind.name)?;
@@ -32,7 +34,8 @@ impl Output {
 
     /// Adds types, separated by commas.
     fn kinds<W: Write>(&mut self, w: &mut W, kinds: &[QType]) -> Result<(), WriteFault>
-        ensures { OnOk result (Sends (behind (W.contents w.old) self.old) (behind (W.contents w.new) self.new) (text_of_types kinds.now)) }
+        ensures { OnOk result (Adds (W.contents w.old) self.old (W.contents w.new) self.new
+            (text_of_types kinds.now)) }
     {
         let Some((first, rest)) = kinds.split_first() else {
             return Ok(());
@@ -43,7 +46,8 @@ impl Output {
 
     /// Adds types, a comma in front of each.
     fn other_kinds<W: Write>(&mut self, w: &mut W, kinds: &[QType]) -> Result<(), WriteFault>
-        ensures { OnOk result (Sends (behind (W.contents w.old) self.old) (behind (W.contents w.new) self.new) (text_of_others kinds.now)) }
+        ensures { OnOk result (Adds (W.contents w.old) self.old (W.contents w.new) self.new
+            (text_of_others kinds.now)) }
     {
         let mut left = kinds;
         while let Some((kind, after)) = left.split_first() {
@@ -56,7 +60,8 @@ impl Output {
 
     /// Adds a signature.
     fn sig<W: Write>(&mut self, w: &mut W, sig: &Sig) -> Result<(), WriteFault>
-        ensures { OnOk result (Sends (behind (W.contents w.old) self.old) (behind (W.contents w.new) self.new) (text_of_sig sig.now)) }
+        ensures { OnOk result (Adds (W.contents w.old) self.old (W.contents w.new) self.new
+            (text_of_sig sig.now)) }
     {
         self.name(w, &sig.name)?;
         self.put(w, b"(")?;
@@ -72,7 +77,8 @@ impl Output {
         number: usize,
         method: &MetaMethod,
     ) -> Result<(), WriteFault>
-        ensures { OnOk result (Sends (behind (W.contents w.old) self.old) (behind (W.contents w.new) self.new) (method_line number method.now)) }
+        ensures { OnOk result (Adds (W.contents w.old) self.old (W.contents w.new) self.new
+            (method_line number method.now)) }
     {
         self.number(w, number)?;
         self.put(w, work_text(&method.work))?;
@@ -88,7 +94,8 @@ impl Output {
         class: &MetaObject,
         property: &MetaProperty,
     ) -> Result<(), WriteFault>
-        ensures { OnOk result (Sends (behind (W.contents w.old) self.old) (behind (W.contents w.new) self.new) (property_line class.now property.now)) }
+        ensures { OnOk result (Adds (W.contents w.old) self.old (W.contents w.new) self.new
+            (property_line class.now property.now)) }
     {
         self.put(w, b"property ")?;
         self.name(w, &property.name)?;
@@ -106,7 +113,8 @@ impl Output {
         class: &MetaObject,
         notify: Option<usize>,
     ) -> Result<(), WriteFault>
-        ensures { OnOk result (Sends (behind (W.contents w.old) self.old) (behind (W.contents w.new) self.new) (notify_text class.now notify)) }
+        ensures { OnOk result (Adds (W.contents w.old) self.old (W.contents w.new) self.new
+            (notify_text class.now notify)) }
     {
         let Some(number) = notify else {
             return Ok(());
@@ -122,7 +130,8 @@ impl Output {
 impl Output {
     /// Adds the lines of every class.
     pub fn classes<W: Write>(&mut self, w: &mut W, meta: &Meta) -> Result<(), WriteFault>
-        ensures { OnOk result (Sends (behind (W.contents w.old) self.old) (behind (W.contents w.new) self.new) (meta_text meta.now)) }
+        ensures { OnOk result (Adds (W.contents w.old) self.old (W.contents w.new) self.new
+            (meta_text meta.now)) }
     {
         self.listed(w, meta, meta.classes())
     }
@@ -134,7 +143,8 @@ impl Output {
         meta: &Meta,
         classes: &[MetaObject],
     ) -> Result<(), WriteFault>
-        ensures { OnOk result (Sends (behind (W.contents w.old) self.old) (behind (W.contents w.new) self.new) (flat_map (described meta.now) classes.now)) }
+        ensures { OnOk result (Adds (W.contents w.old) self.old (W.contents w.new) self.new
+            (flat_map (described meta.now) classes.now)) }
     {
         let mut left = classes;
         while let Some((class, after)) = left.split_first() {
@@ -151,7 +161,8 @@ impl Output {
         meta: &Meta,
         class: &MetaObject,
     ) -> Result<(), WriteFault>
-        ensures { OnOk result (Sends (behind (W.contents w.old) self.old) (behind (W.contents w.new) self.new) (described meta.now class.now)) }
+        ensures { OnOk result (Adds (W.contents w.old) self.old (W.contents w.new) self.new
+            (described meta.now class.now)) }
     {
         self.class(w, class, base_of(meta, class))
     }
@@ -163,7 +174,8 @@ impl Output {
         class: &MetaObject,
         base: Option<&MetaObject>,
     ) -> Result<(), WriteFault>
-        ensures { OnOk result (Sends (behind (W.contents w.old) self.old) (behind (W.contents w.new) self.new) (class_lines class.now (option_copied base.entry))) }
+        ensures { OnOk result (Adds (W.contents w.old) self.old (W.contents w.new) self.new
+            (class_lines class.now (option_copied base.entry))) }
     {
         self.head(w, class, base)?;
         self.methods(w, method_offset(base), class.methods.as_slice())?;
@@ -179,7 +191,8 @@ impl Output {
         class: &MetaObject,
         properties: &[MetaProperty],
     ) -> Result<(), WriteFault>
-        ensures { OnOk result (Sends (behind (W.contents w.old) self.old) (behind (W.contents w.new) self.new) (flat_map (property_line class.now) properties.now)) }
+        ensures { OnOk result (Adds (W.contents w.old) self.old (W.contents w.new) self.new
+            (flat_map (property_line class.now) properties.now)) }
     {
         for property in properties {
             self.property(w, class, property)?;
@@ -194,7 +207,8 @@ impl Output {
         class: &MetaObject,
         base: Option<&MetaObject>,
     ) -> Result<(), WriteFault>
-        ensures { OnOk result (Sends (behind (W.contents w.old) self.old) (behind (W.contents w.new) self.new) (class_line class.now (option_copied base.entry))) }
+        ensures { OnOk result (Adds (W.contents w.old) self.old (W.contents w.new) self.new
+            (class_line class.now (option_copied base.entry))) }
     {
         self.put(w, b"class ")?;
         self.name(w, &class.name)?;
@@ -209,7 +223,8 @@ impl Output {
 
     /// Adds what a class stands under.
     fn under<W: Write>(&mut self, w: &mut W, base: Option<&MetaObject>) -> Result<(), WriteFault>
-        ensures { OnOk result (Sends (behind (W.contents w.old) self.old) (behind (W.contents w.new) self.new) (base_text (option_copied base.entry))) }
+        ensures { OnOk result (Adds (W.contents w.old) self.old (W.contents w.new) self.new
+            (base_text (option_copied base.entry))) }
     {
         if let Some(base) = base {
             self.put(w, b" : ")?;
@@ -225,7 +240,8 @@ impl Output {
         offset: usize,
         methods: &[MetaMethod],
     ) -> Result<(), WriteFault>
-        ensures { OnOk result (Sends (behind (W.contents w.old) self.old) (behind (W.contents w.new) self.new) (method_lines offset (drop offset methods.now))) }
+        ensures { OnOk result (Adds (W.contents w.old) self.old (W.contents w.new) self.new
+            (method_lines offset (drop offset methods.now))) }
     {
         let mut number = offset;
         while let Some(method) = methods.get(number) {

@@ -1,5 +1,5 @@
 ghost use Rattle.std.specs.Prelude.{◌≡◌, [], OnOk};
-ghost use Rattle.trace_tool.specs.Sent.{Sends, behind};
+ghost use Rattle.trace_tool.specs.Sent.{Adds, Sends, behind};
 
 use crate::fault::WriteFault;
 use std::alloc::Global;
@@ -36,7 +36,8 @@ impl Output {
 
     /// Adds bytes to the output.
     pub fn put<W: Write>(&mut self, w: &mut W, bytes: &[u8]) -> Result<(), WriteFault>
-        ensures { OnOk result (Sends (behind (W.contents w.old) self.old) (behind (W.contents w.new) self.new) bytes.now) }
+        ensures { OnOk result (Adds (W.contents w.old) self.old (W.contents w.new) self.new
+            bytes.now) }
     {
         if bytes.len() < CHUNK && self.pending.extend_from_slice(bytes).is_ok() {
             if self.pending.len() >= CHUNK {

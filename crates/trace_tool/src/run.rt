@@ -31,7 +31,8 @@ pub fn run_unchecked<W: Write>(
 ) -> Result<u8, WriteFault>
     requires depth { (1 ≤ depth) × (depth ≤ 256) }
     requires steps { (1 ≤ steps) × (steps < 2 ^ 63) }
-    ensures { IfOk result (λ status. Answers (RunWrites program.now script.now depth steps) (W.contents w.old) (W.contents w.new) status) }
+    ensures { let Writes = RunWrites program.now script.now depth steps in
+        IfOk result (λ status. Answers Writes (W.contents w.old) (W.contents w.new) status) }
 {
     let (meta, events) = match load(alloc, program, script) {
         Ok(loaded) => loaded,
@@ -46,7 +47,9 @@ pub fn run_unchecked<W: Write>(
 
 /// Reads and loads a program, and reads its script.
 fn load(alloc: Global, program: &[u8], script: &[u8]) -> Result<(Meta, Items<Event>), Refusal>
-    ensures { MatchResult result (λ loaded. AreRunnable program.now script.now loaded.0 loaded.1) (AreRefused program.now script.now) }
+    ensures { MatchResult result
+        (λ loaded. AreRunnable program.now script.now loaded.0 loaded.1)
+        (AreRefused program.now script.now) }
 {
     let meta = load_program(alloc, program)?;
     let events = read_script(alloc, script)?;
@@ -64,7 +67,9 @@ pub fn load_program(alloc: Global, program: &[u8]) -> Result<Meta, Refusal>
 
 /// Writes a refusal's line.
 pub fn refuse<W: Write>(alloc: Global, refusal: &Refusal, w: &mut W) -> Result<u8, WriteFault>
-    ensures { IfOk result (λ status. SendsWith (W.contents w.old) (W.contents w.new) (refusal_line refusal.now) (refusal_status refusal.now) status) }
+    ensures { IfOk result (λ status.
+        SendsWith (W.contents w.old) (W.contents w.new)
+        (refusal_line refusal.now) (refusal_status refusal.now) status) }
 {
     let mut output = Output::new(alloc);
     output.refusal(w, refusal)?;
@@ -79,7 +84,9 @@ fn report<W: Write>(
     ended: Result<(), Fault>,
     w: &mut W,
 ) -> Result<u8, WriteFault>
-    ensures { IfOk result (λ status. SendsWith (W.contents w.old) (W.contents w.new) (run_text trace.now ended) (run_status ended) status) }
+    ensures { IfOk result (λ status.
+        SendsWith (W.contents w.old) (W.contents w.new)
+        (run_text trace.now ended) (run_status ended) status) }
 {
     let mut output = Output::new(alloc);
     output.entries(w, trace)?;

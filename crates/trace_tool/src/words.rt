@@ -1,8 +1,10 @@
 //! The words of a command line.
 
-ghost use Rattle.std.specs.Prelude.{◌≡◌, ◌≢◌, ◌↔◌, Some, ℕ, ◌≤◌, ◌<◌, ◌^◌, List, [], ◌∷◌, map, codes, IsTrue, IfSome, MatchOption};
+ghost use Rattle.std.specs.Prelude.{◌≡◌, ◌↔◌, Some, ◌≤◌, ◌<◌, ◌^◌, [], ◌∷◌, map, codes};
+ghost use Rattle.std.specs.Prelude.{IsTrue, IfSome, MatchOption};
 ghost use Rattle.trace_tool.specs.Words.{IsNumber, IsFirstNumber, IsLimit, IsRun, IsCommand};
-ghost use Rattle.trace_tool.specs.declared.words.Command.{Command as ACommand};
+ghost use Rattle.trace_tool.specs.Words.{IsNoNumber, IsNoLimit, IsNoRun, IsNoCommand};
+ghost use Rattle.trace_tool.specs.Words.{BeginsOtherwise, BeginsWithNoNumber};
 ghost use Rattle.trace_tool.specs.declared.words.Command.TheVariants.{Run};
 
 const LARGEST_DEPTH: u64 = 256;
@@ -23,7 +25,8 @@ pub enum Command {
 impl Command {
     /// What the words say, if they are a command.
     pub fn of(words: &[&str]) -> Option<Command>
-        ensures said { MatchOption result ((c : ACommand) → IsCommand (map (λ w. w.now) words.now) c → ⊥) (λ c. IsCommand (map (λ w. w.now) words.now) c) }
+        ensures said { let said = map (λ w. w.now) words.now in
+            MatchOption result (IsNoCommand said) (λ c. IsCommand said c) }
         ensures depth { (o : _) → result ≡ Some (Run o) → (1 ≤ o.depth) × (o.depth ≤ 256) }
         ensures steps { (o : _) → result ≡ Some (Run o) → (1 ≤ o.steps) × (o.steps < 2 ^ 63) }
     {
@@ -59,7 +62,8 @@ pub struct Options {
 impl Options {
     /// What the words `run --unchecked N [--steps M]` say, if they are those of a run.
     pub fn of(words: &[&str]) -> Option<Options>
-        ensures said { MatchOption result ((depth steps : ℕ) → IsRun (map (λ w. w.now) words.now) depth steps → ⊥) (λ o. IsRun (map (λ w. w.now) words.now) o.depth o.steps) }
+        ensures said { let said = map (λ w. w.now) words.now in
+            MatchOption result (IsNoRun said) (λ o. IsRun said o.depth o.steps) }
         ensures depth { IfSome result (λ o. (1 ≤ o.depth) × (o.depth ≤ 256)) }
         ensures steps { IfSome result (λ o. (1 ≤ o.steps) × (o.steps < 2 ^ 63)) }
     {
@@ -76,7 +80,8 @@ impl Options {
 
 /// The limit of steps that the last words give.
 fn limit(words: &[&str]) -> Option<u64>
-    ensures said { MatchOption result ((steps : ℕ) → IsLimit (map (λ w. w.now) words.now) steps → ⊥) (λ steps. IsLimit (map (λ w. w.now) words.now) steps) }
+    ensures said { let said = map (λ w. w.now) words.now in
+        MatchOption result (IsNoLimit said) (λ steps. IsLimit said steps) }
     ensures within { IfSome result (λ steps. (1 ≤ steps) × (steps < 2 ^ 63)) }
 {
     if are_over(words) {
@@ -96,7 +101,9 @@ fn are_over(words: &[&str]) -> bool
 
 /// The words after this one, if it comes first.
 fn after<'a>(words: &'a [&'a str], word: &str) -> Option<&'a [&'a str]>
-    ensures { MatchOption result ((rest : List (List ℕ)) → map (λ w. w.now) words.now ≢ word.now ∷ rest) (λ rest. map (λ w. w.now) words.now ≡ word.now ∷ map (λ w. w.now) rest.now) }
+    ensures { let said = map (λ w. w.now) words.now in
+        MatchOption result (BeginsOtherwise word.now said)
+        (λ rest. said ≡ word.now ∷ map (λ w. w.now) rest.now) }
 {
     let (first, rest) = words.split_first()?;
     if *first == word { Some(rest) } else { None }
@@ -104,7 +111,9 @@ fn after<'a>(words: &'a [&'a str], word: &str) -> Option<&'a [&'a str]>
 
 /// The number that comes first, and the words after it.
 fn number<'a>(words: &'a [&'a str], largest: u64) -> Option<(u64, &'a [&'a str])>
-    ensures { MatchOption result ((word : List ℕ) (rest : List (List ℕ)) (n : ℕ) → map (λ w. w.now) words.now ≡ word ∷ rest → IsNumber largest word n → ⊥) (λ r. IsFirstNumber largest (map (λ w. w.now) words.now) r.0 (map (λ w. w.now) r.1.now)) }
+    ensures { let said = map (λ w. w.now) words.now in
+        MatchOption result (BeginsWithNoNumber largest said)
+        (λ r. IsFirstNumber largest said r.0 (map (λ w. w.now) r.1.now)) }
 {
     let (word, rest) = words.split_first()?;
     let number = number_of(word, largest)?;
@@ -113,7 +122,7 @@ fn number<'a>(words: &'a [&'a str], largest: u64) -> Option<(u64, &'a [&'a str])
 
 /// The number that a word writes.
 fn number_of(word: &str, largest: u64) -> Option<u64>
-    ensures { MatchOption result ((n : ℕ) → IsNumber largest word.now n → ⊥) (λ n. IsNumber largest word.now n) }
+    ensures { MatchOption result (IsNoNumber largest word.now) (λ n. IsNumber largest word.now n) }
 {
     if word.as_bytes().first() == Some(&b'+') {
         return None;
