@@ -8,7 +8,6 @@ use Rattle.meta_model.specs.declared.object.ValueType.{ValueType}
 use Rattle.meta_model.specs.declared.object.Work.{Work}
 use Rattle.meta_model.specs.declared.object.Work.TheVariants.{Signal, Slot}
 use Rattle.meta_model.specs.Loaded.{Loaded}
-use Rattle.meta_model.specs.Members.{IsMethod}
 use Rattle.meta_model.specs.Values.{HaveTypes}
 use Rattle.machine_state.specs.declared.connections.Connection.{Connection}
 use Rattle.machine_state.specs.declared.entry.Entry.{Entry}
@@ -24,9 +23,10 @@ use Rattle.machine_state.specs.Connections.{is_next, next_connection, silences, 
 use Rattle.machine_rules.specs.Good.{AreTyped, ArgumentsFit, TopFits, IsWell}
 use Rattle.machine_rules.specs.Sound.{Joined}
 use Rattle.machine_state.specs.Worlds.{at, noted}
-use Rattle.machine_rules.specs.Reaches.{Reaches, StopsIn, Ends, Calls, OnlyCalls, IsMember, begin_entry}
+use Rattle.machine_rules.specs.Reaches.{Reaches, StopsIn, Ends, Calls, OnlyCalls, begin_entry}
+use Rattle.machine_rules.specs.There.{IsMember}
 use Rattle.machine_rules.proofs.Reaching.{reaches-high, ends-after, ends-lifted, stops-deep, stops-ill, stops-stuck}
-use Rattle.machine_rules.proofs.Fields.{some-is, method-unique, types-front}
+use Rattle.machine_rules.proofs.Fields.{member-method, types-front}
 
 -- what is pushed where a method begins
 abbrev pub top_of : ℕ → ℕ → List Value → ℕ → Work → Activation
@@ -50,9 +50,8 @@ begins-there {h = h} {o = o} {m = m} {x = x} {method = method} w arguments from 
     let with_depth : ℕ → State = λ n. at (begun_world w n x m method arguments) (top_of o m arguments w.connected method.work ∷ to ∷ below) in
     record {
       object = x;
-      is_object = is.is_object;
       method = method;
-      is_method = is.is_method;
+      is = is;
       gives = ap with_depth depth_is ∙ begun-is w (from ∷ below) to below o x m method arguments method.work;
     }
 
@@ -94,16 +93,13 @@ stops-begin {h = h} {o = o} {m = m} {w = w} {from = from} {to = to} {x = x} {met
 -- there is no such method
 pub stops-no-member : {p : Loaded} {d h o m : ℕ} {w : World} {from to : Activation} {arguments : List Value} →
     OnlyCalls p w from to o m arguments → ((x : Object) (method : MetaMethod) → ¬ IsMember p w.objects o m x method) → 0 < w.left → StopsIn p d h w (from ∷ []) w BadType
-stops-no-member only none some = stops-stuck some (λ below t r. let b = only.begins below t r in none b.object b.method (record { is_object = b.is_object; is_method = b.is_method }))
+stops-no-member only none some = stops-stuck some (λ below t r. let b = only.begins below t r in none b.object b.method b.is)
 
 -- the arguments that fit are of the method's types
 fit-typed : {p : Loaded} {objects : List Object} {o m : ℕ} {x : Object} {method : MetaMethod} {arguments : List Value} → IsMember p objects o m x method → ArgumentsFit p objects o m arguments → HaveTypes p (class_of objects) arguments method.kinds
 fit-typed {p} {objects} {o} {m} {x} {method} {arguments} is fit =
-    let has : IsMember p objects o m fit.object fit.method = record { is_object = fit.is_object; is_method = fit.is_method } in
     let Kinds : MetaMethod → Type 0 = λ k. HaveTypes p (class_of objects) arguments k.kinds in
-    let At : Object → Type 0 = λ z. IsMethod p z.class m fit.method in
-    let there : IsMethod p x.class m fit.method = subst At (sym (some-is is.is_object fit.is_object)) fit.is_method in
-    subst Kinds (method-unique there is.is_method) fit.typed
+    subst Kinds (member-method fit.is is) fit.typed
 
 -- the arguments aren't of the method's types
 pub stops-ill-typed : {p : Loaded} {d h o m : ℕ} {w : World} {from to : Activation} {x : Object} {method : MetaMethod} {arguments : List Value} →
@@ -117,11 +113,7 @@ stops-ill-typed {p} {o = o} {m = m} {w = w} {from = from} {to = to} {x = x} {met
     ))
 
 pub fit-of : {p : Loaded} {objects : List Object} {o m : ℕ} {x : Object} {method : MetaMethod} {arguments : List Value} → IsMember p objects o m x method → HaveTypes p (class_of objects) arguments method.kinds → ArgumentsFit p objects o m arguments
-fit-of {x = x} {method = method} is typed = record { object = x; is_object = is.is_object; method = method; is_method = is.is_method; typed = typed }
-
--- a method that fits has a member
-pub fit-member : {p : Loaded} {objects : List Object} {o m : ℕ} {arguments : List Value} → (fit : ArgumentsFit p objects o m arguments) → IsMember p objects o m fit.object fit.method
-fit-member fit = record { is_object = fit.is_object; is_method = fit.is_method }
+fit-of {x = x} {method = method} is typed = record { object = x; method = method; is = is; typed = typed }
 
 -- ---- connections
 
@@ -166,22 +158,15 @@ next-fits {p} {objects} {arguments} now connections o g used last c all found fi
     let is = next-is o g used last c ((find-some (Joined p objects) (is_next o g used last) connections c all (used-is now connections o g used last c found)).1) in
     subst (λ (n : ℕ). ArgumentsFit p objects c.sender n arguments) (sym is.1) (subst (λ (n : ℕ). ArgumentsFit p objects n g arguments) (sym is.0) fit)
 
--- the method that a connection leads to is there
-pub joined-member : {p : Loaded} {objects : List Object} {c : Connection} → (j : Joined p objects c) → IsMember p objects c.receiver c.method j.receiver j.method
-joined-member j = record { is_object = j.is_receiver; is_method = j.is_method }
-
--- .. and takes the first arguments of the signal
+-- the method that a connection leads to takes the first arguments of the signal
 pub delivered-fits : {p : Loaded} {objects : List Object} {c : Connection} {x : Object} {method : MetaMethod} {arguments taken : List Value} {count : ℕ} → Joined p objects c → ArgumentsFit p objects c.sender c.signal arguments → IsMember p objects c.receiver c.method x method → taken ≡ take count arguments → count ≡ length method.kinds → ArgumentsFit p objects c.receiver c.method taken
 delivered-fits {p} {objects} {c} {x} {method} {arguments} {taken} j fit is cut count_is =
-    let sender : IsMember p objects c.sender c.signal j.sender j.signal = record { is_object = j.is_sender; is_method = j.is_signal } in
-    let of_signal : HaveTypes p (class_of objects) arguments j.signal.kinds = fit-typed sender fit in
+    let of_signal : HaveTypes p (class_of objects) arguments j.signal.kinds = fit-typed j.sends fit in
     let split : HaveTypes p (class_of objects) arguments (j.method.kinds ++ j.rest) = subst (λ (l : List ValueType). HaveTypes p (class_of objects) arguments l) j.fits of_signal in
     let front : HaveTypes p (class_of objects) (take (length j.method.kinds) arguments) j.method.kinds = types-front p (class_of objects) arguments j.method.kinds j.rest split in
     let long : taken ≡ take (length method.kinds) arguments = cut ∙ ap (λ (n : ℕ). take n arguments) count_is in
-    let has : ArgumentsFit p objects c.receiver c.method (take (length j.method.kinds) arguments) = fit-of (joined-member j) front in
-    let At : Object → Type 0 = λ z. IsMethod p z.class c.method method in
-    let there : IsMethod p j.receiver.class c.method method = subst At (some-is is.is_object j.is_receiver) is.is_method in
-    let same : j.method ≡ method = method-unique j.is_method there in
+    let has : ArgumentsFit p objects c.receiver c.method (take (length j.method.kinds) arguments) = fit-of j.receives front in
+    let same : j.method ≡ method = member-method j.receives is in
     let taken_is : taken ≡ take (length j.method.kinds) arguments = long ∙ ap (λ (k : MetaMethod). take (length k.kinds) arguments) (sym same) in
     subst (λ (l : List Value). ArgumentsFit p objects c.receiver c.method l) (sym taken_is) has
 
@@ -191,16 +176,12 @@ delivery-calls {p} {w} {c} {x} {method} {arguments} {taken} {count} o g used las
   gives = λ below t b.
       let s : State = at w (Emit o g arguments used last ∷ below) in
       let over : List Activation = Emit o g arguments c.number last ∷ below in
-      let has : IsMember p w.objects c.receiver c.method b.object b.method = record { is_object = b.is_object; is_method = b.is_method } in
-      let At : Object → Type 0 = λ z. IsMethod p z.class c.method method in
-      let there : IsMethod p b.object.class c.method method = subst At (some-is is.is_object b.is_object) is.is_method in
-      let same : method ≡ b.method = method-unique there b.is_method in
+      let same : method ≡ b.method = member-method is b.is in
       let taken_is : taken ≡ take (length b.method.kinds) arguments = cut ∙ ap (λ (n : ℕ). take n arguments) count_is ∙ ap (λ (k : MetaMethod). take (length k.kinds) arguments) same in
       let uses : Uses p s over c arguments t = record {
         receiver = b.object;
-        is_receiver = b.is_object;
         method = b.method;
-        is_method = b.is_method;
+        is = b.is;
         gives = b.gives ∙ ap (λ (l : List Value). begun s over c.receiver b.object c.method b.method l b.method.work) taken_is;
       } in
       let Next : Option Connection → Type 0 = λ n. EmitRule p s o g arguments last below t n in

@@ -12,7 +12,7 @@ use Rattle.object_tree.specs.declared.object.Object.{Object}
 use Rattle.object_tree.specs.Objects.{written, class_of}
 use Rattle.machine_rules.specs.Good.{AreTyped}
 use Rattle.object_tree.specs.Typed.{IsTyped}
-use Rattle.machine_rules.specs.Reaches.{IsMember, IsField}
+use Rattle.machine_rules.specs.There.{IsMember, IsField}
 use Rattle.machine_rules.proofs.Shapes.{classes-same, shapes-written}
 
 -- ---- what numbers lead to is unique
@@ -33,6 +33,13 @@ pub member-method : {p : Loaded} {objects : List Object} {o m : ℕ} {x y : Obje
 member-method {p} {m = m} {y = y} {b = b} u v =
     let At : Object → Type 0 = λ z. IsMethod p z.class m b in
     method-unique u.is_method (subst At (sym (member-object u v)) v.is_method)
+
+pub field-property : {p : Loaded} {objects : List Object} {o q : ℕ} {x y : Object} {a b : MetaProperty} → IsField p objects o q x a → IsField p objects o q y b → a ≡ b
+field-property {p} {q = q} {b = b} u v =
+    let At : Object → Type 0 = λ z. IsClass p z.class v.class in
+    let class_is : u.class ≡ v.class = class-unique u.is_class (subst At (sym (some-is u.is_object v.is_object)) v.is_class) in
+    let In : MetaObject → Type 0 = λ c. slice_get c.properties q ≡ Some b in
+    some-is u.is_property (subst In (sym class_is) v.is_property)
 
 -- a method of an object is one of its class
 pub member-at : {p : Loaded} {objects : List Object} {o m : ℕ} {x y : Object} {method : MetaMethod} → slice_get objects o ≡ Some y → IsMember p objects o m x method → IsMethod p y.class m method

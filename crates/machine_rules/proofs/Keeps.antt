@@ -19,6 +19,7 @@ use Rattle.meta_model.specs.Values.{Has, HaveTypes, number_has, truth_has, text_
 use Rattle.meta_model.specs.declared.object.ValueType.{ValueType}
 use Rattle.object_tree.specs.Objects.{class_of, written}
 use Rattle.machine_state.specs.declared.entry.Entry.{Entry}
+use Rattle.machine_rules.specs.There.{IsMember}
 use Rattle.machine_rules.specs.Good.{AreTyped, ArgumentsFit}
 use Rattle.machine_rules.specs.Runs.{Rules, done, then}
 use Rattle.machine_rules.specs.Sound.{Sound, Joined}
@@ -38,6 +39,13 @@ there-of-class (x ∷ xs) (suc i) class e = there-of-class xs i class e
 
 pub stays : (old new : List Object) (o : ℕ) {x : Object} → StayThere old new → slice_get old o ≡ Some x → (y : Object) × (slice_get new o ≡ Some y) × (y.class ≡ x.class)
 stays old new o {x} stay is = there-of-class new o x.class (stay o x.class (ap (λ (f : Option Object). option_map (λ (y : Object). y.class) f) is))
+
+-- a method of an object stays one of it
+pub member-still : {p : Loaded} {old new : List Object} {o m : ℕ} {x : Object} {method : MetaMethod} → StayThere old new → IsMember p old o m x method → (y : Object) × IsMember p new o m y method
+member-still {p} {old} {new} {o} {m} {x} {method} stay is =
+    let there = stays old new o stay is.is_object in
+    let Methods : ℕ → Type 0 = λ k. IsMethod p k m method in
+    (there.0, record { is_object = there.1; is_method = subst Methods (sym there.2) is.is_method })
 
 -- what has a type has it still
 value-stays : (p : Loaded) (f g : ℕ → Option ℕ) → ((o class : ℕ) → f o ≡ Some class → g o ≡ Some class) → (v : Value) (T : ValueType) → Has p f v T → Has p g v T
@@ -61,19 +69,15 @@ same-stay old new same o class is = ap (λ (f : ℕ → Option ℕ). f o) (class
 
 joined-still : {p : Loaded} {old new : List Object} (c : Connection) → StayThere old new → Joined p old c → Joined p new c
 joined-still {p} {old} {new} c stay j =
-    let sender = stays old new c.sender stay j.is_sender in
-    let receiver = stays old new c.receiver stay j.is_receiver in
-    let Signals : ℕ → Type 0 = λ k. IsMethod p k c.signal j.signal in
-    let Methods : ℕ → Type 0 = λ k. IsMethod p k c.method j.method in
+    let sender = member-still stay j.sends in
+    let receiver = member-still stay j.receives in
     record {
       sender = sender.0;
-      is_sender = sender.1;
       signal = j.signal;
-      is_signal = subst Signals (sym sender.2) j.is_signal;
+      sends = sender.1;
       receiver = receiver.0;
-      is_receiver = receiver.1;
       method = j.method;
-      is_method = subst Methods (sym receiver.2) j.is_method;
+      receives = receiver.1;
       rest = j.rest;
       fits = j.fits;
     }
@@ -100,7 +104,7 @@ begins-kept {p = p} {s = s} {below = below} {o = o} {m = m} {arguments = argumen
 
 pub writes-kept : {p : Loaded} {s : State} {below : List Activation} {o q : ℕ} {new : Value} {t : State} → Writes p s below o q new t → Keeps p s 1 t 0
 writes-kept {p = p} {s = s} {o = o} {q = q} {new = new} x =
-    let stay : StayThere s.objects (slice_set s.objects o (written q new x.object)) = same-stay s.objects _ (shapes-written s.objects o x.object q new x.is_object) in
+    let stay : StayThere s.objects (slice_set s.objects o (written q new x.object)) = same-stay s.objects _ (shapes-written s.objects o x.object q new x.is.is_object) in
     keeps-is x.gives (record {
       objects = stay;
       joined = λ all. all-joined-still p s.objects _ s.connections stay all;
@@ -211,12 +215,10 @@ keeps-trans x y = record {
 -- arguments fit as long as the objects stay there
 pub fit-still : {p : Loaded} {w v : World} {o m : ℕ} {arguments : List Value} → KeepsWorld p w v → ArgumentsFit p w.objects o m arguments → ArgumentsFit p v.objects o m arguments
 fit-still {p} {w} {v} {o} {m} {arguments} keeps fit =
-    let q = stays w.objects v.objects o keeps.objects fit.is_object in
-    let Methods : ℕ → Type 0 = λ k. IsMethod p k m fit.method in
+    let there = member-still keeps.objects fit.is in
     record {
-      object = q.0;
-      is_object = q.1;
+      object = there.0;
       method = fit.method;
-      is_method = subst Methods (sym q.2) fit.is_method;
+      is = there.1;
       typed = values-stay p (class_of w.objects) (class_of v.objects) keeps.objects arguments fit.method.kinds fit.typed;
     }

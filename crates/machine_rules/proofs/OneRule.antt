@@ -2,12 +2,11 @@
 use Rattle.std.proofs.Common.{◌≡◌, ℕ, List, [], ◌∷◌, length, take, Option, Some, None, slice_get, slice_set, refl, sym, ap, ◌∙◌, subst}
 use Rattle.signatures.specs.declared.value.Value.{Value}
 use Rattle.meta_model.specs.declared.object.MetaMethod.{MetaMethod}
-use Rattle.meta_model.specs.declared.object.MetaObject.{MetaObject}
 use Rattle.meta_model.specs.declared.object.MetaProperty.{MetaProperty}
 use Rattle.meta_model.specs.declared.object.Statement.{Statement}
 use Rattle.meta_model.specs.declared.object.Work.TheVariants.{Signal}
 use Rattle.meta_model.specs.Loaded.{Loaded}
-use Rattle.meta_model.specs.Members.{IsClass, IsMethod}
+use Rattle.meta_model.specs.Members.{IsMethod}
 use Rattle.object_tree.specs.declared.object.Object.{Object}
 use Rattle.object_tree.specs.Objects.{written}
 use Rattle.machine_state.specs.declared.connections.Connection.{Connection}
@@ -17,7 +16,7 @@ use Rattle.machine_state.specs.Objects.{shown}
 use Rattle.machine_state.specs.State.{State, Place, Activation, Body, Emit, Update}
 use Rattle.machine_rules.specs.Doings.{Doing, Write, Begin, Choose, Nothing}
 use Rattle.machine_rules.specs.Rules.{Rule, RuleAt, BodyRule, Does, EmitRule, Uses, UpdateRule, Notifies, Begins, Writes, IsNotified, changed, unchanged, silent, begun, pushed}
-use Rattle.machine_rules.proofs.Fields.{some-is, class-unique, method-unique}
+use Rattle.machine_rules.proofs.Fields.{some-is, method-unique, member-object, member-method, field-property}
 
 -- two methods of one number of one object's class
 method-is : {p : Loaded} {x y : Object} {m n : ℕ} {a b : MetaMethod} → x ≡ y → m ≡ n → IsMethod p x.class m a → IsMethod p y.class n b → a ≡ b
@@ -26,19 +25,13 @@ method-is {p} {x} {y} {m} {n} {a} {b} object_is number_is f g =
     let Numbered : ℕ → Type 0 = λ k. IsMethod p x.class k b in
     method-unique f (subst Numbered (sym number_is) (subst At (sym object_is) g))
 
-class-is : {p : Loaded} {x y : Object} {a b : MetaObject} → x ≡ y → IsClass p x.class a → IsClass p y.class b → a ≡ b
-class-is {p} {b = b} object_is f g = let At : Object → Type 0 = λ z. IsClass p z.class b in class-unique f (subst At (sym object_is) g)
-
-property-is : (q : ℕ) {k l : MetaObject} {a b : MetaProperty} → k ≡ l → slice_get k.properties q ≡ Some a → slice_get l.properties q ≡ Some b → a ≡ b
-property-is q {b = b} class_is f g = let At : MetaObject → Type 0 = λ c. slice_get c.properties q ≡ Some b in some-is f (subst At (sym class_is) g)
-
 value-is : (q : ℕ) {x y : Object} {a b : Value} → x ≡ y → slice_get x.values q ≡ Some a → slice_get y.values q ≡ Some b → a ≡ b
 value-is q {b = b} object_is f g = let At : Object → Type 0 = λ z. slice_get z.values q ≡ Some b in some-is f (subst At (sym object_is) g)
 
 pub begins-one : {p : Loaded} {s t u : State} {below : List Activation} {o m : ℕ} {arguments : List Value} → Begins p s below o m arguments t → Begins p s below o m arguments u → t ≡ u
 begins-one {s = s} {below = below} {o = o} {m = m} {arguments = arguments} a b =
-    let object_is : a.object ≡ b.object = some-is a.is_object b.is_object in
-    let method_is : a.method ≡ b.method = method-is object_is refl a.is_method b.is_method in
+    let object_is : a.object ≡ b.object = member-object a.is b.is in
+    let method_is : a.method ≡ b.method = member-method a.is b.is in
     a.gives
     ∙ ap (λ (x : Object). begun s below o x m a.method arguments a.method.work) object_is
     ∙ ap (λ (k : MetaMethod). begun s below o b.object m k arguments k.work) method_is
@@ -53,9 +46,8 @@ notified-one silent silent = refl
 
 pub writes-one : {p : Loaded} {s t u : State} {below : List Activation} {o q : ℕ} {new : Value} → Writes p s below o q new t → Writes p s below o q new u → t ≡ u
 writes-one {s = s} {below = below} {o = o} {q = q} {new = new} a b =
-    let object_is : a.object ≡ b.object = some-is a.is_object b.is_object in
-    let class_is : a.class ≡ b.class = class-is object_is a.is_class b.is_class in
-    let property_is : a.property ≡ b.property = property-is _ class_is a.is_property b.is_property in
+    let object_is : a.object ≡ b.object = some-is a.is.is_object b.is.is_object in
+    let property_is : a.property ≡ b.property = field-property a.is b.is in
     let old_is : a.old ≡ b.old = value-is _ object_is a.is_old b.is_old in
     let place : Place = record { object = o; property = q } in
     let Of : Value → MetaProperty → Type 0 = λ v k. IsNotified v new place k.notify b.places in
@@ -84,8 +76,8 @@ body-one p s o m arguments below t u (x ∷ rest) a b =
 
 uses-one : {p : Loaded} {s t u : State} {below : List Activation} {c : Connection} {arguments : List Value} → Uses p s below c arguments t → Uses p s below c arguments u → t ≡ u
 uses-one {s = s} {below = below} {c = c} {arguments = arguments} a b =
-    let receiver_is : a.receiver ≡ b.receiver = some-is a.is_receiver b.is_receiver in
-    let method_is : a.method ≡ b.method = method-is receiver_is refl a.is_method b.is_method in
+    let receiver_is : a.receiver ≡ b.receiver = member-object a.is b.is in
+    let method_is : a.method ≡ b.method = member-method a.is b.is in
     let state_of : Object → MetaMethod → State = λ x k. begun s below c.receiver x c.method k (take (length k.kinds) arguments) k.work in
     a.gives ∙ ap (λ (x : Object). state_of x a.method) receiver_is ∙ ap (λ (k : MetaMethod). state_of b.receiver k) method_is ∙ sym b.gives
 
@@ -95,9 +87,8 @@ emit-one p s o g arguments last below t u (Some c) a b = uses-one a b
 
 notifies-one : {p : Loaded} {s t u : State} {below : List Activation} {place : Place} → Notifies p s below place t → Notifies p s below place u → t ≡ u
 notifies-one {s = s} {below = below} {place = place} a b =
-    let object_is : a.object ≡ b.object = some-is a.is_object b.is_object in
-    let class_is : a.class ≡ b.class = class-is object_is a.is_class b.is_class in
-    let property_is : a.property ≡ b.property = property-is _ class_is a.is_property b.is_property in
+    let object_is : a.object ≡ b.object = some-is a.is.is_object b.is.is_object in
+    let property_is : a.property ≡ b.property = field-property a.is b.is in
     let both : Some a.signal ≡ Some b.signal = sym a.is_signal ∙ ap (λ (k : MetaProperty). k.notify) property_is ∙ b.is_signal in
     let signal_is : a.signal ≡ b.signal = cc both in
     let present_is : a.present ≡ b.present = value-is _ object_is a.is_present b.is_present in

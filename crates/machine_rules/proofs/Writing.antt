@@ -22,9 +22,10 @@ use Rattle.machine_state.specs.Objects.{shown}
 use Rattle.machine_state.specs.State.{State, Activation, Update}
 use Rattle.machine_rules.specs.Rules as rules
 use Rattle.machine_rules.specs.Rules.{Writes, Notifies, IsNotified, begun}
+use Rattle.machine_rules.specs.There.{IsMember, IsField}
 use Rattle.machine_rules.specs.Good.{AreTyped, ArgumentsFit, IsWell}
 use Rattle.machine_state.specs.Worlds.{at, set_in}
-use Rattle.machine_rules.specs.Reaches.{Reaches, StopsIn, Ends, Calls, Sets, IsMember, IsField, Announces, MayAnnounce, places_of, Changes, changed, unchanged, silent}
+use Rattle.machine_rules.specs.Reaches.{Reaches, StopsIn, Ends, Calls, Sets, Announces, MayAnnounce, places_of, Changes, changed, unchanged, silent}
 use Rattle.machine_rules.proofs.Reaching.{reaches-high, ends-after, ends-lifted, stops-deep, stops-ill, stops-stuck}
 use Rattle.machine_rules.proofs.Fields.{some-is, class-unique, method-unique, typed-written, written-typed, field-written, old-there, types-get, map-get, kind_of}
 use Rattle.machine_rules.specs.Sound.{Sound}
@@ -50,11 +51,8 @@ writes-there {h = h} {o = o} {q = q} {x = x} {property = property} {new = new} {
     let with_depth : ℕ → State = λ n. at (written_world w n o x q property new) (Update (places_of o q result) ∷ to ∷ below) in
     record {
       object = x;
-      is_object = f.is_object;
-      class = f.class;
-      is_class = f.is_class;
       property = property;
-      is_property = f.is_property;
+      is = f;
       old = old;
       is_old = is_old;
       places = places_of o q result;
@@ -99,7 +97,7 @@ stops-write-ill {p} {o = o} {q = q} {w = w} {from = from} {to = to} {x = x} {pro
 
 -- there is no such property
 pub stops-no-field : {p : Loaded} {d h o q : ℕ} {w : World} {from to : Activation} {new : Value} → Sets p w from to o q new → ((x : Object) (property : MetaProperty) → ¬ IsField p w.objects o q x property) → 0 < w.left → StopsIn p d h w (from ∷ []) w BadType
-stops-no-field sets none some = stops-stuck some (λ below t r. let k = sets.only below t r in none k.object k.property (record { is_object = k.is_object; class = k.class; is_class = k.is_class; is_property = k.is_property }))
+stops-no-field sets none some = stops-stuck some (λ below t r. let k = sets.only below t r in none k.object k.property k.is)
 
 -- ---- notifications
 
@@ -155,28 +153,25 @@ announcement-calls {p} {w} {o} {q} {signal} {count} {x} {method} {present} {take
   gives = λ below t b.
       let s : State = at w (Update (places_of o q (Some signal)) ∷ below) in
       let over : List Activation = Update [] ∷ below in
-      let object_is : a.object ≡ b.object = some-is a.is.is_object b.is_object in
-      let here_is : x ≡ b.object = some-is is.is_object b.is_object in
+      let object_is : a.object ≡ b.object = some-is a.is.is_object b.is.is_object in
+      let here_is : x ≡ b.object = some-is is.is_object b.is.is_object in
       let At : Object → MetaMethod → Type 0 = λ z k. IsMethod p z.class signal k in
       let declared : IsMethod p b.object.class signal a.sound.signal = subst (λ (z : Object). At z a.sound.signal) object_is ((announced-member a).is_method) in
-      let declared_is : a.sound.signal ≡ b.method = method-unique declared b.is_method in
-      let found_is : method ≡ b.method = method-unique (subst (λ (z : Object). At z method) here_is is.is_method) b.is_method in
+      let declared_is : a.sound.signal ≡ b.method = method-unique declared b.is.is_method in
+      let found_is : method ≡ b.method = method-unique (subst (λ (z : Object). At z method) here_is is.is_method) b.is.is_method in
       let work_is : b.method.work ≡ Signal = ap (λ (k : MetaMethod). k.work) (sym declared_is) ∙ a.sound.signals in
       let taken_is : taken ≡ take (length b.method.kinds) (present ∷ []) = cut ∙ ap (λ (n : ℕ). take n (present ∷ [])) count_is ∙ ap (λ (k : MetaMethod). take (length k.kinds) (present ∷ [])) found_is in
       let Class : Object → Type 0 = λ z. IsClass p z.class a.is.class in
       let notifies : Notifies p s over (record { object = o; property = q }) t = record {
         object = b.object;
-        is_object = b.is_object;
-        class = a.is.class;
-        is_class = subst Class object_is a.is.is_class;
         property = a.property;
-        is_property = a.is.is_property;
+        is = record { is_object = b.is.is_object; class = a.is.class; is_class = subst Class object_is a.is.is_class; is_property = a.is.is_property };
         signal = signal;
         is_signal = a.is_signal;
         present = present;
         is_present = ap (λ (z : Object). slice_get z.values q) (sym here_is) ∙ is_present;
         method = b.method;
-        is_method = b.is_method;
+        is_method = b.is.is_method;
         gives = b.gives ∙ ap (λ (l : List Value). begun s over o b.object signal b.method l b.method.work) taken_is ∙ ap (λ (k : Work). begun s over o b.object signal b.method (take (length b.method.kinds) (present ∷ [])) k) work_is;
       } in
       notifies;

@@ -3,19 +3,18 @@ use Rattle.std.specs.Prelude.{◌≡◌, ℕ, ◌<◌, ◌≤◌, List, [], ◌�
 use Rattle.signatures.specs.declared.value.Value.{Value}
 use Rattle.meta_model.specs.declared.object.MetaMethod.{MetaMethod}
 use Rattle.meta_model.specs.Loaded.{Loaded}
-use Rattle.meta_model.specs.Members.{IsMethod}
 use Rattle.meta_model.specs.Values.{HaveTypes}
 use Rattle.object_tree.specs.declared.object.Object.{Object}
 use Rattle.object_tree.specs.Objects.{class_of}
 use Rattle.object_tree.specs.Typed.{IsTyped}
+use Rattle.machine_rules.specs.There.{IsMember}
 use Rattle.machine_state.specs.State.{State, Activation, Body, Emit, Update}
 
 -- the arguments are as many as the object's method declares, each of its type
 pub record ArgumentsFit (p : Loaded) (objects : List Object) (o m : ℕ) (arguments : List Value) : Type 0 where
   pub object : Object
-  pub is_object : slice_get objects o ≡ Some object
   pub method : MetaMethod
-  pub is_method : IsMethod p object.class m method
+  pub is : IsMember p objects o m object method
   pub typed : HaveTypes p (class_of objects) arguments method.kinds
 
 abbrev pub TopFits : Loaded → List Object → List Activation → Type 0

@@ -1,5 +1,6 @@
 pub mod Paths
 pub mod Doings
+pub mod There
 pub mod Rules
 pub mod Good
 pub mod Runs

@@ -1,14 +1,11 @@
 -- What a call of the machine's code does, whatever activations are below (docs/machine.md, "Runs").
-use Rattle.std.specs.Prelude.{◌≡◌, ◌≢◌, ℕ, ◌<◌, List, [], ◌∷◌, ◌++◌, length, Result, Ok, Err, MatchResult, Bool, Option, Some, None, slice_get}
+use Rattle.std.specs.Prelude.{◌≡◌, ◌≢◌, ℕ, ◌<◌, List, [], ◌∷◌, ◌++◌, length, Result, Ok, Err, MatchResult, Bool, Option, Some, None}
 use Rattle.meta_model.specs.Loaded.{Loaded}
 use Rattle.signatures.specs.declared.value.Value.{Value}
 use Rattle.signatures.specs.declared.value.Value.TheVariants as value
-use Rattle.meta_model.specs.declared.object.MetaMethod.{MetaMethod}
-use Rattle.meta_model.specs.declared.object.MetaObject.{MetaObject}
 use Rattle.meta_model.specs.declared.object.MetaProperty.{MetaProperty}
 use Rattle.meta_model.specs.declared.object.Work.{Work}
 use Rattle.meta_model.specs.declared.object.Work.TheVariants.{Signal, Slot}
-use Rattle.meta_model.specs.Members.{IsClass, IsMethod}
 use Rattle.meta_model.specs.Sound.{IsNotifier}
 use Rattle.expressions.specs.declared.evaluation.EvalFault.{EvalFault}
 use Rattle.expressions.specs.declared.evaluation.EvalFault.TheVariants.{BadType, Memory as NoMemory}
@@ -21,6 +18,7 @@ use Rattle.machine_state.specs.declared.world.World.{World}
 use Rattle.machine_state.specs.Connections.{is_silent}
 use Rattle.machine_state.specs.State.{State, Place, Activation}
 use Rattle.machine_rules.specs.Rules.{Rule, Begins, Writes}
+use Rattle.machine_rules.specs.There.{IsField}
 use Rattle.machine_rules.specs.Runs.{Rules, Reason}
 use Rattle.machine_state.specs.Worlds.{at}
 
@@ -68,18 +66,6 @@ pub record OnlyCalls (p : Loaded) (w : World) (from to : Activation) (o m : ℕ)
 pub record Sets (p : Loaded) (w : World) (from to : Activation) (o q : ℕ) (new : Value) : Type 0 where
   pub gives : (below : List Activation) (t : State) → Writes p (at w (from ∷ below)) (to ∷ below) o q new t → Rule p (at w (from ∷ below)) t
   pub only : (below : List Activation) (t : State) → Rule p (at w (from ∷ below)) t → Writes p (at w (from ∷ below)) (to ∷ below) o q new t
-
--- an object and one of its methods
-pub record IsMember (p : Loaded) (objects : List Object) (o m : ℕ) (x : Object) (method : MetaMethod) : Type 0 where
-  pub is_object : slice_get objects o ≡ Some x
-  pub is_method : IsMethod p x.class m method
-
--- an object and one of its properties
-pub record IsField (p : Loaded) (objects : List Object) (o q : ℕ) (x : Object) (property : MetaProperty) : Type 0 where
-  pub is_object : slice_get objects o ≡ Some x
-  pub class : MetaObject
-  pub is_class : IsClass p x.class class
-  pub is_property : slice_get class.properties q ≡ Some property
 
 -- what is still to be notified of a property: nothing, or this signal of it
 abbrev pub places_of : ℕ → ℕ → Option ℕ → List Place

@@ -6,11 +6,10 @@ use Rattle.meta_model.specs.declared.object.Statement.{Statement}
 use Rattle.meta_model.specs.declared.object.Statement.TheViews.{out-Statement}
 use Rattle.meta_model.specs.declared.object.Work.{Work}
 use Rattle.meta_model.specs.declared.object.Work.TheVariants.{Signal, Slot}
-use Rattle.meta_model.specs.declared.object.MetaObject.{MetaObject}
 use Rattle.meta_model.specs.declared.object.MetaMethod.{MetaMethod}
 use Rattle.meta_model.specs.declared.object.MetaProperty.{MetaProperty}
 use Rattle.meta_model.specs.Loaded.{Loaded}
-use Rattle.meta_model.specs.Members.{IsClass, IsMethod}
+use Rattle.meta_model.specs.Members.{IsMethod}
 use Rattle.object_tree.specs.declared.object.Object.{Object}
 use Rattle.object_tree.specs.Objects.{written}
 use Rattle.machine_state.specs.declared.connections.Connection.{Connection}
@@ -18,6 +17,7 @@ use Rattle.machine_state.specs.declared.entry.Entry.{Entry}
 use Rattle.machine_state.specs.declared.entry.Entry.TheVariants as entry
 use Rattle.machine_state.specs.Connections.{is_silent, next_used}
 use Rattle.machine_state.specs.Objects.{shown, all_shown}
+use Rattle.machine_rules.specs.There.{IsMember, IsField}
 use Rattle.machine_rules.specs.Doings.{Doing, Write, Begin, Choose, Nothing, doing}
 use Rattle.machine_state.specs.State.{State, Place, Activation, Body, Emit, Update}
 
@@ -35,9 +35,8 @@ begun s below o x m method arguments (Slot statements) =
 -- method m of object o begins with these arguments
 pub record Begins (p : Loaded) (s : State) (below : List Activation) (o m : ℕ) (arguments : List Value) (t : State) : Type 0 where
   pub object : Object
-  pub is_object : slice_get s.objects o ≡ Some object
   pub method : MetaMethod
-  pub is_method : IsMethod p object.class m method
+  pub is : IsMember p s.objects o m object method
   pub gives : t ≡ begun s below o object m method arguments method.work
 
 -- ---- writing a property (Qt 6, "The Property System": a notify signal is emitted when the value has changed)
@@ -51,11 +50,8 @@ pub data IsNotified (old new : Value) (place : Place) : Option ℕ → List Plac
 -- a property is written, and what is to be notified is pushed
 pub record Writes (p : Loaded) (s : State) (below : List Activation) (o q : ℕ) (new : Value) (t : State) : Type 0 where
   pub object : Object
-  pub is_object : slice_get s.objects o ≡ Some object
-  pub class : MetaObject
-  pub is_class : IsClass p object.class class
   pub property : MetaProperty
-  pub is_property : slice_get class.properties q ≡ Some property
+  pub is : IsField p s.objects o q object property
   pub old : Value
   pub is_old : slice_get object.values q ≡ Some old
   pub places : List Place
@@ -66,11 +62,8 @@ pub record Writes (p : Loaded) (s : State) (below : List Activation) (o q : ℕ)
 -- the notify signal of a property is emitted, with its present value if the signal has a parameter
 pub record Notifies (p : Loaded) (s : State) (below : List Activation) (place : Place) (t : State) : Type 0 where
   pub object : Object
-  pub is_object : slice_get s.objects place.object ≡ Some object
-  pub class : MetaObject
-  pub is_class : IsClass p object.class class
   pub property : MetaProperty
-  pub is_property : slice_get class.properties place.property ≡ Some property
+  pub is : IsField p s.objects place.object place.property object property
   pub signal : ℕ
   pub is_signal : property.notify ≡ Some signal
   pub present : Value
@@ -113,9 +106,8 @@ BodyRule p s o m arguments below t (statement ∷ rest) = StatementRule p s o m 
 -- a connection is used: its method begins at the receiver, with as many arguments as it declares
 pub record Uses (p : Loaded) (s : State) (below : List Activation) (c : Connection) (arguments : List Value) (t : State) : Type 0 where
   pub receiver : Object
-  pub is_receiver : slice_get s.objects c.receiver ≡ Some receiver
   pub method : MetaMethod
-  pub is_method : IsMethod p receiver.class c.method method
+  pub is : IsMember p s.objects c.receiver c.method receiver method
   pub gives : t ≡ begun s below c.receiver receiver c.method method (take (length method.kinds) arguments) method.work
 
 -- the next connection is used; with none left, and where the object is blocked, the emission ends

@@ -8,7 +8,8 @@ ghost use Rattle.meta_model.specs.declared.object.MetaObject.{MetaObject as AMet
 ghost use Rattle.meta_model.specs.Sound.{IsSoundProperty};
 ghost use Rattle.object_tree.specs.declared.object.Object.{Object as AnObject};
 ghost use Rattle.machine_state.specs.declared.entry.Entry.TheVariants.{Written};
-ghost use Rattle.machine_rules.specs.Reaches.{IsMember, IsField, begin_entry};
+ghost use Rattle.machine_rules.specs.Reaches.{begin_entry};
+ghost use Rattle.machine_rules.specs.There.{IsMember, IsField};
 ghost use Rattle.machine_state.specs.Objects.{shown, all_shown};
 
 use machine_state::{Entry, Natives, World, is_silent, show, show_all};

@@ -1,12 +1,9 @@
 -- An event has one answer.
-use Rattle.std.proofs.Common.{◌≡◌, ℕ, List, Option, Some, slice_get, slice_set, length, Ok, Err, true, false, refl, sym, ap, ◌∙◌, subst}
+use Rattle.std.proofs.Common.{◌≡◌, ℕ, List, Some, slice_get, length, Ok, Err, true, false, sym, ap, ◌∙◌}
 use Rattle.signatures.specs.declared.sig.Sig.{Sig}
-use Rattle.signatures.specs.declared.value.Value.{Value}
 use Rattle.meta_model.specs.declared.object.MetaMethod.{MetaMethod}
 use Rattle.meta_model.specs.declared.object.MetaObject.{MetaObject}
-use Rattle.meta_model.specs.declared.object.MetaProperty.{MetaProperty}
 use Rattle.meta_model.specs.Loaded.{Loaded}
-use Rattle.meta_model.specs.Members.{IsClass, IsMethod}
 use Rattle.meta_model.specs.Sound.{IsSound}
 use Rattle.object_tree.specs.declared.object.Object.{Object}
 use Rattle.script_lang.specs.declared.event.Connect.{Connect as Connecting}
@@ -14,12 +11,8 @@ use Rattle.script_lang.specs.declared.event.Event.TheVariants as event
 use Rattle.script_lang.specs.declared.event.Input.{Input}
 use Rattle.machine_state.specs.declared.refusal.Refusal.{Refusal}
 use Rattle.machine_state.specs.Accepting.{accepted, refused}
-use Rattle.machine_state.specs.State.{State, Place, Activation, Update}
-use Rattle.machine_state.specs.declared.entry.Entry.TheVariants as entry
-use Rattle.machine_state.specs.Objects.{shown}
-use Rattle.object_tree.specs.Objects.{written}
-use Rattle.machine_rules.specs.Rules.{Begins, Writes, IsNotified, changed, unchanged, silent, begun, pushed}
-use Rattle.machine_rules.proofs.Fields.{some-is, class-unique, method-unique}
+use Rattle.machine_state.specs.State.{State}
+use Rattle.machine_rules.proofs.OneRule.{begins-one, writes-one}
 use Rattle.qt_runtime.specs.declared.events.invoke.Invocation.{Invocation}
 use Rattle.qt_runtime.specs.declared.events.invoke.Invocation.TheVariants.{Emit, Call}
 use Rattle.qt_runtime.specs.Judgement.{Numbered}
@@ -64,56 +57,17 @@ one-connect p s e sound =
 one-block : (s : State) (name : List ℕ) (on : _) → HasOneAnswer (block s name on)
 one-block s name on = one-then (one-living s.objects name) (λ o. one-gives _)
 
--- ---- what begins and what is written
-
-one-begins : {p : Loaded} {s t u : State} {below : List Activation} {o m : ℕ} {arguments : List Value} → Begins p s below o m arguments t → Begins p s below o m arguments u → t ≡ u
-one-begins {p} {s} {below = below} {o = o} {m = m} {arguments = arguments} f g =
-    let object : f.object ≡ g.object = some-is f.is_object g.is_object in
-    let At : Object → Type 0 = λ x. IsMethod p x.class m g.method in
-    let method : f.method ≡ g.method = method-unique f.is_method (subst At (sym object) g.is_method) in
-    f.gives
-    ∙ ap (λ (x : Object). begun s below o x m f.method arguments f.method.work) object
-    ∙ ap (λ (k : MetaMethod). begun s below o g.object m k arguments k.work) method
-    ∙ sym g.gives
-
-one-notified : {old new : Value} {place : Place} {notify : Option ℕ} {a b : List Place} → IsNotified old new place notify a → IsNotified old new place notify b → a ≡ b
-one-notified (changed f) (changed g) = refl
-one-notified (changed f) (unchanged g) = absurd (f g)
-one-notified (unchanged f) (changed g) = absurd (g f)
-one-notified (unchanged f) (unchanged g) = refl
-one-notified silent silent = refl
-
-one-writes : {p : Loaded} {s t u : State} {below : List Activation} {o q : ℕ} {new : Value} → Writes p s below o q new t → Writes p s below o q new u → t ≡ u
-one-writes {p} {s} {below = below} {o = o} {q = q} {new = new} f g =
-    let object : f.object ≡ g.object = some-is f.is_object g.is_object in
-    let Class : Object → Type 0 = λ x. IsClass p x.class g.class in
-    let class : f.class ≡ g.class = class-unique f.is_class (subst Class (sym object) g.is_class) in
-    let Property : MetaObject → Type 0 = λ k. slice_get k.properties q ≡ Some g.property in
-    let property : f.property ≡ g.property = some-is f.is_property (subst Property (sym class) g.is_property) in
-    let Old : Object → Type 0 = λ x. slice_get x.values q ≡ Some g.old in
-    let old : f.old ≡ g.old = some-is f.is_old (subst Old (sym object) g.is_old) in
-    let Before : Value → Type 0 = λ v. IsNotified v new (record { object = o; property = q }) g.property.notify g.places in
-    let Of : MetaProperty → Type 0 = λ k. IsNotified f.old new (record { object = o; property = q }) k.notify g.places in
-    let places : f.places ≡ g.places = one-notified f.notified (subst Of (sym property) (subst Before (sym old) g.notified)) in
-    let written_as : Object → MetaProperty → List Place → State = λ x k l.
-    pushed (record s { objects = slice_set s.objects o (written q new x) }) (Update l) below (λ d. entry.Written d x.name k.name (shown s.objects new)) in
-    f.gives
-    ∙ ap (λ (x : Object). written_as x f.property f.places) object
-    ∙ ap (λ (k : MetaProperty). written_as g.object k f.places) property
-    ∙ ap (λ (l : List Place). written_as g.object g.property l) places
-    ∙ sym g.gives
-
 -- ---- events
 
 one-assign : (p : Loaded) (s : State) (name property : List ℕ) (i : Input) → IsSound p → HasOneAnswer (assign p s name property i)
 one-assign p s name property i sound =
     one-then (one-living s.objects name) (λ o. one-then (one-find (λ a b f g. one-property sound a b f.is g.is (f.named ∙ sym g.named))) (λ q.
-    one-then (one-value s.objects i) (λ v. one-then one-check (λ fits. one-becomes (λ t u f g. one-writes f g)))))
+    one-then (one-value s.objects i) (λ v. one-then one-check (λ fits. one-becomes (λ t u f g. writes-one f g)))))
 
 one-invoke : (p : Loaded) (s : State) (a : Invocation) (name called : List ℕ) (inputs : List Input) → IsSound p → HasOneAnswer (invoke p s a name called inputs)
 one-invoke p s a name called inputs sound =
     one-then (one-living s.objects name) (λ o. one-then (one-find (λ x y f g. one-method sound x y f.is g.is (f.named ∙ sym g.named) (f.counted ∙ sym g.counted))) (λ m.
-    one-then (one-values s.objects inputs) (λ vs. one-then one-check (λ fits. one-becomes (λ t u f g. one-begins f g)))))
+    one-then (one-values s.objects inputs) (λ vs. one-then one-check (λ fits. one-becomes (λ t u f g. begins-one f g)))))
 
 pub one_judgement : OneJudgement
 one_judgement p s (event.New name class) sound = one-create p s name class sound

@@ -1,5 +1,5 @@
 -- Why what is going on goes on: its objects, members and statements are there.
-use Rattle.std.proofs.Common.{◌≡◌, ℕ, suc, ◌+◌, ◌<◌, Bool, List, [], ◌∷◌, ◌++◌, length, take, true, false, Option, Some, None, slice_get, slice_set, refl, sym, ap, ◌∙◌, subst, Ok, arith}
+use Rattle.std.proofs.Common.{◌≡◌, ℕ, suc, ◌+◌, ◌<◌, Bool, List, [], ◌∷◌, ◌++◌, length, take, true, false, Option, Some, None, slice_get, slice_set, refl, sym, subst, Ok, arith}
 use Rattle.std.specs.List.{AllByRecursion}
 use Rattle.signatures.specs.declared.value.Value.{Value}
 use Rattle.script_lang.specs.declared.event.Event.{Event}
@@ -12,7 +12,7 @@ use Rattle.meta_model.specs.declared.object.ValueType.{ValueType}
 use Rattle.meta_model.specs.declared.object.Work.{Work}
 use Rattle.meta_model.specs.declared.object.Work.TheVariants.{Signal, Slot}
 use Rattle.meta_model.specs.Loaded.{Loaded}
-use Rattle.meta_model.specs.Members.{IsClass, IsMethod, Below}
+use Rattle.meta_model.specs.Members.{IsClass, Below}
 use Rattle.meta_model.specs.Sound.{IsSound, IsSoundWork, IsSoundBody, AreSound, none_sound, set_sound, emit_sound, call_sound, if_sound}
 use Rattle.meta_model.specs.Values.{HaveTypes}
 use Rattle.machine_state.specs.declared.connections.Connection.{Connection}
@@ -47,8 +47,8 @@ use Rattle.machine_rules.specs.Runs.{Rules}
 use Rattle.machine_rules.specs.Runs as of_rules
 use Rattle.machine_rules.specs.Sound.{Sound, Joined}
 use Rattle.machine_rules.specs.Keeps.{StayThere, Keeps}
-use Rattle.machine_rules.specs.Reaches.{IsField}
-use Rattle.machine_rules.proofs.Fields.{some-is, method-unique, field-written}
+use Rattle.machine_rules.specs.There.{IsMember, IsField}
+use Rattle.machine_rules.proofs.Fields.{member-method, field-written}
 use Rattle.qt_runtime.proofs.Changes.{map-change, map-adopted}
 use Rattle.qt_runtime.proofs.Lists.{all-snoc, all-weaken, get-append}
 use Rattle.machine_rules.proofs.Keeps.{stays, values-stay, same-stay, all-joined-still, rule-kept, begins-kept, writes-kept}
@@ -139,33 +139,32 @@ body-rest {rest = rest} x = body-with x rest (sound-rest x.sound)
 -- ---- rules
 
 -- a slot that is called with arguments that fit
-called-stands : {p : Loaded} {objects : List Object} {o m : ℕ} {x : Object} {method : MetaMethod} {arguments : List Value} {statements : List Statement} → IsSound p → slice_get objects o ≡ Some x → IsMethod p x.class m method → method.work ≡ Slot statements → ArgumentsFit p objects o m arguments → BodyStands p objects o arguments statements
-called-stands {p} {objects} {m = m} {x = x} {method = method} {arguments = arguments} {statements = statements} sound there is work_is fit =
-    let At : Object → Type 0 = λ y. IsMethod p y.class m fit.method in
-    let method_is : fit.method ≡ method = method-unique (subst At (some-is fit.is_object there) fit.is_method) is in
+called-stands : {p : Loaded} {objects : List Object} {o m : ℕ} {x : Object} {method : MetaMethod} {arguments : List Value} {statements : List Statement} → IsSound p → IsMember p objects o m x method → method.work ≡ Slot statements → ArgumentsFit p objects o m arguments → BodyStands p objects o arguments statements
+called-stands {p} {objects} {m = m} {x = x} {method = method} {arguments = arguments} {statements = statements} sound is work_is fit =
+    let method_is : fit.method ≡ method = member-method fit.is is in
     let Typed : MetaMethod → Type 0 = λ k. HaveTypes p (class_of objects) arguments k.kinds in
     let Sound_work : Work → Type 0 = λ w. IsSoundWork p x.class m method.kinds w in
-    let body : IsSoundBody p x.class m method.kinds statements = subst Sound_work work_is ((sound.classes x.class is.class is.is_class).methods m method is.is).work in
-    record { object = x; is_object = there; declaring = body.declaring; below = body.below; kinds = method.kinds; typed = subst Typed method_is fit.typed; sound = body.sound }
+    let body : IsSoundBody p x.class m method.kinds statements = subst Sound_work work_is ((sound.classes x.class is.is_method.class is.is_method.is_class).methods m method is.is_method.is).work in
+    record { object = x; is_object = is.is_object; declaring = body.declaring; below = body.below; kinds = method.kinds; typed = subst Typed method_is fit.typed; sound = body.sound }
 
 -- what stands in a state
 abbrev pub AllStand : Loaded → State → Type 0
 AllStand p s = AllByRecursion (Stands p s.objects) s.stack
 
 -- a method that begins, over what stands
-begun-stands : (p : Loaded) (s : State) (below : List Activation) (o : ℕ) (x : Object) (m : ℕ) (method : MetaMethod) (arguments : List Value) (work : Work) (t : State) → IsSound p → slice_get s.objects o ≡ Some x → IsMethod p x.class m method → method.work ≡ work → t ≡ begun s below o x m method arguments work → length s.stack < suc (length below) → IsWell p s t → AllByRecursion (Stands p s.objects) below → AllStand p t
-begun-stands p s below o x m method arguments Signal t sound there is work_is e higher well lower =
+begun-stands : (p : Loaded) (s : State) (below : List Activation) (o : ℕ) (x : Object) (m : ℕ) (method : MetaMethod) (arguments : List Value) (work : Work) (t : State) → IsSound p → IsMember p s.objects o m x method → method.work ≡ work → t ≡ begun s below o x m method arguments work → length s.stack < suc (length below) → IsWell p s t → AllByRecursion (Stands p s.objects) below → AllStand p t
+begun-stands p s below o x m method arguments Signal t sound is work_is e higher well lower =
     let Family : State → Type 0 = λ u. AllStand p u in
     subst Family (sym e) (tt, lower)
-begun-stands p s below o x m method arguments (Slot statements) t sound there is work_is e higher well lower =
+begun-stands p s below o x m method arguments (Slot statements) t sound is work_is e higher well lower =
     let Family : State → Type 0 = λ u. AllStand p u in
     let Fit : State → Type 0 = λ u. length s.stack < length u.stack → TopFits p u.objects u.stack in
     let fits : Fit (begun s below o x m method arguments (Slot statements)) = subst Fit e well.arguments in
-    subst Family (sym e) (called-stands sound there is work_is (fits higher), lower)
+    subst Family (sym e) (called-stands sound is work_is (fits higher), lower)
 
 module _ {p : Loaded} {s t : State} (sound : IsSound p) (well : IsWell p s t) where
   begins-stands : {below : List Activation} {o m : ℕ} {arguments : List Value} → Begins p s below o m arguments t → length s.stack < suc (length below) → AllByRecursion (Stands p s.objects) below → AllStand p t
-  begins-stands {below} {o} {m} {arguments} b higher lower = begun-stands p s below o b.object m b.method arguments b.method.work t sound b.is_object b.is_method refl b.gives higher well lower
+  begins-stands {below} {o} {m} {arguments} b higher lower = begun-stands p s below o b.object m b.method arguments b.method.work t sound b.is refl b.gives higher well lower
 
   notified-stands : {objects : List Object} {old new : Value} {place : Place} {x : Object} {property : MetaProperty} {notify : Option ℕ} {places : List Place} → IsField p objects place.object place.property x property → property.notify ≡ notify → IsNotified old new place notify places → AllByRecursion (PlaceStands p objects) places
   notified-stands {x = x} {property = property} f e (changed {signal = signal} h) = (record { object = x; property = property; is = f; signal = signal; notifies = e }, tt)
@@ -175,10 +174,9 @@ module _ {p : Loaded} {s t : State} (sound : IsSound p) (well : IsWell p s t) wh
   writes-stands : {below : List Activation} {o q : ℕ} {new : Value} → Writes p s below o q new t → AllByRecursion (Stands p s.objects) below → AllStand p t
   writes-stands {below} {o} {q} {new} w lower =
       let after : List Object = slice_set s.objects o (written q new w.object) in
-      let field : IsField p s.objects o q w.object w.property = record { is_object = w.is_object; class = w.class; is_class = w.is_class; is_property = w.is_property } in
-      let places : AllByRecursion (PlaceStands p after) w.places = notified-stands (field-written new field) refl w.notified in
+      let places : AllByRecursion (PlaceStands p after) w.places = notified-stands (field-written new w.is) refl w.notified in
       let Family : State → Type 0 = λ u. AllStand p u in
-      subst Family (sym w.gives) (places, all-weaken (Stands p s.objects) (Stands p after) below (stands-still p s.objects after (same-stay s.objects after (shapes-written s.objects o w.object q new w.is_object))) lower)
+      subst Family (sym w.gives) (places, all-weaken (Stands p s.objects) (Stands p after) below (stands-still p s.objects after (same-stay s.objects after (shapes-written s.objects o w.object q new w.is.is_object))) lower)
 
   -- the stack is another one, and the objects are the same
   as-is : {u : State} → t ≡ u → AllStand p u → AllStand p t
@@ -199,7 +197,7 @@ module _ {p : Loaded} {s t : State} (sound : IsSound p) (well : IsWell p s t) wh
   emission-stands : (o g : ℕ) (arguments : List Value) (last : ℕ) (below : List Activation) (found : Option Connection) → AllByRecursion (Stands p s.objects) below → length s.stack ≡ suc (length below) → EmitRule p s o g arguments last below t found → AllStand p t
   emission-stands o g arguments last below None lower high r = as-is r lower
   emission-stands o g arguments last below (Some c) lower high r =
-      begun-stands p s (Emit o g arguments c.number last ∷ below) c.receiver r.receiver c.method r.method (take (length r.method.kinds) arguments) r.method.work t sound r.is_receiver r.is_method refl r.gives (omega (arith, high)) well (tt, lower)
+      begun-stands p s (Emit o g arguments c.number last ∷ below) c.receiver r.receiver c.method r.method (take (length r.method.kinds) arguments) r.method.work t sound r.is refl r.gives (omega (arith, high)) well (tt, lower)
 
   update-stands : (below : List Activation) (places : List Place) → AllByRecursion (PlaceStands p s.objects) places → AllByRecursion (Stands p s.objects) below → UpdateRule p s below t places → AllStand p t
   update-stands below [] there lower r = as-is r lower
@@ -220,16 +218,17 @@ module _ {p : Loaded} {s t : State} (sound : IsSound p) (well : IsWell p s t) wh
 
 -- ---- events
 
+member-more : {p : Loaded} {o m : ℕ} {x : Object} {method : MetaMethod} (objects more : List Object) → IsMember p objects o m x method → IsMember p (objects ++ more) o m x method
+member-more {o = o} {x = x} objects more is = record { is_object = get-append objects more o x is.is_object; is_method = is.is_method }
+
 joined-more : {p : Loaded} (objects more : List Object) (c : Connection) → Joined p objects c → Joined p (objects ++ more) c
 joined-more objects more c j = record {
   sender = j.sender;
-  is_sender = get-append objects more c.sender j.sender j.is_sender;
   signal = j.signal;
-  is_signal = j.is_signal;
+  sends = member-more objects more j.sends;
   receiver = j.receiver;
-  is_receiver = get-append objects more c.receiver j.receiver j.is_receiver;
   method = j.method;
-  is_method = j.is_method;
+  receives = member-more objects more j.receives;
   rest = j.rest;
   fits = j.fits;
 }
@@ -261,13 +260,11 @@ connection-joined e n a b g m sound sender receiver signal method fits =
     let front = kinds-fit sound signal.of.is method.is (subst Method_types (sym method.signed) (subst Signal_types (sym signal.of.signed) fits)) in
     record {
       sender = a.it;
-      is_sender = sender.is.is;
       signal = front.0;
-      is_signal = front.1;
+      sends = record { is_object = sender.is.is; is_method = front.1 };
       receiver = b.it;
-      is_receiver = receiver.is.is;
       method = m.it;
-      is_method = method.is;
+      receives = record { is_object = receiver.is.is; is_method = method.is };
       rest = front.2.0;
       fits = front.2.1;
     }

@@ -28,7 +28,7 @@ use Rattle.machine_state.specs.Connections.{next_used}
 use Rattle.machine_rules.specs.Runs.{IsStuck}
 use Rattle.qt_runtime.specs.Runs.{Reason}
 use Rattle.qt_runtime.specs.Causes.{LacksValue, Cause}
-use Rattle.machine_rules.specs.Reaches.{IsField}
+use Rattle.machine_rules.specs.There.{IsField}
 use Rattle.machine_rules.proofs.Beginning.{find-some, used-is}
 use Rattle.machine_rules.proofs.Fields.{old-there}
 use Rattle.qt_runtime.proofs.Inherited.{method-below, property-below}
@@ -50,11 +50,11 @@ module _ {p : Loaded} {s : State} (sound : IsSound p) (up : Invariant p s) where
       let own = property-below sound beneath is in
       let field : IsField p s.objects o q x property = record { is_object = there; class = own.class; is_class = own.is_class; is_property = own.is } in
       let old = old-there field up.sound.typed in
-      notified-somehow old.0 new (record { object = o; property = q }) property.notify (λ places notified. none _ (record { object = x; is_object = there; class = own.class; is_class = own.is_class; property = property; is_property = own.is; old = old.0; is_old = old.1; places = places; notified = notified; gives = refl }))
+      notified-somehow old.0 new (record { object = o; property = q }) property.notify (λ places notified. none _ (record { object = x; property = property; is = field; old = old.0; is_old = old.1; places = places; notified = notified; gives = refl }))
 
   -- a method that is there may begin
   no-begin : {o m c : ℕ} {x : Object} {method : MetaMethod} {arguments : List Value} {below : List Activation} → slice_get s.objects o ≡ Some x → Below p x.class c → IsMethod p c m method → ((t : State) → ¬ Begins p s below o m arguments t) → ⊥
-  no-begin {x = x} {method = method} there beneath is none = none _ (record { object = x; is_object = there; method = method; is_method = method-below sound beneath is; gives = refl })
+  no-begin {x = x} {method = method} there beneath is none = none _ (record { object = x; method = method; is = record { is_object = there; is_method = method-below sound beneath is }; gives = refl })
 
   module _ (o m : ℕ) (arguments : List Value) (rest : List Statement) (below : List Activation) where
     -- nothing of this can be done
@@ -116,7 +116,7 @@ module _ {p : Loaded} {s : State} (sound : IsSound p) (up : Invariant p s) where
   emission-goes o g arguments last below None delivers stuck = stuck _ refl
   emission-goes o g arguments last below (Some c) delivers stuck =
       let d = delivers c refl in
-      stuck _ (record { receiver = d.receiver; is_receiver = d.is_receiver; method = d.method; is_method = d.is_method; gives = refl })
+      stuck _ (record { receiver = d.receiver; method = d.method; is = d.receives; gives = refl })
 
   -- .. and so has an update
   update-goes : (below : List Activation) (places : List Place) → AllByRecursion (PlaceStands p s.objects) places → ((t : State) → ¬ UpdateRule p s below t places) → ⊥
@@ -127,11 +127,8 @@ module _ {p : Loaded} {s : State} (sound : IsSound p) (up : Invariant p s) where
       let present = old-there x.is up.sound.typed in
       stuck _ (record {
         object = x.object;
-        is_object = x.is.is_object;
-        class = x.is.class;
-        is_class = x.is.is_class;
         property = x.property;
-        is_property = x.is.is_property;
+        is = x.is;
         signal = x.signal;
         is_signal = x.notifies;
         present = present.0;

@@ -21,7 +21,8 @@ use Rattle.machine_state.specs.Accepting.{accepted, with_entry}
 use Rattle.machine_state.specs.Worlds.{at, after}
 use Rattle.machine_state.proofs.Found.{change-there}
 use Rattle.qt_runtime.specs.Takes.{judged, accepts}
-use Rattle.machine_rules.specs.Reaches.{Ends, IsMember, IsField, begin_entry, Changes, places_of}
+use Rattle.machine_rules.specs.There.{IsMember, IsField}
+use Rattle.machine_rules.specs.Reaches.{Ends, begin_entry, Changes, places_of}
 use Rattle.machine_rules.specs.Good.{AreTyped, ArgumentsFit, TopFits}
 use Rattle.machine_rules.specs.Rules.{begun}
 use Rattle.machine_rules.proofs.Beginning.{top_of, top-fits}
@@ -45,9 +46,8 @@ judged-begun {p} {v} {o} {m} {x} {method} {values} {entry} w e work asks is entr
     let pushed : Work → Activation = λ k. top_of o m values w.connected k in
     asks.effect (at v (pushed work ∷ [])) (record {
       object = x;
-      is_object = is.is_object;
       method = method;
-      is_method = is.is_method;
+      is = is;
       gives =
           ap (λ (u : World). at u (pushed work ∷ [])) (v_is ∙ ap noted entry_is)
           ∙ ap (λ (k : Work). at (noted (begin_entry 1 x m method.sig.name (all_shown w.objects values) method.work)) (pushed k ∷ [])) (sym work_is)
@@ -73,11 +73,8 @@ judged-written {p} {v} {o} {q} {x} {property} {old} {value} {changed} {entry} w 
     let stack : List Activation = Update (places_of o q changed) ∷ [] in
     writes.effect (at v stack) (record {
       object = x;
-      is_object = f.is_object;
-      class = f.class;
-      is_class = f.is_class;
       property = property;
-      is_property = f.is_property;
+      is = f;
       old = old;
       is_old = is_old;
       places = places_of o q changed;

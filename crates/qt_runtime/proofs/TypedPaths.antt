@@ -18,7 +18,7 @@ use Rattle.object_tree.specs.Objects.{class_of}
 use Rattle.machine_state.specs.Objects.{stored}
 use Rattle.machine_rules.specs.Paths.{default, root_value, step_value, steps_value, path_value}
 use Rattle.machine_rules.specs.Good.{AreTyped}
-use Rattle.machine_rules.specs.Reaches.{IsField}
+use Rattle.machine_rules.specs.There.{IsField}
 use Rattle.machine_rules.proofs.Fields.{old-there, field-typed, types-get, types-there, map-get, kind_of}
 use Rattle.qt_runtime.proofs.Inherited.{property-below}
 

@@ -24,7 +24,7 @@ use Rattle.machine_state.specs.Accepting.{accepted, refused}
 use Rattle.machine_state.specs.Refusals.{refusal_number}
 use Rattle.machine_state.specs.State.{State, Activation}
 use Rattle.machine_state.specs.Worlds.{at, after, Refuses}
-use Rattle.machine_rules.specs.Reaches.{IsField}
+use Rattle.machine_rules.specs.There.{IsField}
 use Rattle.machine_rules.specs.Rules.{Begins, Writes}
 use Rattle.machine_rules.specs.Sound.{Sound}
 use Rattle.qt_runtime.specs.declared.events.invoke.Invocation.{Invocation}

@@ -1,10 +1,8 @@
 -- `set`.
-use Rattle.std.proofs.Common.{◌≡◌, ℕ, List, [], Some, slice_get, Ok, Err, sym, subst}
+use Rattle.std.proofs.Common.{ℕ, List, [], Ok, Err, subst}
 use Rattle.signatures.specs.declared.value.Value.{Value}
-use Rattle.meta_model.specs.declared.object.MetaObject.{MetaObject}
 use Rattle.meta_model.specs.declared.object.MetaProperty.{MetaProperty}
 use Rattle.meta_model.specs.Loaded.{Loaded}
-use Rattle.meta_model.specs.Members.{IsProperty}
 use Rattle.meta_model.specs.Values.{Has}
 use Rattle.object_tree.specs.declared.object.Object.{Object}
 use Rattle.object_tree.specs.Objects.{class_of}
@@ -13,8 +11,8 @@ use Rattle.script_lang.specs.declared.event.Input.{Input}
 use Rattle.machine_state.specs.declared.refusal.Refusal.TheVariants.{NoMember, BadArgs}
 use Rattle.machine_state.specs.declared.world.World.{World}
 use Rattle.machine_state.specs.Worlds.{at}
-use Rattle.machine_rules.specs.Reaches.{IsField}
-use Rattle.machine_rules.proofs.Fields.{some-is, class-unique}
+use Rattle.machine_rules.specs.There.{IsField}
+use Rattle.machine_rules.proofs.Fields.{field-property}
 use Rattle.qt_runtime.specs.declared.judgement.NotAccepted.{NotAccepted}
 use Rattle.qt_runtime.specs.Judgement.{Numbered, found, missing, holds, fails, becomes, goes_on, ends, IsNotAccepted}
 use Rattle.qt_runtime.specs.Taking.{WritesTo, ValueFits}
@@ -24,19 +22,11 @@ use Rattle.qt_runtime.specs.events.Values.{value}
 use Rattle.qt_runtime.proofs.Judged.{then-ends, then-on}
 use Rattle.qt_runtime.proofs.Judging.Naming.{living-ok}
 
--- a class has one property of a number
-property-unique : {p : Loaded} {c q : ℕ} {a b : MetaProperty} → IsProperty p c q a → IsProperty p c q b → a ≡ b
-property-unique {q = q} x y =
-    let At : MetaObject → Type 0 = λ k. slice_get k.properties q ≡ Some _ in
-    some-is x.is (subst At (sym (class-unique x.is_class y.is_class)) y.is)
-
 -- the value is of the type of a property that is found
 pub fits-field : {p : Loaded} {objects : List Object} {o q : ℕ} {v : Value} {x : Object} {property : MetaProperty} → ValueFits p objects o q v → IsField p objects o q x property → Has p (class_of objects) v property.kind
 fits-field {p} {objects} {o} {q} {v} {x} {property} fits f =
-    let At : Object → Type 0 = λ z. IsProperty p z.class q fits.property in
-    let there : IsProperty p x.class q fits.property = subst At (some-is fits.is.is_object f.is_object) (record { class = fits.is.class; is_class = fits.is.is_class; is = fits.is.is_property }) in
     let In : MetaProperty → Type 0 = λ k. Has p (class_of objects) v k.kind in
-    subst In (property-unique there (record { class = f.class; is_class = f.is_class; is = f.is_property })) fits.has
+    subst In (field-property fits.is f) fits.has
 
 module _ (p : Loaded) (w : World) (name property : List ℕ) (i : Input) (o : Numbered Object) (lives : IsLiving w.objects name o) where
   pub no-property : ((q : Numbered MetaProperty) → ¬ IsPropertyOf p o.it.class property q) → assign p (at w []) name property i (Err NoMember)

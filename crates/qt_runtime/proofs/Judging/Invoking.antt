@@ -59,4 +59,4 @@ module _ (p : Loaded) (w : World) (a : Invocation) (name called : List ℕ) (inp
       asks-for fit = record { effect = λ t begins. judged-invoking p (at w []) a name called inputs (goes_on o (living-ok o lives) (goes_on m (found has) (goes_on vs are (goes_on tt (holds fit) (becomes begins))))) }
 
       pub arguments-fit : HaveTypes p (class_of w.objects) vs m.it.kinds → ArgumentsFit p w.objects o.number m.number vs
-      arguments-fit fit = record { object = o.it; is_object = lives.is.is; method = m.it; is_method = has.is; typed = fit }
+      arguments-fit fit = record { object = o.it; method = m.it; is = record { is_object = lives.is.is; is_method = has.is }; typed = fit }

@@ -4,7 +4,7 @@ use Rattle.machine_state.specs.declared.world.World.{World}
 use Rattle.machine_rules.proofs.Fields.{old-there}
 use Rattle.machine_rules.proofs.Reaching.{reaches-same, reaches-then, stops-after, stops-as, ends-after, ends-left, ends-undue, ends-short, ends-unchanged, ends-faulted, ends-ticked}
 use Rattle.machine_rules.proofs.Keeps.{keeps-refl, keeps-trans, ends-keeps, ends-sound, fit-still, reaches-typed, reaches-keeps, reaches-sound}
-use Rattle.machine_rules.proofs.Beginning.{ends-begun, stops-begin, stops-no-member, stops-ill-typed, fit-of, fit-member, next-joined, next-fits, joined-member, delivered-fits, delivery-calls, not-true}
+use Rattle.machine_rules.proofs.Beginning.{ends-begun, stops-begin, stops-no-member, stops-ill-typed, fit-of, next-joined, next-fits, delivered-fits, delivery-calls, not-true}
 use Rattle.machine_rules.proofs.Writing.{ends-written, stops-write-deep, stops-write-ill, stops-no-field, announces-in, announced-member, announced-value, announced-fits, announcement-calls, sound-written}
 use Rattle.machine_rules.proofs.Bodies.{does-call, does-call-alone, does-set, does-nothing, does-choose, lacks-read, advances-one, advances-ticked, advances-left}
 use Rattle.machine_rules.proofs.setting.Setting.+machine.Goals as goal
@@ -46,7 +46,7 @@ pub deliver-returns-in_err-require_rule : goal.deliver-returns-in_err-require_ru
 deliver-returns-in_err-require_rule t c = record { ends = λ o g used last found. ends-undue _ c.in_err-require_rule.ensures c.from_residual.ensures.1 }
 
 pub deliver-unreachable-requires : goal.deliver-unreachable-requires
-deliver-unreachable-requires t c = c.in_default.ensures _ _ (joined-member c.requires.joined)
+deliver-unreachable-requires t c = c.in_default.ensures _ _ c.requires.joined.receives
 
 pub deliver-begin-requires : goal.deliver-begin-requires
 deliver-begin-requires t c = (omega arith, (c.requires.room, (c.requires.sound, (c.in_ok-require_rule.ensures, delivered-fits c.requires.joined c.requires.emitted c.in-Some.ensures c.front-taken.ensures c.len.ensures))))
@@ -74,7 +74,7 @@ pub begin_typed-returns : goal.begin_typed-returns
 begin_typed-returns t c = record { ends = λ from to calls only. c.begin.ensures.ends from to calls }
 
 pub begin-unreachable-requires : goal.begin-unreachable-requires
-begin-unreachable-requires t c = c.in_default.ensures _ _ (fit-member c.requires.fit)
+begin-unreachable-requires t c = c.in_default.ensures _ _ c.requires.fit.is
 
 pub begin-returns-in_err-may_nest : goal.begin-returns-in_err-may_nest
 begin-returns-in_err-may_nest t c = record {

@@ -1,12 +1,11 @@
 use Rattle.std.proofs.Common.{Ok, Err}
 use Rattle.meta_model.specs.declared.object.Work.TheVariants.{Signal, Slot}
-use Rattle.machine_rules.proofs.Beginning.{fit-member}
 use Rattle.qt_runtime.proofs.Pushed.{began}
 use Rattle.qt_runtime.proofs.Taken.{took-short, took-unchanged, took-stopped}
 use Rattle.qt_runtime.proofs.events.invoke.begin.Goals as goal
 
 pub unreachable-requires : goal.unreachable-requires
-unreachable-requires c = c.in_default.ensures _ _ (fit-member c.requires.fit)
+unreachable-requires c = c.in_default.ensures _ _ c.requires.fit.is
 
 pub returns-in_err-entry : goal.returns-in_err-entry
 returns-in_err-entry c = λ e asks. took-short e _ c.requires.left c.from_residual.ensures.1
