@@ -35,10 +35,10 @@ top_of o m arguments last (Slot statements) = Body o m arguments statements
 
 -- the world after that
 abbrev pub begun_world : World → ℕ → Object → ℕ → MetaMethod → List Value → World
-begun_world w depth x m method arguments = noted w (begin_entry depth x m method.sig.name (all_shown w.objects arguments) method.work)
+begun_world w depth x m method arguments = noted w (begin_entry depth x m method.sig.name (all_shown w.objects arguments) method.work ∷ [])
 
 begun-is : (w : World) (stack : List Activation) (to : Activation) (below : List Activation) (o : ℕ) (x : Object) (m : ℕ) (method : MetaMethod) (arguments : List Value) (work : Work) →
-    at (noted w (begin_entry (suc (suc (length below))) x m method.sig.name (all_shown w.objects arguments) work)) (top_of o m arguments w.connected work ∷ to ∷ below) ≡ begun (at w stack) (to ∷ below) o x m method arguments work
+    at (noted w (begin_entry (suc (suc (length below))) x m method.sig.name (all_shown w.objects arguments) work ∷ [])) (top_of o m arguments w.connected work ∷ to ∷ below) ≡ begun (at w stack) (to ∷ below) o x m method arguments work
 begun-is w stack to below o x m method arguments Signal = refl
 begun-is w stack to below o x m method arguments (Slot statements) = refl
 
@@ -65,12 +65,12 @@ fits-top last (Slot statements) below fit = fit
 
 reaches-begun : {p : Loaded} {d h o m : ℕ} {w v : World} {from to : Activation} {x : Object} {method : MetaMethod} {arguments : List Value} {entry : Entry} →
     Calls p w from to o m arguments → IsMember p w.objects o m x method → ArgumentsFit p w.objects o m arguments → AreTyped p w.objects → h + 1 < d → 0 < w.left →
-    entry ≡ begin_entry (h + 2) x m method.sig.name (all_shown w.objects arguments) method.work → v ≡ noted w entry →
+    entry ≡ begin_entry (h + 2) x m method.sig.name (all_shown w.objects arguments) method.work → v ≡ noted w (entry ∷ []) →
     Reaches p d h w (from ∷ []) v (top_of o m arguments w.connected method.work ∷ to ∷ [])
 reaches-begun {p} {d} {h} {o} {m} {w} {v} {from} {to} {x} {method} {arguments} {entry} calls is fit typed room some entry_is v_is =
     let Family : World → Type 0 = λ u. Reaches p d h w (from ∷ []) u (top_of o m arguments w.connected method.work ∷ to ∷ []) in
     let target : World = begun_world w (h + 2) x m method arguments in
-    let target_is : v ≡ target = v_is ∙ ap (noted w) entry_is in
+    let target_is : v ≡ target = v_is ∙ ap (λ (e : Entry). noted w (e ∷ [])) entry_is in
     let went : Reaches p d h w (from ∷ []) target (top_of o m arguments w.connected method.work ∷ to ∷ []) =
     reaches-high (λ below e. calls.gives below _ (begins-there w arguments from to below is e)) (λ below. top-fits w.connected method.work (to ∷ below) fit) room typed refl some in
     subst Family (sym target_is) went
@@ -78,7 +78,7 @@ reaches-begun {p} {d} {h} {o} {m} {w} {v} {from} {to} {x} {method} {arguments} {
 -- a method begins, and what it pushed runs
 pub ends-begun : {p : Loaded} {d h o m : ℕ} {w v u : World} {from to : Activation} {x : Object} {method : MetaMethod} {arguments : List Value} {entry : Entry} {work : Work} {r : Result (Unit {0}) Fault} →
     Calls p w from to o m arguments → IsMember p w.objects o m x method → ArgumentsFit p w.objects o m arguments → AreTyped p w.objects → h + 1 < d → 0 < w.left →
-    entry ≡ begin_entry (h + 2) x m method.sig.name (all_shown w.objects arguments) method.work → v ≡ noted w entry → method.work ≡ work →
+    entry ≡ begin_entry (h + 2) x m method.sig.name (all_shown w.objects arguments) method.work → v ≡ noted w (entry ∷ []) → method.work ≡ work →
     Ends p d (h + 1) v (top_of o m arguments w.connected work ∷ []) u [] r → Ends p d h w (from ∷ []) u (to ∷ []) r
 ends-begun {p} {d} {h} {o} {m} {w} {v} {u} {arguments = arguments} {r = r} calls is fit typed room some entry_is v_is work_is x =
     let Run : Work → Type 0 = λ k. Ends p d (h + 1) v (top_of o m arguments w.connected k ∷ []) u [] r in

@@ -7,7 +7,8 @@ use Rattle.meta_model.specs.declared.object.Statement.TheViews.{out-Statement}
 use Rattle.meta_model.specs.Loaded.{Loaded}
 use Rattle.expressions.specs.declared.evaluation.EvalFault.{EvalFault}
 use Rattle.expressions.specs.declared.evaluation.EvalFault.TheVariants as eval
-use Rattle.machine_state.specs.declared.entry.Entry.TheVariants.{OnNull}
+use Rattle.machine_state.specs.declared.entry.Entry.TheVariants.{At}
+use Rattle.machine_state.specs.declared.entry.Happening.TheVariants.{OnNull}
 use Rattle.machine_state.specs.declared.fault.Fault.{Fault}
 use Rattle.machine_state.specs.declared.fault.Fault.TheVariants.{BadType}
 use Rattle.object_tree.specs.declared.object.Object.{Object}
@@ -57,13 +58,13 @@ does-set {p} {w} {o} {arguments} {x} m rest {y} {q} {new} is = record {
 }
 
 -- nothing is done
-pub does-nothing : {p : Loaded} {w : World} {o : ℕ} {arguments : List Value} {x : Statement} (m : ℕ) (rest : List Statement) {d h : ℕ} {v : World} (r : Result (Unit {0}) Fault) → doing w.objects o arguments (out-Statement x) ≡ Some Nothing → h < d → AreTyped p w.objects → 0 < w.left → Notes w (noted w (OnNull (h + 1))) v r → Ends p d h w (Body o m arguments (x ∷ rest) ∷ []) v (Body o m arguments rest ∷ []) r
+pub does-nothing : {p : Loaded} {w : World} {o : ℕ} {arguments : List Value} {x : Statement} (m : ℕ) (rest : List Statement) {d h : ℕ} {v : World} (r : Result (Unit {0}) Fault) → doing w.objects o arguments (out-Statement x) ≡ Some Nothing → h < d → AreTyped p w.objects → 0 < w.left → Notes w (noted w (At (h + 1) OnNull ∷ [])) v r → Ends p d h w (Body o m arguments (x ∷ rest) ∷ []) v (Body o m arguments rest ∷ []) r
 does-nothing {p} {w} {o} {arguments} {x} m rest {d} {h} {v} r is room typed some notes =
-    ends-noted (noted w (OnNull (h + 1))) r
+    ends-noted (noted w (At (h + 1) OnNull ∷ [])) r
     (λ below k.
-    let t : State = at (noted w (OnNull (h + 1))) (Body o m arguments rest ∷ below) in
+    let t : State = at (noted w (At (h + 1) OnNull ∷ [])) (Body o m arguments rest ∷ below) in
     let depth_is : h + 1 ≡ suc (length below) = omega (arith, k) in
-    let null_is : t ≡ on_null (next w o m arguments x rest below) (Body o m arguments rest ∷ below) = ap (λ (n : ℕ). at (noted w (OnNull n)) (Body o m arguments rest ∷ below)) depth_is in
+    let null_is : t ≡ on_null (next w o m arguments x rest below) (Body o m arguments rest ∷ below) = ap (λ (n : ℕ). at (noted w (At n OnNull ∷ [])) (Body o m arguments rest ∷ below)) depth_is in
     does-rule p w o m arguments x rest Nothing below t is null_is)
     room typed refl some notes
 

@@ -10,7 +10,8 @@ use Rattle.meta_model.specs.Members.{IsMethod}
 use Rattle.object_tree.specs.declared.object.Object.{Object}
 use Rattle.object_tree.specs.Objects.{written}
 use Rattle.machine_state.specs.declared.connections.Connection.{Connection}
-use Rattle.machine_state.specs.declared.entry.Entry.TheVariants as entry
+use Rattle.machine_state.specs.declared.entry.Entry.TheVariants.{At}
+use Rattle.machine_state.specs.declared.entry.Happening.TheVariants.{Written}
 use Rattle.machine_state.specs.Connections.{next_used}
 use Rattle.machine_state.specs.Objects.{shown}
 use Rattle.machine_state.specs.State.{State, Place, Activation, Body, Emit, Update}
@@ -53,7 +54,7 @@ writes-one {s = s} {below = below} {o = o} {q = q} {new = new} a b =
     let Of : Value → MetaProperty → Type 0 = λ v k. IsNotified v new place k.notify b.places in
     let notified : Of a.old a.property = subst (λ (v : Value). Of v a.property) (sym old_is) (subst (λ (k : MetaProperty). Of b.old k) (sym property_is) b.notified) in
     let places_are : a.places ≡ b.places = notified-one a.notified notified in
-    let state_of : Object → MetaProperty → List Place → State = λ x k ps. pushed (record s { objects = slice_set s.objects o (written q new x) }) (Update ps) below (λ d. entry.Written d x.name k.name (shown s.objects new)) in
+    let state_of : Object → MetaProperty → List Place → State = λ x k ps. pushed (record s { objects = slice_set s.objects o (written q new x) }) (Update ps) below (λ d. At d (Written x.name k.name (shown s.objects new)) ∷ []) in
     a.gives
     ∙ ap (λ (x : Object). state_of x a.property a.places) object_is
     ∙ ap (λ (k : MetaProperty). state_of b.object k a.places) property_is

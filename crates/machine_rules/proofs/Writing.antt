@@ -12,7 +12,8 @@ use Rattle.meta_model.specs.Members.{IsClass, IsMethod}
 use Rattle.meta_model.specs.Values.{Has, HaveTypes}
 use Rattle.meta_model.specs.Sound.{IsSoundProperty}
 use Rattle.machine_state.specs.declared.entry.Entry.{Entry}
-use Rattle.machine_state.specs.declared.entry.Entry.TheVariants.{Written}
+use Rattle.machine_state.specs.declared.entry.Entry.TheVariants.{At}
+use Rattle.machine_state.specs.declared.entry.Happening.TheVariants.{Written}
 use Rattle.machine_state.specs.declared.fault.Fault.{Fault}
 use Rattle.machine_state.specs.declared.fault.Fault.TheVariants.{BadType, TooDeep}
 use Rattle.object_tree.specs.declared.object.Object.{Object}
@@ -42,7 +43,7 @@ notified o q silent = rules.silent
 
 -- the world in which the property is written
 abbrev pub written_world : World → ℕ → ℕ → Object → ℕ → MetaProperty → Value → World
-written_world w depth o x q property new = set_in w (Written depth x.name property.name (shown w.objects new)) o x q new
+written_world w depth o x q property new = set_in w (At depth (Written x.name property.name (shown w.objects new)) ∷ []) o x q new
 
 writes-there : {p : Loaded} {h o q : ℕ} {x : Object} {property : MetaProperty} {new old : Value} {result : Option ℕ} (w : World) (from to : Activation) (below : List Activation) → (f : IsField p w.objects o q x property) → slice_get x.values q ≡ Some old → Changes old new property.notify result → length below ≡ h →
     Writes p (at w (from ∷ below)) (to ∷ below) o q new (at (written_world w (h + 2) o x q property new) (Update (places_of o q result) ∷ to ∷ below))
@@ -64,12 +65,12 @@ writes-there {h = h} {o = o} {q = q} {x = x} {property = property} {new = new} {
 pub ends-written : {p : Loaded} {d h o q : ℕ} {w v u : World} {from to : Activation} {x : Object} {property : MetaProperty} {new : Value} {entry : Entry} {result : Option ℕ} {r : Result (Unit {0}) Fault} →
     Sets p w from to o q new → (f : IsField p w.objects o q x property) → AreTyped p w.objects → Has p (class_of w.objects) new property.kind → h + 1 < d → 0 < w.left →
     ((old : Value) → slice_get x.values q ≡ Some old → Changes old new property.notify result) →
-    entry ≡ Written (h + 2) x.name property.name (shown w.objects new) → v ≡ set_in w entry o x q new →
+    entry ≡ At (h + 2) (Written x.name property.name (shown w.objects new)) → v ≡ set_in w (entry ∷ []) o x q new →
     Ends p d (h + 1) v (Update (places_of o q result) ∷ []) u [] r → Ends p d h w (from ∷ []) u (to ∷ []) r
 ends-written {p} {d} {h} {o} {q} {w} {v} {u} {from} {to} {x} {property} {new} {entry} {result} {r} sets f typed has room some changes entry_is v_is rest =
     let old = old-there f typed in
     let target : World = written_world w (h + 2) o x q property new in
-    let target_is : v ≡ target = v_is ∙ ap (λ (e : Entry). set_in w e o x q new) entry_is in
+    let target_is : v ≡ target = v_is ∙ ap (λ (e : Entry). set_in w (e ∷ []) o x q new) entry_is in
     let Family : World → Type 0 = λ k. Reaches p d h w (from ∷ []) k (Update (places_of o q result) ∷ to ∷ []) in
     let went : Reaches p d h w (from ∷ []) target (Update (places_of o q result) ∷ to ∷ []) =
     reaches-high (λ below e. sets.gives below _ (writes-there w from to below f old.1 (changes old.0 old.1) e)) (λ below. tt) room (typed-written f typed has) refl some in
@@ -178,15 +179,15 @@ announcement-calls {p} {w} {o} {q} {signal} {count} {x} {method} {present} {take
 }
 
 -- the machine stays sound
-pub sound-written : {p : Loaded} {v : World} {o q : ℕ} {x : Object} {property : MetaProperty} {new : Value} (w : World) (entry : Entry) → v ≡ set_in w entry o x q new → IsField p w.objects o q x property → Has p (class_of w.objects) new property.kind → Sound p w.objects w.connections → Sound p v.objects v.connections
-sound-written {p} {v} {o} {q} {x} {property} {new} w entry is f has sound =
-    let target : World = set_in w entry o x q new in
+pub sound-written : {p : Loaded} {v : World} {o q : ℕ} {x : Object} {property : MetaProperty} {new : Value} (w : World) (entries : List Entry) → v ≡ set_in w entries o x q new → IsField p w.objects o q x property → Has p (class_of w.objects) new property.kind → Sound p w.objects w.connections → Sound p v.objects v.connections
+sound-written {p} {v} {o} {q} {x} {property} {new} w entries is f has sound =
+    let target : World = set_in w entries o x q new in
     let kept : Sound p target.objects target.connections = record { typed = typed-written f sound.typed has; joined = all-joined-still p w.objects _ w.connections (same-stay w.objects _ (shapes-written w.objects o x q new f.is_object)) sound.joined } in
     let Family : World → Type 0 = λ u. Sound p u.objects u.connections in
     subst Family (sym is) kept
 
-pub announces-in : {p : Loaded} {v : World} {o q : ℕ} {x : Object} {property : MetaProperty} {old new : Value} (w : World) (entry : Entry) (result : Option ℕ) → v ≡ set_in w entry o x q new → (f : IsField p w.objects o q x property) → ((class : MetaObject) → IsClass p x.class class → IsSoundProperty p class property) → Changes old new property.notify result → MayAnnounce p v.objects o q result
-announces-in {p} {v} {o} {q} {x} {property} {old} {new} w entry result is f sound changes =
+pub announces-in : {p : Loaded} {v : World} {o q : ℕ} {x : Object} {property : MetaProperty} {old new : Value} (w : World) (entries : List Entry) (result : Option ℕ) → v ≡ set_in w entries o x q new → (f : IsField p w.objects o q x property) → ((class : MetaObject) → IsClass p x.class class → IsSoundProperty p class property) → Changes old new property.notify result → MayAnnounce p v.objects o q result
+announces-in {p} {v} {o} {q} {x} {property} {old} {new} w entries result is f sound changes =
     let Family : World → Type 0 = λ u. MayAnnounce p u.objects o q result in
     subst Family (sym is) (announces-written {new = new} result f sound changes)
 

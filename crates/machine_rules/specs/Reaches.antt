@@ -10,7 +10,8 @@ use Rattle.meta_model.specs.Sound.{IsNotifier}
 use Rattle.expressions.specs.declared.evaluation.EvalFault.{EvalFault}
 use Rattle.expressions.specs.declared.evaluation.EvalFault.TheVariants.{BadType, Memory as NoMemory}
 use Rattle.machine_state.specs.declared.entry.Entry.{Entry}
-use Rattle.machine_state.specs.declared.entry.Entry.TheVariants as entry
+use Rattle.machine_state.specs.declared.entry.Entry.TheVariants.{At}
+use Rattle.machine_state.specs.declared.entry.Happening.TheVariants as happening
 use Rattle.machine_state.specs.declared.entry.Shown.{Shown}
 use Rattle.object_tree.specs.declared.object.Object.{Object}
 use Rattle.machine_state.specs.declared.fault.Fault.{Fault}
@@ -92,5 +93,5 @@ MayAnnounce p objects o q (Some signal) = Announces p objects o q signal
 
 -- the entry of a method that begins
 abbrev pub begin_entry : ℕ → Object → ℕ → List ℕ → List Shown → Work → Entry
-begin_entry depth x m method given Signal = entry.Emitted depth x.name method given (is_silent x m)
-begin_entry depth x m method given (Slot statements) = entry.Called depth x.name method given
+begin_entry depth x m method given Signal = At depth (happening.Emitted x.name method given (is_silent x m))
+begin_entry depth x m method given (Slot statements) = At depth (happening.Called x.name method given)

@@ -14,23 +14,24 @@ use Rattle.object_tree.specs.declared.object.Object.{Object}
 use Rattle.object_tree.specs.Objects.{written}
 use Rattle.machine_state.specs.declared.connections.Connection.{Connection}
 use Rattle.machine_state.specs.declared.entry.Entry.{Entry}
-use Rattle.machine_state.specs.declared.entry.Entry.TheVariants as entry
+use Rattle.machine_state.specs.declared.entry.Entry.TheVariants.{At}
+use Rattle.machine_state.specs.declared.entry.Happening.TheVariants as happening
 use Rattle.machine_state.specs.Connections.{is_silent, next_used}
 use Rattle.machine_state.specs.Objects.{shown, all_shown}
 use Rattle.machine_rules.specs.There.{IsMember, IsField}
 use Rattle.machine_rules.specs.Doings.{Doing, Write, Begin, Choose, Nothing, doing}
 use Rattle.machine_state.specs.State.{State, Place, Activation, Body, Emit, Update}
 
--- one more activation over a stack, and the entry that is written down, with the length of the stack
-abbrev pub pushed : State → Activation → List Activation → (ℕ → Entry) → State
-pushed s top below note = record s { stack = top ∷ below; trace = s.trace ++ note (length (top ∷ below)) ∷ [] }
+-- one more activation over a stack, and the entries that are written down, with the length of the stack
+abbrev pub pushed : State → Activation → List Activation → (ℕ → List Entry) → State
+pushed s top below notes = record s { stack = top ∷ below; trace = s.trace ++ notes (length (top ∷ below)) }
 
 -- a method of an object begins: a signal is emitted, and its entry tells whether it calls nothing; a slot's body is called
 abbrev pub begun : State → List Activation → ℕ → Object → ℕ → MetaMethod → List Value → Work → State
 begun s below o x m method arguments Signal =
-    pushed s (Emit o m arguments 0 s.connected) below (λ d. entry.Emitted d x.name method.sig.name (all_shown s.objects arguments) (is_silent x m))
+    pushed s (Emit o m arguments 0 s.connected) below (λ d. At d (happening.Emitted x.name method.sig.name (all_shown s.objects arguments) (is_silent x m)) ∷ [])
 begun s below o x m method arguments (Slot statements) =
-    pushed s (Body o m arguments statements) below (λ d. entry.Called d x.name method.sig.name (all_shown s.objects arguments))
+    pushed s (Body o m arguments statements) below (λ d. At d (happening.Called x.name method.sig.name (all_shown s.objects arguments)) ∷ [])
 
 -- method m of object o begins with these arguments
 pub record Begins (p : Loaded) (s : State) (below : List Activation) (o m : ℕ) (arguments : List Value) (t : State) : Type 0 where
@@ -57,7 +58,7 @@ pub record Writes (p : Loaded) (s : State) (below : List Activation) (o q : ℕ)
   pub places : List Place
   pub notified : IsNotified old new (record { object = o; property = q }) property.notify places
   pub gives : t ≡ pushed (record s { objects = slice_set s.objects o (written q new object) }) (Update places) below
-      (λ d. entry.Written d object.name property.name (shown s.objects new))
+      (λ d. At d (happening.Written object.name property.name (shown s.objects new)) ∷ [])
 
 -- the notify signal of a property is emitted, with its present value if the signal has a parameter
 pub record Notifies (p : Loaded) (s : State) (below : List Activation) (place : Place) (t : State) : Type 0 where
@@ -81,7 +82,7 @@ UpdateRule p s below t (place ∷ places) = Notifies p s (Update places ∷ belo
 
 -- nothing is done, since a path leads to null
 abbrev pub on_null : State → List Activation → State
-on_null s stack = record s { stack = stack; trace = s.trace ++ entry.OnNull (length stack) ∷ [] }
+on_null s stack = record s { stack = stack; trace = s.trace ++ At (length stack) happening.OnNull ∷ [] }
 
 -- this is done by a statement of the body of method m of object o, over what is left of the body and what is below it
 abbrev pub Does : Loaded → State → ℕ → ℕ → List Value → List Statement → List Activation → Doing → State → Type 0

@@ -14,7 +14,7 @@ use crate::doing::Doing;
 use crate::paths::Scope;
 use crate::remaining::Remaining;
 use crate::setting::Setting;
-use machine_state::{Entry, Fault, World};
+use machine_state::{Entry, Fault, Happening, World};
 use meta_objects::Statement;
 use signatures::{ObjectId, Value};
 
@@ -66,7 +66,7 @@ impl Setting {
                 left.put(block)?;
                 world.tick()
             }
-            Doing::Nothing => world.note(Entry::OnNull(height + 1)),
+            Doing::Nothing => world.note([Entry::At(height + 1, Happening::OnNull)]),
         }
     }
 

@@ -113,7 +113,7 @@ impl Setting {
         let last = world.connected;
         may_nest(self.depth, height)?;
         let entry = self.begin_entry(world, height + 2, found, method, declared, arguments)?;
-        world.note(entry)?;
+        world.note([entry])?;
         match &declared.work {
             Work::Signal => self.run_emission(world, height + 1, object, method, arguments, last),
             Work::Slot(body) => {

@@ -7,12 +7,13 @@ ghost use Rattle.meta_model.specs.Members.{IsClass};
 ghost use Rattle.meta_model.specs.declared.object.MetaObject.{MetaObject as AMetaObject};
 ghost use Rattle.meta_model.specs.Sound.{IsSoundProperty};
 ghost use Rattle.object_tree.specs.declared.object.Object.{Object as AnObject};
-ghost use Rattle.machine_state.specs.declared.entry.Entry.TheVariants.{Written};
+ghost use Rattle.machine_state.specs.declared.entry.Entry.TheVariants.{At};
+ghost use Rattle.machine_state.specs.declared.entry.Happening.TheVariants.{Written};
 ghost use Rattle.machine_rules.specs.Reaches.{begin_entry};
 ghost use Rattle.machine_rules.specs.There.{IsMember, IsField};
 ghost use Rattle.machine_state.specs.Objects.{shown, all_shown};
 
-use machine_state::{Entry, Natives, World, is_silent, show, show_all};
+use machine_state::{Entry, Happening, Natives, World, is_silent, show, show_all};
 use meta_objects::{Meta, MetaMethod, MetaProperty, Work};
 use object_tree::Object;
 use signatures::{ObjectId, Value};
@@ -101,14 +102,21 @@ impl Setting {
     {
         let name = object.name.copy()?;
         let called = method.sig.name.copy()?;
-        let given = show_all(self.alloc, &world.objects, arguments)?;
-        match method.work {
-            Work::Signal => {
-                let silent = is_silent(object, number);
-                Ok(Entry::Emitted(depth, name, called, given, silent))
-            }
-            Work::Slot(_) => Ok(Entry::Called(depth, name, called, given)),
-        }
+        let arguments = show_all(self.alloc, &world.objects, arguments)?;
+        let happening = match method.work {
+            Work::Signal => Happening::Emitted {
+                object: name,
+                signal: called,
+                arguments,
+                blocked: is_silent(object, number),
+            },
+            Work::Slot(_) => Happening::Called {
+                object: name,
+                slot: called,
+                arguments,
+            },
+        };
+        Ok(Entry::At(depth, happening))
     }
 
     /// The entry of a write.
@@ -120,12 +128,14 @@ impl Setting {
         property: &MetaProperty,
         value: &Value,
     ) -> Result<Entry, AllocError>
-        ensures { IfOk result (λ entry. entry ≡ Written depth object.now.name property.now.name (shown world.now.objects value.now)) }
+        ensures { IfOk result (λ entry. entry ≡ At depth (Written object.now.name property.now.name (shown world.now.objects value.now))) }
     {
-        let name = object.name.copy()?;
-        let property = property.name.copy()?;
-        let shown = show(&world.objects, value)?;
-        Ok(Entry::Written(depth, name, property, shown))
+        let written = Happening::Written {
+            object: object.name.copy()?,
+            property: property.name.copy()?,
+            value: show(&world.objects, value)?,
+        };
+        Ok(Entry::At(depth, written))
     }
 }
 

@@ -37,7 +37,7 @@ impl Setting {
         }
         may_nest(self.depth, height)?;
         let entry = self.write_entry(world, height + 2, found, declared, &value)?;
-        world.write(entry, object, property, value)?;
+        world.write([entry], object, property, value)?;
         self.run_update(world, height + 1, object, property, changed)
     }
 

@@ -1,14 +1,14 @@
 -- What every event does to the state, whatever its effect (docs/machine.md, "Events").
-use Rattle.std.specs.Prelude.{◌+◌, [], ◌∷◌, ◌++◌}
+use Rattle.std.specs.Prelude.{◌+◌, List, [], ◌∷◌, ◌++◌}
 use Rattle.machine_state.specs.declared.entry.Entry.{Entry}
 use Rattle.machine_state.specs.declared.entry.Entry.TheVariants as entry
 use Rattle.machine_state.specs.declared.refusal.Refusal.{Refusal}
 use Rattle.machine_state.specs.Refusals.{refusal_number}
 use Rattle.machine_state.specs.State.{State}
 
--- an entry is written down
-abbrev pub with_entry : State → Entry → State
-with_entry s entry = record s { trace = s.trace ++ entry ∷ [] }
+-- entries are written down
+abbrev pub with_entries : State → List Entry → State
+with_entries s entries = record s { trace = s.trace ++ entries }
 
 -- an event is taken, and its line is written down
 abbrev pub accepted : State → State

@@ -21,12 +21,12 @@ at w stack = record { objects = w.objects; connections = w.connections; stack = 
 
 -- ---- rules
 
--- a world after a rule that writes nothing down, and after one that writes this entry down
+-- a world after a rule that writes nothing down, and after one that writes these entries down
 abbrev pub ticked : World → World
 ticked w = record w { left = w.left - 1 }
 
-abbrev pub noted : World → Entry → World
-noted w entry = record w { left = w.left - 1; trace = w.trace ++ entry ∷ [] }
+abbrev pub noted : World → List Entry → World
+noted w entries = record w { left = w.left - 1; trace = w.trace ++ entries }
 
 -- a rule that writes nothing down was carried out, or none was left
 abbrev pub Ticks : World → World → Result (Unit {0}) Fault → Type 0
@@ -43,14 +43,14 @@ abbrev pub MayNest : ℕ → ℕ → Result (Unit {0}) Fault → Type 0
 MayNest depth height (Ok may) = height + 1 < depth
 MayNest depth height (Err fault) = (depth ≡ height + 1) × (fault ≡ TooDeep)
 
--- the entry was written down by a rule that leads to this world, or memory was refused and nothing changed
+-- the entries were written down by a rule that leads to this world, or memory was refused and nothing changed
 abbrev pub Notes : World → World → World → Result (Unit {0}) Fault → Type 0
 Notes w target v (Ok went) = v ≡ target
 Notes w target v (Err fault) = (fault ≡ Memory) × (v ≡ w)
 
--- a world in which a property is written, and so is this entry
-abbrev pub set_in : World → Entry → ℕ → Object → ℕ → Value → World
-set_in w entry o x q new = record (noted w entry) { objects = slice_set w.objects o (written q new x) }
+-- a world in which a property is written, and so are these entries
+abbrev pub set_in : World → List Entry → ℕ → Object → ℕ → Value → World
+set_in w entries o x q new = record (noted w entries) { objects = slice_set w.objects o (written q new x) }
 
 -- ---- events
 

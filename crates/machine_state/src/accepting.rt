@@ -5,7 +5,7 @@ ghost use Rattle.object_tree.specs.Adopting.{AdoptsLiving};
 ghost use Rattle.object_tree.specs.Creating.{Creates};
 ghost use Rattle.object_tree.specs.Objects.{Lives, change, blocked, written};
 ghost use Rattle.object_tree.specs.declared.object.Object.{Object as AnObject};
-ghost use Rattle.machine_state.specs.Accepting.{accepted, with_entry};
+ghost use Rattle.machine_state.specs.Accepting.{accepted, with_entries};
 ghost use Rattle.machine_state.specs.Worlds.{at, after, main, connected_by, Becomes, Refuses};
 
 use crate::connections::{Connection, Endpoints};
@@ -28,7 +28,8 @@ impl World {
         ensures { Refuses self.old refusal self.new result }
     {
         let number = refusal.number();
-        self.trace.push(Entry::Refused(self.events + 1, number))?;
+        self.trace
+            .append([Entry::Refused(self.events + 1, number)])?;
         self.count_event();
         Ok(Answer::Refused(number))
     }
@@ -57,7 +58,7 @@ impl World {
         ensures ok { OnOk result (self.new ≡ after self.old (record (accepted (at self.old [])) { objects = self.new.objects })) }
         ensures err { OnErr result (self.new ≡ self.old) }
     {
-        let Ok(()) = self.trace.push(Entry::Accepted(self.events + 1)) else {
+        let Ok(()) = self.trace.accept(self.events + 1, []) else {
             return Err(CreateFault::Memory);
         };
         match self.objects.create(meta, name, class, LoopId::new(MAIN)) {
@@ -88,7 +89,7 @@ impl World {
         ensures ok { OnOk result (self.new ≡ after self.old (record (accepted (at self.old [])) { objects = self.new.objects })) }
         ensures err { OnErr result (self.new ≡ self.old) }
     {
-        let Ok(()) = self.trace.push(Entry::Accepted(self.events + 1)) else {
+        let Ok(()) = self.trace.accept(self.events + 1, []) else {
             return Err(AdoptFault::Memory);
         };
         match self.objects.adopt(meta, parent, child) {
@@ -109,41 +110,39 @@ impl World {
         requires few { self.old.events < 2 ^ 63 }
         ensures { Becomes self.old (after self.old (record (accepted (at self.old [])) { objects = change object (blocked on) self.old.objects })) self.new result }
     {
-        self.trace.push(Entry::Accepted(self.events + 1))?;
+        self.trace.accept(self.events + 1, [])?;
         self.objects.block(object, on);
         self.count_event();
         Ok(())
     }
 
-    /// Writes down that the event is accepted, and what it pushes; without memory nothing changes.
-    pub fn accept_with(&mut self, entry: Entry) -> Result<(), Fault>
+    /// Writes down that the event is accepted, and then these entries; without memory nothing changes.
+    pub fn accept_with<const N: usize>(&mut self, entries: [Entry; N]) -> Result<(), Fault>
         requires left { 0 < self.old.left }
         requires few { self.old.events < 2 ^ 63 }
-        ensures { Becomes self.old (after self.old (with_entry (accepted (at self.old [])) entry)) self.new result }
+        requires few_entries { N < 2 ^ 32 }
+        ensures { Becomes self.old (after self.old (with_entries (accepted (at self.old [])) entries.entry)) self.new result }
     {
-        self.trace.push(Entry::Accepted(self.events + 1))?;
-        if self.trace.push(entry).is_err() {
-            self.trace.pop();
-            return Err(Fault::Memory);
-        }
+        self.trace.accept(self.events + 1, entries)?;
         self.count_event();
         Ok(())
     }
 
-    /// Writes a property for an accepted event, and writes it down; without memory nothing changes. A number of no object
-    /// or of no property writes nothing.
-    pub fn accept_write(
+    /// Writes a property for an accepted event, and writes these entries down; without memory nothing changes. A number
+    /// of no object or of no property writes nothing.
+    pub fn accept_write<const N: usize>(
         &mut self,
-        entry: Entry,
+        entries: [Entry; N],
         object: ObjectId,
         property: usize,
         value: Value,
     ) -> Result<(), Fault>
         requires left { 0 < self.old.left }
         requires few { self.old.events < 2 ^ 63 }
-        ensures { Becomes self.old (after self.old (record (with_entry (accepted (at self.old [])) entry) { objects = change object (written property value) self.old.objects })) self.new result }
+        requires few_entries { N < 2 ^ 32 }
+        ensures { Becomes self.old (after self.old (record (with_entries (accepted (at self.old [])) entries.entry) { objects = change object (written property value) self.old.objects })) self.new result }
     {
-        self.accept_with(entry)?;
+        self.accept_with(entries)?;
         self.objects.set_value(object, property, value);
         Ok(())
     }
@@ -164,7 +163,7 @@ impl World {
             method: ends.method,
             kind: ends.kind,
         })?;
-        if self.trace.push(Entry::Accepted(self.events + 1)).is_err() {
+        if self.trace.accept(self.events + 1, []).is_err() {
             self.connections.pop();
             return Err(Fault::Memory);
         }

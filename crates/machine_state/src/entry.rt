@@ -1,7 +1,8 @@
 //! What a run writes down.
 
-ghost use Rattle.std.specs.Prelude.{◌≡◌, [], ◌∷◌, ◌++◌, OnOk, OnErr};
+ghost use Rattle.std.specs.Prelude.{◌≡◌, [], ◌∷◌, ◌++◌, ◌+◌, ◌<◌, ◌≤◌, ◌^◌, OnOk, OnErr, vec_len, vec_capacity};
 ghost use Rattle.machine_state.specs.declared.entry.Entry.{Entry as AnEntry};
+ghost use Rattle.machine_state.specs.declared.entry.Entry.TheVariants.{Accepted};
 
 use signatures::{Name, Text};
 use sqlite_items::Items;
@@ -23,22 +24,51 @@ pub enum Shown {
     Null,
 }
 
-/// An entry of the trace; a depth is the length of the stack of activations, after what was pushed.
+/// What happens by a rule or an event.
+#[derive(Drop)]
+pub enum Happening {
+    /// A signal is emitted.
+    Emitted {
+        /// Whose signal.
+        object: Name,
+        /// The signal.
+        signal: Name,
+        /// With these arguments.
+        arguments: Items<Shown>,
+        /// Whether it calls nothing, since the object is blocked.
+        blocked: bool,
+    },
+    /// A slot is called.
+    Called {
+        /// Whose slot.
+        object: Name,
+        /// The slot.
+        slot: Name,
+        /// With these arguments.
+        arguments: Items<Shown>,
+    },
+    /// A property is written.
+    Written {
+        /// Whose property.
+        object: Name,
+        /// The property.
+        property: Name,
+        /// Its new value.
+        value: Shown,
+    },
+    /// A statement does nothing, since a path leads to null.
+    OnNull,
+}
+
+/// An entry of the trace.
 #[derive(Drop)]
 pub enum Entry {
     /// The event of this number, counted from 1, was accepted.
     Accepted(u64),
     /// The event of this number was refused for the reason of this number.
     Refused(u64, u8),
-    /// At a depth, a signal of an object is emitted with these arguments; whether it calls nothing, since the object is
-    /// blocked.
-    Emitted(usize, Name, Name, Items<Shown>, bool),
-    /// At a depth, a slot of an object is called with these arguments.
-    Called(usize, Name, Name, Items<Shown>),
-    /// At a depth, a property of an object is written.
-    Written(usize, Name, Name, Shown),
-    /// At a depth, a statement does nothing, since a path leads to null.
-    OnNull(usize),
+    /// This happens at this depth: the length of the stack of activations, after what was pushed.
+    At(usize, Happening),
 }
 
 /// The entries of a run, in their order.
@@ -73,12 +103,31 @@ impl Trace {
         self.entries.as_slice()
     }
 
-    /// Adds an entry; without memory the trace stays as it was.
-    pub fn push(&mut self, entry: Entry) -> Result<(), AllocError>
-        ensures ok { OnOk result (self.new ≡ self.old ++ entry ∷ []) }
+    /// Adds entries in their order; without memory for all of them the trace stays as it was.
+    pub fn append<const N: usize>(&mut self, entries: [Entry; N]) -> Result<(), AllocError>
+        requires few { N < 2 ^ 32 }
+        ensures ok { OnOk result (self.new ≡ self.old ++ entries.entry) }
         ensures err { OnErr result (self.new ≡ self.old) }
     {
-        self.entries.push(entry)?;
+        self.entries.reserve(N)?;
+        push_all(&mut self.entries, entries);
+        Ok(())
+    }
+
+    /// Adds the entry of an accepted event, and then those of what it does; without memory for all of them the trace
+    /// stays as it was.
+    pub fn accept<const N: usize>(
+        &mut self,
+        event: u64,
+        entries: [Entry; N],
+    ) -> Result<(), AllocError>
+        requires few { N < 2 ^ 32 }
+        ensures ok { OnOk result (self.new ≡ self.old ++ Accepted event ∷ [] ++ entries.entry) }
+        ensures err { OnErr result (self.new ≡ self.old) }
+    {
+        self.entries.reserve(N + 1)?;
+        self.entries.push_reserved(Entry::Accepted(event));
+        push_all(&mut self.entries, entries);
         Ok(())
     }
 
@@ -87,5 +136,16 @@ impl Trace {
         ensures { (front : _) (last : AnEntry) → self.old ≡ front ++ last ∷ [] → self.new ≡ front }
     {
         let _last = self.entries.pop();
+    }
+}
+
+/// Adds entries in their order to a list that has room for them.
+fn push_all<const N: usize>(list: &mut Vec<Entry>, entries: [Entry; N])
+    requires few { N < 2 ^ 32 }
+    requires room { vec_len list.old + N ≤ vec_capacity list.old }
+    ensures { list.new.items ≡ list.old.items ++ entries.entry }
+{
+    for entry in entries {
+        list.push_reserved(entry);
     }
 }

@@ -12,7 +12,7 @@ mod values;
 mod world;
 
 pub use connections::{Connection, Connections, Endpoints};
-pub use entry::{Entry, Shown, Trace};
+pub use entry::{Entry, Happening, Shown, Trace};
 pub use fault::{Answer, Fault};
 pub use natives::Natives;
 pub use refusal::Refusal;

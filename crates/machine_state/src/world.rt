@@ -1,6 +1,6 @@
 //! All of the machine's state but the stack.
 
-ghost use Rattle.std.specs.Prelude.{◌≡◌, [], ◌<◌, ◌≤◌, length, slice_get, Some, IfSome, IsTrue, MatchOption};
+ghost use Rattle.std.specs.Prelude.{◌≡◌, [], ◌<◌, ◌≤◌, ◌^◌, length, slice_get, Some, IfSome, IsTrue, MatchOption};
 ghost use Rattle.object_tree.specs.Objects.{IsFree};
 ghost use Rattle.object_tree.specs.declared.object.Object.{Object as AnObject};
 ghost use Rattle.machine_state.specs.Connections.{next_used, silences, is_silent};
@@ -107,28 +107,30 @@ impl World {
         }
     }
 
-    /// A rule that writes an entry down; without memory nothing changes.
-    pub fn note(&mut self, entry: Entry) -> Result<(), Fault>
-        requires { 0 < self.old.left }
-        ensures { Notes self.old (noted self.old entry) self.new result }
+    /// A rule that writes these entries down; without memory nothing changes.
+    pub fn note<const N: usize>(&mut self, entries: [Entry; N]) -> Result<(), Fault>
+        requires left { 0 < self.old.left }
+        requires few { N < 2 ^ 32 }
+        ensures { Notes self.old (noted self.old entries.entry) self.new result }
     {
-        self.trace.push(entry)?;
+        self.trace.append(entries)?;
         self.left -= 1;
         Ok(())
     }
 
-    /// The rule that writes an object's property; without memory nothing changes.
-    pub fn write(
+    /// A rule that writes an object's property, and these entries down; without memory nothing changes.
+    pub fn write<const N: usize>(
         &mut self,
-        entry: Entry,
+        entries: [Entry; N],
         object: ObjectId,
         property: usize,
         value: Value,
     ) -> Result<(), Fault>
         requires left { 0 < self.old.left }
-        ensures { (x : AnObject) → slice_get self.old.objects object ≡ Some x → Notes self.old (set_in self.old entry object x property value) self.new result }
+        requires few { N < 2 ^ 32 }
+        ensures { (x : AnObject) → slice_get self.old.objects object ≡ Some x → Notes self.old (set_in self.old entries.entry object x property value) self.new result }
     {
-        self.note(entry)?;
+        self.note(entries)?;
         self.objects.set_value(object, property, value);
         Ok(())
     }

@@ -11,13 +11,14 @@ use Rattle.meta_model.specs.Values.{Has}
 use Rattle.object_tree.specs.declared.object.Object.{Object}
 use Rattle.object_tree.specs.Objects.{class_of, change, written}
 use Rattle.machine_state.specs.declared.entry.Entry.{Entry}
-use Rattle.machine_state.specs.declared.entry.Entry.TheVariants.{Written}
+use Rattle.machine_state.specs.declared.entry.Entry.TheVariants.{At}
+use Rattle.machine_state.specs.declared.entry.Happening.TheVariants.{Written}
 use Rattle.machine_state.specs.declared.fault.Answer.TheVariants.{Done}
 use Rattle.machine_state.specs.declared.fault.Fault.{Fault}
 use Rattle.machine_state.specs.declared.world.World.{World}
 use Rattle.machine_state.specs.Objects.{shown, all_shown}
 use Rattle.machine_state.specs.State.{Activation, Update}
-use Rattle.machine_state.specs.Accepting.{accepted, with_entry}
+use Rattle.machine_state.specs.Accepting.{accepted, with_entries}
 use Rattle.machine_state.specs.Worlds.{at, after}
 use Rattle.machine_state.proofs.Found.{change-there}
 use Rattle.qt_runtime.specs.Takes.{judged, accepts}
@@ -35,14 +36,14 @@ use Rattle.qt_runtime.specs.Taking.{AsksFor, WritesTo, Took, Halted}
 use Rattle.qt_runtime.proofs.Taken.{idle, good-pushed, took-run}
 
 begun-here : (w : World) (o : ℕ) (x : Object) (m : ℕ) (method : MetaMethod) (values : List Value) (work : Work) →
-    at (after w (with_entry (accepted (at w [])) (begin_entry 1 x m method.sig.name (all_shown w.objects values) work))) (top_of o m values w.connected work ∷ []) ≡ begun (accepted (at w [])) [] o x m method values work
+    at (after w (with_entries (accepted (at w [])) (begin_entry 1 x m method.sig.name (all_shown w.objects values) work ∷ []))) (top_of o m values w.connected work ∷ []) ≡ begun (accepted (at w [])) [] o x m method values work
 begun-here w o x m method values Signal = refl
 begun-here w o x m method values (Slot statements) = refl
 
 -- a method begins
-pub judged-begun : {p : Loaded} {v : World} {o m : ℕ} {x : Object} {method : MetaMethod} {values : List Value} {entry : Entry} (w : World) (e : Event) (work : Work) → AsksFor p w o m values e → IsMember p w.objects o m x method → entry ≡ begin_entry 1 x m method.sig.name (all_shown w.objects values) method.work → v ≡ after w (with_entry (accepted (at w [])) entry) → method.work ≡ work → judged p (at w []) e (Ok (at v (top_of o m values w.connected work ∷ [])))
+pub judged-begun : {p : Loaded} {v : World} {o m : ℕ} {x : Object} {method : MetaMethod} {values : List Value} {entry : Entry} (w : World) (e : Event) (work : Work) → AsksFor p w o m values e → IsMember p w.objects o m x method → entry ≡ begin_entry 1 x m method.sig.name (all_shown w.objects values) method.work → v ≡ after w (with_entries (accepted (at w [])) (entry ∷ [])) → method.work ≡ work → judged p (at w []) e (Ok (at v (top_of o m values w.connected work ∷ [])))
 judged-begun {p} {v} {o} {m} {x} {method} {values} {entry} w e work asks is entry_is v_is work_is =
-    let noted : Entry → World = λ y. after w (with_entry (accepted (at w [])) y) in
+    let noted : Entry → World = λ y. after w (with_entries (accepted (at w [])) (y ∷ [])) in
     let pushed : Work → Activation = λ k. top_of o m values w.connected k in
     asks.effect (at v (pushed work ∷ [])) (record {
       object = x;
@@ -56,17 +57,17 @@ judged-begun {p} {v} {o} {m} {x} {method} {values} {entry} w e work asks is entr
 
 -- the world in which a property is written
 abbrev pub with_written : World → Entry → ℕ → ℕ → Value → World
-with_written w entry o q value = after w (record (with_entry (accepted (at w [])) entry) { objects = change o (written q value) w.objects })
+with_written w entry o q value = after w (record (with_entries (accepted (at w [])) (entry ∷ [])) { objects = change o (written q value) w.objects })
 
 -- .. of an object that is there
 abbrev pub with_set : World → Entry → List Object → World
-with_set w entry objects = after w (record (with_entry (accepted (at w [])) entry) { objects = objects })
+with_set w entry objects = after w (record (with_entries (accepted (at w [])) (entry ∷ [])) { objects = objects })
 
 set-there : {p : Loaded} {o q : ℕ} {v : World} {x : Object} {property : MetaProperty} (w : World) (entry : Entry) (value : Value) → IsField p w.objects o q x property → v ≡ with_written w entry o q value → v ≡ with_set w entry (slice_set w.objects o (written q value x))
 set-there {o = o} {q = q} {x = x} w entry value f v_is = v_is ∙ ap (λ (l : List Object). with_set w entry l) (change-there o (written q value) w.objects x f.is_object)
 
 -- a property is written
-pub judged-written : {p : Loaded} {v : World} {o q : ℕ} {x : Object} {property : MetaProperty} {old value : Value} {changed : Option ℕ} {entry : Entry} (w : World) (e : Event) → WritesTo p w o q value e → IsField p w.objects o q x property → slice_get x.values q ≡ Some old → Changes old value property.notify changed → entry ≡ Written 1 x.name property.name (shown w.objects value) → v ≡ with_written w entry o q value → judged p (at w []) e (Ok (at v (Update (places_of o q changed) ∷ [])))
+pub judged-written : {p : Loaded} {v : World} {o q : ℕ} {x : Object} {property : MetaProperty} {old value : Value} {changed : Option ℕ} {entry : Entry} (w : World) (e : Event) → WritesTo p w o q value e → IsField p w.objects o q x property → slice_get x.values q ≡ Some old → Changes old value property.notify changed → entry ≡ At 1 (Written x.name property.name (shown w.objects value)) → v ≡ with_written w entry o q value → judged p (at w []) e (Ok (at v (Update (places_of o q changed) ∷ [])))
 judged-written {p} {v} {o} {q} {x} {property} {old} {value} {changed} {entry} w e writes f is_old changes entry_is v_is =
     let objects : List Object = slice_set w.objects o (written q value x) in
     let noted : Entry → World = λ y. with_set w y objects in
@@ -84,7 +85,7 @@ judged-written {p} {v} {o} {q} {x} {property} {old} {value} {changed} {entry} w 
 
 -- ---- .. and it runs to its end, or stops on the way
 
-pub began : {p : Loaded} {d o m : ℕ} {w v u : World} {x : Object} {method : MetaMethod} {values : List Value} {entry : Entry} {r : Result (Unit {0}) Fault} (e : Event) (work : Work) → 0 < d → AreTyped p w.objects → ArgumentsFit p w.objects o m values → 0 < w.left → AsksFor p w o m values e → IsMember p w.objects o m x method → entry ≡ begin_entry 1 x m method.sig.name (all_shown w.objects values) method.work → v ≡ after w (with_entry (accepted (at w [])) entry) → method.work ≡ work → Ends p d 0 v (top_of o m values w.connected work ∷ []) u [] r →
+pub began : {p : Loaded} {d o m : ℕ} {w v u : World} {x : Object} {method : MetaMethod} {values : List Value} {entry : Entry} {r : Result (Unit {0}) Fault} (e : Event) (work : Work) → 0 < d → AreTyped p w.objects → ArgumentsFit p w.objects o m values → 0 < w.left → AsksFor p w o m values e → IsMember p w.objects o m x method → entry ≡ begin_entry 1 x m method.sig.name (all_shown w.objects values) method.work → v ≡ after w (with_entries (accepted (at w [])) (entry ∷ [])) → method.work ≡ work → Ends p d 0 v (top_of o m values w.connected work ∷ []) u [] r →
     MatchResult r (λ _. Took p d w e u (Ok Done)) (λ f. Halted p d w e u f)
 began {p} {d} {o} {m} {w} {v} {u} {values = values} {r = r} e work room typed fit some asks is entry_is v_is work_is ends =
     let Typed : World → Type 0 = λ z. AreTyped p z.objects in
@@ -95,7 +96,7 @@ began {p} {d} {o} {m} {w} {v} {u} {values = values} {r = r} e work room typed fi
     let begun = judged-begun w e work asks is entry_is v_is work_is in
     took-run e (accepts (idle w) begun) (good-pushed w v typed_after fits (omega (arith, room))) (record { effect = _; why = begun }) some less ends
 
-pub assigned : {p : Loaded} {d o q : ℕ} {w v u : World} {x : Object} {property : MetaProperty} {old value : Value} {changed : Option ℕ} {entry : Entry} {r : Result (Unit {0}) Fault} (e : Event) → 0 < d → AreTyped p w.objects → 0 < w.left → WritesTo p w o q value e → IsField p w.objects o q x property → Has p (class_of w.objects) value property.kind → slice_get x.values q ≡ Some old → Changes old value property.notify changed → entry ≡ Written 1 x.name property.name (shown w.objects value) → v ≡ with_written w entry o q value → Ends p d 0 v (Update (places_of o q changed) ∷ []) u [] r →
+pub assigned : {p : Loaded} {d o q : ℕ} {w v u : World} {x : Object} {property : MetaProperty} {old value : Value} {changed : Option ℕ} {entry : Entry} {r : Result (Unit {0}) Fault} (e : Event) → 0 < d → AreTyped p w.objects → 0 < w.left → WritesTo p w o q value e → IsField p w.objects o q x property → Has p (class_of w.objects) value property.kind → slice_get x.values q ≡ Some old → Changes old value property.notify changed → entry ≡ At 1 (Written x.name property.name (shown w.objects value)) → v ≡ with_written w entry o q value → Ends p d 0 v (Update (places_of o q changed) ∷ []) u [] r →
     MatchResult r (λ _. Took p d w e u (Ok Done)) (λ f. Halted p d w e u f)
 assigned {p} {d} {o} {q} {w} {v} {u} {x} {value = value} {changed = changed} {entry = entry} e room typed some writes f has is_old changes entry_is v_is ends =
     let Typed : World → Type 0 = λ z. AreTyped p z.objects in
@@ -106,7 +107,7 @@ assigned {p} {d} {o} {q} {w} {v} {u} {x} {value = value} {changed = changed} {en
 
 -- ---- what stays sound meanwhile
 
-pub sound-begun : {p : Loaded} {v : World} (w : World) (entry : Entry) → Sound p w.objects w.connections → v ≡ after w (with_entry (accepted (at w [])) entry) → Sound p v.objects v.connections
+pub sound-begun : {p : Loaded} {v : World} (w : World) (entry : Entry) → Sound p w.objects w.connections → v ≡ after w (with_entries (accepted (at w [])) (entry ∷ [])) → Sound p v.objects v.connections
 sound-begun {p} w entry sound v_is =
     let Family : World → Type 0 = λ z. Sound p z.objects z.connections in
     subst Family (sym v_is) (record { typed = sound.typed; joined = sound.joined })

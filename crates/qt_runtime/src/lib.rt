@@ -9,6 +9,6 @@ mod taking;
 
 pub use laws::{one_judgement, one_run, one_taking};
 pub use machine::Machine;
-pub use machine_state::{Answer, Entry, Fault, Natives, Shown};
+pub use machine_state::{Answer, Entry, Fault, Happening, Natives, Shown};
 pub use meta_objects::{Meta, MetaFault};
 pub use script_lang::{Event, ScriptFault, read_script};

@@ -5,7 +5,9 @@ use Rattle.std.specs.List.{flat_map}
 use Rattle.machine_state.specs.declared.entry.Shown.{Shown}
 use Rattle.machine_state.specs.declared.entry.Shown.TheVariants as show
 use Rattle.machine_state.specs.declared.entry.Entry.{Entry}
-use Rattle.machine_state.specs.declared.entry.Entry.TheVariants.{Accepted, Refused, Emitted, Called, Written, OnNull}
+use Rattle.machine_state.specs.declared.entry.Entry.TheVariants.{Accepted, Refused, At}
+use Rattle.machine_state.specs.declared.entry.Happening.{Happening}
+use Rattle.machine_state.specs.declared.entry.Happening.TheVariants.{Emitted, Called, Written, OnNull}
 
 abbrev pub newline : List ℕ
 newline = codes "\n"
@@ -35,37 +37,41 @@ member_text object member = object ++ codes "." ++ member
 abbrev pub refused_event_line : ℕ → ℕ → List ℕ
 refused_event_line event refusal = codes "event " ++ decimal event ++ (codes " refused " ++ decimal refusal ++ newline)
 
--- `d`, the word, `o.m(args)`
-abbrev pub call_text : ℕ → List ℕ → List ℕ → List ℕ → List Shown → List ℕ
-call_text depth word object method arguments =
-    decimal depth ++ word ++ member_text object method ++ codes "(" ++ arguments_text arguments ++ codes ")"
+-- `o.m(args)`
+abbrev pub call_text : List ℕ → List ℕ → List Shown → List ℕ
+call_text object method arguments = member_text object method ++ codes "(" ++ arguments_text arguments ++ codes ")"
 
 -- what follows the emission of a blocked object, which calls nothing
 abbrev pub blocked_text : Bool → List ℕ
 blocked_text true = codes " blocked"
 blocked_text false = []
 
--- `d emit o.s(args)`, and ` blocked` where it calls nothing
-abbrev pub emitted_line : ℕ → List ℕ → List ℕ → List Shown → Bool → List ℕ
-emitted_line depth object signal arguments blocked =
-    call_text depth (codes " emit ") object signal arguments ++ blocked_text blocked ++ newline
+-- `emit o.s(args)`, and ` blocked` where it calls nothing
+abbrev pub emitted_text : List ℕ → List ℕ → List Shown → Bool → List ℕ
+emitted_text object signal arguments blocked = codes "emit " ++ call_text object signal arguments ++ blocked_text blocked
 
--- `d call o.m(args)`
-abbrev pub called_line : ℕ → List ℕ → List ℕ → List Shown → List ℕ
-called_line depth object slot arguments = call_text depth (codes " call ") object slot arguments ++ newline
+-- `call o.m(args)`
+abbrev pub called_text : List ℕ → List ℕ → List Shown → List ℕ
+called_text object slot arguments = codes "call " ++ call_text object slot arguments
 
--- `d set o.p v`
-abbrev pub written_line : ℕ → List ℕ → List ℕ → Shown → List ℕ
-written_line depth object property value =
-    decimal depth ++ codes " set " ++ member_text object property ++ codes " " ++ value_text value ++ newline
+-- `set o.p v`
+abbrev pub written_text : List ℕ → List ℕ → Shown → List ℕ
+written_text object property value = codes "set " ++ member_text object property ++ codes " " ++ value_text value
+
+abbrev pub happening_text : Happening → List ℕ
+happening_text (Emitted object signal arguments blocked) = emitted_text object signal arguments blocked
+happening_text (Called object slot arguments) = called_text object slot arguments
+happening_text (Written object property value) = written_text object property value
+happening_text OnNull = codes "null"
+
+-- `d`, and what happens at this depth
+abbrev pub depth_line : ℕ → Happening → List ℕ
+depth_line depth happening = decimal depth ++ codes " " ++ happening_text happening ++ newline
 
 abbrev pub entry_line : Entry → List ℕ
 entry_line (Accepted event) = codes "event " ++ decimal event ++ newline
 entry_line (Refused event refusal) = refused_event_line event refusal
-entry_line (Emitted depth object signal arguments blocked) = emitted_line depth object signal arguments blocked
-entry_line (Called depth object slot arguments) = called_line depth object slot arguments
-entry_line (Written depth object property value) = written_line depth object property value
-entry_line (OnNull depth) = decimal depth ++ codes " null\n"
+entry_line (At depth happening) = depth_line depth happening
 
 -- the lines of the entries, in their order
 abbrev pub trace_text : List Entry → List ℕ

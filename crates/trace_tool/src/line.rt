@@ -1,7 +1,7 @@
 //! The text of the output's lines.
 
-ghost use Rattle.std.specs.Prelude.{◌++◌, codes, decimal, OnOk};
-ghost use Rattle.trace_tool.specs.Lines.{newline, value_text, arguments_text, member_text, call_text, blocked_text, emitted_line, called_line, written_line, refused_event_line, entry_line, trace_text};
+ghost use Rattle.std.specs.Prelude.{◌++◌, codes, OnOk};
+ghost use Rattle.trace_tool.specs.Lines.{newline, value_text, arguments_text, member_text, call_text, blocked_text, emitted_text, called_text, written_text, happening_text, depth_line, refused_event_line, entry_line, trace_text};
 ghost use Rattle.trace_tool.specs.Refusals.{refusal_line};
 ghost use Rattle.trace_tool.specs.Sent.{Adds};
 
@@ -9,7 +9,7 @@ use crate::fault::WriteFault;
 use crate::output::Output;
 use crate::refusal::Refusal;
 use itoa::{Buffer, Integer};
-use qt_runtime::{Entry, Shown};
+use qt_runtime::{Entry, Happening, Shown};
 use signatures::{Name, Text};
 use std::io::Write;
 
@@ -83,21 +83,17 @@ impl Output {
         Ok(())
     }
 
-    /// Adds the depth, the word and `object.method(arguments)`.
+    /// Adds `object.method(arguments)`.
     fn call<W: Write>(
         &mut self,
         w: &mut W,
-        depth: usize,
-        word: &[u8],
         object: &Name,
         method: &Name,
         arguments: &[Shown],
     ) -> Result<(), WriteFault>
         ensures { OnOk result (Adds (W.contents w.old) self.old (W.contents w.new) self.new
-            (call_text depth word.now object.now method.now arguments.now)) }
+            (call_text object.now method.now arguments.now)) }
     {
-        self.number(w, depth)?;
-        self.put(w, word)?;
         self.member(w, object, method)?;
         self.put(w, b"(")?;
         self.arguments(w, arguments)?;
@@ -105,22 +101,21 @@ impl Output {
         Ok(())
     }
 
-    /// Adds the line of an emission, which tells whether the object is blocked.
+    /// Adds an emission, and whether the object is blocked.
     fn emitted<W: Write>(
         &mut self,
         w: &mut W,
-        depth: usize,
         object: &Name,
         signal: &Name,
         arguments: &[Shown],
         blocked: bool,
     ) -> Result<(), WriteFault>
         ensures { OnOk result (Adds (W.contents w.old) self.old (W.contents w.new) self.new
-            (emitted_line depth object.now signal.now arguments.now blocked)) }
+            (emitted_text object.now signal.now arguments.now blocked)) }
     {
-        self.call(w, depth, b" emit ", object, signal, arguments)?;
+        self.put(w, b"emit ")?;
+        self.call(w, object, signal, arguments)?;
         self.blocked(w, blocked)?;
-        self.put(w, b"\n")?;
         Ok(())
     }
 
@@ -135,51 +130,81 @@ impl Output {
         Ok(())
     }
 
-    /// Adds the line of a call.
+    /// Adds a call.
     fn called<W: Write>(
         &mut self,
         w: &mut W,
-        depth: usize,
         object: &Name,
         slot: &Name,
         arguments: &[Shown],
     ) -> Result<(), WriteFault>
         ensures { OnOk result (Adds (W.contents w.old) self.old (W.contents w.new) self.new
-            (called_line depth object.now slot.now arguments.now)) }
+            (called_text object.now slot.now arguments.now)) }
     {
-        self.call(w, depth, b" call ", object, slot, arguments)?;
-        self.put(w, b"\n")?;
+        self.put(w, b"call ")?;
+        self.call(w, object, slot, arguments)?;
         Ok(())
     }
 
-    /// Adds the line of a write of a property.
+    /// Adds a write of a property.
     fn written<W: Write>(
         &mut self,
         w: &mut W,
-        depth: usize,
         object: &Name,
         property: &Name,
         value: &Shown,
     ) -> Result<(), WriteFault>
         ensures { OnOk result (Adds (W.contents w.old) self.old (W.contents w.new) self.new
-            (written_line depth object.now property.now value.now)) }
+            (written_text object.now property.now value.now)) }
     {
-        self.number(w, depth)?;
-        self.put(w, b" set ")?;
+        self.put(w, b"set ")?;
         self.member(w, object, property)?;
         self.put(w, b" ")?;
         self.value(w, value)?;
-        self.put(w, b"\n")?;
         Ok(())
     }
 
-    /// Adds the line of a statement on null.
-    fn on_null<W: Write>(&mut self, w: &mut W, depth: usize) -> Result<(), WriteFault>
+    /// Adds what happens.
+    fn happening<W: Write>(&mut self, w: &mut W, happening: &Happening) -> Result<(), WriteFault>
         ensures { OnOk result (Adds (W.contents w.old) self.old (W.contents w.new) self.new
-            (decimal depth ++ codes " null\n")) }
+            (happening_text happening.now)) }
+    {
+        match happening {
+            Happening::Emitted {
+                object,
+                signal,
+                arguments,
+                blocked,
+            } => self.emitted(w, object, signal, arguments.as_slice(), *blocked)?,
+            Happening::Called {
+                object,
+                slot,
+                arguments,
+            } => self.called(w, object, slot, arguments.as_slice())?,
+            Happening::Written {
+                object,
+                property,
+                value,
+            } => self.written(w, object, property, value)?,
+            Happening::OnNull => self.put(w, b"null")?,
+        }
+        Ok(())
+    }
+
+    /// Adds the line of what happens at a depth.
+    fn at_depth<W: Write>(
+        &mut self,
+        w: &mut W,
+        depth: usize,
+        happening: &Happening,
+    ) -> Result<(), WriteFault>
+        ensures { OnOk result (Adds (W.contents w.old) self.old (W.contents w.new) self.new
+            (depth_line depth happening.now)) }
     {
         self.number(w, depth)?;
-        self.put(w, b" null\n")?;
+        self.put(w, b" ")?;
+        self.happening(w, happening)?;
+        self.put(w, b"\n")?;
         Ok(())
     }
 
@@ -236,16 +261,7 @@ impl Output {
         match entry {
             Entry::Accepted(event) => self.numbered(w, b"event ", *event)?,
             Entry::Refused(event, refusal) => self.refused_event(w, *event, *refusal)?,
-            Entry::Emitted(depth, object, signal, arguments, blocked) => {
-                self.emitted(w, *depth, object, signal, arguments.as_slice(), *blocked)?;
-            }
-            Entry::Called(depth, object, slot, arguments) => {
-                self.called(w, *depth, object, slot, arguments.as_slice())?;
-            }
-            Entry::Written(depth, object, property, value) => {
-                self.written(w, *depth, object, property, value)?;
-            }
-            Entry::OnNull(depth) => self.on_null(w, *depth)?,
+            Entry::At(depth, happening) => self.at_depth(w, *depth, happening)?,
         }
         Ok(())
     }

@@ -110,7 +110,7 @@ fn write(
     };
     let changed = signal_of_change(declared.notify, found.values.get(property), &value);
     let entry = setting.write_entry(world, 1, found, declared, &value)?;
-    world.accept_write(entry, object, property, value)?;
+    world.accept_write([entry], object, property, value)?;
     setting.run_update(world, 0, object, property, changed)?;
     Ok(Answer::Done)
 }

@@ -151,7 +151,7 @@ fn begin(
     };
     let last = world.connected;
     let entry = setting.begin_entry(world, 1, found, method, declared, values)?;
-    world.accept_with(entry)?;
+    world.accept_with([entry])?;
     match &declared.work {
         Work::Signal => setting.run_emission(world, 0, object, method, values, last)?,
         Work::Slot(body) => {

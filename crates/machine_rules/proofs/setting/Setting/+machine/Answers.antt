@@ -1,4 +1,4 @@
-use Rattle.std.proofs.Common.{◌∙◌, [], refl, sym, ap, arith, Some}
+use Rattle.std.proofs.Common.{◌∙◌, [], ◌∷◌, refl, sym, ap, arith, Some}
 use Rattle.signatures.specs.declared.value.Value.{Value}
 use Rattle.machine_state.specs.declared.world.World.{World}
 use Rattle.machine_rules.proofs.Fields.{old-there}
@@ -189,7 +189,7 @@ write-run_update-requires t c = let field = c.in-Some.ensures.value in
     let has = c.has_type.ensures.0 c.if-not-has_type.false in
     let old = old-there field c.requires.sound.typed in
     let changes = c.signal_of_change-changed.ensures old.0 (c.get.ensures ∙ old.1) in
-    (omega (arith, ap (λ (w : World). w.left) went, c.requires.left), (c.in_ok-may_nest.ensures, (sound-written _ _ went field has c.requires.sound, announces-in _ _ _ went field c.in-Some.ensures.sound changes)))
+    (omega (arith, ap (λ (w : World). w.left) went, c.requires.left), (c.in_ok-may_nest.ensures, (sound-written c.args.world.now (c.in_ok-entry.entry ∷ []) went field has c.requires.sound, announces-in c.args.world.now (c.in_ok-entry.entry ∷ []) _ went field c.in-Some.ensures.sound changes)))
 
 pub write-returns : goal.write-returns
 write-returns t c = record {

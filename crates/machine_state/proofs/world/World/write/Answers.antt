@@ -6,7 +6,7 @@ use Rattle.machine_state.proofs.Found.{change-there}
 use Rattle.machine_state.proofs.world.World.write.Goals as goal
 
 pub returns : goal.returns
-returns c = λ x is.
+returns g c = λ x is.
     let went = c.in_ok-note.ensures in
     let f : Object → Object = written c.args.property c.args.value in
     let objects = c.set_value.ensures.value ∙ ap (λ (u : World). change c.args.object f u.objects) went ∙ change-there c.args.object f c.args.self.now.objects x is in

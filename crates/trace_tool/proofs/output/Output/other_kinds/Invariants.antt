@@ -1,4 +1,4 @@
-use Rattle.std.proofs.Common.{ℕ, List, length}
+use Rattle.std.proofs.Common.{length}
 use Rattle.signatures.specs.Spelling.{text_of_others}
 use Rattle.trace_tool.proofs.Sending.{SentSoFar}
 use Rattle.trace_tool.specs.Sent.{behind}
