@@ -1,5 +1,5 @@
 -- How methods begin.
-use Rattle.std.proofs.Common.{◌≡◌, ℕ, suc, ◌+◌, ◌<◌, ◌&&◌, eqb, Bool, true, false, IsTrue, cond, List, [], ◌∷◌, ◌++◌, length, take, Result, Option, None, Some, slice_get, refl, sym, ap, ◌∙◌, subst, arith}
+use Rattle.std.proofs.Common.{◌≡◌, ℕ, suc, ◌+◌, ◌<◌, ◌≤◌, inl, inr, ◌&&◌, eqb, Bool, true, false, IsTrue, cond, List, [], ◌∷◌, ◌++◌, length, take, Result, Option, None, Some, slice_get, refl, sym, ap, ◌∙◌, subst, arith, length-append}
 use Rattle.std.specs.List.{AllByRecursion, find}
 use Rattle.std.proofs.lemmas.Bool.{eqb-true}
 use Rattle.signatures.specs.declared.value.Value.{Value}
@@ -17,43 +17,43 @@ use Rattle.object_tree.specs.declared.object.Object.{Object}
 use Rattle.machine_state.specs.declared.world.World.{World}
 use Rattle.object_tree.specs.Objects.{class_of}
 use Rattle.machine_state.specs.Objects.{all_shown}
-use Rattle.machine_state.specs.State.{State, Activation, Body, Emit}
+use Rattle.machine_state.specs.State.{State, Activation, Emit}
 use Rattle.machine_rules.specs.Rules.{Begins, begun, EmitRule, Uses}
 use Rattle.machine_state.specs.Connections.{is_next, next_connection, silences, next_used}
 use Rattle.machine_rules.specs.Good.{AreTyped, ArgumentsFit, TopFits, IsWell}
 use Rattle.machine_rules.specs.Sound.{Joined}
 use Rattle.machine_state.specs.Worlds.{at, noted}
-use Rattle.machine_rules.specs.Reaches.{Reaches, StopsIn, Ends, Calls, OnlyCalls, begin_entry}
+use Rattle.machine_rules.specs.Reaches.{Reaches, StopsIn, Ends, Calls, OnlyCalls, begin_entry, top_of, IsBegun, IsBarred}
+use Rattle.machine_rules.specs.Active.{shows}
+use Rattle.machine_rules.proofs.Frames.{high, shows-over}
 use Rattle.machine_rules.specs.There.{IsMember}
-use Rattle.machine_rules.proofs.Reaching.{reaches-high, ends-after, ends-lifted, stops-deep, stops-ill, stops-stuck}
+use Rattle.machine_rules.proofs.Reaching.{reaches-high, ends-after, ends-lifted, not-idle, stops-as, stops-memory, stops-deep, stops-ill, stops-stuck}
 use Rattle.machine_rules.proofs.Fields.{member-method, types-front}
 
--- what is pushed where a method begins
-abbrev pub top_of : ℕ → ℕ → List Value → ℕ → Work → Activation
-top_of o m arguments last Signal = Emit o m arguments 0 last
-top_of o m arguments last (Slot statements) = Body o m arguments statements
-
--- the world after that
+-- the world after a method began
 abbrev pub begun_world : World → ℕ → Object → ℕ → MetaMethod → List Value → World
 begun_world w depth x m method arguments = noted w (begin_entry depth x m method.sig.name (all_shown w.objects arguments) method.work ∷ [])
 
-begun-is : (w : World) (stack : List Activation) (to : Activation) (below : List Activation) (o : ℕ) (x : Object) (m : ℕ) (method : MetaMethod) (arguments : List Value) (work : Work) →
-    at (noted w (begin_entry (suc (suc (length below))) x m method.sig.name (all_shown w.objects arguments) work ∷ [])) (top_of o m arguments w.connected work ∷ to ∷ below) ≡ begun (at w stack) (to ∷ below) o x m method arguments work
-begun-is w stack to below o x m method arguments Signal = refl
-begun-is w stack to below o x m method arguments (Slot statements) = refl
+begun-is : (w : World) (stack over : List Activation) (o : ℕ) (x : Object) (m : ℕ) (method : MetaMethod) (arguments : List Value) (work : Work) →
+    at (noted w (begin_entry (suc (length over)) x m method.sig.name (all_shown w.objects arguments) work ∷ [])) (top_of o m arguments w.connected work ∷ over) ≡ begun (at w stack) over o x m method arguments work
+begun-is w stack over o x m method arguments Signal = refl
+begun-is w stack over o x m method arguments (Slot statements) = refl
 
 -- a method that is there begins
-begins-there : {p : Loaded} {h o m : ℕ} {x : Object} {method : MetaMethod} (w : World) (arguments : List Value) (from to : Activation) (below : List Activation) → IsMember p w.objects o m x method → length below ≡ h →
-    Begins p (at w (from ∷ below)) (to ∷ below) o m arguments (at (begun_world w (h + 2) x m method arguments) (top_of o m arguments w.connected method.work ∷ to ∷ below))
-begins-there {h = h} {o = o} {m = m} {x = x} {method = method} w arguments from to below is e =
-    let depth_is : h + 2 ≡ suc (suc (length below)) = omega (arith, e) in
-    let with_depth : ℕ → State = λ n. at (begun_world w n x m method arguments) (top_of o m arguments w.connected method.work ∷ to ∷ below) in
+begins-there : {p : Loaded} {n o m : ℕ} {x : Object} {method : MetaMethod} (w : World) (arguments : List Value) (stack over : List Activation) → IsMember p w.objects o m x method → n ≡ suc (length over) →
+    Begins p (at w stack) over o m arguments (at (begun_world w n x m method arguments) (top_of o m arguments w.connected method.work ∷ over))
+begins-there {o = o} {m = m} {x = x} {method = method} w arguments stack over is depth_is =
+    let with_depth : ℕ → State = λ n. at (begun_world w n x m method arguments) (top_of o m arguments w.connected method.work ∷ over) in
     record {
       object = x;
       method = method;
       is = is;
-      gives = ap with_depth depth_is ∙ begun-is w (from ∷ below) to below o x m method arguments method.work;
+      gives = ap with_depth depth_is ∙ begun-is w stack over o x m method arguments method.work;
     }
+
+-- .. and its activation is the last of so many
+pub one-more : {h active : List (Option ℕ)} (to below : List Activation) → active ≡ shows to ++ h → shows below ≡ h → length active + 1 ≡ suc (length (to ++ below))
+one-more to below over e = omega (arith, high (to ++ below) (shows-over to below over e))
 
 pub top-fits : {p : Loaded} {objects : List Object} {o m : ℕ} {arguments : List Value} (last : ℕ) (work : Work) (below : List Activation) → ArgumentsFit p objects o m arguments → TopFits p objects (top_of o m arguments last work ∷ below)
 top-fits last Signal below fit = fit
@@ -63,37 +63,47 @@ fits-top : {p : Loaded} {objects : List Object} {o m : ℕ} {arguments : List Va
 fits-top last Signal below fit = fit
 fits-top last (Slot statements) below fit = fit
 
-reaches-begun : {p : Loaded} {d h o m : ℕ} {w v : World} {from to : Activation} {x : Object} {method : MetaMethod} {arguments : List Value} {entry : Entry} →
-    Calls p w from to o m arguments → IsMember p w.objects o m x method → ArgumentsFit p w.objects o m arguments → AreTyped p w.objects → h + 1 < d → 0 < w.left →
-    entry ≡ begin_entry (h + 2) x m method.sig.name (all_shown w.objects arguments) method.work → v ≡ noted w (entry ∷ []) →
-    Reaches p d h w (from ∷ []) v (top_of o m arguments w.connected method.work ∷ to ∷ [])
-reaches-begun {p} {d} {h} {o} {m} {w} {v} {from} {to} {x} {method} {arguments} {entry} calls is fit typed room some entry_is v_is =
-    let Family : World → Type 0 = λ u. Reaches p d h w (from ∷ []) u (top_of o m arguments w.connected method.work ∷ to ∷ []) in
-    let target : World = begun_world w (h + 2) x m method arguments in
-    let target_is : v ≡ target = v_is ∙ ap (λ (e : Entry). noted w (e ∷ [])) entry_is in
-    let went : Reaches p d h w (from ∷ []) target (top_of o m arguments w.connected method.work ∷ to ∷ []) =
-    reaches-high (λ below e. calls.gives below _ (begins-there w arguments from to below is e)) (λ below. top-fits w.connected method.work (to ∷ below) fit) room typed refl some in
-    subst Family (sym target_is) went
+reaches-begun : {p : Loaded} {d o m : ℕ} {h active : List (Option ℕ)} {w v : World} {from to : List Activation} {arguments : List Value} {line : Entry} {work : Work} {last : ℕ} →
+    active ≡ shows to ++ h → Calls p w from to o m arguments → IsBegun p d active w o m arguments line work last → ArgumentsFit p w.objects o m arguments → AreTyped p w.objects → 0 < w.left → v ≡ noted w (line ∷ []) →
+    Reaches p d h w from v (top_of o m arguments last work ∷ to)
+reaches-begun {p} {d} {o} {m} {h} {active} {w} {v} {from} {to} {arguments} {line} {work} {last} over calls is fit typed some v_is =
+    let Pushed : World → Work → ℕ → Type 0 = λ u k l. Reaches p d h w from u (top_of o m arguments l k ∷ to) in
+    let target : World = begun_world w (length active + 1) is.object m is.method arguments in
+    let target_is : v ≡ target = v_is ∙ ap (λ (y : Entry). noted w (y ∷ [])) is.is_line in
+    let went : Pushed target is.method.work w.connected =
+    reaches-high over (λ below e. calls.gives below _ (begins-there w arguments (from ++ below) (to ++ below) is.is (one-more to below over e))) (λ below. top-fits w.connected is.method.work (to ++ below) fit) is.room typed refl some in
+    subst (λ (u : World). Pushed u work last) (sym target_is) (subst (λ (k : Work). Pushed target k last) (sym is.is_work) (subst (λ (l : ℕ). Pushed target is.method.work l) (sym is.is_last) went))
 
 -- a method begins, and what it pushed runs
-pub ends-begun : {p : Loaded} {d h o m : ℕ} {w v u : World} {from to : Activation} {x : Object} {method : MetaMethod} {arguments : List Value} {entry : Entry} {work : Work} {r : Result (Unit {0}) Fault} →
-    Calls p w from to o m arguments → IsMember p w.objects o m x method → ArgumentsFit p w.objects o m arguments → AreTyped p w.objects → h + 1 < d → 0 < w.left →
-    entry ≡ begin_entry (h + 2) x m method.sig.name (all_shown w.objects arguments) method.work → v ≡ noted w (entry ∷ []) → method.work ≡ work →
-    Ends p d (h + 1) v (top_of o m arguments w.connected work ∷ []) u [] r → Ends p d h w (from ∷ []) u (to ∷ []) r
-ends-begun {p} {d} {h} {o} {m} {w} {v} {u} {arguments = arguments} {r = r} calls is fit typed room some entry_is v_is work_is x =
-    let Run : Work → Type 0 = λ k. Ends p d (h + 1) v (top_of o m arguments w.connected k ∷ []) u [] r in
-    ends-after (reaches-begun calls is fit typed room some entry_is v_is) (ends-lifted (subst Run (sym work_is) x))
+pub ends-begun : {p : Loaded} {d o m : ℕ} {h active : List (Option ℕ)} {w v u : World} {from to : List Activation} {arguments : List Value} {line : Entry} {work : Work} {last : ℕ} {r : Result (Unit {0}) Fault} →
+    active ≡ shows to ++ h → Calls p w from to o m arguments → IsBegun p d active w o m arguments line work last → ArgumentsFit p w.objects o m arguments → AreTyped p w.objects → 0 < w.left → v ≡ noted w (line ∷ []) →
+    Ends p d active v (top_of o m arguments last work ∷ []) u [] r → Ends p d h w from u to r
+ends-begun over calls is fit typed some v_is x = ends-after (reaches-begun over calls is fit typed some v_is) (ends-lifted over x)
 
 -- activations would nest too deep
-pub stops-begin : {p : Loaded} {d h o m : ℕ} {w : World} {from to : Activation} {x : Object} {method : MetaMethod} {arguments : List Value} →
-    Calls p w from to o m arguments → IsMember p w.objects o m x method → ArgumentsFit p w.objects o m arguments → AreTyped p w.objects → 0 < w.left → d ≡ h + 1 → StopsIn p d h w (from ∷ []) w TooDeep
-stops-begin {h = h} {o = o} {m = m} {w = w} {from = from} {to = to} {x = x} {method = method} {arguments = arguments} calls is fit typed some deep =
-    stops-deep some (λ below e. (at (begun_world w (h + 2) x m method arguments) (top_of o m arguments w.connected method.work ∷ to ∷ below), calls.gives below _ (begins-there w arguments from to below is e), record { arguments = λ higher. top-fits w.connected method.work (to ∷ below) fit; values = typed }, omega (arith, e, deep)))
+stops-begin : {p : Loaded} {d o m : ℕ} {h active : List (Option ℕ)} {w : World} {from to : List Activation} {arguments : List Value} →
+    active ≡ shows to ++ h → Calls p w from to o m arguments → ArgumentsFit p w.objects o m arguments → AreTyped p w.objects → 0 < w.left → d ≤ length active → StopsIn p d h w from w TooDeep
+stops-begin {o = o} {m = m} {active = active} {w = w} {from = from} {to = to} {arguments = arguments} over calls fit typed some deep =
+    let target : World = begun_world w (length active + 1) fit.object m fit.method arguments in
+    stops-deep some (λ below e. (
+      at target (top_of o m arguments w.connected fit.method.work ∷ to ++ below),
+      calls.gives below _ (begins-there w arguments (from ++ below) (to ++ below) fit.is (one-more to below over e)),
+      record { arguments = λ higher. top-fits w.connected fit.method.work (to ++ below) fit; values = typed },
+      omega (arith, one-more to below over e, deep),
+    ))
+
+-- a method that fits doesn't begin
+pub stops-barred : {p : Loaded} {d o m : ℕ} {h active : List (Option ℕ)} {w : World} {from to : List Activation} {arguments : List Value} {f : Fault} →
+    active ≡ shows to ++ h → Calls p w from to o m arguments → ArgumentsFit p w.objects o m arguments → AreTyped p w.objects → 0 < w.left → IsBarred d active f → StopsIn p d h w from w f
+stops-barred over calls fit typed some why = elim why [
+  | inl deep ↦ stops-as deep.1 (stops-begin over calls fit typed some deep.0)
+  | inr short ↦ stops-as short (stops-memory calls.goes_on some)
+]
 
 -- there is no such method
-pub stops-no-member : {p : Loaded} {d h o m : ℕ} {w : World} {from to : Activation} {arguments : List Value} →
-    OnlyCalls p w from to o m arguments → ((x : Object) (method : MetaMethod) → ¬ IsMember p w.objects o m x method) → 0 < w.left → StopsIn p d h w (from ∷ []) w BadType
-stops-no-member only none some = stops-stuck some (λ below t r. let b = only.begins below t r in none b.object b.method b.is)
+pub stops-no-member : {p : Loaded} {d o m : ℕ} {h : List (Option ℕ)} {w : World} {from to : List Activation} {arguments : List Value} →
+    Calls p w from to o m arguments → OnlyCalls p w from to o m arguments → ((x : Object) (method : MetaMethod) → ¬ IsMember p w.objects o m x method) → 0 < w.left → StopsIn p d h w from w BadType
+stops-no-member calls only none some = stops-stuck calls.goes_on some (λ below t r. let b = only.begins below t r in none b.object b.method b.is)
 
 -- the arguments that fit are of the method's types
 fit-typed : {p : Loaded} {objects : List Object} {o m : ℕ} {x : Object} {method : MetaMethod} {arguments : List Value} → IsMember p objects o m x method → ArgumentsFit p objects o m arguments → HaveTypes p (class_of objects) arguments method.kinds
@@ -102,14 +112,14 @@ fit-typed {p} {objects} {o} {m} {x} {method} {arguments} is fit =
     subst Kinds (member-method fit.is is) fit.typed
 
 -- the arguments aren't of the method's types
-pub stops-ill-typed : {p : Loaded} {d h o m : ℕ} {w : World} {from to : Activation} {x : Object} {method : MetaMethod} {arguments : List Value} →
-    Calls p w from to o m arguments → IsMember p w.objects o m x method → (¬ HaveTypes p (class_of w.objects) arguments method.kinds) → 0 < w.left → StopsIn p d h w (from ∷ []) w BadType
+pub stops-ill-typed : {p : Loaded} {d o m : ℕ} {h : List (Option ℕ)} {w : World} {from to : List Activation} {x : Object} {method : MetaMethod} {arguments : List Value} →
+    Calls p w from to o m arguments → IsMember p w.objects o m x method → (¬ HaveTypes p (class_of w.objects) arguments method.kinds) → 0 < w.left → StopsIn p d h w from w BadType
 stops-ill-typed {p} {o = o} {m = m} {w = w} {from = from} {to = to} {x = x} {method = method} {arguments = arguments} calls is ill some =
     stops-ill some (λ below.
-    let t : State = at (begun_world w (length below + 2) x m method arguments) (top_of o m arguments w.connected method.work ∷ to ∷ below) in (
+    let t : State = at (begun_world w (suc (length (to ++ below))) x m method arguments) (top_of o m arguments w.connected method.work ∷ to ++ below) in (
       t,
-      calls.gives below t (begins-there w arguments from to below is refl),
-      λ (well : IsWell p (at w (from ∷ below)) t). ill (fit-typed is (fits-top w.connected method.work (to ∷ below) (well.arguments (omega arith)))),
+      calls.gives below t (begins-there w arguments (from ++ below) (to ++ below) is refl),
+      λ (well : IsWell p (at w (from ++ below)) t). ill (fit-typed is (fits-top w.connected method.work (to ++ below) (well.arguments (omega (arith, calls.no_lower, length-append from below, length-append to below))))),
     ))
 
 pub fit-of : {p : Loaded} {objects : List Object} {o m : ℕ} {x : Object} {method : MetaMethod} {arguments : List Value} → IsMember p objects o m x method → HaveTypes p (class_of objects) arguments method.kinds → ArgumentsFit p objects o m arguments
@@ -171,8 +181,10 @@ delivered-fits {p} {objects} {c} {x} {method} {arguments} {taken} j fit is cut c
     subst (λ (l : List Value). ArgumentsFit p objects c.receiver c.method l) (sym taken_is) has
 
 -- a connection that comes next begins its method
-pub delivery-calls : {p : Loaded} {w : World} {c : Connection} {x : Object} {method : MetaMethod} {arguments taken : List Value} {count : ℕ} (o g used last : ℕ) → next_used w.objects w.connections o g used last ≡ Some c → IsMember p w.objects c.receiver c.method x method → taken ≡ take count arguments → count ≡ length method.kinds → Calls p w (Emit o g arguments used last) (Emit o g arguments c.number last) c.receiver c.method taken
+pub delivery-calls : {p : Loaded} {w : World} {c : Connection} {x : Object} {method : MetaMethod} {arguments taken : List Value} {count : ℕ} (o g used last : ℕ) → next_used w.objects w.connections o g used last ≡ Some c → IsMember p w.objects c.receiver c.method x method → taken ≡ take count arguments → count ≡ length method.kinds → Calls p w (Emit o g arguments used last ∷ []) (Emit o g arguments c.number last ∷ []) c.receiver c.method taken
 delivery-calls {p} {w} {c} {x} {method} {arguments} {taken} {count} o g used last found is cut count_is = record {
+  no_lower = omega arith;
+  goes_on = λ below. not-idle w _ below;
   gives = λ below t b.
       let s : State = at w (Emit o g arguments used last ∷ below) in
       let over : List Activation = Emit o g arguments c.number last ∷ below in

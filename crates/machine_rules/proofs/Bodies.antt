@@ -1,5 +1,5 @@
 -- What a body's statements do.
-use Rattle.std.proofs.Common.{◌≡◌, ◌≢◌, ℕ, suc, ◌+◌, ◌-◌, ◌<◌, List, [], ◌∷◌, ◌++◌, length, Result, Ok, Err, Some, None, refl, sym, ap, ◌∙◌, subst, arith}
+use Rattle.std.proofs.Common.{◌≡◌, ◌≢◌, ℕ, suc, ◌+◌, ◌-◌, ◌<◌, List, [], ◌∷◌, ◌++◌, length, Result, Ok, Err, Option, Some, None, refl, sym, ap, ◌∙◌, subst, arith}
 use Rattle.std.specs.Result.{IsErrAnd}
 use Rattle.signatures.specs.declared.value.Value.{Value}
 use Rattle.meta_model.specs.declared.object.Statement.{Statement}
@@ -21,7 +21,8 @@ use Rattle.machine_rules.specs.Good.{AreTyped}
 use Rattle.machine_rules.specs.Runs.{Rules, done, then}
 use Rattle.machine_state.specs.Worlds.{at, noted, Ticks, Notes}
 use Rattle.machine_rules.specs.Reaches.{StopsIn, Ends, Advances, Calls, OnlyCalls, Sets}
-use Rattle.machine_rules.proofs.Reaching.{stops-stuck, ends-noted, ends-ticked}
+use Rattle.machine_rules.proofs.Reaching.{not-idle, stops-stuck, ends-noted, ends-ticked}
+use Rattle.machine_rules.proofs.Frames.{high}
 use Rattle.machine_rules.proofs.Keeps.{some-stack, rules-kept}
 
 -- ---- the rule of a body whose next statement does this
@@ -44,39 +45,40 @@ rule-does p w o m arguments x rest d below t is rule =
     subst Done same r.does
 
 -- a method begins
-pub does-call : {p : Loaded} {w : World} {o : ℕ} {arguments : List Value} {x : Statement} (m : ℕ) (rest : List Statement) {y n : ℕ} {given : List Value} → doing w.objects o arguments (out-Statement x) ≡ Some (Begin y n given) → Calls p w (Body o m arguments (x ∷ rest)) (Body o m arguments rest) y n given
-does-call {p} {w} {o} {arguments} {x} m rest {y} {n} {given} is = record { gives = λ below t b. does-rule p w o m arguments x rest (Begin y n given) below t is b }
+pub does-call : {p : Loaded} {w : World} {o : ℕ} {arguments : List Value} {x : Statement} (m : ℕ) (rest : List Statement) {y n : ℕ} {given : List Value} → doing w.objects o arguments (out-Statement x) ≡ Some (Begin y n given) → Calls p w (Body o m arguments (x ∷ rest) ∷ []) (Body o m arguments rest ∷ []) y n given
+does-call {p} {w} {o} {arguments} {x} m rest {y} {n} {given} is = record { no_lower = omega arith; goes_on = λ below. not-idle w _ below; gives = λ below t b. does-rule p w o m arguments x rest (Begin y n given) below t is b }
 
-pub does-call-alone : {p : Loaded} {w : World} {o : ℕ} {arguments : List Value} {x : Statement} (m : ℕ) (rest : List Statement) {y n : ℕ} {given : List Value} → doing w.objects o arguments (out-Statement x) ≡ Some (Begin y n given) → OnlyCalls p w (Body o m arguments (x ∷ rest)) (Body o m arguments rest) y n given
+pub does-call-alone : {p : Loaded} {w : World} {o : ℕ} {arguments : List Value} {x : Statement} (m : ℕ) (rest : List Statement) {y n : ℕ} {given : List Value} → doing w.objects o arguments (out-Statement x) ≡ Some (Begin y n given) → OnlyCalls p w (Body o m arguments (x ∷ rest) ∷ []) (Body o m arguments rest ∷ []) y n given
 does-call-alone {p} {w} {o} {arguments} {x} m rest {y} {n} {given} is = record { begins = λ below t r. rule-does p w o m arguments x rest (Begin y n given) below t is r }
 
 -- a property is written
-pub does-set : {p : Loaded} {w : World} {o : ℕ} {arguments : List Value} {x : Statement} (m : ℕ) (rest : List Statement) {y q : ℕ} {new : Value} → doing w.objects o arguments (out-Statement x) ≡ Some (Write y q new) → Sets p w (Body o m arguments (x ∷ rest)) (Body o m arguments rest) y q new
+pub does-set : {p : Loaded} {w : World} {o : ℕ} {arguments : List Value} {x : Statement} (m : ℕ) (rest : List Statement) {y q : ℕ} {new : Value} → doing w.objects o arguments (out-Statement x) ≡ Some (Write y q new) → Sets p w (Body o m arguments (x ∷ rest) ∷ []) (Body o m arguments rest ∷ []) y q new
 does-set {p} {w} {o} {arguments} {x} m rest {y} {q} {new} is = record {
+  goes_on = λ below. not-idle w _ below;
   gives = λ below t b. does-rule p w o m arguments x rest (Write y q new) below t is b;
   only = λ below t r. rule-does p w o m arguments x rest (Write y q new) below t is r;
 }
 
 -- nothing is done
-pub does-nothing : {p : Loaded} {w : World} {o : ℕ} {arguments : List Value} {x : Statement} (m : ℕ) (rest : List Statement) {d h : ℕ} {v : World} (r : Result (Unit {0}) Fault) → doing w.objects o arguments (out-Statement x) ≡ Some Nothing → h < d → AreTyped p w.objects → 0 < w.left → Notes w (noted w (At (h + 1) OnNull ∷ [])) v r → Ends p d h w (Body o m arguments (x ∷ rest) ∷ []) v (Body o m arguments rest ∷ []) r
-does-nothing {p} {w} {o} {arguments} {x} m rest {d} {h} {v} r is room typed some notes =
-    ends-noted (noted w (At (h + 1) OnNull ∷ [])) r
+pub does-nothing : {p : Loaded} {w : World} {o : ℕ} {arguments : List Value} {x : Statement} (m : ℕ) (rest : List Statement) {d : ℕ} {h : List (Option ℕ)} {v : World} (n : ℕ) (r : Result (Unit {0}) Fault) → doing w.objects o arguments (out-Statement x) ≡ Some Nothing → length h < d → AreTyped p w.objects → 0 < w.left → n ≡ length h + 1 → Notes w (noted w (At n OnNull ∷ [])) v r → Ends p d h w (Body o m arguments (x ∷ rest) ∷ []) v (Body o m arguments rest ∷ []) r
+does-nothing {p} {w} {o} {arguments} {x} m rest {d} {h} {v} n r is room typed some n_is notes =
+    ends-noted (noted w (At n OnNull ∷ [])) r
     (λ below k.
-    let t : State = at (noted w (At (h + 1) OnNull ∷ [])) (Body o m arguments rest ∷ below) in
-    let depth_is : h + 1 ≡ suc (length below) = omega (arith, k) in
-    let null_is : t ≡ on_null (next w o m arguments x rest below) (Body o m arguments rest ∷ below) = ap (λ (n : ℕ). at (noted w (At n OnNull ∷ [])) (Body o m arguments rest ∷ below)) depth_is in
+    let t : State = at (noted w (At n OnNull ∷ [])) (Body o m arguments rest ∷ below) in
+    let depth_is : n ≡ suc (length below) = omega (arith, n_is, high below k) in
+    let null_is : t ≡ on_null (next w o m arguments x rest below) (Body o m arguments rest ∷ below) = ap (λ (i : ℕ). at (noted w (At i OnNull ∷ [])) (Body o m arguments rest ∷ below)) depth_is in
     does-rule p w o m arguments x rest Nothing below t is null_is)
     room typed refl some notes
 
 -- a block comes next
-pub does-choose : {p : Loaded} {w : World} {o : ℕ} {arguments : List Value} {x : Statement} (m : ℕ) (rest : List Statement) {d h : ℕ} {v : World} (r : Result (Unit {0}) Fault) (block : List Statement) → doing w.objects o arguments (out-Statement x) ≡ Some (Choose block) → h < d → AreTyped p w.objects → Ticks w v r → Ends p d h w (Body o m arguments (x ∷ rest) ∷ []) v (Body o m arguments (block ++ rest) ∷ []) r
+pub does-choose : {p : Loaded} {w : World} {o : ℕ} {arguments : List Value} {x : Statement} (m : ℕ) (rest : List Statement) {d : ℕ} {h : List (Option ℕ)} {v : World} (r : Result (Unit {0}) Fault) (block : List Statement) → doing w.objects o arguments (out-Statement x) ≡ Some (Choose block) → length h < d → AreTyped p w.objects → Ticks w v r → Ends p d h w (Body o m arguments (x ∷ rest) ∷ []) v (Body o m arguments (block ++ rest) ∷ []) r
 does-choose {p} {w} {o} {arguments} {x} m rest r block is room typed ticks =
     ends-ticked {b = Body o m arguments (block ++ rest) ∷ []} r (λ below k. does-rule p w o m arguments x rest (Choose block) below _ is refl) (omega arith) room typed ticks
 
 -- a statement that lacks a value has no rule
-pub lacks-rule : {p : Loaded} {w : World} {o : ℕ} {arguments : List Value} {x : Statement} (m : ℕ) (rest : List Statement) {d h : ℕ} → 0 < w.left → doing w.objects o arguments (out-Statement x) ≡ None → StopsIn p d h w (Body o m arguments (x ∷ rest) ∷ []) w BadType
+pub lacks-rule : {p : Loaded} {w : World} {o : ℕ} {arguments : List Value} {x : Statement} (m : ℕ) (rest : List Statement) {d : ℕ} {h : List (Option ℕ)} → 0 < w.left → doing w.objects o arguments (out-Statement x) ≡ None → StopsIn p d h w (Body o m arguments (x ∷ rest) ∷ []) w BadType
 lacks-rule {p} {w} {o} {arguments} {x} m rest some none =
-    stops-stuck some (λ below t rule.
+    stops-stuck (not-idle w (Body o m arguments (x ∷ rest))) some (λ below t rule.
     let r : StatementRule p (next w o m arguments x rest below) o m arguments x rest below t = rule in
     let both : None ≡ Some r.what = sym none ∙ r.is in
     absurd (cc both))
@@ -86,7 +88,7 @@ pub moved : {a b : List Object} {n o : ℕ} {k l : List Value} (F : List Object 
 moved {a} {b} {n} {o} {k} {l} F objects this arguments x =
     subst (λ (i : List Value). F b o i) arguments (subst (λ (i : ℕ). F b i k) this (subst (λ (i : List Object). F i n k) objects x))
 
-pub lacks-read : {p : Loaded} {d h o : ℕ} {w : World} {arguments : List Value} {x : Statement} {f : EvalFault} {a : List Object} {i : ℕ} {l : List Value} (m : ℕ) (rest : List Statement) → 0 < w.left → a ≡ w.objects → i ≡ o → l ≡ arguments → Yields (doing a i l (out-Statement x)) (Err f) → f ≡ eval.BadType → StopsIn p d h w (Body o m arguments (x ∷ rest) ∷ []) w BadType
+pub lacks-read : {p : Loaded} {d o : ℕ} {h : List (Option ℕ)} {w : World} {arguments : List Value} {x : Statement} {f : EvalFault} {a : List Object} {i : ℕ} {l : List Value} (m : ℕ) (rest : List Statement) → 0 < w.left → a ≡ w.objects → i ≡ o → l ≡ arguments → Yields (doing a i l (out-Statement x)) (Err f) → f ≡ eval.BadType → StopsIn p d h w (Body o m arguments (x ∷ rest) ∷ []) w BadType
 lacks-read {p} {o = o} {w = w} {arguments = arguments} {x = x} {a = a} {i = i} {l = l} m rest some objects this given yields is =
     let At : EvalFault → Type 0 = λ g. Yields (doing a i l (out-Statement x)) (Err g) in
     let none : doing w.objects o arguments (out-Statement x) ≡ None = moved (λ b j k. doing b j k (out-Statement x) ≡ None) objects this given (subst At is yields) in
@@ -106,19 +108,19 @@ longer o m arguments x rest w v below e =
     let lengths : suc (length rest) ≡ length rest = ap length left in
     absurd (omega (arith, lengths))
 
-pub advances-one : {p : Loaded} {d h o m : ℕ} {w v : World} {arguments : List Value} {x : Statement} {rest : List Statement} (r : Result (Unit {0}) Fault) → Ends p d h w (Body o m arguments (x ∷ rest) ∷ []) v (Body o m arguments rest ∷ []) r → Advances p d h w (Body o m arguments (x ∷ rest) ∷ []) v (Body o m arguments rest ∷ []) r
-advances-one {h = h} {o = o} {m = m} {w = w} {v = v} {arguments = arguments} {x = x} {rest = rest} (Ok _) ends =
+pub advances-one : {p : Loaded} {d o m : ℕ} {h : List (Option ℕ)} {w v : World} {arguments : List Value} {x : Statement} {rest : List Statement} (r : Result (Unit {0}) Fault) → Ends p d h w (Body o m arguments (x ∷ rest) ∷ []) v (Body o m arguments rest ∷ []) r → Advances p d h w (Body o m arguments (x ∷ rest) ∷ []) v (Body o m arguments rest ∷ []) r
+advances-one {o = o} {m = m} {h = h} {w = w} {v = v} {arguments = arguments} {x = x} {rest = rest} (Ok _) ends =
     let q = some-stack h in
     record { cases = (ends.cases, rules-fewer (ends.cases.runs q.0 q.1) (longer o m arguments x rest w v q.0)) }
 advances-one (Err f) ends = record { cases = ends.cases }
 
-pub advances-ticked : {p : Loaded} {d h : ℕ} {w v : World} {a b : List Activation} (r : Result (Unit {0}) Fault) → Ticks w v r → Ends p d h w a v b r → Advances p d h w a v b r
+pub advances-ticked : {p : Loaded} {d : ℕ} {h : List (Option ℕ)} {w v : World} {a b : List Activation} (r : Result (Unit {0}) Fault) → Ticks w v r → Ends p d h w a v b r → Advances p d h w a v b r
 advances-ticked {w = w} {v = v} (Ok _) ticks ends =
     let less : v.left ≡ w.left - 1 = ap (λ (u : World). u.left) ticks.1 in
     record { cases = (ends.cases, omega (arith, less, ticks.0)) }
 advances-ticked (Err f) ticks ends = record { cases = ends.cases }
 
 -- memory was refused
-pub advances-left : {p : Loaded} {d h : ℕ} {w v : World} {a b : List Activation} (f : Fault) (r : Result (Unit {0}) Fault) → Ends p d h w a v b r → IsErrAnd r (λ y. y ≡ f) → Advances p d h w a v b r
+pub advances-left : {p : Loaded} {d : ℕ} {h : List (Option ℕ)} {w v : World} {a b : List Activation} (f : Fault) (r : Result (Unit {0}) Fault) → Ends p d h w a v b r → IsErrAnd r (λ y. y ≡ f) → Advances p d h w a v b r
 advances-left f (Ok _) ends is = absurd is
 advances-left f (Err g) ends is = record { cases = ends.cases }

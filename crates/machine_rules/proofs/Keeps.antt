@@ -1,5 +1,5 @@
 -- What each rule leaves as it was.
-use Rattle.std.proofs.Common.{◌≡◌, ℕ, zero, suc, List, [], ◌∷◌, length, Option, Some, None, slice_get, slice_set, refl, sym, ap, ◌∙◌, subst, arith, Result, Ok, Err}
+use Rattle.std.proofs.Common.{◌≡◌, ℕ, zero, suc, List, [], ◌∷◌, Option, Some, None, slice_get, slice_set, refl, sym, ap, ◌∙◌, subst, arith, Result, Ok, Err}
 use Rattle.signatures.specs.declared.value.Value.{Value}
 use Rattle.meta_model.specs.Loaded.{Loaded}
 use Rattle.meta_model.specs.declared.object.Statement.{Statement}
@@ -23,6 +23,7 @@ use Rattle.machine_rules.specs.There.{IsMember}
 use Rattle.machine_rules.specs.Good.{AreTyped, ArgumentsFit}
 use Rattle.machine_rules.specs.Runs.{Rules, done, then}
 use Rattle.machine_rules.specs.Sound.{Sound, Joined}
+use Rattle.machine_rules.specs.Active.{whose, shows}
 use Rattle.machine_rules.specs.Reaches.{Reaches, StopsIn, Ends}
 use Rattle.machine_rules.specs.Keeps.{StayThere, AllJoined, Keeps, KeepsWorld}
 use Rattle.machine_rules.proofs.Shapes.{shapes-written, classes-same}
@@ -158,32 +159,42 @@ pub rules-typed : {p : Loaded} {d : ℕ} {s t : State} {n k : ℕ} → Rules p d
 rules-typed done typed = typed
 rules-typed (then r good rest) typed = rules-typed rest good.well.values
 
--- a stack of each height
-pub some-stack : (h : ℕ) → (below : List Activation) × (length below ≡ h)
-some-stack zero = ([], refl)
-some-stack (suc h) = let q = some-stack h in (Update [] ∷ q.0, ap suc q.1)
+-- a stack that shows this
+abbrev some-top : Option ℕ → Activation
+some-top None = Update []
+some-top (Some o) = Body o 0 [] []
 
-pub reaches-keeps : {p : Loaded} {d h : ℕ} {w v : World} {a b : List Activation} → Reaches p d h w a v b → KeepsWorld p w v
+some-whose : (body : Option ℕ) → whose (some-top body) ≡ body
+some-whose None = refl
+some-whose (Some o) = refl
+
+pub some-stack : (shown : List (Option ℕ)) → (below : List Activation) × (shows below ≡ shown)
+some-stack [] = ([], refl)
+some-stack (body ∷ shown) =
+    let q = some-stack shown in
+    (some-top body ∷ q.0, ap (λ (x : Option ℕ). x ∷ shows q.0) (some-whose body) ∙ ap (λ (l : List (Option ℕ)). body ∷ l) q.1)
+
+pub reaches-keeps : {p : Loaded} {d : ℕ} {h : List (Option ℕ)} {w v : World} {a b : List Activation} → Reaches p d h w a v b → KeepsWorld p w v
 reaches-keeps {h = h} x =
     let q = some-stack h in
     let kept = rules-kept (x.runs q.0 q.1) in
     record { objects = kept.objects; joined = kept.joined; connected = kept.connected; paid = kept.paid; events = kept.events; fewer = kept.fewer }
 
-pub stops-keeps : {p : Loaded} {d h : ℕ} {w v : World} {a : List Activation} {f : Fault} → StopsIn p d h w a v f → KeepsWorld p w v
+pub stops-keeps : {p : Loaded} {d : ℕ} {h : List (Option ℕ)} {w v : World} {a : List Activation} {f : Fault} → StopsIn p d h w a v f → KeepsWorld p w v
 stops-keeps {h = h} x =
     let q = some-stack h in
     let kept = rules-kept ((x.stops q.0 q.1).1) in
     record { objects = kept.objects; joined = kept.joined; connected = kept.connected; paid = kept.paid; events = kept.events; fewer = kept.fewer }
 
 -- whatever a call does, it keeps these
-pub ends-keeps : {p : Loaded} {d h : ℕ} {w v : World} {a b : List Activation} (r : Result (Unit {0}) Fault) → Ends p d h w a v b r → KeepsWorld p w v
+pub ends-keeps : {p : Loaded} {d : ℕ} {h : List (Option ℕ)} {w v : World} {a b : List Activation} (r : Result (Unit {0}) Fault) → Ends p d h w a v b r → KeepsWorld p w v
 ends-keeps (Ok _) x = reaches-keeps x.cases
 ends-keeps (Err f) x = stops-keeps x.cases
 
-pub reaches-typed : {p : Loaded} {d h : ℕ} {w v : World} {a b : List Activation} → Reaches p d h w a v b → AreTyped p w.objects → AreTyped p v.objects
+pub reaches-typed : {p : Loaded} {d : ℕ} {h : List (Option ℕ)} {w v : World} {a b : List Activation} → Reaches p d h w a v b → AreTyped p w.objects → AreTyped p v.objects
 reaches-typed {h = h} x typed = let q = some-stack h in rules-typed (x.runs q.0 q.1) typed
 
-pub ends-typed : {p : Loaded} {d h : ℕ} {w v : World} {a b : List Activation} (r : Result (Unit {0}) Fault) → Ends p d h w a v b r → AreTyped p w.objects → AreTyped p v.objects
+pub ends-typed : {p : Loaded} {d : ℕ} {h : List (Option ℕ)} {w v : World} {a b : List Activation} (r : Result (Unit {0}) Fault) → Ends p d h w a v b r → AreTyped p w.objects → AreTyped p v.objects
 ends-typed (Ok _) x typed = reaches-typed x.cases typed
 ends-typed {h = h} (Err f) x typed = let q = some-stack h in rules-typed ((x.cases.stops q.0 q.1).1) typed
 
@@ -193,10 +204,10 @@ keeps-sound : {p : Loaded} {w v : World} → KeepsWorld p w v → AreTyped p v.o
 keeps-sound keeps typed sound = record { typed = typed; joined = keeps.joined sound.joined }
 
 -- whatever a call does, the machine stays sound
-pub ends-sound : {p : Loaded} {d h : ℕ} {w v : World} {a b : List Activation} (r : Result (Unit {0}) Fault) → Ends p d h w a v b r → Sound p w.objects w.connections → Sound p v.objects v.connections
+pub ends-sound : {p : Loaded} {d : ℕ} {h : List (Option ℕ)} {w v : World} {a b : List Activation} (r : Result (Unit {0}) Fault) → Ends p d h w a v b r → Sound p w.objects w.connections → Sound p v.objects v.connections
 ends-sound r x sound = keeps-sound (ends-keeps r x) (ends-typed r x sound.typed) sound
 
-pub reaches-sound : {p : Loaded} {d h : ℕ} {w v : World} {a b : List Activation} → Reaches p d h w a v b → Sound p w.objects w.connections → Sound p v.objects v.connections
+pub reaches-sound : {p : Loaded} {d : ℕ} {h : List (Option ℕ)} {w v : World} {a b : List Activation} → Reaches p d h w a v b → Sound p w.objects w.connections → Sound p v.objects v.connections
 reaches-sound x sound = keeps-sound (reaches-keeps x) (reaches-typed x sound.typed) sound
 
 pub keeps-refl : {p : Loaded} {w : World} → KeepsWorld p w w

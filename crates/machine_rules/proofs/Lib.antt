@@ -1,3 +1,4 @@
+pub mod Frames
 pub mod Shapes
 pub mod Keeps
 pub mod Reaching

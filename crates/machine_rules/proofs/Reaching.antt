@@ -1,5 +1,5 @@
 -- How runs are put together.
-use Rattle.std.proofs.Common.{◌≡◌, ℕ, suc, ◌+◌, ◌-◌, ◌<◌, ◌≤◌, inl, inr, List, [], ◌∷◌, ◌++◌, length, Result, Ok, Err, refl, sym, subst, arith, length-append}
+use Rattle.std.proofs.Common.{◌≡◌, ℕ, suc, ◌+◌, ◌-◌, ◌<◌, ◌≤◌, inl, inr, Option, List, [], ◌∷◌, ◌++◌, length, Result, Ok, Err, refl, sym, subst, arith, length-append}
 use Rattle.std.specs.Result.{IsErrAnd}
 use Rattle.meta_model.specs.Loaded.{Loaded}
 use Rattle.expressions.specs.declared.evaluation.EvalFault.{EvalFault}
@@ -12,7 +12,9 @@ use Rattle.machine_rules.specs.Rules.{Rule}
 use Rattle.machine_rules.specs.Good.{AreTyped, IsWell, IsGood, TopFits}
 use Rattle.machine_rules.specs.Runs.{Rules, done, then, IsStuck, GoesIll, GoesDeep}
 use Rattle.machine_state.specs.Worlds.{at, Ticks, Notes}
+use Rattle.machine_rules.specs.Active.{shows}
 use Rattle.machine_rules.specs.Reaches.{Reaches, StopsIn, Ends}
+use Rattle.machine_rules.proofs.Frames.{high, shows-over}
 use Rattle.machine_state.specs.Faults.{IsFaultOf}
 
 pub rules-trans : {p : Loaded} {d : ℕ} {s m t : State} {n k j : ℕ} → Rules p d s n m k → Rules p d m k t j → Rules p d s n t j
@@ -25,137 +27,139 @@ rules-one {p} {d} {s} {t} {n} {k} x ok some e =
     let suc_is : suc k ≡ n = omega (arith, e) in
     subst Family suc_is (then x ok done)
 
-pub reaches-same : {p : Loaded} {d h : ℕ} {w : World} {top : List Activation} → Reaches p d h w top w top
+pub reaches-same : {p : Loaded} {d : ℕ} {h : List (Option ℕ)} {w : World} {top : List Activation} → Reaches p d h w top w top
 reaches-same = record { runs = λ below e. done }
 
-pub reaches-then : {p : Loaded} {d h : ℕ} {w v u : World} {a b c : List Activation} → Reaches p d h w a v b → Reaches p d h v b u c → Reaches p d h w a u c
+pub reaches-then : {p : Loaded} {d : ℕ} {h : List (Option ℕ)} {w v u : World} {a b c : List Activation} → Reaches p d h w a v b → Reaches p d h v b u c → Reaches p d h w a u c
 reaches-then x y = record { runs = λ below e. rules-trans (x.runs below e) (y.runs below e) }
 
-pub stops-after : {p : Loaded} {d h : ℕ} {w v u : World} {a b : List Activation} {f : Fault} → Reaches p d h w a v b → StopsIn p d h v b u f → StopsIn p d h w a u f
+pub stops-after : {p : Loaded} {d : ℕ} {h : List (Option ℕ)} {w v u : World} {a b : List Activation} {f : Fault} → Reaches p d h w a v b → StopsIn p d h v b u f → StopsIn p d h w a u f
 stops-after x y = record { stops = λ below e. let q = y.stops below e in (q.0, rules-trans (x.runs below e) q.1, q.2) }
 
 -- a call that goes on from where another run came
-pub ends-after : {p : Loaded} {d h : ℕ} {w v u : World} {a b c : List Activation} {r : Result (Unit {0}) Fault} → Reaches p d h w a v b → Ends p d h v b u c r → Ends p d h w a u c r
+pub ends-after : {p : Loaded} {d : ℕ} {h : List (Option ℕ)} {w v u : World} {a b c : List Activation} {r : Result (Unit {0}) Fault} → Reaches p d h w a v b → Ends p d h v b u c r → Ends p d h w a u c r
 ends-after {r = Ok _} x y = record { cases = reaches-then x y.cases }
 ends-after {r = Err f} x y = record { cases = stops-after x y.cases }
 
 -- one rule that pushes nothing, to a world with one rule fewer left
-pub reaches-low : {p : Loaded} {d h : ℕ} {w v : World} {a b : List Activation} → ((below : List Activation) → length below ≡ h → Rule p (at w (a ++ below)) (at v (b ++ below))) → length b ≤ length a → length b + h ≤ d → AreTyped p v.objects → v.left ≡ w.left - 1 → 0 < w.left → Reaches p d h w a v b
+pub reaches-low : {p : Loaded} {d : ℕ} {h : List (Option ℕ)} {w v : World} {a b : List Activation} → ((below : List Activation) → shows below ≡ h → Rule p (at w (a ++ below)) (at v (b ++ below))) → length b ≤ length a → length b + length h ≤ d → AreTyped p v.objects → v.left ≡ w.left - 1 → 0 < w.left → Reaches p d h w a v b
 reaches-low {p} {d} {h} {w} {v} {a} {b} step low fits typed less some = record {
   runs = λ below e.
-      let shallow : length (b ++ below) ≤ d = omega (arith, length-append b below, e, fits) in
+      let shallow : length (b ++ below) ≤ d = omega (arith, length-append b below, high below e, fits) in
       let no_higher : length (b ++ below) ≤ length (a ++ below) = omega (arith, length-append b below, length-append a below, low) in
       let good : IsGood p d (at w (a ++ below)) (at v (b ++ below)) = record { well = record { arguments = λ higher. absurd (omega (arith, higher, no_higher)); values = typed }; shallow = shallow } in
       rules-one (step below e) good some less;
 }
 
--- one rule that pushes an activation
-pub reaches-high : {p : Loaded} {d h : ℕ} {w v : World} {from top to : Activation} → ((below : List Activation) → length below ≡ h → Rule p (at w (from ∷ below)) (at v (top ∷ to ∷ below))) → ((below : List Activation) → TopFits p v.objects (top ∷ to ∷ below)) → h + 1 < d → AreTyped p v.objects → v.left ≡ w.left - 1 → 0 < w.left → Reaches p d h w (from ∷ []) v (top ∷ to ∷ [])
-reaches-high {p} {d} {h} {w} {v} {from} {top} {to} step fit room typed less some = record {
+-- one rule that pushes an activation, over a stack that shows `active`
+pub reaches-high : {p : Loaded} {d : ℕ} {h active : List (Option ℕ)} {w v : World} {from : List Activation} {top : Activation} {to : List Activation} → active ≡ shows to ++ h → ((below : List Activation) → shows below ≡ h → Rule p (at w (from ++ below)) (at v (top ∷ to ++ below))) → ((below : List Activation) → TopFits p v.objects (top ∷ to ++ below)) → length active < d → AreTyped p v.objects → v.left ≡ w.left - 1 → 0 < w.left → Reaches p d h w from v (top ∷ to)
+reaches-high {p} {d} {h} {active} {w} {v} {from} {top} {to} over step fit room typed less some = record {
   runs = λ below e.
-      let shallow : length (top ∷ to ∷ below) ≤ d = omega (arith, e, room) in
-      let good : IsGood p d (at w (from ∷ below)) (at v (top ∷ to ∷ below)) = record { well = record { arguments = λ higher. fit below; values = typed }; shallow = shallow } in
+      let shallow : length (top ∷ to ++ below) ≤ d = omega (arith, high (to ++ below) (shows-over to below over e), room) in
+      let good : IsGood p d (at w (from ++ below)) (at v (top ∷ to ++ below)) = record { well = record { arguments = λ higher. fit below; values = typed }; shallow = shallow } in
       rules-one (step below e) good some less;
 }
 
 -- ---- why a run stops
 
 -- where an activation is at the top, something is going on
-not-idle : (w : World) (a : Activation) (below : List Activation) → ¬ IsIdle (at w (a ∷ below))
+pub not-idle : (w : World) (a : Activation) (below : List Activation) → ¬ IsIdle (at w (a ∷ below))
 not-idle w a below idle = let none : (a ∷ below) ≡ [] = idle.empty in absurd (cc none)
 
 -- no rule is left where one is due
-pub stops-steps : {p : Loaded} {d h : ℕ} {w : World} {a : Activation} → w.left ≡ 0 → StopsIn p d h w (a ∷ []) w Steps
+pub stops-steps : {p : Loaded} {d : ℕ} {h : List (Option ℕ)} {w : World} {a : Activation} → w.left ≡ 0 → StopsIn p d h w (a ∷ []) w Steps
 stops-steps {w = w} {a = a} none = record { stops = λ below e. (a ∷ below, done, (none, not-idle w a below)) }
 
--- memory was refused
-pub stops-memory : {p : Loaded} {d h : ℕ} {w : World} {a : Activation} → 0 < w.left → StopsIn p d h w (a ∷ []) w Memory
-stops-memory {w = w} {a = a} some = record { stops = λ below e. (a ∷ below, done, (some, not-idle w a below)) }
+-- what is going on where a run stops
+module _ {p : Loaded} {d : ℕ} {h : List (Option ℕ)} {w : World} {from : List Activation} (goes_on : (below : List Activation) → ¬ IsIdle (at w (from ++ below))) (some : 0 < w.left) where
+  -- memory was refused
+  pub stops-memory : StopsIn p d h w from w Memory
+  stops-memory = record { stops = λ below e. (from ++ below, done, (some, goes_on below)) }
 
--- no rule leads on
-pub stops-stuck : {p : Loaded} {d h : ℕ} {w : World} {a : Activation} → 0 < w.left → ((below : List Activation) (t : State) → ¬ Rule p (at w (a ∷ below)) t) → StopsIn p d h w (a ∷ []) w BadType
-stops-stuck {p} {w = w} {a = a} some stuck = record {
-  stops = λ below e.
-      let is : IsStuck p (at w (a ∷ below)) = record { goes_on = not-idle w a below; stuck = stuck below } in
-      (a ∷ below, done, (some, inl is));
-}
+  -- no rule leads on
+  pub stops-stuck : ((below : List Activation) (t : State) → ¬ Rule p (at w (from ++ below)) t) → StopsIn p d h w from w BadType
+  stops-stuck stuck = record {
+    stops = λ below e.
+        let is : IsStuck p (at w (from ++ below)) = record { goes_on = goes_on below; stuck = stuck below } in
+        (from ++ below, done, (some, inl is));
+  }
 
 -- the next rule gives a value that is not of its type
-pub stops-ill : {p : Loaded} {d h : ℕ} {w : World} {a : Activation} → 0 < w.left → ((below : List Activation) → (t : State) × Rule p (at w (a ∷ below)) t × (¬ IsWell p (at w (a ∷ below)) t)) → StopsIn p d h w (a ∷ []) w BadType
-stops-ill {p} {w = w} {a = a} some next = record {
+pub stops-ill : {p : Loaded} {d : ℕ} {h : List (Option ℕ)} {w : World} {from : List Activation} → 0 < w.left → ((below : List Activation) → (t : State) × Rule p (at w (from ++ below)) t × (¬ IsWell p (at w (from ++ below)) t)) → StopsIn p d h w from w BadType
+stops-ill {p} {w = w} {from = from} some next = record {
   stops = λ below e.
       let q = next below in
-      let is : GoesIll p (at w (a ∷ below)) = record { t = q.0; rule = q.1; ill = q.2 } in
-      (a ∷ below, done, (some, inr is));
+      let is : GoesIll p (at w (from ++ below)) = record { t = q.0; rule = q.1; ill = q.2 } in
+      (from ++ below, done, (some, inr is));
 }
 
 -- the next rule nests too deep
-pub stops-deep : {p : Loaded} {d h : ℕ} {w : World} {a : Activation} → 0 < w.left → ((below : List Activation) → length below ≡ h → (t : State) × Rule p (at w (a ∷ below)) t × IsWell p (at w (a ∷ below)) t × (d < length t.stack)) → StopsIn p d h w (a ∷ []) w TooDeep
-stops-deep {p} {d} {w = w} {a = a} some next = record {
+pub stops-deep : {p : Loaded} {d : ℕ} {h : List (Option ℕ)} {w : World} {from : List Activation} → 0 < w.left → ((below : List Activation) → shows below ≡ h → (t : State) × Rule p (at w (from ++ below)) t × IsWell p (at w (from ++ below)) t × (d < length t.stack)) → StopsIn p d h w from w TooDeep
+stops-deep {p} {d} {w = w} {from = from} some next = record {
   stops = λ below e.
       let q = next below e in
-      let is : GoesDeep p d (at w (a ∷ below)) = record { t = q.0; rule = q.1; well = q.2; deep = q.3 } in
-      (a ∷ below, done, (some, is));
+      let is : GoesDeep p d (at w (from ++ below)) = record { t = q.0; rule = q.1; well = q.2; deep = q.3 } in
+      (from ++ below, done, (some, is));
 }
 
 -- ---- what is left behind a `?`
 
 -- what a call that failed leaves
-pub ends-left : {p : Loaded} {d h : ℕ} {w v : World} {a b : List Activation} {f : Fault} (r : Result (Unit {0}) Fault) → StopsIn p d h w a v f → IsErrAnd r (λ y. y ≡ f) → Ends p d h w a v b r
+pub ends-left : {p : Loaded} {d : ℕ} {h : List (Option ℕ)} {w v : World} {a b : List Activation} {f : Fault} (r : Result (Unit {0}) Fault) → StopsIn p d h w a v f → IsErrAnd r (λ y. y ≡ f) → Ends p d h w a v b r
 ends-left (Ok _) x is = absurd is
 ends-left {p} {d} {h} {w} {v} {a} (Err y) x is = record { cases = subst (λ (q : Fault). StopsIn p d h w a v q) (sym is) x }
 
 -- a fault that is known to be another one
-pub stops-as : {p : Loaded} {d h : ℕ} {w v : World} {a : List Activation} {f g : Fault} → f ≡ g → StopsIn p d h w a v g → StopsIn p d h w a v f
+pub stops-as : {p : Loaded} {d : ℕ} {h : List (Option ℕ)} {w v : World} {a : List Activation} {f g : Fault} → f ≡ g → StopsIn p d h w a v g → StopsIn p d h w a v f
 stops-as {p} {d} {h} {w} {v} {a} is x = let Named : Fault → Type 0 = λ q. StopsIn p d h w a v q in subst Named (sym is) x
 
 -- no rule was left
-pub ends-undue : {p : Loaded} {d h : ℕ} {w : World} {a : Activation} {b : List Activation} {f : Fault} (r : Result (Unit {0}) Fault) → (w.left ≡ 0) × (f ≡ Steps) → IsErrAnd r (λ y. y ≡ f) → Ends p d h w (a ∷ []) w b r
+pub ends-undue : {p : Loaded} {d : ℕ} {h : List (Option ℕ)} {w : World} {a : Activation} {b : List Activation} {f : Fault} (r : Result (Unit {0}) Fault) → (w.left ≡ 0) × (f ≡ Steps) → IsErrAnd r (λ y. y ≡ f) → Ends p d h w (a ∷ []) w b r
 ends-undue r none is = ends-left r (stops-as none.1 (stops-steps none.0)) is
 
 -- memory was refused
-pub ends-short : {p : Loaded} {d h : ℕ} {w : World} {a : Activation} {b : List Activation} (r : Result (Unit {0}) Fault) → 0 < w.left → IsErrAnd r (λ y. y ≡ Memory) → Ends p d h w (a ∷ []) w b r
-ends-short r some is = ends-left r (stops-memory some) is
+pub ends-short : {p : Loaded} {d : ℕ} {h : List (Option ℕ)} {w : World} {from to : List Activation} (r : Result (Unit {0}) Fault) → ((below : List Activation) → ¬ IsIdle (at w (from ++ below))) → 0 < w.left → IsErrAnd r (λ y. y ≡ Memory) → Ends p d h w from w to r
+ends-short r goes_on some is = ends-left r (stops-memory goes_on some) is
 
 -- .. to a function that then changed nothing
-pub ends-unchanged : {p : Loaded} {d h : ℕ} {w v : World} {a : Activation} {b : List Activation} {f : Fault} (r : Result (Unit {0}) Fault) → 0 < w.left → (f ≡ Memory) × (v ≡ w) → IsErrAnd r (λ y. y ≡ f) → Ends p d h w (a ∷ []) v b r
-ends-unchanged {p} {d} {h} {w} {v} {a} {b} {f} r some same is =
-    let Family : World → Type 0 = λ u. StopsIn p d h w (a ∷ []) u f in
-    ends-left r (subst Family (sym same.1) (stops-as same.0 (stops-memory some))) is
+pub ends-unchanged : {p : Loaded} {d : ℕ} {h : List (Option ℕ)} {w v : World} {from to : List Activation} {f : Fault} (r : Result (Unit {0}) Fault) → ((below : List Activation) → ¬ IsIdle (at w (from ++ below))) → 0 < w.left → (f ≡ Memory) × (v ≡ w) → IsErrAnd r (λ y. y ≡ f) → Ends p d h w from v to r
+ends-unchanged {p} {d} {h} {w} {v} {from} {to} {f} r goes_on some same is =
+    let Family : World → Type 0 = λ u. StopsIn p d h w from u f in
+    ends-left r (subst Family (sym same.1) (stops-as same.0 (stops-memory goes_on some))) is
 
 -- an expression had no value, or memory was refused
-pub stops-faulted : {p : Loaded} {d h : ℕ} {w : World} {a : Activation} {f : Fault} (e : EvalFault) → 0 < w.left → (e ≡ eval.BadType → StopsIn p d h w (a ∷ []) w BadType) → IsFaultOf e f → StopsIn p d h w (a ∷ []) w f
+pub stops-faulted : {p : Loaded} {d : ℕ} {h : List (Option ℕ)} {w : World} {a : Activation} {f : Fault} (e : EvalFault) → 0 < w.left → (e ≡ eval.BadType → StopsIn p d h w (a ∷ []) w BadType) → IsFaultOf e f → StopsIn p d h w (a ∷ []) w f
 stops-faulted eval.BadType some ill is = stops-as is (ill refl)
-stops-faulted eval.Memory some ill is = stops-as is (stops-memory some)
+stops-faulted {w = w} {a = a} eval.Memory some ill is = stops-as is (stops-memory (not-idle w a) some)
 
-pub ends-faulted : {p : Loaded} {d h : ℕ} {w : World} {a : Activation} {b : List Activation} {e : EvalFault} (r : Result (Unit {0}) Fault) → 0 < w.left → (e ≡ eval.BadType → StopsIn p d h w (a ∷ []) w BadType) → IsErrAnd r (λ y. IsFaultOf e y) → Ends p d h w (a ∷ []) w b r
+pub ends-faulted : {p : Loaded} {d : ℕ} {h : List (Option ℕ)} {w : World} {a : Activation} {b : List Activation} {e : EvalFault} (r : Result (Unit {0}) Fault) → 0 < w.left → (e ≡ eval.BadType → StopsIn p d h w (a ∷ []) w BadType) → IsErrAnd r (λ y. IsFaultOf e y) → Ends p d h w (a ∷ []) w b r
 ends-faulted (Ok _) some ill is = absurd is
 ends-faulted {e = e} (Err f) some ill is = record { cases = stops-faulted e some ill is }
 
 -- ---- calls that carry out one rule
 
 -- .. which writes nothing down
-pub reaches-ticked : {p : Loaded} {d h : ℕ} {w v : World} {a : Activation} {b : List Activation} → ((below : List Activation) → length below ≡ h → Rule p (at w (a ∷ below)) (at w (b ++ below))) → length b ≤ 1 → h < d → AreTyped p w.objects → Ticks w v (Ok tt) → Reaches p d h w (a ∷ []) v b
+pub reaches-ticked : {p : Loaded} {d : ℕ} {h : List (Option ℕ)} {w v : World} {a : Activation} {b : List Activation} → ((below : List Activation) → shows below ≡ h → Rule p (at w (a ∷ below)) (at w (b ++ below))) → length b ≤ 1 → length h < d → AreTyped p w.objects → Ticks w v (Ok tt) → Reaches p d h w (a ∷ []) v b
 reaches-ticked {p} {d} {h} {w} {v} {a} {b} step low room typed x =
     let Family : World → Type 0 = λ u. Reaches p d h w (a ∷ []) u b in
     subst Family (sym x.1) (reaches-low step low (omega (arith, low, room)) typed refl x.0)
 
-pub ends-ticked : {p : Loaded} {d h : ℕ} {w v : World} {a : Activation} {b : List Activation} (r : Result (Unit {0}) Fault) → ((below : List Activation) → length below ≡ h → Rule p (at w (a ∷ below)) (at w (b ++ below))) → length b ≤ 1 → h < d → AreTyped p w.objects → Ticks w v r → Ends p d h w (a ∷ []) v b r
+pub ends-ticked : {p : Loaded} {d : ℕ} {h : List (Option ℕ)} {w v : World} {a : Activation} {b : List Activation} (r : Result (Unit {0}) Fault) → ((below : List Activation) → shows below ≡ h → Rule p (at w (a ∷ below)) (at w (b ++ below))) → length b ≤ 1 → length h < d → AreTyped p w.objects → Ticks w v r → Ends p d h w (a ∷ []) v b r
 ends-ticked (Ok _) step low room typed x = record { cases = reaches-ticked step low room typed x }
 ends-ticked {p} {d} {h} {w} {v} {a} {b} (Err f) step low room typed x =
     let Family : World → Type 0 = λ u. StopsIn p d h w (a ∷ []) u f in
     record { cases = subst Family (sym x.2) (stops-as x.1 (stops-steps x.0)) }
 
 -- .. which writes an entry down, and leaves the stack as high as it was
-pub ends-noted : {p : Loaded} {d h : ℕ} {w v : World} {a b : Activation} (target : World) (r : Result (Unit {0}) Fault) → ((below : List Activation) → length below ≡ h → Rule p (at w (a ∷ below)) (at target (b ∷ below))) → h < d → AreTyped p target.objects → target.left ≡ w.left - 1 → 0 < w.left → Notes w target v r → Ends p d h w (a ∷ []) v (b ∷ []) r
+pub ends-noted : {p : Loaded} {d : ℕ} {h : List (Option ℕ)} {w v : World} {a b : Activation} (target : World) (r : Result (Unit {0}) Fault) → ((below : List Activation) → shows below ≡ h → Rule p (at w (a ∷ below)) (at target (b ∷ below))) → length h < d → AreTyped p target.objects → target.left ≡ w.left - 1 → 0 < w.left → Notes w target v r → Ends p d h w (a ∷ []) v (b ∷ []) r
 ends-noted {p} {d} {h} {w} {v} {a} {b} target (Ok _) step room typed less some x =
     let Family : World → Type 0 = λ u. Reaches p d h w (a ∷ []) u (b ∷ []) in
     record { cases = subst Family (sym x) (reaches-low {b = b ∷ []} step (omega arith) (omega (arith, room)) typed less some) }
 ends-noted {p} {d} {h} {w} {v} {a} {b} target (Err f) step room typed less some x =
     let Family : World → Type 0 = λ u. StopsIn p d h w (a ∷ []) u f in
-    record { cases = subst Family (sym x.1) (stops-as x.0 (stops-memory some)) }
+    record { cases = subst Family (sym x.1) (stops-as x.0 (stops-memory (not-idle w a) some)) }
 
--- what runs over one more activation
-pub ends-lifted : {p : Loaded} {d h : ℕ} {w v : World} {top to : Activation} {r : Result (Unit {0}) Fault} → Ends p d (h + 1) w (top ∷ []) v [] r → Ends p d h w (top ∷ to ∷ []) v (to ∷ []) r
-ends-lifted {to = to} {r = Ok _} x = record { cases = record { runs = λ below e. x.cases.runs (to ∷ below) (omega (arith, e)) } }
-ends-lifted {to = to} {r = Err f} x = record { cases = record { stops = λ below e. x.cases.stops (to ∷ below) (omega (arith, e)) } }
+-- what runs over more activations
+pub ends-lifted : {p : Loaded} {d : ℕ} {h active : List (Option ℕ)} {w v : World} {top : Activation} {to : List Activation} {r : Result (Unit {0}) Fault} → active ≡ shows to ++ h → Ends p d active w (top ∷ []) v [] r → Ends p d h w (top ∷ to) v to r
+ends-lifted {to = to} {r = Ok _} over x = record { cases = record { runs = λ below e. x.cases.runs (to ++ below) (shows-over to below over e) } }
+ends-lifted {to = to} {r = Err f} over x = record { cases = record { stops = λ below e. x.cases.stops (to ++ below) (shows-over to below over e) } }

@@ -1,5 +1,5 @@
 -- How properties are written, and what is notified.
-use Rattle.std.proofs.Common.{◌≡◌, ◌≢◌, ℕ, suc, ◌+◌, ◌<◌, ◌⊎◌, inl, inr, List, [], ◌∷◌, length, take, map, Result, Option, Some, None, slice_get, slice_set, refl, sym, ap, ◌∙◌, subst, arith}
+use Rattle.std.proofs.Common.{◌≡◌, ◌≢◌, ℕ, suc, ◌+◌, ◌<◌, ◌≤◌, ◌⊎◌, inl, inr, List, [], ◌∷◌, ◌++◌, length, take, map, Result, Option, Some, None, slice_get, slice_set, refl, sym, ap, ◌∙◌, subst, arith}
 use Rattle.signatures.specs.declared.value.Value.{Value}
 use Rattle.meta_model.specs.declared.object.MetaMethod.{MetaMethod}
 use Rattle.meta_model.specs.declared.object.MetaObject.{MetaObject}
@@ -27,12 +27,13 @@ use Rattle.machine_rules.specs.There.{IsMember, IsField}
 use Rattle.machine_rules.specs.Good.{AreTyped, ArgumentsFit, IsWell}
 use Rattle.machine_state.specs.Worlds.{at, set_in}
 use Rattle.machine_rules.specs.Reaches.{Reaches, StopsIn, Ends, Calls, Sets, Announces, MayAnnounce, places_of, Changes, changed, unchanged, silent}
-use Rattle.machine_rules.proofs.Reaching.{reaches-high, ends-after, ends-lifted, stops-deep, stops-ill, stops-stuck}
+use Rattle.machine_rules.proofs.Reaching.{reaches-high, ends-after, ends-lifted, not-idle, stops-deep, stops-ill, stops-stuck}
 use Rattle.machine_rules.proofs.Fields.{some-is, class-unique, method-unique, typed-written, written-typed, field-written, old-there, types-get, map-get, kind_of}
 use Rattle.machine_rules.specs.Sound.{Sound}
-use Rattle.machine_rules.proofs.Beginning.{fit-of}
+use Rattle.machine_rules.proofs.Beginning.{fit-of, one-more}
 use Rattle.machine_rules.proofs.Keeps.{all-joined-still, same-stay}
 use Rattle.machine_rules.proofs.Shapes.{shapes-written}
+use Rattle.machine_rules.specs.Active.{shows}
 
 -- ---- writes
 
@@ -45,11 +46,10 @@ notified o q silent = rules.silent
 abbrev pub written_world : World → ℕ → ℕ → Object → ℕ → MetaProperty → Value → World
 written_world w depth o x q property new = set_in w (At depth (Written x.name property.name (shown w.objects new)) ∷ []) o x q new
 
-writes-there : {p : Loaded} {h o q : ℕ} {x : Object} {property : MetaProperty} {new old : Value} {result : Option ℕ} (w : World) (from to : Activation) (below : List Activation) → (f : IsField p w.objects o q x property) → slice_get x.values q ≡ Some old → Changes old new property.notify result → length below ≡ h →
-    Writes p (at w (from ∷ below)) (to ∷ below) o q new (at (written_world w (h + 2) o x q property new) (Update (places_of o q result) ∷ to ∷ below))
-writes-there {h = h} {o = o} {q = q} {x = x} {property = property} {new = new} {old = old} {result = result} w from to below f is_old changes e =
-    let depth_is : h + 2 ≡ suc (suc (length below)) = omega (arith, e) in
-    let with_depth : ℕ → State = λ n. at (written_world w n o x q property new) (Update (places_of o q result) ∷ to ∷ below) in
+writes-there : {p : Loaded} {n o q : ℕ} {x : Object} {property : MetaProperty} {new old : Value} {result : Option ℕ} (w : World) (stack over : List Activation) → (f : IsField p w.objects o q x property) → slice_get x.values q ≡ Some old → Changes old new property.notify result → n ≡ suc (length over) →
+    Writes p (at w stack) over o q new (at (written_world w n o x q property new) (Update (places_of o q result) ∷ over))
+writes-there {o = o} {q = q} {x = x} {property = property} {new = new} {old = old} {result = result} w stack over f is_old changes depth_is =
+    let with_depth : ℕ → State = λ n. at (written_world w n o x q property new) (Update (places_of o q result) ∷ over) in
     record {
       object = x;
       property = property;
@@ -62,43 +62,48 @@ writes-there {h = h} {o = o} {q = q} {x = x} {property = property} {new = new} {
     }
 
 -- a property is written, and its update runs
-pub ends-written : {p : Loaded} {d h o q : ℕ} {w v u : World} {from to : Activation} {x : Object} {property : MetaProperty} {new : Value} {entry : Entry} {result : Option ℕ} {r : Result (Unit {0}) Fault} →
-    Sets p w from to o q new → (f : IsField p w.objects o q x property) → AreTyped p w.objects → Has p (class_of w.objects) new property.kind → h + 1 < d → 0 < w.left →
+pub ends-written : {p : Loaded} {d o q : ℕ} {h active : List (Option ℕ)} {w v u : World} {from to : List Activation} {x : Object} {property : MetaProperty} {new : Value} {entry : Entry} {result : Option ℕ} {r : Result (Unit {0}) Fault} →
+    active ≡ shows to ++ h → Sets p w from to o q new → (f : IsField p w.objects o q x property) → AreTyped p w.objects → Has p (class_of w.objects) new property.kind → length active < d → 0 < w.left →
     ((old : Value) → slice_get x.values q ≡ Some old → Changes old new property.notify result) →
-    entry ≡ At (h + 2) (Written x.name property.name (shown w.objects new)) → v ≡ set_in w (entry ∷ []) o x q new →
-    Ends p d (h + 1) v (Update (places_of o q result) ∷ []) u [] r → Ends p d h w (from ∷ []) u (to ∷ []) r
-ends-written {p} {d} {h} {o} {q} {w} {v} {u} {from} {to} {x} {property} {new} {entry} {result} {r} sets f typed has room some changes entry_is v_is rest =
+    entry ≡ At (length active + 1) (Written x.name property.name (shown w.objects new)) → v ≡ set_in w (entry ∷ []) o x q new →
+    Ends p d active v (Update (places_of o q result) ∷ []) u [] r → Ends p d h w from u to r
+ends-written {p} {d} {o} {q} {h} {active} {w} {v} {u} {from} {to} {x} {property} {new} {entry} {result} {r} over sets f typed has room some changes entry_is v_is rest =
     let old = old-there f typed in
-    let target : World = written_world w (h + 2) o x q property new in
+    let target : World = written_world w (length active + 1) o x q property new in
     let target_is : v ≡ target = v_is ∙ ap (λ (e : Entry). set_in w (e ∷ []) o x q new) entry_is in
-    let Family : World → Type 0 = λ k. Reaches p d h w (from ∷ []) k (Update (places_of o q result) ∷ to ∷ []) in
-    let went : Reaches p d h w (from ∷ []) target (Update (places_of o q result) ∷ to ∷ []) =
-    reaches-high (λ below e. sets.gives below _ (writes-there w from to below f old.1 (changes old.0 old.1) e)) (λ below. tt) room (typed-written f typed has) refl some in
-    ends-after (subst Family (sym target_is) went) (ends-lifted rest)
+    let Family : World → Type 0 = λ k. Reaches p d h w from k (Update (places_of o q result) ∷ to) in
+    let went : Reaches p d h w from target (Update (places_of o q result) ∷ to) =
+    reaches-high over (λ below e. sets.gives below _ (writes-there w (from ++ below) (to ++ below) f old.1 (changes old.0 old.1) (one-more to below over e))) (λ below. tt) room (typed-written f typed has) refl some in
+    ends-after (subst Family (sym target_is) went) (ends-lifted over rest)
 
 -- activations would nest too deep
-pub stops-write-deep : {p : Loaded} {d h o q : ℕ} {w : World} {from to : Activation} {x : Object} {property : MetaProperty} {new : Value} {result : Option ℕ} →
-    Sets p w from to o q new → (f : IsField p w.objects o q x property) → AreTyped p w.objects → Has p (class_of w.objects) new property.kind → 0 < w.left → d ≡ h + 1 →
-    ((old : Value) → slice_get x.values q ≡ Some old → Changes old new property.notify result) → StopsIn p d h w (from ∷ []) w TooDeep
-stops-write-deep {h = h} {o = o} {q = q} {w = w} {from = from} {to = to} {x = x} {property = property} {new = new} {result = result} sets f typed has some deep changes =
+pub stops-write-deep : {p : Loaded} {d o q : ℕ} {h active : List (Option ℕ)} {w : World} {from to : List Activation} {x : Object} {property : MetaProperty} {new : Value} {result : Option ℕ} →
+    active ≡ shows to ++ h → Sets p w from to o q new → (f : IsField p w.objects o q x property) → AreTyped p w.objects → Has p (class_of w.objects) new property.kind → 0 < w.left → d ≤ length active →
+    ((old : Value) → slice_get x.values q ≡ Some old → Changes old new property.notify result) → StopsIn p d h w from w TooDeep
+stops-write-deep {o = o} {q = q} {active = active} {w = w} {from = from} {to = to} {x = x} {property = property} {new = new} {result = result} over sets f typed has some deep changes =
     let old = old-there f typed in
     let change = changes old.0 old.1 in
-    stops-deep some (λ below e. (at (written_world w (h + 2) o x q property new) (Update (places_of o q result) ∷ to ∷ below), sets.gives below _ (writes-there w from to below f old.1 change e), record { arguments = λ higher. tt; values = typed-written f typed has }, omega (arith, e, deep)))
+    stops-deep some (λ below e. (
+      at (written_world w (length active + 1) o x q property new) (Update (places_of o q result) ∷ to ++ below),
+      sets.gives below _ (writes-there w (from ++ below) (to ++ below) f old.1 change (one-more to below over e)),
+      record { arguments = λ higher. tt; values = typed-written f typed has },
+      omega (arith, one-more to below over e, deep),
+    ))
 
 -- the value isn't of the property's type
-pub stops-write-ill : {p : Loaded} {d h o q : ℕ} {w : World} {from to : Activation} {x : Object} {property : MetaProperty} {new : Value} {result : Option ℕ} →
+pub stops-write-ill : {p : Loaded} {d o q : ℕ} {h : List (Option ℕ)} {w : World} {from to : List Activation} {x : Object} {property : MetaProperty} {new : Value} {result : Option ℕ} →
     Sets p w from to o q new → (f : IsField p w.objects o q x property) → AreTyped p w.objects → (¬ Has p (class_of w.objects) new property.kind) → 0 < w.left →
-    ((old : Value) → slice_get x.values q ≡ Some old → Changes old new property.notify result) → StopsIn p d h w (from ∷ []) w BadType
+    ((old : Value) → slice_get x.values q ≡ Some old → Changes old new property.notify result) → StopsIn p d h w from w BadType
 stops-write-ill {p} {o = o} {q = q} {w = w} {from = from} {to = to} {x = x} {property = property} {new = new} {result = result} sets f typed ill some changes =
     let old = old-there f typed in
     let change = changes old.0 old.1 in
     stops-ill some (λ below.
-    let t : State = at (written_world w (length below + 2) o x q property new) (Update (places_of o q result) ∷ to ∷ below) in
-    (t, sets.gives below t (writes-there w from to below f old.1 change refl), λ (well : IsWell p (at w (from ∷ below)) t). ill (written-typed f typed well.values)))
+    let t : State = at (written_world w (suc (length (to ++ below))) o x q property new) (Update (places_of o q result) ∷ to ++ below) in
+    (t, sets.gives below t (writes-there w (from ++ below) (to ++ below) f old.1 change refl), λ (well : IsWell p (at w (from ++ below)) t). ill (written-typed f typed well.values)))
 
 -- there is no such property
-pub stops-no-field : {p : Loaded} {d h o q : ℕ} {w : World} {from to : Activation} {new : Value} → Sets p w from to o q new → ((x : Object) (property : MetaProperty) → ¬ IsField p w.objects o q x property) → 0 < w.left → StopsIn p d h w (from ∷ []) w BadType
-stops-no-field sets none some = stops-stuck some (λ below t r. let k = sets.only below t r in none k.object k.property k.is)
+pub stops-no-field : {p : Loaded} {d o q : ℕ} {h : List (Option ℕ)} {w : World} {from to : List Activation} {new : Value} → Sets p w from to o q new → ((x : Object) (property : MetaProperty) → ¬ IsField p w.objects o q x property) → 0 < w.left → StopsIn p d h w from w BadType
+stops-no-field sets none some = stops-stuck sets.goes_on some (λ below t r. let k = sets.only below t r in none k.object k.property k.is)
 
 -- ---- notifications
 
@@ -149,8 +154,10 @@ announced-fits {p} {objects} {o} {q} {signal} {count} {x} {method} {present} {ta
     subst (λ (l : List Value). ArgumentsFit p objects o signal l) (sym taken_is) (fit-of (announced-member a) fits)
 
 -- the notify signal begins by the next rule of the update
-pub announcement-calls : {p : Loaded} {w : World} {o q signal count : ℕ} {x : Object} {method : MetaMethod} {present : Value} {taken : List Value} → Announces p w.objects o q signal → IsMember p w.objects o signal x method → slice_get x.values q ≡ Some present → taken ≡ take count (present ∷ []) → count ≡ length method.kinds → Calls p w (Update (places_of o q (Some signal))) (Update []) o signal taken
+pub announcement-calls : {p : Loaded} {w : World} {o q signal count : ℕ} {x : Object} {method : MetaMethod} {present : Value} {taken : List Value} → Announces p w.objects o q signal → IsMember p w.objects o signal x method → slice_get x.values q ≡ Some present → taken ≡ take count (present ∷ []) → count ≡ length method.kinds → Calls p w (Update (places_of o q (Some signal)) ∷ []) (Update [] ∷ []) o signal taken
 announcement-calls {p} {w} {o} {q} {signal} {count} {x} {method} {present} {taken} a is is_present cut count_is = record {
+  no_lower = omega arith;
+  goes_on = λ below. not-idle w _ below;
   gives = λ below t b.
       let s : State = at w (Update (places_of o q (Some signal)) ∷ below) in
       let over : List Activation = Update [] ∷ below in

@@ -7,6 +7,7 @@ pub mod Runs
 pub mod Sound
 pub mod Keeps
 pub mod Remaining
+pub mod Active
 pub mod Coded
 pub mod Reaches
 pub mod Laws

@@ -1,8 +1,9 @@
 -- What a call of the machine's code does, whatever activations are below (docs/machine.md, "Runs").
-use Rattle.std.specs.Prelude.{◌≡◌, ◌≢◌, ℕ, ◌<◌, List, [], ◌∷◌, ◌++◌, length, Result, Ok, Err, MatchResult, Bool, Option, Some, None}
+use Rattle.std.specs.Prelude.{◌≡◌, ◌≢◌, ℕ, ◌+◌, ◌<◌, ◌≤◌, ◌⊎◌, List, [], ◌∷◌, ◌++◌, length, Result, Ok, Err, MatchResult, Bool, Option, Some, None}
 use Rattle.meta_model.specs.Loaded.{Loaded}
 use Rattle.signatures.specs.declared.value.Value.{Value}
 use Rattle.signatures.specs.declared.value.Value.TheVariants as value
+use Rattle.meta_model.specs.declared.object.MetaMethod.{MetaMethod}
 use Rattle.meta_model.specs.declared.object.MetaProperty.{MetaProperty}
 use Rattle.meta_model.specs.declared.object.Work.{Work}
 use Rattle.meta_model.specs.declared.object.Work.TheVariants.{Signal, Slot}
@@ -15,11 +16,14 @@ use Rattle.machine_state.specs.declared.entry.Happening.TheVariants as happening
 use Rattle.machine_state.specs.declared.entry.Shown.{Shown}
 use Rattle.object_tree.specs.declared.object.Object.{Object}
 use Rattle.machine_state.specs.declared.fault.Fault.{Fault}
+use Rattle.machine_state.specs.declared.fault.Fault.TheVariants.{TooDeep, Memory}
 use Rattle.machine_state.specs.declared.world.World.{World}
 use Rattle.machine_state.specs.Connections.{is_silent}
-use Rattle.machine_state.specs.State.{State, Place, Activation}
+use Rattle.machine_state.specs.State.{State, Place, Activation, Body, Emit, IsIdle}
+use Rattle.machine_state.specs.Objects.{all_shown}
 use Rattle.machine_rules.specs.Rules.{Rule, Begins, Writes}
-use Rattle.machine_rules.specs.There.{IsField}
+use Rattle.machine_rules.specs.There.{IsMember, IsField}
+use Rattle.machine_rules.specs.Active.{shows}
 use Rattle.machine_rules.specs.Runs.{Rules, Reason}
 use Rattle.machine_state.specs.Worlds.{at}
 
@@ -39,34 +43,71 @@ Judges found (Err NoMemory) = Unit {0}
 
 -- ---- what calls of the machine's functions do
 
--- over any stack of this height, the machine goes from one world and top of the stack to another
-pub record Reaches (p : Loaded) (depth height : ℕ) (w : World) (top : List Activation) (v : World) (after : List Activation) : Type 0 where
-  pub runs : (below : List Activation) → length below ≡ height → Rules p depth (at w (top ++ below)) w.left (at v (after ++ below)) v.left
+-- over any stack that shows this, the machine goes from one world and top of the stack to another
+pub record Reaches (p : Loaded) (depth : ℕ) (shown : List (Option ℕ)) (w : World) (from : List Activation) (v : World) (to : List Activation) : Type 0 where
+  pub runs : (below : List Activation) → shows below ≡ shown → Rules p depth (at w (from ++ below)) w.left (at v (to ++ below)) v.left
 
--- over any stack of this height, the machine comes to a state where it stops
-pub record StopsIn (p : Loaded) (depth height : ℕ) (w : World) (top : List Activation) (v : World) (fault : Fault) : Type 0 where
-  pub stops : (below : List Activation) → length below ≡ height → (stack : List Activation) × Rules p depth (at w (top ++ below)) w.left (at v stack) v.left × Reason p depth (at v stack) v.left fault
+-- over any stack that shows this, the machine comes to a state where it stops
+pub record StopsIn (p : Loaded) (depth : ℕ) (shown : List (Option ℕ)) (w : World) (from : List Activation) (v : World) (fault : Fault) : Type 0 where
+  pub stops :
+      (below : List Activation) → shows below ≡ shown →
+      (stack : List Activation) × Rules p depth (at w (from ++ below)) w.left (at v stack) v.left × Reason p depth (at v stack) v.left fault
 
 -- a call went from one top of the stack to another, or stopped on the way
-pub record Ends (p : Loaded) (depth height : ℕ) (w : World) (top : List Activation) (v : World) (after : List Activation) (result : Result (Unit {0}) Fault) : Type 0 where
-  pub cases : MatchResult result (λ _. Reaches p depth height w top v after) (StopsIn p depth height w top v)
+pub record Ends (p : Loaded) (depth : ℕ) (shown : List (Option ℕ)) (w : World) (from : List Activation) (v : World) (to : List Activation) (result : Result (Unit {0}) Fault) : Type 0 where
+  pub cases : MatchResult result (λ _. Reaches p depth shown w from v to) (StopsIn p depth shown w from v)
 
 -- a call carried out one rule or more, or stopped on the way
-pub record Advances (p : Loaded) (depth height : ℕ) (w : World) (top : List Activation) (v : World) (after : List Activation) (result : Result (Unit {0}) Fault) : Type 0 where
-  pub cases : MatchResult result (λ _. Reaches p depth height w top v after × (v.left < w.left)) (StopsIn p depth height w top v)
+pub record Advances (p : Loaded) (depth : ℕ) (shown : List (Option ℕ)) (w : World) (from : List Activation) (v : World) (to : List Activation) (result : Result (Unit {0}) Fault) : Type 0 where
+  pub cases : MatchResult result (λ _. Reaches p depth shown w from v to × (v.left < w.left)) (StopsIn p depth shown w from v)
 
--- a method of an object may begin by the next rule of an activation, over what is left of it
-pub record Calls (p : Loaded) (w : World) (from to : Activation) (o m : ℕ) (arguments : List Value) : Type 0 where
-  pub gives : (below : List Activation) (t : State) → Begins p (at w (from ∷ below)) (to ∷ below) o m arguments t → Rule p (at w (from ∷ below)) t
+-- whether an activation may be pushed over a stack that shows this
+abbrev pub MayNest : ℕ → List (Option ℕ) → Result (Unit {0}) Fault → Type 0
+MayNest depth shown (Ok may) = length shown < depth
+MayNest depth shown (Err fault) = (depth ≤ length shown) × (fault ≡ TooDeep)
+
+-- ---- what begins and what is written, from any top of the stack, over what is left of it
+
+-- a method of an object may begin by the next rule
+pub record Calls (p : Loaded) (w : World) (from to : List Activation) (o m : ℕ) (arguments : List Value) : Type 0 where
+  pub no_lower : length from ≤ length to
+  pub goes_on : (below : List Activation) → ¬ IsIdle (at w (from ++ below))
+  pub gives : (below : List Activation) (t : State) → Begins p (at w (from ++ below)) (to ++ below) o m arguments t → Rule p (at w (from ++ below)) t
 
 -- .. and nothing else may
-pub record OnlyCalls (p : Loaded) (w : World) (from to : Activation) (o m : ℕ) (arguments : List Value) : Type 0 where
-  pub begins : (below : List Activation) (t : State) → Rule p (at w (from ∷ below)) t → Begins p (at w (from ∷ below)) (to ∷ below) o m arguments t
+pub record OnlyCalls (p : Loaded) (w : World) (from to : List Activation) (o m : ℕ) (arguments : List Value) : Type 0 where
+  pub begins : (below : List Activation) (t : State) → Rule p (at w (from ++ below)) t → Begins p (at w (from ++ below)) (to ++ below) o m arguments t
 
--- the next rule of an activation is that a property of an object is written
-pub record Sets (p : Loaded) (w : World) (from to : Activation) (o q : ℕ) (new : Value) : Type 0 where
-  pub gives : (below : List Activation) (t : State) → Writes p (at w (from ∷ below)) (to ∷ below) o q new t → Rule p (at w (from ∷ below)) t
-  pub only : (below : List Activation) (t : State) → Rule p (at w (from ∷ below)) t → Writes p (at w (from ∷ below)) (to ∷ below) o q new t
+-- the next rule is that a property of an object is written
+pub record Sets (p : Loaded) (w : World) (from to : List Activation) (o q : ℕ) (new : Value) : Type 0 where
+  pub goes_on : (below : List Activation) → ¬ IsIdle (at w (from ++ below))
+  pub gives : (below : List Activation) (t : State) → Writes p (at w (from ++ below)) (to ++ below) o q new t → Rule p (at w (from ++ below)) t
+  pub only : (below : List Activation) (t : State) → Rule p (at w (from ++ below)) t → Writes p (at w (from ++ below)) (to ++ below) o q new t
+
+-- the entry of a method that begins
+abbrev pub begin_entry : ℕ → Object → ℕ → List ℕ → List Shown → Work → Entry
+begin_entry depth x m method given Signal = At depth (happening.Emitted x.name method given (is_silent x m))
+begin_entry depth x m method given (Slot statements) = At depth (happening.Called x.name method given)
+
+-- what is pushed where a method begins
+abbrev pub top_of : ℕ → ℕ → List Value → ℕ → Work → Activation
+top_of o m arguments last Signal = Emit o m arguments 0 last
+top_of o m arguments last (Slot statements) = Body o m arguments statements
+
+-- what is found of a method that may begin over a stack that shows this: the line to be written, what is to run, and
+-- the last connection that was made before
+pub record IsBegun (p : Loaded) (depth : ℕ) (shown : List (Option ℕ)) (w : World) (o m : ℕ) (arguments : List Value) (line : Entry) (work : Work) (last : ℕ) : Type 0 where
+  pub room : length shown < depth
+  pub object : Object
+  pub method : MetaMethod
+  pub is : IsMember p w.objects o m object method
+  pub is_line : line ≡ begin_entry (length shown + 1) object m method.sig.name (all_shown w.objects arguments) method.work
+  pub is_work : work ≡ method.work
+  pub is_last : last ≡ w.connected
+
+-- why a method that fits doesn't begin: activations would nest too deep, or memory was refused
+abbrev pub IsBarred : ℕ → List (Option ℕ) → Fault → Type 0
+IsBarred depth shown fault = (depth ≤ length shown) × (fault ≡ TooDeep) ⊎ (fault ≡ Memory)
 
 -- what is still to be notified of a property: nothing, or this signal of it
 abbrev pub places_of : ℕ → ℕ → Option ℕ → List Place
@@ -90,8 +131,3 @@ pub record Announces (p : Loaded) (objects : List Object) (o q signal : ℕ) : T
 abbrev pub MayAnnounce : Loaded → List Object → ℕ → ℕ → Option ℕ → Type 0
 MayAnnounce p objects o q None = Unit {0}
 MayAnnounce p objects o q (Some signal) = Announces p objects o q signal
-
--- the entry of a method that begins
-abbrev pub begin_entry : ℕ → Object → ℕ → List ℕ → List Shown → Work → Entry
-begin_entry depth x m method given Signal = At depth (happening.Emitted x.name method given (is_silent x m))
-begin_entry depth x m method given (Slot statements) = At depth (happening.Called x.name method given)

@@ -1,6 +1,6 @@
 //! Bodies of slots.
 
-ghost use Rattle.std.specs.Prelude.{◌≡◌, ℕ, ◌<◌, ◌∷◌, [], List, Some};
+ghost use Rattle.std.specs.Prelude.{◌≡◌, ℕ, ◌<◌, ◌∷◌, [], length, List, Some};
 ghost use Rattle.signatures.specs.declared.value.Value.{Value as AValue};
 ghost use Rattle.meta_model.specs.declared.object.Statement.{Statement as AStatement};
 ghost use Rattle.meta_model.specs.declared.object.Statement.TheViews.{out-Statement};
@@ -10,6 +10,7 @@ ghost use Rattle.machine_rules.specs.Coded.{meant};
 ghost use Rattle.machine_rules.specs.Doings.{doing};
 ghost use Rattle.machine_rules.specs.Reaches.{Ends, Advances};
 
+use crate::active::Active;
 use crate::doing::Doing;
 use crate::paths::Scope;
 use crate::remaining::Remaining;
@@ -24,21 +25,21 @@ impl Setting {
     pub fn run_body(
         &self,
         world: &mut World,
-        height: usize,
+        active: &Active<'_>,
         object: ObjectId,
         method: usize,
         arguments: &[Value],
         statements: &[Statement],
     ) -> Result<(), Fault>
-        requires room { height < self.now.depth }
+        requires room { length active.now < self.now.depth }
         requires sound { Sound self.now.meta world.old.objects world.old.connections }
-        ensures ends { Ends self.now.meta self.now.depth height world.old (Body object method arguments.now statements.now ∷ []) world.new [] result }
+        ensures ends { Ends self.now.meta self.now.depth active.now world.old (Body object method arguments.now statements.now ∷ []) world.new [] result }
     {
         let mut left = Remaining::all(self.alloc, statements);
         while let Some(statement) = left.next() {
             world.require_rule()?;
             let doing = self.scope(world, object, arguments).doing_of(statement)?;
-            self.carry_out(world, height, doing, &mut left)?;
+            self.carry_out(world, active, object, doing, &mut left)?;
         }
         world.tick()
     }
@@ -48,25 +49,27 @@ impl Setting {
     fn carry_out<'p>(
         &self,
         world: &mut World,
-        height: usize,
+        active: &Active<'_>,
+        object: ObjectId,
         done: Doing<'p>,
         left: &mut Remaining<'p>,
     ) -> Result<(), Fault>
-        requires room { height < self.now.depth }
+        requires room { length active.now < self.now.depth }
         requires sound { Sound self.now.meta world.old.objects world.old.connections }
         requires due { 0 < world.old.left }
-        ensures advances { (o m : ℕ) (arguments : List AValue) (x : AStatement) → doing world.old.objects o arguments (out-Statement x) ≡ Some (meant done.entry) → Advances self.now.meta self.now.depth height world.old (Body o m arguments (x ∷ left.old) ∷ []) world.new (Body o m arguments left.new ∷ []) result }
+        ensures advances { (m : ℕ) (arguments : List AValue) (x : AStatement) → doing world.old.objects object arguments (out-Statement x) ≡ Some (meant done.entry) → Advances self.now.meta self.now.depth active.now world.old (Body object m arguments (x ∷ left.old) ∷ []) world.new (Body object m arguments left.new ∷ []) result }
     {
+        let over = (&*active).over(Some(object));
         match done {
-            Doing::Write(target, property, new) => self.write(world, height, target, property, new),
+            Doing::Write(target, property, new) => self.write(world, &over, target, property, new),
             Doing::Begin(target, method, given) => {
-                self.begin_typed(world, height, target, method, given.as_slice())
+                self.begin_typed(world, &over, target, method, given.as_slice())
             }
             Doing::Choose(block) => {
                 left.put(block)?;
                 world.tick()
             }
-            Doing::Nothing => world.note([Entry::At(height + 1, Happening::OnNull)]),
+            Doing::Nothing => world.note([Entry::At(over.count(), Happening::OnNull)]),
         }
     }
 

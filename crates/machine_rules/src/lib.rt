@@ -1,6 +1,7 @@
 //! The rules of a run: emissions, bodies of slots and writes of properties.
 #![tactic(auto)]
 
+mod active;
 mod body;
 mod doing;
 mod emission;
@@ -10,6 +11,7 @@ mod remaining;
 mod setting;
 mod update;
 
+pub use active::Active;
 pub use laws::one_rule;
-pub use setting::Setting;
+pub use setting::{Begun, Setting};
 pub use update::signal_of_change;

@@ -1,6 +1,6 @@
 //! A program with its natives, and what its numbers lead to.
 
-ghost use Rattle.std.specs.Prelude.{◌≡◌, ◌≤◌, IfSome, IfOk, MatchOption, take};
+ghost use Rattle.std.specs.Prelude.{◌≡◌, ◌≤◌, IfSome, IfOk, IfErr, MatchOption, take};
 ghost use Rattle.meta_model.specs.declared.object.MetaMethod.{MetaMethod as AMetaMethod};
 ghost use Rattle.meta_model.specs.declared.object.MetaProperty.{MetaProperty as AMetaProperty};
 ghost use Rattle.meta_model.specs.Members.{IsClass};
@@ -9,11 +9,13 @@ ghost use Rattle.meta_model.specs.Sound.{IsSoundProperty};
 ghost use Rattle.object_tree.specs.declared.object.Object.{Object as AnObject};
 ghost use Rattle.machine_state.specs.declared.entry.Entry.TheVariants.{At};
 ghost use Rattle.machine_state.specs.declared.entry.Happening.TheVariants.{Written};
-ghost use Rattle.machine_rules.specs.Reaches.{begin_entry};
+ghost use Rattle.machine_rules.specs.Reaches.{begin_entry, MayNest, IsBegun, IsBarred};
+ghost use Rattle.machine_rules.specs.Good.{ArgumentsFit};
 ghost use Rattle.machine_rules.specs.There.{IsMember, IsField};
 ghost use Rattle.machine_state.specs.Objects.{shown, all_shown};
 
-use machine_state::{Entry, Happening, Natives, World, is_silent, show, show_all};
+use crate::active::Active;
+use machine_state::{Entry, Fault, Happening, Natives, World, is_silent, show, show_all};
 use meta_objects::{Meta, MetaMethod, MetaProperty, Work};
 use object_tree::Object;
 use signatures::{ObjectId, Value};
@@ -31,6 +33,17 @@ pub struct Setting {
     /// How many activations may nest, up to 256.
     pub depth: usize,
     ghost bounded: { depth ≤ 256 },
+}
+
+/// What is found of a method that may begin.
+#[derive(Drop)]
+pub struct Begun<'s> {
+    /// The line that is written down.
+    pub line: Entry,
+    /// What is to run.
+    pub work: &'s Work,
+    /// The last connection that was made before.
+    pub last: u64,
 }
 
 impl Setting {
@@ -88,8 +101,51 @@ impl Setting {
         Some((found, declared))
     }
 
+    /// `TooDeep` where no activation may stand over these.
+    pub fn may_nest(&self, active: &Active<'_>) -> Result<(), Fault>
+        ensures { MayNest self.now.depth active.now result }
+    {
+        if active.count() < self.depth {
+            Ok(())
+        } else {
+            Err(Fault::TooDeep)
+        }
+    }
+
+    /// What is found of a method before it begins, or why it doesn't.
+    pub fn begun<'s>(
+        &'s self,
+        world: &World,
+        active: &Active<'_>,
+        object: ObjectId,
+        method: usize,
+        arguments: &[Value],
+    ) -> Result<Begun<'s>, Fault>
+        requires fit { ArgumentsFit self.now.meta world.now.objects object method arguments.now }
+        ensures ok { IfOk result (λ b. IsBegun self.now.meta self.now.depth active.now world.now object method arguments.now b.line b.work.now b.last) }
+        ensures err { IfErr result (IsBarred self.now.depth active.now) }
+    {
+        let Some((found, declared)) = self.member(world, object, method) else {
+            unreachable!()
+        };
+        self.may_nest(active)?;
+        let line = self.begin_entry(
+            world,
+            active.count() + 1,
+            found,
+            method,
+            declared,
+            arguments,
+        )?;
+        Ok(Begun {
+            line,
+            work: &declared.work,
+            last: world.connected,
+        })
+    }
+
     /// The entry of a method that begins, which has this number.
-    pub fn begin_entry(
+    fn begin_entry(
         &self,
         world: &World,
         depth: usize,

@@ -1,32 +1,33 @@
 //! Writes of properties, and the notifications that follow them.
 
-ghost use Rattle.std.specs.Prelude.{◌≡◌, ℕ, ◌<◌, ◌∷◌, [], Option, Some, slice_get};
+ghost use Rattle.std.specs.Prelude.{◌≡◌, ℕ, ◌<◌, ◌∷◌, [], ◌++◌, length, List, Option, Some, slice_get};
 ghost use Rattle.std.specs.Option.{option_copied};
 ghost use Rattle.signatures.specs.declared.value.Value.{Value as AValue};
 ghost use Rattle.machine_rules.specs.Sound.{Sound};
 ghost use Rattle.machine_state.specs.State.{Activation, Update};
+ghost use Rattle.machine_rules.specs.Active.{shows};
 ghost use Rattle.machine_rules.specs.Reaches.{Ends, Sets, Announces, MayAnnounce, places_of, Changes};
 
+use crate::active::Active;
 use crate::setting::{Setting, front};
-use machine_state::{Fault, World, may_nest, same_value};
+use machine_state::{Fault, World, same_value};
 use signatures::{ObjectId, Value};
 
 impl Setting {
-    /// Writes a property of an object, over what is left of the activation at the top, and notifies where the value
-    /// has changed; `BadType` where the object has no such property, or the value isn't of its type.
+    /// Writes a property of an object, over what is left of the top of the stack, and notifies where the value has
+    /// changed; `BadType` where the object has no such property, or the value isn't of its type.
     #[cycle(machine)]
     pub fn write(
         &self,
         world: &mut World,
-        height: usize,
+        active: &Active<'_>,
         object: ObjectId,
         property: usize,
         value: Value,
     ) -> Result<(), Fault>
-        requires room { height < self.now.depth }
         requires sound { Sound self.now.meta world.old.objects world.old.connections }
         requires left { 0 < world.old.left }
-        ensures ends { (from to : Activation) → Sets self.now.meta world.old from to object property value → Ends self.now.meta self.now.depth height world.old (from ∷ []) world.new (to ∷ []) result }
+        ensures ends { (from to : List Activation) (shown : List (Option ℕ)) → active.now ≡ shows to ++ shown → Sets self.now.meta world.old from to object property value → Ends self.now.meta self.now.depth shown world.old from world.new to result }
     {
         let Some((found, declared)) = self.field(world, object, property) else {
             return Err(Fault::BadType);
@@ -35,10 +36,10 @@ impl Setting {
         if !world.objects.has_type(&self.meta, &value, declared.kind) {
             return Err(Fault::BadType);
         }
-        may_nest(self.depth, height)?;
-        let entry = self.write_entry(world, height + 2, found, declared, &value)?;
+        self.may_nest(active)?;
+        let entry = self.write_entry(world, active.count() + 1, found, declared, &value)?;
         world.write([entry], object, property, value)?;
-        self.run_update(world, height + 1, object, property, changed)
+        self.run_update(world, active, object, property, changed)
     }
 
     /// Notifies that a property has changed, if it has and has a notify signal, and ends the update.
@@ -46,19 +47,19 @@ impl Setting {
     pub fn run_update(
         &self,
         world: &mut World,
-        height: usize,
+        active: &Active<'_>,
         object: ObjectId,
         property: usize,
         changed: Option<usize>,
     ) -> Result<(), Fault>
-        requires room { height < self.now.depth }
+        requires room { length active.now < self.now.depth }
         requires sound { Sound self.now.meta world.old.objects world.old.connections }
         requires announces { MayAnnounce self.now.meta world.old.objects object property changed }
-        ensures ends { Ends self.now.meta self.now.depth height world.old (Update (places_of object property changed) ∷ []) world.new [] result }
+        ensures ends { Ends self.now.meta self.now.depth active.now world.old (Update (places_of object property changed) ∷ []) world.new [] result }
     {
         match changed {
             Some(signal) => {
-                self.notify(world, height, object, property, signal)?;
+                self.notify(world, active, object, property, signal)?;
                 world.tick()
             }
             None => world.tick(),
@@ -70,15 +71,15 @@ impl Setting {
     fn notify(
         &self,
         world: &mut World,
-        height: usize,
+        active: &Active<'_>,
         object: ObjectId,
         property: usize,
         signal: usize,
     ) -> Result<(), Fault>
-        requires room { height < self.now.depth }
+        requires room { length active.now < self.now.depth }
         requires sound { Sound self.now.meta world.old.objects world.old.connections }
         requires announces { Announces self.now.meta world.old.objects object property signal }
-        ensures ends { Ends self.now.meta self.now.depth height world.old (Update (places_of object property (Some signal)) ∷ []) world.new (Update [] ∷ []) result }
+        ensures ends { Ends self.now.meta self.now.depth active.now world.old (Update (places_of object property (Some signal)) ∷ []) world.new (Update [] ∷ []) result }
     {
         world.require_rule()?;
         let Some((found, declared)) = self.member(world, object, signal) else {
@@ -89,7 +90,8 @@ impl Setting {
         };
         let present = [value.copy()?];
         let taken = front(present.as_slice(), declared.kinds.len());
-        self.begin(world, height, object, signal, taken)
+        let over = (&*active).over(None);
+        self.begin(world, &over, object, signal, taken)
     }
 }
 

@@ -1,5 +1,6 @@
 -- What an event pushes: a method that begins, or what follows a write.
-use Rattle.std.proofs.Common.{◌≡◌, ℕ, ◌-◌, ◌<◌, Result, Ok, MatchResult, subst, arith, List, [], ◌∷◌, Option, Some, slice_get, slice_set, refl, sym, ap, ◌∙◌}
+use Rattle.std.proofs.Common.{◌≡◌, ℕ, ◌-◌, ◌<◌, Result, Ok, MatchResult, inl, inr, subst, arith, List, [], ◌∷◌, Option, Some, slice_get, slice_set, refl, sym, ap, ◌∙◌}
+use Rattle.std.specs.Result.{IsErrAnd}
 use Rattle.signatures.specs.declared.value.Value.{Value}
 use Rattle.script_lang.specs.declared.event.Event.{Event}
 use Rattle.meta_model.specs.declared.object.MetaMethod.{MetaMethod}
@@ -13,6 +14,7 @@ use Rattle.object_tree.specs.Objects.{class_of, change, written}
 use Rattle.machine_state.specs.declared.entry.Entry.{Entry}
 use Rattle.machine_state.specs.declared.entry.Entry.TheVariants.{At}
 use Rattle.machine_state.specs.declared.entry.Happening.TheVariants.{Written}
+use Rattle.machine_state.specs.declared.fault.Answer.{Answer}
 use Rattle.machine_state.specs.declared.fault.Answer.TheVariants.{Done}
 use Rattle.machine_state.specs.declared.fault.Fault.{Fault}
 use Rattle.machine_state.specs.declared.world.World.{World}
@@ -22,18 +24,18 @@ use Rattle.machine_state.specs.Accepting.{accepted, with_entries}
 use Rattle.machine_state.specs.Worlds.{at, after}
 use Rattle.machine_state.proofs.Found.{change-there}
 use Rattle.qt_runtime.specs.Takes.{judged, accepts}
-use Rattle.machine_rules.specs.There.{IsMember, IsField}
-use Rattle.machine_rules.specs.Reaches.{Ends, begin_entry, Changes, places_of}
+use Rattle.machine_rules.specs.There.{IsField}
+use Rattle.machine_rules.specs.Reaches.{Ends, begin_entry, top_of, IsBegun, IsBarred, Changes, places_of}
 use Rattle.machine_rules.specs.Good.{AreTyped, ArgumentsFit, TopFits}
 use Rattle.machine_rules.specs.Rules.{begun}
-use Rattle.machine_rules.proofs.Beginning.{top_of, top-fits}
+use Rattle.machine_rules.proofs.Beginning.{top-fits}
 use Rattle.machine_rules.proofs.Fields.{typed-written}
 use Rattle.machine_rules.proofs.Keeps.{all-joined-still, same-stay}
 use Rattle.machine_rules.proofs.Shapes.{shapes-written}
 use Rattle.machine_rules.proofs.Writing.{notified}
 use Rattle.machine_rules.specs.Sound.{Sound}
 use Rattle.qt_runtime.specs.Taking.{AsksFor, WritesTo, Took, Halted}
-use Rattle.qt_runtime.proofs.Taken.{idle, good-pushed, took-run}
+use Rattle.qt_runtime.proofs.Taken.{idle, good-pushed, took-run, took-unchanged}
 
 begun-here : (w : World) (o : ℕ) (x : Object) (m : ℕ) (method : MetaMethod) (values : List Value) (work : Work) →
     at (after w (with_entries (accepted (at w [])) (begin_entry 1 x m method.sig.name (all_shown w.objects values) work ∷ []))) (top_of o m values w.connected work ∷ []) ≡ begun (accepted (at w [])) [] o x m method values work
@@ -41,18 +43,19 @@ begun-here w o x m method values Signal = refl
 begun-here w o x m method values (Slot statements) = refl
 
 -- a method begins
-pub judged-begun : {p : Loaded} {v : World} {o m : ℕ} {x : Object} {method : MetaMethod} {values : List Value} {entry : Entry} (w : World) (e : Event) (work : Work) → AsksFor p w o m values e → IsMember p w.objects o m x method → entry ≡ begin_entry 1 x m method.sig.name (all_shown w.objects values) method.work → v ≡ after w (with_entries (accepted (at w [])) (entry ∷ [])) → method.work ≡ work → judged p (at w []) e (Ok (at v (top_of o m values w.connected work ∷ [])))
-judged-begun {p} {v} {o} {m} {x} {method} {values} {entry} w e work asks is entry_is v_is work_is =
+pub judged-begun : {p : Loaded} {d o m : ℕ} {v : World} {values : List Value} {line : Entry} {work : Work} {last : ℕ} (w : World) (e : Event) → AsksFor p w o m values e → IsBegun p d [] w o m values line work last → v ≡ after w (with_entries (accepted (at w [])) (line ∷ [])) → judged p (at w []) e (Ok (at v (top_of o m values last work ∷ [])))
+judged-begun {p} {d} {o} {m} {v} {values} {line} {work} {last} w e asks is v_is =
     let noted : Entry → World = λ y. after w (with_entries (accepted (at w [])) (y ∷ [])) in
-    let pushed : Work → Activation = λ k. top_of o m values w.connected k in
-    asks.effect (at v (pushed work ∷ [])) (record {
-      object = x;
-      method = method;
-      is = is;
+    let entry : Entry = begin_entry 1 is.object m is.method.sig.name (all_shown w.objects values) is.method.work in
+    asks.effect (at v (top_of o m values last work ∷ [])) (record {
+      object = is.object;
+      method = is.method;
+      is = is.is;
       gives =
-          ap (λ (u : World). at u (pushed work ∷ [])) (v_is ∙ ap noted entry_is)
-          ∙ ap (λ (k : Work). at (noted (begin_entry 1 x m method.sig.name (all_shown w.objects values) method.work)) (pushed k ∷ [])) (sym work_is)
-          ∙ begun-here w o x m method values method.work;
+          ap (λ (u : World). at u (top_of o m values last work ∷ [])) (v_is ∙ ap noted is.is_line)
+          ∙ ap (λ (k : Work). at (noted entry) (top_of o m values last k ∷ [])) is.is_work
+          ∙ ap (λ (l : ℕ). at (noted entry) (top_of o m values l is.method.work ∷ [])) is.is_last
+          ∙ begun-here w o is.object m is.method values is.method.work;
     })
 
 -- the world in which a property is written
@@ -85,18 +88,26 @@ judged-written {p} {v} {o} {q} {x} {property} {old} {value} {changed} {entry} w 
 
 -- ---- .. and it runs to its end, or stops on the way
 
-pub began : {p : Loaded} {d o m : ℕ} {w v u : World} {x : Object} {method : MetaMethod} {values : List Value} {entry : Entry} {r : Result (Unit {0}) Fault} (e : Event) (work : Work) → 0 < d → AreTyped p w.objects → ArgumentsFit p w.objects o m values → 0 < w.left → AsksFor p w o m values e → IsMember p w.objects o m x method → entry ≡ begin_entry 1 x m method.sig.name (all_shown w.objects values) method.work → v ≡ after w (with_entries (accepted (at w [])) (entry ∷ [])) → method.work ≡ work → Ends p d 0 v (top_of o m values w.connected work ∷ []) u [] r →
+pub began : {p : Loaded} {d o m : ℕ} {w v u : World} {values : List Value} {line : Entry} {work : Work} {last : ℕ} {r : Result (Unit {0}) Fault} (e : Event) → AreTyped p w.objects → ArgumentsFit p w.objects o m values → 0 < w.left → AsksFor p w o m values e → IsBegun p d [] w o m values line work last → v ≡ after w (with_entries (accepted (at w [])) (line ∷ [])) → Ends p d [] v (top_of o m values last work ∷ []) u [] r →
     MatchResult r (λ _. Took p d w e u (Ok Done)) (λ f. Halted p d w e u f)
-began {p} {d} {o} {m} {w} {v} {u} {values = values} {r = r} e work room typed fit some asks is entry_is v_is work_is ends =
+began {p} {d} {o} {m} {w} {v} {u} {values = values} {work = work} {last = last} {r = r} e typed fit some asks is v_is ends =
     let Typed : World → Type 0 = λ z. AreTyped p z.objects in
-    let Fits : World → Type 0 = λ z. TopFits p z.objects (top_of o m values w.connected work ∷ []) in
+    let Fits : World → Type 0 = λ z. TopFits p z.objects (top_of o m values last work ∷ []) in
     let typed_after : AreTyped p v.objects = subst Typed (sym v_is) typed in
-    let fits : TopFits p v.objects (top_of o m values w.connected work ∷ []) = subst Fits (sym v_is) (top-fits w.connected work [] fit) in
+    let fits : TopFits p v.objects (top_of o m values last work ∷ []) = subst Fits (sym v_is) (top-fits last work [] fit) in
     let less : v.left ≡ w.left - 1 = ap (λ (z : World). z.left) v_is in
-    let begun = judged-begun w e work asks is entry_is v_is work_is in
+    let begun = judged-begun w e asks is v_is in
+    let room : 0 < d = is.room in
     took-run e (accepts (idle w) begun) (good-pushed w v typed_after fits (omega (arith, room))) (record { effect = _; why = begun }) some less ends
 
-pub assigned : {p : Loaded} {d o q : ℕ} {w v u : World} {x : Object} {property : MetaProperty} {old value : Value} {changed : Option ℕ} {entry : Entry} {r : Result (Unit {0}) Fault} (e : Event) → 0 < d → AreTyped p w.objects → 0 < w.left → WritesTo p w o q value e → IsField p w.objects o q x property → Has p (class_of w.objects) value property.kind → slice_get x.values q ≡ Some old → Changes old value property.notify changed → entry ≡ At 1 (Written x.name property.name (shown w.objects value)) → v ≡ with_written w entry o q value → Ends p d 0 v (Update (places_of o q changed) ∷ []) u [] r →
+-- a method that fits begins, unless memory is refused
+pub barred-short : {p : Loaded} {d : ℕ} {w : World} {f : Fault} (e : Event) (r : Result Answer Fault) → 0 < d → 0 < w.left → IsBarred d [] f → IsErrAnd r (λ y. y ≡ f) → Took p d w e w r
+barred-short e r room some why is = elim why [
+  | inl deep ↦ absurd (omega (arith, room, deep.0))
+  | inr short ↦ took-unchanged e r some (short, refl) is
+]
+
+pub assigned : {p : Loaded} {d o q : ℕ} {w v u : World} {x : Object} {property : MetaProperty} {old value : Value} {changed : Option ℕ} {entry : Entry} {r : Result (Unit {0}) Fault} (e : Event) → 0 < d → AreTyped p w.objects → 0 < w.left → WritesTo p w o q value e → IsField p w.objects o q x property → Has p (class_of w.objects) value property.kind → slice_get x.values q ≡ Some old → Changes old value property.notify changed → entry ≡ At 1 (Written x.name property.name (shown w.objects value)) → v ≡ with_written w entry o q value → Ends p d [] v (Update (places_of o q changed) ∷ []) u [] r →
     MatchResult r (λ _. Took p d w e u (Ok Done)) (λ f. Halted p d w e u f)
 assigned {p} {d} {o} {q} {w} {v} {u} {x} {value = value} {changed = changed} {entry = entry} e room typed some writes f has is_old changes entry_is v_is ends =
     let Typed : World → Type 0 = λ z. AreTyped p z.objects in

@@ -104,7 +104,7 @@ took-quiet {p} {d} {w} {v} t e judged empty typed some is =
 
 -- ---- what an event pushes runs to its end, or stops on the way
 
-pub took-run : {p : Loaded} {d : ℕ} {w m v : World} {top : Activation} {r : Result (Unit {0}) Fault} (e : Event) → Takes p e (at w []) (at m (top ∷ [])) → IsGood p d (at w []) (at m (top ∷ [])) → IsAccepted p w e → 0 < w.left → m.left ≡ w.left - 1 → Ends p d 0 m (top ∷ []) v [] r → MatchResult r (λ _. Took p d w e v (Ok answer.Done)) (λ f. Halted p d w e v f)
+pub took-run : {p : Loaded} {d : ℕ} {w m v : World} {top : Activation} {r : Result (Unit {0}) Fault} (e : Event) → Takes p e (at w []) (at m (top ∷ [])) → IsGood p d (at w []) (at m (top ∷ [])) → IsAccepted p w e → 0 < w.left → m.left ≡ w.left - 1 → Ends p d [] m (top ∷ []) v [] r → MatchResult r (λ _. Took p d w e v (Ok answer.Done)) (λ f. Halted p d w e v f)
 took-run {r = Ok _} e x good pass some less ends = record { cases = (record { runs = runs-taken e x good some less (ends.cases.runs [] refl) }, pass) }
 took-run {p = p} {d = d} {v = v} {r = Err f} e x good pass some less ends =
     let q = ends.cases.stops [] refl in

@@ -12,7 +12,7 @@ ghost use Rattle.script_lang.specs.declared.event.Event.{Event as AnEvent};
 use crate::events::named::find_living;
 use crate::events::values::read_input;
 use crate::judgement::{NotAccepted, refuse};
-use machine_rules::{Setting, signal_of_change};
+use machine_rules::{Active, Setting, signal_of_change};
 use machine_state::{Answer, Fault, Refusal, World};
 use meta_objects::{Meta, MetaProperty};
 use script_lang::Input;
@@ -111,6 +111,6 @@ fn write(
     let changed = signal_of_change(declared.notify, found.values.get(property), &value);
     let entry = setting.write_entry(world, 1, found, declared, &value)?;
     world.accept_write([entry], object, property, value)?;
-    setting.run_update(world, 0, object, property, changed)?;
+    setting.run_update(world, &Active::nothing(), object, property, changed)?;
     Ok(Answer::Done)
 }

@@ -13,9 +13,9 @@ use crate::events::connect::is_signal;
 use crate::events::named::find_living;
 use crate::events::values::read_inputs;
 use crate::judgement::{NotAccepted, refuse};
-use machine_rules::Setting;
+use machine_rules::{Active, Setting};
 use machine_state::{Answer, Fault, Refusal, World};
-use meta_objects::{Meta, MetaMethod, Work};
+use meta_objects::{Meta, MetaMethod};
 use script_lang::Input;
 use signatures::{Arguments, Name, ObjectId, Value};
 
@@ -146,17 +146,11 @@ fn begin(
     requires fit { ArgumentsFit setting.now.meta world.old.objects object method values.now }
     ensures { (e : AnEvent) → AsksFor setting.now.meta world.old object method values.now e → Took setting.now.meta setting.now.depth world.old e world.new result }
 {
-    let Some((found, declared)) = setting.member(world, object, method) else {
-        unreachable!()
-    };
-    let last = world.connected;
-    let entry = setting.begin_entry(world, 1, found, method, declared, values)?;
-    world.accept_with([entry])?;
-    match &declared.work {
-        Work::Signal => setting.run_emission(world, 0, object, method, values, last)?,
-        Work::Slot(body) => {
-            setting.run_body(world, 0, object, method, values, body.as_slice())?;
-        }
-    }
+    let below = Active::nothing();
+    let begun = setting.begun(world, &below, object, method, values)?;
+    world.accept_with([begun.line])?;
+    setting.run_begun(
+        world, &below, object, method, values, begun.work, begun.last,
+    )?;
     Ok(Answer::Done)
 }

@@ -1,10 +1,10 @@
-use Rattle.std.proofs.Common.{◌∙◌, [], ◌∷◌, refl, sym, ap, arith, Some}
+use Rattle.std.proofs.Common.{◌∙◌, ℕ, List, [], ◌∷◌, length, refl, sym, ap, arith, Option, Some}
 use Rattle.signatures.specs.declared.value.Value.{Value}
 use Rattle.machine_state.specs.declared.world.World.{World}
 use Rattle.machine_rules.proofs.Fields.{old-there}
-use Rattle.machine_rules.proofs.Reaching.{reaches-same, reaches-then, stops-after, stops-as, ends-after, ends-left, ends-undue, ends-short, ends-unchanged, ends-faulted, ends-ticked}
+use Rattle.machine_rules.proofs.Reaching.{not-idle, reaches-same, reaches-then, stops-after, stops-as, ends-after, ends-left, ends-undue, ends-short, ends-unchanged, ends-faulted, ends-ticked}
 use Rattle.machine_rules.proofs.Keeps.{keeps-refl, keeps-trans, ends-keeps, ends-sound, fit-still, reaches-typed, reaches-keeps, reaches-sound}
-use Rattle.machine_rules.proofs.Beginning.{ends-begun, stops-begin, stops-no-member, stops-ill-typed, fit-of, next-joined, next-fits, delivered-fits, delivery-calls, not-true}
+use Rattle.machine_rules.proofs.Beginning.{ends-begun, stops-barred, stops-no-member, stops-ill-typed, fit-of, next-joined, next-fits, delivered-fits, delivery-calls, not-true}
 use Rattle.machine_rules.proofs.Writing.{ends-written, stops-write-deep, stops-write-ill, stops-no-field, announces-in, announced-member, announced-value, announced-fits, announcement-calls, sound-written}
 use Rattle.machine_rules.proofs.Bodies.{does-call, does-call-alone, does-set, does-nothing, does-choose, lacks-read, advances-one, advances-ticked, advances-left}
 use Rattle.machine_rules.proofs.setting.Setting.+machine.Goals as goal
@@ -49,54 +49,42 @@ pub deliver-unreachable-requires : goal.deliver-unreachable-requires
 deliver-unreachable-requires t c = c.in_default.ensures _ _ c.requires.joined.receives
 
 pub deliver-begin-requires : goal.deliver-begin-requires
-deliver-begin-requires t c = (omega arith, (c.requires.room, (c.requires.sound, (c.in_ok-require_rule.ensures, delivered-fits c.requires.joined c.requires.emitted c.in-Some.ensures c.front-taken.ensures c.len.ensures))))
+deliver-begin-requires t c = (omega arith, (c.requires.sound, (c.in_ok-require_rule.ensures, delivered-fits c.requires.joined c.requires.emitted c.in-Some.ensures c.front-taken.ensures c.len.ensures)))
 
 pub deliver-returns : goal.deliver-returns
-deliver-returns t c = record { ends = λ o g used last found. c.begin.ensures.ends _ _ (delivery-calls o g used last found c.in-Some.ensures c.front-taken.ensures c.len.ensures) }
+deliver-returns t c = record { ends = λ o g used last found. c.begin.ensures.ends _ _ _ c.over-over.ensures (delivery-calls o g used last found c.in-Some.ensures c.front-taken.ensures c.len.ensures) }
 
 -- ---- the beginning of methods
 
 pub begin_typed-returns-in_default : goal.begin_typed-returns-in_default
-begin_typed-returns-in_default t c = record { ends = λ from to calls only. record { cases = stops-no-member only (c.in_default.ensures) c.requires.left } }
+begin_typed-returns-in_default t c = record { ends = λ from to shown over calls only. record { cases = stops-no-member calls only (c.in_default.ensures) c.requires.left } }
 
 pub begin_typed-returns-then-not-have_types : goal.begin_typed-returns-then-not-have_types
 begin_typed-returns-then-not-have_types t c = record {
-  ends = λ from to calls only.
+  ends = λ from to shown over calls only.
       let typed = rw c.as_slice.ensures at c.have_types.ensures in
       record { cases = stops-ill-typed calls c.in-Some.ensures (λ h. not-true _ c.if-not-have_types.true (typed.1 h)) c.requires.left };
 }
 
 pub begin_typed-begin-requires : goal.begin_typed-begin-requires
 begin_typed-begin-requires t c = let typed = rw c.as_slice.ensures at c.have_types.ensures in
-    (omega arith, (c.requires.room, (c.requires.sound, (c.requires.left, fit-of c.in-Some.ensures (typed.0 c.if-not-have_types.false)))))
+    (omega arith, (c.requires.sound, (c.requires.left, fit-of c.in-Some.ensures (typed.0 c.if-not-have_types.false))))
 
 pub begin_typed-returns : goal.begin_typed-returns
-begin_typed-returns t c = record { ends = λ from to calls only. c.begin.ensures.ends from to calls }
+begin_typed-returns t c = record { ends = λ from to shown over calls only. c.begin.ensures.ends from to shown over calls }
 
-pub begin-unreachable-requires : goal.begin-unreachable-requires
-begin-unreachable-requires t c = c.in_default.ensures _ _ c.requires.fit.is
-
-pub begin-returns-in_err-may_nest : goal.begin-returns-in_err-may_nest
-begin-returns-in_err-may_nest t c = record {
-  ends = λ from to calls. ends-left _ (stops-as c.in_err-may_nest.ensures.1 (stops-begin calls c.in-Some.ensures c.requires.fit c.requires.sound.typed c.requires.left c.in_err-may_nest.ensures.0)) c.from_residual.ensures.1;
+pub begin-returns-in_err-begun : goal.begin-returns-in_err-begun
+begin-returns-in_err-begun t c = record {
+  ends = λ from to shown over calls. ends-left _ (stops-barred over calls c.requires.fit c.requires.sound.typed c.requires.left c.in_err-begun.ensures.err) c.from_residual.ensures.1;
 }
-
-pub begin-returns-in_err-entry : goal.begin-returns-in_err-entry
-begin-returns-in_err-entry t c = record { ends = λ from to calls. ends-short _ c.requires.left c.from_residual-in_err-entry.ensures.1 }
 
 pub begin-returns-in_err-note : goal.begin-returns-in_err-note
-begin-returns-in_err-note t c = record { ends = λ from to calls. ends-unchanged _ c.requires.left c.in_err-note.ensures c.from_residual-in_err-note.ensures.1 }
+begin-returns-in_err-note t c = record { ends = λ from to shown over calls. ends-unchanged _ calls.goes_on c.requires.left c.in_err-note.ensures c.from_residual-in_err-note.ensures.1 }
 
-pub begin-returns-in-Signal : goal.begin-returns-in-Signal
-begin-returns-in-Signal t c = record {
-  ends = λ from to calls.
-      ends-begun calls c.in-Some.ensures c.requires.fit c.requires.sound.typed c.in_ok-may_nest.ensures c.requires.left c.in_ok-entry.ensures c.in_ok-note.ensures c.in-Signal.is c.run_emission.ensures.ends;
-}
-
-pub begin-returns-in-Slot : goal.begin-returns-in-Slot
-begin-returns-in-Slot t c = record {
-  ends = λ from to calls.
-      ends-begun calls c.in-Some.ensures c.requires.fit c.requires.sound.typed c.in_ok-may_nest.ensures c.requires.left c.in_ok-entry.ensures c.in_ok-note.ensures c.in-Slot.is (rw c.as_slice.ensures at c.run_body.ensures.ends);
+pub begin-returns : goal.begin-returns
+begin-returns t c = record {
+  ends = λ from to shown over calls.
+      ends-begun over calls c.in_ok-begun.ensures.ok c.requires.fit c.requires.sound.typed c.requires.left c.in_ok-note.ensures c.run_begun.ensures.ends;
 }
 
 -- ---- bodies
@@ -119,20 +107,20 @@ pub run_body-returns-in_err-carry_out : goal.run_body-returns-in_err-carry_out
 run_body-returns-in_err-carry_out t c =
     let came = rw c.in-Some.ensures at c.loop-statement.invariant.reaches in
     let is = rw (c.scope.ensures.objects, c.scope.ensures.this, c.scope.ensures.arguments) at c.in_ok-doing.ensures in
-    record { ends = ends-left _ (stops-after came ((c.in_err-carry_out.ensures.advances _ _ _ _ is).cases)) c.from_residual-in_err-carry_out.ensures.1 }
+    record { ends = ends-left _ (stops-after came ((c.in_err-carry_out.ensures.advances _ _ _ is).cases)) c.from_residual-in_err-carry_out.ensures.1 }
 
 pub run_body-loop-statement-preserved : goal.run_body-loop-statement-preserved
 run_body-loop-statement-preserved t c =
     let came = rw c.in-Some.ensures at c.loop-statement.invariant.reaches in
     let is = rw (c.scope.ensures.objects, c.scope.ensures.this, c.scope.ensures.arguments) at c.in_ok-doing.ensures in
-    let one = (c.in_ok-carry_out.ensures.advances c.args.object c.args.method c.args.arguments.now _ is).cases in
+    let one = (c.in_ok-carry_out.ensures.advances c.args.method c.args.arguments.now _ is).cases in
     let keeps = keeps-trans c.loop-statement.invariant.keeps (reaches-keeps one.0) in
     record { reaches = reaches-then came one.0; keeps = keeps; fewer = keeps.fewer; sound = reaches-sound one.0 c.loop-statement.invariant.sound }
 
 pub run_body-loop-statement-smaller : goal.run_body-loop-statement-smaller
 run_body-loop-statement-smaller t c =
     let is = rw (c.scope.ensures.objects, c.scope.ensures.this, c.scope.ensures.arguments) at c.in_ok-doing.ensures in
-    (c.in_ok-carry_out.ensures.advances c.args.object c.args.method c.args.arguments.now _ is).cases.1
+    (c.in_ok-carry_out.ensures.advances c.args.method c.args.arguments.now _ is).cases.1
 
 pub run_body-returns : goal.run_body-returns
 run_body-returns t c =
@@ -140,48 +128,52 @@ run_body-returns t c =
     record { ends = ends-after came (ends-ticked {b = []} _ (λ below e. refl) (omega arith) c.requires.room c.loop-statement.invariant.sound.typed c.tick.ensures) }
 
 pub carry_out-returns-in-Write : goal.carry_out-returns-in-Write
-carry_out-returns-in-Write t c = record { advances = λ o m arguments x is. advances-one _ (c.write.ensures.ends _ _ (does-set m c.args.left.now (rw c.in-Write.is at is))) }
+carry_out-returns-in-Write t c = record { advances = λ m arguments x is. advances-one _ (c.write.ensures.ends _ _ _ c.over-over.ensures (does-set m c.args.left.now (rw c.in-Write.is at is))) }
 
 pub carry_out-returns-in-Begin : goal.carry_out-returns-in-Begin
 carry_out-returns-in-Begin t c = record {
-  advances = λ o m arguments x is.
+  advances = λ m arguments x is.
       let begins = rw (c.in-Begin.is, ← c.as_slice.ensures) at is in
-      advances-one _ (c.begin_typed.ensures.ends _ _ (does-call m c.args.left.now begins) (does-call-alone m c.args.left.now begins));
+      advances-one _ (c.begin_typed.ensures.ends _ _ _ c.over-over.ensures (does-call m c.args.left.now begins) (does-call-alone m c.args.left.now begins));
 }
 
 pub carry_out-returns-in_err-put-in-Choose : goal.carry_out-returns-in_err-put-in-Choose
-carry_out-returns-in_err-put-in-Choose t c = record { advances = λ o m arguments x is. advances-left _ _ (ends-short _ c.requires.due c.from_residual.ensures.1) c.from_residual.ensures.1 }
+carry_out-returns-in_err-put-in-Choose t c = record { advances = λ m arguments x is. advances-left _ _ (ends-short _ (not-idle c.args.world.now _) c.requires.due c.from_residual.ensures.1) c.from_residual.ensures.1 }
 
 pub carry_out-returns-in_ok-put-in-Choose : goal.carry_out-returns-in_ok-put-in-Choose
 carry_out-returns-in_ok-put-in-Choose t c = record {
-  advances = λ o m arguments x is.
+  advances = λ m arguments x is.
       rw c.in_ok-put-in-Choose.ensures.ok (advances-ticked _ c.tick.ensures (does-choose m c.args.left.now _ _ (rw c.in-Choose.is at is) c.requires.room c.requires.sound.typed c.tick.ensures));
 }
 
 pub carry_out-returns-in-Nothing : goal.carry_out-returns-in-Nothing
-carry_out-returns-in-Nothing t c = record { advances = λ o m arguments x is. advances-one _ (does-nothing m c.args.left.now _ (rw c.in-Nothing.is at is) c.requires.room c.requires.sound.typed c.requires.due c.note.ensures) }
+carry_out-returns-in-Nothing t c = record {
+  advances = λ m arguments x is.
+      let higher = ap (λ (l : List (Option ℕ)). length l) c.over-over.ensures in
+      advances-one _ (does-nothing m c.args.left.now _ _ (rw c.in-Nothing.is at is) c.requires.room c.requires.sound.typed c.requires.due (omega (arith, c.count.ensures, higher)) c.note.ensures);
+}
 
 -- ---- writes
 
 pub write-returns-in_default : goal.write-returns-in_default
-write-returns-in_default t c = record { ends = λ from to sets. record { cases = stops-no-field sets c.in_default.ensures.value c.requires.left } }
+write-returns-in_default t c = record { ends = λ from to shown over sets. record { cases = stops-no-field sets c.in_default.ensures.value c.requires.left } }
 
 pub write-returns-then-not-has_type : goal.write-returns-then-not-has_type
 write-returns-then-not-has_type t c = record {
-  ends = λ from to sets. record { cases = stops-write-ill sets c.in-Some.ensures.value c.requires.sound.typed (λ h. not-true _ c.if-not-has_type.true (c.has_type.ensures.1 h)) c.requires.left (λ old is. c.signal_of_change-changed.ensures old (c.get.ensures ∙ is)) };
+  ends = λ from to shown over sets. record { cases = stops-write-ill sets c.in-Some.ensures.value c.requires.sound.typed (λ h. not-true _ c.if-not-has_type.true (c.has_type.ensures.1 h)) c.requires.left (λ old is. c.signal_of_change-changed.ensures old (c.get.ensures ∙ is)) };
 }
 
 pub write-returns-in_err-may_nest : goal.write-returns-in_err-may_nest
 write-returns-in_err-may_nest t c = record {
-  ends = λ from to sets.
-      ends-left _ (stops-as c.in_err-may_nest.ensures.1 (stops-write-deep sets c.in-Some.ensures.value c.requires.sound.typed (c.has_type.ensures.0 c.if-not-has_type.false) c.requires.left c.in_err-may_nest.ensures.0 (λ old is. c.signal_of_change-changed.ensures old (c.get.ensures ∙ is)))) c.from_residual.ensures.1;
+  ends = λ from to shown over sets.
+      ends-left _ (stops-as c.in_err-may_nest.ensures.1 (stops-write-deep over sets c.in-Some.ensures.value c.requires.sound.typed (c.has_type.ensures.0 c.if-not-has_type.false) c.requires.left c.in_err-may_nest.ensures.0 (λ old is. c.signal_of_change-changed.ensures old (c.get.ensures ∙ is)))) c.from_residual.ensures.1;
 }
 
 pub write-returns-in_err-entry : goal.write-returns-in_err-entry
-write-returns-in_err-entry t c = record { ends = λ from to sets. ends-short _ c.requires.left c.from_residual-in_err-entry.ensures.1 }
+write-returns-in_err-entry t c = record { ends = λ from to shown over sets. ends-short _ sets.goes_on c.requires.left c.from_residual-in_err-entry.ensures.1 }
 
 pub write-returns-in_err-write : goal.write-returns-in_err-write
-write-returns-in_err-write t c = record { ends = λ from to sets. ends-unchanged _ c.requires.left (c.in_err-write.ensures _ c.in-Some.ensures.value.is_object) c.from_residual-in_err-write.ensures.1 }
+write-returns-in_err-write t c = record { ends = λ from to shown over sets. ends-unchanged _ sets.goes_on c.requires.left (c.in_err-write.ensures _ c.in-Some.ensures.value.is_object) c.from_residual-in_err-write.ensures.1 }
 
 pub write-run_update-requires : goal.write-run_update-requires
 write-run_update-requires t c = let field = c.in-Some.ensures.value in
@@ -193,9 +185,9 @@ write-run_update-requires t c = let field = c.in-Some.ensures.value in
 
 pub write-returns : goal.write-returns
 write-returns t c = record {
-  ends = λ from to sets.
+  ends = λ from to shown over sets.
       let field = c.in-Some.ensures.value in
-      ends-written sets field c.requires.sound.typed (c.has_type.ensures.0 c.if-not-has_type.false) c.in_ok-may_nest.ensures c.requires.left (λ old is. c.signal_of_change-changed.ensures old (c.get.ensures ∙ is)) c.in_ok-entry.ensures (c.in_ok-write.ensures _ field.is_object) c.run_update.ensures.ends;
+      ends-written over sets field c.requires.sound.typed (c.has_type.ensures.0 c.if-not-has_type.false) c.in_ok-may_nest.ensures c.requires.left (λ old is. c.signal_of_change-changed.ensures old (c.get.ensures ∙ is)) (rw c.count.ensures at c.in_ok-entry.ensures) (c.in_ok-write.ensures _ field.is_object) c.run_update.ensures.ends;
 }
 
 pub run_update-returns-in-None : goal.run_update-returns-in-None
@@ -217,14 +209,14 @@ notify-unreachable-requires-in_default-get t c = let there = announced-value c.r
     absurd (cc none)
 
 pub notify-returns-in_err-copy : goal.notify-returns-in_err-copy
-notify-returns-in_err-copy t c = record { ends = ends-short _ c.in_ok-require_rule.ensures c.from_residual-in_err-copy.ensures.1 }
+notify-returns-in_err-copy t c = record { ends = ends-short _ (not-idle c.args.world.now _) c.in_ok-require_rule.ensures c.from_residual-in_err-copy.ensures.1 }
 
 pub notify-begin-requires : goal.notify-begin-requires
 notify-begin-requires t c = let present = sym c.in-Some-get.ensures ∙ ap (λ (v : Value). Some v) (sym c.in_ok-copy.ensures) in
     let cut = rw c.as_slice.ensures at c.front-taken.ensures in
-    (omega arith, (c.requires.room, (c.requires.sound, (c.in_ok-require_rule.ensures, announced-fits c.requires.announces c.requires.sound.typed c.in-Some.ensures present cut c.len.ensures))))
+    (omega arith, (c.requires.sound, (c.in_ok-require_rule.ensures, announced-fits c.requires.announces c.requires.sound.typed c.in-Some.ensures present cut c.len.ensures)))
 
 pub notify-returns : goal.notify-returns
 notify-returns t c = let present = sym c.in-Some-get.ensures ∙ ap (λ (v : Value). Some v) (sym c.in_ok-copy.ensures) in
     let cut = rw c.as_slice.ensures at c.front-taken.ensures in
-    record { ends = c.begin.ensures.ends _ _ (announcement-calls c.requires.announces c.in-Some.ensures present cut c.len.ensures) }
+    record { ends = c.begin.ensures.ends _ _ _ c.over-over.ensures (announcement-calls c.requires.announces c.in-Some.ensures present cut c.len.ensures) }

@@ -17,8 +17,11 @@ decreases-begin_typed l = 6 * l.world.now.left + 1
 abbrev pub decreases-begin : goal.decreases-begin
 decreases-begin l = 6 * l.world.now.left + 0
 
+abbrev pub decreases-run_begun : goal.decreases-run_begun
+decreases-run_begun l = 6 * l.world.now.left + 5
+
 abbrev pub decreases-run_body : goal.decreases-run_body
-decreases-run_body l = 6 * l.world.now.left + 5
+decreases-run_body l = 6 * l.world.now.left + 4
 
 abbrev pub decreases-carry_out : goal.decreases-carry_out
 decreases-carry_out l = 6 * l.world.now.left + 2
@@ -35,7 +38,7 @@ decreases-notify l = 6 * l.world.now.left + 1
 abbrev pub invariant-run_body-loop-statement : goal.invariant-run_body-loop-statement
 invariant-run_body-loop-statement l =
     record {
-      reaches : Reaches l.self.meta l.self.depth l.height l.fn.world (Body l.object l.method l.arguments l.statements ∷ []) l.world (Body l.object l.method l.arguments l.left ∷ []);
+      reaches : Reaches l.self.meta l.self.depth l.active l.fn.world (Body l.object l.method l.arguments l.statements ∷ []) l.world (Body l.object l.method l.arguments l.left ∷ []);
       keeps : KeepsWorld l.self.meta l.fn.world l.world;
       fewer : l.world.left ≤ l.fn.world.left;
       sound : Sound l.self.meta l.world.objects l.world.connections;
@@ -47,7 +50,7 @@ decreases-run_body-loop-statement l = l.world.left
 abbrev pub invariant-run_emission-loop-connection : goal.invariant-run_emission-loop-connection
 invariant-run_emission-loop-connection l =
     record {
-      reaches : Reaches l.self.meta l.self.depth l.height l.fn.world (Emit l.object l.signal l.arguments 0 l.last ∷ []) l.world (Emit l.object l.signal l.arguments l.used l.last ∷ []);
+      reaches : Reaches l.self.meta l.self.depth l.active l.fn.world (Emit l.object l.signal l.arguments 0 l.last ∷ []) l.world (Emit l.object l.signal l.arguments l.used l.last ∷ []);
       keeps : KeepsWorld l.self.meta l.fn.world l.world;
       fewer : l.world.left ≤ l.fn.world.left;
       sound : Sound l.self.meta l.world.objects l.world.connections;

@@ -36,7 +36,7 @@ returns-in_err-run_update c = λ e writes.
     let old = old-there field c.requires.keeps.sound.typed in
     let changes = c.signal_of_change-changed.ensures old.0 (c.get.ensures ∙ old.1) in
     took-stopped e _
-    (assigned {r = Err c.in_err-run_update.field-0.0} e c.requires.depth c.requires.keeps.sound.typed c.requires.left writes field (fits-field c.requires.fits field) old.1 changes c.in_ok-entry.ensures c.in_ok-accept_write.ensures c.in_err-run_update.ensures.ends)
+    (assigned {r = Err c.in_err-run_update.field-0.0} e c.requires.depth c.requires.keeps.sound.typed c.requires.left writes field (fits-field c.requires.fits field) old.1 changes c.in_ok-entry.ensures c.in_ok-accept_write.ensures (rw c.nothing.ensures at c.in_err-run_update.ensures.ends))
     c.from_residual-in_err-run_update.ensures.1
 
 pub returns : goal.returns
@@ -44,4 +44,4 @@ returns c = λ e writes.
     let field = c.in-Some.ensures.value in
     let old = old-there field c.requires.keeps.sound.typed in
     let changes = c.signal_of_change-changed.ensures old.0 (c.get.ensures ∙ old.1) in
-    assigned {r = Ok tt} e c.requires.depth c.requires.keeps.sound.typed c.requires.left writes field (fits-field c.requires.fits field) old.1 changes c.in_ok-entry.ensures c.in_ok-accept_write.ensures c.in_ok-run_update.ensures.ends
+    assigned {r = Ok tt} e c.requires.depth c.requires.keeps.sound.typed c.requires.left writes field (fits-field c.requires.fits field) old.1 changes c.in_ok-entry.ensures c.in_ok-accept_write.ensures (rw c.nothing.ensures at c.in_ok-run_update.ensures.ends)
