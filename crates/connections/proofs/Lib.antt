@@ -1,0 +1,9 @@
+pub mod Counts
+pub mod Indexed
+pub mod Keys
+pub mod Numbers
+pub mod Stale
+pub mod Swept
+pub mod Removed
+pub mod Added
+pub mod Laws

@@ -1,0 +1,5 @@
+use Rattle.std.proofs.Common.{rules, inl}
+use Rattle.connections.proofs.groups.forget_place.Goals as goal
+
+pub returns-in-None : goal.returns-in-None
+returns-in-None g c = λ q. inl (search rules)

@@ -1,0 +1,7 @@
+use Rattle.connections.proofs.Removed.{Covers-numbered}
+use Rattle.connections.proofs.removing.places_for.Goals as goal
+
+pub returns-in-Numbered : goal.returns-in-Numbered
+returns-in-Numbered c = λ cells last l.
+    rw c.in-Numbered.is (Covers-numbered cells c.args.lists.now last c.in-Numbered.number c.place_of_number.result.now
+    (λ p among same. c.place_of_number.ensures last (rw c.deref.ensures.value l.all.rising) p (rw c.deref.ensures.value among) same) l)

@@ -1,0 +1,54 @@
+-- How the lists of places are tied to the cells.
+use Rattle.std.specs.Prelude.{◌≡◌, ℕ, ◌&&◌, eqb, Bool, true, List, []}
+use Rattle.std.specs.Global.{Vec}
+use Rattle.slab.specs.Slab.{Slab}
+use Rattle.connections.specs.declared.connection.Connection.{Connection}
+use Rattle.connections.specs.declared.cell.Cell.{Cell}
+use Rattle.connections.specs.declared.place.Place.{Place}
+use Rattle.connections.specs.declared.groups.Lists.{Lists}
+use Rattle.connections.specs.Connected.{is_of, touches}
+use Rattle.connections.specs.Cells.{Marked}
+use Rattle.connections.specs.Places.{live, Indexes, Tidies}
+use Rattle.connections.specs.Groups.{list_of}
+
+abbrev pub same_pair : ℕ × ℕ → ℕ × ℕ → Bool
+same_pair a b = eqb a.0 b.0 && eqb a.1 b.1
+
+abbrev pub all_of : Lists → List Place
+all_of lists = lists.all.items.items
+
+abbrev pub of_signal : Lists → ℕ → ℕ → List Place
+of_signal lists sender signal = list_of same_pair lists.by_signal (sender, signal)
+
+abbrev pub of_object : Lists → ℕ → List Place
+of_object lists object = list_of eqb lists.by_object object
+
+abbrev pub any_connection : Connection → Bool
+any_connection c = true
+
+-- there are no places
+pub record IsEmpty (lists : Lists) : Type 0 where
+  pub all : all_of lists ≡ []
+  pub by_signal : (sender signal : ℕ) → of_signal lists sender signal ≡ []
+  pub by_object : (object : ℕ) → of_object lists object ≡ []
+
+-- the connections that are there
+abbrev pub shown_in : Slab Cell → Lists → List Connection
+shown_in cells lists = live cells (all_of lists)
+
+-- each list leads to the connections of its own
+pub record Leads (cells : Slab Cell) (lists : Lists) (last : ℕ) : Type 0 where
+  pub all : Indexes cells (shown_in cells lists) last any_connection (all_of lists)
+  pub by_signal : (sender signal : ℕ) → Indexes cells (shown_in cells lists) last (is_of sender signal) (of_signal lists sender signal)
+  pub by_object : (object : ℕ) → Indexes cells (shown_in cells lists) last (touches object) (of_object lists object)
+
+-- and removed connections are marked
+pub record Tied (cells : Slab Cell) (lists : Lists) (marked : Vec ℕ) (last : ℕ) : Type 0 where
+  pub leads : Leads cells lists last
+  pub marks : Marked cells marked
+
+-- in each list, places that no longer lead to a cell were dropped, or nothing changed
+pub record TidiesLists (cells : Slab Cell) (old new : Lists) : Type 0 where
+  pub all : Tidies cells (all_of old) (all_of new)
+  pub by_signal : (sender signal : ℕ) → Tidies cells (of_signal old sender signal) (of_signal new sender signal)
+  pub by_object : (object : ℕ) → Tidies cells (of_object old object) (of_object new object)

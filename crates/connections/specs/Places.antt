@@ -1,0 +1,47 @@
+-- What lists of places show.
+use Rattle.std.specs.Prelude.{◌≡◌, ℕ, ◌<◌, ◌≤◌, ◌&&◌, ◌⊎◌, eqb, Bool, false, List, [], ◌∷◌, length, slice_index_or, Option, Some, None, filter, filter_map, if◌then◌else◌}
+use Rattle.slab.specs.Slab.{Slab, get}
+use Rattle.connections.specs.declared.connection.Connection.{Connection}
+use Rattle.connections.specs.declared.cell.Cell.{Cell}
+use Rattle.connections.specs.declared.place.Place.{Place}
+use Rattle.connections.specs.Cells.{Covers}
+
+-- the connection of a cell, if it is there and has this number
+abbrev pub shown : ℕ → Option Cell → Option Connection
+shown number None = None
+shown number (Some cell) = if cell.live && eqb cell.connection.number number then Some cell.connection else None
+
+abbrev pub live_at : Slab Cell → Place → Option Connection
+live_at cells p = shown p.number (get cells p.key)
+
+-- the connections that places lead to, without those removed
+abbrev pub live : Slab Cell → List Place → List Connection
+live cells places = filter_map (live_at cells) places
+
+-- each number is above the one before it, the first above `low` and none above `last`
+abbrev pub Rising : ℕ → List Place → ℕ → Type 0
+Rising low [] last = low ≤ last
+Rising low (p ∷ places) last = (low < p.number) × Rising p.number places last
+
+-- the places lead, in order, to the connections that pass a test
+pub record Indexes (cells : Slab Cell) (whole : List Connection) (last : ℕ) (test : Connection → Bool) (places : List Place) : Type 0 where
+  pub rising : Rising 0 places last
+  pub exact : live cells places ≡ filter test whole
+  pub covers : Covers cells test places
+
+-- the places before i have lower numbers, and those from i on have not
+pub record SplitsAt (places : List Place) (number i : ℕ) : Type 0 where
+  pub below : (k : ℕ) (d : Place) → k < i → (slice_index_or places k d).number < number
+  pub above : (k : ℕ) (d : Place) → i ≤ k → k < length places → number ≤ (slice_index_or places k d).number
+
+-- a cell still has the connection of this number, removed or not
+abbrev pub has_number : ℕ → Option Cell → Bool
+has_number number None = false
+has_number number (Some cell) = eqb cell.connection.number number
+
+abbrev pub is_held : Slab Cell → Place → Bool
+is_held cells p = has_number p.number (get cells p.key)
+
+-- places that no longer lead to a cell were dropped, or nothing changed
+abbrev pub Tidies : Slab Cell → List Place → List Place → Type 0
+Tidies cells old new = (new ≡ old) ⊎ (new ≡ filter (is_held cells) old)

@@ -1,0 +1,41 @@
+-- Room for one more connection.
+use Rattle.std.specs.Prelude.{◌≡◌, ℕ, ◌<◌, ◌≤◌, eqb, true, None, Some}
+use Rattle.std.specs.Global.{Vec}
+use Rattle.std.specs.Vec.{vec_len, vec_capacity}
+use Rattle.slab.specs.Slab.{Slab, get, Updates, HasRoomFor}
+use Rattle.connections.specs.declared.connection.Connection.{Connection}
+use Rattle.connections.specs.declared.cell.Cell.{Cell}
+use Rattle.connections.specs.declared.place.Place.{Place}
+use Rattle.connections.specs.declared.groups.Lists.{Lists}
+use Rattle.connections.specs.Groups.{HasRoom}
+use Rattle.connections.specs.Lists.{same_pair, all_of, of_signal, of_object}
+
+-- a new connection in a vacant cell
+pub record Adds (old new : Slab Cell) (key : ℕ) (c : Connection) : Type 0 where
+  pub vacant : get old key ≡ None
+  pub updates : Updates old new key (Some (record { connection = c; live = true }))
+
+abbrev pub place_of : Connection → ℕ → Place
+place_of c key = record { number = c.number; key = key }
+
+-- the room that cells and lists have
+pub record Rooms (cells : Slab Cell) (lists : Lists) (c : Connection) : Type 0 where
+  pub cell : HasRoomFor cells 1
+  pub place : vec_len lists.all.items < vec_capacity lists.all.items
+  pub signal : HasRoom same_pair lists.by_signal (c.sender, c.signal)
+  pub sender : HasRoom eqb lists.by_object c.sender
+  pub receiver : HasRoom eqb lists.by_object c.receiver
+
+-- what is seen of the lists stays
+pub record SameLists (old new : Lists) : Type 0 where
+  pub all : all_of new ≡ all_of old
+  pub by_signal : (sender signal : ℕ) → of_signal new sender signal ≡ of_signal old sender signal
+  pub by_object : (object : ℕ) → of_object new object ≡ of_object old object
+
+-- what is seen stays, and room is kept
+pub record IsKept (cells : Slab Cell) (lists : Lists) (marked : Vec ℕ) (cells' : Slab Cell) (lists' : Lists) (marked' : Vec ℕ) : Type 0 where
+  pub in_cells : cells'.slots ≡ cells.slots
+  pub in_lists : SameLists lists lists'
+  pub in_marked : marked'.items ≡ marked.items
+  pub many_marked : vec_len marked' ≡ vec_len marked
+  pub room : vec_capacity marked ≤ vec_capacity marked'

@@ -1,0 +1,63 @@
+//! A new connection, in a cell and in each list that it belongs to.
+
+ghost use Rattle.std.specs.Prelude.{◌≡◌, ℕ, ◌∷◌, [], ◌++◌, ◌+◌, ◌≤◌, eqb, if◌then◌else◌, OnOk};
+ghost use Rattle.std.specs.Vec.{vec_capacity};
+ghost use Rattle.slab.specs.Slab.{slab_len};
+ghost use Rattle.connections.specs.Connected.{touches};
+ghost use Rattle.connections.specs.Groups.{list_of};
+ghost use Rattle.connections.specs.Lists.{same_pair, all_of};
+ghost use Rattle.connections.specs.Rooms.{Rooms, IsKept, Adds, place_of};
+
+use crate::cell::Cell;
+use crate::connection::Connection;
+use crate::groups::{Lists, make_room, push_place};
+use crate::place::Place;
+use slab::Slab;
+use std::alloc::{AllocError, Global};
+
+/// Makes room for one more connection, or changes nothing that is seen.
+pub fn make_rooms(
+    alloc: Global,
+    cells: &mut Slab<Cell>,
+    lists: &mut Lists,
+    marked: &mut Vec<usize>,
+    c: &Connection,
+) -> Result<(), AllocError>
+    ensures rooms { OnOk result (Rooms cells.new lists.new c.now) }
+    ensures mark { OnOk result (slab_len cells.new + 1 ≤ vec_capacity marked.new) }
+    ensures kept { IsKept cells.old lists.old marked.old cells.new lists.new marked.new }
+{
+    cells.reserve(1)?;
+    marked.reserve(cells.capacity())?;
+    lists.all.reserve()?;
+    make_room(alloc, &mut lists.by_signal, (c.sender.number(), c.signal))?;
+    make_room(alloc, &mut lists.by_object, c.sender.number())?;
+    make_room(alloc, &mut lists.by_object, c.receiver.number())?;
+    Ok(())
+}
+
+/// Puts a connection, for which there is room, into a cell and into its lists.
+pub fn put(cells: &mut Slab<Cell>, lists: &mut Lists, c: Connection) -> usize
+    requires { Rooms cells.old lists.old c }
+    ensures cell { Adds cells.old cells.new result c }
+    ensures len { slab_len cells.new ≡ slab_len cells.old + 1 }
+    ensures all { all_of lists.new ≡ all_of lists.old ++ place_of c result ∷ [] }
+    ensures signals { (q : ℕ × ℕ) → list_of same_pair lists.new.by_signal q ≡ (if same_pair (c.sender, c.signal) q then list_of same_pair lists.old.by_signal q ++ place_of c result ∷ [] else list_of same_pair lists.old.by_signal q) }
+    ensures objects { (q : ℕ) → list_of eqb lists.new.by_object q ≡ (if touches q c then list_of eqb lists.old.by_object q ++ place_of c result ∷ [] else list_of eqb lists.old.by_object q) }
+{
+    let key = cells.insert_reserved(Cell {
+        connection: c,
+        live: true,
+    });
+    let place = Place {
+        number: c.number,
+        key,
+    };
+    lists.all.push(place);
+    push_place(&mut lists.by_signal, (c.sender.number(), c.signal), place);
+    push_place(&mut lists.by_object, c.sender.number(), place);
+    if c.receiver != c.sender {
+        push_place(&mut lists.by_object, c.receiver.number(), place);
+    }
+    key
+}

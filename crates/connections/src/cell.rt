@@ -1,0 +1,42 @@
+//! The cells that hold the connections.
+
+ghost use Rattle.std.specs.Prelude.{◌≡◌};
+ghost use Rattle.connections.specs.Cells.{is_dead};
+ghost use Rattle.connections.specs.Places.{live_at, is_held};
+
+use crate::connection::Connection;
+use crate::place::Place;
+use slab::Slab;
+
+/// A connection, and whether it is still there.
+#[derive(Clone, Copy)]
+pub struct Cell {
+    pub connection: Connection,
+    pub live: bool,
+}
+
+/// The connection at a place, if it is still there.
+pub fn live_at(cells: &Slab<Cell>, place: &Place) -> Option<Connection>
+    ensures { result ≡ live_at cells.now place.now }
+{
+    match cells.get(place.key) {
+        None => None,
+        Some(cell) => {
+            if cell.live && cell.connection.number == place.number {
+                Some(cell.connection)
+            } else {
+                None
+            }
+        }
+    }
+}
+
+/// Whether the cell at a place still has the connection of its number.
+pub fn is_held(cells: &Slab<Cell>, place: &Place) -> bool
+    ensures { result ≡ is_held cells.now place.now }
+{
+    match cells.get(place.key) {
+        None => false,
+        Some(cell) => cell.connection.number == place.number,
+    }
+}

@@ -1,0 +1,210 @@
+ghost use Rattle.std.specs.Prelude.{◌≡◌, ◌↔◌, ℕ, ◌+◌, ◌^◌, ◌<◌, ◌-◌, ◌≤◌, ◌&&◌, Err, [], ◌∷◌, ◌++◌, IsTrue, IsOk, OnOk, OnErr, IfSome};
+ghost use Rattle.std.specs.List.{find};
+ghost use Rattle.connections.specs.Connected.{Connected, joins, is_later, is_due, is_numbered, touches, are_connected, connected_by, removed, not_above, Rises};
+ghost use Rattle.connections.specs.Cells.{fits};
+ghost use Rattle.connections.specs.declared.fault.ConnectFault.TheVariants.{Exists};
+
+use crate::adding::{make_rooms, put};
+use crate::cell::Cell;
+use crate::connection::Connection;
+use crate::fault::{ConnectFault, DisconnectFault};
+use crate::groups::Lists;
+use crate::removing::{Removal, remove};
+use crate::search::{lead_to_any, next_above};
+use signatures::{Kind, ObjectId};
+use slab::Slab;
+use std::alloc::{AllocError, Global};
+use std::marker::Model;
+
+/// The connections that were made and not removed, in the order in which they were made, and the last number given.
+///
+/// They stand in cells, to which lists lead: one of all, one for each sender and signal, one for each object. So an
+/// emission costs what is connected to its signal, and not what is connected in all.
+#[derive(Drop)]
+pub struct Connections {
+    alloc: Global,
+    cells: Slab<Cell>,
+    lists: Lists,
+    marked: Vec<usize>,
+    last: u64,
+}
+
+impl Model for Connections {
+    ghost use Rattle.connections.specs.Connected.{Connected};
+
+    ghost Value = { Connected };
+
+    ghost use Rattle.connections.specs.Lists.{shown_in, Tied};
+
+    ghost view = { λ c. record { connections = shown_in c.cells c.lists; last = c.last } };
+
+    ghost invariant = { λ c. Tied c.cells c.lists c.marked c.last };
+}
+
+impl Connections {
+    /// No connections, and no number given.
+    pub fn new(alloc: Global) -> Connections
+        ensures { result ≡ record { connections = []; last = 0 } }
+    {
+        Connections {
+            alloc,
+            cells: Slab::new(alloc),
+            lists: Lists::new(alloc),
+            marked: Vec::new(alloc),
+            last: 0,
+        }
+    }
+
+    /// The last number that was given to a connection, 0 at first.
+    pub fn last(&self) -> u64
+        ensures { result ≡ self.now.last }
+    {
+        self.last
+    }
+
+    /// The numbers rise in the order of the connections, from 1 on, and none is above the last one given.
+    pub fn numbers_rise(&self)
+        ensures { Rises 0 self.now.connections self.now.last }
+    {
+        let _last = self.last;
+    }
+
+    /// The first connection of this sender and signal that was made later than the one of this number.
+    pub fn next_after(&self, sender: ObjectId, signal: usize, number: u64) -> Option<Connection>
+        ensures { result ≡ find (is_later sender signal number) self.now.connections }
+    {
+        let places = self.lists.of_signal(sender, signal);
+        next_above(&self.cells, places, number)
+    }
+
+    /// The connection that an emission uses next: the first of its sender and signal that was made later than the last
+    /// one used, and not later than the last one that was made when the emission began.
+    pub fn next_due(
+        &self,
+        sender: ObjectId,
+        signal: usize,
+        used: u64,
+        made: u64,
+    ) -> Option<Connection>
+        ensures { result ≡ find (is_due sender signal used made) self.now.connections }
+    {
+        let places = self.lists.of_signal(sender, signal);
+        let next = next_above(&self.cells, places, used);
+        not_above(next, made)
+    }
+
+    /// Whether this signal of the sender is connected to this method of the receiver, in whatever way.
+    pub fn are_connected(
+        &self,
+        sender: ObjectId,
+        signal: usize,
+        receiver: ObjectId,
+        method: usize,
+    ) -> bool
+        ensures { result ≡ are_connected sender signal receiver method self.now.connections }
+    {
+        let places = self.lists.of_signal(sender, signal);
+        let same = Removal::Between(sender, signal, receiver, method);
+        lead_to_any(&self.cells, places, &same)
+    }
+
+    /// Makes a connection with the next number, unless a `unique` one exists; without memory nothing changes.
+    pub fn connect(
+        &mut self,
+        sender: ObjectId,
+        signal: usize,
+        receiver: ObjectId,
+        method: usize,
+        kind: Kind,
+        unique: bool,
+        single: bool,
+    ) -> Result<(), ConnectFault>
+        requires { self.old.last < 2 ^ 63 - 1 }
+        ensures made { OnOk result (self.new ≡ connected_by self.old sender signal receiver method kind single) }
+        ensures exists { (result ≡ Err Exists) ↔ IsTrue (unique && are_connected sender signal receiver method self.old.connections) }
+        ensures err { OnErr result (self.new ≡ self.old) }
+    {
+        if unique && self.are_connected(sender, signal, receiver, method) {
+            return Err(ConnectFault::Exists);
+        }
+        let connection = Connection {
+            number: self.last + 1,
+            sender,
+            signal,
+            receiver,
+            method,
+            kind,
+            single,
+        };
+        self.append(connection)?;
+        Ok(())
+    }
+
+    /// Adds a connection that has the next number.
+    fn append(&mut self, connection: Connection) -> Result<(), AllocError>
+        requires number { connection.number ≡ self.old.last + 1 }
+        ensures made { OnOk result (self.new.connections ≡ self.old.connections ++ connection ∷ []) }
+        ensures numbered { OnOk result (self.new.last ≡ self.old.last + 1) }
+        ensures err { OnErr result (self.new ≡ self.old) }
+    {
+        make_rooms(
+            self.alloc,
+            &mut self.cells,
+            &mut self.lists,
+            &mut self.marked,
+            &connection,
+        )?;
+        put(&mut self.cells, &mut self.lists, connection);
+        self.last = connection.number;
+        Ok(())
+    }
+
+    /// Removes all connections from this signal of the sender to this method of the receiver.
+    pub fn disconnect(
+        &mut self,
+        sender: ObjectId,
+        signal: usize,
+        receiver: ObjectId,
+        method: usize,
+    ) -> Result<(), DisconnectFault>
+        ensures removed { OnOk result (self.new ≡ removed (joins sender signal receiver method) self.old) }
+        ensures there { IsOk result ↔ IsTrue (are_connected sender signal receiver method self.old.connections) }
+        ensures err { OnErr result (self.new ≡ self.old) }
+    {
+        if !self.are_connected(sender, signal, receiver, method) {
+            return Err(DisconnectFault::NoConnection);
+        }
+        self.remove(Removal::Between(sender, signal, receiver, method));
+        Ok(())
+    }
+
+    /// Removes the connections from and to an object.
+    pub fn drop_object(&mut self, object: ObjectId)
+        ensures { self.new ≡ removed (touches object) self.old }
+    {
+        self.remove(Removal::Touching(object));
+    }
+
+    /// Removes the connection of this number, if it is there.
+    pub fn cut(&mut self, number: u64)
+        ensures { self.new ≡ removed (is_numbered number) self.old }
+    {
+        self.remove(Removal::Numbered(number));
+    }
+
+    fn remove(&mut self, removal: Removal)
+        ensures { self.new ≡ removed (fits removal) self.old }
+    {
+        remove(&mut self.cells, &mut self.lists, &mut self.marked, &removal);
+    }
+}
+
+/// The connection, unless it was made later than the one of this number.
+fn not_above(connection: Option<Connection>, made: u64) -> Option<Connection>
+    ensures { result ≡ not_above made connection }
+{
+    match connection {
+        Some(c) if c.number <= made => Some(c),
+        _ => None,
+    }
+}

@@ -1,0 +1,109 @@
+//! Lists of places by key: one for each sender and signal, one for each object.
+
+ghost use Rattle.std.specs.Prelude.{◌≡◌, ◌∷◌, [], ◌++◌, ◌<◌, false, if◌then◌else◌, OnOk, IsSomeAnd};
+ghost use Rattle.std.specs.Vec.{vec_len};
+ghost use Rattle.connections.specs.Groups.{list_of, HasRoom};
+ghost use Rattle.connections.specs.Lists.{of_signal, of_object, IsEmpty};
+ghost use Rattle.connections.specs.Places.{Tidies};
+
+use crate::cell::Cell;
+use crate::place::{Place, Places};
+use indexmap::IndexMap;
+use signatures::ObjectId;
+use slab::Slab;
+use std::alloc::{AllocError, Global};
+use std::hash::Hash;
+
+/// The places of all connections, those of each sender and signal, and those of each object.
+#[derive(Drop)]
+pub struct Lists {
+    pub all: Places,
+    pub by_signal: IndexMap<(usize, usize), Places>,
+    pub by_object: IndexMap<usize, Places>,
+}
+
+impl Lists {
+    /// No places.
+    pub fn new(alloc: Global) -> Lists
+        ensures { IsEmpty result }
+    {
+        Lists {
+            all: Places::new(alloc),
+            by_signal: IndexMap::new(alloc),
+            by_object: IndexMap::new(alloc),
+        }
+    }
+
+    /// The places of the connections of this sender and signal.
+    pub fn of_signal(&self, sender: ObjectId, signal: usize) -> &[Place]
+        ensures { result.now ≡ of_signal self.now sender signal }
+    {
+        places_of(&self.by_signal, (sender.number(), signal))
+    }
+
+    /// The places of the connections from and to an object.
+    pub fn of_object(&self, object: ObjectId) -> &[Place]
+        ensures { result.now ≡ of_object self.now object }
+    {
+        places_of(&self.by_object, object.number())
+    }
+}
+
+/// The places under a key.
+fn places_of<K: Eq + Hash>(groups: &IndexMap<K, Places>, group: K) -> &[Place]
+where
+    K: Drop,
+    ensures { result.now ≡ list_of K.eq groups.now group }
+{
+    match groups.get(&group) {
+        None => &[],
+        Some(places) => &places.items,
+    }
+}
+
+/// Makes room for one more place under a key.
+pub fn make_room<K: Eq + Hash + Copy>(
+    alloc: Global,
+    groups: &mut IndexMap<K, Places>,
+    group: K,
+) -> Result<(), AllocError>
+where
+    K: Drop,
+    ensures room { OnOk result (HasRoom K.eq groups.new group) }
+    ensures others { OnOk result ((q : K) → HasRoom K.eq groups.old q → HasRoom K.eq groups.new q) }
+    ensures lists { (q : K) → list_of K.eq groups.new q ≡ (if K.eq group q then list_of K.eq groups.old group else list_of K.eq groups.old q) }
+{
+    if let Some(places) = groups.get_mut(&group) {
+        return places.reserve();
+    }
+    let mut places = Places::new(alloc);
+    places.reserve()?;
+    groups.insert(group, places)?;
+    Ok(())
+}
+
+/// One more place under a key, which has room for it.
+pub fn push_place<K: Eq + Hash>(groups: &mut IndexMap<K, Places>, group: K, place: Place)
+where
+    K: Drop,
+    requires { HasRoom K.eq groups.old group }
+    ensures lists { (q : K) → list_of K.eq groups.new q ≡ (if K.eq group q then list_of K.eq groups.old group ++ place ∷ [] else list_of K.eq groups.old q) }
+    ensures others { (q : K) → K.eq group q ≡ false → HasRoom K.eq groups.old q → HasRoom K.eq groups.new q }
+{
+    match groups.get_mut(&group) {
+        None => {}
+        Some(places) => places.push(place),
+    }
+}
+
+/// One more of the places under a key leads nowhere.
+pub fn forget_place<K: Eq + Hash>(groups: &mut IndexMap<K, Places>, group: K, cells: &Slab<Cell>)
+where
+    K: Drop,
+    ensures { (q : K) → Tidies cells.now (if K.eq group q then list_of K.eq groups.old group else list_of K.eq groups.old q) (list_of K.eq groups.new q) }
+{
+    match groups.get_mut(&group) {
+        None => {}
+        Some(places) => places.forget(cells),
+    }
+}

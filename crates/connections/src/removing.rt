@@ -1,0 +1,104 @@
+//! Which connections are removed, and the marks that a removal leaves.
+
+ghost use Rattle.std.specs.Prelude.{◌≡◌, ℕ, if◌then◌else◌, eqb};
+ghost use Rattle.std.specs.Option.{option_map};
+ghost use Rattle.slab.specs.Slab.{Slab as ASlab, get};
+ghost use Rattle.connections.specs.declared.cell.Cell.{Cell as ACell};
+ghost use Rattle.connections.specs.Connected.{without};
+ghost use Rattle.connections.specs.Cells.{fits, retired, Marked, Covers, is_due};
+ghost use Rattle.connections.specs.Lists.{Leads, shown_in};
+
+use crate::cell::Cell;
+use crate::connection::Connection;
+use crate::groups::Lists;
+use crate::place::Place;
+use crate::search::place_of_number;
+use crate::sweeping::sweep;
+use signatures::ObjectId;
+use slab::Slab;
+
+/// Which connections are to be removed.
+#[derive(Clone, Copy)]
+pub enum Removal {
+    /// Those from this signal of a sender to this method of a receiver.
+    Between(ObjectId, usize, ObjectId, usize),
+    /// Those from and to an object.
+    Touching(ObjectId),
+    /// The one of a number.
+    Numbered(u64),
+}
+
+impl Removal {
+    /// Whether the connection is one of these.
+    pub fn fits(&self, c: &Connection) -> bool
+        ensures { result ≡ fits self.now c.now }
+    {
+        match self {
+            Removal::Between(sender, signal, receiver, method) => {
+                c.joins(*sender, *signal, *receiver, *method)
+            }
+            Removal::Touching(object) => c.touches(*object),
+            Removal::Numbered(number) => c.number == *number,
+        }
+    }
+}
+
+/// Removes the connections that are to be removed.
+pub fn remove(cells: &mut Slab<Cell>, lists: &mut Lists, marked: &mut Vec<usize>, removal: &Removal)
+    requires led { (last : ℕ) × Leads cells.old lists.old last }
+    requires marked { Marked cells.old marked.old }
+    ensures led { (last : ℕ) → Leads cells.old lists.old last → Leads cells.new lists.new last }
+    ensures marked { Marked cells.new marked.new }
+    ensures shown { shown_in cells.new lists.new ≡ without (fits removal.now) (shown_in cells.old lists.old) }
+{
+    let places = places_for(lists, removal);
+    mark_all(cells, marked, places, removal);
+    sweep(cells, lists, marked);
+}
+
+/// Places that lead to each connection that is to be removed.
+fn places_for<'a>(lists: &'a Lists, removal: &Removal) -> &'a [Place]
+    ensures { (cells : ASlab ACell) (last : ℕ) → Leads cells lists.now last → Covers cells (fits removal.now) result.now }
+{
+    match removal {
+        Removal::Between(sender, signal, _, _) => lists.of_signal(*sender, *signal),
+        Removal::Touching(object) => lists.of_object(*object),
+        Removal::Numbered(number) => place_of_number(&lists.all.items, *number),
+    }
+}
+
+/// Marks the cells of the connections that are to be removed, where these places lead to all of them.
+fn mark_all(cells: &mut Slab<Cell>, marked: &mut Vec<usize>, places: &[Place], removal: &Removal)
+    requires marked { Marked cells.old marked.old }
+    requires covers { Covers cells.old (fits removal.now) places.now }
+    ensures cells { (k : ℕ) → get cells.new k ≡ option_map (retired removal.now) (get cells.old k) }
+    ensures marked { Marked cells.new marked.new }
+{
+    for place in places {
+        mark_one(cells, marked, place.key, removal);
+    }
+}
+
+/// Removes the connection in a cell and marks it, if it is to be removed.
+#[tactic(auto, using(crate::proofs::Counts::counts))]
+fn mark_one(cells: &mut Slab<Cell>, marked: &mut Vec<usize>, key: usize, removal: &Removal)
+    requires { Marked cells.old marked.old }
+    ensures cells { (k : ℕ) → get cells.new k ≡ (if eqb k key then option_map (retired removal.now) (get cells.old k) else get cells.old k) }
+    ensures marked { Marked cells.new marked.new }
+{
+    if is_due(cells, key, removal) {
+        marked.push_reserved(key);
+        if let Some(cell) = cells.get_mut(key) {
+            cell.live = false;
+        }
+    }
+}
+
+fn is_due(cells: &Slab<Cell>, key: usize, removal: &Removal) -> bool
+    ensures { result ≡ is_due removal.now (get cells.now key) }
+{
+    match cells.get(key) {
+        None => false,
+        Some(cell) => cell.live && removal.fits(&cell.connection),
+    }
+}

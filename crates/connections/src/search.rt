@@ -1,0 +1,71 @@
+//! Searches in lists of places, whose numbers rise.
+
+ghost use Rattle.std.specs.Prelude.{◌≡◌, ℕ, ◌<◌, ◌≤◌, length, eqb, nat_lt, drop};
+ghost use Rattle.std.specs.List.{Contains, find, list_any};
+ghost use Rattle.connections.specs.Cells.{fits};
+ghost use Rattle.connections.specs.Places.{live, Rising, SplitsAt};
+ghost use Rattle.connections.specs.declared.place.Place.{Place as APlace};
+
+use crate::cell::{Cell, live_at};
+use crate::connection::Connection;
+use crate::place::Place;
+use crate::removing::Removal;
+use slab::Slab;
+
+/// How many places have lower numbers.
+fn from_number(places: &[Place], number: u64) -> usize
+    ensures within { result ≤ length places.now }
+    ensures split { (last : ℕ) → Rising 0 places.now last → SplitsAt places.now number result }
+{
+    places.partition_point(|p| p.number < number)
+}
+
+/// The places of at least this number.
+fn places_from(places: &[Place], number: u64) -> &[Place]
+    ensures { (last : ℕ) → Rising 0 places.now last → (i : ℕ) × (result.now ≡ drop i places.now) × SplitsAt places.now number i }
+{
+    &places[from_number(places, number)..]
+}
+
+/// The place of this number, if there is one.
+pub fn place_of_number(places: &[Place], number: u64) -> &[Place]
+    ensures { (last : ℕ) → Rising 0 places.now last → (p : APlace) → Contains places.now p → p.number ≡ number → Contains result.now p }
+{
+    let rest = places_from(places, number);
+    &rest[..rest.len().min(1)]
+}
+
+/// The first connection of the places that is numbered above `number`.
+pub fn next_above(cells: &Slab<Cell>, places: &[Place], number: u64) -> Option<Connection>
+    ensures { (last : ℕ) → Rising 0 places.now last → result ≡ find (λ c. nat_lt number c.number) (live cells.now places.now) }
+{
+    first_above(cells, places_from(places, number), number)
+}
+
+/// The same in any order of the places.
+fn first_above(cells: &Slab<Cell>, places: &[Place], number: u64) -> Option<Connection>
+    ensures { result ≡ find (λ c. nat_lt number c.number) (live cells.now places.now) }
+{
+    for place in places {
+        if let Some(c) = live_at(cells, place) {
+            if number < c.number {
+                return Some(c);
+            }
+        }
+    }
+    None
+}
+
+/// Whether one of the places leads to a connection that would be removed.
+pub fn lead_to_any(cells: &Slab<Cell>, places: &[Place], removal: &Removal) -> bool
+    ensures { result ≡ list_any (fits removal.now) (live cells.now places.now) }
+{
+    for place in places {
+        if let Some(c) = live_at(cells, place) {
+            if removal.fits(&c) {
+                return true;
+            }
+        }
+    }
+    false
+}
