@@ -1,0 +1,81 @@
+-- A write of one ring changes the loop at its place.
+use Rattle.std.proofs.Common.{◌≡◌, ℕ, zero, suc, ◌+◌, ◌≤◌, List, [], ◌∷◌, ◌++◌, length, map, None, Some, refl, arith, ap, sym, ◌∙◌, slice_get, Result, Ok, Err, OnErr}
+use Rattle.std.specs.declared.collections.VecDeque.{VecDeque}
+use Rattle.std.specs.Map.{values_of}
+use Rattle.std.proofs.lemmas.Option.{same_Some}
+use Rattle.indexmap.specs.IndexMap.{set_value_at}
+use Rattle.event_loops.specs.declared.item.Posted.{Posted}
+use Rattle.event_loops.specs.Queues.{Loop, items_at, change, with_items}
+use Rattle.event_loops.specs.Rings.{loop_of, loops_of}
+
+module _ {A : Type 0} where
+  pub change-ring : (f : List Posted → List Posted) (es : List (List ℕ × VecDeque Posted A)) (home : ℕ) (old new : VecDeque Posted A) → slice_get (values_of es) home ≡ Some old → new.items ≡ f old.items → loops_of (set_value_at es home new) ≡ change home (with_items f) (loops_of es)
+  change-ring f [] home old new at is = refl
+  change-ring f (e ∷ es) zero old new at is =
+      let this : e.1 ≡ old = same_Some _ _ at in
+      let now : new.items ≡ f (e.1).items = is ∙ ap (λ (v : VecDeque Posted A). f v.items) (sym this) in
+      ap (λ items. record { name = e.0; items = items } ∷ loops_of es) now
+  change-ring f (e ∷ es) (suc home) old new at is = ap (λ loops. loop_of e ∷ loops) (change-ring f es home old new at is)
+
+  pub same-ring : (es : List (List ℕ × VecDeque Posted A)) (home : ℕ) (old new : VecDeque Posted A) → slice_get (values_of es) home ≡ Some old → new.items ≡ old.items → loops_of (set_value_at es home new) ≡ loops_of es
+  same-ring [] home old new at is = refl
+  same-ring (e ∷ es) zero old new at is =
+      let now : new.items ≡ (e.1).items = is ∙ ap (λ (v : VecDeque Posted A). v.items) (sym (same_Some _ _ at)) in
+      ap (λ items. record { name = e.0; items = items } ∷ loops_of es) now
+  same-ring (e ∷ es) (suc home) old new at is = ap (λ loops. loop_of e ∷ loops) (same-ring es home old new at is)
+
+  pub items_at-ring : (es : List (List ℕ × VecDeque Posted A)) (home : ℕ) (old : VecDeque Posted A) → slice_get (values_of es) home ≡ Some old → items_at (loops_of es) home ≡ old.items
+  items_at-ring [] home old at = grind arith
+  items_at-ring (e ∷ es) zero old at = ap (λ (v : VecDeque Posted A). v.items) (same_Some _ _ at)
+  items_at-ring (e ∷ es) (suc home) old at = items_at-ring es home old at
+
+  -- where no loop is, nothing is and nothing changes
+  pub items_at-nowhere : (es : List (List ℕ × VecDeque Posted A)) (home : ℕ) → slice_get (values_of es) home ≡ None → items_at (loops_of es) home ≡ []
+  items_at-nowhere [] home at = refl
+  items_at-nowhere (e ∷ es) zero at = grind arith
+  items_at-nowhere (e ∷ es) (suc home) at = items_at-nowhere es home at
+
+  pub change-nowhere : (f : Loop → Loop) (es : List (List ℕ × VecDeque Posted A)) (home : ℕ) → slice_get (values_of es) home ≡ None → change home f (loops_of es) ≡ loops_of es
+  change-nowhere f [] home at = refl
+  change-nowhere f (e ∷ es) zero at = grind arith
+  change-nowhere f (e ∷ es) (suc home) at = ap (λ loops. loop_of e ∷ loops) (change-nowhere f es home at)
+
+  pub length-loops_of : (es : List (List ℕ × VecDeque Posted A)) → length (loops_of es) ≡ length es
+  length-loops_of [] = refl
+  length-loops_of (e ∷ es) = ap suc (length-loops_of es)
+
+  pub loops_of-append : (es fs : List (List ℕ × VecDeque Posted A)) → loops_of (es ++ fs) ≡ loops_of es ++ loops_of fs
+  loops_of-append [] fs = refl
+  loops_of-append (e ∷ es) fs = ap (λ loops. loop_of e ∷ loops) (loops_of-append es fs)
+
+-- ---- one place after another
+
+-- the first so many loops changed
+abbrev pub changed_to : ℕ → (Loop → Loop) → List Loop → List Loop
+changed_to n f [] = []
+changed_to zero f (l ∷ loops) = l ∷ loops
+changed_to (suc n) f (l ∷ loops) = f l ∷ changed_to n f loops
+
+pub change-changed : (n : ℕ) (f : Loop → Loop) (loops : List Loop) → change n f (changed_to n f loops) ≡ changed_to (suc n) f loops
+change-changed zero f [] = refl
+change-changed (suc n) f [] = refl
+change-changed zero f (l ∷ []) = refl
+change-changed zero f (l ∷ (m ∷ loops)) = refl
+change-changed (suc n) f (l ∷ loops) = ap (λ rest. f l ∷ rest) (change-changed n f loops)
+
+pub change-changed_to : (n : ℕ) (f : Loop → Loop) (loops : List Loop) → change n f (changed_to n f loops) ≡ changed_to (n + 1) f loops
+change-changed_to n f loops = let e : n + 1 ≡ suc n = omega arith in rw e (change-changed n f loops)
+
+pub changed_to-none : (f : Loop → Loop) (loops : List Loop) → changed_to 0 f loops ≡ loops
+changed_to-none f [] = refl
+changed_to-none f (l ∷ loops) = refl
+
+pub changed_to-all : (n : ℕ) (f : Loop → Loop) (loops : List Loop) → length loops ≤ n → changed_to n f loops ≡ map f loops
+changed_to-all n f [] h = refl
+changed_to-all zero f (l ∷ loops) h = absurd (omega (arith, h))
+changed_to-all (suc n) f (l ∷ loops) h = ap (λ rest. f l ∷ rest) (changed_to-all n f loops (omega (arith, h)))
+
+-- what holds at any rate holds after an error
+pub OnErr-always : {T E P : Type 0} (r : Result T E) → P → OnErr r P
+OnErr-always (Ok value) p = tt
+OnErr-always (Err error) p = p

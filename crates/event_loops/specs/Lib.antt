@@ -1,0 +1,3 @@
+pub mod Queues
+pub mod FaultNumbers
+pub mod Rings

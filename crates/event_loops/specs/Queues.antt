@@ -1,0 +1,94 @@
+-- The event loops with the items that wait in them, as plain lists (Qt 6, "Threads and QObjects": each thread has an event
+-- loop of its own, in which the objects live that are served by it).
+use Rattle.std.specs.Prelude.{◌≡◌, ℕ, zero, suc, ◌+◌, not, nat_lt, eqb, Bool, List, [], ◌∷◌, ◌++◌, map, filter, Option, Some, slice_get, codes, if◌then◌else◌}
+use Rattle.std.specs.Option.{option_map}
+use Rattle.event_loops.specs.declared.item.Item.{Item}
+use Rattle.event_loops.specs.declared.item.Item.TheVariants.{Call, Deletion}
+use Rattle.event_loops.specs.declared.item.Posted.{Posted}
+
+-- a loop with its items, in the order in which they were posted
+pub record Loop : Type 0 where
+  pub name : List ℕ
+  pub items : List Posted
+
+-- the loops in the order in which they were added, and how many items were ever posted
+pub record Queues : Type 0 where
+  pub loops : List Loop
+  pub posted : ℕ
+
+-- at first there is the loop `main`, and nothing was posted
+abbrev pub start : Queues
+start = record { loops = record { name = codes "main"; items = [] } ∷ []; posted = 0 }
+
+abbrev pub name_at : List Loop → ℕ → Option (List ℕ)
+name_at loops home = option_map (λ (l : Loop). l.name) (slice_get loops home)
+
+abbrev pub HasName : List Loop → List ℕ → ℕ → Type 0
+HasName loops name home = name_at loops home ≡ Some name
+
+-- some loop has the name
+abbrev pub IsTaken : List Loop → List ℕ → Type 0
+IsTaken loops name = (home : ℕ) × HasName loops name home
+
+-- the items of the loop at a place
+abbrev pub items_at : List Loop → ℕ → List Posted
+items_at [] home = []
+items_at (l ∷ loops) zero = l.items
+items_at (l ∷ loops) (suc home) = items_at loops home
+
+-- the loops with the one at a place changed; where there is none, nothing changes
+abbrev pub change : ℕ → (Loop → Loop) → List Loop → List Loop
+change home f [] = []
+change zero f (l ∷ loops) = f l ∷ loops
+change (suc home) f (l ∷ loops) = l ∷ change home f loops
+
+abbrev pub is_for : ℕ → Item → Bool
+is_for receiver (Call object method arguments) = eqb object receiver
+is_for receiver (Deletion object) = eqb object receiver
+
+-- posted before the item of this number
+abbrev pub is_before : ℕ → Posted → Bool
+is_before number p = nat_lt p.number number
+
+-- all but the first item that passes the test
+abbrev pub without_first : (Posted → Bool) → List Posted → List Posted
+without_first test [] = []
+without_first test (p ∷ items) = if test p then items else p ∷ without_first test items
+
+-- all but the items for an object
+abbrev pub none_for : ℕ → List Posted → List Posted
+none_for object items = filter (λ p. not (is_for object p.item)) items
+
+-- a loop with another list of items
+abbrev pub with_items : (List Posted → List Posted) → Loop → Loop
+with_items f l = record l { items = f l.items }
+
+-- a loop with an item more at its end, without the first item that was posted before the one of this number, and without
+-- the items for an object
+abbrev pub with_item : Posted → Loop → Loop
+with_item p l = with_items (λ items. items ++ p ∷ []) l
+
+abbrev pub without_first_before : ℕ → Loop → Loop
+without_first_before number l = with_items (without_first (is_before number)) l
+
+abbrev pub without_object : ℕ → Loop → Loop
+without_object object l = with_items (none_for object) l
+
+-- an item more, with the next number, in the loop at a place
+abbrev pub posted_to : ℕ → Item → Queues → Queues
+posted_to home item s = record {
+  loops = change home (with_item (record { number = s.posted + 1; item = item })) s.loops;
+  posted = s.posted + 1;
+}
+
+-- the first item that was posted before the one of this number leaves the loop at a place
+abbrev pub taken_before : ℕ → ℕ → Queues → Queues
+taken_before home number s = record s { loops = change home (without_first_before number) s.loops }
+
+-- the items for an object leave all loops
+abbrev pub dropped : ℕ → Queues → Queues
+dropped object s = record s { loops = map (without_object object) s.loops }
+
+-- a loop more, with no items, which comes last
+abbrev pub with_loop : List ℕ → Queues → Queues
+with_loop name s = record s { loops = s.loops ++ record { name = name; items = [] } ∷ [] }

@@ -1,0 +1,192 @@
+ghost use Rattle.std.specs.Prelude.{◌≡◌, ◌↔◌, ◌+◌, ◌-◌, ◌^◌, ◌<◌, ◌≤◌, Err, Some, [], ◌∷◌, ◌++◌, length, IfOk, OnOk, OnErr, MatchOption, map};
+ghost use Rattle.std.specs.List.{find};
+ghost use Rattle.std.specs.Option.{option_copied};
+ghost use Rattle.event_loops.specs.Queues.{start, name_at, items_at, HasName, IsTaken, change, is_before, with_item, without_first_before, without_object, posted_to, taken_before, dropped, with_loop};
+ghost use Rattle.event_loops.specs.Rings.{shown};
+ghost use Rattle.event_loops.specs.declared.fault.AddFault.TheVariants.{Exists};
+ghost use Rattle.event_loops.specs.declared.fault.PostFault.TheVariants.{NoLoop};
+
+use crate::fault::{AddFault, PostFault};
+use crate::item::{Item, Posted};
+use crate::queue::{push, remove_object, take_before};
+use indexmap::IndexMap;
+use signatures::{LoopId, Name, ObjectId};
+use std::alloc::{AllocError, Global};
+use std::collections::VecDeque;
+use std::marker::Model;
+
+/// The event loops in the order in which they were added, each with the items that wait in it, and how many items were
+/// ever posted. A loop is found by its name in time that doesn't grow with their number.
+#[derive(Drop)]
+pub struct Loops {
+    alloc: Global,
+    queues: IndexMap<Name, VecDeque<Posted>>,
+    posted: u64,
+}
+
+impl Model for Loops {
+    ghost use Rattle.event_loops.specs.Queues.{Queues};
+
+    ghost Value = { Queues };
+
+    ghost use Rattle.std.specs.Prelude.{◌<◌, ◌^◌};
+    ghost use Rattle.event_loops.specs.Rings.{shown};
+
+    ghost view = { λ l. record { loops = shown l.queues; posted = l.posted } };
+
+    ghost invariant = { λ l. l.posted < 2 ^ 63 };
+}
+
+impl Loops {
+    /// The loop `main`, in which nothing waits.
+    pub fn new(alloc: Global) -> Result<Loops, AllocError>
+        ensures { IfOk result (λ loops. loops ≡ start) }
+    {
+        let mut queues = IndexMap::new(alloc);
+        let main = Name::new(alloc, b"main")?;
+        queues.insert(main, VecDeque::new(alloc))?;
+        Ok(Loops {
+            alloc,
+            queues,
+            posted: 0,
+        })
+    }
+
+    /// The loop of this name.
+    pub fn find(&self, name: &Name) -> Option<LoopId>
+        ensures { MatchOption result (¬ IsTaken self.now.loops name.now) (HasName self.now.loops name.now) }
+    {
+        match self.queues.get_index_of(name) {
+            Some(place) => Some(LoopId::new(place)),
+            None => None,
+        }
+    }
+
+    /// The name of a loop, if the loop is there.
+    pub fn name(&self, home: LoopId) -> Option<&Name>
+        ensures { option_copied result ≡ name_at self.now.loops home }
+    {
+        match self.queues.get_index(home.number()) {
+            Some((name, _)) => Some(name),
+            None => None,
+        }
+    }
+
+    /// Adds a loop with no items; without memory nothing changes.
+    pub fn add(&mut self, name: &Name) -> Result<(), AddFault>
+        ensures added { OnOk result (self.new ≡ with_loop name.now self.old) }
+        ensures exists { (result ≡ Err Exists) ↔ IsTaken self.old.loops name.now }
+        ensures err { OnErr result (self.new ≡ self.old) }
+    {
+        match self.find(name) {
+            Some(_) => Err(AddFault::Exists),
+            None => {
+                self.append(name)?;
+                Ok(())
+            }
+        }
+    }
+
+    /// Adds a loop of a name that no loop has.
+    fn append(&mut self, name: &Name) -> Result<(), AllocError>
+        requires { ¬ IsTaken self.old.loops name.now }
+        ensures added { OnOk result (self.new ≡ with_loop name.now self.old) }
+        ensures err { OnErr result (self.new ≡ self.old) }
+    {
+        let name = name.copy()?;
+        self.queues.insert(name, VecDeque::new(self.alloc))?;
+        Ok(())
+    }
+
+    /// The number that the next item gets.
+    pub fn next_number(&self) -> u64
+        ensures { result ≡ self.now.posted + 1 }
+    {
+        self.posted + 1
+    }
+
+    /// Posts an item with the next number at the end of a loop; without memory nothing changes.
+    pub fn post(&mut self, home: LoopId, item: Item) -> Result<(), PostFault>
+        requires { self.old.posted < 2 ^ 63 - 1 }
+        ensures posted { OnOk result (self.new ≡ posted_to home item self.old) }
+        ensures no_loop { (result ≡ Err NoLoop) ↔ (length self.old.loops ≤ home) }
+        ensures err { OnErr result (self.new ≡ self.old) }
+    {
+        let posted = Posted {
+            number: self.posted + 1,
+            item,
+        };
+        push_at(&mut self.queues, home.number(), posted)?;
+        self.posted += 1;
+        Ok(())
+    }
+
+    /// Removes the first item of a loop that was posted before the one of this number, and gives it.
+    pub fn take_before(&mut self, home: LoopId, number: u64) -> Option<Posted>
+        ensures taken { result ≡ find (is_before number) (items_at self.old.loops home) }
+        ensures rest { self.new ≡ taken_before home number self.old }
+    {
+        take_at(&mut self.queues, home.number(), number)
+    }
+
+    /// Removes the items for an object from all loops.
+    pub fn drop_object(&mut self, object: ObjectId)
+        ensures { self.new ≡ dropped object self.old }
+    {
+        drop_in_each(&mut self.queues, object);
+    }
+}
+
+/// One more item at the end of the loop at a place.
+fn push_at(
+    queues: &mut IndexMap<Name, VecDeque<Posted>>,
+    home: usize,
+    posted: Posted,
+) -> Result<(), PostFault>
+    ensures pushed { OnOk result (shown queues.new ≡ change home (with_item posted) (shown queues.old)) }
+    ensures no_loop { (result ≡ Err NoLoop) ↔ (length queues.old.entries ≤ home) }
+    ensures err { OnErr result (shown queues.new ≡ shown queues.old) }
+{
+    match queues.get_index_mut(home) {
+        None => Err(PostFault::NoLoop),
+        Some(items) => {
+            push(items, posted)?;
+            Ok(())
+        }
+    }
+}
+
+/// Takes an item from the loop at a place, if there is such a loop.
+fn take_at(
+    queues: &mut IndexMap<Name, VecDeque<Posted>>,
+    home: usize,
+    number: u64,
+) -> Option<Posted>
+    ensures taken { result ≡ find (is_before number) (items_at (shown queues.old) home) }
+    ensures rest { shown queues.new ≡ change home (without_first_before number) (shown queues.old) }
+{
+    match queues.get_index_mut(home) {
+        None => None,
+        Some(items) => take_before(items, number),
+    }
+}
+
+/// Removes the items for an object from each loop.
+fn drop_in_each(queues: &mut IndexMap<Name, VecDeque<Posted>>, object: ObjectId)
+    ensures { shown queues.new ≡ map (without_object object) (shown queues.old) }
+{
+    for home in 0..queues.len() {
+        drop_at(queues, home, object);
+    }
+}
+
+/// Removes the items for an object from the loop at a place.
+fn drop_at(queues: &mut IndexMap<Name, VecDeque<Posted>>, home: usize, object: ObjectId)
+    ensures loops { shown queues.new ≡ change home (without_object object) (shown queues.old) }
+    ensures len { length queues.new.entries ≡ length queues.old.entries }
+{
+    match queues.get_index_mut(home) {
+        None => {}
+        Some(items) => remove_object(items, object),
+    }
+}
