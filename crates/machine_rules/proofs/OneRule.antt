@@ -16,7 +16,7 @@ use Rattle.machine_state.specs.Connections.{next_used}
 use Rattle.machine_state.specs.Objects.{shown}
 use Rattle.machine_state.specs.State.{State, Place, Activation, Body, Emit, Update}
 use Rattle.machine_rules.specs.Doings.{Doing, Write, Begin, Choose, Nothing}
-use Rattle.machine_rules.specs.Rules.{Rule, RuleAt, BodyRule, Does, EmitRule, Uses, UpdateRule, Notifies, Begins, Writes, IsNotified, changed, unchanged, silent, begun, pushed}
+use Rattle.machine_rules.specs.Rules.{Rule, RuleAt, BodyRule, Does, EmitRule, Uses, UpdateRule, Notifies, Begins, Writes, Changes, places_of, changed, unchanged, silent, begun, pushed}
 use Rattle.machine_rules.proofs.Fields.{some-is, method-unique, member-object, member-method, field-property}
 
 -- two methods of one number of one object's class
@@ -38,27 +38,26 @@ begins-one {s = s} {below = below} {o = o} {m = m} {arguments = arguments} a b =
     ∙ ap (λ (k : MetaMethod). begun s below o b.object m k arguments k.work) method_is
     ∙ sym b.gives
 
-notified-one : {old new : Value} {place : Place} {notify : Option ℕ} {ps qs : List Place} → IsNotified old new place notify ps → IsNotified old new place notify qs → ps ≡ qs
-notified-one (changed h) (changed g) = refl
-notified-one (changed h) (unchanged g) = absurd (h g)
-notified-one (unchanged h) (changed g) = absurd (g h)
-notified-one (unchanged h) (unchanged g) = refl
-notified-one silent silent = refl
+changes-one : {old new : Value} {notify a b : Option ℕ} → Changes old new notify a → Changes old new notify b → a ≡ b
+changes-one (changed h) (changed g) = refl
+changes-one (changed h) (unchanged g) = absurd (h g)
+changes-one (unchanged h) (changed g) = absurd (g h)
+changes-one (unchanged h) (unchanged g) = refl
+changes-one silent silent = refl
 
 pub writes-one : {p : Loaded} {s t u : State} {below : List Activation} {o q : ℕ} {new : Value} → Writes p s below o q new t → Writes p s below o q new u → t ≡ u
 writes-one {s = s} {below = below} {o = o} {q = q} {new = new} a b =
     let object_is : a.object ≡ b.object = some-is a.is.is_object b.is.is_object in
     let property_is : a.property ≡ b.property = field-property a.is b.is in
     let old_is : a.old ≡ b.old = value-is _ object_is a.is_old b.is_old in
-    let place : Place = record { object = o; property = q } in
-    let Of : Value → MetaProperty → Type 0 = λ v k. IsNotified v new place k.notify b.places in
-    let notified : Of a.old a.property = subst (λ (v : Value). Of v a.property) (sym old_is) (subst (λ (k : MetaProperty). Of b.old k) (sym property_is) b.notified) in
-    let places_are : a.places ≡ b.places = notified-one a.notified notified in
-    let state_of : Object → MetaProperty → List Place → State = λ x k ps. pushed (record s { objects = slice_set s.objects o (written q new x) }) (Update ps) below (λ d. At d (Written x.name k.name (shown s.objects new)) ∷ []) in
+    let Of : Value → MetaProperty → Type 0 = λ v k. Changes v new k.notify b.signal in
+    let changes : Of a.old a.property = subst (λ (v : Value). Of v a.property) (sym old_is) (subst (λ (k : MetaProperty). Of b.old k) (sym property_is) b.changes) in
+    let signal_is : a.signal ≡ b.signal = changes-one a.changes changes in
+    let state_of : Object → MetaProperty → Option ℕ → State = λ x k g. pushed (record s { objects = slice_set s.objects o (written q new x) }) (Update (places_of o q g)) below (λ d. At d (Written x.name k.name (shown s.objects new)) ∷ []) in
     a.gives
-    ∙ ap (λ (x : Object). state_of x a.property a.places) object_is
-    ∙ ap (λ (k : MetaProperty). state_of b.object k a.places) property_is
-    ∙ ap (λ (ps : List Place). state_of b.object b.property ps) places_are
+    ∙ ap (λ (x : Object). state_of x a.property a.signal) object_is
+    ∙ ap (λ (k : MetaProperty). state_of b.object k a.signal) property_is
+    ∙ ap (λ (g : Option ℕ). state_of b.object b.property g) signal_is
     ∙ sym b.gives
 
 does-one : (p : Loaded) (s : State) (o m : ℕ) (arguments : List Value) (rest : List Statement) (below : List Activation) (d : Doing) (t u : State) → Does p s o m arguments rest below d t → Does p s o m arguments rest below d u → t ≡ u

@@ -21,12 +21,11 @@ use Rattle.machine_state.specs.declared.world.World.{World}
 use Rattle.object_tree.specs.Objects.{written, class_of}
 use Rattle.machine_state.specs.Objects.{shown}
 use Rattle.machine_state.specs.State.{State, Activation, Update}
-use Rattle.machine_rules.specs.Rules as rules
-use Rattle.machine_rules.specs.Rules.{Writes, Notifies, IsNotified, begun}
+use Rattle.machine_rules.specs.Rules.{Writes, Notifies, Changes, changed, unchanged, silent, places_of, begun}
 use Rattle.machine_rules.specs.There.{IsMember, IsField}
 use Rattle.machine_rules.specs.Good.{AreTyped, ArgumentsFit, IsWell}
 use Rattle.machine_state.specs.Worlds.{at, set_in}
-use Rattle.machine_rules.specs.Reaches.{Reaches, StopsIn, Ends, Calls, Sets, Announces, MayAnnounce, places_of, Changes, changed, unchanged, silent}
+use Rattle.machine_rules.specs.Reaches.{Reaches, StopsIn, Ends, Calls, Sets, Announces, MayAnnounce}
 use Rattle.machine_rules.proofs.Reaching.{reaches-high, ends-after, ends-lifted, not-idle, stops-deep, stops-ill, stops-stuck}
 use Rattle.machine_rules.proofs.Fields.{some-is, class-unique, method-unique, typed-written, written-typed, field-written, old-there, types-get, map-get, kind_of}
 use Rattle.machine_rules.specs.Sound.{Sound}
@@ -36,11 +35,6 @@ use Rattle.machine_rules.proofs.Shapes.{shapes-written}
 use Rattle.machine_rules.specs.Active.{shows}
 
 -- ---- writes
-
-pub notified : {old new : Value} (o q : ℕ) {notify result : Option ℕ} → Changes old new notify result → IsNotified old new (record { object = o; property = q }) notify (places_of o q result)
-notified o q (changed h) = rules.changed h
-notified o q (unchanged h) = rules.unchanged h
-notified o q silent = rules.silent
 
 -- the world in which the property is written
 abbrev pub written_world : World → ℕ → ℕ → Object → ℕ → MetaProperty → Value → World
@@ -56,8 +50,8 @@ writes-there {o = o} {q = q} {x = x} {property = property} {new = new} {old = ol
       is = f;
       old = old;
       is_old = is_old;
-      places = places_of o q result;
-      notified = notified o q changes;
+      signal = result;
+      changes = changes;
       gives = ap with_depth depth_is;
     }
 

@@ -1,5 +1,5 @@
 -- What a call of the machine's code does, whatever activations are below (docs/machine.md, "Runs").
-use Rattle.std.specs.Prelude.{◌≡◌, ◌≢◌, ℕ, ◌+◌, ◌<◌, ◌≤◌, ◌⊎◌, List, [], ◌∷◌, ◌++◌, length, Result, Ok, Err, MatchResult, Bool, Option, Some, None}
+use Rattle.std.specs.Prelude.{◌≡◌, ◌≢◌, ℕ, ◌+◌, ◌<◌, ◌≤◌, ◌⊎◌, List, ◌++◌, length, Result, Ok, Err, MatchResult, Bool, Option, Some, None}
 use Rattle.meta_model.specs.Loaded.{Loaded}
 use Rattle.signatures.specs.declared.value.Value.{Value}
 use Rattle.signatures.specs.declared.value.Value.TheVariants as value
@@ -19,7 +19,7 @@ use Rattle.machine_state.specs.declared.fault.Fault.{Fault}
 use Rattle.machine_state.specs.declared.fault.Fault.TheVariants.{TooDeep, Memory}
 use Rattle.machine_state.specs.declared.world.World.{World}
 use Rattle.machine_state.specs.Connections.{is_silent}
-use Rattle.machine_state.specs.State.{State, Place, Activation, Body, Emit, IsIdle}
+use Rattle.machine_state.specs.State.{State, Activation, Body, Emit, IsIdle}
 use Rattle.machine_state.specs.Objects.{all_shown}
 use Rattle.machine_rules.specs.Rules.{Rule, Begins, Writes}
 use Rattle.machine_rules.specs.There.{IsMember, IsField}
@@ -108,17 +108,6 @@ pub record IsBegun (p : Loaded) (depth : ℕ) (shown : List (Option ℕ)) (w : W
 -- why a method that fits doesn't begin: activations would nest too deep, or memory was refused
 abbrev pub IsBarred : ℕ → List (Option ℕ) → Fault → Type 0
 IsBarred depth shown fault = (depth ≤ length shown) × (fault ≡ TooDeep) ⊎ (fault ≡ Memory)
-
--- what is still to be notified of a property: nothing, or this signal of it
-abbrev pub places_of : ℕ → ℕ → Option ℕ → List Place
-places_of o q None = []
-places_of o q (Some signal) = record { object = o; property = q } ∷ []
-
--- the notify signal, if there is one and the value has changed
-pub data Changes (old new : Value) : Option ℕ → Option ℕ → Type 0 where
-  changed : {signal : ℕ} → old ≢ new → Changes old new (Some signal) (Some signal)
-  unchanged : {signal : ℕ} → old ≡ new → Changes old new (Some signal) None
-  silent : Changes old new None None
 
 -- the signal is the notify signal of an object's property
 pub record Announces (p : Loaded) (objects : List Object) (o q signal : ℕ) : Type 0 where

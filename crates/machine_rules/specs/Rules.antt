@@ -42,11 +42,16 @@ pub record Begins (p : Loaded) (s : State) (below : List Activation) (o m : ℕ)
 
 -- ---- writing a property (Qt 6, "The Property System": a notify signal is emitted when the value has changed)
 
--- what is to be notified when a property that has this notify signal, if any, is written
-pub data IsNotified (old new : Value) (place : Place) : Option ℕ → List Place → Type 0 where
-  changed : {signal : ℕ} → old ≢ new → IsNotified old new place (Some signal) (place ∷ [])
-  unchanged : {signal : ℕ} → old ≡ new → IsNotified old new place (Some signal) []
-  silent : IsNotified old new place None []
+-- the signal to be emitted when a property is written: its notify signal, if it has one and the value has changed
+pub data Changes (old new : Value) : Option ℕ → Option ℕ → Type 0 where
+  changed : {signal : ℕ} → old ≢ new → Changes old new (Some signal) (Some signal)
+  unchanged : {signal : ℕ} → old ≡ new → Changes old new (Some signal) None
+  silent : Changes old new None None
+
+-- what is still to be notified of a property: nothing, or this signal of it
+abbrev pub places_of : ℕ → ℕ → Option ℕ → List Place
+places_of o q None = []
+places_of o q (Some signal) = record { object = o; property = q } ∷ []
 
 -- a property is written, and what is to be notified is pushed
 pub record Writes (p : Loaded) (s : State) (below : List Activation) (o q : ℕ) (new : Value) (t : State) : Type 0 where
@@ -55,9 +60,9 @@ pub record Writes (p : Loaded) (s : State) (below : List Activation) (o q : ℕ)
   pub is : IsField p s.objects o q object property
   pub old : Value
   pub is_old : slice_get object.values q ≡ Some old
-  pub places : List Place
-  pub notified : IsNotified old new (record { object = o; property = q }) property.notify places
-  pub gives : t ≡ pushed (record s { objects = slice_set s.objects o (written q new object) }) (Update places) below
+  pub signal : Option ℕ
+  pub changes : Changes old new property.notify signal
+  pub gives : t ≡ pushed (record s { objects = slice_set s.objects o (written q new object) }) (Update (places_of o q signal)) below
       (λ d. At d (happening.Written object.name property.name (shown s.objects new)) ∷ [])
 
 -- the notify signal of a property is emitted, with its present value if the signal has a parameter

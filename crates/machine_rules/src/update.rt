@@ -6,7 +6,8 @@ ghost use Rattle.signatures.specs.declared.value.Value.{Value as AValue};
 ghost use Rattle.machine_rules.specs.Sound.{Sound};
 ghost use Rattle.machine_state.specs.State.{Activation, Update};
 ghost use Rattle.machine_rules.specs.Active.{shows};
-ghost use Rattle.machine_rules.specs.Reaches.{Ends, Sets, Announces, MayAnnounce, places_of, Changes};
+ghost use Rattle.machine_rules.specs.Reaches.{Ends, Sets, Announces, MayAnnounce};
+ghost use Rattle.machine_rules.specs.Rules.{Changes, places_of};
 
 use crate::active::Active;
 use crate::setting::{Setting, front};

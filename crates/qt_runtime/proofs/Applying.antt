@@ -13,14 +13,14 @@ use Rattle.machine_state.specs.Worlds.{at}
 use Rattle.qt_runtime.proofs.Running.{runs-trans}
 
 pub completes-none : {a : Seen} → a.stopped ≡ false → Completes a [] a
-completes-none went = record { went = went; same = refl; runs = done }
+completes-none went = record { went = went; same = refl; whole = record { runs = done; ends = record { empty = refl } } }
 
 -- a run goes on where another came
 pub completes-then : {a b c : Seen} {es fs : List Event} → Completes a es b → Completes b fs c → Completes a (es ++ fs) c
 completes-then {a} {b} {c} {es} {fs} x y =
     let Family : Seen → Type 0 = λ s. Completes s fs c in
     let z : Completes (record a { world = b.world }) fs c = subst Family x.same y in
-    record { went = x.went; same = z.same; runs = runs-trans x.runs z.runs }
+    record { went = x.went; same = z.same; whole = record { runs = runs-trans x.whole.runs z.whole.runs; ends = z.whole.ends } }
 
 pub halts-after : {a b c : Seen} {f : Fault} {es fs : List Event} → Completes a es b → Halts b fs f c → Halts a (es ++ fs) f c
 halts-after {a} {b} {c} {f} {es} {fs} x y =
@@ -29,11 +29,13 @@ halts-after {a} {b} {c} {f} {es} {fs} x y =
     record {
       went = x.went;
       same = z.same;
-      taken = es ++ z.taken;
-      rest = z.rest;
-      split = ap (λ (l : List Event). es ++ l) z.split ∙ sym (append_assoc es z.taken z.rest);
       stack = z.stack;
-      runs = runs-trans x.runs z.runs;
+      front = record {
+        taken = es ++ z.front.taken;
+        rest = z.front.rest;
+        split = ap (λ (l : List Event). es ++ l) z.front.split ∙ sym (append_assoc es z.front.taken z.front.rest);
+        runs = runs-trans x.whole.runs z.front.runs;
+      };
       cause = z.cause;
     }
 
@@ -64,12 +66,14 @@ pub halts-more : {a c : Seen} {f : Fault} {es : List Event} (more : List Event) 
 halts-more {a} {c} {f} {es} more x = record {
   went = x.went;
   same = x.same;
-  taken = x.taken;
-  rest = x.rest ++ more;
-  split = ap (λ (l : List Event). l ++ more) x.split ∙ append_assoc x.taken x.rest more;
   stack = x.stack;
-  runs = x.runs;
-  cause = cause-more a.program a.depth c.world.left (at c.world x.stack) x.rest more f x.cause;
+  front = record {
+    taken = x.front.taken;
+    rest = x.front.rest ++ more;
+    split = ap (λ (l : List Event). l ++ more) x.front.split ∙ append_assoc x.front.taken x.front.rest more;
+    runs = x.front.runs;
+  };
+  cause = cause-more a.program a.depth c.world.left (at c.world x.stack) x.front.rest more f x.cause;
 }
 
 -- where a run completed the machine has not stopped

@@ -23,21 +23,21 @@ seen p depth w stopped = record { program = p; depth = depth; world = w; stopped
 module _ {p : Loaded} {depth : ℕ} {w v : World} {e : Event} {went stopped : Bool} where
   -- what `take_event` did, as what `apply` does
   pub applied-done : (r : Result Answer Fault) → Took p depth w e v r → went ≡ false → stopped ≡ is_err r → OnDone r (Accepts (seen p depth w went) e (seen p depth v stopped))
-  applied-done (Ok answer.Done) took goes is = record { completes = record { went = goes; same = ap (λ (b : Bool). seen p depth v b) (is ∙ sym goes); runs = took.cases.0.runs }; accepted = took.cases.1 }
+  applied-done (Ok answer.Done) took goes is = record { completes = record { went = goes; same = ap (λ (b : Bool). seen p depth v b) (is ∙ sym goes); whole = took.cases.0 }; accepted = took.cases.1 }
   applied-done (Ok (answer.Refused n)) took goes is = tt
   applied-done (Err f) took goes is = tt
 
   pub applied-refused : (r : Result Answer Fault) → Took p depth w e v r → went ≡ false → stopped ≡ is_err r → OnRefused r (λ n. Refuses (seen p depth w went) e n (seen p depth v stopped))
   applied-refused (Ok answer.Done) took goes is = tt
-  applied-refused (Ok (answer.Refused n)) took goes is = record { completes = record { went = goes; same = ap (λ (b : Bool). seen p depth v b) (is ∙ sym goes); runs = took.cases.0.runs }; refused = took.cases.1 }
+  applied-refused (Ok (answer.Refused n)) took goes is = record { completes = record { went = goes; same = ap (λ (b : Bool). seen p depth v b) (is ∙ sym goes); whole = took.cases.0 }; refused = took.cases.1 }
   applied-refused (Err f) took goes is = tt
 
   pub applied-stopped : (r : Result Answer Fault) → IsSound p → Sound p w.objects w.connections → Took p depth w e v r → went ≡ false → stopped ≡ is_err r → IfErr r (λ f. Halts (seen p depth w went) (e ∷ []) f (seen p depth v stopped) ⊎ Stays (seen p depth w went) f (seen p depth v stopped))
   applied-stopped (Ok x) sound whole took goes is = tt
   applied-stopped (Err f) sound whole took goes is =
       let halted = took.cases in
-      let up = runs-invariant sound halted.runs (invariant-at w whole) in
-      inl (record { went = goes; same = ap (λ (b : Bool). seen p depth v b) is; taken = halted.taken; rest = halted.rest; split = halted.split; stack = halted.stack; runs = halted.runs; cause = cause-of sound up depth v.left halted.rest f halted.reason })
+      let up = runs-invariant sound halted.front.runs (invariant-at w whole) in
+      inl (record { went = goes; same = ap (λ (b : Bool). seen p depth v b) is; stack = halted.stack; front = halted.front; cause = cause-of sound up depth v.left halted.front.rest f halted.reason })
 
 -- an event that was answered is taken
 pub completes-of : {a b : Seen} {e : Event} (x : Answer) → OnDone (Ok x) (Accepts a e b) → OnRefused (Ok x) (λ n. Refuses a e n b) → Completes a (e ∷ []) b

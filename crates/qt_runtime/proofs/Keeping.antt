@@ -86,4 +86,4 @@ keeps-run {w = w} sound keeps runs =
 
 pub keeps-took : {p : Loaded} {d : ℕ} {w v : World} {e : Event} (r : Result Answer Fault) → IsSound p → WorldInvariant p w → Took p d w e v r → WorldInvariant p v
 keeps-took (Ok a) sound keeps took = keeps-run sound keeps took.cases.0.runs
-keeps-took (Err f) sound keeps took = keeps-run sound keeps took.cases.runs
+keeps-took (Err f) sound keeps took = keeps-run sound keeps took.cases.front.runs

@@ -1,5 +1,5 @@
--- For one list of events there is one run.
-use Rattle.std.proofs.Common.{◌≡◌, ℕ, suc, List, [], ◌∷◌, refl, sym, subst}
+-- For one list of events there is one run: of two of them one goes on where the other ends.
+use Rattle.std.proofs.Common.{◌≡◌, ◌⊎◌, inl, inr, ℕ, suc, List, [], ◌∷◌, ◌++◌, refl, sym, ap, ◌∙◌, subst}
 use Rattle.script_lang.specs.declared.event.Event.{Event}
 use Rattle.meta_model.specs.Loaded.{Loaded}
 use Rattle.meta_model.specs.Sound.{IsSound}
@@ -7,25 +7,31 @@ use Rattle.machine_state.specs.State.{State, IsIdle, Activation}
 use Rattle.machine_rules.specs.Rules.{Rule, RuleAt}
 use Rattle.machine_rules.specs.Runs as of_rules
 use Rattle.machine_rules.proofs.OneRule.{rule-one}
-use Rattle.qt_runtime.specs.Laws.{OneRun}
+use Rattle.machine_rules.specs.Good.{IsGood}
+use Rattle.qt_runtime.specs.Laws.{OneRun, OneFront}
 use Rattle.qt_runtime.specs.Runs.{Runs, done, rules, takes}
 use Rattle.qt_runtime.specs.Takes.{Takes, accepts, refuses}
 use Rattle.qt_runtime.proofs.OneTaking.{one_taking}
 
 -- a run cut into its single steps
-data Steps (p : Loaded) : State → ℕ → List Event → State → ℕ → Type 0 where
-  end : {s : State} {n : ℕ} → Steps p s n [] s n
-  rule : {s m t : State} {n k : ℕ} {es : List Event} → Rule p s m → Steps p m n es t k → Steps p s (suc n) es t k
-  take : {s m t : State} {n k : ℕ} {e : Event} {es : List Event} → Takes p e s m → Steps p m n es t k → Steps p s (suc n) (e ∷ es) t k
+data Steps (p : Loaded) (d : ℕ) : State → ℕ → List Event → State → ℕ → Type 0 where
+  end : {s : State} {n : ℕ} → Steps p d s n [] s n
+  rule : {s m t : State} {n k : ℕ} {es : List Event} → Rule p s m → IsGood p d s m → Steps p d m n es t k → Steps p d s (suc n) es t k
+  take : {s m t : State} {n k : ℕ} {e : Event} {es : List Event} → Takes p e s m → IsGood p d s m → Steps p d m n es t k → Steps p d s (suc n) (e ∷ es) t k
 
-with-rules : {p : Loaded} {d : ℕ} {s m t : State} {n j k : ℕ} {es : List Event} → of_rules.Rules p d s n m j → Steps p m j es t k → Steps p s n es t k
+with-rules : {p : Loaded} {d : ℕ} {s m t : State} {n j k : ℕ} {es : List Event} → of_rules.Rules p d s n m j → Steps p d m j es t k → Steps p d s n es t k
 with-rules of_rules.done rest = rest
-with-rules (of_rules.then x ok more) rest = rule x (with-rules more rest)
+with-rules (of_rules.then x ok more) rest = rule x ok (with-rules more rest)
 
-steps-of : {p : Loaded} {d : ℕ} {s t : State} {n k : ℕ} {es : List Event} → Runs p d s n es t k → Steps p s n es t k
+steps-of : {p : Loaded} {d : ℕ} {s t : State} {n k : ℕ} {es : List Event} → Runs p d s n es t k → Steps p d s n es t k
 steps-of done = end
 steps-of (rules x rest) = with-rules x (steps-of rest)
-steps-of (takes x ok rest) = take x (steps-of rest)
+steps-of (takes x ok rest) = take x ok (steps-of rest)
+
+runs-of : {p : Loaded} {d : ℕ} {s t : State} {n k : ℕ} {es : List Event} → Steps p d s n es t k → Runs p d s n es t k
+runs-of end = done
+runs-of (rule x ok rest) = rules (of_rules.then x ok of_rules.done) (runs-of rest)
+runs-of (take x ok rest) = takes x ok (runs-of rest)
 
 -- nothing follows by a rule where nothing is going on
 no-rule : (p : Loaded) (s t : State) → IsIdle s → Rule p s t → ⊥
@@ -36,20 +42,65 @@ taken-idle : {p : Loaded} {e : Event} {s t : State} → Takes p e s t → IsIdle
 taken-idle (accepts idle x) = idle
 taken-idle (refuses r idle x) = idle
 
-one-end : {p : Loaded} {s t u : State} {n j k : ℕ} {es : List Event} → IsSound p → Steps p s n es t j → IsIdle t → Steps p s n es u k → IsIdle u → (t ≡ u) × (j ≡ k)
-one-end sound end f end g = (refl, refl)
-one-end {p} {s} sound end f (rule {m = b} y ys) g = absurd (no-rule p s b f y)
-one-end {p} {s} sound (rule {m = a} x xs) f end g = absurd (no-rule p s a g x)
-one-end {p} {s} {t} {u} {j = j} {k = k} sound (rule {m = a} {n = n} {es = es} x xs) f (rule {m = b} y ys) g =
-    let same : a ≡ b = rule-one p s a b x y in
-    let From : State → Type 0 = λ m. Steps p m n es u k in
-    one-end sound xs f (subst From (sym same) ys) g
-one-end {p} {s} sound (rule {m = a} x xs) f (take y ys) g = absurd (no-rule p s a (taken-idle y) x)
-one-end {p} {s} sound (take x xs) f (rule {m = b} y ys) g = absurd (no-rule p s b (taken-idle x) y)
-one-end {p} {s} {t} {u} {j = j} {k = k} sound (take {m = a} {n = n} {e = e} {es = es} x xs) f (take {m = b} y ys) g =
-    let same : a ≡ b = one_taking p e s a b sound x y in
-    let From : State → Type 0 = λ m. Steps p m n es u k in
-    one-end sound xs f (subst From (sym same) ys) g
+-- ---- fronts
+
+-- a list with nothing but itself in front has nothing more
+nothing-more : (es more : List Event) → es ≡ es ++ more → more ≡ []
+nothing-more [] more e = sym e
+nothing-more (x ∷ es) more e = let rest : es ≡ es ++ more = cc e in nothing-more es more rest
+
+-- one run goes on where another ends
+record Leads (p : Loaded) (d : ℕ) (first : List Event) (t : State) (j : ℕ) (second : List Event) (u : State) (k : ℕ) : Type 0 where
+  pub more : List Event
+  pub taken : second ≡ first ++ more
+  pub runs : Runs p d t j more u k
+
+leads-by : {p : Loaded} {d : ℕ} {first second : List Event} {t u : State} {j k : ℕ} {e f : Event} → e ≡ f → Leads p d first t j second u k → Leads p d (e ∷ first) t j (f ∷ second) u k
+leads-by {first = first} {e = e} {f = f} same x =
+    record { more = x.more; taken = ap (λ (l : List Event). f ∷ l) x.taken ∙ ap (λ (y : Event). y ∷ first ++ x.more) (sym same); runs = x.runs }
+
+fronts : {p : Loaded} {d : ℕ} {s t u : State} {n j k : ℕ} {a b : List Event} (x y : List Event) → IsSound p → a ++ x ≡ b ++ y → Steps p d s n a t j → Steps p d s n b u k → Leads p d a t j b u k ⊎ Leads p d b u k a t j
+fronts {b = b} x y sound same end g = inl (record { more = b; taken = refl; runs = runs-of g })
+fronts {a = a} x y sound same (rule r ok f) end = inr (record { more = a; taken = refl; runs = runs-of (rule r ok f) })
+fronts {a = a} x y sound same (take r ok f) end = inr (record { more = a; taken = refl; runs = runs-of (take r ok f) })
+fronts {p} {d} {s} {u = u} {k = k} {b = b} x y sound same (rule {m = l} {n = n} r ok f) (rule {m = m} q fine g) =
+    let one : l ≡ m = rule-one p s l m r q in
+    let From : State → Type 0 = λ z. Steps p d z n b u k in
+    fronts x y sound same f (subst From (sym one) g)
+fronts {p} {d} {s} x y sound same (rule {m = l} r ok f) (take q fine g) = absurd (no-rule p s l (taken-idle q) r)
+fronts {p} {d} {s} x y sound same (take r ok f) (rule {m = m} q fine g) = absurd (no-rule p s m (taken-idle r) q)
+fronts {p} {d} {s} {u = u} {k = k} x y sound same (take {m = l} {n = n} {e = e} {es = es} r ok f) (take {m = m} {e = i} {es = is} q fine g) =
+    let first : e ≡ i = cc same in
+    let others : es ++ x ≡ is ++ y = cc same in
+    let At : Event → Type 0 = λ z. Takes p z s m in
+    let one : l ≡ m = one_taking p e s l m sound r (subst At (sym first) q) in
+    let From : State → Type 0 = λ z. Steps p d z n is u k in
+    elim (fronts x y sound others f (subst From (sym one) g)) [
+      | inl leads ↦ inl (leads-by first leads)
+      | inr leads ↦ inr (leads-by (sym first) leads)
+    ]
+
+pub one_front : OneFront
+one_front p depth s n events t u j k sound a b =
+    elim (fronts a.rest b.rest sound (sym a.split ∙ b.split) (steps-of a.runs) (steps-of b.runs)) [
+      | inl leads ↦ inl (record { more = leads.more; taken = leads.taken; runs = leads.runs })
+      | inr leads ↦ inr (record { more = leads.more; taken = leads.taken; runs = leads.runs })
+    ]
+
+-- ---- whole runs
+
+-- nothing leads on from where nothing is going on and no event is left
+stays : {p : Loaded} {d : ℕ} {t u : State} {j k : ℕ} {es : List Event} → es ≡ [] → IsIdle t → Steps p d t j es u k → (t ≡ u) × (j ≡ k)
+stays none idle end = (refl, refl)
+stays {p} {t = t} none idle (rule {m = m} r ok rest) = absurd (no-rule p t m idle r)
+stays none idle (take r ok rest) = absurd (cc none)
+
+one-end : {p : Loaded} {d : ℕ} {t u : State} {j k : ℕ} {es : List Event} → Leads p d es t j es u k → IsIdle t → (t ≡ u) × (j ≡ k)
+one-end {es = es} x idle = stays (nothing-more es x.more x.taken) idle (steps-of x.runs)
 
 pub one_run : OneRun
-one_run p depth s n events t u j k sound a b = one-end sound (steps-of a.runs) a.ends (steps-of b.runs) b.ends
+one_run p depth s n events t u j k sound a b =
+    elim (fronts [] [] sound refl (steps-of a.runs) (steps-of b.runs)) [
+      | inl leads ↦ one-end leads a.ends
+      | inr leads ↦ (let back = one-end leads b.ends in (sym back.0, sym back.1))
+    ]

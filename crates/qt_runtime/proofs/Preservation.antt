@@ -24,7 +24,7 @@ use Rattle.machine_state.specs.Worlds.{main}
 use Rattle.machine_rules.specs.Doings.{Doing, Write, Begin, Choose, Nothing, doing}
 use Rattle.qt_runtime.proofs.Choosing.{block-sound}
 use Rattle.machine_state.specs.State.{State, IsIdle, Place, Activation, Body, Emit, Update}
-use Rattle.machine_rules.specs.Rules.{Rule, RuleAt, BodyRule, Does, EmitRule, UpdateRule, Begins, Writes, IsNotified, changed, unchanged, silent, begun}
+use Rattle.machine_rules.specs.Rules.{Rule, RuleAt, BodyRule, Does, EmitRule, UpdateRule, Begins, Writes, Changes, places_of, changed, unchanged, silent, begun}
 use Rattle.machine_state.specs.Connections.{next_used}
 use Rattle.signatures.specs.declared.sig.Sig.{Sig}
 use Rattle.signatures.specs.Types.{Fits}
@@ -166,7 +166,7 @@ module _ {p : Loaded} {s t : State} (sound : IsSound p) (well : IsWell p s t) wh
   begins-stands : {below : List Activation} {o m : ℕ} {arguments : List Value} → Begins p s below o m arguments t → length s.stack < suc (length below) → AllByRecursion (Stands p s.objects) below → AllStand p t
   begins-stands {below} {o} {m} {arguments} b higher lower = begun-stands p s below o b.object m b.method arguments b.method.work t sound b.is refl b.gives higher well lower
 
-  notified-stands : {objects : List Object} {old new : Value} {place : Place} {x : Object} {property : MetaProperty} {notify : Option ℕ} {places : List Place} → IsField p objects place.object place.property x property → property.notify ≡ notify → IsNotified old new place notify places → AllByRecursion (PlaceStands p objects) places
+  notified-stands : {objects : List Object} {old new : Value} {o q : ℕ} {x : Object} {property : MetaProperty} {notify signal : Option ℕ} → IsField p objects o q x property → property.notify ≡ notify → Changes old new notify signal → AllByRecursion (PlaceStands p objects) (places_of o q signal)
   notified-stands {x = x} {property = property} f e (changed {signal = signal} h) = (record { object = x; property = property; is = f; signal = signal; notifies = e }, tt)
   notified-stands f e (unchanged h) = tt
   notified-stands f e silent = tt
@@ -174,7 +174,7 @@ module _ {p : Loaded} {s t : State} (sound : IsSound p) (well : IsWell p s t) wh
   writes-stands : {below : List Activation} {o q : ℕ} {new : Value} → Writes p s below o q new t → AllByRecursion (Stands p s.objects) below → AllStand p t
   writes-stands {below} {o} {q} {new} w lower =
       let after : List Object = slice_set s.objects o (written q new w.object) in
-      let places : AllByRecursion (PlaceStands p after) w.places = notified-stands (field-written new w.is) refl w.notified in
+      let places : AllByRecursion (PlaceStands p after) (places_of o q w.signal) = notified-stands (field-written new w.is) refl w.changes in
       let Family : State → Type 0 = λ u. AllStand p u in
       subst Family (sym w.gives) (places, all-weaken (Stands p s.objects) (Stands p after) below (stands-still p s.objects after (same-stay s.objects after (shapes-written s.objects o w.object q new w.is.is_object))) lower)
 

@@ -21,7 +21,7 @@ use Rattle.machine_state.specs.declared.fault.Fault.TheVariants.{BadType, TooDee
 use Rattle.object_tree.specs.declared.object.Object.{Object}
 use Rattle.machine_rules.specs.Paths.{path_value, value_of, values_of}
 use Rattle.machine_state.specs.State.{State, Place, Activation, Body, Emit, Update}
-use Rattle.machine_rules.specs.Rules.{RuleAt, StatementRule, Does, EmitRule, UpdateRule, Begins, Writes, IsNotified, changed, unchanged, silent}
+use Rattle.machine_rules.specs.Rules.{RuleAt, StatementRule, Does, EmitRule, UpdateRule, Begins, Writes, Changes, changed, unchanged, silent}
 use Rattle.machine_rules.specs.Doings.{Doing, Write, Begin, Choose, Nothing, on_object, chosen_by, doing}
 use Rattle.machine_state.specs.Connections.{is_next}
 use Rattle.machine_state.specs.Connections.{next_used}
@@ -37,11 +37,11 @@ use Rattle.qt_runtime.proofs.Preservation.{BodyStands, PlaceStands, Stands, Inva
 use Rattle.machine_rules.specs.Sound.{Joined}
 
 -- whether the value has changed or not, something may be notified
-notified-somehow : (old new : Value) (place : Place) (notify : Option ℕ) → ((places : List Place) → ¬ IsNotified old new place notify places) → ⊥
-notified-somehow old new place None none = none [] silent
-notified-somehow old new place (Some signal) none =
-    let differs : old ≢ new = λ same. none [] (unchanged same) in
-    none (place ∷ []) (changed differs)
+notified-somehow : (old new : Value) (notify : Option ℕ) → ((signal : Option ℕ) → ¬ Changes old new notify signal) → ⊥
+notified-somehow old new None none = none None silent
+notified-somehow old new (Some signal) none =
+    let differs : old ≢ new = λ same. none None (unchanged same) in
+    none (Some signal) (changed differs)
 
 module _ {p : Loaded} {s : State} (sound : IsSound p) (up : Invariant p s) where
   -- a property that is there may be written
@@ -50,7 +50,7 @@ module _ {p : Loaded} {s : State} (sound : IsSound p) (up : Invariant p s) where
       let own = property-below sound beneath is in
       let field : IsField p s.objects o q x property = record { is_object = there; class = own.class; is_class = own.is_class; is_property = own.is } in
       let old = old-there field up.sound.typed in
-      notified-somehow old.0 new (record { object = o; property = q }) property.notify (λ places notified. none _ (record { object = x; property = property; is = field; old = old.0; is_old = old.1; places = places; notified = notified; gives = refl }))
+      notified-somehow old.0 new property.notify (λ signal changes. none _ (record { object = x; property = property; is = field; old = old.0; is_old = old.1; signal = signal; changes = changes; gives = refl }))
 
   -- a method that is there may begin
   no-begin : {o m c : ℕ} {x : Object} {method : MetaMethod} {arguments : List Value} {below : List Activation} → slice_get s.objects o ≡ Some x → Below p x.class c → IsMethod p c m method → ((t : State) → ¬ Begins p s below o m arguments t) → ⊥

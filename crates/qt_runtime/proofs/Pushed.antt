@@ -25,14 +25,13 @@ use Rattle.machine_state.specs.Worlds.{at, after}
 use Rattle.machine_state.proofs.Found.{change-there}
 use Rattle.qt_runtime.specs.Takes.{judged, accepts}
 use Rattle.machine_rules.specs.There.{IsField}
-use Rattle.machine_rules.specs.Reaches.{Ends, begin_entry, top_of, IsBegun, IsBarred, Changes, places_of}
+use Rattle.machine_rules.specs.Reaches.{Ends, begin_entry, top_of, IsBegun, IsBarred}
 use Rattle.machine_rules.specs.Good.{AreTyped, ArgumentsFit, TopFits}
-use Rattle.machine_rules.specs.Rules.{begun}
+use Rattle.machine_rules.specs.Rules.{begun, Changes, places_of}
 use Rattle.machine_rules.proofs.Beginning.{top-fits}
 use Rattle.machine_rules.proofs.Fields.{typed-written}
 use Rattle.machine_rules.proofs.Keeps.{all-joined-still, same-stay}
 use Rattle.machine_rules.proofs.Shapes.{shapes-written}
-use Rattle.machine_rules.proofs.Writing.{notified}
 use Rattle.machine_rules.specs.Sound.{Sound}
 use Rattle.qt_runtime.specs.Taking.{AsksFor, WritesTo, Took, Halted}
 use Rattle.qt_runtime.proofs.Taken.{idle, good-pushed, took-run, took-unchanged}
@@ -81,8 +80,8 @@ judged-written {p} {v} {o} {q} {x} {property} {old} {value} {changed} {entry} w 
       is = f;
       old = old;
       is_old = is_old;
-      places = places_of o q changed;
-      notified = notified o q changes;
+      signal = changed;
+      changes = changes;
       gives = ap (λ (u : World). at u stack) (set-there w entry value f v_is ∙ ap noted entry_is);
     })
 

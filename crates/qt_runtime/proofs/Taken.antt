@@ -19,9 +19,9 @@ use Rattle.machine_rules.specs.Runs as of_rules
 use Rattle.qt_runtime.specs.declared.judgement.NotAccepted.{NotAccepted}
 use Rattle.qt_runtime.specs.Judgement.{IsNotAccepted}
 use Rattle.qt_runtime.specs.Judgement as not_accepted
-use Rattle.qt_runtime.specs.Runs.{Runs, done, rules, takes, is_next}
+use Rattle.qt_runtime.specs.Runs.{Runs, RunsWhole, done, rules, takes, is_next}
 use Rattle.qt_runtime.specs.Takes.{judged, Takes, accepts, refuses}
-use Rattle.qt_runtime.specs.Taking.{Halted, Taken, IsAccepted, Answered, Took, IsRefused}
+use Rattle.qt_runtime.specs.Taking.{Halted, IsAccepted, Answered, Took, IsRefused}
 use Rattle.qt_runtime.proofs.Running.{reason-of}
 
 -- an event is taken, and rules follow
@@ -45,11 +45,11 @@ idle w = record { empty = refl }
 
 -- memory was refused before anything changed
 pub halted-short : {p : Loaded} {d : ℕ} {w : World} (e : Event) → 0 < w.left → Halted p d w e w Memory
-halted-short {w = w} e some = record { taken = []; rest = e ∷ []; split = refl; stack = []; runs = done; reason = (some, is_next (idle w)) }
+halted-short {w = w} e some = record { stack = []; front = record { taken = []; rest = e ∷ []; split = refl; runs = done }; reason = (some, is_next (idle w)) }
 
 -- no rule is left for the event
 pub halted-spent : {p : Loaded} {d : ℕ} {w : World} (e : Event) → w.left ≡ 0 → Halted p d w e w Steps
-halted-spent {w = w} e none = record { taken = []; rest = e ∷ []; split = refl; stack = []; runs = done; reason = (none, is_next (idle w)) }
+halted-spent {w = w} e none = record { stack = []; front = record { taken = []; rest = e ∷ []; split = refl; runs = done }; reason = (none, is_next (idle w)) }
 
 pub took-unchanged : {p : Loaded} {d : ℕ} {w v : World} {f : Fault} (e : Event) (r : Result Answer Fault) → 0 < w.left → (f ≡ Memory) × (v ≡ w) → IsErrAnd r (λ y. y ≡ f) → Took p d w e v r
 took-unchanged e (Ok a) some same is = absurd is
@@ -74,9 +74,9 @@ took-halted {p} {d} {w} {v} e r halted same is = subst (λ (u : World). Took p d
 pub took-refused : {p : Loaded} {d : ℕ} {w v : World} (k : Refusal) (e : Event) (r : Result Answer Fault) → AreTyped p w.objects → judged p (at w []) e (Err k) → 0 < w.left → Refuses w k v r → Took p d w e v r
 took-refused {p} {d} {w} {v} k e (Ok a) typed judged some x =
     let target : World = after w (refused (at w []) k) in
-    let Family : World → Type 0 = λ u. Taken p d w e u in
+    let Family : World → Type 0 = λ u. RunsWhole p d (at w []) w.left (e ∷ []) (at u []) u.left in
     let Answer_is : Answer → Type 0 = λ b. Answered p w e v b in
-    let taken : Taken p d w e target = record { runs = runs-taken e (refuses k (idle w) judged) (good-quiet w target typed) some (omega arith) of_rules.done } in
+    let taken : RunsWhole p d (at w []) w.left (e ∷ []) (at target []) target.left = record { runs = runs-taken e (refuses k (idle w) judged) (good-quiet w target typed) some (omega arith) of_rules.done; ends = idle target } in
     record { cases = (subst Family (sym x.1) taken, subst Answer_is (sym x.0) (record { refusal = k; numbered = refl; why = judged; line = x.1 })) }
 took-refused k e (Err f) typed judged some x = took-unchanged e (Err f) some x refl
 
@@ -97,15 +97,16 @@ took-not-accepted {p} {d} {w} e r typed not_accepted.short some x =
 -- the event is accepted, and nothing is going on after it
 pub took-quiet : {p : Loaded} {d : ℕ} {w v : World} (t : State) (e : Event) → judged p (at w []) e (Ok t) → at (after w t) [] ≡ t → AreTyped p t.objects → 0 < w.left → v ≡ after w t → Took p d w e v (Ok answer.Done)
 took-quiet {p} {d} {w} {v} t e judged empty typed some is =
-    let Family : World → Type 0 = λ u. Taken p d w e u in
+    let Family : World → Type 0 = λ u. RunsWhole p d (at w []) w.left (e ∷ []) (at u []) u.left in
     let Leads : State → Type 0 = λ u. Takes p e (at w []) u in
-    let taken : Taken p d w e (after w t) = record { runs = runs-taken e (subst Leads (sym empty) (accepts (idle w) judged)) (good-quiet w (after w t) typed) some (omega arith) of_rules.done } in
+    let quiet : World = after w t in
+    let taken : RunsWhole p d (at w []) w.left (e ∷ []) (at quiet []) quiet.left = record { ends = idle quiet; runs = runs-taken e (subst Leads (sym empty) (accepts (idle w) judged)) (good-quiet w (after w t) typed) some (omega arith) of_rules.done } in
     record { cases = (subst Family (sym is) taken, record { effect = t; why = judged }) }
 
 -- ---- what an event pushes runs to its end, or stops on the way
 
 pub took-run : {p : Loaded} {d : ℕ} {w m v : World} {top : Activation} {r : Result (Unit {0}) Fault} (e : Event) → Takes p e (at w []) (at m (top ∷ [])) → IsGood p d (at w []) (at m (top ∷ [])) → IsAccepted p w e → 0 < w.left → m.left ≡ w.left - 1 → Ends p d [] m (top ∷ []) v [] r → MatchResult r (λ _. Took p d w e v (Ok answer.Done)) (λ f. Halted p d w e v f)
-took-run {r = Ok _} e x good pass some less ends = record { cases = (record { runs = runs-taken e x good some less (ends.cases.runs [] refl) }, pass) }
+took-run {v = v} {r = Ok _} e x good pass some less ends = record { cases = (record { runs = runs-taken e x good some less (ends.cases.runs [] refl); ends = idle v }, pass) }
 took-run {p = p} {d = d} {v = v} {r = Err f} e x good pass some less ends =
     let q = ends.cases.stops [] refl in
-    record { taken = e ∷ []; rest = []; split = refl; stack = q.0; runs = runs-taken e x good some less q.1; reason = reason-of p d (at v q.0) v.left [] f q.2 }
+    record { stack = q.0; front = record { taken = e ∷ []; rest = []; split = refl; runs = runs-taken e x good some less q.1 }; reason = reason-of p d (at v q.0) v.left [] f q.2 }

@@ -1,5 +1,5 @@
 -- What contracts see of a machine, and what its calls do (docs/machine.md, "Runs").
-use Rattle.std.specs.Prelude.{◌≡◌, ℕ, ◌⊎◌, Bool, false, true, List, [], ◌∷◌, ◌++◌, Result, Ok, Err}
+use Rattle.std.specs.Prelude.{◌≡◌, ℕ, ◌⊎◌, Bool, false, true, List, [], ◌∷◌, Result, Ok, Err}
 use Rattle.script_lang.specs.declared.event.Event.{Event}
 use Rattle.meta_model.specs.Loaded.{Loaded}
 use Rattle.machine_state.specs.declared.world.World.{World}
@@ -9,7 +9,7 @@ use Rattle.machine_state.specs.declared.fault.Fault.{Fault}
 use Rattle.machine_state.specs.declared.fault.Fault.TheVariants as fault
 use Rattle.machine_state.specs.State.{Activation}
 use Rattle.machine_state.specs.Worlds.{at}
-use Rattle.qt_runtime.specs.Runs.{Runs}
+use Rattle.qt_runtime.specs.Runs.{RunsWhole, RunsFront}
 use Rattle.qt_runtime.specs.Causes.{Cause}
 use Rattle.qt_runtime.specs.Taking.{IsAccepted, IsRefusedAs}
 
@@ -29,22 +29,19 @@ begun program depth steps = record {
   stopped = false;
 }
 
--- the machine took these events, each by a run to an empty stack
+-- the machine took these events by a whole run
 pub record Completes (before : Seen) (events : List Event) (after : Seen) : Type 0 where
   pub went : before.stopped ≡ false
   pub same : after ≡ record before { world = after.world }
-  pub runs : Runs before.program before.depth (at before.world []) before.world.left events (at after.world []) after.world.left
+  pub whole : RunsWhole before.program before.depth (at before.world []) before.world.left events (at after.world []) after.world.left
 
 -- the machine took a front of these events, and stopped on the way
 pub record Halts (before : Seen) (events : List Event) (f : Fault) (after : Seen) : Type 0 where
   pub went : before.stopped ≡ false
   pub same : after ≡ record before { world = after.world; stopped = true }
-  pub taken : List Event
-  pub rest : List Event
-  pub split : events ≡ taken ++ rest
   pub stack : List Activation
-  pub runs : Runs before.program before.depth (at before.world []) before.world.left taken (at after.world stack) after.world.left
-  pub cause : Cause before.program before.depth (at after.world stack) after.world.left rest f
+  pub front : RunsFront before.program before.depth (at before.world []) before.world.left events (at after.world stack) after.world.left
+  pub cause : Cause before.program before.depth (at after.world stack) after.world.left front.rest f
 
 -- a machine that has stopped does nothing more
 pub record Stays (before : Seen) (f : Fault) (after : Seen) : Type 0 where

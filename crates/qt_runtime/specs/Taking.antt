@@ -1,5 +1,5 @@
 -- What the machine's code does with an event (docs/machine.md, "Events").
-use Rattle.std.specs.Prelude.{◌≡◌, ℕ, ◌+◌, ◌<◌, ◌^◌, Bool, true, false, List, [], ◌∷◌, ◌++◌, Result, Ok, Err}
+use Rattle.std.specs.Prelude.{◌≡◌, ℕ, ◌+◌, ◌<◌, ◌^◌, Bool, true, false, List, [], ◌∷◌, Result, Ok, Err}
 use Rattle.signatures.specs.declared.value.Value.{Value}
 use Rattle.meta_model.specs.declared.object.MetaProperty.{MetaProperty}
 use Rattle.meta_model.specs.Loaded.{Loaded}
@@ -31,7 +31,7 @@ use Rattle.qt_runtime.specs.declared.events.invoke.Invocation.{Invocation}
 use Rattle.qt_runtime.specs.declared.events.invoke.Invocation.TheVariants.{Emit, Call}
 use Rattle.qt_runtime.specs.declared.judgement.NotAccepted.{NotAccepted}
 use Rattle.qt_runtime.specs.declared.judgement.NotAccepted.TheVariants as reason
-use Rattle.qt_runtime.specs.Runs.{Runs, Reason}
+use Rattle.qt_runtime.specs.Runs.{RunsWhole, RunsFront, Reason}
 use Rattle.qt_runtime.specs.Takes.{judged}
 
 -- what every machine's world keeps: its parts fit together, and no count is near its limit
@@ -42,15 +42,9 @@ pub record WorldInvariant (p : Loaded) (w : World) : Type 0 where
 
 -- the machine stopped before or after it took the event
 pub record Halted (p : Loaded) (depth : ℕ) (w : World) (e : Event) (v : World) (f : Fault) : Type 0 where
-  pub taken : List Event
-  pub rest : List Event
-  pub split : e ∷ [] ≡ taken ++ rest
   pub stack : List Activation
-  pub runs : Runs p depth (at w []) w.left taken (at v stack) v.left
-  pub reason : Reason p depth (at v stack) v.left rest f
-
-pub record Taken (p : Loaded) (depth : ℕ) (w : World) (e : Event) (v : World) : Type 0 where
-  pub runs : Runs p depth (at w []) w.left (e ∷ []) (at v []) v.left
+  pub front : RunsFront p depth (at w []) w.left (e ∷ []) (at v stack) v.left
+  pub reason : Reason p depth (at v stack) v.left front.rest f
 
 -- the event is accepted
 pub record IsAccepted (p : Loaded) (w : World) (e : Event) : Type 0 where
@@ -69,7 +63,7 @@ Answered p w e v answer.Done = IsAccepted p w e
 Answered p w e v (answer.Refused n) = IsRefusedAs p w e n v
 
 abbrev pub TookCases : Loaded → ℕ → World → Event → World → Result Answer Fault → Type 0
-TookCases p depth w e v (Ok a) = Taken p depth w e v × Answered p w e v a
+TookCases p depth w e v (Ok a) = RunsWhole p depth (at w []) w.left (e ∷ []) (at v []) v.left × Answered p w e v a
 TookCases p depth w e v (Err f) = Halted p depth w e v f
 
 -- the event was taken and the run went on to its end, or stopped

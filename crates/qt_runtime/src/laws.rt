@@ -1,6 +1,6 @@
 //! What holds of every program.
 
-ghost use Rattle.qt_runtime.specs.Laws.{OneJudgement, OneRun, OneTaking};
+ghost use Rattle.qt_runtime.specs.Laws.{OneFront, OneJudgement, OneRun, OneTaking};
 
 /// An event is accepted with one effect or refused for one reason, and not both.
 pub fn one_judgement()
@@ -16,4 +16,10 @@ pub fn one_taking()
 /// the same state, with the same trace and the same rules left.
 pub fn one_run()
     ensures { OneRun }
+{}
+
+/// Of two runs of fronts of one list of events, from one state and with as many rules left, one goes on where the other
+/// ends: a run that a fault stops has taken the way of every other one.
+pub fn one_front()
+    ensures { OneFront }
 {}

@@ -56,11 +56,8 @@ module _ (p : Loaded) (w : World) (name class : List ℕ) where
       let not_well : IsWell p (at w []) after → ⊥ = λ well.
       ill (typed-fresh p w.objects name number main kind is (well.values (length w.objects) (made name number kind) (get-last w.objects (made name number kind)))) in
       record {
-        taken = [];
-        rest = New name class ∷ [];
-        split = refl;
         stack = [];
-        runs = done;
+        front = record { taken = []; rest = New name class ∷ []; split = refl; runs = done };
         reason = (some, inr (record { t = after; rest = []; follows = by_event (accepts (idle w) (creates free named is room)); ill = not_well }));
       }
 

@@ -15,6 +15,7 @@ use crate::events::values::read_inputs;
 use crate::judgement::{NotAccepted, refuse};
 use machine_rules::{Active, Setting};
 use machine_state::{Answer, Fault, Refusal, World};
+use meta_model::{DELETE_LATER, OBJECT_NAME_CHANGED};
 use meta_objects::{Meta, MetaMethod};
 use script_lang::Input;
 use signatures::{Arguments, Name, ObjectId, Value};
@@ -29,13 +30,13 @@ pub enum Invocation {
 }
 
 impl Invocation {
-    /// Whether an event may ask this of the method of this number. `QObject`'s own methods have the numbers 0 to 3.
+    /// Whether an event may ask this of the method of this number. `QObject`'s own methods come first.
     fn may(self, number: usize, method: &MetaMethod) -> bool
         ensures { IsTrue result ↔ May self number method.now }
     {
         match self {
-            Invocation::Emit => number > 2 && is_signal(method),
-            Invocation::Call => number > 3 && !is_signal(method),
+            Invocation::Emit => number > OBJECT_NAME_CHANGED && is_signal(method),
+            Invocation::Call => number > DELETE_LATER && !is_signal(method),
         }
     }
 }
