@@ -1,9 +1,9 @@
 -- Lists that are closed by a bracket.
 use Rattle.std.proofs.Common.{◌≡◌, ◌↔◌, true, false, List, [], ◌∷◌, ◌++◌, refl, ap}
-use Rattle.std.specs.Prelude.{not, MatchOption, IsTrue, is_some, Option, Some, None, Bool}
+use Rattle.std.specs.Prelude.{not, IsTrue, is_some, Option, Some, None, Bool}
 use Rattle.std.specs.List.{AllByRecursion}
 use Rattle.signatures.specs.Signatures.{IsPart, IsClosed}
-use Rattle.signatures.specs.Tokens.{Token, mark, token_of}
+use Rattle.signatures.specs.Tokens.{Token, mark, TakesNext}
 use Rattle.signatures.specs.declared.scanner.Mark.TheVariants.{Close}
 use Rattle.signatures.specs.declared.scanner.Scanned.{Scanned}
 
@@ -29,15 +29,8 @@ closed_end t ts apart h = no_part t ts h.parts apart h.is h.inside
 pub closed_here : (t : Token) (ts : List Token) → t ≡ mark Close → ts ≡ [] → IsClosed (t ∷ ts)
 closed_here t ts e d = record { parts = []; is = (cc); inside = tt }
 
-unclosed : (ps : List Token) → [] ≡ ps ++ mark Close ∷ [] → ⊥
-unclosed [] e = cc
-unclosed (p ∷ ps) e = cc
-
-pub closed_empty : IsClosed [] → ⊥
-closed_empty h = unclosed h.parts h.is
-
 -- what `is_closed` finds at the first token that is no part
-pub closed_last : (found : Option Scanned) (r : Bool) (t : Token) (now after : List Token) → MatchOption found ((now ≡ []) × (after ≡ [])) (λ s. now ≡ token_of s ∷ after) → is_some found ≡ not r → ¬ IsPart t → t ≡ mark Close → IsTrue r ↔ IsClosed (t ∷ now)
+pub closed_last : (found : Option Scanned) (r : Bool) (t : Token) (now after : List Token) → TakesNext now found after → is_some found ≡ not r → ¬ IsPart t → t ≡ mark Close → IsTrue r ↔ IsClosed (t ∷ now)
 closed_last None true t now after h e apart k = (λ _. closed_here t now k h.0, λ _. refl)
 closed_last None false t now after h e apart k = cc
 closed_last (Some s) true t now after h e apart k = cc

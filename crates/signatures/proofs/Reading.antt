@@ -1,9 +1,9 @@
 -- The readers of a signature's tokens, step by step.
 use Rattle.std.proofs.Common.{◌≡◌, ℕ, Bool, true, false, List, [], ◌∷◌, ◌++◌, refl, sym, ◌∙◌, ap, append_assoc}
 use Rattle.std.proofs.lemmas.List.{append-nil}
-use Rattle.std.specs.Prelude.{MatchBool, Err}
+use Rattle.std.specs.Prelude.{Err}
 use Rattle.std.specs.List.{AllByRecursion, AllZip}
-use Rattle.signatures.specs.Reading.{NotAt, const_word, separator, NamedAt, NoNamedAt, TypeAt, ReadsType, ReadsTypes}
+use Rattle.signatures.specs.Reading.{NotAt, Eats, const_word, separator, NamedAt, NoNamedAt, TypeAt, ReadsType, ReadsTypes}
 use Rattle.signatures.specs.Signatures.{spell_ending, spell_named, spell_type, spell_others, spell_list, TypeReading, IsFreeName, IsTypeOf, AreTypes, IsPart, IsClosed, IsTyped, Normalises}
 use Rattle.signatures.specs.Tokens.{Token, word, mark, tokens_of}
 use Rattle.signatures.specs.declared.fault.SigFault.{SigFault}
@@ -19,7 +19,7 @@ use Rattle.signatures.proofs.Unique.{const_is_reserved, one_type, others_separat
 
 -- ---- names with their `const`
 
-none_without_name : (b : Bool) (old now : List Token) → MatchBool b (old ≡ const_word ∷ now) ((now ≡ old) × NotAt const_word old) → ((name : List ℕ) → IsFreeName name → NotAt (word name) now) → (p : ConstPlace) (n : List ℕ) (rest : List Token) → IsFreeName n → old ≡ spell_named p n rest → ⊥
+none_without_name : (b : Bool) (old now : List Token) → Eats const_word old b now → ((name : List ℕ) → IsFreeName name → NotAt (word name) now) → (p : ConstPlace) (n : List ℕ) (rest : List Token) → IsFreeName n → old ≡ spell_named p n rest → ⊥
 none_without_name true old now e h Nowhere n rest free s = const_is_reserved n free (cc)
 none_without_name true old now e h Before n rest free s = h n free rest (cc)
 none_without_name true old now e h After n rest free s = const_is_reserved n free (cc)
@@ -27,7 +27,7 @@ none_without_name false old now e h Nowhere n rest free s = h n free rest (e.0 �
 none_without_name false old now e h Before n rest free s = e.1 (word n ∷ rest) s
 none_without_name false old now e h After n rest free s = h n free (const_word ∷ rest) (e.0 ∙ s)
 
-pub no_name : (b : Bool) (old now : List Token) → MatchBool b (old ≡ const_word ∷ now) ((now ≡ old) × NotAt const_word old) → ((name : List ℕ) → IsFreeName name → NotAt (word name) now) → NoNamedAt old
+pub no_name : (b : Bool) (old now : List Token) → Eats const_word old b now → ((name : List ℕ) → IsFreeName name → NotAt (word name) now) → NoNamedAt old
 no_name b old now e h = record { none = λ p n rest free stop s. none_without_name b old now e h p n rest free s }
 
 two : (old : List Token) (name : List ℕ) (after : List Token) → old ≡ const_word ∷ word name ∷ const_word ∷ after → (p : ConstPlace) (n : List ℕ) (rest : List Token) → IsFreeName n → NotAt const_word rest → old ≡ spell_named p n rest → ⊥
@@ -65,19 +65,19 @@ pub record Underway (before : List Token) (found : List QType) (is_last : Bool) 
   pub all : (types : List QType) (after : List Token) → AreTypes before types after → (more : List QType) × (types ≡ found ++ more) × LeftTypes is_last now more after
 
 -- before the first type
-start : (is_last : Bool) (before now : List Token) → MatchBool is_last (before ≡ mark Close ∷ now) ((now ≡ before) × NotAt (mark Close) before) → (rs : List TypeReading) (types : List QType) (after : List Token) → AllZip IsTypeOf rs types → before ≡ spell_list rs after → LeftTypes is_last now types after
+start : (is_last : Bool) (before now : List Token) → Eats (mark Close) before is_last now → (rs : List TypeReading) (types : List QType) (after : List Token) → AllZip IsTypeOf rs types → before ≡ spell_list rs after → LeftTypes is_last now types after
 start true before now h [] [] after each s = (refl, (cc))
 start true before now h [] (t ∷ ts) after each s = absurd each
 start true before now h (r ∷ rs) types after each s = absurd (type_word r.place r.name (spell_ending r.ending (spell_others rs after)) Close now (sym s ∙ h))
 start false before now h [] types after each s = absurd (h.1 after s)
 start false before now h (r ∷ rs) types after each s = record { first = r; others = rs; spelled = h.0 ∙ s; each = each }
 
-back : (is_last : Bool) (before now : List Token) → MatchBool is_last (before ≡ mark Close ∷ now) ((now ≡ before) × NotAt (mark Close) before) → (types : List QType) (after : List Token) → LeftTypes is_last now types after → AreTypes before types after
+back : (is_last : Bool) (before now : List Token) → Eats (mark Close) before is_last now → (types : List QType) (after : List Token) → LeftTypes is_last now types after → AreTypes before types after
 back true before now h [] after k = record { readings = []; spelled = h ∙ ap (λ x. mark Close ∷ x) k.1; each = tt }
 back true before now h (t ∷ ts) after k = let e = k.0 in cc
 back false before now h types after k = record { readings = k.first ∷ k.others; spelled = sym h.0 ∙ k.spelled; each = k.each }
 
-pub none_found : (is_last : Bool) (before now : List Token) → MatchBool is_last (before ≡ mark Close ∷ now) ((now ≡ before) × NotAt (mark Close) before) → Underway before [] is_last now
+pub none_found : (is_last : Bool) (before now : List Token) → Eats (mark Close) before is_last now → Underway before [] is_last now
 none_found is_last before now h = record {
   goes_on = back is_last before now h;
   all = λ types after k. (types, refl, start is_last before now h k.readings types after k.each k.spelled);

@@ -1,5 +1,5 @@
 -- Names, by their bytes (docs/language.md, "Tokens").
-use Rattle.std.specs.Prelude.{ℕ, ◌≡◌, Bool, true, ◌&&◌, ◌||◌, nat_le, nat_eq, List, [], ◌∷◌, All}
+use Rattle.std.specs.Prelude.{ℕ, ◌≡◌, Bool, true, ◌&&◌, ◌||◌, nat_le, nat_eq, List, [], ◌∷◌, All, Option, Some, None}
 
 -- `A` to `Z`, `a` to `z` and `_`
 abbrev pub is_letter : ℕ → Bool
@@ -16,3 +16,8 @@ is_name_byte b = is_letter b || is_digit b
 abbrev pub IsName : List ℕ → Type 0
 IsName [] = ⊥
 IsName (b ∷ bs) = (is_letter b ≡ true) × All (λ c. is_name_byte c ≡ true) bs
+
+-- the name with these bytes, or none where no name has them
+abbrev pub FindsName : List ℕ → Option (List ℕ) → Type 0
+FindsName bytes None = ¬ IsName bytes
+FindsName bytes (Some name) = (name ≡ bytes) × IsName bytes

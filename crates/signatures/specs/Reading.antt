@@ -1,5 +1,6 @@
 -- What each reader of a signature's tokens does. `before` are the tokens in front of it, and `after` those that it leaves.
-use Rattle.std.specs.Prelude.{ℕ, Bool, true, false, ◌≡◌, List, ◌∷◌, codes, Result, Ok, Err}
+use Rattle.std.specs.Borrow.{Bor}
+use Rattle.std.specs.Prelude.{ℕ, Bool, true, false, ◌≡◌, List, ◌∷◌, codes, Option, Some, None, Result, Ok, Err}
 use Rattle.signatures.specs.Signatures.{spell_ending, spell_named, spell_type, TypeReading, IsFreeName, IsTypeOf, AreTypes}
 use Rattle.signatures.specs.Tokens.{Token, word, mark}
 use Rattle.signatures.specs.declared.fault.SigFault.{SigFault}
@@ -13,6 +14,16 @@ use Rattle.signatures.specs.declared.scanner.Mark.TheVariants.{Close, Comma}
 abbrev pub NotAt : Token → List Token → Type 0
 NotAt token tokens = (rest : List Token) → tokens ≡ token ∷ rest → ⊥
 
+-- the token is taken where it comes next, and nothing where it doesn't
+abbrev pub Eats : Token → List Token → Bool → List Token → Type 0
+Eats token before true after = before ≡ token ∷ after
+Eats token before false after = (after ≡ before) × NotAt token before
+
+-- the name that comes next is taken, or none comes next that isn't reserved
+abbrev pub TakesName : List Token → Option (Bor (List ℕ)) → List Token → Type 0
+TakesName before None after = (name : List ℕ) → IsFreeName name → NotAt (word name) before
+TakesName before (Some name) after = (before ≡ word name.now ∷ after) × IsFreeName name.now
+
 abbrev pub const_word : Token
 const_word = word (codes "const")
 
@@ -20,6 +31,11 @@ const_word = word (codes "const")
 abbrev pub separator : Bool → Token
 separator true = mark Close
 separator false = mark Comma
+
+-- what stands behind a type is taken, or nothing of that comes next
+abbrev pub TakesSeparator : List Token → Option Bool → List Token → Type 0
+TakesSeparator before None after = (is_last : Bool) → NotAt (separator is_last) before
+TakesSeparator before (Some is_last) after = before ≡ separator is_last ∷ after
 
 -- `only`: no other reading that isn't followed by `const` goes less far, or farther
 pub record NamedAt (before : List Token) (place : ConstPlace) (name : List ℕ) (after : List Token) : Type 0 where
@@ -30,6 +46,11 @@ pub record NamedAt (before : List Token) (place : ConstPlace) (name : List ℕ) 
 -- a name with its `const`, if there is one
 pub record NoNamedAt (before : List Token) : Type 0 where
   pub none : (p : ConstPlace) (n : List ℕ) (rest : List Token) → IsFreeName n → NotAt const_word rest → before ≡ spell_named p n rest → ⊥
+
+-- the name that comes next is taken with its `const`, if there is one
+abbrev pub TakesNamed : List Token → Option (ConstPlace × Bor (List ℕ)) → List Token → Type 0
+TakesNamed before None after = NoNamedAt before
+TakesNamed before (Some named) after = NamedAt before named.0 named.1.now after
 
 pub record EndingAt (before : List Token) (ending : TypeEnding) (after : List Token) : Type 0 where
   pub spelled : before ≡ spell_ending ending after

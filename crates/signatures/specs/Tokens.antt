@@ -1,5 +1,5 @@
 -- The words and marks of a signature's text (docs/language.md, "Signatures").
-use Rattle.std.specs.Prelude.{ℕ, Bool, ◌≡◌, true, false, ◌||◌, nat_eq, List, [], ◌∷◌, ◌++◌, if◌then◌else◌}
+use Rattle.std.specs.Prelude.{ℕ, Bool, ◌≡◌, true, false, ◌||◌, nat_eq, List, [], ◌∷◌, ◌++◌, if◌then◌else◌, Option, Some, None}
 use Rattle.std.specs.List.{AllByRecursion}
 use Rattle.signatures.specs.Name.{is_name_byte}
 use Rattle.signatures.specs.declared.scanner.Mark.{Mark}
@@ -44,6 +44,11 @@ tokens_of = tokens_from []
 abbrev pub token_of : Scanned → Token
 token_of (scanned.Word letters) = word letters.now
 token_of (scanned.Mark m) = mark m
+
+-- the next word or mark is taken, or none is left
+abbrev pub TakesNext : List Token → Option Scanned → List Token → Type 0
+TakesNext before None after = (before ≡ []) × (after ≡ [])
+TakesNext before (Some next) after = before ≡ token_of next ∷ after
 
 -- no word goes on there
 abbrev pub EndsWord : List ℕ → Type 0

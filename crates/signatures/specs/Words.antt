@@ -1,5 +1,5 @@
 -- How reserved words are spelled (docs/language.md, "Tokens").
-use Rattle.std.specs.Prelude.{ℕ, List, codes, ◌≢◌}
+use Rattle.std.specs.Prelude.{ℕ, List, codes, ◌≡◌, ◌≢◌, Option, Some, None}
 use Rattle.signatures.specs.declared.word.Word.{Word}
 use Rattle.signatures.specs.declared.word.Word.TheVariants as w
 
@@ -39,3 +39,8 @@ word_spelling w.Single = codes "single"
 -- the letters aren't those of a reserved word
 abbrev pub IsFree : List ℕ → Type 0
 IsFree letters = (word : Word) → letters ≢ word_spelling word
+
+-- the reserved word with these letters, or none where they aren't those of one
+abbrev pub FindsWord : List ℕ → Option Word → Type 0
+FindsWord letters None = IsFree letters
+FindsWord letters (Some word) = letters ≡ word_spelling word

@@ -1,10 +1,10 @@
-ghost use Rattle.std.specs.Prelude.{◌≡◌, ◌↔◌, IsTrue, IfOk, MatchOption, nat_eq};
+ghost use Rattle.std.specs.Prelude.{◌≡◌, ◌↔◌, IsTrue, IfOk, nat_eq};
 ghost use Rattle.std.specs.Cmp.{partial_equiv_from_equiv};
 ghost use Rattle.std.specs.Cmp.Lexicographic.{pointwise, nat_list_eq_equiv};
 ghost use Rattle.std.specs.Cmp.Rules.{hashing};
 ghost use Rattle.std.specs.Hash as fed;
 ghost use Rattle.std.proofs.Common.{rules};
-ghost use Rattle.signatures.specs.Name.{IsName, is_letter, is_digit, is_name_byte};
+ghost use Rattle.signatures.specs.Name.{IsName, FindsName, is_letter, is_digit, is_name_byte};
 
 use std::alloc::{AllocError, Global};
 use std::hash::{Hash, Hasher};
@@ -41,7 +41,7 @@ impl Name {
 
     /// The name with these bytes, or `None` where they aren't one.
     pub fn of(alloc: Global, bytes: &[u8]) -> Result<Option<Name>, AllocError>
-        ensures { IfOk result (λ found. MatchOption found (¬ IsName bytes.now) (λ name. (name ≡ bytes.now) × IsName bytes.now)) }
+        ensures { IfOk result (FindsName bytes.now) }
     {
         if is_name(bytes) {
             let name = Name::new(alloc, bytes)?;

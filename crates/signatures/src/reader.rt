@@ -1,10 +1,10 @@
 //! From a text to its signature.
 
-ghost use Rattle.std.specs.Prelude.{◌≡◌, ◌∷◌, ◌<◌, ℕ, Bool, List, length, MatchBool, MatchOption, OnOk, IsTrue, ◌↔◌};
+ghost use Rattle.std.specs.Prelude.{◌<◌, length, OnOk, IsTrue, ◌↔◌};
 ghost use Rattle.signatures.specs.Laws.{AtMostEight, NormalFormsAreNormal, OneAnswer, OneNormalForm, TextsAreNormal};
-ghost use Rattle.signatures.specs.Reading.{NotAt, const_word, separator, NamedAt, NoNamedAt, EndingAt, ReadsType, ReadsTypes};
-ghost use Rattle.signatures.specs.Signatures.{IsClosed, IsFreeName, Normalises};
-ghost use Rattle.signatures.specs.Tokens.{word, mark as mark_token};
+ghost use Rattle.signatures.specs.Reading.{const_word, Eats, TakesName, TakesSeparator, TakesNamed, EndingAt, ReadsType, ReadsTypes};
+ghost use Rattle.signatures.specs.Signatures.{IsClosed, Normalises};
+ghost use Rattle.signatures.specs.Tokens.{mark as mark_token};
 
 use crate::fault::SigFault;
 use crate::name::{Name, is_name};
@@ -65,7 +65,7 @@ pub fn texts_are_normal()
 impl<'a> Scanner<'a> {
     /// Takes the mark, if it comes next, and says whether it did.
     fn eat(&mut self, mark: Mark) -> bool
-        ensures found { MatchBool result (self.old ≡ mark_token mark ∷ self.new) ((self.new ≡ self.old) × NotAt (mark_token mark) self.old) }
+        ensures found { Eats (mark_token mark) self.old result self.new }
     {
         let saved = self.copy();
         match self.next() {
@@ -79,7 +79,7 @@ impl<'a> Scanner<'a> {
 
     /// Takes `const`, if it comes next, and says whether it did.
     fn eat_const(&mut self) -> bool
-        ensures found { MatchBool result (self.old ≡ const_word ∷ self.new) ((self.new ≡ self.old) × NotAt const_word self.old) }
+        ensures found { Eats const_word self.old result self.new }
     {
         let saved = self.copy();
         match self.next() {
@@ -93,7 +93,7 @@ impl<'a> Scanner<'a> {
 
     /// Takes the next word; `None` where none comes next that is a name and isn't reserved.
     fn name(&mut self) -> Option<&'a [u8]>
-        ensures found { MatchOption result ((name : List ℕ) → IsFreeName name → NotAt (word name) self.old) (λ name. (self.old ≡ word name.now ∷ self.new) × IsFreeName name.now) }
+        ensures found { TakesName self.old result self.new }
     {
         match self.next() {
             Some(Scanned::Word(name)) if is_name(name) && Word::of(name).is_none() => Some(name),
@@ -116,7 +116,7 @@ impl<'a> Scanner<'a> {
 
     /// `"," | ")"`: whether it is the bracket.
     fn ends_list(&mut self) -> Option<bool>
-        ensures found { MatchOption result ((is_last : Bool) → NotAt (separator is_last) self.old) (λ is_last. self.old ≡ separator is_last ∷ self.new) }
+        ensures found { TakesSeparator self.old result self.new }
     {
         match self.next() {
             Some(Scanned::Mark(Mark::Close)) => Some(true),
@@ -140,7 +140,7 @@ impl<'a> Scanner<'a> {
 
     /// `["const"] Name ["const"]`, with at most one `const`.
     fn named(&mut self) -> Option<(ConstPlace, &'a [u8])>
-        ensures { MatchOption result (NoNamedAt self.old) (λ found. NamedAt self.old found.0 found.1.now self.new) }
+        ensures { TakesNamed self.old result self.new }
     {
         let is_before = self.eat_const();
         let name = self.name()?;

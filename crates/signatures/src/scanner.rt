@@ -1,8 +1,8 @@
 //! A cursor over a signature's bytes, which contracts see as the words and marks that are left.
 
-ghost use Rattle.std.specs.Prelude.{◌≡◌, ◌↔◌, [], ◌∷◌, IsTrue, MatchOption};
+ghost use Rattle.std.specs.Prelude.{◌≡◌, ◌↔◌, IsTrue};
 ghost use Rattle.signatures.specs.Signatures.{IsPart};
-ghost use Rattle.signatures.specs.Tokens.{is_blank, mark as mark_token, mark_of, token_of, tokens_of, IsRun};
+ghost use Rattle.signatures.specs.Tokens.{is_blank, mark as mark_token, mark_of, token_of, tokens_of, IsRun, TakesNext};
 
 use crate::name::is_name_byte;
 use std::marker::Model;
@@ -90,7 +90,7 @@ impl<'a> Scanner<'a> {
 
     /// The next word or mark.
     pub fn next(&mut self) -> Option<Scanned<'a>>
-        ensures { MatchOption result ((self.old ≡ []) × (self.new ≡ [])) (λ scanned. self.old ≡ token_of scanned ∷ self.new) }
+        ensures { TakesNext self.old result self.new }
     {
         let mut rest = self.rest;
         while let Some((first, after)) = rest.split_first() {

@@ -1,5 +1,5 @@
-ghost use Rattle.std.specs.Prelude.{◌≡◌, ◌↔◌, [], IsTrue, IfOk, MatchOption};
-ghost use Rattle.signatures.specs.Text.{IsText, IsTextByte};
+ghost use Rattle.std.specs.Prelude.{◌≡◌, ◌↔◌, [], IsTrue, IfOk};
+ghost use Rattle.signatures.specs.Text.{IsText, IsTextByte, FindsText};
 
 use std::alloc::{AllocError, Global};
 use std::marker::Model;
@@ -29,7 +29,7 @@ impl Model for Text {
 impl Text {
     /// The text of these bytes, or `None` where a text may not have them.
     pub fn of(alloc: Global, bytes: &[u8]) -> Result<Option<Text>, AllocError>
-        ensures { IfOk result (λ found. MatchOption found (¬ IsText bytes.now) (λ text. (text ≡ bytes.now) × IsText bytes.now)) }
+        ensures { IfOk result (FindsText bytes.now) }
     {
         if is_text(bytes) {
             let bytes = RcSlice::from_slice(alloc, bytes)?;

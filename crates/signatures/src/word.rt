@@ -1,7 +1,7 @@
 //! Reserved words and their spellings.
 
-ghost use Rattle.std.specs.Prelude.{◌≡◌, MatchOption};
-ghost use Rattle.signatures.specs.Words.{word_spelling, IsFree};
+ghost use Rattle.std.specs.Prelude.{◌≡◌};
+ghost use Rattle.signatures.specs.Words.{word_spelling, FindsWord};
 
 /// A reserved word, which is no name.
 #[derive(Clone, Copy, Debug, PartialEq, Eq)]
@@ -107,7 +107,7 @@ const WORDS: [Word; 31] = [
 impl Word {
     /// The reserved word with these letters, or `None` where they aren't those of one.
     pub fn of(letters: &[u8]) -> Option<Word>
-        ensures { MatchOption result (IsFree letters.now) (λ word. letters.now ≡ word_spelling word) }
+        ensures { FindsWord letters.now result }
     {
         let mut left = WORDS.as_slice();
         while let Some((word, more)) = left.split_first() {
