@@ -1,11 +1,11 @@
 -- Rules that are a sequence of others.
-use Rattle.std.proofs.Common.{◌≡◌, List, ◌∷◌, ℕ, sym, ◌∙◌, ap, Option, Some, None, option_map, map, Bool, true, false, MatchBool}
+use Rattle.std.proofs.Common.{◌≡◌, List, ◌∷◌, ℕ, sym, ◌∙◌, ap, Option, Some, None, option_map, map, Bool, true, false}
 use Rattle.signatures.specs.declared.kind.Kind.{Kind}
 use Rattle.signatures.specs.declared.qtype.QType.{QType}
 use Rattle.signatures.specs.declared.sig.Sig.{Sig}
 use Rattle.texts.specs.declared.syntax.Literal.{Literal}
 use Rattle.signatures.specs.declared.word.Word.TheVariants as word
-use Rattle.texts.specs.Cursor.{NotAt, NotAtWord}
+use Rattle.texts.specs.Cursor.{Eats, NotAt, NotAtWord}
 use Rattle.slot_lang.specs.Grammar.{spell_block, tree_of_block}
 use Rattle.texts.specs.Lists.{spell_listed}
 use Rattle.texts.specs.Literals.{tree_of_literal}
@@ -235,7 +235,7 @@ module _ {before at_base at_open at_members at_end : List Token} {name : List �
   without_semicolon bare rest none g = g
   without_semicolon semicolon rest none g = absurd (none rest g)
 
-  pub class_found : (found : Bool) {after : List Token} → MatchBool found (at_end ≡ token.Symbol Semicolon ∷ after) ((after ≡ at_end) × NotAt Semicolon at_end) → Found spell_class tree_of_class EndsDeclaration before c after
+  pub class_found : (found : Bool) {after : List Token} → Eats (token.Symbol Semicolon) at_end found after → Found spell_class tree_of_class EndsDeclaration before c after
   class_found true {after} e =
       let x = n.spelled in let y = b.spelled in let z = ms.spelled in
       record {

@@ -1,7 +1,7 @@
 -- What the reader answers for a text (docs/language.md, "Programs" and "Limits").
 use Rattle.std.specs.Prelude.{ℕ, ◌≡◌, ◌<◌, ◌≤◌, ◌⊎◌, List, length, Result, Ok, Err, Option, Some, None}
 use Rattle.texts.specs.Nesting.{IsTooDeep}
-use Rattle.texts.specs.Pieces.{AreTokens}
+use Rattle.texts.specs.Pieces.{AreTokens, IsUncut}
 use Rattle.texts.specs.Signatures.{HasPlainReference}
 use Rattle.texts.specs.declared.fault.ParseFault.{ParseFault}
 use Rattle.texts.specs.declared.fault.ParseFault.TheVariants as parse
@@ -39,10 +39,14 @@ IsShortText bytes = length bytes ≤ most_bytes
 abbrev pub IsLongText : List ℕ → Type 0
 IsLongText bytes = most_bytes < length bytes
 
+-- the tokens are no program
+abbrev pub IsNoProgram : List Token → Type 0
+IsNoProgram tokens = (program : Program) → IsProgram tokens program → ⊥
+
 -- the text can't be cut into tokens
 pub record HasBadByte (bytes : List ℕ) : Type 0 where
   pub short : IsShortText bytes
-  pub uncut : (tokens : List Token) → AreTokens bytes tokens → ⊥
+  pub uncut : IsUncut bytes
 
 -- its tokens nest too deep
 pub record IsDeepText (bytes : List ℕ) : Type 0 where
@@ -57,7 +61,7 @@ pub record IsOutsideGrammar (bytes : List ℕ) : Type 0 where
   pub tokens : List Token
   pub cut : AreTokens bytes tokens
   pub flat : ¬ IsTooDeep tokens
-  pub none : (program : Program) → IsProgram tokens program → ⊥
+  pub none : IsNoProgram tokens
 
 -- its tokens don't nest too deep, and are a program with a reference somewhere that isn't const
 pub record HasBadType (bytes : List ℕ) : Type 0 where

@@ -4,8 +4,7 @@ ghost use Rattle.std.specs.Prelude.{◌≡◌, ℕ, List, Err, IfOk};
 ghost use Rattle.texts.specs.declared.fault.ParseFault.TheVariants.{Syntax};
 ghost use Rattle.texts.specs.declared.token.Token.{Token};
 ghost use Rattle.class_lang.specs.Declarations.{IsProgram};
-ghost use Rattle.class_lang.specs.Reads.{ReadsProgram, HasOneReading, HasOneProgram, HasOneAnswer};
-ghost use Rattle.texts.specs.declared.program.Program.{Program};
+ghost use Rattle.class_lang.specs.Reads.{ReadsProgram, IsNoProgram, HasOneReading, HasOneProgram, HasOneAnswer};
 
 use crate::declarations::program;
 use crate::fault::TextFault;
@@ -53,7 +52,7 @@ pub fn read_program(alloc: Global, bytes: &[u8]) -> Result<Program, TextFault>
 /// The program that the tokens are.
 fn parse(alloc: Global, tokens: &[Token]) -> Result<Program, ParseFault>
     ensures read { IfOk result (λ program. IsProgram tokens.now program) }
-    ensures refused { result ≡ Err Syntax → (program : Program) → IsProgram tokens.now program → ⊥ }
+    ensures refused { result ≡ Err Syntax → IsNoProgram tokens.now }
 {
     program(&mut Cursor::new(alloc, tokens))
 }

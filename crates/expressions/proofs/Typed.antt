@@ -1,5 +1,5 @@
 -- The type of an expression from those of its parts, and its value.
-use Rattle.std.proofs.Common.{◌≡◌, ℕ, not, true, List, ◌⊎◌, inl, inr, Option, Some, None, ap, sym, ◌∙◌, subst, refl}
+use Rattle.std.proofs.Common.{◌≡◌, ℕ, not, true, List, inl, inr, Option, Some, None, ap, sym, ◌∙◌, subst, refl}
 use Rattle.std.specs.Option.{option_and_then, option_map}
 use Rattle.std.specs.Prelude.{neg_ℤ}
 use Rattle.std.specs.Int.{saturate_signed, w32}

@@ -1,5 +1,5 @@
 -- What the operators of expressions do (docs/language.md, "Expressions").
-use Rattle.std.specs.Prelude.{ℕ, ℤ, ◌+ℤ◌, ◌-ℤ◌, ◌*ℤ◌, neg_ℤ, Bool, not, ◌&&◌, ◌||◌, nat_eq, int_lt, List, ◌++◌, take, Option, Some, None}
+use Rattle.std.specs.Prelude.{◌≡◌, Result, Ok, Err, ℕ, ℤ, ◌+ℤ◌, ◌-ℤ◌, ◌*ℤ◌, neg_ℤ, Bool, not, ◌&&◌, ◌||◌, nat_eq, int_lt, List, ◌++◌, take, Option, Some, None}
 use Rattle.std.specs.Cmp.Lexicographic.{pointwise}
 use Rattle.std.specs.Option.{option_eq, option_map}
 use Rattle.std.specs.Ordering.{int_eq}
@@ -62,3 +62,8 @@ binary Equal v w = option_map (λ b. Truth b) (equal v w)
 binary Different v w = option_map (λ b. Truth (not b)) (equal v w)
 binary And v w = on_truths (λ a b. a && b) v w
 binary Or v w = on_truths (λ a b. a || b) v w
+
+-- what the operator makes of two texts; only joining them takes memory, which may be refused
+abbrev pub AnswersTexts : {E : Type 0} → Binary → List ℕ → List ℕ → Result (Option Value) E → Type 0
+AnswersTexts op a b (Ok answer) = answer ≡ binary op (Text a) (Text b)
+AnswersTexts op a b (Err _) = op ≡ Add

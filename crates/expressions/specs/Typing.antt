@@ -1,5 +1,5 @@
 -- The types of expressions (docs/language.md, "Types").
-use Rattle.std.specs.Prelude.{◌≡◌, ◌⊎◌, if◌then◌else◌, ℕ, Bool, true, false, List, Option, Some, None, codes}
+use Rattle.std.specs.Prelude.{◌≡◌, ◌⊎◌, if◌then◌else◌, ℕ, true, false, List, Option, Some, None, codes}
 use Rattle.std.specs.Option.{option_and_then, option_map}
 use Rattle.signatures.specs.declared.value.Value.{Value}
 use Rattle.signatures.specs.declared.value.Value.TheVariants as value

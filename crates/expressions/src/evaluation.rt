@@ -51,7 +51,7 @@ pub fn eval<P: Drop, W: World<P>>(
     expression: &Expr<P>,
     world: &W,
 ) -> Result<Value, EvalFault>
-    ensures { Evaluates (value (W.World.read world.now) expression.now) result }
+    ensures { Evaluates (value (W.read world.now) expression.now) result }
 {
     match expression {
         Expr::Literal(value) => Ok(value.copy()?),
@@ -74,7 +74,7 @@ pub fn eval_all<P: Drop, W: World<P>>(
     expressions: &[Expr<P>],
     world: &W,
 ) -> Result<Arguments, EvalFault>
-    ensures { EvaluatesAll (values (W.World.read world.now) expressions.now) result }
+    ensures { EvaluatesAll (values (W.read world.now) expressions.now) result }
 {
     let mut arguments = Arguments::new(alloc);
     for expression in expressions {

@@ -1,11 +1,11 @@
 //! What the operators of expressions do.
 
-ghost use Rattle.std.specs.Prelude.{◌≡◌, ◌++◌, take, neg_ℤ, IfOk, MatchResult};
+ghost use Rattle.std.specs.Prelude.{◌≡◌, ◌++◌, take, neg_ℤ, IfOk};
 ghost use Rattle.std.specs.Option.{option_map};
 ghost use Rattle.std.specs.Int.{saturate_signed, w32};
 ghost use Rattle.signatures.specs.declared.value.Value.{Value as AValue};
 ghost use Rattle.signatures.specs.declared.value.Value.TheVariants as value;
-ghost use Rattle.expressions.specs.Operators.{unary, binary};
+ghost use Rattle.expressions.specs.Operators.{unary, binary, AnswersTexts};
 ghost use Rattle.expressions.specs.Evaluation.{Evaluates};
 
 use crate::evaluation::EvalFault;
@@ -101,7 +101,7 @@ fn on_texts(
     left: &Text,
     right: &Text,
 ) -> Result<Option<Value>, AllocError>
-    ensures { MatchResult result (λ answer. answer ≡ binary operator (value.Text left.now) (value.Text right.now)) (λ _. operator ≡ Binary.Add) }
+    ensures { AnswersTexts operator left.now right.now result }
 {
     match operator {
         Binary::Add => Ok(Some(Value::Text(join(alloc, left, right)?))),

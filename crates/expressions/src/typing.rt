@@ -63,7 +63,7 @@ pub fn type_of<P: Drop, N: Names<P>>(
     expression: &Expr<P>,
     names: &N,
 ) -> Result<Option<ExprType>, AllocError>
-    ensures { IfOk result (λ found. found ≡ type_of (N.Names.kinds names.now) expression.now) }
+    ensures { IfOk result (λ found. found ≡ type_of (N.kinds names.now) expression.now) }
 {
     match expression {
         Expr::Literal(value) => literal_type(alloc, value),
@@ -121,14 +121,14 @@ fn type_of_sort(alloc: Global, sort: Option<Sort>) -> Result<Option<ExprType>, A
 /// or both are references, the expression's class is the declared one or below it, and the declared type is const or
 /// the expression's isn't. Every reference type accepts null. What is of a type that is accepted is of the declared one.
 pub fn accepts<C: Classes>(declared: &QType, given: &ExprType, classes: &C) -> bool
-    ensures accepted { IsTrue result ↔ Accepts (C.Classes.below classes.now) declared.now given.now }
-    ensures of_it { IsTrue result → TakesValues (C.Classes.below classes.now) declared.now given.now }
+    ensures accepted { IsTrue result ↔ Accepts (C.below classes.now) declared.now given.now }
+    ensures of_it { IsTrue result → TakesValues (C.below classes.now) declared.now given.now }
 {
     takes(declared, given, classes)
 }
 
 fn takes<C: Classes>(declared: &QType, given: &ExprType, classes: &C) -> bool
-    ensures { IsTrue result ↔ Accepts (C.Classes.below classes.now) declared.now given.now }
+    ensures { IsTrue result ↔ Accepts (C.below classes.now) declared.now given.now }
 {
     match given {
         ExprType::Null => declared.pointer,
@@ -158,6 +158,6 @@ pub fn typed_have_values<P: Drop, W: World<P>, N: Names<P>, C: Classes>(
     names: &N,
     classes: &C,
 )
-    ensures values { TypedHaveValues (C.Classes.below classes.now) (W.World.read world.now) (N.Names.kinds names.now) }
-    ensures this { ThisIsTyped (C.Classes.below classes.now) }
+    ensures values { TypedHaveValues (C.below classes.now) (W.read world.now) (N.kinds names.now) }
+    ensures this { ThisIsTyped (C.below classes.now) }
 {}

@@ -146,6 +146,10 @@ pub record IsBody (tokens : List Token) (body : List Stmt) : Type 0 where
   pub spelled : tokens ≡ spell_block reading []
   pub tree : tree_of_block reading ≡ body
 
+-- they are no block
+abbrev pub IsNoBody : List Token → Type 0
+IsNoBody tokens = (body : List Stmt) → IsBody tokens body → ⊥
+
 -- tokens are a slot's body in at most one way
 abbrev pub OneBody : Type 0
 OneBody = (tokens : List Token) (a b : List Stmt) → IsBody tokens a → IsBody tokens b → a ≡ b
@@ -154,6 +158,15 @@ OneBody = (tokens : List Token) (a b : List Stmt) → IsBody tokens a → IsBody
 
 abbrev pub ReadsAssignment : List Token → Result Stmt ParseFault → List Token → Type 0
 ReadsAssignment before result after = Reads spell_assignment tree_of_assignment EndsAnywhere before result after
+
+abbrev pub ReadsStatement : List Token → Result Stmt ParseFault → List Token → Type 0
+ReadsStatement before result after = Reads spell_statement tree_of_statement EndsStatement before result after
+
+abbrev pub ReadsEmission : List Token → Result Stmt ParseFault → List Token → Type 0
+ReadsEmission before result after = Reads spell_emission tree_of_emission EndsAnywhere before result after
+
+abbrev pub ReadsCondition : List Token → Result (Expr Path) ParseFault → List Token → Type 0
+ReadsCondition before result after = Reads spell_condition tree_of_expression EndsAnywhere before result after
 
 abbrev pub ReadsArguments : List Token → Result (List (Expr Path)) ParseFault → List Token → Type 0
 ReadsArguments before result after = Reads spell_arguments (map tree_of_expression) EndsAnywhere before result after

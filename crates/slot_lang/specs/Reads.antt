@@ -1,7 +1,7 @@
 -- What the reader answers for the tokens of a body (docs/language.md, "Slot bodies" and "Limits").
 use Rattle.std.specs.Prelude.{ℕ, ◌≡◌, ◌⊎◌, List, Result, Ok, Err, Option, Some, None, All}
 use Rattle.slot_lang.specs.Bodies.{signatures_in}
-use Rattle.slot_lang.specs.Grammar.{IsBody}
+use Rattle.slot_lang.specs.Grammar.{IsBody, IsNoBody}
 use Rattle.slot_lang.specs.declared.fault.BodyFault.{BodyFault}
 use Rattle.slot_lang.specs.declared.fault.BodyFault.TheVariants.{Syntax, BadType, TooMany, Memory}
 use Rattle.texts.specs.Signatures.{HasFewTypes, HasPlainReference}
@@ -21,10 +21,6 @@ number_of Memory = None
 abbrev pub fault_of_parsing : ParseFault → BodyFault
 fault_of_parsing parse.Syntax = Syntax
 fault_of_parsing parse.Memory = Memory
-
--- the tokens are no body
-abbrev pub IsOutsideGrammar : List Token → Type 0
-IsOutsideGrammar tokens = (body : List Stmt) → IsBody tokens body → ⊥
 
 -- they are a body with a reference somewhere that isn't const
 pub record HasBadType (tokens : List Token) : Type 0 where
@@ -51,7 +47,7 @@ pub record IsAccepted (tokens : List Token) (body : List Stmt) : Type 0 where
 -- the body, or the first thing that is wrong; want of memory says nothing of the tokens
 abbrev pub ReadsBody : List Token → Result (List Stmt) BodyFault → Type 0
 ReadsBody tokens (Ok body) = IsAccepted tokens body
-ReadsBody tokens (Err Syntax) = IsOutsideGrammar tokens
+ReadsBody tokens (Err Syntax) = IsNoBody tokens
 ReadsBody tokens (Err BadType) = HasBadType tokens
 ReadsBody tokens (Err TooMany) = HasTooManyParameters tokens
 ReadsBody tokens (Err Memory) = Unit {0}

@@ -1,13 +1,11 @@
 //! Statements and blocks.
 
-ghost use Rattle.std.specs.Prelude.{◌≡◌, ◌<◌, ◌≤◌, List, length, IfOk, OnOk, Err};
+ghost use Rattle.std.specs.Prelude.{◌≡◌, ◌<◌, ◌≤◌, length, IfOk, OnOk, Err};
 ghost use Rattle.slot_lang.specs.Expressions.{tree_of_expression};
-ghost use Rattle.slot_lang.specs.Grammar.{IsBody, OneBody, ReadsAssignment, ReadsArguments, spell_value, spell_condition, spell_emission, tree_of_emission, spell_call, tree_of_call, spell_choice, tree_of_choice, spell_statement, tree_of_statement, spell_else, tree_of_else, spell_block, tree_of_block, EndsStatement};
+ghost use Rattle.slot_lang.specs.Grammar.{IsBody, IsNoBody, OneBody, ReadsStatement, ReadsAssignment, ReadsEmission, ReadsCondition, ReadsArguments, spell_value, spell_call, tree_of_call, spell_choice, tree_of_choice, spell_else, tree_of_else, spell_block, tree_of_block, EndsStatement};
 ghost use Rattle.slot_lang.specs.Reads.{ReadsBody, OneAnswer};
 ghost use Rattle.texts.specs.Reading.{Reads, EndsAnywhere};
 ghost use Rattle.texts.specs.declared.fault.ParseFault.TheVariants.{Syntax};
-ghost use Rattle.texts.specs.declared.syntax.Stmt.{Stmt};
-ghost use Rattle.texts.specs.declared.token.Token.{Token};
 
 use crate::expression::{Argument, expression, group};
 use crate::fault::BodyFault;
@@ -47,7 +45,7 @@ pub fn one_answer()
 /// The body that all of the tokens are.
 fn whole_body(alloc: Global, tokens: &[Token]) -> Result<Body, ParseFault>
     ensures read { IfOk result (λ body. IsBody tokens.now body) }
-    ensures refused { result ≡ Err Syntax → (body : List Stmt) → IsBody tokens.now body → ⊥ }
+    ensures refused { result ≡ Err Syntax → IsNoBody tokens.now }
 {
     let mut cursor = Cursor::new(alloc, tokens);
     let body = block(&mut cursor)?;
@@ -82,7 +80,7 @@ pub fn block(cursor: &mut Cursor) -> Result<Body, ParseFault>
 
 #[cycle(block)]
 fn statement(cursor: &mut Cursor) -> Result<Stmt, ParseFault>
-    ensures reads { Reads spell_statement tree_of_statement EndsStatement cursor.old result cursor.new }
+    ensures reads { ReadsStatement cursor.old result cursor.new }
     ensures shorter { OnOk result (length cursor.new < length cursor.old) }
 {
     if cursor.eat_word(Word::Set) {
@@ -126,7 +124,7 @@ fn otherwise(cursor: &mut Cursor) -> Result<Body, ParseFault>
 
 /// `"(" expr ")"`
 fn condition(cursor: &mut Cursor) -> Result<Expr<Path>, ParseFault>
-    ensures reads { Reads spell_condition tree_of_expression EndsAnywhere cursor.old result cursor.new }
+    ensures reads { ReadsCondition cursor.old result cursor.new }
     ensures shorter { OnOk result (length cursor.new < length cursor.old) }
 {
     cursor.expect(Symbol::Open)?;
@@ -146,7 +144,7 @@ fn assignment(cursor: &mut Cursor) -> Result<Stmt, ParseFault>
 
 /// What follows `emit`.
 fn emission(cursor: &mut Cursor) -> Result<Stmt, ParseFault>
-    ensures reads { Reads spell_emission tree_of_emission EndsAnywhere cursor.old result cursor.new }
+    ensures reads { ReadsEmission cursor.old result cursor.new }
     ensures shorter { OnOk result (length cursor.new < length cursor.old) }
 {
     let signal = cursor.name()?;

@@ -3,7 +3,7 @@ use Rattle.std.proofs.Common.{◌≡◌, ◌∙◌, ◌<◌, ◌≤◌, ◌⊎�
 use Rattle.std.specs.List.{All}
 use Rattle.std.proofs.lemmas.List.Elements.{All-cons, All-head, All-tail, All-nil}
 use Rattle.texts.specs.declared.token.Token.{Token}
-use Rattle.texts.specs.Nesting.{open_after, open_after_all, IsParted, StandsTooLong, IsTooDeep}
+use Rattle.texts.specs.Nesting.{StandTogether, open_after, open_after_all, IsParted, StandsTooLong, IsTooDeep}
 
 -- after some front of the tokens, with so many open before them, more than 32 are open
 pub record OpensFrom (n : ℕ) (tokens : List Token) : Type 0 where
@@ -146,12 +146,12 @@ module _ {whole : List Token} {n m : ℕ} {left : List Token} (h : CountedSoFar 
       none (inr (inl s)) = no_run s.together s.rest s.split s.long
       none (inr (inr s)) = no_stand s.before s.together s.rest s.split s.long
 
-pub counted_next : {whole : List Token} {n m : ℕ} (i : ℕ) (t : Token) (n' m' : ℕ) → CountedSoFar whole n m (drop i whole) → n ≤ 32 → m ≤ 200 → i < length whole → t ≡ get_or whole i t → n' ≡ open_after n t → (IsParted t × (m' ≡ 0)) ⊎ ((IsParted t → ⊥) × (m' ≡ m + 1)) → CountedSoFar whole n' m' (drop (i + 1) whole)
+pub counted_next : {whole : List Token} {n m : ℕ} (i : ℕ) (t : Token) (n' m' : ℕ) → CountedSoFar whole n m (drop i whole) → n ≤ 32 → m ≤ 200 → i < length whole → t ≡ get_or whole i t → n' ≡ open_after n t → StandTogether m t m' → CountedSoFar whole n' m' (drop (i + 1) whole)
 counted_next {whole} {n} {m} i t n' m' h few short within is now kind = go kind
   where
     at : drop i whole ≡ t ∷ drop (i + 1) whole
     at = let e = drop-cons whole i t within in rw add-one (e ∙ ap (λ x. x ∷ drop (suc i) whole) (sym is))
 
-    go : (IsParted t × (m' ≡ 0)) ⊎ ((IsParted t → ⊥) × (m' ≡ m + 1)) → CountedSoFar whole n' m' (drop (i + 1) whole)
+    go : StandTogether m t m' → CountedSoFar whole n' m' (drop (i + 1) whole)
     go (inl p) = rw (now, p.1) (counted_parted h t (drop (i + 1) whole) at few short p.0)
     go (inr p) = rw (now, p.1) (counted_unparted h t (drop (i + 1) whole) at few short p.0)

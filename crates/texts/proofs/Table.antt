@@ -1,12 +1,12 @@
 -- The two tables have every symbol.
 use Rattle.std.proofs.Common.{◌≡◌, ℕ, ◌≤◌, List, ◌++◌, length, lit≤, arith}
-use Rattle.std.specs.List.{AllByRecursion}
+use Rattle.texts.specs.Splitting.{NoneBegins}
 use Rattle.texts.specs.Symbols.{spelling, Begins, IsSymbolAt}
 use Rattle.texts.specs.declared.symbol.Symbol.{Symbol}
 use Rattle.texts.specs.declared.symbol.Symbol.TheVariants as s
 use Rattle.texts.specs.declared.symbol.TheConstants.{DOUBLES, SINGLES}
 
-pub no_symbol : (bytes : List ℕ) → AllByRecursion (λ s. ¬ Begins (spelling s) bytes) DOUBLES → AllByRecursion (λ s. ¬ Begins (spelling s) bytes) SINGLES → (s : Symbol) → ¬ Begins (spelling s) bytes
+pub no_symbol : (bytes : List ℕ) → NoneBegins DOUBLES bytes → NoneBegins SINGLES bytes → (s : Symbol) → ¬ Begins (spelling s) bytes
 no_symbol bytes d g s.Equal = d.0
 no_symbol bytes d g s.Unequal = d.1.0
 no_symbol bytes d g s.AtMost = d.1.1.0
@@ -32,7 +32,7 @@ no_symbol bytes d g s.Not = g.1.1.1.1.1.1.1.1.1.1.1.1.1.1.0
 no_symbol bytes d g s.Ampersand = g.1.1.1.1.1.1.1.1.1.1.1.1.1.1.1.0
 no_symbol bytes d g s.Tilde = g.1.1.1.1.1.1.1.1.1.1.1.1.1.1.1.1.0
 
-short : (bytes : List ℕ) → AllByRecursion (λ s. ¬ Begins (spelling s) bytes) DOUBLES → (s : Symbol) → Begins (spelling s) bytes → length (spelling s) ≤ 1
+short : (bytes : List ℕ) → NoneBegins DOUBLES bytes → (s : Symbol) → Begins (spelling s) bytes → length (spelling s) ≤ 1
 short bytes d s.Equal h = absurd (d.0 h)
 short bytes d s.Unequal h = absurd (d.1.0 h)
 short bytes d s.AtMost h = absurd (d.1.1.0 h)
@@ -46,9 +46,5 @@ one_at_least : (s : Symbol) → 1 ≤ length (spelling s)
 one_at_least s.Equal = lit≤ tt
 one_at_least _ = lit≤ tt
 
-two_at_most : (s : Symbol) → length (spelling s) ≤ 2
-two_at_most s.Equal = lit≤ tt
-two_at_most _ = lit≤ tt
-
-pub single : (s : Symbol) (bytes rest : List ℕ) → AllByRecursion (λ s. ¬ Begins (spelling s) bytes) DOUBLES → bytes ≡ spelling s ++ rest → IsSymbolAt s bytes rest
+pub single : (s : Symbol) (bytes rest : List ℕ) → NoneBegins DOUBLES bytes → bytes ≡ spelling s ++ rest → IsSymbolAt s bytes rest
 single s bytes rest d e = record { split = e; longest = λ other h. let a = short bytes d other h in let b = one_at_least s in omega arith }

@@ -3,9 +3,11 @@ pub mod Symbols
 pub mod Pieces
 pub mod Nesting
 pub mod Lines
+pub mod Splitting
 pub mod Cursor
 pub mod Reading
 pub mod Lists
 pub mod Numerals
 pub mod Literals
 pub mod Signatures
+pub mod Trees

@@ -21,6 +21,10 @@ open_after_all n (t ∷ ts) = open_after_all (open_after n t) ts
 abbrev pub IsParted : Token → Type 0
 IsParted t = (t ≡ token.Symbol s.Semicolon) ⊎ (t ≡ token.Symbol s.OpenBrace) ⊎ (t ≡ token.Symbol s.CloseBrace)
 
+-- how many tokens stand together at the token's end, if so many did before it
+abbrev pub StandTogether : ℕ → Token → ℕ → Type 0
+StandTogether before t after = (IsParted t × (after ≡ 0)) ⊎ (¬ IsParted t × (after ≡ before + 1))
+
 -- after some front more than 32 are open
 pub record OpensTooMany (tokens : List Token) : Type 0 where
   pub front : List Token

@@ -35,6 +35,10 @@ IsNotEmpty (b ∷ bs) = Unit {0}
 abbrev pub IsComment : List ℕ → List ℕ → Type 0
 IsComment bytes rest = (tail line : List ℕ) × (bytes ≡ 47 ∷ tail) × IsRun run.Line tail line rest
 
+-- after a text's first quote: what stands between its quotes, and what follows them
+abbrev pub IsQuoted : List ℕ → List ℕ → List ℕ → Type 0
+IsQuoted bytes inner rest = IsRun run.Text bytes inner (34 ∷ rest)
+
 -- the piece stands at the front of the bytes, and `rest` follows it
 abbrev pub IsFront : Piece → List ℕ → List ℕ → Type 0
 IsFront (blank b) bytes rest = (is_blank b ≡ true) × (bytes ≡ b ∷ rest)
@@ -42,7 +46,7 @@ IsFront (comment line) bytes rest = (tail : List ℕ) × (bytes ≡ 47 ∷ 47 �
 IsFront (name letters) bytes rest = StartsWithLetter letters × IsFree letters × IsRun run.Name bytes letters rest
 IsFront (reserved word) bytes rest = IsRun run.Name bytes (word_spelling word) rest
 IsFront (number digits) bytes rest = IsNotEmpty digits × IsRun run.Number bytes digits rest
-IsFront (text inner) bytes rest = (tail : List ℕ) × (bytes ≡ 34 ∷ tail) × IsRun run.Text tail inner (34 ∷ rest)
+IsFront (text inner) bytes rest = (tail : List ℕ) × (bytes ≡ 34 ∷ tail) × IsQuoted tail inner rest
 IsFront (symbol s) bytes rest = IsSymbolAt s bytes rest
 
 -- the bytes are these pieces, one after another
@@ -77,8 +81,20 @@ pub record AreTokens (bytes : List ℕ) (tokens : List Token) : Type 0 where
   pub cut : IsCut pieces bytes
   pub tokens_are : tokens_of pieces ≡ tokens
 
+-- they are cut into none
+abbrev pub IsUncut : List ℕ → Type 0
+IsUncut bytes = (tokens : List Token) → AreTokens bytes tokens → ⊥
+
+-- a text is cut in at most one way
+abbrev pub OneCut : Type 0
+OneCut = (bytes : List ℕ) → (s t : List Token) → AreTokens bytes s → AreTokens bytes t → s ≡ t
+
 -- a piece at the front, and its token
 pub record Cuts (bytes : List ℕ) (found : Option Token) (rest : List ℕ) : Type 0 where
   pub piece : Piece
   pub front : IsFront piece bytes rest
   pub token_is : token_of piece ≡ found
+
+-- no piece stands at the front
+abbrev pub HasNoFront : List ℕ → Type 0
+HasNoFront bytes = (piece : Piece) → (rest : List ℕ) → IsFront piece bytes rest → ⊥

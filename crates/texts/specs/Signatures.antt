@@ -88,6 +88,14 @@ spell_kind Queued after = token.Word word.Queued ∷ after
 abbrev pub HasFewTypes : Sig → Type 0
 HasFewTypes s = length s.types ≤ most_parameters
 
+-- `&` comes next
+abbrev pub BeginsWithAmpersand : List Token → Type 0
+BeginsWithAmpersand tokens = (after : List Token) × (tokens ≡ token.Symbol Ampersand ∷ after)
+
+-- a name and `&` come next
+abbrev pub BeginsWithReference : List Token → Type 0
+BeginsWithReference tokens = (name : List ℕ) × (after : List Token) × (tokens ≡ token.Name name ∷ token.Symbol Ampersand ∷ after)
+
 -- Somewhere among the tokens stands a reference that isn't const: a name, in front of it no `const`, behind it `&`. In
 -- the grammars of programs, scripts and signatures `&` stands nowhere but at the end of a type.
 pub record HasPlainReference (tokens : List Token) : Type 0 where

@@ -1,10 +1,9 @@
 //! A place in a list of tokens, and what every reader takes there.
 
-ghost use Rattle.std.specs.Prelude.{◌≡◌, ◌↔◌, ◌<◌, ◌≤◌, List, [], ◌∷◌, length, MatchBool, MatchResult, IsTrue, IfOk, OnOk};
+ghost use Rattle.std.specs.Prelude.{◌≡◌, ◌↔◌, ◌<◌, [], length, IsTrue, OnOk};
 ghost use Rattle.std.specs.Bool.{OnTrue};
-ghost use Rattle.texts.specs.Cursor.{NotAt, NotAtWord};
+ghost use Rattle.texts.specs.Cursor.{TakesNext, Eats, Expects};
 ghost use Rattle.texts.specs.Reading.{Reads, EndsAnywhere, spell_name};
-ghost use Rattle.texts.specs.declared.fault.ParseFault.TheVariants.{Syntax};
 ghost use Rattle.texts.specs.declared.token.Token.TheVariants as token;
 
 use crate::fault::ParseFault;
@@ -59,7 +58,7 @@ impl<'a> Cursor<'a> {
 
     /// Takes the next token; at the end that is a fault of syntax.
     pub fn next(&mut self) -> Result<&'a Token, ParseFault>
-        ensures found { MatchResult result (λ first. self.old ≡ first.now ∷ self.new) (λ fault. (fault ≡ Syntax) × (self.old ≡ [])) }
+        ensures found { TakesNext self.old result self.new }
         ensures shorter { OnOk result (length self.new < length self.old) }
     {
         match self.tokens.split_first() {
@@ -73,7 +72,7 @@ impl<'a> Cursor<'a> {
 
     /// Takes the reserved word, if it comes next, and says whether it did.
     pub fn eat_word(&mut self, word: Word) -> bool
-        ensures found { MatchBool result (self.old ≡ token.Word word ∷ self.new) ((self.new ≡ self.old) × NotAtWord word self.old) }
+        ensures found { Eats (token.Word word) self.old result self.new }
         ensures shorter { OnTrue result (length self.new < length self.old) }
     {
         match self.tokens.split_first() {
@@ -87,7 +86,7 @@ impl<'a> Cursor<'a> {
 
     /// Takes the symbol, if it comes next, and says whether it did.
     pub fn eat(&mut self, symbol: Symbol) -> bool
-        ensures found { MatchBool result (self.old ≡ token.Symbol symbol ∷ self.new) ((self.new ≡ self.old) × NotAt symbol self.old) }
+        ensures found { Eats (token.Symbol symbol) self.old result self.new }
         ensures shorter { OnTrue result (length self.new < length self.old) }
     {
         match self.tokens.split_first() {
@@ -101,7 +100,7 @@ impl<'a> Cursor<'a> {
 
     /// Takes the symbol, which has to come next; where it doesn't, that is a fault of syntax.
     pub fn expect(&mut self, symbol: Symbol) -> Result<(), ParseFault>
-        ensures found { MatchResult result (λ _. self.old ≡ token.Symbol symbol ∷ self.new) (λ fault. (fault ≡ Syntax) × NotAt symbol self.old) }
+        ensures found { Expects (token.Symbol symbol) self.old result self.new }
         ensures shorter { OnOk result (length self.new < length self.old) }
     {
         if self.eat(symbol) {
@@ -113,7 +112,7 @@ impl<'a> Cursor<'a> {
 
     /// Takes the reserved word, which has to come next; where it doesn't, that is a fault of syntax.
     pub fn expect_word(&mut self, word: Word) -> Result<(), ParseFault>
-        ensures found { MatchResult result (λ _. self.old ≡ token.Word word ∷ self.new) (λ fault. (fault ≡ Syntax) × NotAtWord word self.old) }
+        ensures found { Expects (token.Word word) self.old result self.new }
         ensures shorter { OnOk result (length self.new < length self.old) }
     {
         if self.eat_word(word) {

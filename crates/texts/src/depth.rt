@@ -1,7 +1,7 @@
 //! How deep a text nests.
 
-ghost use Rattle.std.specs.Prelude.{◌≡◌, ◌≤◌, ◌+◌, ◌⊎◌, ◌↔◌, IsTrue};
-ghost use Rattle.texts.specs.Nesting.{IsParted, IsTooDeep, open_after};
+ghost use Rattle.std.specs.Prelude.{◌≡◌, ◌≤◌, ◌↔◌, IsTrue};
+ghost use Rattle.texts.specs.Nesting.{IsParted, IsTooDeep, StandTogether, open_after};
 
 use crate::symbol::Symbol;
 use crate::token::Token;
@@ -49,7 +49,7 @@ fn open_after(before: u32, token: &Token) -> u32
 /// How many tokens stand together at the token's end, if so many did before it.
 fn together_after(before: u32, token: &Token) -> u32
     requires { before ≤ 200 }
-    ensures { (IsParted token.now × (result ≡ 0)) ⊎ ((IsParted token.now → ⊥) × (result ≡ before + 1)) }
+    ensures { StandTogether before token.now result }
 {
     if is_parting(token) { 0 } else { before + 1 }
 }

@@ -1,12 +1,10 @@
 //! Cuts a text into tokens.
 
-ghost use Rattle.std.specs.Prelude.{◌≡◌, ◌<◌, ◌∷◌, length, List, ℕ, Err, MatchResult, IfOk, OnOk};
-ghost use Rattle.texts.specs.Pieces.{Piece, IsFront, IsComment, IsWordOrName, AreTokens, Cuts};
+ghost use Rattle.std.specs.Prelude.{◌≡◌, ◌<◌, length, Err, IfOk};
+ghost use Rattle.texts.specs.Pieces.{IsWordOrName, AreTokens, IsUncut, OneCut};
+ghost use Rattle.texts.specs.Splitting.{SplitsPiece, SplitsComment, SplitsText};
 ghost use Rattle.signatures.specs.Name.{IsName};
-ghost use Rattle.texts.specs.Bytes.{IsRun};
-ghost use Rattle.texts.specs.declared.bytes.Run.TheVariants as run;
 ghost use Rattle.texts.specs.declared.lexer.LexFault.TheVariants.{BadByte};
-ghost use Rattle.texts.specs.declared.token.Token.{Token};
 
 use crate::bytes::{Class, Run, class_of, split_run};
 use crate::symbol::split_symbol;
@@ -44,7 +42,7 @@ impl From<AllocError> for LexFault {
 /// `BadByte` where the text isn't cut into tokens, and only there; `Memory` where a growth of memory was refused.
 pub fn tokens(alloc: Global, bytes: &[u8]) -> Result<Items<Token>, LexFault>
     ensures cut { IfOk result (λ tokens. AreTokens bytes.now tokens) }
-    ensures refused { result ≡ Err BadByte → (tokens : List Token) → AreTokens bytes.now tokens → ⊥ }
+    ensures refused { result ≡ Err BadByte → IsUncut bytes.now }
 {
     let mut found = Items::new(alloc);
     let mut rest = bytes;
@@ -60,12 +58,12 @@ pub fn tokens(alloc: Global, bytes: &[u8]) -> Result<Items<Token>, LexFault>
 
 /// A text is cut in at most one way.
 pub fn one_cut()
-    ensures { (bytes : List ℕ) → (s t : List Token) → AreTokens bytes s → AreTokens bytes t → s ≡ t }
+    ensures { OneCut }
 {}
 
 /// The token of the piece at the front, if it is one, and what follows it.
 fn split_piece(alloc: Global, bytes: &[u8]) -> Result<(Option<Token>, &[u8]), LexFault>
-    ensures cut { MatchResult result (λ p. Cuts bytes.now p.0 p.1.now) (λ e. e ≡ BadByte → (piece : Piece) → (rest : List ℕ) → IsFront piece bytes.now rest → ⊥) }
+    ensures cut { SplitsPiece bytes.now result }
     ensures shorter { IfOk result (λ p. length p.1.now < length bytes.now) }
 {
     let Some((first, after)) = bytes.split_first() else {
@@ -115,7 +113,7 @@ fn word_or_name(alloc: Global, letters: &[u8]) -> Result<Token, AllocError>
 
 /// What follows a comment, after its first slash.
 fn split_comment(bytes: &[u8]) -> Result<&[u8], LexFault>
-    ensures { MatchResult result (λ rest. IsComment bytes.now rest.now) (λ e. (e ≡ BadByte) × ((rest : List ℕ) → IsComment bytes.now rest → ⊥)) }
+    ensures { SplitsComment bytes.now result }
 {
     match bytes.split_first() {
         Some((slash, after)) if *slash == b'/' => {
@@ -128,7 +126,7 @@ fn split_comment(bytes: &[u8]) -> Result<&[u8], LexFault>
 
 /// A text and what follows it, after its first quote.
 fn split_text(bytes: &[u8]) -> Result<(&[u8], &[u8]), LexFault>
-    ensures { MatchResult result (λ p. IsRun run.Text bytes.now p.0.now (34 ∷ p.1.now)) (λ e. (e ≡ BadByte) × ((inner rest : List ℕ) → IsRun run.Text bytes.now inner (34 ∷ rest) → ⊥)) }
+    ensures { SplitsText bytes.now result }
 {
     let (inner, rest) = split_run(bytes, Run::Text);
     match rest.split_first() {

@@ -1,16 +1,16 @@
 //! The lines of a text.
 
-ghost use Rattle.std.specs.Prelude.{◌≡◌, ◌<◌, [], nat_eq, length, MatchOption};
+ghost use Rattle.std.specs.Prelude.{◌≡◌, ◌<◌, nat_eq, length, IfSome};
 ghost use Rattle.std.specs.List.{position};
-ghost use Rattle.texts.specs.Lines.{IsFrontLine};
+ghost use Rattle.texts.specs.Splitting.{SplitsLine};
 
 /// What ends a line.
 const NEWLINE: u8 = 10;
 
 /// The line at the front of the text, without its newline, and what follows it; `None` where no text is left.
 pub fn split_line(text: &[u8]) -> Option<(&[u8], &[u8])>
-    ensures line { MatchOption result (text.now ≡ []) (λ parts. IsFrontLine text.now parts.0.now parts.1.now) }
-    ensures shorter { MatchOption result (Unit {0}) (λ parts. length parts.1.now < length text.now) }
+    ensures line { SplitsLine text.now result }
+    ensures shorter { IfSome result (λ parts. length parts.1.now < length text.now) }
 {
     if text.is_empty() {
         return None;

@@ -1,8 +1,8 @@
 //! Lists in parentheses.
 
-ghost use Rattle.std.specs.Prelude.{◌<◌, List, length, map, OnOk};
-ghost use Rattle.texts.specs.Lists.{IsPart, spell_listed};
-ghost use Rattle.texts.specs.Reading.{Reads, EndsAnywhere};
+ghost use Rattle.std.specs.Prelude.{◌<◌, List, length, OnOk};
+ghost use Rattle.texts.specs.Lists.{IsPart, ReadsList};
+ghost use Rattle.texts.specs.Reading.{Reads};
 ghost use Rattle.texts.specs.declared.token.Token.{Token};
 
 use crate::cursor::Cursor;
@@ -42,7 +42,7 @@ pub trait Part {
 /// A part may end at a comma and at `)`, and doesn't begin with `)`: that is to be shown.
 pub fn list<P: Part>(cursor: &mut Cursor) -> Result<Items<P::Tree>, ParseFault>
     requires { IsPart P.spell P.Ends }
-    ensures reads { Reads (spell_listed P.spell) (map P.tree) EndsAnywhere cursor.old result cursor.new }
+    ensures reads { ReadsList P.spell P.tree cursor.old result cursor.new }
     ensures shorter { OnOk result (length cursor.new < length cursor.old) }
 {
     let mut parts = Items::new(cursor.alloc());

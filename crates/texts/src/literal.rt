@@ -1,10 +1,9 @@
 //! Numbers and literals.
 
-ghost use Rattle.std.specs.Prelude.{◌≡◌, ◌<◌, ◌≤◌, ◌-ℤ◌, pos, length, IfOk, OnOk, MatchResult};
-ghost use Rattle.texts.specs.Literals.{IsUnsigned, UnsignedReading, token_of_unsigned, deepest, spell_literal, tree_of_literal};
-ghost use Rattle.texts.specs.Numerals.{spell_numeral, value_of};
+ghost use Rattle.std.specs.Prelude.{◌≡◌, ◌<◌, ◌≤◌, ◌-ℤ◌, pos, length, IfOk, OnOk};
+ghost use Rattle.texts.specs.Literals.{ReadsUnsigned, deepest, spell_literal, tree_of_literal};
+ghost use Rattle.texts.specs.Numerals.{ValueUpTo, ReadsNumeral};
 ghost use Rattle.texts.specs.Reading.{Reads, EndsAnywhere};
-ghost use Rattle.texts.specs.declared.fault.ParseFault.TheVariants.{Syntax};
 
 use crate::cursor::Cursor;
 use crate::fault::ParseFault;
@@ -22,7 +21,7 @@ const DEEPEST: u32 = 2147483648;
 
 /// The number that the digits write, if it is at most so much.
 pub fn value_of(digits: &[u8], most: u32) -> Result<u32, ParseFault>
-    ensures { MatchResult result (λ n. (n ≡ value_of digits.now) × (n ≤ most)) (λ _. most < value_of digits.now) }
+    ensures { ValueUpTo most digits.now result }
 {
     let mut value = 0u32;
     for digit in digits {
@@ -38,7 +37,7 @@ pub fn value_of(digits: &[u8], most: u32) -> Result<u32, ParseFault>
 /// The literal that the token is by itself: a number of at most 2147483647, `true`, `false`, a text of at
 /// most 255 bytes or `null`.
 pub fn unsigned_literal(alloc: Global, token: &Token) -> Result<Literal, ParseFault>
-    ensures { MatchResult result (λ literal. IsUnsigned token.now literal) (λ fault. fault ≡ Syntax → (reading : UnsignedReading) → token.now ≡ token_of_unsigned reading → ⊥) }
+    ensures { ReadsUnsigned token.now result }
 {
     match token {
         Token::Number(digits) => {
@@ -72,7 +71,7 @@ impl<'a> Cursor<'a> {
     ///
     /// `Syntax` where no number comes next or it is larger, and only there.
     pub fn number(&mut self, most: u32) -> Result<u32, ParseFault>
-        ensures reads { Reads (spell_numeral most) (λ n. value_of n.digits) EndsAnywhere self.old result self.new }
+        ensures reads { ReadsNumeral most self.old result self.new }
         ensures fits { IfOk result (λ n. n ≤ most) }
         ensures shorter { OnOk result (length self.new < length self.old) }
     {

@@ -1,6 +1,7 @@
 //! The trees of programs.
 
 ghost use Rattle.std.specs.Prelude.{◌≡◌, []};
+ghost use Rattle.texts.specs.Trees.{without_members};
 
 use crate::syntax::{Body, Literal};
 use signatures::{Kind, Name, QType, Sig};
@@ -102,7 +103,7 @@ pub struct Program {
 impl Class {
     /// The class of this name and base without members.
     pub fn new(alloc: Global, name: Name, base: Option<Name>) -> Class
-        ensures { result ≡ record { name = name; base = base; properties = []; signals = []; slots = [] } }
+        ensures { result ≡ without_members name base }
     {
         Class {
             name,

@@ -1,10 +1,9 @@
 //! Types, signatures and the kinds of connections.
 
-ghost use Rattle.std.specs.Prelude.{◌≡◌, ◌<◌, ◌≤◌, List, ◌∷◌, ℕ, length, IsTrue, ◌↔◌, OnOk};
+ghost use Rattle.std.specs.Prelude.{◌≡◌, ◌<◌, ◌≤◌, List, length, IsTrue, ◌↔◌, OnOk};
 ghost use Rattle.texts.specs.Reading.{Reads, EndsAnywhere};
-ghost use Rattle.texts.specs.Signatures.{TypeReading, spelled_type, spell_place, EndsNamed, IsEnding, spell_type, tree_of_type, EndsType, spell_sig, tree_of_sig, spell_kind, HasFewTypes, HasPlainReference, TypesAreNormal, OthersAreRefused};
+ghost use Rattle.texts.specs.Signatures.{TypeReading, spelled_type, spell_place, EndsNamed, IsEnding, spell_type, tree_of_type, EndsType, spell_sig, tree_of_sig, spell_kind, HasFewTypes, BeginsWithAmpersand, BeginsWithReference, HasPlainReference, TypesAreNormal, OthersAreRefused};
 ghost use Rattle.signatures.specs.declared.word.Word.TheVariants as word;
-ghost use Rattle.texts.specs.declared.symbol.Symbol.TheVariants.{Ampersand};
 ghost use Rattle.texts.specs.declared.token.Token.{Token};
 ghost use Rattle.texts.specs.declared.token.Token.TheVariants as token;
 
@@ -157,7 +156,7 @@ pub fn has_plain_reference(tokens: &[Token]) -> bool
 
 /// Whether the tokens begin with a name and `&`.
 fn begins_with_reference(tokens: &[Token]) -> bool
-    ensures { IsTrue result ↔ ((name : List ℕ) × (after : List Token) × (tokens.now ≡ token.Name name ∷ token.Symbol Ampersand ∷ after)) }
+    ensures { IsTrue result ↔ BeginsWithReference tokens.now }
 {
     match tokens.split_first() {
         Some((Token::Name(_), after)) => begins_with_ampersand(after),
@@ -167,7 +166,7 @@ fn begins_with_reference(tokens: &[Token]) -> bool
 
 /// Whether the tokens begin with `&`.
 fn begins_with_ampersand(tokens: &[Token]) -> bool
-    ensures { IsTrue result ↔ ((after : List Token) × (tokens.now ≡ token.Symbol Ampersand ∷ after)) }
+    ensures { IsTrue result ↔ BeginsWithAmpersand tokens.now }
 {
     match tokens.split_first() {
         Some((Token::Symbol(symbol), _)) => *symbol == Symbol::Ampersand,

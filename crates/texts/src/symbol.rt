@@ -1,8 +1,8 @@
 //! Symbols and their spellings.
 
-ghost use Rattle.std.specs.Prelude.{◌≡◌, ◌++◌, MatchOption};
-ghost use Rattle.std.specs.List.{AllByRecursion};
-ghost use Rattle.texts.specs.Symbols.{spelling, Begins, IsIn, IsSymbolAt};
+ghost use Rattle.std.specs.Prelude.{◌≡◌};
+ghost use Rattle.texts.specs.Splitting.{SplitsThis, SplitsOneOf, SplitsSymbol};
+ghost use Rattle.texts.specs.Symbols.{spelling};
 
 /// A token that is neither a word nor a literal.
 #[derive(Clone, Copy, Debug, PartialEq, Eq)]
@@ -123,14 +123,14 @@ fn spelling(symbol: Symbol) -> &'static [u8]
 
 /// What follows the symbol, if it stands at the front.
 fn after_symbol(bytes: &[u8], symbol: Symbol) -> Option<&[u8]>
-    ensures { MatchOption result (¬ Begins (spelling symbol) bytes.now) (λ rest. bytes.now ≡ spelling symbol ++ rest.now) }
+    ensures { SplitsThis symbol bytes.now result }
 {
     bytes.strip_prefix(spelling(symbol))
 }
 
 /// The first of the symbols that stands at the front.
 fn first_of<'b>(symbols: &[Symbol], bytes: &'b [u8]) -> Option<(Symbol, &'b [u8])>
-    ensures { MatchOption result (AllByRecursion (λ s. ¬ Begins (spelling s) bytes.now) symbols.now) (λ found. IsIn found.0 symbols.now × (bytes.now ≡ spelling found.0 ++ found.1.now)) }
+    ensures { SplitsOneOf symbols.now bytes.now result }
 {
     let mut left = symbols;
     while let Some((symbol, more)) = left.split_first() {
@@ -144,7 +144,7 @@ fn first_of<'b>(symbols: &[Symbol], bytes: &'b [u8]) -> Option<(Symbol, &'b [u8]
 
 /// The longest symbol at the front, and what follows it.
 pub fn split_symbol(bytes: &[u8]) -> Option<(Symbol, &[u8])>
-    ensures { MatchOption result ((s : Symbol) → ¬ Begins (spelling s) bytes.now) (λ found. IsSymbolAt found.0 bytes.now found.1.now) }
+    ensures { SplitsSymbol bytes.now result }
 {
     if let Some(found) = first_of(&DOUBLES, bytes) {
         return Some(found);

@@ -1,0 +1,50 @@
+-- What each step of cutting a text splits off at its front, and the fault where nothing stands there.
+use Rattle.std.specs.Borrow.{Bor}
+use Rattle.std.specs.Prelude.{ℕ, ◌≡◌, ◌++◌, List, [], Option, Some, None, Result, Ok, Err}
+use Rattle.std.specs.List.{AllByRecursion}
+use Rattle.texts.specs.Lines.{IsFrontLine}
+use Rattle.texts.specs.Pieces.{IsComment, IsQuoted, Cuts, HasNoFront}
+use Rattle.texts.specs.Symbols.{spelling, Begins, IsIn, IsSymbolAt}
+use Rattle.texts.specs.declared.lexer.LexFault.{LexFault}
+use Rattle.texts.specs.declared.lexer.LexFault.TheVariants.{BadByte}
+use Rattle.texts.specs.declared.symbol.Symbol.{Symbol}
+use Rattle.texts.specs.declared.token.Token.{Token}
+
+-- a line, or none where no text is left
+abbrev pub SplitsLine : List ℕ → Option (Bor (List ℕ) × Bor (List ℕ)) → Type 0
+SplitsLine text None = text ≡ []
+SplitsLine text (Some parts) = IsFrontLine text parts.0.now parts.1.now
+
+-- a piece, by its token; a bad byte only where there is none
+abbrev pub SplitsPiece : List ℕ → Result (Option Token × Bor (List ℕ)) LexFault → Type 0
+SplitsPiece bytes (Ok parts) = Cuts bytes parts.0 parts.1.now
+SplitsPiece bytes (Err fault) = fault ≡ BadByte → HasNoFront bytes
+
+-- after a slash, what follows the comment
+abbrev pub SplitsComment : List ℕ → Result (Bor (List ℕ)) LexFault → Type 0
+SplitsComment bytes (Ok rest) = IsComment bytes rest.now
+SplitsComment bytes (Err fault) = (fault ≡ BadByte) × ((rest : List ℕ) → IsComment bytes rest → ⊥)
+
+-- after a quote, what stands before the next one, and what follows that
+abbrev pub SplitsText : List ℕ → Result (Bor (List ℕ) × Bor (List ℕ)) LexFault → Type 0
+SplitsText bytes (Ok parts) = IsQuoted bytes parts.0.now parts.1.now
+SplitsText bytes (Err fault) = (fault ≡ BadByte) × ((inner rest : List ℕ) → IsQuoted bytes inner rest → ⊥)
+
+-- what follows this symbol
+abbrev pub SplitsThis : Symbol → List ℕ → Option (Bor (List ℕ)) → Type 0
+SplitsThis symbol bytes None = ¬ Begins (spelling symbol) bytes
+SplitsThis symbol bytes (Some rest) = bytes ≡ spelling symbol ++ rest.now
+
+-- none of these symbols stands at the front
+abbrev pub NoneBegins : List Symbol → List ℕ → Type 0
+NoneBegins symbols bytes = AllByRecursion (λ s. ¬ Begins (spelling s) bytes) symbols
+
+-- one of these symbols, and what follows it
+abbrev pub SplitsOneOf : List Symbol → List ℕ → Option (Symbol × Bor (List ℕ)) → Type 0
+SplitsOneOf symbols bytes None = NoneBegins symbols bytes
+SplitsOneOf symbols bytes (Some parts) = IsIn parts.0 symbols × (bytes ≡ spelling parts.0 ++ parts.1.now)
+
+-- the longest symbol, and what follows it
+abbrev pub SplitsSymbol : List ℕ → Option (Symbol × Bor (List ℕ)) → Type 0
+SplitsSymbol bytes None = (s : Symbol) → ¬ Begins (spelling s) bytes
+SplitsSymbol bytes (Some parts) = IsSymbolAt parts.0 bytes parts.1.now
