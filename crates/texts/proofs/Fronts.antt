@@ -109,7 +109,7 @@ quote_if false false false true v h = cc
 quote_if false false false false true h = refl
 quote_if false false false false false h = cc
 
-named : (letters : List ℕ) → StartsWithLetter letters → AllByRecursion (λ b. belongs run.Name b ≡ true) letters → IsName letters
+pub named : (letters : List ℕ) → StartsWithLetter letters → AllByRecursion (λ b. belongs run.Name b ≡ true) letters → IsName letters
 named [] first each = absurd first
 named (b ∷ bs) first each = (first, All-from_recursion (λ c. is_name_byte c ≡ true) bs each.1)
 

@@ -13,3 +13,5 @@ pub mod Cut
 pub mod Counting
 pub mod FrontLines
 pub mod NormalTypes
+pub mod SignatureTexts
+pub mod SignatureCuts

@@ -10,4 +10,5 @@ pub mod Lists
 pub mod Numerals
 pub mod Literals
 pub mod Signatures
+pub mod SignatureTexts
 pub mod Trees

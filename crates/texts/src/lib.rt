@@ -23,7 +23,10 @@ pub use lines::split_line;
 pub use lists::{Part, list};
 pub use literal::unsigned_literal;
 pub use program::{Class, Owns, Parameter, Program, Property, Signal, Slot, Wire};
-pub use signature::{TypePart, has_few_types, has_plain_reference, one_normal_form_of_types};
+pub use signature::{
+    TypePart, has_few_types, has_plain_reference, one_normal_form_of_signatures,
+    one_normal_form_of_types,
+};
 pub use signatures::Word;
 pub use symbol::Symbol;
 pub use syntax::{Binary, Body, Expr, Literal, Path, Root, Stmt, Unary};

@@ -3,6 +3,7 @@
 ghost use Rattle.std.specs.Prelude.{◌≡◌, ◌<◌, ◌≤◌, List, length, IsTrue, ◌↔◌, OnOk};
 ghost use Rattle.texts.specs.Reading.{Reads, EndsAnywhere};
 ghost use Rattle.texts.specs.Signatures.{TypeReading, spelled_type, spell_place, EndsNamed, IsEnding, spell_type, tree_of_type, EndsType, spell_sig, tree_of_sig, spell_kind, HasFewTypes, BeginsWithAmpersand, BeginsWithReference, HasPlainReference, TypesAreNormal, OthersAreRefused};
+ghost use Rattle.texts.specs.SignatureTexts.{TokensGiveNormalForms, NormalFormsAreInTokens};
 ghost use Rattle.signatures.specs.declared.word.Word.TheVariants as word;
 ghost use Rattle.texts.specs.declared.token.Token.{Token};
 ghost use Rattle.texts.specs.declared.token.Token.TheVariants as token;
@@ -136,6 +137,13 @@ pub fn has_few_types(sig: &Sig) -> bool
 pub fn one_normal_form_of_types()
     ensures normal { TypesAreNormal }
     ensures refused { OthersAreRefused }
+{}
+
+/// A text's normal form, as `normalise` gives it, is read from its tokens; and where a text has no other bytes than a
+/// signature may have, so without a comment, the signature that is read from its tokens is its normal form.
+pub fn one_normal_form_of_signatures()
+    ensures given { TokensGiveNormalForms }
+    ensures read { NormalFormsAreInTokens }
 {}
 
 /// Whether a reference that isn't const, as `T &`, stands among the tokens.
