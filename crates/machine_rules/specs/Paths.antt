@@ -1,5 +1,5 @@
 -- What paths and expressions of a body give (docs/language.md, "Expressions").
-use Rattle.std.specs.Prelude.{ℕ, false, pos, List, [], ◌∷◌, Option, None, Some, slice_get}
+use Rattle.std.specs.Prelude.{ℕ, List, [], ◌∷◌, Option, None, Some, slice_get}
 use Rattle.std.specs.Option.{option_and_then}
 use Rattle.signatures.specs.declared.value.Value.{Value}
 use Rattle.signatures.specs.declared.value.Value.TheVariants as value
@@ -10,24 +10,16 @@ use Rattle.meta_model.specs.declared.object.MetaPath.{MetaPath}
 use Rattle.meta_model.specs.declared.object.MetaRoot.{MetaRoot}
 use Rattle.meta_model.specs.declared.object.MetaRoot.TheVariants.{This, Parameter}
 use Rattle.meta_model.specs.declared.object.Step.{Step}
-use Rattle.meta_model.specs.declared.object.ValueType.{ValueType}
-use Rattle.meta_model.specs.declared.object.ValueType.TheVariants as kind
+use Rattle.meta_model.specs.Values.{default}
 use Rattle.object_tree.specs.declared.object.Object.{Object}
 use Rattle.machine_state.specs.Objects.{stored}
-
--- what a property of null reads as
-abbrev pub default : ValueType → Value
-default kind.Int = value.Int (pos 0)
-default kind.Bool = value.Bool false
-default kind.Text = value.Text []
-default (kind.Reference class constant) = value.Ref None
 
 -- `this` is the object o; a parameter is the argument in its place
 abbrev pub root_value : ℕ → List Value → MetaRoot → Option Value
 root_value o arguments This = Some (value.Ref (Some o))
 root_value o arguments (Parameter k) = slice_get arguments k
 
--- the property of what a path has led to so far
+-- the property of what a path has led to so far; where that is null, the default of the property's type
 abbrev pub step_value : List Object → Step → Value → Option Value
 step_value objects s (value.Ref None) = Some (default s.kind)
 step_value objects s (value.Ref (Some o)) = stored objects o s.property

@@ -1,17 +1,16 @@
 //! What the paths and expressions of a body give.
 
-ghost use Rattle.std.specs.Prelude.{◌≡◌, IfOk};
 ghost use Rattle.std.specs.Option.{option_copied};
 ghost use Rattle.expressions.specs.Evaluation.{Evaluates, EvaluatesAll};
 ghost use Rattle.machine_rules.specs.Reaches.{Finds, Judges};
-ghost use Rattle.machine_rules.specs.Paths.{default, root_value, step_value, path_value, value_of, values_of};
+ghost use Rattle.machine_rules.specs.Paths.{root_value, step_value, path_value, value_of, values_of};
 
 use expressions::{self, EvalFault};
 use machine_state::stored;
-use meta_objects::{MetaPath, MetaRoot, Step, ValueType};
+use meta_objects::{MetaPath, MetaRoot, Step};
 use object_tree::Tree;
-use signatures::{Arguments, ObjectId, Text, Value};
-use std::alloc::{AllocError, Global};
+use signatures::{Arguments, ObjectId, Value};
+use std::alloc::Global;
 use texts::Expr;
 
 /// What a body reads: the objects, the object whose body it is, and the arguments of its call.
@@ -89,7 +88,7 @@ impl<'w> Scope<'w> {
     {
         match from {
             Value::Ref(None) => {
-                let value = default(self.alloc, step.kind)?;
+                let value = step.kind.default_value(self.alloc)?;
                 Ok(value)
             }
             Value::Ref(Some(object)) => copy_found(stored(self.objects, *object, step.property)),
@@ -108,20 +107,5 @@ fn copy_found(found: Option<&Value>) -> Result<Value, EvalFault>
             Ok(copy)
         }
         None => Err(EvalFault::BadType),
-    }
-}
-
-/// What a property of this type reads as where null has no properties.
-fn default(alloc: Global, kind: ValueType) -> Result<Value, AllocError>
-    ensures { IfOk result (λ value. value ≡ default kind) }
-{
-    match kind {
-        ValueType::Int => Ok(Value::Int(0)),
-        ValueType::Bool => Ok(Value::Bool(false)),
-        ValueType::Text => {
-            let text = Text::empty(alloc)?;
-            Ok(Value::Text(text))
-        }
-        ValueType::Reference(_, _) => Ok(Value::Ref(None)),
     }
 }

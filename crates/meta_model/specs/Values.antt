@@ -1,6 +1,7 @@
--- Which values have a type (docs/language.md, "Values").
-use Rattle.std.specs.Prelude.{ℕ, List, [], ◌∷◌, Option}
+-- Which values have a type, and which one a property of the type has by itself (docs/language.md, "Values").
+use Rattle.std.specs.Prelude.{ℕ, false, pos, List, [], ◌∷◌, Option, None}
 use Rattle.signatures.specs.declared.value.Value.{Value}
+use Rattle.signatures.specs.declared.value.Value.TheVariants as value
 use Rattle.signatures.specs.Values.{Types, Has as AnyHas}
 pub use Rattle.signatures.specs.Values.{number_has, truth_has, text_has, null_has, object_has}
 use Rattle.meta_model.specs.declared.object.ValueType.{ValueType}
@@ -22,3 +23,10 @@ HaveTypes p class [] [] = Unit {0}
 HaveTypes p class [] (T ∷ Ts) = ⊥
 HaveTypes p class (v ∷ vs) [] = ⊥
 HaveTypes p class (v ∷ vs) (T ∷ Ts) = Has p class v T × HaveTypes p class vs Ts
+
+-- what a property of this type is at first where no literal is given, and what it reads as where a path led to null
+abbrev pub default : ValueType → Value
+default type.Int = value.Int (pos 0)
+default type.Bool = value.Bool false
+default type.Text = value.Text []
+default (type.Reference class constant) = value.Ref None

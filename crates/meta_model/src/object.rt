@@ -1,6 +1,10 @@
+ghost use Rattle.std.specs.Prelude.{◌≡◌, IfOk};
+ghost use Rattle.meta_model.specs.Values.{default};
+
 use crate::slot_body::SlotBody;
-use signatures::{Kind, Name, QType, Sig, Value};
+use signatures::{Kind, Name, QType, Sig, Text, Value};
 use sqlite_items::Items;
+use std::alloc::{AllocError, Global};
 use texts::Expr;
 
 /// The type of a property or a parameter, its class replaced by its number.
@@ -14,6 +18,24 @@ pub enum ValueType {
     Text,
     /// `C*`, or `const C*` where the second part is true: the class's number.
     Reference(usize, bool),
+}
+
+impl ValueType {
+    /// What a property of this type is at first where no literal is given, and what it reads as where a path led to null:
+    /// 0, false, `""` or null. Its error is that memory was refused.
+    pub fn default_value(self, alloc: Global) -> Result<Value, AllocError>
+        ensures { IfOk result (λ value. value ≡ default self) }
+    {
+        match self {
+            ValueType::Int => Ok(Value::Int(0)),
+            ValueType::Bool => Ok(Value::Bool(false)),
+            ValueType::Text => {
+                let text = Text::empty(alloc)?;
+                Ok(Value::Text(text))
+            }
+            ValueType::Reference(_, _) => Ok(Value::Ref(None)),
+        }
+    }
 }
 
 /// Where a path begins.

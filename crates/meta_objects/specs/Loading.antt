@@ -1,11 +1,10 @@
 -- How a program and its meta-objects correspond: names are replaced by numbers, which are places in lists
 -- (docs/machine.md, "Loading").
-use Rattle.std.specs.Prelude.{◌≡◌, ℕ, ◌<◌, ◌⊎◌, false, pos, List, [], Option, None, Some, slice_get, Any}
+use Rattle.std.specs.Prelude.{◌≡◌, ℕ, ◌<◌, ◌⊎◌, List, [], Option, None, Some, slice_get, Any}
 use Rattle.std.specs.List.{AllZip}
 use Rattle.std.specs.Option.{option_and_then}
 use Rattle.signatures.specs.declared.sig.Sig.{Sig}
 use Rattle.signatures.specs.declared.value.Value.{Value}
-use Rattle.signatures.specs.declared.value.Value.TheVariants as value
 use Rattle.texts.specs.Literals.{literal_value}
 use Rattle.texts.specs.declared.syntax.Literal.{Literal}
 use Rattle.texts.specs.declared.program.Property.{Property}
@@ -13,7 +12,6 @@ use Rattle.texts.specs.declared.program.Wire.{Wire}
 use Rattle.texts.specs.declared.program.Owns.{Owns}
 use Rattle.texts.specs.declared.program.Program.{Program}
 use Rattle.meta_model.specs.declared.object.ValueType.{ValueType}
-use Rattle.meta_model.specs.declared.object.ValueType.TheVariants as type
 use Rattle.meta_model.specs.declared.object.Statement.{Statement}
 use Rattle.meta_model.specs.declared.object.Work.{Work}
 use Rattle.meta_model.specs.declared.object.Work.TheVariants as work
@@ -31,6 +29,7 @@ use Rattle.meta_model.specs.Places.{IsPlace}
 use Rattle.meta_model.specs.Outlines.{IsOutlineNamed}
 use Rattle.meta_model.specs.declared.qobject.TheConstants.{DELETE_LATER}
 use Rattle.meta_model.specs.Kinds.{IsReadAs}
+use Rattle.meta_model.specs.Values.{default}
 use Rattle.meta_model.specs.Conditions.{IsSignalOf}
 use Rattle.meta_model.specs.Ends.{IsSigned, IsEnd}
 use Rattle.meta_objects.specs.Bodies.{AllBodies, LacksInClass}
@@ -55,13 +54,7 @@ pub record IsMethodOf (outlines : List Outline) (bodies : List (List (List State
   pub work : method.work ≡ work_of bodies h.sort
 
 -- ---- properties
--- what a property is at first where no literal is given: 0, false, `""` or null
-abbrev pub default : ValueType → Value
-default type.Int = value.Int (pos 0)
-default type.Bool = value.Bool false
-default type.Text = value.Text []
-default (type.Reference c constant) = value.Ref None
-
+-- what a property is at first: its literal, or else the default of its type
 abbrev pub initial_of : Option Literal → ValueType → Value
 initial_of None kind = default kind
 initial_of (Some l) kind = literal_value l

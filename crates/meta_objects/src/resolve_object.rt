@@ -2,13 +2,13 @@
 
 ghost use Rattle.std.specs.Prelude.{◌≡◌, ℕ, [], IfOk, option_copied};
 ghost use Rattle.std.specs.List.{AllZip};
-ghost use Rattle.meta_objects.specs.Loading.{IsMethodOf, IsNotify, IsPropertyOf, IsObject, work_of, body_at, found_body, default, initial_of};
+ghost use Rattle.meta_objects.specs.Loading.{IsMethodOf, IsNotify, IsPropertyOf, IsObject, work_of, body_at, found_body, initial_of};
 
 use meta_model::{
     Heading, MetaMethod, MetaObject, MetaProperty, Outline, SlotBody, Sort, ValueType, Work,
     place_of_signal, read_kind, read_kinds,
 };
-use signatures::{Text, Value};
+use signatures::Value;
 use sqlite_items::Items;
 use std::alloc::{AllocError, Global};
 use texts::{Literal, Property};
@@ -182,21 +182,6 @@ fn initial_of(alloc: Global, given: &Option<Literal>, kind: ValueType) -> Result
 {
     match given {
         Some(literal) => literal.value(),
-        None => default_of(alloc, kind),
-    }
-}
-
-/// 0, false, `""` or null.
-fn default_of(alloc: Global, kind: ValueType) -> Result<Value, AllocError>
-    ensures { IfOk result (λ value. value ≡ default kind) }
-{
-    match kind {
-        ValueType::Int => Ok(Value::Int(0)),
-        ValueType::Bool => Ok(Value::Bool(false)),
-        ValueType::Text => {
-            let text = Text::empty(alloc)?;
-            Ok(Value::Text(text))
-        }
-        ValueType::Reference(_, _) => Ok(Value::Ref(None)),
+        None => kind.default_value(alloc),
     }
 }

@@ -12,11 +12,11 @@ use Rattle.meta_model.specs.declared.object.ValueType.TheVariants as type
 use Rattle.meta_model.specs.Loaded.{Loaded}
 use Rattle.meta_model.specs.Members.{IsProperty, Below}
 use Rattle.meta_model.specs.Sound.{IsSound, HasRoot, this_has, parameter_has, Leads, here, on, LeadsTo, LeadsToClass}
-use Rattle.meta_model.specs.Values.{Has, number_has, truth_has, text_has, null_has, object_has, HaveTypes}
+use Rattle.meta_model.specs.Values.{default, Has, number_has, truth_has, text_has, null_has, object_has, HaveTypes}
 use Rattle.object_tree.specs.declared.object.Object.{Object}
 use Rattle.object_tree.specs.Objects.{class_of}
 use Rattle.machine_state.specs.Objects.{stored}
-use Rattle.machine_rules.specs.Paths.{default, root_value, step_value, steps_value, path_value}
+use Rattle.machine_rules.specs.Paths.{root_value, step_value, steps_value, path_value}
 use Rattle.machine_rules.specs.Good.{AreTyped}
 use Rattle.machine_rules.specs.There.{IsField}
 use Rattle.machine_rules.proofs.Fields.{old-there, field-typed, types-get, types-there, map-get, kind_of}
