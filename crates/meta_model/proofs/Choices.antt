@@ -11,12 +11,6 @@ module _ {A B : Type 0} where
   or_second v r s is failed second e =
       (λ t. inr (second.0 (sym e ∙ t)), λ w. elim w [ inl a ↦ absurd (let t = is.1 a in cc) | inr b ↦ e ∙ second.1 b ])
 
-pub or_assoc : {A B C : Type 0} (v : Bool) → (IsTrue v ↔ ((A ⊎ B) ⊎ C)) → IsTrue v ↔ (A ⊎ (B ⊎ C))
-or_assoc v is = (
-  λ t. elim (is.0 t) [ inl h ↦ elim h [ inl a ↦ inl a | inr b ↦ inr (inl b) ] | inr c ↦ inr (inr c) ],
-  λ w. is.1 (elim w [ inl a ↦ inl (inl a) | inr h ↦ elim h [ inl b ↦ inl (inr b) | inr c ↦ inr c ] ]),
-)
-
 -- a test that failed
 pub fails : {A : Type 0} (r : Bool) → (IsTrue r ↔ A) → r ≡ false → ¬ A
 fails r is failed a = let t = is.1 a in cc

@@ -18,9 +18,6 @@ abbrev pub IsPlaceBefore : {X : Type 0} → (X → Type 0) → List X → ℕ �
 IsPlaceBefore P xs i answer = MatchOption answer ((k : ℕ) → k < i → ¬ StandsAt P xs k) (λ k. StandsFirst P xs k)
 
 module _ {X : Type 0} (P : X → Type 0) (xs : List X) where
-  pub place_none : IsPlaceBefore P xs 0 None
-  place_none k below = absurd (omega arith)
-
   -- an element with P takes the place, unless one before it has it
   pub place_here : (i : ℕ) (x : X) → i < length xs → x ≡ get_or xs i x → P x → (old : Option ℕ) → IsPlaceBefore P xs i old → IsPlaceBefore P xs (i + 1) (Some (unwrap_or old i))
   place_here i x inside is has None before = met_first P xs i x before inside is has

@@ -22,11 +22,6 @@ module _ (p : Loaded) (is : IsSound p) where
       let at : slice_get h.class.methods j ≡ Some b = ap (λ (o : MetaObject). slice_get o.methods j) (sym class) ∙ k.is in
       sym ((is.classes c h.class h.is_class).distinct_methods i j a b h.is at name count)
 
-  pub one_sig : (c : ℕ) (sig : Sig) (i j : ℕ) → HasSig p c sig i → HasSig p c sig j → j ≡ i
-  one_sig c sig i j h k =
-      let e : h.method.sig ≡ k.method.sig = h.signed ∙ sym k.signed in
-      one_method c i j h.method k.method h.is k.is (ap (λ (s : Sig). s.name) e) (ap (λ (s : Sig). length s.types) e)
-
   pub one_named : (c : ℕ) (name : List ℕ) (count i j : ℕ) → IsMethodNamed p c name count i → IsMethodNamed p c name count j → j ≡ i
   one_named c name count i j h k =
       one_method c i j h.method k.method h.is k.is (h.named ∙ sym k.named) (h.counted ∙ sym k.counted)

@@ -16,17 +16,3 @@ module _ {p : Loaded} (sound : IsSound p) where
       let begins = (sound.classes c is.class is.is_class).begins in
       let e : slice_get (root_methods ++ begins.own_methods) 1 ≡ Some method = ap (λ ms. slice_get ms 1) (sym begins.methods) ∙ is.is in
       ap (λ (m : MetaMethod). m.sig.types) (sym (same_Some _ _ e))
-
-  below_root : (n c : ℕ) → c < n → (class : MetaObject) → IsClass p c class → Below p c 0
-  below_root zero c less class is = absurd (omega arith)
-  below_root (suc n) c less class is = by (below_root n) class.base refl
-    where
-      by : ((b : ℕ) → b < n → (base : MetaObject) → IsClass p b base → Below p b 0) → (base : Option ℕ) → class.base ≡ base → Below p c 0
-      by above_ones None e = subst (λ d. Below p d 0) (sym ((sound.classes c class is).rooted e)) (same sound.root)
-      by above_ones (Some b) e =
-          let above = (sound.classes c class is).under b e in
-          let based : base_of p c ≡ Some b = ap (option_and_then (λ (x : MetaObject). x.base)) is.is ∙ e in
-          under based (above_ones b (omega (arith, above.smaller)) above.base above.is)
-
-  pub is_below_root : (c : ℕ) (class : MetaObject) → IsClass p c class → Below p c 0
-  is_below_root c class is = below_root (suc c) c (omega arith) class is

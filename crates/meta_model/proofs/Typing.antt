@@ -8,15 +8,6 @@ use Rattle.meta_model.specs.Members.{Below}
 use Rattle.meta_model.specs.Values.{Has, null_has, object_has}
 
 module _ (p : Loaded) (classes : ℕ → Option ℕ) where
-  pub no_number : (object : Option ℕ) → ¬ Has p classes (value.Ref object) type.Int
-  no_number object h = elim h [ ]
-
-  pub no_truth : (object : Option ℕ) → ¬ Has p classes (value.Ref object) type.Bool
-  no_truth object h = elim h [ ]
-
-  pub no_text : (object : Option ℕ) → ¬ Has p classes (value.Ref object) type.Text
-  no_text object h = elim h [ ]
-
   pub null_typed : (c : ℕ) (constant : Bool) → IsTrue true ↔ Has p classes (value.Ref None) (type.Reference c constant)
   null_typed c constant = (λ t. null_has, λ h. refl)
 
@@ -25,6 +16,3 @@ module _ (p : Loaded) (classes : ℕ → Option ℕ) where
 
   pub object_typed : (o c : ℕ) (constant : Bool) (d : ℕ) (r : Bool) → classes o ≡ Some d → (IsTrue r ↔ Below p d c) → IsTrue r ↔ Has p classes (value.Ref (Some o)) (type.Reference c constant)
   object_typed o c constant d r is same = (λ t. object_has is (same.0 t), λ h. same.1 (object_below o c constant d is h))
-
-  pub dead_typed : (o c : ℕ) (constant : Bool) → classes o ≡ None → ¬ Has p classes (value.Ref (Some o)) (type.Reference c constant)
-  dead_typed o c constant is (object_has e below) = none-some _ (sym is ∙ e)

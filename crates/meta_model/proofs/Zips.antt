@@ -21,17 +21,6 @@ module _ {A B : Type 0} (R : A → B → Type 0) where
   pub zip_push : (xs : List A) (ys zs : List B) (i : ℕ) (x : A) (y : B) → i < length xs → x ≡ get_or xs i x → R x y → AllZip R (take i xs) ys → zs ≡ ys ++ y ∷ [] → AllZip R (take (i + 1) xs) zs
   zip_push xs ys zs i x y inside is r before e = subst (λ us. AllZip R (take (i + 1) xs) us) (sym e) (zip_more xs ys i x y inside is r before)
 
-  -- all elements
-  pub zip_all : (xs : List A) (ys : List B) (i : ℕ) → length xs ≤ i → AllZip R (take i xs) ys → AllZip R xs ys
-  zip_all xs ys i past h = subst (λ us. AllZip R us ys) (take_all i xs past) h
-
-module _ {A : Type 0} (P : A → Type 0) (xs : List A) where
-  pub any_here : (i : ℕ) (x : A) → i < length xs → x ≡ get_or xs i x → P x → Any P xs
-  any_here i x inside is has = (i, x, inside, sym is, has)
-
-  pub not_any : ((i : ℕ) → ¬ StandsAt P xs i) → ¬ Any P xs
-  not_any none any = none any.0 (met P xs any.0 any.1 any.2 (sym any.3) any.4)
-
 -- a search that found nothing
 pub lacks : {Y : Type 0} (P : Type 0) (Q : Y → Type 0) (o : Option Y) → o ≡ None → P → MatchOption o P Q
 lacks P Q None e p = p
@@ -75,8 +64,3 @@ module _ {A : Type 0} where
   pub get_back : (xs ys : List A) (i : ℕ) (x : A) → slice_get ys i ≡ Some x → (j : ℕ) × (slice_get (xs ++ ys) j ≡ Some x)
   get_back [] ys i x e = (i, e)
   get_back (a ∷ xs) ys i x e = let r = get_back xs ys i x e in (suc r.0, r.1)
-
-  pub get_split : (xs ys : List A) (i : ℕ) (x : A) → slice_get (xs ++ ys) i ≡ Some x → (slice_get xs i ≡ Some x) ⊎ ((j : ℕ) × (slice_get ys j ≡ Some x))
-  get_split [] ys i x e = inr (i, e)
-  get_split (a ∷ xs) ys zero x e = inl e
-  get_split (a ∷ xs) ys (suc i) x e = get_split xs ys i x e

@@ -26,12 +26,6 @@ module _ (p : Loaded) where
       r h
 
   module _ (c : ℕ) (class : MetaObject) (is : slice_get p.classes c ≡ Some class) where
-    pub sig_answer : (sig : Sig) (xs : List MetaMethod) → xs ≡ class.methods → (r : Option ℕ) → IsPlace (λ method. method.sig ≡ sig) xs r → MatchOption r ((m : ℕ) → ¬ HasSig p c sig m) (λ m. HasSig p c sig m)
-    sig_answer sig xs e r h =
-        answer_of (λ method. method.sig ≡ sig) xs (HasSig p c sig)
-        (λ m at. record { method = at.item; is = record { class = class; is_class = record { is = is }; is = ap (λ ys. slice_get ys m) (sym e) ∙ at.is }; signed = at.has })
-        (λ m n. record { item = n.method; is = ap (λ ys. slice_get ys m) (e ∙ ap (λ k. k.methods) (sym (same_class c n.is.class class n.is.is_class is))) ∙ n.is.is; has = n.signed })
-        r h
 
     pub method_answer : (name : List ℕ) (count : ℕ) (xs : List MetaMethod) → xs ≡ class.methods → (r : Option ℕ) → IsPlace (λ method. (method.sig.name ≡ name) × (length method.sig.types ≡ count)) xs r → MatchOption r ((m : ℕ) → ¬ IsMethodNamed p c name count m) (λ m. IsMethodNamed p c name count m)
     method_answer name count xs e r h =
