@@ -5,6 +5,7 @@ pub mod LookUps
 pub mod Ends
 pub mod Unique
 pub mod Soundness
+pub mod SoundBodies
 pub mod Deciding
 pub mod Whole
 pub mod Refusals

@@ -115,7 +115,7 @@ module _ (program : Program) where
   placed (Err fault.NoMember) h not = record { holds = (h.0, h.1, h.3); none = none_3 h.0 h.1 h.2 }
   placed (Err fault.BadNotify) h not = record { holds = (h.0, h.1, h.4); none = none_4 h.0 h.1 h.2 h.3 }
   placed (Err fault.NoType) h not = record { holds = (h.0, h.1, h.5); none = none_5 h.0 h.1 h.2 h.3 h.4 }
-  placed (Ok loaded) h not = record { holds = tt; none = none_6 h.0 h.1 h.2.members h.2.names h.2.notifiers h.2.types }
+  placed (Ok loaded) h not = record { holds = tt; none = none_6 h.outlines h.outlined h.clean.members h.clean.names h.clean.notifiers h.clean.types }
   placed (Err fault.Memory) h not = absurd (not refl)
 
   same_answer : (a b : Result Loaded MetaFault) → Builds program a → Builds program b → place_of a ≡ place_of b → a ≡ b

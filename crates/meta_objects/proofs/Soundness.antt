@@ -1,10 +1,9 @@
--- What is loaded is sound.
+-- Bodies that are resolved in outlines, as they are loaded: by the numbers of the members with their names.
 use Rattle.std.proofs.Common.{◌≡◌, ◌≢◌, ℕ, zero, suc, false, List, [], ◌∷◌, map, length, slice_get, Some, inl, refl, sym, ap, ◌∙◌, subst}
 use Rattle.std.specs.List.{AllZip}
 use Rattle.std.proofs.lemmas.Option.{none-some, same_Some}
 use Rattle.signatures.specs.declared.qtype.QType.{QType}
-use Rattle.signatures.specs.declared.value.Value.{Value}
-use Rattle.signatures.specs.declared.value.Value.TheVariants as value
+use Rattle.signatures.specs.declared.sig.Sig.{Sig}
 use Rattle.texts.specs.declared.syntax.Expr.{Expr}
 use Rattle.texts.specs.declared.syntax.Root.{Root}
 use Rattle.texts.specs.declared.syntax.Path.{Path}
@@ -26,14 +25,14 @@ use Rattle.meta_model.specs.declared.outline.Sort.TheVariants as sort
 use Rattle.meta_model.specs.declared.outline.Heading.{Heading}
 use Rattle.meta_model.specs.declared.outline.Outline.{Outline}
 use Rattle.meta_model.specs.Loaded.{Loaded}
-use Rattle.meta_model.specs.Members.{IsClassNamed, IsMethod, IsProperty}
-use Rattle.meta_model.specs.Sound.{IsKind, HasRoot, this_has, parameter_has, Leads, here, on, LeadsTo, LeadsToClass, IsSoundExpr, literal_sound, path_sound, unary_sound, binary_sound, AreSoundExprs, IsSoundSet, IsSoundEmit, IsSoundCall, AreSound, none_sound, set_sound, emit_sound, call_sound, if_sound}
-use Rattle.meta_model.specs.Literals.{literal, HoldsNoObject}
+use Rattle.meta_model.specs.Members.{IsClassNamed, IsMethod, IsMethodNamed, IsProperty}
+use Rattle.meta_model.specs.Sound.{IsKind}
 use Rattle.meta_model.specs.Outlines.{IsOutlineNamed, kinds_of}
 use Rattle.meta_model.specs.Kinds.{IsKindIn, IsReadAs}
-use Rattle.meta_objects.specs.Bodies.{Scope, IsRoot, this_root, parameter_root, PointsTo, HasMember, AreSteps, IsPath, IsExpr, literal_is, path_is, unary_is, binary_is, AreExprs, IsSet, IsEmit, IsCall, AreStatements, none_are, set_is, emit_is, call_is, if_is}
+use Rattle.meta_objects.specs.Bodies.{Scope, IsRoot, this_root, parameter_root, PointsTo, HasMember, AreSteps, IsPath, IsExpr, literal_is, path_is, unary_is, binary_is, AreExprs, IsSet, IsCallOf, IsEmit, IsCall, AreStatements, none_are, set_is, emit_is, call_is, if_is}
+use Rattle.meta_objects.specs.LoadedBodies.{Site, site, IsLoadedRoot, this_loaded, parameter_loaded, HasProperty, AreLoadedSteps, no_steps, step_on, IsLoadedPath, IsLoadedObject, IsLoadedExpr, literal_loaded, path_loaded, unary_loaded, binary_loaded, AreLoadedExprs, IsLoadedSet, IsLoadedEmit, IsLoadedCall, AreLoadedStatements, none_loaded, set_loaded, emit_loaded, call_loaded, if_loaded}
 use Rattle.meta_objects.specs.Loading.{body_at, found_body, work_of, IsMethodOf, IsPropertyOf, IsObject}
-use Rattle.meta_model.proofs.Zips.{zip_left}
+use Rattle.meta_model.proofs.Zips.{zip_left, zip_right}
 use Rattle.meta_model.proofs.Searches.{same_first}
 use Rattle.meta_model.proofs.ReadTypes.{same_read}
 
@@ -42,13 +41,6 @@ zip_length R [] [] h = refl
 zip_length R [] (y ∷ ys) h = absurd h
 zip_length R (x ∷ xs) [] h = absurd h
 zip_length R (x ∷ xs) (y ∷ ys) h = ap suc (zip_length R xs ys h.1)
-
--- a literal holds no object
-pub no_object : (v : Value) → HoldsNoObject (literal v)
-no_object (value.Int n) o e = absurd (cc)
-no_object (value.Bool b) o e = absurd (cc)
-no_object (value.Text t) o e = absurd (cc)
-no_object (value.Ref r) o e = absurd (cc)
 
 map_at : {A B : Type 0} (f : A → B) (xs : List A) (i : ℕ) (x : A) → slice_get xs i ≡ Some x → slice_get (map f xs) i ≡ Some (f x)
 map_at f [] i x e = absurd (none-some x e)
@@ -76,13 +68,14 @@ module _ (outlines : List Outline) (bodies : List (List (List Statement))) (p : 
   pub record FoundProperty (c q : ℕ) (property : Property) : Type 0 where
     pub loaded : MetaProperty
     pub is : IsProperty p c q loaded
+    pub named : loaded.name ≡ property.name
     pub kind : IsReadAs outlines property.kind loaded.kind
 
   pub property_at : (c : ℕ) (o : Outline) → slice_get outlines c ≡ Some o → (q : ℕ) (property : Property) → slice_get o.properties q ≡ Some property → FoundProperty c q property
   property_at c o e q property at =
       let x = object_at c o e in
       let y = zip_left (IsPropertyOf outlines o) o.properties x.0.properties x.2.properties q property at in
-      record { loaded = y.0; is = record { class = x.0; is_class = record { is = x.1 }; is = y.1 }; kind = y.2.kind }
+      record { loaded = y.0; is = record { class = x.0; is_class = record { is = x.1 }; is = y.1 }; named = y.2.named; kind = y.2.kind }
 
   pub record FoundMethod (c m : ℕ) (h : Heading) : Type 0 where
     pub loaded : MetaMethod
@@ -95,10 +88,21 @@ module _ (outlines : List Outline) (bodies : List (List (List Statement))) (p : 
       let y = zip_left (IsMethodOf outlines bodies) o.methods x.0.methods x.2.methods m h at in
       record { loaded = y.0; is = record { class = x.0; is_class = record { is = x.1 }; is = y.1 }; by = y.2 }
 
+  -- as many types as parameters
+  pub kinds_counted : (c m : ℕ) (method : MetaMethod) → IsMethod p c m method → length method.sig.types ≡ length method.kinds
+  kinds_counted c m method h =
+      let o = zip_right (IsObject outlines bodies) outlines p.classes objects c h.class h.is_class.is in
+      let x = zip_right (IsMethodOf outlines bodies) o.0.methods h.class.methods o.2.methods m method h.is in
+      ap (λ (s : Sig). length s.types) x.2.signed ∙ zip_length (IsReadAs outlines) x.0.sig.types method.kinds x.2.kinds
+
   -- ---- bodies
   module _ (name : List ℕ) (parameters : List Parameter) (me : ℕ) (is_me : IsOutlineNamed outlines name me) (kinds : List ValueType) (typed : AllZip (IsReadAs outlines) (kinds_of parameters) kinds) where
     abbrev scope : Scope
     scope = record { outlines = outlines; me = name; parameters = parameters }
+
+    -- .. among the loaded classes
+    abbrev loaded_site : Site
+    loaded_site = site p me parameters kinds
 
     -- a pointer's reading
     points : (T : QType) (c : ℕ) (k : ValueType) → PointsTo outlines T c → IsReadAs outlines T k → k ≡ type.Reference c T.constant
@@ -108,61 +112,59 @@ module _ (outlines : List Outline) (bodies : List (List (List Statement))) (p : 
     member T n q property h =
         property_at h.number h.points.class.at.item h.points.class.at.is q property (h.place.at.is ∙ ap (λ (x : Property). Some x) h.is)
 
-    root_leads : (r : Root) (f : MetaRoot) (T : QType) → IsRoot scope r f T → (k : ValueType) × HasRoot me kinds f k × IsReadAs outlines T k
-    root_leads r f T this_root = (type.Reference me false, this_has, inl (refl, refl, is_me))
-    root_leads r f T (parameter_root {k = k} at) =
+    root_loads : (r : Root) (f : MetaRoot) (T : QType) → IsRoot scope r f T → (k : ValueType) × IsLoadedRoot loaded_site r f k × IsReadAs outlines T k
+    root_loads r f T this_root = (type.Reference me false, this_loaded, inl (refl, refl, is_me))
+    root_loads r f T (parameter_root {k = k} at) =
         let y = zip_left (IsReadAs outlines) (kinds_of parameters) kinds typed k at.at.item.kind (map_at (λ (x : Parameter). x.kind) parameters k at.at.item at.at.is) in
-        (y.0, parameter_has y.1, y.2)
+        (y.0, parameter_loaded at y.1, y.2)
 
-    steps_lead : (names : List (List ℕ)) (T : QType) (k : ValueType) (steps : List Step) (U : QType) → IsReadAs outlines T k → AreSteps outlines T names steps U → (l : ValueType) × IsReadAs outlines U l × Leads p k steps l
-    steps_lead [] T k [] U read h = (k, subst (λ V. IsReadAs outlines V k) h read, here)
-    steps_lead [] T k (s ∷ steps) U read h = absurd h
-    steps_lead (n ∷ names) T k [] U read h = absurd h
-    steps_lead (n ∷ names) T k (s ∷ steps) U read h =
+    -- the property that a name is resolved to has it
+    has_property : (T : QType) (n : List ℕ) (q : ℕ) (property : Property) (h : HasMember outlines T n q property) → HasProperty p h.number n q (member T n q property h).loaded
+    has_property T n q property h =
+        let found = member T n q property h in
+        record { is = found.is; named = found.named ∙ sym (ap (λ (x : Property). x.name) h.is) ∙ h.place.at.has }
+
+    steps_load : (names : List (List ℕ)) (T : QType) (k : ValueType) (steps : List Step) (U : QType) → IsReadAs outlines T k → AreSteps outlines T names steps U → (l : ValueType) × IsReadAs outlines U l × AreLoadedSteps p k names steps l
+    steps_load [] T k [] U read h = (k, subst (λ V. IsReadAs outlines V k) h read, no_steps)
+    steps_load [] T k (s ∷ steps) U read h = absurd h
+    steps_load (n ∷ names) T k [] U read h = absurd h
+    steps_load (n ∷ names) T k (s ∷ steps) U read h =
         let found = member T n s.property h.0 h.1.member in
         let kind : found.loaded.kind ≡ s.kind = same_read outlines h.0.kind found.loaded.kind s.kind found.kind h.1.kind in
-        let rest = steps_lead names h.0.kind s.kind steps U h.1.kind h.2 in
-        (rest.0, rest.1, subst (λ l. Leads p l (s ∷ steps) rest.0) (sym (points T h.1.member.number k h.1.member.points read)) (on found.is kind rest.2))
+        let rest = steps_load names h.0.kind s.kind steps U h.1.kind h.2 in
+        (rest.0, rest.1, subst (λ l. AreLoadedSteps p l (n ∷ names) (s ∷ steps) rest.0) (sym (points T h.1.member.number k h.1.member.points read)) (step_on (has_property T n s.property h.0 h.1.member) kind rest.2))
 
-    path_leads : (path : Path) (f : MetaPath) (T : QType) → IsPath scope path f T → (k : ValueType) × IsReadAs outlines T k × LeadsTo p me kinds f k
-    path_leads path f T h =
-        let root = root_leads path.root f.root h.root_type h.root in
-        let steps = steps_lead path.properties h.root_type root.0 f.steps T root.2 h.steps in
+    path_loads : (path : Path) (f : MetaPath) (T : QType) → IsPath scope path f T → (k : ValueType) × IsReadAs outlines T k × IsLoadedPath loaded_site path f k
+    path_loads path f T h =
+        let root = root_loads path.root f.root h.root_type h.root in
+        let steps = steps_load path.properties h.root_type root.0 f.steps T root.2 h.steps in
         (steps.0, steps.1, record { root_type = root.0; root = root.1; steps = steps.2 })
 
-    leads_to_class : (path : Path) (f : MetaPath) (T : QType) (c : ℕ) → IsPath scope path f T → PointsTo outlines T c → LeadsToClass p me kinds f c
-    leads_to_class path f T c h to =
-        let path_to = path_leads path f T h in
-        record { constant = T.constant; leads = subst (λ k. LeadsTo p me kinds f k) (points T c path_to.0 to path_to.1) path_to.2 }
+    object_loads : (path : Path) (f : MetaPath) (T : QType) (c : ℕ) → IsPath scope path f T → PointsTo outlines T c → IsLoadedObject loaded_site path f c
+    object_loads path f T c h to =
+        let path_to = path_loads path f T h in
+        record { constant = T.constant; leads = subst (λ k. IsLoadedPath loaded_site path f k) (points T c path_to.0 to path_to.1) path_to.2 }
 
-    sound_expr : (e : Expr Path) (f : Expr MetaPath) → IsExpr scope e f → IsSoundExpr p me kinds f
-    sound_expr e f (literal_is {v = v} a b) = literal_sound b (no_object v)
-    sound_expr e f (path_is {path = path} {found = found} {T = T} a b h) = path_sound b ((path_leads path found T h).2)
-    sound_expr e f (unary_is {a = x} {b = y} a b h) = unary_sound b (sound_expr x y h)
-    sound_expr e f (binary_is {a = x} {c = x2} {b = y} {d = y2} a b h k) = binary_sound b (sound_expr x y h) (sound_expr x2 y2 k)
+    expr_loads : (e : Expr Path) (f : Expr MetaPath) → IsExpr scope e f → IsLoadedExpr loaded_site e f
+    expr_loads e f (literal_is a b) = literal_loaded a b
+    expr_loads e f (path_is {path = path} {found = found} {T = T} a b h) = path_loaded a b ((path_loads path found T h).2)
+    expr_loads e f (unary_is {a = x} {b = y} a b h) = unary_loaded a b (expr_loads x y h)
+    expr_loads e f (binary_is {a = x} {c = x2} {b = y} {d = y2} a b h k) = binary_loaded a b (expr_loads x y h) (expr_loads x2 y2 k)
 
-    sound_exprs : (es : List (Expr Path)) (fs : List (Expr MetaPath)) → AreExprs scope es fs → AreSoundExprs p me kinds fs
-    sound_exprs [] [] h = tt
-    sound_exprs [] (f ∷ fs) h = absurd h
-    sound_exprs (e ∷ es) [] h = absurd h
-    sound_exprs (e ∷ es) (f ∷ fs) h = (sound_expr e f h.0, sound_exprs es fs h.1)
+    exprs_load : (es : List (Expr Path)) (fs : List (Expr MetaPath)) → AreExprs scope es fs → AreLoadedExprs loaded_site es fs
+    exprs_load [] [] h = tt
+    exprs_load [] (f ∷ fs) h = absurd h
+    exprs_load (e ∷ es) [] h = absurd h
+    exprs_load (e ∷ es) (f ∷ fs) h = (expr_loads e f h.0, exprs_load es fs h.1)
 
-    same_count : (es : List (Expr Path)) (fs : List (Expr MetaPath)) → AreExprs scope es fs → length es ≡ length fs
-    same_count [] [] h = refl
-    same_count [] (f ∷ fs) h = absurd h
-    same_count (e ∷ es) [] h = absurd h
-    same_count (e ∷ es) (f ∷ fs) h = ap suc (same_count es fs h.1)
-
-    sound_set : (path : Path) (n : List ℕ) (e : Expr Path) (found : MetaPath) (q : ℕ) (f : Expr MetaPath) → IsSet scope path n e found q f → IsSoundSet p me kinds found q f
-    sound_set path n e found q f h =
-        let property = member h.kind n q h.property h.member in
-        record {
-          class = h.member.number;
-          leads = leads_to_class path found h.kind h.member.number h.object h.member.points;
-          property = property.loaded;
-          is = property.is;
-          value = sound_expr e f h.value;
-        }
+    set_loads : (path : Path) (n : List ℕ) (e : Expr Path) (found : MetaPath) (q : ℕ) (f : Expr MetaPath) → IsSet scope path n e found q f → IsLoadedSet loaded_site path n e found q f
+    set_loads path n e found q f h = record {
+      class = h.member.number;
+      object = object_loads path found h.kind h.member.number h.object h.member.points;
+      property = (member h.kind n q h.property h.member).loaded;
+      has = has_property h.kind n q h.property h.member;
+      value = expr_loads e f h.value;
+    }
 
     -- a signal's work, and a slot's
     sort_slot : (s : Sort) → s ≢ sort.Signal → (body : List Statement) × (work_of bodies s ≡ work.Slot body)
@@ -170,38 +172,44 @@ module _ (outlines : List Outline) (bodies : List (List (List Statement))) (p : 
     sort_slot sort.DeleteLater not_signal = ([], refl)
     sort_slot (sort.Slot i j) not_signal = (found_body (body_at bodies i j), refl)
 
-    sound_emit : (n : List ℕ) (es : List (Expr Path)) (m : ℕ) (fs : List (Expr MetaPath)) → IsEmit scope n es m fs → IsSoundEmit p me kinds m fs
-    sound_emit n es m fs h =
-        let found = method_at h.number h.class.at.item h.class.at.is m h.method.at.item h.method.at.is in
+    -- the method that a name and a number of parameters are resolved to has them
+    abbrev method_named : (c m : ℕ) (h : Heading) → FoundMethod c m h → (n : List ℕ) (count : ℕ) → IsCallOf n count h → IsMethodNamed p c n count m
+    method_named c m h found n count has = record {
+      method = found.loaded;
+      is = found.is;
+      named = ap (λ (s : Sig). s.name) found.by.signed ∙ has.0;
+      counted = ap (λ (s : Sig). length s.types) found.by.signed ∙ has.1;
+    }
+
+    emit_loads : (n : List ℕ) (es : List (Expr Path)) (m : ℕ) (fs : List (Expr MetaPath)) → IsEmit scope n es m fs → IsLoadedEmit loaded_site n es m fs
+    emit_loads n es m fs h =
         let number : h.number ≡ me = same_first (λ (o : Outline). o.name ≡ name) outlines h.number me h.class is_me in
+        let at_me : slice_get outlines me ≡ Some h.class.at.item = ap (λ c. slice_get outlines c) (sym number) ∙ h.class.at.is in
+        let found = method_at me h.class.at.item at_me m h.method.at.item h.method.at.is in
         record {
-          signal = found.loaded;
-          is = subst (λ c. IsMethod p c m found.loaded) number found.is;
+          signal = method_named me m h.method.at.item found n (length es) h.method.at.has;
           signals = found.by.work ∙ ap (λ s. work_of bodies s) h.signal;
           emitted = h.emitted;
-          counted = sym (zip_length (IsReadAs outlines) h.method.at.item.sig.types found.loaded.kinds found.by.kinds) ∙ h.method.at.has.1 ∙ same_count es fs h.values;
-          values = sound_exprs es fs h.values;
+          values = exprs_load es fs h.values;
         }
 
-    sound_call : (path : Path) (n : List ℕ) (es : List (Expr Path)) (found : MetaPath) (m : ℕ) (fs : List (Expr MetaPath)) → IsCall scope path n es found m fs → IsSoundCall p me kinds found m fs
-    sound_call path n es found m fs h =
+    call_loads : (path : Path) (n : List ℕ) (es : List (Expr Path)) (found : MetaPath) (m : ℕ) (fs : List (Expr MetaPath)) → IsCall scope path n es found m fs → IsLoadedCall loaded_site path n es found m fs
+    call_loads path n es found m fs h =
         let method = method_at h.number h.points.class.at.item h.points.class.at.is m h.method.at.item h.method.at.is in
         let body = sort_slot h.method.at.item.sort h.slot in
         record {
           class = h.number;
-          leads = leads_to_class path found h.kind h.number h.object h.points;
-          slot = method.loaded;
-          is = method.is;
+          object = object_loads path found h.kind h.number h.object h.points;
+          slot = method_named h.number m h.method.at.item method n (length es) h.method.at.has;
           body = body.0;
           slots = method.by.work ∙ body.1;
-          counted = sym (zip_length (IsReadAs outlines) h.method.at.item.sig.types method.loaded.kinds method.by.kinds) ∙ h.method.at.has.1 ∙ same_count es fs h.values;
-          values = sound_exprs es fs h.values;
+          values = exprs_load es fs h.values;
         }
 
-    pub sound_statements : (xs : List Stmt) (ys : List Statement) → AreStatements scope xs ys → AreSound p me kinds ys
-    sound_statements xs ys none_are = none_sound
-    sound_statements xs ys (set_is {path = path} {name = n} {e = e} {found = found} {q = q} {f = f} {xs = us} {ys = vs} a b h t) = set_sound b (sound_set path n e found q f h) (sound_statements us vs t)
-    sound_statements xs ys (emit_is {name = n} {es = es} {m = m} {fs = fs} {xs = us} {ys = vs} a b h t) = emit_sound b (sound_emit n es m fs h) (sound_statements us vs t)
-    sound_statements xs ys (call_is {path = path} {name = n} {es = es} {found = found} {m = m} {fs = fs} {xs = us} {ys = vs} a b h t) = call_sound b (sound_call path n es found m fs h) (sound_statements us vs t)
-    sound_statements xs ys (if_is {e = e} {then_x = x1} {else_x = x2} {f = f} {then_y = y1} {else_y = y2} {xs = us} {ys = vs} a b h h1 h2 t) =
-        if_sound b (sound_expr e f h) (sound_statements x1 y1 h1) (sound_statements x2 y2 h2) (sound_statements us vs t)
+    pub statements_load : (xs : List Stmt) (ys : List Statement) → AreStatements scope xs ys → AreLoadedStatements loaded_site xs ys
+    statements_load xs ys none_are = none_loaded
+    statements_load xs ys (set_is {path = path} {name = n} {e = e} {found = found} {q = q} {f = f} {xs = us} {ys = vs} a b h t) = set_loaded a b (set_loads path n e found q f h) (statements_load us vs t)
+    statements_load xs ys (emit_is {name = n} {es = es} {m = m} {fs = fs} {xs = us} {ys = vs} a b h t) = emit_loaded a b (emit_loads n es m fs h) (statements_load us vs t)
+    statements_load xs ys (call_is {path = path} {name = n} {es = es} {found = found} {m = m} {fs = fs} {xs = us} {ys = vs} a b h t) = call_loaded a b (call_loads path n es found m fs h) (statements_load us vs t)
+    statements_load xs ys (if_is {e = e} {then_x = x1} {else_x = x2} {f = f} {then_y = y1} {else_y = y2} {xs = us} {ys = vs} a b h h1 h2 t) =
+        if_loaded a b (expr_loads e f h) (statements_load x1 y1 h1) (statements_load x2 y2 h2) (statements_load us vs t)

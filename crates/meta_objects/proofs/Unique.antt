@@ -153,5 +153,5 @@ same_all program all more h k = same_outlines program.classes (qobject ∷ []) 0
 
 pub one_loading : OneLoading
 one_loading program a b h k =
-    let outlines = same_outlines program.classes (qobject ∷ []) 0 h.0 k.0 h.1.are k.1.are in
-    same_loaded h.0 program a b h.3 (subst (λ o. IsLoaded program o b) (sym outlines) k.3)
+    let outlines = same_outlines program.classes (qobject ∷ []) 0 h.outlines k.outlines h.outlined.are k.outlined.are in
+    same_loaded h.outlines program a b h.looked_up (subst (λ o. IsLoaded program o b) (sym outlines) k.looked_up)

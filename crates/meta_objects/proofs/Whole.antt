@@ -1,5 +1,5 @@
 -- A loaded program is sound.
-use Rattle.std.proofs.Common.{◌≡◌, ℕ, zero, suc, ◌<◌, Bool, false, List, [], ◌∷◌, ◌++◌, map, length, get_or, slice_get, Option, Some, None, Any, ◌⊎◌, inl, inr, refl, sym, ap, ◌∙◌, subst, arith, append_assoc}
+use Rattle.std.proofs.Common.{◌≡◌, ℕ, zero, suc, ◌<◌, ◌+◌, Bool, false, List, [], ◌∷◌, ◌++◌, map, length, get_or, slice_get, Option, Some, None, Any, ◌⊎◌, inl, inr, refl, sym, ap, ◌∙◌, subst, arith, append_assoc}
 use Rattle.std.specs.Prelude.{codes}
 use Rattle.std.specs.List.{AllZip}
 use Rattle.std.specs.Option.{option_and_then}
@@ -15,6 +15,7 @@ use Rattle.texts.specs.declared.program.Class.{Class}
 use Rattle.texts.specs.declared.program.Wire.{Wire}
 use Rattle.texts.specs.declared.program.Owns.{Owns}
 use Rattle.texts.specs.declared.program.Program.{Program}
+use Rattle.meta_model.specs.declared.object.Statement.{Statement}
 use Rattle.meta_model.specs.declared.object.ValueType.{ValueType}
 use Rattle.meta_model.specs.declared.object.ValueType.TheVariants as type
 use Rattle.meta_model.specs.declared.object.MetaMethod.{MetaMethod}
@@ -36,8 +37,9 @@ use Rattle.meta_model.specs.Outlines.{IsOutlineNamed, kinds_of, sig_of, signal_h
 use Rattle.meta_model.specs.Kinds.{LacksType, IsReadAs}
 use Rattle.meta_model.specs.Conditions.{AreOneCall, HasTwoMembers, IsSignalOf, LacksNotifier, LacksTypes}
 use Rattle.meta_objects.specs.Bodies.{IsBody, AreBodies}
-use Rattle.meta_objects.specs.Loading.{body_at, found_body, work_of, initial_of, IsMethodOf, IsNotify, IsPropertyOf, IsObject, IsWire, IsOwns, IsLoaded}
-use Rattle.meta_objects.specs.Builds.{HasOutlines, IsClean}
+use Rattle.meta_objects.specs.Loading.{body_at, found_body, work_of, initial_of, IsMethodOf, IsNotify, IsPropertyOf, IsObject, IsWire, IsOwns, HasUses, IsLoaded}
+use Rattle.meta_objects.specs.Builds.{HasOutlines, IsClean, IsLoadedForm}
+use Rattle.meta_objects.specs.LoadedBodies.{site, AreLoadedStatements}
 use Rattle.meta_objects.specs.Classes.{IsLoadedSignal, IsLoadedSlot, HasNotifier, IsLoadedProperty, IsLoadedClass, HasLoadedClass, IsLoadedWire, IsLoadedOwns, IsLoadedProgram}
 use Rattle.meta_model.proofs.Zips.{zip_left, zip_right, get_front, get_back}
 use Rattle.meta_model.proofs.Searches.{place_in}
@@ -46,7 +48,8 @@ use Rattle.meta_model.proofs.ReadTypes.{same_read}
 use Rattle.meta_objects.proofs.Deciding.{carries}
 use Rattle.meta_objects.proofs.Unique.{same_zip, same_method, same_property_by, same_place, same_object}
 use Rattle.meta_model.proofs.Outlined.{Declared, Reaches, here, up, HasSlot, outline_of, slot_of, outlines_count, root_at, reaches_root, delete_later_in_root, distinct_outlines}
-use Rattle.meta_objects.proofs.Soundness.{zip_length, object_at, named, kind_in, method_at, sound_statements}
+use Rattle.meta_objects.proofs.Soundness.{zip_length, object_at, named, kind_in, method_at, kinds_counted, statements_load}
+use Rattle.meta_objects.proofs.SoundBodies.{statements_sound}
 
 module _ {A B : Type 0} (R : A → B → Type 0) where
   -- a list that relates to two lists in a row
@@ -199,16 +202,22 @@ module _ (program : Program) (o : List Outline) (outlined : HasOutlines program 
     first = λ k less at. let same_place : k ≡ c = distinct_outlines program o outlined.are outlined.distinct k c at.item u at.is e (at.has ∙ sym named) in absurd (omega (arith, same_place));
   }
 
-  body_sound : (c i j m : ℕ) (h : Heading) (kinds : List ValueType) → HasSlot program.classes o c i j m h → AllZip (IsReadAs o) h.sig.types kinds → AreSound p (suc i) kinds (found_body (body_at loaded.bodies i j))
-  body_sound c i j m h kinds slot typed =
-      let of_class = zip_left (AreBodies o) program.classes loaded.bodies loaded.uses.are_bodies i slot.class slot.is_class in
-      let body = zip_left (IsBody o slot.class) slot.class.slots of_class.0 of_class.2 j slot.slot slot.is_slot in
+  -- the body of slot j of class i, as it is loaded
+  body_loaded : (i : ℕ) (class : Class) → slice_get program.classes i ≡ Some class → (u : Outline) → slice_get o (suc i) ≡ Some u → u.name ≡ class.name → (j : ℕ) (slot : Slot) → slice_get class.slots j ≡ Some slot → (kinds : List ValueType) → AllZip (IsReadAs o) (kinds_of slot.parameters) kinds → AreLoadedStatements (site p (suc i) slot.parameters kinds) slot.body (found_body (body_at loaded.bodies i j))
+  body_loaded i class is_class u is_outline u_named j slot is_slot kinds typed =
+      let of_class = zip_left (AreBodies o) program.classes loaded.bodies loaded.uses.are_bodies i class is_class in
+      let body = zip_left (IsBody o class) class.slots of_class.0 of_class.2 j slot is_slot in
       let found : found_body (body_at loaded.bodies i j) ≡ body.0 =
       ap (λ bs. found_body (option_and_then (λ of_class. slice_get of_class j) bs)) of_class.1 ∙ ap found_body body.1 in
+      subst (λ b. AreLoadedStatements (site p (suc i) slot.parameters kinds) slot.body b) (sym found)
+      (statements_load o loaded.bodies p loaded.objects class.name slot.parameters (suc i)
+      (is_first class.name (suc i) u is_outline u_named) kinds typed slot.body body.0 body.2)
+
+  body_sound : (c i j m : ℕ) (h : Heading) (kinds : List ValueType) → HasSlot program.classes o c i j m h → AllZip (IsReadAs o) h.sig.types kinds → AreSound p (suc i) kinds (found_body (body_at loaded.bodies i j))
+  body_sound c i j m h kinds slot typed =
       let types : AllZip (IsReadAs o) (kinds_of slot.slot.parameters) kinds = subst (λ (s : Sig). AllZip (IsReadAs o) s.types kinds) slot.signed typed in
-      subst (λ b. AreSound p (suc i) kinds b) (sym found)
-      (sound_statements o loaded.bodies p loaded.objects slot.class.name slot.slot.parameters (suc i)
-      (is_first slot.class.name (suc i) slot.outline slot.is_outline slot.named) kinds types slot.slot.body body.0 body.2)
+      statements_sound (site p (suc i) slot.slot.parameters kinds) (kinds_counted o loaded.bodies p loaded.objects) slot.slot.body _
+      (body_loaded i slot.class slot.is_class slot.outline slot.is_outline slot.named j slot.slot slot.is_slot kinds types)
 
   slot_sound : (c i j m : ℕ) (h : Heading) (kinds : List ValueType) → HasSlot program.classes o c i j m h → AllZip (IsReadAs o) h.sig.types kinds → IsSoundBody p c m kinds (found_body (body_at loaded.bodies i j))
   slot_sound c i j m h kinds slot typed =
@@ -306,7 +315,7 @@ module _ (program : Program) (o : List Outline) (outlined : HasOutlines program 
   )
 
   slots_loaded : (i from : ℕ) (slots : List Slot) (ys : List MetaMethod)
-      → ((k : ℕ) (h : Heading) → slice_get (slot_headings i from slots) k ≡ Some h → (j : ℕ) → h.sort ≡ sort.Slot i j → (kinds : List ValueType) → AllZip (IsReadAs o) h.sig.types kinds → AreSound p (suc i) kinds (found_body (body_at loaded.bodies i j)))
+      → ((k j : ℕ) (slot : Slot) → slice_get slots k ≡ Some slot → from + k ≡ j → (kinds : List ValueType) → AllZip (IsReadAs o) (kinds_of slot.parameters) kinds → AreLoadedStatements (site p (suc i) slot.parameters kinds) slot.body (found_body (body_at loaded.bodies i j)))
       → ((k : ℕ) (y : MetaMethod) → slice_get ys k ≡ Some y → AllZip (IsKind p) y.sig.types y.kinds)
       → AllZip (IsMethodOf o loaded.bodies) (slot_headings i from slots) ys → AllZip (IsLoadedSlot p (suc i)) slots ys
   slots_loaded i from [] [] bodies typed h = tt
@@ -318,9 +327,9 @@ module _ (program : Program) (o : List Outline) (outlined : HasOutlines program 
       typed = subst (λ (g : Sig). AllZip (IsKind p) g.types y.kinds) h.0.signed (typed 0 y refl);
       body = found_body (body_at loaded.bodies i from);
       slots = h.0.work;
-      sound = bodies 0 (heading (sig_of slot.name (kinds_of slot.parameters)) (sort.Slot i from)) refl from refl y.kinds h.0.kinds;
+      resolved = bodies 0 from slot refl (omega arith) y.kinds h.0.kinds;
     },
-    slots_loaded i (suc from) slots ys (λ k. bodies (suc k)) (λ k. typed (suc k)) h.1,
+    slots_loaded i (suc from) slots ys (λ k j s e at. bodies (suc k) j s e (omega (arith, at))) (λ k. typed (suc k)) h.1,
   )
 
   has_notifier : (c : ℕ) (class : MetaObject) (u : OutlineOf c class) (q : ℕ) (d : Property) → slice_get u.outline.properties q ≡ Some d → (s : Option Sig) → d.notify ≡ s → (n : Option ℕ) → IsNotify u.outline s n → HasNotifier class s n
@@ -371,12 +380,12 @@ module _ (program : Program) (o : List Outline) (outlined : HasOutlines program 
       λ k y e. let at = get_back methods.0 methods.1 k y e in (method_sound c class u at.0 y (ap (λ ms. slice_get ms at.0) methods.2 ∙ at.1)).kinds in
       let property_typed : (k : ℕ) (y : MetaProperty) → slice_get properties.1 k ≡ Some y → IsKind p y.declared y.kind =
       λ k y e. let at = get_back properties.0 properties.1 k y e in (property_sound c class u at.0 y (ap (λ ps. slice_get ps at.0) properties.2 ∙ at.1)).kind in
-      let bodies : (k : ℕ) (h : Heading) → slice_get (slot_headings d.i 0 d.class.slots) k ≡ Some h → (j : ℕ) → h.sort ≡ sort.Slot d.i j → (kinds : List ValueType) → AllZip (IsReadAs o) h.sig.types kinds → AreSound p (suc d.i) kinds (found_body (body_at loaded.bodies d.i j)) =
-      λ k h e j is kinds typed.
-      let in_own = get_back (map signal_heading d.class.signals) (slot_headings d.i 0 d.class.slots) k h e in
-      let at = get_back d.base.methods (own_methods d.i d.class) in_own.0 h in_own.1 in
-      body_sound c d.i j at.0 h kinds
-      (slot_of program.classes o outlined.are c u.outline u.is at.0 h (ap (λ hs. slice_get hs at.0) outlined_methods ∙ at.1) d.i j is) typed in
+      let is_outline : slice_get o (suc d.i) ≡ Some u.outline = subst (λ n. slice_get o n ≡ Some u.outline) d.number u.is in
+      let outline_named : u.outline.name ≡ d.class.name = ap (λ (v : Outline). v.name) d.shape in
+      let bodies : (k j : ℕ) (slot : Slot) → slice_get d.class.slots k ≡ Some slot → 0 + k ≡ j → (kinds : List ValueType) → AllZip (IsReadAs o) (kinds_of slot.parameters) kinds → AreLoadedStatements (site p (suc d.i) slot.parameters kinds) slot.body (found_body (body_at loaded.bodies d.i j)) =
+      λ k j slot e at.
+      let same : k ≡ j = omega (arith, at) in
+      body_loaded d.i d.class d.is u.outline is_outline outline_named j slot (subst (λ n. slice_get d.class.slots n ≡ Some slot) same e) in
       let notified : (k : ℕ) (y : Property) → slice_get d.class.properties k ≡ Some y → (n : Option ℕ) → IsNotify u.outline y.notify n → HasNotifier class y.notify n =
       λ k y e n h.
       let at = get_back d.base.properties d.class.properties k y e in
@@ -592,3 +601,9 @@ module _ (program : Program) (o : List Outline) (outlined : HasOutlines program 
     wires = zip_also (IsWire o) (IsLoadedWire p) program.wires p.wires wire_loaded loaded.uses.wired;
     owns = zip_also (IsOwns o) (IsLoadedOwns p) program.owns p.owns owns_loaded loaded.uses.owned;
   }
+
+-- what the resolved parts of a program make
+pub loaded_form : (program : Program) (o : List Outline) (bodies : List (List (List Statement))) (p : Loaded) → HasOutlines program o → IsClean program o → HasUses program o bodies p.wires p.owns → AllZip (IsObject o bodies) o p.classes → IsLoadedForm program p
+loaded_form program o bodies p outlined clean uses objects =
+    let loaded : IsLoaded program o p = record { bodies = bodies; uses = uses; objects = objects } in
+    record { declared = as_declared program o outlined clean p loaded; outlines = o; outlined = outlined; clean = clean; looked_up = loaded }

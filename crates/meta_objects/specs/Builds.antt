@@ -8,6 +8,7 @@ use Rattle.meta_model.specs.Loaded.{Loaded}
 use Rattle.meta_model.specs.Outlines.{Outlines}
 use Rattle.meta_model.specs.Conditions.{DuplicateClass, NoBase, DuplicateMember, BadNotify, NoType}
 use Rattle.meta_objects.specs.Loading.{LacksMember, IsLoaded}
+use Rattle.meta_objects.specs.Classes.{IsLoadedProgram}
 
 -- class names and bases are as they are to be, so that the classes have these members
 pub record HasOutlines (program : Program) (outlines : List Outline) : Type 0 where
@@ -22,10 +23,18 @@ pub record IsClean (program : Program) (outlines : List Outline) : Type 0 where
   pub notifiers : ¬ BadNotify outlines
   pub types : ¬ NoType outlines
 
+-- What is loaded of a program that no condition refuses: first what it is; then how the names in it were looked up, in the
+-- outlines of its classes, of which there is one way (`OneLoading`).
+pub record IsLoadedForm (program : Program) (loaded : Loaded) : Type 0 where
+  pub declared : IsLoadedProgram program loaded
+  pub outlines : List Outline
+  pub outlined : HasOutlines program outlines
+  pub clean : IsClean program outlines
+  pub looked_up : IsLoaded program outlines loaded
+
 -- the first condition that holds, over the whole program, refuses it; where none holds, the program is loaded
 abbrev pub Builds : Program → Result Loaded MetaFault → Type 0
-Builds program (Ok loaded) =
-    (o : List Outline) × HasOutlines program o × IsClean program o × IsLoaded program o loaded
+Builds program (Ok loaded) = IsLoadedForm program loaded
 Builds program (Err fault.DuplicateClass) = DuplicateClass program
 Builds program (Err fault.NoBase) = (¬ DuplicateClass program) × NoBase program
 Builds program (Err fault.DuplicateMember) = (o : List Outline) × HasOutlines program o × DuplicateMember program o
@@ -36,6 +45,10 @@ Builds program (Err fault.BadNotify) =
 Builds program (Err fault.NoType) =
     (o : List Outline) × HasOutlines program o × (¬ DuplicateMember program o) × (¬ LacksMember program o) × (¬ BadNotify o) × NoType o
 Builds program (Err fault.Memory) = Unit {0}
+
+-- what is loaded is the program as declared
+abbrev pub LoadedAsDeclared : Type 0
+LoadedAsDeclared = (program : Program) (p : Loaded) → Builds program (Ok p) → IsLoadedProgram program p
 
 -- a program is loaded in one way at most
 abbrev pub OneLoading : Type 0

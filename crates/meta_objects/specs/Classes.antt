@@ -1,6 +1,6 @@
--- What a loaded program is, in Qt's words: each class has its base's members and then its own, as declared, and names are
--- replaced by numbers (Qt 6, "The Meta-Object System"; docs/machine.md, "Loading").
-use Rattle.std.specs.Prelude.{◌≡◌, ℕ, suc, ◌<◌, List, ◌++◌, length, Option, None, Some, slice_get, Ok}
+-- What a loaded program is, in Qt's words: the classes in their order, each with its base's members and then its own, as
+-- declared, and names are replaced by numbers (Qt 6, "The Meta-Object System"; docs/machine.md, "Loading").
+use Rattle.std.specs.Prelude.{◌≡◌, ℕ, suc, ◌<◌, List, ◌++◌, length, Option, None, Some, slice_get}
 use Rattle.std.specs.List.{AllZip}
 use Rattle.signatures.specs.declared.sig.Sig.{Sig}
 use Rattle.texts.specs.declared.program.Property.{Property}
@@ -22,9 +22,9 @@ use Rattle.meta_model.specs.Loaded.{Loaded}
 use Rattle.meta_model.specs.Members.{IsClass, IsClassNamed, HasSig}
 use Rattle.meta_model.specs.Outlines.{sig_of, kinds_of, base_name}
 use Rattle.meta_model.specs.Root.{root_class}
-use Rattle.meta_model.specs.Sound.{IsKind, AreSound}
+use Rattle.meta_model.specs.Sound.{IsKind}
 use Rattle.meta_objects.specs.Loading.{initial_of}
-use Rattle.meta_objects.specs.Builds.{Builds}
+use Rattle.meta_objects.specs.LoadedBodies.{site, AreLoadedStatements}
 
 -- ---- members
 -- a signal: its name, and its parameters' types, each resolved
@@ -33,13 +33,13 @@ pub record IsLoadedSignal (p : Loaded) (declared : Signal) (method : MetaMethod)
   pub typed : AllZip (IsKind p) (kinds_of declared.parameters) method.kinds
   pub signals : method.work ≡ work.Signal
 
--- a slot of class c, in whose body `this` is of that class
+-- a slot of class c: likewise, and its body, whose names are resolved where `this` is of that class
 pub record IsLoadedSlot (p : Loaded) (c : ℕ) (declared : Slot) (method : MetaMethod) : Type 0 where
   pub signed : method.sig ≡ sig_of declared.name (kinds_of declared.parameters)
   pub typed : AllZip (IsKind p) (kinds_of declared.parameters) method.kinds
   pub body : List Statement
   pub slots : method.work ≡ work.Slot body
-  pub sound : AreSound p c method.kinds body
+  pub resolved : AreLoadedStatements (site p c declared.parameters method.kinds) declared.body body
 
 -- method m of the class is the signal of this signature
 pub record IsSignalAt (class : MetaObject) (sig : Sig) (m : ℕ) : Type 0 where
@@ -106,7 +106,3 @@ pub record IsLoadedProgram (program : Program) (p : Loaded) : Type 0 where
   pub classes : (i : ℕ) (declared : Class) → slice_get program.classes i ≡ Some declared → HasLoadedClass p (suc i) declared
   pub wires : AllZip (IsLoadedWire p) program.wires p.wires
   pub owns : AllZip (IsLoadedOwns p) program.owns p.owns
-
--- what `build` answers is the loaded form of its program
-abbrev pub LoadedAsDeclared : Type 0
-LoadedAsDeclared = (program : Program) (p : Loaded) → Builds program (Ok p) → IsLoadedProgram program p

@@ -1,7 +1,6 @@
 //! What holds of every program.
 
-ghost use Rattle.meta_objects.specs.Builds.{OneLoading, OneAnswer};
-ghost use Rattle.meta_objects.specs.Classes.{LoadedAsDeclared};
+ghost use Rattle.meta_objects.specs.Builds.{OneLoading, OneAnswer, LoadedAsDeclared};
 
 /// A program has at most one loaded form.
 pub fn one_loading()

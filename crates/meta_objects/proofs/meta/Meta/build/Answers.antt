@@ -1,9 +1,10 @@
 use Rattle.meta_model.specs.Outlines.{Outlines}
 use Rattle.meta_objects.specs.Loading.{HasUses}
+use Rattle.meta_objects.specs.Builds.{IsClean}
 use Rattle.meta_objects.specs.declared.resolve_uses.Uses.{Uses}
 use Rattle.meta_model.proofs.Choices.{fails}
 use Rattle.meta_objects.proofs.Refusals.{outlined, nothing_lacks, answers, refused_base, refused_use}
-use Rattle.meta_objects.proofs.Whole.{sound}
+use Rattle.meta_objects.proofs.Whole.{sound, loaded_form}
 use Rattle.meta_objects.proofs.meta.Meta.build.Goals as goal
 
 pub returns-in_err-outlines : goal.returns-in_err-outlines
@@ -50,17 +51,15 @@ returns-then-has_no_type c = (
 
 pub returns : goal.returns
 returns c =
-    let uses = rw c.as_slice-all.ensures at c.in_ok-bodies.ensures in (
-      _,
-      outlined _ _ (fails _ c.has_duplicate_class.ensures c.if-has_duplicate_class.false) (rw c.as_slice-declared.ensures at c.in_ok-outlines.ensures),
-      record {
-        members = rw c.as_slice-all.ensures at (fails _ c.in_ok-twice.ensures c.if-twice.false);
-        names = nothing_lacks _ _ _ _ _ uses;
-        notifiers = rw c.as_slice-all.ensures at (fails _ c.has_bad_notify.ensures c.if-has_bad_notify.false);
-        types = rw c.as_slice-all.ensures at (fails _ c.has_no_type.ensures c.if-has_no_type.false);
-      },
-      record { bodies = _; uses = uses; objects = rw (c.as_slice-all.ensures, c.as_slice.ensures) at c.in_ok-classes.ensures },
-    )
+    let uses = rw c.as_slice-all.ensures at c.in_ok-bodies.ensures in
+    let outlines = outlined _ _ (fails _ c.has_duplicate_class.ensures c.if-has_duplicate_class.false) (rw c.as_slice-declared.ensures at c.in_ok-outlines.ensures) in
+    let clean : IsClean c.args.program.now c.in_ok-outlines.outlines = record {
+      members = rw c.as_slice-all.ensures at (fails _ c.in_ok-twice.ensures c.if-twice.false);
+      names = nothing_lacks _ _ _ _ _ uses;
+      notifiers = rw c.as_slice-all.ensures at (fails _ c.has_bad_notify.ensures c.if-has_bad_notify.false);
+      types = rw c.as_slice-all.ensures at (fails _ c.has_no_type.ensures c.if-has_no_type.false);
+    } in
+    loaded_form _ _ _ _ outlines clean uses (rw (c.as_slice-all.ensures, c.as_slice.ensures) at c.in_ok-classes.ensures)
 
 pub invariant_of-result : goal.invariant_of-result
 invariant_of-result c =

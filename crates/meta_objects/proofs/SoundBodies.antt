@@ -1,0 +1,91 @@
+-- A body as it is loaded is sound: its names' numbers are those of members.
+use Rattle.std.proofs.Common.{◌≡◌, ℕ, List, [], ◌∷◌, length, sym, ◌∙◌}
+use Rattle.std.specs.List.{AllZip}
+use Rattle.signatures.specs.declared.value.Value.{Value}
+use Rattle.signatures.specs.declared.value.Value.TheVariants as value
+use Rattle.texts.specs.declared.syntax.Expr.{Expr}
+use Rattle.texts.specs.declared.syntax.Root.{Root}
+use Rattle.texts.specs.declared.syntax.Path.{Path}
+use Rattle.texts.specs.declared.syntax.Stmt.{Stmt}
+use Rattle.meta_model.specs.declared.object.ValueType.{ValueType}
+use Rattle.meta_model.specs.declared.object.MetaRoot.{MetaRoot}
+use Rattle.meta_model.specs.declared.object.Step.{Step}
+use Rattle.meta_model.specs.declared.object.MetaPath.{MetaPath}
+use Rattle.meta_model.specs.declared.object.Statement.{Statement}
+use Rattle.meta_model.specs.declared.object.MetaMethod.{MetaMethod}
+use Rattle.meta_model.specs.Members.{IsMethod}
+use Rattle.meta_model.specs.Sound.{HasRoot, this_has, parameter_has, Leads, here, on, LeadsTo, LeadsToClass, IsSoundExpr, literal_sound, path_sound, unary_sound, binary_sound, AreSoundExprs, AreSound, none_sound, set_sound, emit_sound, call_sound, if_sound}
+use Rattle.meta_model.specs.Literals.{literal, HoldsNoObject}
+use Rattle.meta_objects.specs.LoadedBodies.{Site, IsLoadedRoot, this_loaded, parameter_loaded, AreLoadedSteps, no_steps, step_on, IsLoadedPath, IsLoadedObject, IsLoadedExpr, literal_loaded, path_loaded, unary_loaded, binary_loaded, AreLoadedExprs, AreLoadedStatements, none_loaded, set_loaded, emit_loaded, call_loaded, if_loaded}
+use Rattle.meta_objects.proofs.Soundness.{zip_length}
+
+-- a literal holds no object
+no_object : (v : Value) → HoldsNoObject (literal v)
+no_object (value.Int n) o e = absurd (cc)
+no_object (value.Bool b) o e = absurd (cc)
+no_object (value.Text t) o e = absurd (cc)
+no_object (value.Ref r) o e = absurd (cc)
+
+module _ (s : Site) (counted : (c m : ℕ) (method : MetaMethod) → IsMethod s.program c m method → length method.sig.types ≡ length method.kinds) where
+  root_sound : (r : Root) (f : MetaRoot) (T : ValueType) → IsLoadedRoot s r f T → HasRoot s.me s.kinds f T
+  root_sound r f T this_loaded = this_has
+  root_sound r f T (parameter_loaded at is) = parameter_has is
+
+  steps_sound : (T : ValueType) (names : List (List ℕ)) (steps : List Step) (U : ValueType) → AreLoadedSteps s.program T names steps U → Leads s.program T steps U
+  steps_sound T names steps U no_steps = here
+  steps_sound T names steps U (step_on {names = ns} {s = step} {steps = rest} has kind more) = on has.is kind (steps_sound step.kind ns rest U more)
+
+  path_is_sound : (path : Path) (f : MetaPath) (T : ValueType) → IsLoadedPath s path f T → LeadsTo s.program s.me s.kinds f T
+  path_is_sound path f T h = record {
+    root_type = h.root_type;
+    root = root_sound path.root f.root h.root_type h.root;
+    steps = steps_sound h.root_type path.properties f.steps T h.steps;
+  }
+
+  object_sound : (path : Path) (f : MetaPath) (c : ℕ) → IsLoadedObject s path f c → LeadsToClass s.program s.me s.kinds f c
+  object_sound path f c h = record { constant = h.constant; leads = path_is_sound path f _ h.leads }
+
+  expr_sound : (e : Expr Path) (f : Expr MetaPath) → IsLoadedExpr s e f → IsSoundExpr s.program s.me s.kinds f
+  expr_sound e f (literal_loaded {v = v} a b) = literal_sound b (no_object v)
+  expr_sound e f (path_loaded {path = path} {found = found} {T = T} a b h) = path_sound b (path_is_sound path found T h)
+  expr_sound e f (unary_loaded {a = x} {b = y} a b h) = unary_sound b (expr_sound x y h)
+  expr_sound e f (binary_loaded {a = x} {c = x2} {b = y} {d = y2} a b h k) = binary_sound b (expr_sound x y h) (expr_sound x2 y2 k)
+
+  exprs_sound : (es : List (Expr Path)) (fs : List (Expr MetaPath)) → AreLoadedExprs s es fs → AreSoundExprs s.program s.me s.kinds fs
+  exprs_sound [] [] h = tt
+  exprs_sound [] (f ∷ fs) h = absurd h
+  exprs_sound (e ∷ es) [] h = absurd h
+  exprs_sound (e ∷ es) (f ∷ fs) h = (expr_sound e f h.0, exprs_sound es fs h.1)
+
+  pub statements_sound : (xs : List Stmt) (ys : List Statement) → AreLoadedStatements s xs ys → AreSound s.program s.me s.kinds ys
+  statements_sound xs ys none_loaded = none_sound
+  statements_sound xs ys (set_loaded {path = path} {e = e} {found = found} {f = f} {xs = us} {ys = vs} a b h t) =
+      set_sound b
+      (record { class = h.class; leads = object_sound path found h.class h.object; property = h.property; is = h.has.is; value = expr_sound e f h.value })
+      (statements_sound us vs t)
+  statements_sound xs ys (emit_loaded {es = es} {m = m} {fs = fs} {xs = us} {ys = vs} a b h t) =
+      emit_sound b
+      (record {
+        signal = h.signal.method;
+        is = h.signal.is;
+        signals = h.signals;
+        emitted = h.emitted;
+        counted = sym (counted s.me m h.signal.method h.signal.is) ∙ h.signal.counted ∙ zip_length (IsLoadedExpr s) es fs h.values;
+        values = exprs_sound es fs h.values;
+      })
+      (statements_sound us vs t)
+  statements_sound xs ys (call_loaded {path = path} {es = es} {found = found} {m = m} {fs = fs} {xs = us} {ys = vs} a b h t) =
+      call_sound b
+      (record {
+        class = h.class;
+        leads = object_sound path found h.class h.object;
+        slot = h.slot.method;
+        is = h.slot.is;
+        body = h.body;
+        slots = h.slots;
+        counted = sym (counted h.class m h.slot.method h.slot.is) ∙ h.slot.counted ∙ zip_length (IsLoadedExpr s) es fs h.values;
+        values = exprs_sound es fs h.values;
+      })
+      (statements_sound us vs t)
+  statements_sound xs ys (if_loaded {e = e} {then_x = x1} {else_x = x2} {f = f} {then_y = y1} {else_y = y2} {xs = us} {ys = vs} a b h h1 h2 t) =
+      if_sound b (expr_sound e f h) (statements_sound x1 y1 h1) (statements_sound x2 y2 h2) (statements_sound us vs t)
