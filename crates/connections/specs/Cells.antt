@@ -1,5 +1,6 @@
 -- The cells that hold connections, some of which are removed and wait to be swept.
-use Rattle.std.specs.Prelude.{◌≡◌, ℕ, ◌≤◌, ◌&&◌, not, Bool, true, false, List, Option, Some, None, if◌then◌else◌, count_by}
+use Rattle.std.specs.Prelude.{◌≡◌, ℕ, ◌≤◌, ◌&&◌, not, Bool, true, false, List, Option, Some, None, if◌then◌else◌, eqb, count_by}
+use Rattle.std.specs.Option.{option_map}
 use Rattle.std.specs.List.{Contains}
 use Rattle.std.specs.Global.{Vec}
 use Rattle.std.specs.Vec.{vec_len, vec_capacity}
@@ -35,11 +36,29 @@ abbrev pub swept : Option Cell → Option Cell
 swept None = None
 swept (Some cell) = if cell.live then Some cell else None
 
+-- among the keys is that of each cell whose connection is removed
+abbrev pub HoldDead : Slab Cell → List ℕ → Type 0
+HoldDead cells keys = (k : ℕ) (cell : Cell) → get cells k ≡ Some cell → cell.live ≡ false → Contains keys k
+
+-- the cells after a removal, and after one that may touch this one alone
+abbrev pub Retires : Removal → Slab Cell → Slab Cell → Type 0
+Retires removal old new = (k : ℕ) → get new k ≡ option_map (retired removal) (get old k)
+
+abbrev pub RetiresAt : ℕ → Removal → Slab Cell → Slab Cell → Type 0
+RetiresAt key removal old new = (k : ℕ) → get new k ≡ (if eqb k key then option_map (retired removal) (get old k) else get old k)
+
+-- the cells after a sweep, and after one of this cell alone
+abbrev pub Sweeps : Slab Cell → Slab Cell → Type 0
+Sweeps old new = (k : ℕ) → get new k ≡ swept (get old k)
+
+abbrev pub SweepsAt : ℕ → Slab Cell → Slab Cell → Type 0
+SweepsAt key old new = (k : ℕ) → get new k ≡ (if eqb k key then swept (get old k) else get old k)
+
 -- the list has the key of each cell whose connection is removed, and room for those that are not
 pub record Marked (cells : Slab Cell) (marked : Vec ℕ) : Type 0 where
   pub count : vec_len marked ≡ count_by is_dead cells.slots
   pub room : slab_len cells ≤ vec_capacity marked
-  pub covers : (k : ℕ) (cell : Cell) → get cells k ≡ Some cell → cell.live ≡ false → Contains marked.items k
+  pub covers : HoldDead cells marked.items
 
 -- the places lead to each connection that is there and passes the test
 pub record Covers (cells : Slab Cell) (test : Connection → Bool) (places : List Place) : Type 0 where

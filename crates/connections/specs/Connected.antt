@@ -43,9 +43,9 @@ not_above made None = None
 not_above made (Some c) = if nat_le c.number made then Some c else None
 
 -- some connection leads from this signal of the sender to this method of the receiver
-abbrev pub are_connected : ℕ → ℕ → ℕ → ℕ → List Connection → Bool
-are_connected sender signal receiver method connections =
-    list_any (joins sender signal receiver method) connections
+abbrev pub are_connected : ℕ → ℕ → ℕ → ℕ → Connected → Bool
+are_connected sender signal receiver method s =
+    list_any (joins sender signal receiver method) s.connections
 
 -- all but the connections that pass the test
 abbrev pub without : (Connection → Bool) → List Connection → List Connection

@@ -7,7 +7,7 @@ use Rattle.connections.specs.declared.cell.Cell.{Cell}
 use Rattle.connections.specs.declared.place.Place.{Place}
 use Rattle.connections.specs.declared.groups.Lists.{Lists}
 use Rattle.connections.specs.Connected.{is_of, touches}
-use Rattle.connections.specs.Cells.{Marked}
+use Rattle.connections.specs.Cells.{Marked, Covers}
 use Rattle.connections.specs.Places.{live, Indexes, Tidies}
 use Rattle.connections.specs.Groups.{list_of}
 
@@ -41,6 +41,17 @@ pub record Leads (cells : Slab Cell) (lists : Lists) (last : ℕ) : Type 0 where
   pub all : Indexes cells (shown_in cells lists) last any_connection (all_of lists)
   pub by_signal : (sender signal : ℕ) → Indexes cells (shown_in cells lists) last (is_of sender signal) (of_signal lists sender signal)
   pub by_object : (object : ℕ) → Indexes cells (shown_in cells lists) last (touches object) (of_object lists object)
+
+-- what was led to so still is, and shows the same connections
+abbrev pub StayLed : Slab Cell → Lists → Slab Cell → Lists → Type 0
+StayLed cells lists cells' lists' = (last : ℕ) → Leads cells lists last → Leads cells' lists' last
+
+abbrev pub StayShown : Slab Cell → Lists → Slab Cell → Lists → Type 0
+StayShown cells lists cells' lists' = (last : ℕ) → Leads cells lists last → shown_in cells' lists' ≡ shown_in cells lists
+
+-- the places lead to each connection that passes the test
+abbrev pub LeadTo : Lists → (Connection → Bool) → List Place → Type 0
+LeadTo lists test places = (cells : Slab Cell) (last : ℕ) → Leads cells lists last → Covers cells test places
 
 -- and removed connections are marked
 pub record Tied (cells : Slab Cell) (lists : Lists) (marked : Vec ℕ) (last : ℕ) : Type 0 where

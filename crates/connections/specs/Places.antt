@@ -1,5 +1,6 @@
 -- What lists of places show.
-use Rattle.std.specs.Prelude.{◌≡◌, ℕ, ◌<◌, ◌≤◌, ◌&&◌, ◌⊎◌, eqb, Bool, false, List, [], ◌∷◌, length, slice_index_or, Option, Some, None, filter, filter_map, if◌then◌else◌}
+use Rattle.std.specs.Prelude.{◌≡◌, ℕ, ◌<◌, ◌≤◌, ◌&&◌, ◌⊎◌, eqb, nat_lt, drop, Bool, false, List, [], ◌∷◌, length, slice_index_or, Option, Some, None, filter, filter_map, if◌then◌else◌}
+use Rattle.std.specs.List.{Contains, find}
 use Rattle.slab.specs.Slab.{Slab, get}
 use Rattle.connections.specs.declared.connection.Connection.{Connection}
 use Rattle.connections.specs.declared.cell.Cell.{Cell}
@@ -23,6 +24,13 @@ abbrev pub Rising : ℕ → List Place → ℕ → Type 0
 Rising low [] last = low ≤ last
 Rising low (p ∷ places) last = (low < p.number) × Rising p.number places last
 
+abbrev pub AreRising : List Place → Type 0
+AreRising places = (last : ℕ) × Rising 0 places last
+
+-- the first connection that is numbered above
+abbrev pub first_above : ℕ → List Connection → Option Connection
+first_above number connections = find (λ c. nat_lt number c.number) connections
+
 -- the places lead, in order, to the connections that pass a test
 pub record Indexes (cells : Slab Cell) (whole : List Connection) (last : ℕ) (test : Connection → Bool) (places : List Place) : Type 0 where
   pub rising : Rising 0 places last
@@ -33,6 +41,14 @@ pub record Indexes (cells : Slab Cell) (whole : List Connection) (last : ℕ) (t
 pub record SplitsAt (places : List Place) (number i : ℕ) : Type 0 where
   pub below : (k : ℕ) (d : Place) → k < i → (slice_index_or places k d).number < number
   pub above : (k : ℕ) (d : Place) → i ≤ k → k < length places → number ≤ (slice_index_or places k d).number
+
+-- the places of at least this number
+abbrev pub IsRestFrom : ℕ → List Place → List Place → Type 0
+IsRestFrom number places rest = (i : ℕ) × (rest ≡ drop i places) × SplitsAt places number i
+
+-- among some places is each one of this number
+abbrev pub HoldNumbered : ℕ → List Place → List Place → Type 0
+HoldNumbered number places some = (p : Place) → Contains places p → p.number ≡ number → Contains some p
 
 -- a cell still has the connection of this number, removed or not
 abbrev pub has_number : ℕ → Option Cell → Bool

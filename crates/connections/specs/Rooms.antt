@@ -1,5 +1,5 @@
 -- Room for one more connection.
-use Rattle.std.specs.Prelude.{◌≡◌, ℕ, ◌<◌, ◌≤◌, eqb, true, None, Some}
+use Rattle.std.specs.Prelude.{◌≡◌, ℕ, ◌<◌, ◌≤◌, eqb, true, [], ◌∷◌, ◌++◌, None, Some, if◌then◌else◌}
 use Rattle.std.specs.Global.{Vec}
 use Rattle.std.specs.Vec.{vec_len, vec_capacity}
 use Rattle.slab.specs.Slab.{Slab, get, Updates, HasRoomFor}
@@ -7,7 +7,8 @@ use Rattle.connections.specs.declared.connection.Connection.{Connection}
 use Rattle.connections.specs.declared.cell.Cell.{Cell}
 use Rattle.connections.specs.declared.place.Place.{Place}
 use Rattle.connections.specs.declared.groups.Lists.{Lists}
-use Rattle.connections.specs.Groups.{HasRoom}
+use Rattle.connections.specs.Connected.{touches}
+use Rattle.connections.specs.Groups.{list_of, HasRoom}
 use Rattle.connections.specs.Lists.{same_pair, all_of, of_signal, of_object}
 
 -- a new connection in a vacant cell
@@ -17,6 +18,13 @@ pub record Adds (old new : Slab Cell) (key : ℕ) (c : Connection) : Type 0 wher
 
 abbrev pub place_of : Connection → ℕ → Place
 place_of c key = record { number = c.number; key = key }
+
+-- the lists of each sender and signal, and of each object, have the place of this connection more
+abbrev pub PushesBySignal : Lists → Lists → Connection → Place → Type 0
+PushesBySignal old new c p = (q : ℕ × ℕ) → list_of same_pair new.by_signal q ≡ (if same_pair (c.sender, c.signal) q then list_of same_pair old.by_signal q ++ p ∷ [] else list_of same_pair old.by_signal q)
+
+abbrev pub PushesByObject : Lists → Lists → Connection → Place → Type 0
+PushesByObject old new c p = (q : ℕ) → list_of eqb new.by_object q ≡ (if touches q c then list_of eqb old.by_object q ++ p ∷ [] else list_of eqb old.by_object q)
 
 -- the room that cells and lists have
 pub record Rooms (cells : Slab Cell) (lists : Lists) (c : Connection) : Type 0 where

@@ -6,7 +6,7 @@ ghost use Rattle.slab.specs.Slab.{slab_len};
 ghost use Rattle.connections.specs.Connected.{touches};
 ghost use Rattle.connections.specs.Groups.{list_of};
 ghost use Rattle.connections.specs.Lists.{same_pair, all_of};
-ghost use Rattle.connections.specs.Rooms.{Rooms, IsKept, Adds, place_of};
+ghost use Rattle.connections.specs.Rooms.{Rooms, IsKept, Adds, place_of, PushesBySignal, PushesByObject};
 
 use crate::cell::Cell;
 use crate::connection::Connection;
@@ -42,8 +42,8 @@ pub fn put(cells: &mut Slab<Cell>, lists: &mut Lists, c: Connection) -> usize
     ensures cell { Adds cells.old cells.new result c }
     ensures len { slab_len cells.new ≡ slab_len cells.old + 1 }
     ensures all { all_of lists.new ≡ all_of lists.old ++ place_of c result ∷ [] }
-    ensures signals { (q : ℕ × ℕ) → list_of same_pair lists.new.by_signal q ≡ (if same_pair (c.sender, c.signal) q then list_of same_pair lists.old.by_signal q ++ place_of c result ∷ [] else list_of same_pair lists.old.by_signal q) }
-    ensures objects { (q : ℕ) → list_of eqb lists.new.by_object q ≡ (if touches q c then list_of eqb lists.old.by_object q ++ place_of c result ∷ [] else list_of eqb lists.old.by_object q) }
+    ensures signals { PushesBySignal lists.old lists.new c (place_of c result) }
+    ensures objects { PushesByObject lists.old lists.new c (place_of c result) }
 {
     let key = cells.insert_reserved(Cell {
         connection: c,

@@ -101,7 +101,7 @@ impl Connections {
         receiver: ObjectId,
         method: usize,
     ) -> bool
-        ensures { result ≡ are_connected sender signal receiver method self.now.connections }
+        ensures { result ≡ are_connected sender signal receiver method self.now }
     {
         let places = self.lists.of_signal(sender, signal);
         let same = Removal::Between(sender, signal, receiver, method);
@@ -120,8 +120,10 @@ impl Connections {
         single: bool,
     ) -> Result<(), ConnectFault>
         requires { self.old.last < 2 ^ 63 - 1 }
-        ensures made { OnOk result (self.new ≡ connected_by self.old sender signal receiver method kind single) }
-        ensures exists { (result ≡ Err Exists) ↔ IsTrue (unique && are_connected sender signal receiver method self.old.connections) }
+        ensures made { OnOk result
+            (self.new ≡ connected_by self.old sender signal receiver method kind single) }
+        ensures exists { (result ≡ Err Exists)
+            ↔ IsTrue (unique && are_connected sender signal receiver method self.old) }
         ensures err { OnErr result (self.new ≡ self.old) }
     {
         if unique && self.are_connected(sender, signal, receiver, method) {
@@ -143,7 +145,8 @@ impl Connections {
     /// Adds a connection that has the next number.
     fn append(&mut self, connection: Connection) -> Result<(), AllocError>
         requires number { connection.number ≡ self.old.last + 1 }
-        ensures made { OnOk result (self.new.connections ≡ self.old.connections ++ connection ∷ []) }
+        ensures made { OnOk result
+            (self.new.connections ≡ self.old.connections ++ connection ∷ []) }
         ensures numbered { OnOk result (self.new.last ≡ self.old.last + 1) }
         ensures err { OnErr result (self.new ≡ self.old) }
     {
@@ -167,8 +170,10 @@ impl Connections {
         receiver: ObjectId,
         method: usize,
     ) -> Result<(), DisconnectFault>
-        ensures removed { OnOk result (self.new ≡ removed (joins sender signal receiver method) self.old) }
-        ensures there { IsOk result ↔ IsTrue (are_connected sender signal receiver method self.old.connections) }
+        ensures removed { OnOk result
+            (self.new ≡ removed (joins sender signal receiver method) self.old) }
+        ensures there { IsOk result
+            ↔ IsTrue (are_connected sender signal receiver method self.old) }
         ensures err { OnErr result (self.new ≡ self.old) }
     {
         if !self.are_connected(sender, signal, receiver, method) {

@@ -2,7 +2,7 @@
 
 ghost use Rattle.std.specs.Prelude.{◌≡◌, ◌∷◌, [], ◌++◌, ◌<◌, false, if◌then◌else◌, OnOk, IsSomeAnd};
 ghost use Rattle.std.specs.Vec.{vec_len};
-ghost use Rattle.connections.specs.Groups.{list_of, HasRoom};
+ghost use Rattle.connections.specs.Groups.{list_of, HasRoom, Keeps, Pushes, KeepsRoom, KeepsOtherRoom, TidiesGroup};
 ghost use Rattle.connections.specs.Lists.{of_signal, of_object, IsEmpty};
 ghost use Rattle.connections.specs.Places.{Tidies};
 
@@ -70,8 +70,8 @@ pub fn make_room<K: Eq + Hash + Copy>(
 where
     K: Drop,
     ensures room { OnOk result (HasRoom K.eq groups.new group) }
-    ensures others { OnOk result ((q : K) → HasRoom K.eq groups.old q → HasRoom K.eq groups.new q) }
-    ensures lists { (q : K) → list_of K.eq groups.new q ≡ (if K.eq group q then list_of K.eq groups.old group else list_of K.eq groups.old q) }
+    ensures others { OnOk result (KeepsRoom K.eq groups.old groups.new) }
+    ensures lists { Keeps K.eq groups.old groups.new group }
 {
     if let Some(places) = groups.get_mut(&group) {
         return places.reserve();
@@ -87,8 +87,8 @@ pub fn push_place<K: Eq + Hash>(groups: &mut IndexMap<K, Places>, group: K, plac
 where
     K: Drop,
     requires { HasRoom K.eq groups.old group }
-    ensures lists { (q : K) → list_of K.eq groups.new q ≡ (if K.eq group q then list_of K.eq groups.old group ++ place ∷ [] else list_of K.eq groups.old q) }
-    ensures others { (q : K) → K.eq group q ≡ false → HasRoom K.eq groups.old q → HasRoom K.eq groups.new q }
+    ensures lists { Pushes K.eq groups.old groups.new group place }
+    ensures others { KeepsOtherRoom K.eq groups.old groups.new group }
 {
     match groups.get_mut(&group) {
         None => {}
@@ -100,7 +100,7 @@ where
 pub fn forget_place<K: Eq + Hash>(groups: &mut IndexMap<K, Places>, group: K, cells: &Slab<Cell>)
 where
     K: Drop,
-    ensures { (q : K) → Tidies cells.now (if K.eq group q then list_of K.eq groups.old group else list_of K.eq groups.old q) (list_of K.eq groups.new q) }
+    ensures { TidiesGroup K.eq cells.now groups.old groups.new group }
 {
     match groups.get_mut(&group) {
         None => {}

@@ -5,8 +5,9 @@ ghost use Rattle.std.specs.Option.{option_map};
 ghost use Rattle.slab.specs.Slab.{Slab as ASlab, get};
 ghost use Rattle.connections.specs.declared.cell.Cell.{Cell as ACell};
 ghost use Rattle.connections.specs.Connected.{without};
-ghost use Rattle.connections.specs.Cells.{fits, retired, Marked, Covers, is_due};
-ghost use Rattle.connections.specs.Lists.{Leads, shown_in};
+ghost use Rattle.connections.specs.Cells.{fits, Retires, RetiresAt, Marked, Covers, is_due};
+ghost use Rattle.connections.specs.Places.{AreRising};
+ghost use Rattle.connections.specs.Lists.{all_of, Leads, StayLed, LeadTo, shown_in};
 
 use crate::cell::Cell;
 use crate::connection::Connection;
@@ -47,9 +48,10 @@ impl Removal {
 pub fn remove(cells: &mut Slab<Cell>, lists: &mut Lists, marked: &mut Vec<usize>, removal: &Removal)
     requires led { (last : ℕ) × Leads cells.old lists.old last }
     requires marked { Marked cells.old marked.old }
-    ensures led { (last : ℕ) → Leads cells.old lists.old last → Leads cells.new lists.new last }
+    ensures led { StayLed cells.old lists.old cells.new lists.new }
     ensures marked { Marked cells.new marked.new }
-    ensures shown { shown_in cells.new lists.new ≡ without (fits removal.now) (shown_in cells.old lists.old) }
+    ensures shown { shown_in cells.new lists.new
+        ≡ without (fits removal.now) (shown_in cells.old lists.old) }
 {
     let places = places_for(lists, removal);
     mark_all(cells, marked, places, removal);
@@ -58,7 +60,8 @@ pub fn remove(cells: &mut Slab<Cell>, lists: &mut Lists, marked: &mut Vec<usize>
 
 /// Places that lead to each connection that is to be removed.
 fn places_for<'a>(lists: &'a Lists, removal: &Removal) -> &'a [Place]
-    ensures { (cells : ASlab ACell) (last : ℕ) → Leads cells lists.now last → Covers cells (fits removal.now) result.now }
+    requires { AreRising (all_of lists.now) }
+    ensures { LeadTo lists.now (fits removal.now) result.now }
 {
     match removal {
         Removal::Between(sender, signal, _, _) => lists.of_signal(*sender, *signal),
@@ -71,7 +74,7 @@ fn places_for<'a>(lists: &'a Lists, removal: &Removal) -> &'a [Place]
 fn mark_all(cells: &mut Slab<Cell>, marked: &mut Vec<usize>, places: &[Place], removal: &Removal)
     requires marked { Marked cells.old marked.old }
     requires covers { Covers cells.old (fits removal.now) places.now }
-    ensures cells { (k : ℕ) → get cells.new k ≡ option_map (retired removal.now) (get cells.old k) }
+    ensures cells { Retires removal.now cells.old cells.new }
     ensures marked { Marked cells.new marked.new }
 {
     for place in places {
@@ -83,7 +86,7 @@ fn mark_all(cells: &mut Slab<Cell>, marked: &mut Vec<usize>, places: &[Place], r
 #[tactic(auto, using(crate::proofs::Counts::counts))]
 fn mark_one(cells: &mut Slab<Cell>, marked: &mut Vec<usize>, key: usize, removal: &Removal)
     requires { Marked cells.old marked.old }
-    ensures cells { (k : ℕ) → get cells.new k ≡ (if eqb k key then option_map (retired removal.now) (get cells.old k) else get cells.old k) }
+    ensures cells { RetiresAt key removal.now cells.old cells.new }
     ensures marked { Marked cells.new marked.new }
 {
     if is_due(cells, key, removal) {

@@ -3,7 +3,7 @@
 ghost use Rattle.std.specs.Prelude.{◌≡◌, ℕ, ◌<◌, ◌≤◌, length, eqb, nat_lt, drop};
 ghost use Rattle.std.specs.List.{Contains, find, list_any};
 ghost use Rattle.connections.specs.Cells.{fits};
-ghost use Rattle.connections.specs.Places.{live, Rising, SplitsAt};
+ghost use Rattle.connections.specs.Places.{live, first_above, AreRising, SplitsAt, IsRestFrom, HoldNumbered};
 ghost use Rattle.connections.specs.declared.place.Place.{Place as APlace};
 
 use crate::cell::{Cell, live_at};
@@ -14,22 +14,25 @@ use slab::Slab;
 
 /// How many places have lower numbers.
 fn from_number(places: &[Place], number: u64) -> usize
+    requires { AreRising places.now }
     ensures within { result ≤ length places.now }
-    ensures split { (last : ℕ) → Rising 0 places.now last → SplitsAt places.now number result }
+    ensures split { SplitsAt places.now number result }
 {
     places.partition_point(|p| p.number < number)
 }
 
 /// The places of at least this number.
 fn places_from(places: &[Place], number: u64) -> &[Place]
-    ensures { (last : ℕ) → Rising 0 places.now last → (i : ℕ) × (result.now ≡ drop i places.now) × SplitsAt places.now number i }
+    requires { AreRising places.now }
+    ensures { IsRestFrom number places.now result.now }
 {
     &places[from_number(places, number)..]
 }
 
 /// The place of this number, if there is one.
 pub fn place_of_number(places: &[Place], number: u64) -> &[Place]
-    ensures { (last : ℕ) → Rising 0 places.now last → (p : APlace) → Contains places.now p → p.number ≡ number → Contains result.now p }
+    requires { AreRising places.now }
+    ensures { HoldNumbered number places.now result.now }
 {
     let rest = places_from(places, number);
     &rest[..rest.len().min(1)]
@@ -37,14 +40,15 @@ pub fn place_of_number(places: &[Place], number: u64) -> &[Place]
 
 /// The first connection of the places that is numbered above `number`.
 pub fn next_above(cells: &Slab<Cell>, places: &[Place], number: u64) -> Option<Connection>
-    ensures { (last : ℕ) → Rising 0 places.now last → result ≡ find (λ c. nat_lt number c.number) (live cells.now places.now) }
+    requires { AreRising places.now }
+    ensures { result ≡ first_above number (live cells.now places.now) }
 {
     first_above(cells, places_from(places, number), number)
 }
 
 /// The same in any order of the places.
 fn first_above(cells: &Slab<Cell>, places: &[Place], number: u64) -> Option<Connection>
-    ensures { result ≡ find (λ c. nat_lt number c.number) (live cells.now places.now) }
+    ensures { result ≡ first_above number (live cells.now places.now) }
 {
     for place in places {
         if let Some(c) = live_at(cells, place) {

@@ -4,8 +4,8 @@ ghost use Rattle.std.specs.Prelude.{◌≡◌, ℕ, ◌≤◌, IfNone, IfSome, S
 ghost use Rattle.slab.specs.Slab.{get, slab_len};
 ghost use Rattle.std.specs.List.{Contains};
 ghost use Rattle.connections.specs.declared.cell.Cell.{Cell as ACell};
-ghost use Rattle.connections.specs.Cells.{Marked, is_dead, swept};
-ghost use Rattle.connections.specs.Lists.{Leads, TidiesLists, shown_in};
+ghost use Rattle.connections.specs.Cells.{Marked, HoldDead, Sweeps, SweepsAt, swept};
+ghost use Rattle.connections.specs.Lists.{StayLed, StayShown, TidiesLists};
 
 use crate::cell::Cell;
 use crate::connection::Connection;
@@ -16,8 +16,8 @@ use slab::Slab;
 pub fn sweep(cells: &mut Slab<Cell>, lists: &mut Lists, marked: &mut Vec<usize>)
     requires { Marked cells.old marked.old }
     ensures marked { Marked cells.new marked.new }
-    ensures lists { (last : ℕ) → Leads cells.old lists.old last → Leads cells.new lists.new last }
-    ensures shown { (last : ℕ) → Leads cells.old lists.old last → shown_in cells.new lists.new ≡ shown_in cells.old lists.old }
+    ensures lists { StayLed cells.old lists.old cells.new lists.new }
+    ensures shown { StayShown cells.old lists.old cells.new lists.new }
 {
     sweep_keys(cells, lists, marked);
     marked.clear();
@@ -25,11 +25,11 @@ pub fn sweep(cells: &mut Slab<Cell>, lists: &mut Lists, marked: &mut Vec<usize>)
 
 /// Empties the cells of these keys whose connections were removed.
 fn sweep_keys(cells: &mut Slab<Cell>, lists: &mut Lists, keys: &[usize])
-    requires { (k : ℕ) (cell : ACell) → get cells.old k ≡ Some cell → cell.live ≡ false → Contains keys.now k }
-    ensures cells { (k : ℕ) → get cells.new k ≡ swept (get cells.old k) }
+    requires { HoldDead cells.old keys.now }
+    ensures cells { Sweeps cells.old cells.new }
     ensures len { slab_len cells.new ≤ slab_len cells.old }
-    ensures lists { (last : ℕ) → Leads cells.old lists.old last → Leads cells.new lists.new last }
-    ensures shown { (last : ℕ) → Leads cells.old lists.old last → shown_in cells.new lists.new ≡ shown_in cells.old lists.old }
+    ensures lists { StayLed cells.old lists.old cells.new lists.new }
+    ensures shown { StayShown cells.old lists.old cells.new lists.new }
 {
     for key in keys {
         sweep_one(cells, lists, *key);
@@ -38,7 +38,7 @@ fn sweep_keys(cells: &mut Slab<Cell>, lists: &mut Lists, keys: &[usize])
 
 /// Empties the cell of this key, if its connection was removed.
 fn sweep_one(cells: &mut Slab<Cell>, lists: &mut Lists, key: usize)
-    ensures cells { (k : ℕ) → get cells.new k ≡ (if eqb k key then swept (get cells.old k) else get cells.old k) }
+    ensures cells { SweepsAt key cells.old cells.new }
     ensures len { slab_len cells.new ≤ slab_len cells.old }
     ensures lists { TidiesLists cells.new lists.old lists.new }
 {

@@ -54,7 +54,9 @@ impl Loops {
 
     /// The loop of this name.
     pub fn find(&self, name: &Name) -> Option<LoopId>
-        ensures { MatchOption result (¬ IsTaken self.now.loops name.now) (HasName self.now.loops name.now) }
+        ensures { MatchOption result
+            (¬ IsTaken self.now.loops name.now)
+            (HasName self.now.loops name.now) }
     {
         match self.queues.get_index_of(name) {
             Some(place) => Some(LoopId::new(place)),
@@ -143,7 +145,8 @@ fn push_at(
     home: usize,
     posted: Posted,
 ) -> Result<(), PostFault>
-    ensures pushed { OnOk result (shown queues.new ≡ change home (with_item posted) (shown queues.old)) }
+    ensures pushed { OnOk result
+        (shown queues.new ≡ change home (with_item posted) (shown queues.old)) }
     ensures no_loop { (result ≡ Err NoLoop) ↔ (length queues.old.entries ≤ home) }
     ensures err { OnErr result (shown queues.new ≡ shown queues.old) }
 {

@@ -6,9 +6,9 @@ use Rattle.connections.proofs.Numbers.{Rising-sorted}
 use Rattle.connections.proofs.search.from_number.Goals as goal
 
 pub returns-clause-split : goal.returns-clause-split
-returns-clause-split c = λ last r.
+returns-clause-split c =
     let point = IsPartitionPoint-from_clause (λ (p : Place). ltb p.number c.args.number) c.args.places.now c.partition_point.result c.partition_point.ensures.partitioned
-    (IsPartitionedBy-ltb (λ (p : Place). p.number) c.args.places.now c.args.number (Rising-sorted last c.args.places.now r)) (λ a b f' k. search rules) in
+    (IsPartitionedBy-ltb (λ (p : Place). p.number) c.args.places.now c.args.number (Rising-sorted c.requires.0 c.args.places.now c.requires.1)) (λ a b f' k. search rules) in
     record {
       below = λ k d h. ltb-true _ _ (point.0 k d (omega arith) h);
       above = λ k d h w. ltb-false _ _ (point.1 k d h w);

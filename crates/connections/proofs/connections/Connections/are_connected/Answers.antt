@@ -12,4 +12,4 @@ returns c =
     ∙ ap (λ ps. list_any (joins c.args.sender c.args.signal c.args.receiver c.args.method) (live c.self.inside.cells ps)) c.of_signal-places.ensures
     ∙ ap (list_any (joins c.args.sender c.args.signal c.args.receiver c.args.method)) (c.self.invariant.leads.by_signal c.args.sender c.args.signal).exact
     ∙ any_within (is_of c.args.sender c.args.signal) (joins c.args.sender c.args.signal c.args.receiver c.args.method) (λ x h. joins_is_of _ _ _ _ x h) (shown_in c.self.inside.cells c.self.inside.lists)
-    ∙ ap (λ (w : Connected). are_connected c.args.sender c.args.signal c.args.receiver c.args.method w.connections) c.self.view_is
+    ∙ ap (λ (w : Connected). are_connected c.args.sender c.args.signal c.args.receiver c.args.method w) c.self.view_is
