@@ -19,7 +19,7 @@ use Rattle.machine_rules.specs.Coded.{Yields}
 use Rattle.machine_rules.specs.Rules.{Rule, StatementRule, Does, on_null}
 use Rattle.machine_rules.specs.Good.{AreTyped}
 use Rattle.machine_rules.specs.Runs.{Rules, done, then}
-use Rattle.machine_state.specs.Worlds.{at, noted, Ticks, Notes}
+use Rattle.machine_state.specs.Worlds.{at, noted, Ticks, Becomes}
 use Rattle.machine_rules.specs.Reaches.{StopsIn, Ends, Advances, Calls, OnlyCalls, Sets}
 use Rattle.machine_rules.proofs.Reaching.{not-idle, stops-stuck, ends-noted, ends-ticked}
 use Rattle.machine_rules.proofs.Frames.{high}
@@ -60,7 +60,7 @@ does-set {p} {w} {o} {arguments} {x} m rest {y} {q} {new} is = record {
 }
 
 -- nothing is done
-pub does-nothing : {p : Loaded} {w : World} {o : ℕ} {arguments : List Value} {x : Statement} (m : ℕ) (rest : List Statement) {d : ℕ} {h : List (Option ℕ)} {v : World} (n : ℕ) (r : Result (Unit {0}) Fault) → doing w.objects o arguments (out-Statement x) ≡ Some Nothing → length h < d → AreTyped p w.objects → 0 < w.left → n ≡ length h + 1 → Notes w (noted w (At n OnNull ∷ [])) v r → Ends p d h w (Body o m arguments (x ∷ rest) ∷ []) v (Body o m arguments rest ∷ []) r
+pub does-nothing : {p : Loaded} {w : World} {o : ℕ} {arguments : List Value} {x : Statement} (m : ℕ) (rest : List Statement) {d : ℕ} {h : List (Option ℕ)} {v : World} (n : ℕ) (r : Result (Unit {0}) Fault) → doing w.objects o arguments (out-Statement x) ≡ Some Nothing → length h < d → AreTyped p w.objects → 0 < w.left → n ≡ length h + 1 → Becomes w (noted w (At n OnNull ∷ [])) v r → Ends p d h w (Body o m arguments (x ∷ rest) ∷ []) v (Body o m arguments rest ∷ []) r
 does-nothing {p} {w} {o} {arguments} {x} m rest {d} {h} {v} n r is room typed some n_is notes =
     ends-noted (noted w (At n OnNull ∷ [])) r
     (λ below k.

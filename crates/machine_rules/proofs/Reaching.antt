@@ -11,7 +11,7 @@ use Rattle.machine_state.specs.State.{State, Activation, IsIdle}
 use Rattle.machine_rules.specs.Rules.{Rule}
 use Rattle.machine_rules.specs.Good.{AreTyped, IsWell, IsGood, TopFits}
 use Rattle.machine_rules.specs.Runs.{Rules, done, then, IsStuck, GoesIll, GoesDeep}
-use Rattle.machine_state.specs.Worlds.{at, Ticks, Notes}
+use Rattle.machine_state.specs.Worlds.{at, Ticks, Becomes}
 use Rattle.machine_rules.specs.Active.{shows}
 use Rattle.machine_rules.specs.Reaches.{Reaches, StopsIn, Ends}
 use Rattle.machine_rules.proofs.Frames.{high, shows-over}
@@ -151,7 +151,7 @@ ends-ticked {p} {d} {h} {w} {v} {a} {b} (Err f) step low room typed x =
     record { cases = subst Family (sym x.2) (stops-as x.1 (stops-steps x.0)) }
 
 -- .. which writes an entry down, and leaves the stack as high as it was
-pub ends-noted : {p : Loaded} {d : ℕ} {h : List (Option ℕ)} {w v : World} {a b : Activation} (target : World) (r : Result (Unit {0}) Fault) → ((below : List Activation) → shows below ≡ h → Rule p (at w (a ∷ below)) (at target (b ∷ below))) → length h < d → AreTyped p target.objects → target.left ≡ w.left - 1 → 0 < w.left → Notes w target v r → Ends p d h w (a ∷ []) v (b ∷ []) r
+pub ends-noted : {p : Loaded} {d : ℕ} {h : List (Option ℕ)} {w v : World} {a b : Activation} (target : World) (r : Result (Unit {0}) Fault) → ((below : List Activation) → shows below ≡ h → Rule p (at w (a ∷ below)) (at target (b ∷ below))) → length h < d → AreTyped p target.objects → target.left ≡ w.left - 1 → 0 < w.left → Becomes w target v r → Ends p d h w (a ∷ []) v (b ∷ []) r
 ends-noted {p} {d} {h} {w} {v} {a} {b} target (Ok _) step room typed less some x =
     let Family : World → Type 0 = λ u. Reaches p d h w (a ∷ []) u (b ∷ []) in
     record { cases = subst Family (sym x) (reaches-low {b = b ∷ []} step (omega arith) (omega (arith, room)) typed less some) }

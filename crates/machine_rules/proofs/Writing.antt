@@ -24,7 +24,8 @@ use Rattle.machine_state.specs.State.{State, Activation, Update}
 use Rattle.machine_rules.specs.Rules.{Writes, Notifies, Changes, changed, unchanged, silent, places_of, begun}
 use Rattle.machine_rules.specs.There.{IsMember, IsField}
 use Rattle.machine_rules.specs.Good.{AreTyped, ArgumentsFit, IsWell}
-use Rattle.machine_state.specs.Worlds.{at, set_in}
+use Rattle.machine_state.specs.Worlds.{at}
+use Rattle.machine_state.proofs.Found.{set_there}
 use Rattle.machine_rules.specs.Reaches.{Reaches, StopsIn, Ends, Calls, Sets, Announces, MayAnnounce}
 use Rattle.machine_rules.proofs.Reaching.{reaches-high, ends-after, ends-lifted, not-idle, stops-deep, stops-ill, stops-stuck}
 use Rattle.machine_rules.proofs.Fields.{some-is, class-unique, method-unique, typed-written, written-typed, field-written, old-there, types-get, map-get, kind_of}
@@ -38,7 +39,7 @@ use Rattle.machine_rules.specs.Active.{shows}
 
 -- the world in which the property is written
 abbrev pub written_world : World → ℕ → ℕ → Object → ℕ → MetaProperty → Value → World
-written_world w depth o x q property new = set_in w (At depth (Written x.name property.name (shown w.objects new)) ∷ []) o x q new
+written_world w depth o x q property new = set_there w (At depth (Written x.name property.name (shown w.objects new)) ∷ []) o x q new
 
 writes-there : {p : Loaded} {n o q : ℕ} {x : Object} {property : MetaProperty} {new old : Value} {result : Option ℕ} (w : World) (stack over : List Activation) → (f : IsField p w.objects o q x property) → slice_get x.values q ≡ Some old → Changes old new property.notify result → n ≡ suc (length over) →
     Writes p (at w stack) over o q new (at (written_world w n o x q property new) (Update (places_of o q result) ∷ over))
@@ -59,12 +60,12 @@ writes-there {o = o} {q = q} {x = x} {property = property} {new = new} {old = ol
 pub ends-written : {p : Loaded} {d o q : ℕ} {h active : List (Option ℕ)} {w v u : World} {from to : List Activation} {x : Object} {property : MetaProperty} {new : Value} {entry : Entry} {result : Option ℕ} {r : Result (Unit {0}) Fault} →
     active ≡ shows to ++ h → Sets p w from to o q new → (f : IsField p w.objects o q x property) → AreTyped p w.objects → Has p (class_of w.objects) new property.kind → length active < d → 0 < w.left →
     ((old : Value) → slice_get x.values q ≡ Some old → Changes old new property.notify result) →
-    entry ≡ At (length active + 1) (Written x.name property.name (shown w.objects new)) → v ≡ set_in w (entry ∷ []) o x q new →
+    entry ≡ At (length active + 1) (Written x.name property.name (shown w.objects new)) → v ≡ set_there w (entry ∷ []) o x q new →
     Ends p d active v (Update (places_of o q result) ∷ []) u [] r → Ends p d h w from u to r
 ends-written {p} {d} {o} {q} {h} {active} {w} {v} {u} {from} {to} {x} {property} {new} {entry} {result} {r} over sets f typed has room some changes entry_is v_is rest =
     let old = old-there f typed in
     let target : World = written_world w (length active + 1) o x q property new in
-    let target_is : v ≡ target = v_is ∙ ap (λ (e : Entry). set_in w (e ∷ []) o x q new) entry_is in
+    let target_is : v ≡ target = v_is ∙ ap (λ (e : Entry). set_there w (e ∷ []) o x q new) entry_is in
     let Family : World → Type 0 = λ k. Reaches p d h w from k (Update (places_of o q result) ∷ to) in
     let went : Reaches p d h w from target (Update (places_of o q result) ∷ to) =
     reaches-high over (λ below e. sets.gives below _ (writes-there w (from ++ below) (to ++ below) f old.1 (changes old.0 old.1) (one-more to below over e))) (λ below. tt) room (typed-written f typed has) refl some in
@@ -180,14 +181,14 @@ announcement-calls {p} {w} {o} {q} {signal} {count} {x} {method} {present} {take
 }
 
 -- the machine stays sound
-pub sound-written : {p : Loaded} {v : World} {o q : ℕ} {x : Object} {property : MetaProperty} {new : Value} (w : World) (entries : List Entry) → v ≡ set_in w entries o x q new → IsField p w.objects o q x property → Has p (class_of w.objects) new property.kind → Sound p w.objects w.connections → Sound p v.objects v.connections
+pub sound-written : {p : Loaded} {v : World} {o q : ℕ} {x : Object} {property : MetaProperty} {new : Value} (w : World) (entries : List Entry) → v ≡ set_there w entries o x q new → IsField p w.objects o q x property → Has p (class_of w.objects) new property.kind → Sound p w.objects w.connections → Sound p v.objects v.connections
 sound-written {p} {v} {o} {q} {x} {property} {new} w entries is f has sound =
-    let target : World = set_in w entries o x q new in
+    let target : World = set_there w entries o x q new in
     let kept : Sound p target.objects target.connections = record { typed = typed-written f sound.typed has; joined = all-joined-still p w.objects _ w.connections (same-stay w.objects _ (shapes-written w.objects o x q new f.is_object)) sound.joined } in
     let Family : World → Type 0 = λ u. Sound p u.objects u.connections in
     subst Family (sym is) kept
 
-pub announces-in : {p : Loaded} {v : World} {o q : ℕ} {x : Object} {property : MetaProperty} {old new : Value} (w : World) (entries : List Entry) (result : Option ℕ) → v ≡ set_in w entries o x q new → (f : IsField p w.objects o q x property) → ((class : MetaObject) → IsClass p x.class class → IsSoundProperty p class property) → Changes old new property.notify result → MayAnnounce p v.objects o q result
+pub announces-in : {p : Loaded} {v : World} {o q : ℕ} {x : Object} {property : MetaProperty} {old new : Value} (w : World) (entries : List Entry) (result : Option ℕ) → v ≡ set_there w entries o x q new → (f : IsField p w.objects o q x property) → ((class : MetaObject) → IsClass p x.class class → IsSoundProperty p class property) → Changes old new property.notify result → MayAnnounce p v.objects o q result
 announces-in {p} {v} {o} {q} {x} {property} {old} {new} w entries result is f sound changes =
     let Family : World → Type 0 = λ u. MayAnnounce p u.objects o q result in
     subst Family (sym is) (announces-written {new = new} result f sound changes)

@@ -11,7 +11,7 @@ ghost use Rattle.machine_rules.specs.Rules.{Changes, places_of};
 
 use crate::active::Active;
 use crate::setting::{Setting, front};
-use machine_state::{Fault, World, same_value};
+use machine_state::{Fault, World};
 use signatures::{ObjectId, Value};
 
 impl Setting {
@@ -101,13 +101,7 @@ pub fn signal_of_change(notify: Option<usize>, old: Option<&Value>, new: &Value)
     ensures { (before : AValue) → option_copied old.entry ≡ Some before → Changes before new.now notify result }
 {
     match old {
-        Some(before) => {
-            if same_value(before, new) {
-                None
-            } else {
-                notify
-            }
-        }
+        Some(before) => { if before.is_same(new) { None } else { notify } }
         None => notify,
     }
 }

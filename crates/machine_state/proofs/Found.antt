@@ -3,9 +3,13 @@ use Rattle.std.proofs.Common.{◌≡◌, ℕ, zero, suc, List, [], ◌∷◌, Op
 use Rattle.std.specs.Option.{option_map}
 use Rattle.std.proofs.lemmas.Option.{same_Some}
 use Rattle.object_tree.specs.declared.object.Object.{Object}
-use Rattle.object_tree.specs.Objects.{IsFree, change}
+use Rattle.object_tree.specs.Objects.{IsFree, change, written}
 use Rattle.object_tree.specs.Objects as tree
+use Rattle.signatures.specs.declared.value.Value.{Value}
+use Rattle.machine_state.specs.declared.entry.Entry.{Entry}
+use Rattle.machine_state.specs.declared.world.World.{World}
 use Rattle.machine_state.specs.Objects.{IsNamed}
+use Rattle.machine_state.specs.Worlds.{noted, set_in}
 
 -- the only object of a name is the first
 pub named-first : (objects : List Object) (name : List ℕ) (r : Option ℕ) → MatchOption r (IsFree objects name) (λ o. tree.IsNamed objects name o) → MatchOption r (IsFree objects name) (λ o. (x : Object) × IsNamed objects name o x)
@@ -30,3 +34,11 @@ pub change-there : (n : ℕ) (f : Object → Object) (xs : List Object) (x : Obj
 change-there n f [] x e = absurd (cc e)
 change-there zero f (y ∷ xs) x e = let same : y ≡ x = cc e in ap (λ (z : Object). f z ∷ xs) same
 change-there (suc n) f (y ∷ xs) x e = ap (λ (ys : List Object). y ∷ ys) (change-there n f xs x e)
+
+-- a rule that writes a property of an object that is there
+abbrev pub set_there : World → List Entry → ℕ → Object → ℕ → Value → World
+set_there w entries o x q new = record (noted w entries) { objects = slice_set w.objects o (written q new x) }
+
+pub set-there : {v : World} {x : Object} (w : World) (entries : List Entry) (o q : ℕ) (new : Value) → slice_get w.objects o ≡ Some x → v ≡ set_in w entries o q new → v ≡ set_there w entries o x q new
+set-there {v} {x} w entries o q new there is =
+    is ∙ ap (λ (l : List Object). record (noted w entries) { objects = l }) (change-there o (written q new) w.objects x there)

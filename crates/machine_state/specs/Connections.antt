@@ -1,6 +1,7 @@
 -- The connections that an emission uses (docs/machine.md, "Rules").
 use Rattle.std.specs.Prelude.{ℕ, ◌&&◌, not, eqb, nat_lt, nat_le, if◌then◌else◌, Bool, false, List, Option, None, Some, slice_get}
 use Rattle.std.specs.List.{find}
+use Rattle.meta_model.specs.declared.qobject.TheConstants.{DESTROYED}
 use Rattle.object_tree.specs.declared.object.Object.{Object}
 use Rattle.machine_state.specs.declared.connections.Connection.{Connection}
 
@@ -13,13 +14,9 @@ is_next o g used last c = (eqb c.sender o && eqb c.signal g) && (nat_lt used c.n
 abbrev pub next_connection : List Connection → ℕ → ℕ → ℕ → ℕ → Option Connection
 next_connection connections o g used last = find (is_next o g used last) connections
 
--- the signal `destroyed` has the number 0 in every class
-abbrev pub destroyed : ℕ
-destroyed = 0
-
 -- a blocked object's emission calls nothing, unless it is `destroyed` (Qt 6, `QObject::blockSignals`)
 abbrev pub is_silent : Object → ℕ → Bool
-is_silent x g = x.blocked && not (eqb g destroyed)
+is_silent x g = x.blocked && not (eqb g DESTROYED)
 
 abbrev pub silences : Option Object → ℕ → Bool
 silences None g = false

@@ -13,6 +13,10 @@ pub record IsNamed (objects : List Object) (name : List ℕ) (o : ℕ) (x : Obje
   pub named : x.name ≡ name
   pub first : (k : ℕ) (y : Object) → k < o → slice_get objects k ≡ Some y → y.name ≢ name
 
+-- the number of the object that has or had this name
+abbrev pub IsNumberOf : List Object → List ℕ → ℕ → Type 0
+IsNumberOf objects name o = (x : Object) × IsNamed objects name o x
+
 -- the value of an object's property
 abbrev pub stored : List Object → ℕ → ℕ → Option Value
 stored objects o q = option_and_then (λ (x : Object). slice_get x.values q) (slice_get objects o)

@@ -1,8 +1,8 @@
 -- What the world's functions do, and what a world says of the machine's state (docs/machine.md, "The state").
-use Rattle.std.specs.Prelude.{◌≡◌, ℕ, ◌+◌, ◌-◌, ◌<◌, List, [], ◌∷◌, ◌++◌, Result, Ok, Err, slice_set}
+use Rattle.std.specs.Prelude.{◌≡◌, ℕ, Bool, ◌+◌, ◌-◌, ◌<◌, List, [], ◌∷◌, ◌++◌, Result, Ok, Err}
 use Rattle.signatures.specs.declared.value.Value.{Value}
 use Rattle.object_tree.specs.declared.object.Object.{Object}
-use Rattle.object_tree.specs.Objects.{written}
+use Rattle.object_tree.specs.Objects.{change, blocked, written}
 use Rattle.machine_state.specs.declared.entry.Entry.{Entry}
 use Rattle.machine_state.specs.declared.fault.Answer.{Answer}
 use Rattle.machine_state.specs.declared.fault.Answer.TheVariants as answer
@@ -11,13 +11,22 @@ use Rattle.machine_state.specs.declared.fault.Fault.TheVariants.{TooDeep, Steps,
 use Rattle.machine_state.specs.declared.refusal.Refusal.{Refusal}
 use Rattle.machine_state.specs.declared.world.World.{World}
 use Rattle.machine_state.specs.Refusals.{refusal_number}
-use Rattle.machine_state.specs.Accepting.{refused}
+use Rattle.machine_state.specs.Accepting.{accepted, refused, with_entries}
 use Rattle.machine_state.specs.declared.connections.Endpoints.{Endpoints}
 use Rattle.machine_state.specs.State.{State, Activation}
 
 -- a world's state with a stack
 abbrev pub at : World → List Activation → State
 at w stack = record { objects = w.objects; connections = w.connections; stack = stack; trace = w.trace; events = w.events; connected = w.connected }
+
+-- the world was changed so, or memory was refused and nothing changed
+abbrev pub Becomes : World → World → World → Result (Unit {0}) Fault → Type 0
+Becomes w target v (Ok done) = v ≡ target
+Becomes w target v (Err fault) = (fault ≡ Memory) × (v ≡ w)
+
+-- nothing has happened, and so many rules may be used
+abbrev pub untouched : ℕ → World
+untouched steps = record { objects = []; connections = []; trace = []; events = 0; connected = 0; left = steps }
 
 -- ---- rules
 
@@ -43,14 +52,9 @@ abbrev pub MayNest : ℕ → ℕ → Result (Unit {0}) Fault → Type 0
 MayNest depth height (Ok may) = height + 1 < depth
 MayNest depth height (Err fault) = (depth ≡ height + 1) × (fault ≡ TooDeep)
 
--- the entries were written down by a rule that leads to this world, or memory was refused and nothing changed
-abbrev pub Notes : World → World → World → Result (Unit {0}) Fault → Type 0
-Notes w target v (Ok went) = v ≡ target
-Notes w target v (Err fault) = (fault ≡ Memory) × (v ≡ w)
-
--- a world in which a property is written, and so are these entries
-abbrev pub set_in : World → List Entry → ℕ → Object → ℕ → Value → World
-set_in w entries o x q new = record (noted w entries) { objects = slice_set w.objects o (written q new x) }
+-- .. that also writes a property of an object, if there is one
+abbrev pub set_in : World → List Entry → ℕ → ℕ → Value → World
+set_in w entries o q new = record (noted w entries) { objects = change o (written q new) w.objects }
 
 -- ---- events
 
@@ -58,10 +62,25 @@ set_in w entries o x q new = record (noted w entries) { objects = slice_set w.ob
 abbrev pub after : World → State → World
 after w s = record { objects = s.objects; connections = s.connections; trace = s.trace; events = s.events; connected = s.connected; left = w.left - 1 }
 
--- the world was changed so, or memory was refused and nothing changed
-abbrev pub Becomes : World → World → World → Result (Unit {0}) Fault → Type 0
-Becomes w target v (Ok done) = v ≡ target
-Becomes w target v (Err fault) = (fault ≡ Memory) × (v ≡ w)
+-- an event is counted, which is one rule
+abbrev pub counted : World → World
+counted w = record w { events = w.events + 1; left = w.left - 1 }
+
+-- an event is accepted by one rule: its objects are these afterwards
+abbrev pub accepting_objects : World → List Object → World
+accepting_objects w objects = after w (record (accepted (at w [])) { objects = objects })
+
+-- .. an object is blocked or may emit again
+abbrev pub accepting_block : World → ℕ → Bool → World
+accepting_block w o on = accepting_objects w (change o (blocked on) w.objects)
+
+-- .. these entries are written down
+abbrev pub accepting_entries : World → List Entry → World
+accepting_entries w entries = after w (with_entries (accepted (at w [])) entries)
+
+-- .. and a property of an object is written, if there is one
+abbrev pub accepting_write : World → List Entry → ℕ → ℕ → Value → World
+accepting_write w entries o q value = record (accepting_entries w entries) { objects = change o (written q value) w.objects }
 
 -- the event was refused for this reason, or memory was
 abbrev pub Refuses : World → Refusal → World → Result Answer Fault → Type 0
@@ -74,6 +93,10 @@ connected_by s ends = record s {
   connections = s.connections ++ record { number = s.connected + 1; sender = ends.sender; signal = ends.signal; receiver = ends.receiver; method = ends.method; kind = ends.kind } ∷ [];
   connected = s.connected + 1;
 }
+
+-- .. a connection is made
+abbrev pub accepting_connection : World → Endpoints → World
+accepting_connection w ends = after w (connected_by (accepted (at w [])) ends)
 
 -- the loop `main` is the first
 abbrev pub main : ℕ

@@ -1,12 +1,10 @@
 //! What the world becomes where an event is refused or accepted.
 
-ghost use Rattle.std.specs.Prelude.{◌≡◌, ◌+◌, ◌-◌, ◌<◌, ◌^◌, ◌∷◌, [], ◌++◌, OnOk, OnErr};
-ghost use Rattle.object_tree.specs.Adopting.{AdoptsLiving};
+ghost use Rattle.std.specs.Prelude.{◌≡◌, ◌<◌, ◌^◌, OnOk, OnErr, IsErrAnd};
+ghost use Rattle.object_tree.specs.Adopting.{AdoptsLiving, MayBeGone};
 ghost use Rattle.object_tree.specs.Creating.{Creates};
-ghost use Rattle.object_tree.specs.Objects.{Lives, change, blocked, written};
-ghost use Rattle.object_tree.specs.declared.object.Object.{Object as AnObject};
-ghost use Rattle.machine_state.specs.Accepting.{accepted, with_entries};
-ghost use Rattle.machine_state.specs.Worlds.{at, after, main, connected_by, Becomes, Refuses};
+ghost use Rattle.object_tree.specs.Objects.{IsGone};
+ghost use Rattle.machine_state.specs.Worlds.{main, counted, accepting_objects, accepting_block, accepting_entries, accepting_write, accepting_connection, Becomes, Refuses};
 
 use crate::connections::{Connection, Endpoints};
 use crate::entry::Entry;
@@ -38,7 +36,7 @@ impl World {
     fn count_event(&mut self)
         requires left { 0 < self.old.left }
         requires few { self.old.events < 2 ^ 63 }
-        ensures { self.new ≡ record self.old { events = self.old.events + 1; left = self.old.left - 1 } }
+        ensures { self.new ≡ counted self.old }
     {
         self.events += 1;
         self.left -= 1;
@@ -54,8 +52,9 @@ impl World {
     ) -> Result<ObjectId, CreateFault>
         requires left { 0 < self.old.left }
         requires few { self.old.events < 2 ^ 63 }
-        ensures objects { Creates meta.now self.old.objects name.now class.now main result self.new.objects }
-        ensures ok { OnOk result (self.new ≡ after self.old (record (accepted (at self.old [])) { objects = self.new.objects })) }
+        ensures objects { Creates meta.now self.old.objects name.now class.now main result
+            self.new.objects }
+        ensures ok { OnOk result (self.new ≡ accepting_objects self.old self.new.objects) }
         ensures err { OnErr result (self.new ≡ self.old) }
     {
         let Ok(()) = self.trace.accept(self.events + 1, []) else {
@@ -74,7 +73,8 @@ impl World {
     }
 
     /// Makes one living object the parent of another for an accepted event, or answers the first of `NotOwned`, `Cycle`
-    /// and `OtherLoop` that holds, or `Memory`; then nothing changes.
+    /// and `OtherLoop` that holds, or `Memory`; then nothing changes. Where one of the two doesn't live, the answer is
+    /// `NotOwned` or `Memory`.
     pub fn adopt(
         &mut self,
         meta: &Meta,
@@ -83,10 +83,11 @@ impl World {
     ) -> Result<(), AdoptFault>
         requires left { 0 < self.old.left }
         requires few { self.old.events < 2 ^ 63 }
-        requires parent { (x : AnObject) × Lives self.old.objects parent x }
-        requires child { (y : AnObject) × Lives self.old.objects child y }
-        ensures objects { AdoptsLiving meta.now parent child self.old.objects result self.new.objects }
-        ensures ok { OnOk result (self.new ≡ after self.old (record (accepted (at self.old [])) { objects = self.new.objects })) }
+        ensures objects { AdoptsLiving meta.now parent child self.old.objects result
+            self.new.objects }
+        ensures no_parent { IsGone self.old.objects parent → IsErrAnd result MayBeGone }
+        ensures no_child { IsGone self.old.objects child → IsErrAnd result MayBeGone }
+        ensures ok { OnOk result (self.new ≡ accepting_objects self.old self.new.objects) }
         ensures err { OnErr result (self.new ≡ self.old) }
     {
         let Ok(()) = self.trace.accept(self.events + 1, []) else {
@@ -108,7 +109,7 @@ impl World {
     pub fn accept_block(&mut self, object: ObjectId, on: bool) -> Result<(), Fault>
         requires left { 0 < self.old.left }
         requires few { self.old.events < 2 ^ 63 }
-        ensures { Becomes self.old (after self.old (record (accepted (at self.old [])) { objects = change object (blocked on) self.old.objects })) self.new result }
+        ensures { Becomes self.old (accepting_block self.old object on) self.new result }
     {
         self.trace.accept(self.events + 1, [])?;
         self.objects.block(object, on);
@@ -121,7 +122,7 @@ impl World {
         requires left { 0 < self.old.left }
         requires few { self.old.events < 2 ^ 63 }
         requires few_entries { N < 2 ^ 32 }
-        ensures { Becomes self.old (after self.old (with_entries (accepted (at self.old [])) entries.entry)) self.new result }
+        ensures { Becomes self.old (accepting_entries self.old entries.entry) self.new result }
     {
         self.trace.accept(self.events + 1, entries)?;
         self.count_event();
@@ -140,7 +141,8 @@ impl World {
         requires left { 0 < self.old.left }
         requires few { self.old.events < 2 ^ 63 }
         requires few_entries { N < 2 ^ 32 }
-        ensures { Becomes self.old (after self.old (record (with_entries (accepted (at self.old [])) entries.entry) { objects = change object (written property value) self.old.objects })) self.new result }
+        ensures { let target = accepting_write self.old entries.entry object property value in
+            Becomes self.old target self.new result }
     {
         self.accept_with(entries)?;
         self.objects.set_value(object, property, value);
@@ -152,7 +154,7 @@ impl World {
         requires left { 0 < self.old.left }
         requires few { self.old.events < 2 ^ 63 }
         requires few_connected { self.old.connected < 2 ^ 63 }
-        ensures { Becomes self.old (after self.old (connected_by (accepted (at self.old [])) ends)) self.new result }
+        ensures { Becomes self.old (accepting_connection self.old ends) self.new result }
     {
         let number = self.connected + 1;
         self.connections.push(Connection {

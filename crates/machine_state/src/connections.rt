@@ -2,7 +2,7 @@
 
 ghost use Rattle.std.specs.Prelude.{◌≡◌, [], ◌∷◌, ◌++◌, ◌<◌, ◌≤◌, OnOk, OnErr, IfSome};
 ghost use Rattle.machine_state.specs.Connections.{next_connection, is_next};
-ghost use Rattle.machine_state.specs.declared.connections.Connection.{Connection as AConnection};
+ghost use Rattle.object_tree.specs.Lists.{LosesLast};
 
 use signatures::{Kind, ObjectId};
 use std::alloc::{AllocError, Global};
@@ -76,7 +76,7 @@ impl Connections {
 
     /// Takes the last connection off again.
     pub fn pop(&mut self)
-        ensures { (front : _) (last : AConnection) → self.old ≡ front ++ last ∷ [] → self.new ≡ front }
+        ensures { LosesLast self.old self.new }
     {
         let _last = self.items.pop();
     }

@@ -1,7 +1,7 @@
 //! What a run writes down.
 
 ghost use Rattle.std.specs.Prelude.{◌≡◌, [], ◌∷◌, ◌++◌, ◌+◌, ◌<◌, ◌≤◌, ◌^◌, OnOk, OnErr, vec_len, vec_capacity};
-ghost use Rattle.machine_state.specs.declared.entry.Entry.{Entry as AnEntry};
+ghost use Rattle.object_tree.specs.Lists.{LosesLast};
 ghost use Rattle.machine_state.specs.declared.entry.Entry.TheVariants.{Accepted};
 
 use signatures::{Name, Text};
@@ -133,7 +133,7 @@ impl Trace {
 
     /// Takes the last entry off again.
     pub fn pop(&mut self)
-        ensures { (front : _) (last : AnEntry) → self.old ≡ front ++ last ∷ [] → self.new ≡ front }
+        ensures { LosesLast self.old self.new }
     {
         let _last = self.entries.pop();
     }

@@ -8,7 +8,6 @@ mod fault;
 mod natives;
 mod refusal;
 mod showing;
-mod values;
 mod world;
 
 pub use connections::{Connection, Connections, Endpoints};
@@ -17,5 +16,4 @@ pub use fault::{Answer, Fault};
 pub use natives::Natives;
 pub use refusal::Refusal;
 pub use showing::{show, show_all, stored};
-pub use values::same_value;
 pub use world::{World, is_silent, may_nest};

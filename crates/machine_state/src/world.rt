@@ -1,21 +1,18 @@
 //! All of the machine's state but the stack.
 
-ghost use Rattle.std.specs.Prelude.{◌≡◌, [], ◌<◌, ◌≤◌, ◌^◌, length, slice_get, Some, IfSome, IsTrue, MatchOption};
+ghost use Rattle.std.specs.Prelude.{◌≡◌, ◌<◌, ◌≤◌, ◌^◌, length, slice_get, IfSome, IsTrue, MatchOption};
 ghost use Rattle.object_tree.specs.Objects.{IsFree};
-ghost use Rattle.object_tree.specs.declared.object.Object.{Object as AnObject};
 ghost use Rattle.machine_state.specs.Connections.{next_used, silences, is_silent};
-ghost use Rattle.machine_state.specs.Objects.{IsNamed};
-ghost use Rattle.machine_state.specs.Worlds.{Ticks, IsLeft, MayNest, Notes, noted, set_in};
+ghost use Rattle.machine_state.specs.Objects.{IsNumberOf};
+ghost use Rattle.machine_state.specs.Worlds.{untouched, Ticks, IsLeft, MayNest, Becomes, noted, set_in};
 
 use crate::connections::{Connection, Connections};
 use crate::entry::{Entry, Trace};
 use crate::fault::Fault;
+use meta_model::DESTROYED;
 use object_tree::{Object, Tree};
 use signatures::{Name, ObjectId, Value};
 use std::alloc::Global;
-
-/// The number of the signal `destroyed` in every class.
-const DESTROYED: usize = 0;
 
 /// All of a machine's state but the stack, and how many rules are left.
 #[derive(Drop)]
@@ -37,7 +34,7 @@ pub struct World {
 impl World {
     /// The world before anything has happened, with so many rules to use.
     pub fn new(alloc: Global, steps: u64) -> World
-        ensures { result ≡ record { objects = []; connections = []; trace = []; events = 0; connected = 0; left = steps } }
+        ensures { result ≡ untouched steps }
     {
         World {
             objects: Tree::new(alloc),
@@ -51,7 +48,8 @@ impl World {
 
     /// The number of the object that has or had this name.
     pub fn find(&self, name: &Name) -> Option<ObjectId>
-        ensures { MatchOption result (IsFree self.now.objects name.now) (λ o. (x : AnObject) × IsNamed self.now.objects name.now o x) }
+        ensures { MatchOption result (IsFree self.now.objects name.now)
+            (IsNumberOf self.now.objects name.now) }
     {
         self.objects.find(name)
     }
@@ -65,7 +63,8 @@ impl World {
         used: u64,
         last: u64,
     ) -> Option<Connection>
-        ensures value { result ≡ next_used self.now.objects self.now.connections sender signal used last }
+        ensures value { let connections = self.now.connections in
+            result ≡ next_used self.now.objects connections sender signal used last }
         ensures within { IfSome result (λ c. (used < c.number) × (c.number ≤ last)) }
     {
         if self.is_silent(sender, signal) {
@@ -111,14 +110,15 @@ impl World {
     pub fn note<const N: usize>(&mut self, entries: [Entry; N]) -> Result<(), Fault>
         requires left { 0 < self.old.left }
         requires few { N < 2 ^ 32 }
-        ensures { Notes self.old (noted self.old entries.entry) self.new result }
+        ensures { Becomes self.old (noted self.old entries.entry) self.new result }
     {
         self.trace.append(entries)?;
         self.left -= 1;
         Ok(())
     }
 
-    /// A rule that writes an object's property, and these entries down; without memory nothing changes.
+    /// A rule that writes an object's property, and these entries down; without memory nothing changes. A number of no
+    /// object or of no property writes nothing.
     pub fn write<const N: usize>(
         &mut self,
         entries: [Entry; N],
@@ -128,7 +128,8 @@ impl World {
     ) -> Result<(), Fault>
         requires left { 0 < self.old.left }
         requires few { N < 2 ^ 32 }
-        ensures { (x : AnObject) → slice_get self.old.objects object ≡ Some x → Notes self.old (set_in self.old entries.entry object x property value) self.new result }
+        ensures { let target = set_in self.old entries.entry object property value in
+            Becomes self.old target self.new result }
     {
         self.note(entries)?;
         self.objects.set_value(object, property, value);

@@ -37,16 +37,6 @@ pub above-parent : {Before : Type 0} (objects : List Object) (a o parent : ℕ) 
 above-parent objects a o parent forest found other so_far =
     (λ b. above-down objects a o parent (so_far.0 b) other found, λ above. so_far.1 (over_parent (child-is objects o parent forest found) above))
 
--- an object without parent has nobody above it
-none-above : (objects : List Object) (a o : ℕ) → Above objects a o → o ≢ a → parent_of objects o ≡ None → ⊥
-none-above objects a o itself other none = other refl
-none-above objects a o (over_parent {parent = p} child above) other none =
-    let found : None ≡ Some p = sym none ∙ parent-is objects o p child in cc found
-
-pub end-above : {Before : Type 0} (objects : List Object) (a o : ℕ) → parent_of objects o ≡ None → o ≢ a → Before ↔ Above objects a o → IsTrue false ↔ Before
-end-above objects a o none other so_far =
-    (λ t. absurd (cc t), λ b. absurd (none-above objects a o (so_far.0 b) other none))
-
 pub here-above : {Before : Type 0} (objects : List Object) (a o : ℕ) → o ≡ a → Before ↔ Above objects a o → IsTrue true ↔ Before
 here-above objects a o same so_far =
     (λ t. so_far.1 (subst (λ (q : ℕ). Above objects a q) (sym same) itself), λ b. refl)

@@ -42,3 +42,8 @@ Adopts p a c x y old (Err fault) new = IsNotAdopted p old a c x y fault × (new 
 abbrev pub AdoptsLiving : Loaded → ℕ → ℕ → List Object → Result (Unit {0}) AdoptFault → List Object → Type 0
 AdoptsLiving p a c old result new =
     (x y : Object) → Lives old a x → Lives old c y → Adopts p a c x y old result new
+
+-- the answer where one of the two is gone, or memory was refused
+pub data MayBeGone : AdoptFault → Type 0 where
+  nobody : MayBeGone NotOwned
+  short : MayBeGone Memory

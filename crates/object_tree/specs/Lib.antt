@@ -1,3 +1,4 @@
+pub mod Lists
 pub mod Children
 pub mod Objects
 pub mod Family

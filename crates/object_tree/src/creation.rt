@@ -28,7 +28,8 @@ pub fn may_create<'a>(
     class: &Name,
 ) -> Result<(usize, &'a MetaObject), CreateFault>
     requires { Kept names.now objects.now }
-    ensures may { IfOk result (λ k. MayCreate meta.now objects.now name.now class.now k.0 k.1.now) }
+    ensures may { IfOk result (λ k.
+        MayCreate meta.now objects.now name.now class.now k.0 k.1.now) }
     ensures not { IfErr result (IsNotCreated meta.now objects.now name.now class.now) }
 {
     if names.find(name).is_some() {

@@ -4,7 +4,7 @@ ghost use Rattle.std.specs.Prelude.{◌≡◌, [], ◌∷◌, ◌++◌, ◌<◌,
 ghost use Rattle.std.specs.Option.{option_copied};
 ghost use Rattle.object_tree.specs.Objects.{name_of, class_of, class_with, change, blocked, scheduled, written};
 ghost use Rattle.object_tree.specs.Family.{parent_of, children_of, joined_by, left_by, leaves, put_under, moved, dead, without_life};
-ghost use Rattle.object_tree.specs.declared.object.Object.{Object as AnObject};
+ghost use Rattle.object_tree.specs.Lists.{LosesLast};
 
 use crate::object::Object;
 use signatures::{Name, ObjectId, Value};
@@ -112,7 +112,7 @@ impl Objects {
 
     /// Takes the last object off again.
     pub fn pop(&mut self)
-        ensures { (front : _) (x : AnObject) → self.old ≡ front ++ x ∷ [] → self.new ≡ front }
+        ensures { LosesLast self.old self.new }
     {
         let _last = self.items.pop();
     }

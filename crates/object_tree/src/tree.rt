@@ -72,7 +72,8 @@ impl Tree {
 
     /// A living object with all its parts, or `None` for any other number.
     pub fn get(&self, object: ObjectId) -> Option<&Object>
-        ensures value { MatchOption result (IsGone self.now object) (λ x. Lives self.now object x.now) }
+        ensures value { MatchOption result (IsGone self.now object)
+            (λ x. Lives self.now object x.now) }
         ensures forest { Forest self.now }
     {
         let found = self.objects.get(object)?;
@@ -134,7 +135,8 @@ impl Tree {
     /// Writes a property of an object; a number of no object or of no property changes nothing.
     pub fn set_value(&mut self, object: ObjectId, property: usize, value: Value)
         ensures value { self.new ≡ change object (written property value) self.old }
-        ensures typed { StayTypedIf (FitsProperty self.old object property value) self.old self.new }
+        ensures typed { StayTypedIf (FitsProperty self.old object property value)
+            self.old self.new }
     {
         self.objects.write(object, property, value);
     }

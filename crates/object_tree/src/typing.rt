@@ -11,7 +11,8 @@ use signatures::Value;
 
 /// Whether each property of a new object of the class `new` has at first a value of its type.
 pub fn begin_well(meta: &Meta, objects: &Objects, new: usize, properties: &[MetaProperty]) -> bool
-    ensures { IsTrue result ↔ All (BeginsAs meta.now (class_with objects.now new)) properties.now }
+    ensures { IsTrue result ↔
+        All (BeginsAs meta.now (class_with objects.now new)) properties.now }
 {
     properties
         .iter()

@@ -1,6 +1,7 @@
 use Rattle.std.proofs.Common.{◌∙◌, ℕ, List, [], ◌∷◌, length, refl, sym, ap, arith, Option, Some}
 use Rattle.signatures.specs.declared.value.Value.{Value}
 use Rattle.machine_state.specs.declared.world.World.{World}
+use Rattle.machine_state.proofs.Found.{set-there}
 use Rattle.machine_rules.proofs.Fields.{old-there}
 use Rattle.machine_rules.proofs.Reaching.{not-idle, reaches-same, reaches-then, stops-after, stops-as, ends-after, ends-left, ends-undue, ends-short, ends-unchanged, ends-faulted, ends-ticked}
 use Rattle.machine_rules.proofs.Keeps.{keeps-refl, keeps-trans, ends-keeps, ends-sound, fit-still, reaches-typed, reaches-keeps, reaches-sound}
@@ -173,11 +174,11 @@ pub write-returns-in_err-entry : goal.write-returns-in_err-entry
 write-returns-in_err-entry t c = record { ends = λ from to shown over sets. ends-short _ sets.goes_on c.requires.left c.from_residual-in_err-entry.ensures.1 }
 
 pub write-returns-in_err-write : goal.write-returns-in_err-write
-write-returns-in_err-write t c = record { ends = λ from to shown over sets. ends-unchanged _ sets.goes_on c.requires.left (c.in_err-write.ensures _ c.in-Some.ensures.value.is_object) c.from_residual-in_err-write.ensures.1 }
+write-returns-in_err-write t c = record { ends = λ from to shown over sets. ends-unchanged _ sets.goes_on c.requires.left c.in_err-write.ensures c.from_residual-in_err-write.ensures.1 }
 
 pub write-run_update-requires : goal.write-run_update-requires
 write-run_update-requires t c = let field = c.in-Some.ensures.value in
-    let went = c.in_ok-write.ensures _ field.is_object in
+    let went = set-there c.args.world.now (c.in_ok-entry.entry ∷ []) c.args.object c.args.property c.args.value field.is_object c.in_ok-write.ensures in
     let has = c.has_type.ensures.0 c.if-not-has_type.false in
     let old = old-there field c.requires.sound.typed in
     let changes = c.signal_of_change-changed.ensures old.0 (c.get.ensures ∙ old.1) in
@@ -187,7 +188,7 @@ pub write-returns : goal.write-returns
 write-returns t c = record {
   ends = λ from to shown over sets.
       let field = c.in-Some.ensures.value in
-      ends-written over sets field c.requires.sound.typed (c.has_type.ensures.0 c.if-not-has_type.false) c.in_ok-may_nest.ensures c.requires.left (λ old is. c.signal_of_change-changed.ensures old (c.get.ensures ∙ is)) (rw c.count.ensures at c.in_ok-entry.ensures) (c.in_ok-write.ensures _ field.is_object) c.run_update.ensures.ends;
+      ends-written over sets field c.requires.sound.typed (c.has_type.ensures.0 c.if-not-has_type.false) c.in_ok-may_nest.ensures c.requires.left (λ old is. c.signal_of_change-changed.ensures old (c.get.ensures ∙ is)) (rw c.count.ensures at c.in_ok-entry.ensures) (set-there c.args.world.now (c.in_ok-entry.entry ∷ []) c.args.object c.args.property c.args.value field.is_object c.in_ok-write.ensures) c.run_update.ensures.ends;
 }
 
 pub run_update-returns-in-None : goal.run_update-returns-in-None

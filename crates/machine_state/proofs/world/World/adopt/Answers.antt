@@ -1,6 +1,7 @@
-use Rattle.std.proofs.Common.{List, refl, sym, ap, subst}
+use Rattle.std.proofs.Common.{◌≡◌, List, refl, sym, ap, subst}
 use Rattle.object_tree.specs.declared.object.Object.{Object}
-use Rattle.object_tree.specs.Adopting.{IsAdopted, no_memory}
+use Rattle.object_tree.specs.Adopting.{IsAdopted, no_memory, MayBeGone, nobody, short}
+use Rattle.object_tree.specs.declared.fault.AdoptFault.TheVariants.{NotOwned}
 use Rattle.machine_state.specs.declared.world.World.{World}
 use Rattle.machine_state.proofs.world.World.adopt.Goals as goal
 
@@ -12,3 +13,23 @@ returns-in-Ok-adopt-clause-objects c = λ x y lives living.
     let is = c.in-Ok-adopt.ensures.value x y lives living in
     let After : List Object → Type 0 = λ l. IsAdopted c.args.parent c.args.child y c.args.self.now.objects l in
     (is.0, subst After (sym (ap (λ (w : World). w.objects) c.count_event.ensures)) is.1)
+
+-- ---- where one of the two is gone
+
+pub returns-in_default-clause-no_parent : goal.returns-in_default-clause-no_parent
+returns-in_default-clause-no_parent c = λ gone. short
+
+pub returns-in_default-clause-no_child : goal.returns-in_default-clause-no_child
+returns-in_default-clause-no_child c = λ gone. short
+
+pub returns-in-Err-clause-no_parent : goal.returns-in-Err-clause-no_parent
+returns-in-Err-clause-no_parent c = λ gone.
+    let refused = c.in-Err.ensures.no_parent gone in
+    let is : c.in-Err.fault ≡ NotOwned = cc refused in
+    subst MayBeGone (sym is) nobody
+
+pub returns-in-Err-clause-no_child : goal.returns-in-Err-clause-no_child
+returns-in-Err-clause-no_child c = λ gone.
+    let refused = c.in-Err.ensures.no_child gone in
+    let is : c.in-Err.fault ≡ NotOwned = cc refused in
+    subst MayBeGone (sym is) nobody
