@@ -61,7 +61,8 @@ pub fn respond<W: Write>(
     natives: Natives,
     w: &mut W,
 ) -> Result<u8, WriteFault>
-    ensures { let Writes = CommandWrites (map (λ word. word.now) words.now) (read_of input.entry) in
+    ensures { let given = map (λ word. word.now) words.now in
+        let Writes = CommandWrites given (read_of input.entry) in
         IfOk result (λ status. Answers Writes (W.contents w.old) (W.contents w.new) status) }
 {
     let Some(command) = Command::of(words) else {
@@ -112,7 +113,8 @@ fn perform<W: Write>(
 
 /// Writes that the command line or its input isn't one that the program takes.
 fn refuse_usage<W: Write>(w: &mut W) -> Result<u8, WriteFault>
-    ensures { IfOk result (λ status. SendsWith (W.contents w.old) (W.contents w.new) usage_line 1 status) }
+    ensures { IfOk result (λ status.
+        SendsWith (W.contents w.old) (W.contents w.new) usage_line 1 status) }
 {
     w.write_all(b"usage\n")?;
     w.flush()?;

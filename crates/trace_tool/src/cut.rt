@@ -7,7 +7,8 @@ ghost use Rattle.trace_tool.specs.Cut.{AreTexts, AreOnly, IsNoText, AreNotTwo};
 
 /// The one text of an input that has no line `%%`.
 pub fn one_text(input: &[u8]) -> Option<&[u8]>
-    ensures cut { MatchOption result (IsNoText input.now) (λ text. AreTexts input.now (text.now ∷ [])) }
+    ensures cut { MatchOption result (IsNoText input.now)
+        (λ text. AreTexts input.now (text.now ∷ [])) }
     ensures only { IfSome result (λ text. AreOnly input.now (text.now ∷ [])) }
 {
     let (text, after) = first_text(input);
@@ -21,7 +22,8 @@ pub fn one_text(input: &[u8]) -> Option<&[u8]>
 pub fn two_texts(input: &[u8]) -> Option<(&[u8], &[u8])>
     ensures cut { MatchOption result (AreNotTwo input.now)
         (λ texts. AreTexts input.now (texts.0.now ∷ texts.1.now ∷ [])) }
-    ensures only { IfSome result (λ texts. AreOnly input.now (texts.0.now ∷ texts.1.now ∷ [])) }
+    ensures only { IfSome result (λ texts.
+        AreOnly input.now (texts.0.now ∷ texts.1.now ∷ [])) }
 {
     let (first, after) = first_text(input);
     let rest = after?;

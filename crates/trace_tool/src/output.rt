@@ -60,7 +60,8 @@ impl Output {
     }
 
     fn send<W: Write>(&mut self, w: &mut W) -> Result<(), WriteFault>
-        ensures sent { OnOk result (Sends (behind (W.contents w.old) self.old) (W.contents w.new) []) }
+        ensures sent { OnOk result
+            (Sends (behind (W.contents w.old) self.old) (W.contents w.new) []) }
         ensures empty { OnOk result (self.new ≡ []) }
     {
         w.write_all(self.pending.as_slice())?;

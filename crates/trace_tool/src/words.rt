@@ -27,8 +27,10 @@ impl Command {
     pub fn of(words: &[&str]) -> Option<Command>
         ensures said { let said = map (λ w. w.now) words.now in
             MatchOption result (IsNoCommand said) (λ c. IsCommand said c) }
-        ensures depth { (o : _) → result ≡ Some (Run o) → (1 ≤ o.depth) × (o.depth ≤ 256) }
-        ensures steps { (o : _) → result ≡ Some (Run o) → (1 ≤ o.steps) × (o.steps < 2 ^ 63) }
+        ensures depth { (o : _) → result ≡ Some (Run o) →
+            (1 ≤ o.depth) × (o.depth ≤ 256) }
+        ensures steps { (o : _) → result ≡ Some (Run o) →
+            (1 ≤ o.steps) × (o.steps < 2 ^ 63) }
     {
         if is_meta(words) {
             return Some(Command::Meta);
