@@ -7,7 +7,7 @@ use Rattle.std.proofs.lemmas.Bool.{cases_eq, cases_lt}
 use Rattle.std.proofs.lemmas.List.{length-set, get_or-set_same, get_or-set_other}
 use Rattle.std.proofs.lemmas.Option.{none-some, same_Some, slice_get-get_or, slice_get_past, slice_get_within, slice_get_read}
 use Rattle.meta_model.specs.NamePlaces.{place_in, Adds}
-use Rattle.meta_model.specs.Places.{StandsAt, StandsFirst, IsPlace}
+use Rattle.meta_model.specs.Places.{StandsAt, StandsFirst, NoneStands, Found, IsPlace}
 use Rattle.meta_model.specs.CallPlaces.{Index, place_by, IndexesCalls, AreCalledAlike}
 use Rattle.meta_model.specs.Twice.{StandsTwice}
 use Rattle.meta_model.proofs.Searches.{order, none_more, none_at_all, met_first}
@@ -213,3 +213,13 @@ module _ {X : Type 0} (name_of : X → List ℕ) (count_of : X → ℕ) (xs : Li
       ∙ each t.j t.y t.at_j) in
       let less = t.before in
       absurd (omega arith)
+
+-- ---- what an index answers
+module _ {X : Type 0} (name_of : X → List ℕ) (count_of : X → ℕ) (xs : List X) (indexes : List Index) (ix : IndexesCalls name_of count_of xs indexes) (name : List ℕ) (count : ℕ) where
+  pub found_none : place_by indexes count name ≡ None → NoneStands (IsCalled name_of count_of name count) xs
+  found_none e = subst (IsPlace (IsCalled name_of count_of name count) xs) e (ix name count)
+
+  pub found_some : (m : ℕ) (x : X) → place_by indexes count name ≡ Some m → slice_get xs m ≡ Some x → Found (IsCalled name_of count_of name count) xs m x
+  found_some m x e is =
+      let first : StandsFirst (IsCalled name_of count_of name count) xs m = subst (IsPlace (IsCalled name_of count_of name count) xs) e (ix name count) in
+      record { first = first; is = same_Some _ _ (sym first.at.is ∙ is) }

@@ -11,3 +11,4 @@ pub mod OutlineSteps
 pub mod Outlined
 pub mod Roots
 pub mod Indexing
+pub mod OneMember

@@ -1,7 +1,7 @@
 -- Searching a list from its front.
 use Rattle.std.proofs.Common.{◌≡◌, ℕ, zero, suc, ◌<◌, ◌≤◌, ◌+◌, List, [], ◌∷◌, length, get_or, slice_get, Option, Some, None, MatchOption, ◌⊎◌, inl, inr, refl, sym, ap, ◌∙◌, subst, arith, below_more}
 use Rattle.std.proofs.lemmas.Option.{slice_get_within, same_Some, none-some, slice_get_read, slice_get-get_or}
-use Rattle.meta_model.specs.Places.{StandsAt, StandsFirst, IsPlace}
+use Rattle.meta_model.specs.Places.{StandsAt, StandsFirst, StandsOnlyAt, NoneStands, Found, IsPlace}
 use Rattle.meta_model.specs.Members.{IsIn}
 
 pub order : (i j : ℕ) → (i < j) ⊎ ((i ≡ j) ⊎ (j < i))
@@ -32,6 +32,36 @@ module _ {X : Type 0} (P : X → Type 0) (xs : List X) where
 pub same_first : {X : Type 0} (P : X → Type 0) (xs : List X) (i j : ℕ) → StandsFirst P xs i → StandsFirst P xs j → i ≡ j
 same_first P xs i j h k =
     elim (order i j) [ inl below ↦ absurd (k.first i below h.at) | inr rest ↦ elim rest [ inl e ↦ e | inr above ↦ absurd (h.first j above k.at) ] ]
+
+-- what a search for Q says of P, which only elements with Q have
+module _ {X : Type 0} (P Q : X → Type 0) (xs : List X) (also : (x : X) → P x → Q x) where
+  at_also : (k : ℕ) → StandsAt P xs k → StandsAt Q xs k
+  at_also k at = record { item = at.item; is = at.is; has = also at.item at.has }
+
+  pub none_also : NoneStands Q xs → NoneStands P xs
+  none_also none k at = none k (at_also k at)
+
+  pub first_also : (m : ℕ) (x : X) → Found Q xs m x → P x → StandsFirst P xs m
+  first_also m x found has = record {
+    at = record { item = x; is = found.first.at.is ∙ ap Some found.is; has = has };
+    first = λ k below at. found.first.first k below (at_also k at);
+  }
+
+  pub found_also : (m : ℕ) (x : X) → Found Q xs m x → P x → Found P xs m x
+  found_also m x found has = record {
+    first = record {
+      at = record { item = x; is = found.first.at.is ∙ ap Some found.is; has = has };
+      first = λ k below at. found.first.first k below (at_also k at);
+    };
+    is = refl;
+  }
+
+  -- the one element with Q doesn't have P
+  pub none_but : (m : ℕ) (x : X) → Found Q xs m x → StandsOnlyAt Q xs m → ¬ P x → NoneStands P xs
+  none_but m x found only not k at =
+      let place : k ≡ m = only k (at_also k at) in
+      let same : at.item ≡ x = same_Some _ _ (sym at.is ∙ ap (λ n. slice_get xs n) place ∙ found.first.at.is ∙ ap Some found.is) in
+      not (subst P same at.has)
 
 -- the answer of a search says what the caller calls an element with P
 pub answer_of : {X : Type 0} (P : X → Type 0) (xs : List X) (Q : ℕ → Type 0) → ((i : ℕ) → StandsAt P xs i → Q i) → ((i : ℕ) → Q i → StandsAt P xs i) → (r : Option ℕ) → IsPlace P xs r → MatchOption r ((i : ℕ) → ¬ Q i) Q

@@ -12,5 +12,6 @@ pub mod Outlines
 pub mod Kinds
 pub mod Ends
 pub mod Conditions
+pub mod Indexed
 pub mod FaultNumbers
 pub mod PartAnswers

@@ -17,6 +17,14 @@ pub record Found {X : Type 0} (P : X → Type 0) (xs : List X) (place : ℕ) (it
   pub first : StandsFirst P xs place
   pub is : first.at.item ≡ item
 
+-- no element has P but the one at this place
+abbrev pub StandsOnlyAt : {X : Type 0} → (X → Type 0) → List X → ℕ → Type 0
+StandsOnlyAt P xs place = (k : ℕ) → StandsAt P xs k → k ≡ place
+
+-- no element has P
+abbrev pub NoneStands : {X : Type 0} → (X → Type 0) → List X → Type 0
+NoneStands P xs = (k : ℕ) → ¬ StandsAt P xs k
+
 -- the answer is the place of the first element with P, or `None` where there is no such element
 abbrev pub IsPlace : {X : Type 0} → (X → Type 0) → List X → Option ℕ → Type 0
-IsPlace P xs answer = MatchOption answer ((i : ℕ) → ¬ StandsAt P xs i) (λ i. StandsFirst P xs i)
+IsPlace P xs answer = MatchOption answer (NoneStands P xs) (λ i. StandsFirst P xs i)

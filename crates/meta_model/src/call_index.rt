@@ -112,7 +112,7 @@ fn is_first<T: Called>(indexes: &[NameIndex], place: usize, item: &T) -> bool
 }
 
 /// Whether one of the items isn't the first that is called so.
-fn repeats_call<T: Called>(indexes: &[NameIndex], items: &[T]) -> bool
+pub fn repeats_call<T: Called>(indexes: &[NameIndex], items: &[T]) -> bool
     requires { IndexesCalls T.name_of T.count_of items.now indexes.now }
     ensures { IsTrue result ↔ StandsTwice (AreCalledAlike T.name_of T.count_of) items.now }
 {
@@ -122,12 +122,4 @@ fn repeats_call<T: Called>(indexes: &[NameIndex], items: &[T]) -> bool
         }
     }
     false
-}
-
-/// Whether two of the items are called alike. The error is that memory was refused.
-pub fn has_two_alike<T: Called>(alloc: Global, items: &[T]) -> Result<bool, AllocError>
-    ensures { IfOk result (λ two. IsTrue two ↔ StandsTwice (AreCalledAlike T.name_of T.count_of) items.now) }
-{
-    let indexes = index_calls(alloc, items)?;
-    Ok(repeats_call(indexes.as_slice(), items))
 }

@@ -1,13 +1,10 @@
 //! Names that stand twice.
 
-ghost use Rattle.std.specs.Prelude.{◌≡◌, ◌↔◌, ℕ, List, IsTrue, IfOk, Some, Any};
+ghost use Rattle.std.specs.Prelude.{◌≡◌, ◌↔◌, IsTrue, Any};
 ghost use Rattle.meta_model.specs.Twice.{StandsTwice};
-ghost use Rattle.meta_model.specs.Conditions.{IsTaken, DuplicateClass, HasTwoMembers, RepeatsParameter, DuplicateMember, AreOneParameter};
+ghost use Rattle.meta_model.specs.Conditions.{IsTaken, DuplicateClass, RepeatsParameter, AreOneParameter};
 
-use crate::call_index::has_two_alike;
-use crate::outline::Outline;
 use signatures::Name;
-use std::alloc::{AllocError, Global};
 use texts::{Class, Parameter, Program, Signal, Slot};
 
 /// What may not stand twice in a list.
@@ -78,37 +75,11 @@ fn is_taken(name: &Name) -> bool
         || bytes == b"QString".as_slice()
 }
 
-/// Whether a member of a class stands twice, inherited ones too, or a parameter of a method. The error is that memory was
-/// refused.
-pub fn has_duplicate_member(
-    alloc: Global,
-    program: &Program,
-    outlines: &[Outline],
-) -> Result<bool, AllocError>
-    ensures { IfOk result (λ twice. IsTrue twice ↔ DuplicateMember program.now outlines.now) }
-{
-    for outline in outlines {
-        if has_two_members(alloc, outline)? {
-            return Ok(true);
-        }
-    }
-    Ok(has_repeated_parameter(program.classes.as_slice()))
-}
-
 /// Whether a parameter stands twice in a method of one of the classes.
-fn has_repeated_parameter(classes: &[Class]) -> bool
+pub fn has_repeated_parameter(classes: &[Class]) -> bool
     ensures { IsTrue result ↔ Any RepeatsParameter classes.now }
 {
     classes.iter().any(|class| repeats_parameter(class))
-}
-
-/// Whether two methods or two properties of the class are one.
-fn has_two_members(alloc: Global, outline: &Outline) -> Result<bool, AllocError>
-    ensures { IfOk result (λ two. IsTrue two ↔ HasTwoMembers outline.now) }
-{
-    let in_methods = has_two_alike(alloc, outline.methods.as_slice())?;
-    let in_properties = has_two_alike(alloc, outline.properties.as_slice())?;
-    Ok(in_methods || in_properties)
 }
 
 /// Whether a parameter stands twice in a method of the class.

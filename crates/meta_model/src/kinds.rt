@@ -6,8 +6,9 @@ ghost use Rattle.meta_model.specs.Kinds.{IsKindIn, LacksType, IsReadAs};
 ghost use Rattle.meta_model.specs.Conditions.{LacksTypes, NoType};
 ghost use Rattle.signatures.specs.Types.{value_type};
 
+use crate::indexed::IndexedOutline;
 use crate::object::ValueType;
-use crate::outline::{Heading, Outline};
+use crate::outline::Heading;
 use crate::places::place_of;
 use signatures::QType;
 use sqlite_items::Items;
@@ -15,7 +16,7 @@ use std::alloc::{AllocError, Global};
 use texts::Property;
 
 /// What the type stands for, or `None` where there is no such type.
-pub fn kind_of(outlines: &[Outline], declared: &QType) -> Option<ValueType>
+pub fn kind_of(outlines: &[IndexedOutline], declared: &QType) -> Option<ValueType>
     ensures { MatchOption result (LacksType outlines.now declared.now) (λ kind. IsKindIn outlines.now declared.now kind) }
 {
     if declared.pointer {
@@ -42,7 +43,7 @@ fn is_value_type(declared: &QType, name: &[u8]) -> bool
 }
 
 /// What the type is read as: what it stands for, and `int` where there is no such type.
-pub fn read_kind(outlines: &[Outline], declared: &QType) -> ValueType
+pub fn read_kind(outlines: &[IndexedOutline], declared: &QType) -> ValueType
     ensures { IsReadAs outlines.now declared.now result }
 {
     match kind_of(outlines, declared) {
@@ -54,7 +55,7 @@ pub fn read_kind(outlines: &[Outline], declared: &QType) -> ValueType
 /// What the types are read as, in their order.
 pub fn read_kinds(
     alloc: Global,
-    outlines: &[Outline],
+    outlines: &[IndexedOutline],
     declared: &[QType],
 ) -> Result<Items<ValueType>, AllocError>
     ensures { IfOk result (λ kinds. AllZip (IsReadAs outlines.now) declared.now kinds) }
@@ -68,14 +69,14 @@ pub fn read_kinds(
 }
 
 /// Whether there is no such type.
-fn lacks_type(outlines: &[Outline], declared: &QType) -> bool
+fn lacks_type(outlines: &[IndexedOutline], declared: &QType) -> bool
     ensures { IsTrue result ↔ LacksType outlines.now declared.now }
 {
     kind_of(outlines, declared).is_none()
 }
 
 /// Whether the type of a property or a parameter isn't there.
-pub fn has_no_type(outlines: &[Outline]) -> bool
+pub fn has_no_type(outlines: &[IndexedOutline]) -> bool
     ensures { IsTrue result ↔ NoType outlines.now }
 {
     outlines
@@ -84,16 +85,16 @@ pub fn has_no_type(outlines: &[Outline]) -> bool
 }
 
 /// Whether the type of one of the class's properties or parameters isn't there.
-fn lacks_types(outlines: &[Outline], outline: &Outline) -> bool
+fn lacks_types(outlines: &[IndexedOutline], outline: &IndexedOutline) -> bool
     ensures { IsTrue result ↔ LacksTypes outlines.now outline.now }
 {
-    let properties = outline.properties.as_slice();
-    let methods = outline.methods.as_slice();
+    let properties = outline.properties();
+    let methods = outline.methods();
     lacks_property_type(outlines, properties) || lacks_parameter_type(outlines, methods)
 }
 
 /// Whether the type of one of the properties isn't there.
-fn lacks_property_type(outlines: &[Outline], properties: &[Property]) -> bool
+fn lacks_property_type(outlines: &[IndexedOutline], properties: &[Property]) -> bool
     ensures { IsTrue result ↔ Any (λ property. LacksType outlines.now property.kind) properties.now }
 {
     properties
@@ -102,14 +103,14 @@ fn lacks_property_type(outlines: &[Outline], properties: &[Property]) -> bool
 }
 
 /// Whether the type of a parameter of one of the methods isn't there.
-fn lacks_parameter_type(outlines: &[Outline], methods: &[Heading]) -> bool
+fn lacks_parameter_type(outlines: &[IndexedOutline], methods: &[Heading]) -> bool
     ensures { IsTrue result ↔ Any (λ method. Any (LacksType outlines.now) method.sig.types) methods.now }
 {
     methods.iter().any(|method| lacks_one_of(outlines, method.sig.types.as_slice()))
 }
 
 /// Whether one of the types isn't there.
-fn lacks_one_of(outlines: &[Outline], types: &[QType]) -> bool
+fn lacks_one_of(outlines: &[IndexedOutline], types: &[QType]) -> bool
     ensures { IsTrue result ↔ Any (LacksType outlines.now) types.now }
 {
     types.iter().any(|one| lacks_type(outlines, one))

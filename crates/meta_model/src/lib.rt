@@ -5,6 +5,7 @@
 mod call_index;
 mod clashes;
 mod fault;
+mod indexed;
 mod kinds;
 mod name_index;
 mod notify;
@@ -15,12 +16,13 @@ mod places;
 mod qobject;
 mod slot_body;
 
-pub use call_index::{Called, find_call, has_two_alike, index_calls};
-pub use clashes::{has_duplicate_class, has_duplicate_member};
+pub use call_index::{Called, find_call, index_calls};
+pub use clashes::{has_duplicate_class, has_repeated_parameter};
 pub use fault::MetaFault;
+pub use indexed::{IndexedOutline, index_outlines};
 pub use kinds::{has_no_type, kind_of, read_kind, read_kinds};
 pub use name_index::NameIndex;
-pub use notify::{has_bad_notify, place_of_signal};
+pub use notify::has_bad_notify;
 pub use object::{
     MetaMethod, MetaObject, MetaOwns, MetaPath, MetaProperty, MetaRoot, MetaWire, Statement, Step,
     ValueType, Work,

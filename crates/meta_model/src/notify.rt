@@ -1,45 +1,32 @@
 //! Notify signals.
 
 ghost use Rattle.std.specs.Prelude.{◌≡◌, ◌↔◌, ◌⊎◌, ◌<◌, ℕ, List, [], ◌∷◌, IsTrue, Any, codes};
-ghost use Rattle.meta_model.specs.Conditions.{IsSignalOf, IsNotifiedBy, LacksNotifier, BadNotify};
-ghost use Rattle.meta_model.specs.Places.{IsPlace};
+ghost use Rattle.meta_model.specs.Conditions.{IsNotifiedBy, LacksNotifier, BadNotify};
 
-use crate::outline::{Heading, Outline};
+use crate::indexed::IndexedOutline;
 use crate::qobject::DELETE_LATER;
 use signatures::{QType, Sig};
 use texts::Property;
 
-/// The place of a signal of this signature.
-pub fn place_of_signal(methods: &[Heading], sig: &Sig) -> Option<usize>
-    ensures { IsPlace (IsSignalOf sig.now) methods.now result }
-{
-    for (place, method) in methods.iter().enumerate() {
-        if method.is_signal() && method.sig.is_same(sig) {
-            return Some(place);
-        }
-    }
-    None
-}
-
 /// Whether a property's notify signature isn't a signal that may notify it.
-pub fn has_bad_notify(outlines: &[Outline]) -> bool
+pub fn has_bad_notify(outlines: &[IndexedOutline]) -> bool
     ensures { IsTrue result ↔ BadNotify outlines.now }
 {
     outlines.iter().any(|outline| notifies_badly(outline))
 }
 
 /// Whether one of the class's properties has such a notify signature.
-fn notifies_badly(outline: &Outline) -> bool
+fn notifies_badly(outline: &IndexedOutline) -> bool
     ensures { IsTrue result ↔ Any (λ property. LacksNotifier outline.now property property.notify) outline.now.properties }
 {
-    let properties = outline.properties.as_slice();
-    properties
+    outline
+        .properties()
         .iter()
         .any(|property| lacks_notifier(outline, property))
 }
 
 /// Whether the property has such a notify signature.
-fn lacks_notifier(outline: &Outline, property: &Property) -> bool
+fn lacks_notifier(outline: &IndexedOutline, property: &Property) -> bool
     ensures { IsTrue result ↔ LacksNotifier outline.now property.now property.now.notify }
 {
     match &property.notify {
@@ -49,11 +36,11 @@ fn lacks_notifier(outline: &Outline, property: &Property) -> bool
 }
 
 /// Whether a signal of this signature may notify the property.
-fn is_notified_by(outline: &Outline, property: &Property, sig: &Sig) -> bool
+fn is_notified_by(outline: &IndexedOutline, property: &Property, sig: &Sig) -> bool
     ensures yes { IsTrue result → (m : ℕ) × IsNotifiedBy outline.now property.now sig.now m }
     ensures only { (m : ℕ) → IsNotifiedBy outline.now property.now sig.now m → IsTrue result }
 {
-    match place_of_signal(outline.methods.as_slice(), sig) {
+    match outline.place_of_signal(sig) {
         Some(place) => carries(sig.types.as_slice(), &property.kind) && may_notify(place, property),
         None => false,
     }

@@ -1,6 +1,6 @@
 //! Classes with their whole lists of members.
 
-ghost use Rattle.std.specs.Prelude.{◌≡◌, ℕ, map, IfOk, MatchOption, codes, [], ◌∷◌, ◌++◌};
+ghost use Rattle.std.specs.Prelude.{◌≡◌, ℕ, map, IfOk, OnOk, MatchOption, codes, [], ◌∷◌, ◌++◌};
 ghost use Rattle.meta_model.specs.Conditions.{LacksBase};
 ghost use Rattle.meta_model.specs.Outlines.{kinds_of, sig_of, signal_heading, slot_headings, own_methods, base_name, IsOutline, Outlines};
 ghost use Rattle.meta_model.specs.PartAnswers.{Loads};
@@ -17,18 +17,27 @@ use std::alloc::{AllocError, Global};
 use texts::{Class, Literal, Parameter, Property, Signal, Slot};
 
 /// `QObject` and the program's classes, as declared; `NoBase` where a base doesn't stand before its class.
-pub fn outline_classes(alloc: Global, classes: &[Class]) -> Result<Items<Outline>, MetaFault>
-    ensures { Loads fault.NoBase (LacksBase (codes "QObject" ∷ []) classes.now) (λ outlines. Outlines classes.now outlines) result }
+pub fn outline_classes(alloc: Global, classes: &[Class]) -> Result<Vec<Outline>, MetaFault>
+    ensures { Loads fault.NoBase (LacksBase (codes "QObject" ∷ []) classes.now)
+        (λ outlines. Outlines classes.now outlines.items) result }
 {
     let root = Name::new(alloc, b"QObject")?;
-    let mut outlines = Items::new(alloc);
+    let mut outlines = Vec::new(alloc);
     let first = qobject(alloc)?;
-    outlines.push(first)?;
+    add(&mut outlines, first)?;
     for (number, class) in classes.iter().enumerate() {
         let outline = outline_class(alloc, &root, outlines.as_slice(), number, class)?;
-        outlines.push(outline)?;
+        add(&mut outlines, outline)?;
     }
     Ok(outlines)
+}
+
+/// Puts a class after the others; the error is that memory was refused.
+fn add(outlines: &mut Vec<Outline>, outline: Outline) -> Result<(), AllocError>
+    ensures { OnOk result (outlines.new.items ≡ outlines.old.items ++ outline ∷ []) }
+{
+    outlines.push(outline)?;
+    Ok(())
 }
 
 /// The class of this number among the program's, over those before it.

@@ -1,11 +1,12 @@
 //! The places of classes and members in their lists.
 
 ghost use Rattle.std.specs.Prelude.{◌≡◌, ◌↔◌, ℕ, List, IsTrue, Some, MatchOption};
-ghost use Rattle.meta_model.specs.Places.{StandsAt, Found, IsPlace};
+ghost use Rattle.meta_model.specs.Places.{NoneStands, Found, IsPlace};
 
+use crate::indexed::IndexedOutline;
 use crate::outline::Outline;
 use signatures::Name;
-use texts::{Parameter, Property};
+use texts::Parameter;
 
 /// What may have a name.
 pub trait Named {
@@ -24,11 +25,11 @@ impl Named for Outline {
     }
 }
 
-impl Named for Property {
-    ghost has_name = { λ property name. property.name ≡ name };
+impl Named for IndexedOutline {
+    ghost has_name = { λ class name. class.name ≡ name };
 
     fn is_named(&self, name: &Name) -> bool {
-        self.name.is_same(name)
+        name.is_same(self.name())
     }
 }
 
@@ -45,7 +46,8 @@ impl Named for Parameter {
 
 /// The first item of this name, with its place.
 pub fn find<'a, T: Named>(items: &'a [T], name: &Name) -> Option<(usize, &'a T)>
-    ensures { MatchOption result ((k : ℕ) → ¬ StandsAt (λ item. T.has_name item name.now) items.now k) (λ found. Found (λ item. T.has_name item name.now) items.now found.0 found.1.now) }
+    ensures { MatchOption result (NoneStands (λ item. T.has_name item name.now) items.now)
+        (λ found. Found (λ item. T.has_name item name.now) items.now found.0 found.1.now) }
 {
     for (place, item) in items.iter().enumerate() {
         if item.is_named(name) {

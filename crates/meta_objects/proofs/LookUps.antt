@@ -26,7 +26,6 @@ module _ (p : Loaded) where
       r h
 
   module _ (c : ℕ) (class : MetaObject) (is : slice_get p.classes c ≡ Some class) where
-
     pub method_answer : (name : List ℕ) (count : ℕ) (xs : List MetaMethod) → xs ≡ class.methods → (r : Option ℕ) → IsPlace (λ method. (method.sig.name ≡ name) × (length method.sig.types ≡ count)) xs r → MatchOption r ((m : ℕ) → ¬ IsMethodNamed p c name count m) (λ m. IsMethodNamed p c name count m)
     method_answer name count xs e r h =
         answer_of (λ method. (method.sig.name ≡ name) × (length method.sig.types ≡ count)) xs (IsMethodNamed p c name count)

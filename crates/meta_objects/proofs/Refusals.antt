@@ -1,5 +1,5 @@
 -- What refuses a program, and what a program that isn't refused has.
-use Rattle.std.proofs.Common.{◌≡◌, List, [], ◌∷◌, Result, Ok, Err, IsErr, IsErrAnd, inl, inr, sym, subst}
+use Rattle.std.proofs.Common.{◌≡◌, List, [], ◌∷◌, Result, Ok, Err, IsErr, IsErrAnd, Any, ◌⊎◌, inl, inr, sym, subst}
 use Rattle.texts.specs.declared.program.Program.{Program}
 use Rattle.meta_model.specs.declared.fault.MetaFault.{MetaFault}
 use Rattle.meta_model.specs.declared.fault.MetaFault.TheVariants as fault
@@ -9,7 +9,8 @@ use Rattle.meta_model.specs.declared.object.MetaOwns.{MetaOwns}
 use Rattle.meta_model.specs.declared.outline.Outline.{Outline}
 use Rattle.meta_model.specs.Loaded.{Loaded}
 use Rattle.meta_model.specs.Outlines.{Outlines, qobject}
-use Rattle.meta_model.specs.Conditions.{DuplicateClass, NoBase, DuplicateMember}
+use Rattle.meta_model.specs.Conditions.{DuplicateClass, NoBase, HasTwoMembers, RepeatsParameter, DuplicateMember}
+use Rattle.meta_model.specs.Indexed.{AreIndexed}
 use Rattle.meta_objects.specs.Bodies.{IsBody, AreBodies, LacksInSlot, LacksInClass}
 use Rattle.meta_objects.specs.Loading.{IsWire, LacksEnd, IsOwns, LacksClass, LacksMember, HasUses}
 use Rattle.meta_model.specs.PartAnswers.{Loads}
@@ -35,10 +36,19 @@ pub answers : (program : Program) (e : MetaFault) → Builds program (Err e) →
 answers program e h (Ok loaded) is same = absurd (cc)
 answers program e h (Err x) is same = subst (λ f. Builds program (Err f)) (sym same) h
 
-pub refused_base : (program : Program) (e : MetaFault) → (¬ DuplicateClass program) → {Y : Type 0} (Is : Y → Type 0) → Loads fault.NoBase (NoBase program) Is (Err e) → Builds program (Err e)
-refused_base program e distinct Is (inl m) = subst (λ f. Builds program (Err f)) (sym m) tt
-refused_base program e distinct Is (inr n) = subst (λ f. Builds program (Err f)) (sym n.0) (distinct, n.1)
+pub refused_base : (program : Program) (e : MetaFault) → (¬ DuplicateClass program) → (e ≡ fault.Memory) ⊎ ((e ≡ fault.NoBase) × NoBase program) → Builds program (Err e)
+refused_base program e distinct (inl m) = subst (λ f. Builds program (Err f)) (sym m) tt
+refused_base program e distinct (inr n) = subst (λ f. Builds program (Err f)) (sym n.0) (distinct, n.1)
 
 pub refused_use : (program : Program) (o : List Outline) (e : MetaFault) → HasOutlines program o → (¬ DuplicateMember program o) → {Y : Type 0} (Is : Y → Type 0) → Loads fault.NoMember (LacksMember program o) Is (Err e) → Builds program (Err e)
 refused_use program o e are members Is (inl m) = subst (λ f. Builds program (Err f)) (sym m) tt
 refused_use program o e are members Is (inr n) = subst (λ f. Builds program (Err f)) (sym n.0) (o, are, members, n.1)
+
+-- no member and no parameter stands twice
+pub members_once : (program : Program) (o indexed : List Outline) → AreIndexed o indexed → (¬ Any RepeatsParameter program.classes) → ¬ DuplicateMember program o
+members_once program o indexed are none (inl any) = are.each_once any
+members_once program o indexed are none (inr any) = none any
+
+pub refused_member : (program : Program) (o : List Outline) (e : MetaFault) → HasOutlines program o → {Y : Type 0} (Is : Y → Type 0) → Loads fault.DuplicateMember (Any HasTwoMembers o) Is (Err e) → Builds program (Err e)
+refused_member program o e are Is (inl m) = subst (λ f. Builds program (Err f)) (sym m) tt
+refused_member program o e are Is (inr n) = subst (λ f. Builds program (Err f)) (sym n.0) (o, are, inl n.1)

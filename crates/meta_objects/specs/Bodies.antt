@@ -26,10 +26,10 @@ use Rattle.meta_model.specs.declared.object.MetaPath.{MetaPath}
 use Rattle.meta_model.specs.declared.object.Statement.{Statement}
 use Rattle.meta_model.specs.declared.object.Statement.TheOpen as statement
 use Rattle.meta_model.specs.declared.object.Statement.TheViews.{out-Statement}
-use Rattle.meta_model.specs.declared.outline.Heading.{Heading}
 use Rattle.meta_model.specs.declared.outline.Outline.{Outline}
 use Rattle.meta_model.specs.declared.outline.Sort.TheVariants as sort
 use Rattle.meta_model.specs.Places.{StandsFirst}
+pub use Rattle.meta_model.specs.Indexed.{IsCallOf}
 use Rattle.meta_model.specs.Outlines.{IsOutlineNamed, reference_to}
 use Rattle.meta_model.specs.declared.qobject.TheConstants.{OBJECT_NAME_CHANGED}
 use Rattle.meta_model.specs.Literals.{literal}
@@ -111,10 +111,6 @@ pub record IsSet (s : Scope) (path : Path) (name : List ℕ) (e : Expr Path) (fo
   pub property : Property
   pub member : HasMember s.outlines kind name q property
   pub value : IsExpr s e f
-
--- a method of this name and with so many parameters
-abbrev pub IsCallOf : List ℕ → ℕ → Heading → Type 0
-IsCallOf name count h = (h.sig.name ≡ name) × (length h.sig.types ≡ count)
 
 -- `emit`: the body's class has the signal, which isn't one of those that the runtime emits
 pub record IsEmit (s : Scope) (name : List ℕ) (es : List (Expr Path)) (m : ℕ) (fs : List (Expr MetaPath)) : Type 0 where

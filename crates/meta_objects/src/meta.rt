@@ -13,7 +13,7 @@ use crate::resolve_object::resolve_objects;
 use crate::resolve_uses::{Uses, resolve_uses};
 use meta_model::{
     MetaFault, MetaMethod, MetaObject, MetaOwns, MetaWire, ValueType, has_bad_notify,
-    has_duplicate_class, has_duplicate_member, has_no_type, outline_classes,
+    has_duplicate_class, has_no_type, has_repeated_parameter, index_outlines, outline_classes,
 };
 use signatures::{Kind, Name, ObjectId, Sig, Value, fits};
 use sqlite_items::Items;
@@ -74,9 +74,9 @@ impl Meta {
         }
         let declared = program.classes.as_slice();
         let outlines = outline_classes(alloc, declared)?;
-        let all = outlines.as_slice();
-        let twice = has_duplicate_member(alloc, program, all)?;
-        if twice {
+        let indexed = index_outlines(alloc, outlines)?;
+        let all = indexed.as_slice();
+        if has_repeated_parameter(declared) {
             return Err(MetaFault::DuplicateMember);
         }
         let Uses {

@@ -5,8 +5,8 @@ ghost use Rattle.std.specs.List.{AllZip};
 ghost use Rattle.meta_objects.specs.Loading.{IsMethodOf, IsNotify, IsPropertyOf, IsObject, work_of, body_at, found_body, initial_of};
 
 use meta_model::{
-    Heading, MetaMethod, MetaObject, MetaProperty, Outline, SlotBody, Sort, ValueType, Work,
-    place_of_signal, read_kind, read_kinds,
+    Heading, IndexedOutline, MetaMethod, MetaObject, MetaProperty, SlotBody, Sort, ValueType, Work,
+    read_kind, read_kinds,
 };
 use signatures::Value;
 use sqlite_items::Items;
@@ -16,7 +16,7 @@ use texts::{Literal, Property};
 /// The classes in their order, with these bodies of the program's slots.
 pub fn resolve_objects(
     alloc: Global,
-    outlines: &[Outline],
+    outlines: &[IndexedOutline],
     bodies: &[Items<SlotBody>],
 ) -> Result<Items<MetaObject>, AllocError>
     ensures { IfOk result (λ objects. AllZip (IsObject outlines.now bodies.now) outlines.now objects) }
@@ -32,18 +32,18 @@ pub fn resolve_objects(
 /// The class with its methods and its properties.
 fn resolve_object(
     alloc: Global,
-    outlines: &[Outline],
+    outlines: &[IndexedOutline],
     bodies: &[Items<SlotBody>],
-    outline: &Outline,
+    outline: &IndexedOutline,
 ) -> Result<MetaObject, AllocError>
     ensures { IfOk result (λ object. IsObject outlines.now bodies.now outline.now object) }
 {
-    let name = outline.name.copy()?;
-    let methods = resolve_methods(alloc, outlines, bodies, outline.methods.as_slice())?;
+    let name = outline.name().copy()?;
+    let methods = resolve_methods(alloc, outlines, bodies, outline.methods())?;
     let properties = resolve_properties(alloc, outlines, outline)?;
     Ok(MetaObject {
         name,
-        base: outline.base,
+        base: outline.base(),
         methods,
         properties,
     })
@@ -52,7 +52,7 @@ fn resolve_object(
 /// The methods in their order.
 fn resolve_methods(
     alloc: Global,
-    outlines: &[Outline],
+    outlines: &[IndexedOutline],
     bodies: &[Items<SlotBody>],
     headings: &[Heading],
 ) -> Result<Items<MetaMethod>, AllocError>
@@ -69,7 +69,7 @@ fn resolve_methods(
 /// The method with its types and its body.
 fn resolve_method(
     alloc: Global,
-    outlines: &[Outline],
+    outlines: &[IndexedOutline],
     bodies: &[Items<SlotBody>],
     heading: &Heading,
 ) -> Result<MetaMethod, AllocError>
@@ -130,13 +130,13 @@ fn body_at(bodies: &[Items<SlotBody>], class: usize, slot: usize) -> Option<&Slo
 /// The class's properties in their order.
 fn resolve_properties(
     alloc: Global,
-    outlines: &[Outline],
-    outline: &Outline,
+    outlines: &[IndexedOutline],
+    outline: &IndexedOutline,
 ) -> Result<Items<MetaProperty>, AllocError>
     ensures { IfOk result (λ properties. AllZip (IsPropertyOf outlines.now outline.now) outline.now.properties properties) }
 {
     let mut properties = Items::new(alloc);
-    for declared in outline.properties.as_slice() {
+    for declared in outline.properties() {
         let property = resolve_property(alloc, outlines, outline, declared)?;
         properties.push(property)?;
     }
@@ -146,8 +146,8 @@ fn resolve_properties(
 /// The property with its type, its first value and its notify signal.
 fn resolve_property(
     alloc: Global,
-    outlines: &[Outline],
-    outline: &Outline,
+    outlines: &[IndexedOutline],
+    outline: &IndexedOutline,
     declared: &Property,
 ) -> Result<MetaProperty, AllocError>
     ensures { IfOk result (λ property. IsPropertyOf outlines.now outline.now declared.now property) }
@@ -167,11 +167,11 @@ fn resolve_property(
 }
 
 /// The number of the notify signal, if one is given and is there.
-fn notify_of(outline: &Outline, declared: &Property) -> Option<usize>
+fn notify_of(outline: &IndexedOutline, declared: &Property) -> Option<usize>
     ensures { IsNotify outline.now declared.now.notify result }
 {
     match &declared.notify {
-        Some(sig) => place_of_signal(outline.methods.as_slice(), sig),
+        Some(sig) => outline.place_of_signal(sig),
         None => None,
     }
 }

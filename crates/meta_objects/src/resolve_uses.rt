@@ -6,7 +6,7 @@ ghost use Rattle.meta_model.specs.declared.fault.MetaFault.TheVariants as fault;
 
 use crate::body_resolution::resolve_bodies;
 use crate::resolve_wire::{resolve_owns, resolve_wires};
-use meta_model::{MetaFault, MetaOwns, MetaWire, Outline, SlotBody};
+use meta_model::{IndexedOutline, MetaFault, MetaOwns, MetaWire, SlotBody};
 use sqlite_items::Items;
 use std::alloc::Global;
 use texts::Program;
@@ -23,7 +23,7 @@ pub struct Uses {
 pub fn resolve_uses(
     alloc: Global,
     program: &Program,
-    outlines: &[Outline],
+    outlines: &[IndexedOutline],
 ) -> Result<Uses, MetaFault>
     ensures { Loads fault.NoMember (LacksMember program.now outlines.now) (λ uses. HasUses program.now outlines.now uses.bodies uses.wires uses.owns) result }
 {

@@ -6,12 +6,9 @@ ghost use Rattle.meta_model.specs.Conditions.{IsSignalOf};
 ghost use Rattle.meta_model.specs.Ends.{IsSigned, IsEnd};
 ghost use Rattle.meta_objects.specs.Loading.{IsWire, IsOwns, LacksEnd, LacksClass};
 ghost use Rattle.meta_model.specs.PartAnswers.{Loads};
-ghost use Rattle.meta_model.specs.Places.{IsPlace};
 ghost use Rattle.meta_model.specs.declared.fault.MetaFault.TheVariants as fault;
 
-use meta_model::{
-    DELETE_LATER, Heading, MetaFault, MetaOwns, MetaWire, Outline, find, place_of, place_of_signal,
-};
+use meta_model::{DELETE_LATER, IndexedOutline, MetaFault, MetaOwns, MetaWire, find, place_of};
 use signatures::{Name, Sig};
 use sqlite_items::Items;
 use std::alloc::Global;
@@ -20,7 +17,7 @@ use texts::{Owns, Wire};
 /// The wires in their order; `NoMember` where an end of one isn't there.
 pub fn resolve_wires(
     alloc: Global,
-    outlines: &[Outline],
+    outlines: &[IndexedOutline],
     wires: &[Wire],
 ) -> Result<Items<MetaWire>, MetaFault>
     ensures { Loads fault.NoMember (Any (LacksEnd outlines.now) wires.now) (λ loaded. AllZip (IsWire outlines.now) wires.now loaded) result }
@@ -36,7 +33,7 @@ pub fn resolve_wires(
 }
 
 /// The wire, if its ends are there.
-fn resolve_wire(outlines: &[Outline], wire: &Wire) -> Option<MetaWire>
+fn resolve_wire(outlines: &[IndexedOutline], wire: &Wire) -> Option<MetaWire>
     ensures { MatchOption result (LacksEnd outlines.now wire.now) (λ loaded. IsWire outlines.now wire.now loaded) }
 {
     let Some((sender, signal)) = signal_end(outlines, &wire.sender, &wire.signal) else {
@@ -59,47 +56,35 @@ fn resolve_wire(outlines: &[Outline], wire: &Wire) -> Option<MetaWire>
 }
 
 /// The numbers of the class of this name and of its signal of this signature.
-fn signal_end(outlines: &[Outline], name: &Name, sig: &Sig) -> Option<(usize, usize)>
+fn signal_end(outlines: &[IndexedOutline], name: &Name, sig: &Sig) -> Option<(usize, usize)>
     ensures { MatchOption result ((c m : ℕ) → ¬ IsEnd (IsSignalOf sig.now) outlines.now name.now c m) (λ found. IsEnd (IsSignalOf sig.now) outlines.now name.now found.0 found.1) }
 {
     let Some((class, found)) = find(outlines, name) else {
         return None;
     };
-    match place_of_signal(found.methods.as_slice(), sig) {
+    match found.place_of_signal(sig) {
         Some(method) => Some((class, method)),
         None => None,
     }
 }
 
 /// The numbers of the class of this name and of its method of this signature.
-fn method_end(outlines: &[Outline], name: &Name, sig: &Sig) -> Option<(usize, usize)>
+fn method_end(outlines: &[IndexedOutline], name: &Name, sig: &Sig) -> Option<(usize, usize)>
     ensures { MatchOption result ((c m : ℕ) → ¬ IsEnd (IsSigned sig.now) outlines.now name.now c m) (λ found. IsEnd (IsSigned sig.now) outlines.now name.now found.0 found.1) }
 {
     let Some((class, found)) = find(outlines, name) else {
         return None;
     };
-    match place_of_signed(found.methods.as_slice(), sig) {
+    match found.place_of_signed(sig) {
         Some(method) => Some((class, method)),
         None => None,
     }
 }
 
-/// The place of a method of this signature.
-fn place_of_signed(methods: &[Heading], sig: &Sig) -> Option<usize>
-    ensures { IsPlace (IsSigned sig.now) methods.now result }
-{
-    for (place, method) in methods.iter().enumerate() {
-        if method.sig.is_same(sig) {
-            return Some(place);
-        }
-    }
-    None
-}
-
 /// The declarations of owners in their order; `NoMember` where a class isn't there.
 pub fn resolve_owns(
     alloc: Global,
-    outlines: &[Outline],
+    outlines: &[IndexedOutline],
     owns: &[Owns],
 ) -> Result<Items<MetaOwns>, MetaFault>
     ensures { Loads fault.NoMember (Any (LacksClass outlines.now) owns.now) (λ loaded. AllZip (IsOwns outlines.now) owns.now loaded) result }
@@ -115,7 +100,7 @@ pub fn resolve_owns(
 }
 
 /// The declaration, if its classes are there.
-fn resolve_one_owns(outlines: &[Outline], owns: &Owns) -> Option<MetaOwns>
+fn resolve_one_owns(outlines: &[IndexedOutline], owns: &Owns) -> Option<MetaOwns>
     ensures { MatchOption result (LacksClass outlines.now owns.now) (λ loaded. IsOwns outlines.now owns.now loaded) }
 {
     let Some(parent) = place_of(outlines, &owns.parent) else {

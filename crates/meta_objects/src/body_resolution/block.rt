@@ -1,16 +1,14 @@
 //! The statements of bodies, whose names are resolved.
 
-ghost use Rattle.std.specs.Prelude.{ℕ, MatchOption};
 ghost use Rattle.texts.specs.declared.syntax.Stmt.TheVariants.{Set, Emit, Call};
-ghost use Rattle.meta_objects.specs.Bodies.{scope, IsStatement, AreStatements, IsCallOf, LacksInBody};
+ghost use Rattle.meta_objects.specs.Bodies.{scope, IsStatement, AreStatements, LacksInBody};
 ghost use Rattle.meta_model.specs.PartAnswers.{Loads};
-ghost use Rattle.meta_model.specs.Places.{StandsAt, Found};
 ghost use Rattle.meta_model.specs.declared.fault.MetaFault.TheVariants as fault;
 ghost use Rattle.meta_model.specs.declared.object.Statement.{Statement as AStatement};
 
 use crate::body_resolution::expr::{resolve_expr, resolve_exprs};
 use crate::body_resolution::path::{Led, find_class, find_member, resolve_path};
-use meta_model::{Heading, MetaFault, OBJECT_NAME_CHANGED, Outline, Statement, find};
+use meta_model::{IndexedOutline, MetaFault, OBJECT_NAME_CHANGED, Statement, find};
 use signatures::Name;
 use sqlite_items::Items;
 use std::alloc::Global;
@@ -21,7 +19,7 @@ use texts::{Expr, Parameter, Path, Stmt};
 #[cycle(blocks)]
 pub fn resolve_block(
     alloc: Global,
-    outlines: &[Outline],
+    outlines: &[IndexedOutline],
     me: &Name,
     parameters: &[Parameter],
     body: &[Stmt],
@@ -40,7 +38,7 @@ pub fn resolve_block(
 #[cycle(blocks)]
 fn resolve_statement(
     alloc: Global,
-    outlines: &[Outline],
+    outlines: &[IndexedOutline],
     me: &Name,
     parameters: &[Parameter],
     statement: &Stmt,
@@ -77,7 +75,7 @@ fn resolve_statement(
 /// `set path.p = e;`
 fn resolve_set(
     alloc: Global,
-    outlines: &[Outline],
+    outlines: &[IndexedOutline],
     me: &Name,
     parameters: &[Parameter],
     path: &Path,
@@ -97,7 +95,7 @@ fn resolve_set(
 /// `emit s(e, ..);`
 fn resolve_emit(
     alloc: Global,
-    outlines: &[Outline],
+    outlines: &[IndexedOutline],
     me: &Name,
     parameters: &[Parameter],
     name: &Name,
@@ -108,7 +106,7 @@ fn resolve_emit(
     let Some((_, class)) = find(outlines, me) else {
         return Err(MetaFault::NoMember);
     };
-    let Some((signal, heading)) = find_call(class.methods.as_slice(), name, values.len()) else {
+    let Some((signal, heading)) = class.find_call(name, values.len()) else {
         return Err(MetaFault::NoMember);
     };
     if signal <= OBJECT_NAME_CHANGED || !heading.is_signal() {
@@ -121,7 +119,7 @@ fn resolve_emit(
 /// `call path.m(e, ..);`
 fn resolve_call(
     alloc: Global,
-    outlines: &[Outline],
+    outlines: &[IndexedOutline],
     me: &Name,
     parameters: &[Parameter],
     path: &Path,
@@ -134,7 +132,7 @@ fn resolve_call(
     let Some((_, class)) = find_class(outlines, &kind) else {
         return Err(MetaFault::NoMember);
     };
-    let Some((slot, heading)) = find_call(class.methods.as_slice(), name, values.len()) else {
+    let Some((slot, heading)) = class.find_call(name, values.len()) else {
         return Err(MetaFault::NoMember);
     };
     if !heading.may_be_called() {
@@ -142,16 +140,4 @@ fn resolve_call(
     }
     let values = resolve_exprs(alloc, outlines, me, parameters, values)?;
     Ok(Statement::Call(path, slot, values))
-}
-
-/// The first method of this name with so many parameters, with its number.
-fn find_call<'a>(methods: &'a [Heading], name: &Name, count: usize) -> Option<(usize, &'a Heading)>
-    ensures { MatchOption result ((k : ℕ) → ¬ StandsAt (IsCallOf name.now count) methods.now k) (λ found. Found (IsCallOf name.now count) methods.now found.0 found.1.now) }
-{
-    for (place, method) in methods.iter().enumerate() {
-        if method.sig.types.len() == count && method.sig.name.is_same(name) {
-            return Some((place, method));
-        }
-    }
-    None
 }

@@ -7,7 +7,7 @@ ghost use Rattle.meta_model.specs.PartAnswers.{Loads};
 ghost use Rattle.meta_model.specs.declared.fault.MetaFault.TheVariants as fault;
 
 use crate::body_resolution::block::resolve_block;
-use meta_model::{MetaFault, Outline, SlotBody};
+use meta_model::{IndexedOutline, MetaFault, SlotBody};
 use sqlite_items::Items;
 use std::alloc::Global;
 use texts::{Class, Slot};
@@ -15,7 +15,7 @@ use texts::{Class, Slot};
 /// The bodies of the slots of each class; `NoMember` where a name in one of them isn't there.
 pub fn resolve_bodies(
     alloc: Global,
-    outlines: &[Outline],
+    outlines: &[IndexedOutline],
     classes: &[Class],
 ) -> Result<Items<Items<SlotBody>>, MetaFault>
     ensures { Loads fault.NoMember (Any (LacksInClass outlines.now) classes.now) (λ bodies. AllBodies outlines.now classes.now bodies) result }
@@ -31,7 +31,7 @@ pub fn resolve_bodies(
 /// The bodies of the class's slots.
 fn resolve_class_bodies(
     alloc: Global,
-    outlines: &[Outline],
+    outlines: &[IndexedOutline],
     class: &Class,
 ) -> Result<Items<SlotBody>, MetaFault>
     ensures { Loads fault.NoMember (LacksInClass outlines.now class.now) (λ bodies. AreBodies outlines.now class.now bodies) result }
@@ -47,7 +47,7 @@ fn resolve_class_bodies(
 /// The body of the class's slot.
 fn resolve_slot_body(
     alloc: Global,
-    outlines: &[Outline],
+    outlines: &[IndexedOutline],
     class: &Class,
     slot: &Slot,
 ) -> Result<SlotBody, MetaFault>

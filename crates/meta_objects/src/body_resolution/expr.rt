@@ -9,7 +9,7 @@ ghost use Rattle.meta_model.specs.declared.object.MetaPath.{MetaPath as AMetaPat
 
 use crate::body_resolution::path::{Led, resolve_path};
 use crate::literals::literal_of;
-use meta_model::{MetaFault, MetaPath, Outline};
+use meta_model::{IndexedOutline, MetaFault, MetaPath};
 use signatures::Name;
 use sqlite_items::{Boxed, Items};
 use std::alloc::Global;
@@ -18,7 +18,7 @@ use texts::{Expr, Parameter, Path};
 /// The expressions in their order; `NoMember` where a name in one of them isn't there.
 pub fn resolve_exprs(
     alloc: Global,
-    outlines: &[Outline],
+    outlines: &[IndexedOutline],
     me: &Name,
     parameters: &[Parameter],
     expressions: &[Expr<Path>],
@@ -37,7 +37,7 @@ pub fn resolve_exprs(
 /// The expression in a body of this class whose slot has these parameters; `NoMember` where a name in it isn't there.
 pub fn resolve_expr(
     alloc: Global,
-    outlines: &[Outline],
+    outlines: &[IndexedOutline],
     me: &Name,
     parameters: &[Parameter],
     expression: &Expr<Path>,

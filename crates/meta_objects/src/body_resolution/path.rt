@@ -9,7 +9,9 @@ ghost use Rattle.meta_model.specs.declared.fault.MetaFault.TheVariants as fault;
 ghost use Rattle.meta_model.specs.declared.object.MetaPath.{MetaPath as AMetaPath};
 ghost use Rattle.meta_model.specs.declared.object.Step.{Step as AStep};
 
-use meta_model::{MetaFault, MetaPath, MetaRoot, Outline, Step, find, read_kind, reference_to};
+use meta_model::{
+    IndexedOutline, MetaFault, MetaPath, MetaRoot, Step, find, read_kind, reference_to,
+};
 use signatures::{Name, QType};
 use sqlite_items::Items;
 use std::alloc::Global;
@@ -25,7 +27,7 @@ pub struct Led {
 /// The path in a body of this class whose slot has these parameters; `NoMember` where a name in it isn't there.
 pub fn resolve_path(
     alloc: Global,
-    outlines: &[Outline],
+    outlines: &[IndexedOutline],
     me: &Name,
     parameters: &[Parameter],
     path: &Path,
@@ -58,7 +60,7 @@ pub fn resolve_path(
 /// The path of these properties from a root of this type.
 fn resolve_from(
     alloc: Global,
-    outlines: &[Outline],
+    outlines: &[IndexedOutline],
     root: MetaRoot,
     start: QType,
     names: &[Name],
@@ -87,7 +89,10 @@ fn resolve_from(
 }
 
 /// The class that the type points to, with its number.
-pub fn find_class<'a>(outlines: &'a [Outline], kind: &QType) -> Option<(usize, &'a Outline)>
+pub fn find_class<'a>(
+    outlines: &'a [IndexedOutline],
+    kind: &QType,
+) -> Option<(usize, &'a IndexedOutline)>
     ensures { MatchOption result ((c : ℕ) → ¬ PointsTo outlines.now kind.now c) (λ found. PointsToThis outlines.now kind.now found.0 found.1.now) }
 {
     if kind.pointer {
@@ -102,7 +107,7 @@ pub fn find_class<'a>(outlines: &'a [Outline], kind: &QType) -> Option<(usize, &
 
 /// The property of this name in the class that the type points to, with its number.
 pub fn find_member<'a>(
-    outlines: &'a [Outline],
+    outlines: &'a [IndexedOutline],
     kind: &QType,
     name: &Name,
 ) -> Option<(usize, &'a Property)>
@@ -112,7 +117,7 @@ pub fn find_member<'a>(
     let Some((_, outline)) = find_class(outlines, kind) else {
         return None;
     };
-    let Some((number, property)) = find(outline.properties.as_slice(), name) else {
+    let Some((number, property)) = outline.find_property(name) else {
         return None;
     };
     Some((number, property))

@@ -11,7 +11,7 @@ use Rattle.meta_model.proofs.outlining.outline_classes.Goals as goal
 
 pub loop-number-init : goal.loop-number-init
 loop-number-init c =
-    let e : c.push.new.self ≡ qobject ∷ [] = cc (c.in_ok-push.ensures.ok, c.in_ok-first.ensures, c.new-outlines.ensures) in
+    let e : c.add.new.outlines.items ≡ qobject ∷ [] = cc (c.in_ok-add.ensures, c.in_ok-first.ensures, c.new-outlines.ensures.items) in
     record {
       left = λ all h. subst (λ os. AreOutlines os 0 c.args.classes.now all) e h;
       lacks = λ h. subst (λ os. LacksBase (map (λ (o : Outline). o.name) os) c.args.classes.now) e h;
@@ -20,17 +20,17 @@ loop-number-init c =
 pub loop-number-preserved : goal.loop-number-preserved
 loop-number-preserved c =
     let at = slice_get_read _ _ _ _ refl c.loop-number-test.true c.index-classes-number.is in
-    let is = rw c.as_slice.ensures at c.in_ok-outline.ensures in
+    let is = rw c.as_slice.ensures.value at c.in_ok-outline.ensures in
     record {
-      left = step_left _ (LacksBase (codes "QObject" ∷ []) c.args.classes.now) _ _ _ _ _ at is c.in_ok-push-2.ensures.ok c.loop-number.invariant.left;
-      lacks = step_lacks _ _ _ _ _ _ _ at is c.in_ok-push-2.ensures.ok c.loop-number.invariant.lacks;
+      left = step_left _ (LacksBase (codes "QObject" ∷ []) c.args.classes.now) _ _ _ _ _ at is c.in_ok-add-2.ensures c.loop-number.invariant.left;
+      lacks = step_lacks _ _ _ _ _ _ _ at is c.in_ok-add-2.ensures c.loop-number.invariant.lacks;
     }
 
 pub returns-in_err-outline : goal.returns-in_err-outline
 returns-in_err-outline c =
     let at = slice_get_read _ _ _ _ refl c.loop-number-test.true c.index-classes-number.is in
-    failed fault.NoBase ((k : ℕ) → ¬ StandsAt (λ (o : Outline). o.name ≡ base_name c.index-classes-number.result.base) c.as_slice.result.now k) (LacksBase (codes "QObject" ∷ []) c.args.classes.now) (λ o. IsOutline c.as_slice.result.now c.loop-number.number c.index-classes-number.result o) (λ all. Outlines c.args.classes.now all) _ c.in_err-outline.ensures
-    (λ none. none_lacks c.args.classes.now (LacksBase (codes "QObject" ∷ []) c.args.classes.now) c.loop-number.outlines c.loop-number.number c.index-classes-number.result at c.loop-number.invariant.lacks (rw c.as_slice.ensures at none)) _ c.from_residual-in_err-outline.ensures.0 c.from_residual-in_err-outline.ensures.1
+    failed fault.NoBase ((k : ℕ) → ¬ StandsAt (λ (o : Outline). o.name ≡ base_name c.index-classes-number.result.base) c.as_slice.result.now k) (LacksBase (codes "QObject" ∷ []) c.args.classes.now) (λ o. IsOutline c.as_slice.result.now c.loop-number.number c.index-classes-number.result o) _ _ c.in_err-outline.ensures
+    (λ none. none_lacks c.args.classes.now (LacksBase (codes "QObject" ∷ []) c.args.classes.now) c.loop-number.outlines.items c.loop-number.number c.index-classes-number.result at c.loop-number.invariant.lacks (rw c.as_slice.ensures.value at none)) _ c.from_residual-in_err-outline.ensures.0 c.from_residual-in_err-outline.ensures.1
 
 pub returns : goal.returns
 returns c = at_end _ _ _ c.loop-number-test.false c.loop-number.invariant.left

@@ -26,7 +26,7 @@ returns-in_default-find_call c =
     inr (
       refl,
       no_call_method (scope c.args.outlines.now c.args.me.now c.args.parameters.now) _ _ _ _ _ c.in_ok-path.ensures _ _ c.in-Some.ensures
-          (rw c.as_slice.ensures at c.in_default-find_call.ensures),
+          c.in_default-find_call.ensures.value,
     )
 
 pub returns-then-not-may_be_called : goal.returns-then-not-may_be_called
@@ -34,7 +34,7 @@ returns-then-not-may_be_called c =
     inr (
       refl,
       no_call (scope c.args.outlines.now c.args.me.now c.args.parameters.now) _ _ _ _ _ c.in_ok-path.ensures _ _ c.in-Some.ensures _ _
-          (rw c.as_slice.ensures at c.in-Some-find_call.ensures) (λ callable. let e = c.if-not-may_be_called.ensures.1 callable in absurd (cc)),
+          c.in-Some-find_call.ensures.value (λ callable. let e = c.if-not-may_be_called.ensures.1 callable in absurd (cc)),
     )
 
 pub returns-in_err-values : goal.returns-in_err-values
@@ -47,4 +47,4 @@ returns-in_err-values c =
 pub returns : goal.returns
 returns c =
     call_piece (scope c.args.outlines.now c.args.me.now c.args.parameters.now) _ _ _ _ _ c.in_ok-path.ensures _ _ c.in-Some.ensures _ _
-    (rw c.as_slice.ensures at c.in-Some-find_call.ensures) _ (c.if-not-may_be_called.ensures.0 refl) c.in_ok-values.ensures
+    c.in-Some-find_call.ensures.value _ (c.if-not-may_be_called.ensures.0 refl) c.in_ok-values.ensures

@@ -15,13 +15,13 @@ returns-in_default c = inr (refl, no_emit_class (scope c.args.outlines.now c.arg
 
 pub returns-in_default-find_call : goal.returns-in_default-find_call
 returns-in_default-find_call c =
-    inr (refl, no_emit_method (scope c.args.outlines.now c.args.me.now c.args.parameters.now) _ _ _ _ c.in-Some.ensures (rw c.as_slice.ensures at c.in_default-find_call.ensures))
+    inr (refl, no_emit_method (scope c.args.outlines.now c.args.me.now c.args.parameters.now) _ _ _ _ c.in-Some.ensures c.in_default-find_call.ensures.value)
 
 pub returns-then-signal-le-OBJECT_NAME_CHANGED : goal.returns-then-signal-le-OBJECT_NAME_CHANGED
 returns-then-signal-le-OBJECT_NAME_CHANGED c =
     inr (
       refl,
-      no_emit (scope c.args.outlines.now c.args.me.now c.args.parameters.now) _ _ _ _ c.in-Some.ensures _ _ (rw c.as_slice.ensures at c.in-Some-find_call.ensures)
+      no_emit (scope c.args.outlines.now c.args.me.now c.args.parameters.now) _ _ _ _ c.in-Some.ensures _ _ c.in-Some-find_call.ensures.value
           (λ signal more.
           elim c.then-signal-le-OBJECT_NAME_CHANGED.branch [
             | then-signal-le-OBJECT_NAME_CHANGED-via-then-signal-le-OBJECT_NAME_CHANGED w ↦ let below = w.if-signal-le-OBJECT_NAME_CHANGED.true in omega arith
@@ -39,5 +39,5 @@ returns-in_err-values c =
 pub returns : goal.returns
 returns c =
     let above = c.if-signal-le-OBJECT_NAME_CHANGED.false in
-    emit_piece (scope c.args.outlines.now c.args.me.now c.args.parameters.now) _ _ _ _ c.in-Some.ensures _ _ (rw c.as_slice.ensures at c.in-Some-find_call.ensures) _
+    emit_piece (scope c.args.outlines.now c.args.me.now c.args.parameters.now) _ _ _ _ c.in-Some.ensures _ _ c.in-Some-find_call.ensures.value _
     (c.if-not-is_signal.ensures.0 refl) (omega arith) c.in_ok-values.ensures

@@ -4,8 +4,8 @@ use Rattle.meta_objects.proofs.body_resolution.path.find_member.Goals as goal
 pub returns-in_default : goal.returns-in_default
 returns-in_default c = no_class_member _ _ _ c.in_default.ensures
 
-pub returns-in_default-find : goal.returns-in_default-find
-returns-in_default-find c = no_member _ _ _ _ _ c.in-Some.ensures (rw c.as_slice.ensures at c.in_default-find.ensures)
+pub returns-in_default-find_property : goal.returns-in_default-find_property
+returns-in_default-find_property c = no_member _ _ _ _ _ c.in-Some.ensures c.in_default-find_property.ensures
 
 pub returns : goal.returns
-returns c = a_member _ _ _ _ _ c.in-Some.ensures _ _ (rw c.as_slice.ensures at c.in-Some-find.ensures)
+returns c = a_member _ _ _ _ _ c.in-Some.ensures _ _ c.in-Some-find_property.ensures

@@ -4,7 +4,7 @@ use Rattle.meta_model.specs.CallPlaces.{AreCalledAlike}
 use Rattle.meta_model.specs.Twice.{StandsTwice}
 use Rattle.meta_model.proofs.Choices.{or_first, or_second}
 use Rattle.meta_model.proofs.Indexing.{twice_also}
-use Rattle.meta_model.proofs.clashes.has_two_members.Goals as goal
+use Rattle.meta_model.proofs.indexed.has_two_members.Goals as goal
 
 -- properties have no parameters, so that their names decide
 by_names : (xs : List Property) (two : Bool) → (IsTrue two ↔ StandsTwice (AreCalledAlike (λ (p : Property). p.name) (λ (p : Property). 0)) xs)
@@ -14,10 +14,16 @@ by_names xs two is = (
   λ h. is.1 (twice_also (λ (a b : Property). a.name ≡ b.name) (AreCalledAlike (λ (p : Property). p.name) (λ (p : Property). 0)) xs (λ x y e. (e, refl)) h),
 )
 
-pub returns-then-in_methods : goal.returns-then-in_methods
-returns-then-in_methods c = or_first _ _ (rw c.as_slice.ensures at c.in_ok-in_methods.ensures) c.if-in_methods.true refl
+pub returns-then-repeats_call : goal.returns-then-repeats_call
+returns-then-repeats_call c = or_first _ _ (rw c.as_slice.ensures at c.repeats_call.ensures) c.if-repeats_call.true refl
 
-pub returns-else-in_methods : goal.returns-else-in_methods
-returns-else-in_methods c =
-    or_second _ _ _ (rw c.as_slice.ensures at c.in_ok-in_methods.ensures) c.if-in_methods.false
-    (by_names _ _ (rw c.as_slice-2.ensures at c.in_ok-in_properties.ensures)) refl
+pub returns-else-repeats_call : goal.returns-else-repeats_call
+returns-else-repeats_call c =
+    or_second _ _ _ (rw c.as_slice.ensures at c.repeats_call.ensures) c.if-repeats_call.false
+    (by_names _ _ (rw c.as_slice-else-repeats_call.ensures at c.repeats_call-else-repeats_call.ensures)) refl
+
+pub repeats_call-requires : goal.repeats_call-requires
+repeats_call-requires c = rw c.as_slice.ensures c.requires.methods_by
+
+pub repeats_call-requires-else-repeats_call : goal.repeats_call-requires-else-repeats_call
+repeats_call-requires-else-repeats_call c = rw c.as_slice-else-repeats_call.ensures c.requires.properties_by
