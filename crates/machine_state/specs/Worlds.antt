@@ -7,7 +7,7 @@ use Rattle.machine_state.specs.declared.entry.Entry.{Entry}
 use Rattle.machine_state.specs.declared.fault.Answer.{Answer}
 use Rattle.machine_state.specs.declared.fault.Answer.TheVariants as answer
 use Rattle.machine_state.specs.declared.fault.Fault.{Fault}
-use Rattle.machine_state.specs.declared.fault.Fault.TheVariants.{TooDeep, Steps, Memory}
+use Rattle.machine_state.specs.declared.fault.Fault.TheVariants.{Steps, Memory}
 use Rattle.machine_state.specs.declared.refusal.Refusal.{Refusal}
 use Rattle.machine_state.specs.declared.world.World.{World}
 use Rattle.machine_state.specs.Refusals.{refusal_number}
@@ -37,6 +37,10 @@ ticked w = record w { left = w.left - 1 }
 abbrev pub noted : World → List Entry → World
 noted w entries = record w { left = w.left - 1; trace = w.trace ++ entries }
 
+-- .. that also writes a property of an object, if there is one
+abbrev pub set_in : World → List Entry → ℕ → ℕ → Value → World
+set_in w entries o q new = record (noted w entries) { objects = change o (written q new) w.objects }
+
 -- a rule that writes nothing down was carried out, or none was left
 abbrev pub Ticks : World → World → Result (Unit {0}) Fault → Type 0
 Ticks w v (Ok went) = (0 < w.left) × (v ≡ ticked w)
@@ -46,15 +50,6 @@ Ticks w v (Err fault) = (w.left ≡ 0) × (fault ≡ Steps) × (v ≡ w)
 abbrev pub IsLeft : World → Result (Unit {0}) Fault → Type 0
 IsLeft w (Ok left) = 0 < w.left
 IsLeft w (Err fault) = (w.left ≡ 0) × (fault ≡ Steps)
-
--- whether an activation may be pushed over one that stands over this height
-abbrev pub MayNest : ℕ → ℕ → Result (Unit {0}) Fault → Type 0
-MayNest depth height (Ok may) = height + 1 < depth
-MayNest depth height (Err fault) = (depth ≡ height + 1) × (fault ≡ TooDeep)
-
--- .. that also writes a property of an object, if there is one
-abbrev pub set_in : World → List Entry → ℕ → ℕ → Value → World
-set_in w entries o q new = record (noted w entries) { objects = change o (written q new) w.objects }
 
 -- ---- events
 

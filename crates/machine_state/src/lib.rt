@@ -16,4 +16,4 @@ pub use fault::{Answer, Fault};
 pub use natives::Natives;
 pub use refusal::Refusal;
 pub use showing::{show, show_all, stored};
-pub use world::{World, is_silent, may_nest};
+pub use world::{World, is_silent};

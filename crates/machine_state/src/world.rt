@@ -4,7 +4,7 @@ ghost use Rattle.std.specs.Prelude.{◌≡◌, ◌<◌, ◌≤◌, ◌^◌, leng
 ghost use Rattle.object_tree.specs.Objects.{IsFree};
 ghost use Rattle.machine_state.specs.Connections.{next_used, silences, is_silent};
 ghost use Rattle.machine_state.specs.Objects.{IsNumberOf};
-ghost use Rattle.machine_state.specs.Worlds.{untouched, Ticks, IsLeft, MayNest, Becomes, noted, set_in};
+ghost use Rattle.machine_state.specs.Worlds.{untouched, Ticks, IsLeft, Becomes, noted, set_in};
 
 use crate::connections::{Connection, Connections};
 use crate::entry::{Entry, Trace};
@@ -142,16 +142,4 @@ pub fn is_silent(object: &Object, signal: usize) -> bool
     ensures { result ≡ is_silent object.now signal }
 {
     object.blocked && signal != DESTROYED
-}
-
-/// Whether an activation may stand over the one that stands over `height` others.
-pub fn may_nest(depth: usize, height: usize) -> Result<(), Fault>
-    requires { height < depth }
-    ensures { MayNest depth height result }
-{
-    if depth - height == 1 {
-        Err(Fault::TooDeep)
-    } else {
-        Ok(())
-    }
 }
