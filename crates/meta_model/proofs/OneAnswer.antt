@@ -3,11 +3,10 @@ use Rattle.std.proofs.Common.{◌≡◌, ℕ, ◌<◌, List, length, slice_get, 
 use Rattle.std.specs.Prelude.{IfSome}
 use Rattle.std.specs.Option.{option_and_then}
 use Rattle.std.proofs.lemmas.Option.{none-some, same_Some}
-use Rattle.signatures.specs.declared.sig.Sig.{Sig}
 use Rattle.meta_model.specs.declared.object.MetaMethod.{MetaMethod}
 use Rattle.meta_model.specs.declared.object.MetaObject.{MetaObject}
 use Rattle.meta_model.specs.Loaded.{Loaded}
-use Rattle.meta_model.specs.Members.{IsClassNamed, IsMethod, HasSig, IsMethodNamed, IsPropertyNamed, base_of, Below, same, under}
+use Rattle.meta_model.specs.Members.{IsClassNamed, IsMethod, IsMethodNamed, IsPropertyNamed, base_of, Below, same, under}
 use Rattle.meta_model.specs.Sound.{IsSound, IsSoundClass}
 
 pub only_of : (N : Type 0) (Q : ℕ → Type 0) → ((i j : ℕ) → Q i → Q j → j ≡ i) → (r : Option ℕ) → MatchOption r N Q → IfSome r (λ i. (j : ℕ) → Q j → j ≡ i)

@@ -1,11 +1,9 @@
 -- Every class is below `QObject` and begins with its members.
-use Rattle.std.proofs.Common.{◌≡◌, ℕ, zero, suc, ◌<◌, [], ◌++◌, slice_get, Option, Some, None, refl, sym, ap, ◌∙◌, subst, arith}
-use Rattle.std.specs.Option.{option_and_then}
+use Rattle.std.proofs.Common.{◌≡◌, ℕ, [], ◌++◌, slice_get, Some, sym, ap, ◌∙◌}
 use Rattle.std.proofs.lemmas.Option.{same_Some}
 use Rattle.meta_model.specs.declared.object.MetaMethod.{MetaMethod}
-use Rattle.meta_model.specs.declared.object.MetaObject.{MetaObject}
 use Rattle.meta_model.specs.Loaded.{Loaded}
-use Rattle.meta_model.specs.Members.{IsClass, IsMethod, base_of, Below, same, under}
+use Rattle.meta_model.specs.Members.{IsMethod}
 use Rattle.meta_model.specs.Root.{root_methods}
 use Rattle.meta_model.specs.Sound.{IsSound}
 

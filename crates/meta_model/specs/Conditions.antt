@@ -42,6 +42,10 @@ NoBase program = LacksBase (codes "QObject" ∷ []) program.classes
 abbrev pub AreOneParameter : Parameter → Parameter → Type 0
 AreOneParameter a b = (name : List ℕ) × (a.name ≡ Some name) × (b.name ≡ Some name)
 
+-- two of a method's parameters are one
+abbrev pub RepeatsName : List Parameter → Type 0
+RepeatsName parameters = StandsTwice AreOneParameter parameters
+
 -- one name and one number of parameters
 abbrev pub AreOneCall : Heading → Heading → Type 0
 AreOneCall a b = (a.sig.name ≡ b.sig.name) × (length a.sig.types ≡ length b.sig.types)
@@ -54,8 +58,8 @@ HasTwoMembers outline =
 -- two parameters of one name in a method of the class
 abbrev pub RepeatsParameter : Class → Type 0
 RepeatsParameter class =
-    Any (λ (signal : Signal). StandsTwice AreOneParameter signal.parameters) class.signals
-    ⊎ Any (λ (slot : Slot). StandsTwice AreOneParameter slot.parameters) class.slots
+    Any (λ (signal : Signal). RepeatsName signal.parameters) class.signals
+    ⊎ Any (λ (slot : Slot). RepeatsName slot.parameters) class.slots
 
 abbrev pub DuplicateMember : Program → List Outline → Type 0
 DuplicateMember program outlines = Any HasTwoMembers outlines ⊎ Any RepeatsParameter program.classes
@@ -64,26 +68,39 @@ DuplicateMember program outlines = Any HasTwoMembers outlines ⊎ Any RepeatsPar
 abbrev pub IsSignalOf : Sig → Heading → Type 0
 IsSignalOf sig h = (h.sig ≡ sig) × (h.sort ≡ sort.Signal)
 
--- The notify signature is that of signal m of the class, without parameter or with one of the property's type. Of
--- QObject's own signals, which have the first numbers, only `objectName` may be notified by one.
+-- of QObject's own signals, which have the first numbers, only `objectName` may be notified by one
+abbrev pub MayNotify : ℕ → Property → Type 0
+MayNotify m property = (DELETE_LATER < m) ⊎ (property.name ≡ codes "objectName")
+
+-- the notify signature is that of signal m of the class, without parameter or with one of the property's type
 pub record IsNotifiedBy (outline : Outline) (property : Property) (sig : Sig) (m : ℕ) : Type 0 where
   pub signal : StandsFirst (IsSignalOf sig) outline.methods m
   pub fits : (sig.types ≡ []) ⊎ (sig.types ≡ property.kind ∷ [])
-  pub own : (DELETE_LATER < m) ⊎ (property.name ≡ codes "objectName")
+  pub own : MayNotify m property
 
 abbrev pub LacksNotifier : Outline → Property → Option Sig → Type 0
 LacksNotifier outline property None = ⊥
 LacksNotifier outline property (Some sig) = (m : ℕ) → ¬ IsNotifiedBy outline property sig m
 
+-- one of the class's properties has a notify signature that isn't
+abbrev pub NotifiesBadly : Outline → Type 0
+NotifiesBadly outline = Any (λ (property : Property). LacksNotifier outline property property.notify) outline.properties
+
 abbrev pub BadNotify : List Outline → Type 0
-BadNotify outlines =
-    Any (λ (outline : Outline). Any (λ (property : Property). LacksNotifier outline property property.notify) outline.properties) outlines
+BadNotify outlines = Any NotifiesBadly outlines
 
 -- ---- types
+-- the property's type isn't there
+abbrev pub LacksPropertyType : List Outline → Property → Type 0
+LacksPropertyType outlines property = LacksType outlines property.kind
+
+-- the type of one of the method's parameters isn't there
+abbrev pub LacksParameterType : List Outline → Heading → Type 0
+LacksParameterType outlines h = Any (LacksType outlines) h.sig.types
+
 abbrev pub LacksTypes : List Outline → Outline → Type 0
 LacksTypes outlines outline =
-    Any (λ (property : Property). LacksType outlines property.kind) outline.properties
-    ⊎ Any (λ (h : Heading). Any (LacksType outlines) h.sig.types) outline.methods
+    Any (LacksPropertyType outlines) outline.properties ⊎ Any (LacksParameterType outlines) outline.methods
 
 abbrev pub NoType : List Outline → Type 0
 NoType outlines = Any (LacksTypes outlines) outlines

@@ -1,10 +1,13 @@
 -- Classes whose members are found by name (docs/machine.md, "Meta-objects").
-use Rattle.std.specs.Prelude.{◌≡◌, ℕ, List, length, Any}
+use Rattle.std.specs.Prelude.{◌≡◌, ℕ, List, length, Any, Result}
 use Rattle.texts.specs.declared.program.Property.{Property}
+use Rattle.meta_model.specs.declared.fault.MetaFault.{MetaFault}
+use Rattle.meta_model.specs.declared.fault.MetaFault.TheVariants as fault
 use Rattle.meta_model.specs.declared.outline.Heading.{Heading}
 use Rattle.meta_model.specs.declared.outline.Outline.{Outline}
 use Rattle.meta_model.specs.CallPlaces.{Index, IndexesCalls}
 use Rattle.meta_model.specs.Conditions.{HasTwoMembers}
+use Rattle.meta_model.specs.PartAnswers.{Loads}
 
 -- a method of this name and with so many parameters
 abbrev pub IsCallOf : List ℕ → ℕ → Heading → Type 0
@@ -36,3 +39,7 @@ pub record IsIndexed (outline indexed : Outline) : Type 0 where
 pub record AreIndexed (outlines indexed : List Outline) : Type 0 where
   pub same : indexed ≡ outlines
   pub each_once : ¬ Any HasTwoMembers outlines
+
+-- all classes are indexed; or `DuplicateMember`, where a member of one of them stands twice
+abbrev pub IndexesOutlines : List Outline → Result (List Outline) MetaFault → Type 0
+IndexesOutlines outlines result = Loads fault.DuplicateMember (Any HasTwoMembers outlines) (AreIndexed outlines) result

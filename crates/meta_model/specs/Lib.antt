@@ -6,6 +6,7 @@ pub mod Root
 pub mod Sound
 pub mod NamePlaces
 pub mod Places
+pub mod LookUps
 pub mod CallPlaces
 pub mod Twice
 pub mod Outlines

@@ -1,6 +1,7 @@
 -- The members that classes have, by name, inherited ones too (Qt 6, "The Meta-Object System" and "Using the Meta-Object
 -- Compiler"; docs/machine.md, "Meta-objects").
-use Rattle.std.specs.Prelude.{◌≡◌, ℕ, suc, true, false, List, [], ◌∷◌, ◌++◌, map, Option, None, Some, codes}
+use Rattle.std.specs.Borrow.{Bor}
+use Rattle.std.specs.Prelude.{◌≡◌, ◌≢◌, ℕ, suc, true, false, List, [], ◌∷◌, ◌++◌, map, Option, None, Some, Result, codes}
 use Rattle.signatures.specs.declared.qtype.QType.{QType}
 use Rattle.signatures.specs.declared.sig.Sig.{Sig}
 use Rattle.signatures.specs.Types.{value_type}
@@ -13,7 +14,10 @@ use Rattle.meta_model.specs.declared.outline.Sort.{Sort}
 use Rattle.meta_model.specs.declared.outline.Sort.TheVariants as sort
 use Rattle.meta_model.specs.declared.outline.Heading.{Heading}
 use Rattle.meta_model.specs.declared.outline.Outline.{Outline}
-use Rattle.meta_model.specs.Places.{StandsFirst}
+use Rattle.meta_model.specs.declared.fault.MetaFault.{MetaFault}
+use Rattle.meta_model.specs.declared.fault.MetaFault.TheVariants as fault
+use Rattle.meta_model.specs.PartAnswers.{Loads}
+use Rattle.meta_model.specs.Places.{StandsFirst, NoneStands, IsFirst}
 
 abbrev pub reference_to : List ℕ → QType
 reference_to class = record { name = class; constant = false; pointer = true }
@@ -24,6 +28,10 @@ sig_of name types = record { name = name; types = types }
 
 abbrev pub heading : Sig → Sort → Heading
 heading sig s = record { sig = sig; sort = s }
+
+-- a body may call a slot, but for `deleteLater()`
+abbrev pub MayBeCalled : Sort → Type 0
+MayBeCalled s = (s ≢ sort.Signal) × (s ≢ sort.DeleteLater)
 
 -- ---- QObject
 abbrev pub destroyed : Sig
@@ -70,16 +78,29 @@ abbrev pub base_name : Option (List ℕ) → List ℕ
 base_name None = codes "QObject"
 base_name (Some name) = name
 
+-- the name is that of the declared base
+abbrev pub IsBase : Option (List ℕ) → Outline → Type 0
+IsBase base outline = outline.name ≡ base_name base
+
+-- the base among the classes before its class, with its number
+abbrev pub FindsBase : List Outline → Option (List ℕ) → Option (ℕ × Bor Outline) → Type 0
+FindsBase before base answer = IsFirst (IsBase base) before answer
+
 -- class i of the program, where the classes before it, and `QObject`, are `done`: its base's members, then its own
 pub record IsOutline (done : List Outline) (i : ℕ) (class : Class) (outline : Outline) : Type 0 where
   pub number : ℕ
-  pub based : StandsFirst (λ (o : Outline). o.name ≡ base_name class.base) done number
+  pub based : StandsFirst (IsBase class.base) done number
   pub is : outline ≡ record {
     name = class.name;
     base = Some number;
     methods = based.at.item.methods ++ own_methods i class;
     properties = based.at.item.properties ++ class.properties;
   }
+
+-- the class is outlined; or `NoBase`, where its base isn't among the classes before it
+abbrev pub OutlinesClass : List Outline → ℕ → Class → Result Outline MetaFault → Type 0
+OutlinesClass done i class result =
+    Loads fault.NoBase (NoneStands (IsBase class.base) done) (IsOutline done i class) result
 
 -- the classes from class i on are outlined in their order
 abbrev pub AreOutlines : List Outline → ℕ → List Class → List Outline → Type 0

@@ -1,5 +1,6 @@
 -- The elements of lists by their places, from 0 (docs/machine.md, "Meta-objects").
-use Rattle.std.specs.Prelude.{◌≡◌, ℕ, ◌<◌, List, Option, Some, slice_get, MatchOption}
+use Rattle.std.specs.Borrow.{Bor}
+use Rattle.std.specs.Prelude.{◌≡◌, ℕ, ◌<◌, List, Option, Some, slice_get, MatchOption, IfSome}
 
 -- an element with P stands at this place
 pub record StandsAt {X : Type 0} (P : X → Type 0) (xs : List X) (place : ℕ) : Type 0 where
@@ -24,6 +25,14 @@ StandsOnlyAt P xs place = (k : ℕ) → StandsAt P xs k → k ≡ place
 -- no element has P
 abbrev pub NoneStands : {X : Type 0} → (X → Type 0) → List X → Type 0
 NoneStands P xs = (k : ℕ) → ¬ StandsAt P xs k
+
+-- the answer is the first element with P, with its place, or `None` where there is no such element
+abbrev pub IsFirst : {X : Type 0} → (X → Type 0) → List X → Option (ℕ × Bor X) → Type 0
+IsFirst P xs answer = MatchOption answer (NoneStands P xs) (λ found. Found P xs found.0 found.1.now)
+
+-- .. and no other element has P
+abbrev pub IsAlone : {X : Type 0} → (X → Type 0) → List X → Option (ℕ × Bor X) → Type 0
+IsAlone P xs answer = IfSome answer (λ found. StandsOnlyAt P xs found.0)
 
 -- the answer is the place of the first element with P, or `None` where there is no such element
 abbrev pub IsPlace : {X : Type 0} → (X → Type 0) → List X → Option ℕ → Type 0

@@ -1,7 +1,7 @@
 //! Indexes of what is found by its name and its number of parameters.
 
 ghost use Rattle.std.specs.Prelude.{◌≡◌, ◌↔◌, ℕ, ◌<◌, List, length, Some, IsTrue, IfOk, OnOk, vec_len};
-ghost use Rattle.meta_model.specs.CallPlaces.{place_by, IndexesCalls, AreCalledAlike};
+ghost use Rattle.meta_model.specs.CallPlaces.{place_by, place_of, SamePlaces, IndexesCalls, AreCalledAlike};
 ghost use Rattle.meta_model.specs.Twice.{StandsTwice};
 
 use crate::name_index::NameIndex;
@@ -85,7 +85,7 @@ pub fn index_calls<T: Called>(alloc: Global, items: &[T]) -> Result<Items<NameIn
 
 /// Adds empty indexes until there is one of this number.
 fn grow_past(alloc: Global, indexes: &mut Vec<NameIndex>, count: usize) -> Result<(), AllocError>
-    ensures same { OnOk result ((k : ℕ) (name : List ℕ) → place_by indexes.new.items k name ≡ place_by indexes.old.items k name) }
+    ensures same { OnOk result (SamePlaces indexes.old.items indexes.new.items) }
     ensures there { OnOk result (count < vec_len indexes.new) }
 {
     while indexes.len() <= count {
@@ -103,7 +103,7 @@ pub fn find_call(indexes: &[NameIndex], name: &Name, count: usize) -> Option<usi
 
 /// Whether the indexes have this place for the item.
 fn is_first<T: Called>(indexes: &[NameIndex], place: usize, item: &T) -> bool
-    ensures { IsTrue result ↔ (place_by indexes.now (T.count_of item.now) (T.name_of item.now) ≡ Some place) }
+    ensures { IsTrue result ↔ (place_of T.name_of T.count_of indexes.now item.now ≡ Some place) }
 {
     match find_call(indexes, item.called(), item.count()) {
         Some(first) => first == place,

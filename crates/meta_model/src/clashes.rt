@@ -2,7 +2,8 @@
 
 ghost use Rattle.std.specs.Prelude.{◌≡◌, ◌↔◌, IsTrue, Any};
 ghost use Rattle.meta_model.specs.Twice.{StandsTwice};
-ghost use Rattle.meta_model.specs.Conditions.{IsTaken, DuplicateClass, RepeatsParameter, AreOneParameter};
+ghost use Rattle.meta_model.specs.Conditions.{IsTaken, DuplicateClass};
+ghost use Rattle.meta_model.specs.Conditions.{RepeatsParameter, RepeatsName, AreOneParameter};
 
 use signatures::Name;
 use texts::{Class, Parameter, Program, Signal, Slot};
@@ -93,7 +94,7 @@ fn repeats_parameter(class: &Class) -> bool
 
 /// Whether a parameter stands twice in a signal.
 fn repeats_signal_parameter(signals: &[Signal]) -> bool
-    ensures { IsTrue result ↔ Any (λ signal. StandsTwice AreOneParameter signal.parameters) signals.now }
+    ensures { IsTrue result ↔ Any (λ signal. RepeatsName signal.parameters) signals.now }
 {
     signals
         .iter()
@@ -102,7 +103,7 @@ fn repeats_signal_parameter(signals: &[Signal]) -> bool
 
 /// Whether a parameter stands twice in a slot.
 fn repeats_slot_parameter(slots: &[Slot]) -> bool
-    ensures { IsTrue result ↔ Any (λ slot. StandsTwice AreOneParameter slot.parameters) slots.now }
+    ensures { IsTrue result ↔ Any (λ slot. RepeatsName slot.parameters) slots.now }
 {
     slots
         .iter()

@@ -1,9 +1,10 @@
-ghost use Rattle.std.specs.Prelude.{◌≡◌, ◌↔◌, ℕ, IsTrue, Any, IfSome, MatchOption};
+ghost use Rattle.std.specs.Prelude.{◌≡◌, ◌↔◌, IsTrue};
 ghost use Rattle.meta_model.specs.Conditions.{IsSignalOf, HasTwoMembers};
 ghost use Rattle.meta_model.specs.Ends.{IsSigned};
-ghost use Rattle.meta_model.specs.Indexed.{IsCallOf, IsPropertyOfName, IndexesHeadings, IndexesDeclared, IsIndexed, AreIndexed};
+ghost use Rattle.meta_model.specs.Indexed.{IsCallOf, IsPropertyOfName, IndexesHeadings, IndexesDeclared};
+ghost use Rattle.meta_model.specs.Indexed.{IsIndexed, IndexesOutlines};
 ghost use Rattle.meta_model.specs.PartAnswers.{Loads};
-ghost use Rattle.meta_model.specs.Places.{StandsOnlyAt, NoneStands, Found, IsPlace};
+ghost use Rattle.meta_model.specs.Places.{IsPlace, IsFirst, IsAlone};
 ghost use Rattle.meta_model.specs.declared.fault.MetaFault.TheVariants as fault;
 
 use crate::call_index::{find_call, index_calls, repeats_call};
@@ -83,9 +84,8 @@ impl IndexedOutline {
 
     /// The method of this name and with so many parameters, with its place.
     pub fn find_call(&self, name: &Name, count: usize) -> Option<(usize, &Heading)>
-        ensures value { MatchOption result (NoneStands (IsCallOf name.now count) self.now.methods)
-            (λ found. Found (IsCallOf name.now count) self.now.methods found.0 found.1.now) }
-        ensures only { IfSome result (λ found. StandsOnlyAt (IsCallOf name.now count) self.now.methods found.0) }
+        ensures value { IsFirst (IsCallOf name.now count) self.now.methods result }
+        ensures only { IsAlone (IsCallOf name.now count) self.now.methods result }
     {
         let place = find_call(self.methods.as_slice(), name, count)?;
         let method = self.outline.methods.get(place)?;
@@ -94,8 +94,7 @@ impl IndexedOutline {
 
     /// The property of this name, with its place.
     pub fn find_property(&self, name: &Name) -> Option<(usize, &Property)>
-        ensures { MatchOption result (NoneStands (IsPropertyOfName name.now) self.now.properties)
-            (λ found. Found (IsPropertyOfName name.now) self.now.properties found.0 found.1.now) }
+        ensures { IsFirst (IsPropertyOfName name.now) self.now.properties result }
     {
         let place = find_call(self.properties.as_slice(), name, 0)?;
         let property = self.outline.properties.get(place)?;
@@ -146,7 +145,7 @@ pub fn index_outlines(
     alloc: Global,
     outlines: Vec<Outline>,
 ) -> Result<Items<IndexedOutline>, MetaFault>
-    ensures { Loads fault.DuplicateMember (Any HasTwoMembers outlines.items) (AreIndexed outlines.items) result }
+    ensures { IndexesOutlines outlines.items result }
 {
     let mut indexed = Items::new(alloc);
     for outline in outlines {

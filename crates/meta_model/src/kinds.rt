@@ -1,9 +1,10 @@
 //! Declared types, their classes replaced by numbers.
 
-ghost use Rattle.std.specs.Prelude.{◌≡◌, ◌↔◌, ℕ, List, IsTrue, IfOk, MatchOption, Any};
+ghost use Rattle.std.specs.Prelude.{◌≡◌, ◌↔◌, ℕ, List, IsTrue, IfOk, Any};
 ghost use Rattle.std.specs.List.{AllZip};
 ghost use Rattle.meta_model.specs.Kinds.{IsKindIn, LacksType, IsReadAs};
-ghost use Rattle.meta_model.specs.Conditions.{LacksTypes, NoType};
+ghost use Rattle.meta_model.specs.Conditions.{LacksPropertyType, LacksParameterType, LacksTypes, NoType};
+ghost use Rattle.meta_model.specs.LookUps.{LooksUp};
 ghost use Rattle.signatures.specs.Types.{value_type};
 
 use crate::indexed::IndexedOutline;
@@ -17,7 +18,7 @@ use texts::Property;
 
 /// What the type stands for, or `None` where there is no such type.
 pub fn kind_of(outlines: &[IndexedOutline], declared: &QType) -> Option<ValueType>
-    ensures { MatchOption result (LacksType outlines.now declared.now) (λ kind. IsKindIn outlines.now declared.now kind) }
+    ensures { LooksUp (IsKindIn outlines.now declared.now) result }
 {
     if declared.pointer {
         match place_of(outlines, &declared.name) {
@@ -95,7 +96,7 @@ fn lacks_types(outlines: &[IndexedOutline], outline: &IndexedOutline) -> bool
 
 /// Whether the type of one of the properties isn't there.
 fn lacks_property_type(outlines: &[IndexedOutline], properties: &[Property]) -> bool
-    ensures { IsTrue result ↔ Any (λ property. LacksType outlines.now property.kind) properties.now }
+    ensures { IsTrue result ↔ Any (LacksPropertyType outlines.now) properties.now }
 {
     properties
         .iter()
@@ -104,7 +105,7 @@ fn lacks_property_type(outlines: &[IndexedOutline], properties: &[Property]) -> 
 
 /// Whether the type of a parameter of one of the methods isn't there.
 fn lacks_parameter_type(outlines: &[IndexedOutline], methods: &[Heading]) -> bool
-    ensures { IsTrue result ↔ Any (λ method. Any (LacksType outlines.now) method.sig.types) methods.now }
+    ensures { IsTrue result ↔ Any (LacksParameterType outlines.now) methods.now }
 {
     methods.iter().any(|method| lacks_one_of(outlines, method.sig.types.as_slice()))
 }

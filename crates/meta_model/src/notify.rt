@@ -1,7 +1,7 @@
 //! Notify signals.
 
-ghost use Rattle.std.specs.Prelude.{◌≡◌, ◌↔◌, ◌⊎◌, ◌<◌, ℕ, List, [], ◌∷◌, IsTrue, Any, codes};
-ghost use Rattle.meta_model.specs.Conditions.{IsNotifiedBy, LacksNotifier, BadNotify};
+ghost use Rattle.std.specs.Prelude.{◌≡◌, ◌↔◌, ◌⊎◌, ℕ, List, [], ◌∷◌, IsTrue};
+ghost use Rattle.meta_model.specs.Conditions.{IsNotifiedBy, LacksNotifier, MayNotify, NotifiesBadly, BadNotify};
 
 use crate::indexed::IndexedOutline;
 use crate::qobject::DELETE_LATER;
@@ -17,7 +17,7 @@ pub fn has_bad_notify(outlines: &[IndexedOutline]) -> bool
 
 /// Whether one of the class's properties has such a notify signature.
 fn notifies_badly(outline: &IndexedOutline) -> bool
-    ensures { IsTrue result ↔ Any (λ property. LacksNotifier outline.now property property.notify) outline.now.properties }
+    ensures { IsTrue result ↔ NotifiesBadly outline.now }
 {
     outline
         .properties()
@@ -59,7 +59,7 @@ fn carries(types: &[QType], kind: &QType) -> bool
 
 /// Whether the signal isn't one of `QObject`'s, or notifies `QObject`'s property.
 fn may_notify(signal: usize, property: &Property) -> bool
-    ensures { IsTrue result ↔ ((DELETE_LATER < signal) ⊎ (property.now.name ≡ codes "objectName")) }
+    ensures { IsTrue result ↔ MayNotify signal property.now }
 {
     DELETE_LATER < signal || property.name.bytes() == b"objectName".as_slice()
 }

@@ -1,5 +1,6 @@
-ghost use Rattle.std.specs.Prelude.{◌≡◌, ◌≢◌, ◌↔◌, IsTrue};
-ghost use Rattle.meta_model.specs.declared.outline.Sort.TheVariants.{Signal, DeleteLater};
+ghost use Rattle.std.specs.Prelude.{◌≡◌, ◌↔◌, IsTrue};
+ghost use Rattle.meta_model.specs.Outlines.{MayBeCalled};
+ghost use Rattle.meta_model.specs.declared.outline.Sort.TheVariants.{Signal};
 
 use signatures::{Name, Sig};
 use sqlite_items::Items;
@@ -35,7 +36,7 @@ impl Heading {
 
     /// Whether a body may call it: a slot, but for `deleteLater()`.
     pub fn may_be_called(&self) -> bool
-        ensures { IsTrue result ↔ ((self.now.sort ≢ Signal) × (self.now.sort ≢ DeleteLater)) }
+        ensures { IsTrue result ↔ MayBeCalled self.now.sort }
     {
         matches!(self.sort, Sort::Slot(_, _))
     }

@@ -1,10 +1,10 @@
 //! Classes with their whole lists of members.
 
-ghost use Rattle.std.specs.Prelude.{◌≡◌, ℕ, map, IfOk, OnOk, MatchOption, codes, [], ◌∷◌, ◌++◌};
+ghost use Rattle.std.specs.Prelude.{◌≡◌, ℕ, map, IfOk, OnOk, codes, [], ◌∷◌, ◌++◌};
 ghost use Rattle.meta_model.specs.Conditions.{LacksBase};
-ghost use Rattle.meta_model.specs.Outlines.{kinds_of, sig_of, signal_heading, slot_headings, own_methods, base_name, IsOutline, Outlines};
+ghost use Rattle.meta_model.specs.Outlines.{kinds_of, sig_of, signal_heading, slot_headings, own_methods};
+ghost use Rattle.meta_model.specs.Outlines.{FindsBase, OutlinesClass, Outlines};
 ghost use Rattle.meta_model.specs.PartAnswers.{Loads};
-ghost use Rattle.meta_model.specs.Places.{StandsAt, Found};
 ghost use Rattle.meta_model.specs.declared.fault.MetaFault.TheVariants as fault;
 
 use crate::fault::MetaFault;
@@ -49,8 +49,7 @@ fn outline_class(
     class: &Class,
 ) -> Result<Outline, MetaFault>
     requires { root.now ≡ codes "QObject" }
-    ensures { Loads fault.NoBase ((k : ℕ) → ¬ StandsAt (λ outline. outline.name ≡ base_name class.now.base) before.now k)
-        (λ outline. IsOutline before.now number class.now outline) result }
+    ensures { OutlinesClass before.now number class.now result }
 {
     let Some((base, above)) = find_base(root, before, &class.base) else {
         return Err(MetaFault::NoBase);
@@ -77,8 +76,7 @@ fn find_base<'a>(
     base: &Option<Name>,
 ) -> Option<(usize, &'a Outline)>
     requires { root.now ≡ codes "QObject" }
-    ensures { MatchOption result ((k : ℕ) → ¬ StandsAt (λ outline. outline.name ≡ base_name base.now) before.now k)
-        (λ found. Found (λ outline. outline.name ≡ base_name base.now) before.now found.0 found.1.now) }
+    ensures { FindsBase before.now base.now result }
 {
     match base {
         Some(name) => find(before, name),

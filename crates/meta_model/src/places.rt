@@ -1,7 +1,7 @@
 //! The places of classes and members in their lists.
 
-ghost use Rattle.std.specs.Prelude.{◌≡◌, ◌↔◌, ℕ, List, IsTrue, Some, MatchOption};
-ghost use Rattle.meta_model.specs.Places.{NoneStands, Found, IsPlace};
+ghost use Rattle.std.specs.Prelude.{◌≡◌, ◌↔◌, ℕ, List, IsTrue, Some};
+ghost use Rattle.meta_model.specs.Places.{IsPlace, IsFirst};
 
 use crate::indexed::IndexedOutline;
 use crate::outline::Outline;
@@ -46,8 +46,7 @@ impl Named for Parameter {
 
 /// The first item of this name, with its place.
 pub fn find<'a, T: Named>(items: &'a [T], name: &Name) -> Option<(usize, &'a T)>
-    ensures { MatchOption result (NoneStands (λ item. T.has_name item name.now) items.now)
-        (λ found. Found (λ item. T.has_name item name.now) items.now found.0 found.1.now) }
+    ensures { IsFirst (λ item. T.has_name item name.now) items.now result }
 {
     for (place, item) in items.iter().enumerate() {
         if item.is_named(name) {

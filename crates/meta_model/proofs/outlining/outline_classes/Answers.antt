@@ -3,7 +3,7 @@ use Rattle.std.specs.Prelude.{codes}
 use Rattle.std.proofs.lemmas.Option.{slice_get_read}
 use Rattle.meta_model.specs.declared.outline.Outline.{Outline}
 use Rattle.meta_model.specs.Conditions.{LacksBase}
-use Rattle.meta_model.specs.Outlines.{AreOutlines, Outlines, qobject, IsOutline, base_name}
+use Rattle.meta_model.specs.Outlines.{AreOutlines, qobject, IsOutline, base_name}
 use Rattle.meta_model.specs.Places.{StandsAt}
 use Rattle.meta_model.specs.declared.fault.MetaFault.TheVariants as fault
 use Rattle.meta_model.proofs.OutlineSteps.{step_left, step_lacks, none_lacks, at_end, failed}

@@ -1,0 +1,15 @@
+-- What a look-up answers (docs/machine.md, "Meta-objects").
+use Rattle.std.specs.Borrow.{Bor}
+use Rattle.std.specs.Prelude.{◌≡◌, Option, MatchOption, IfSome}
+
+-- what is found has P; where nothing is found, nothing has
+abbrev pub LooksUp : {X : Type 0} → (X → Type 0) → Option X → Type 0
+LooksUp {X} P answer = MatchOption answer ((x : X) → ¬ P x) (λ found. P found)
+
+-- .. by a reference to it
+abbrev pub LooksUpRef : {X : Type 0} → (X → Type 0) → Option (Bor X) → Type 0
+LooksUpRef {X} P answer = MatchOption answer ((x : X) → ¬ P x) (λ found. P found.now)
+
+-- nothing else than what is found has P
+abbrev pub FindsOnly : {X : Type 0} → (X → Type 0) → Option X → Type 0
+FindsOnly {X} P answer = IfSome answer (λ found. (x : X) → P x → x ≡ found)
