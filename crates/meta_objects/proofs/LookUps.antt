@@ -10,7 +10,7 @@ use Rattle.meta_model.specs.declared.object.MetaWire.{MetaWire}
 use Rattle.meta_model.specs.Loaded.{Loaded}
 use Rattle.meta_model.specs.Places.{StandsAt, IsPlace}
 use Rattle.meta_model.specs.declared.object.MetaOwns.{MetaOwns}
-use Rattle.meta_model.specs.Members.{IsClass, IsClassNamed, HasSig, IsMethodNamed, IsPropertyNamed, CoversBy, Covers, OwnsBy, Owns, IsIn}
+use Rattle.meta_model.specs.Members.{IsClass, IsClassNamed, IsMethodNamed, IsPropertyNamed, CoversBy, Covers, OwnsBy, Owns, IsIn}
 use Rattle.meta_model.proofs.Searches.{answer_of, in_list, place_in}
 
 module _ (p : Loaded) where

@@ -33,7 +33,7 @@ use Rattle.meta_model.specs.Members.{IsClass, methods_in, method_count, methods_
 use Rattle.meta_model.specs.Sound.{IsKind, AreSound, none_sound, IsSoundBody, IsSoundWork, IsSoundMethod, IsNotifier, IsSoundProperty, IsUnder, HasDistinctMethods, HasDistinctProperties, IsSoundClass, IsSoundWire, IsSoundOwns, IsSound}
 use Rattle.meta_model.specs.Literals.{HoldsNoObject}
 use Rattle.meta_model.specs.Root.{root_methods, root_class, BeginsAsRoot}
-use Rattle.meta_model.specs.Outlines.{IsOutlineNamed, kinds_of, sig_of, signal_heading, slot_headings, own_methods, heading, destroyed, destroyed_alone, name_changed, qobject}
+use Rattle.meta_model.specs.Outlines.{IsOutlineNamed, kinds_of, signal_heading, slot_headings, own_methods, heading, destroyed, destroyed_alone, name_changed, qobject}
 use Rattle.meta_model.specs.Kinds.{LacksType, IsReadAs}
 use Rattle.meta_model.specs.Conditions.{AreOneCall, HasTwoMembers, IsSignalOf, LacksNotifier, LacksTypes}
 use Rattle.meta_objects.specs.Bodies.{IsBody, AreBodies}

@@ -53,6 +53,9 @@ pub record IsMethodOf (outlines : List Outline) (bodies : List (List (List State
   pub kinds : AllZip (IsReadAs outlines) h.sig.types method.kinds
   pub work : method.work ≡ work_of bodies h.sort
 
+abbrev pub AreMethodsOf : List Outline → List (List (List Statement)) → List Heading → List MetaMethod → Type 0
+AreMethodsOf outlines bodies headings methods = AllZip (IsMethodOf outlines bodies) headings methods
+
 -- ---- properties
 -- what a property is at first: its literal, or else the default of its type
 abbrev pub initial_of : Option Literal → ValueType → Value
@@ -71,12 +74,18 @@ pub record IsPropertyOf (outlines : List Outline) (outline : Outline) (declared 
   pub initial : property.initial ≡ initial_of declared.initial property.kind
   pub notify : IsNotify outline declared.notify property.notify
 
+abbrev pub ArePropertiesOf : List Outline → Outline → List MetaProperty → Type 0
+ArePropertiesOf outlines outline properties = AllZip (IsPropertyOf outlines outline) outline.properties properties
+
 -- ---- classes
 pub record IsObject (outlines : List Outline) (bodies : List (List (List Statement))) (outline : Outline) (object : MetaObject) : Type 0 where
   pub named : object.name ≡ outline.name
   pub based : object.base ≡ outline.base
-  pub methods : AllZip (IsMethodOf outlines bodies) outline.methods object.methods
-  pub properties : AllZip (IsPropertyOf outlines outline) outline.properties object.properties
+  pub methods : AreMethodsOf outlines bodies outline.methods object.methods
+  pub properties : ArePropertiesOf outlines outline object.properties
+
+abbrev pub AreObjects : List Outline → List (List (List Statement)) → List MetaObject → Type 0
+AreObjects outlines bodies objects = AllZip (IsObject outlines bodies) outlines objects
 
 -- ---- wires and owns
 -- a wire leads from a signal to a signal or slot that isn't one of `QObject`'s
@@ -112,4 +121,4 @@ pub record HasUses (program : Program) (outlines : List Outline) (bodies : List 
 pub record IsLoaded (program : Program) (outlines : List Outline) (loaded : Loaded) : Type 0 where
   pub bodies : List (List (List Statement))
   pub uses : HasUses program outlines bodies loaded.wires loaded.owns
-  pub objects : AllZip (IsObject outlines bodies) outlines loaded.classes
+  pub objects : AreObjects outlines bodies loaded.classes

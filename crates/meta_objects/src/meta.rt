@@ -1,12 +1,12 @@
-ghost use Rattle.std.specs.Prelude.{◌≡◌, ◌<◌, ℕ, List, IsTrue, ◌↔◌, IfSome, MatchOption, option_copied, slice_get, Option, Some};
+ghost use Rattle.std.specs.Prelude.{◌≡◌, ◌<◌, List, IsTrue, ◌↔◌, IfSome, option_copied, slice_get};
 ghost use Rattle.meta_objects.specs.Builds.{Builds};
-ghost use Rattle.meta_model.specs.Members.{IsClass, IsClassNamed, IsMethod, HasSig, IsMethodNamed, IsPropertyNamed, base_of, method_count, method_offset, Below, CoversBy, Covers, OwnsBy, Owns};
+ghost use Rattle.meta_model.specs.LookUps.{LooksUp, LooksUpRef, FindsOnly};
+ghost use Rattle.meta_model.specs.Members.{IsClassNamed, IsMethod, HasSig, IsMethodNamed, IsPropertyNamed};
+ghost use Rattle.meta_model.specs.Members.{base_of, method_count, method_offset, Below};
+ghost use Rattle.meta_model.specs.Members.{CoversBy, Covers, OwnsBy, Owns};
 ghost use Rattle.meta_model.specs.Sound.{IsSound, IsSoundClass, IsSoundMethod};
-ghost use Rattle.meta_model.specs.Values.{Has};
+ghost use Rattle.meta_objects.specs.Typed.{TellsType, TellsReference};
 ghost use Rattle.meta_objects.specs.Wiring.{IsWired};
-ghost use Rattle.meta_model.specs.declared.object.MetaMethod.{MetaMethod};
-ghost use Rattle.meta_model.specs.declared.object.MetaObject.{MetaObject};
-ghost use Rattle.signatures.specs.declared.value.Value.TheVariants.{Ref};
 
 use crate::class_index::ClassIndex;
 use crate::resolve_object::resolve_objects;
@@ -124,8 +124,8 @@ impl Meta {
 
     /// The number of the class of this name, or `None` where there is none.
     pub fn class(&self, name: &Name) -> Option<usize>
-        ensures value { MatchOption result ((c : ℕ) → ¬ IsClassNamed self.now name.now c) (λ c. IsClassNamed self.now name.now c) }
-        ensures only { IfSome result (λ c. (j : ℕ) → IsClassNamed self.now name.now j → j ≡ c) }
+        ensures value { LooksUp (IsClassNamed self.now name.now) result }
+        ensures only { FindsOnly (IsClassNamed self.now name.now) result }
     {
         self.index.class(name)
     }
@@ -188,7 +188,7 @@ impl Meta {
 
     /// The method of this number, of the class of this number, or `None` where either isn't there.
     pub fn method_at(&self, class: usize, method: usize) -> Option<&MetaMethod>
-        ensures value { MatchOption result ((m : MetaMethod) → ¬ IsMethod self.now class method m) (λ m. IsMethod self.now class method m.now) }
+        ensures value { LooksUpRef (IsMethod self.now class method) result }
         ensures sound { IfSome result (λ m. IsSoundMethod self.now class method m.now) }
     {
         self.object(class)?.methods.get(method)
@@ -196,8 +196,8 @@ impl Meta {
 
     /// The number of the method of this signature, in the class of this number, or `None` where there is none.
     pub fn method(&self, class: usize, sig: &Sig) -> Option<usize>
-        ensures value { MatchOption result ((m : ℕ) → ¬ HasSig self.now class sig.now m) (λ m. HasSig self.now class sig.now m) }
-        ensures only { IfSome result (λ m. (j : ℕ) → HasSig self.now class sig.now j → j ≡ m) }
+        ensures value { LooksUp (HasSig self.now class sig.now) result }
+        ensures only { FindsOnly (HasSig self.now class sig.now) result }
     {
         let found = self.by_name(class, &sig.name, sig.types.len())?;
         if self.has_sig(class, found, sig) {
@@ -210,16 +210,16 @@ impl Meta {
     /// The number of the method of this name with so many parameters, in the class of this number, or `None` where
     /// there is none.
     pub fn by_name(&self, class: usize, name: &Name, count: usize) -> Option<usize>
-        ensures value { MatchOption result ((m : ℕ) → ¬ IsMethodNamed self.now class name.now count m) (λ m. IsMethodNamed self.now class name.now count m) }
-        ensures only { IfSome result (λ m. (j : ℕ) → IsMethodNamed self.now class name.now count j → j ≡ m) }
+        ensures value { LooksUp (IsMethodNamed self.now class name.now count) result }
+        ensures only { FindsOnly (IsMethodNamed self.now class name.now count) result }
     {
         self.index.method(class, name, count)
     }
 
     /// The number of the property of this name, in the class of this number, or `None` where there is none.
     pub fn property(&self, class: usize, name: &Name) -> Option<usize>
-        ensures value { MatchOption result ((q : ℕ) → ¬ IsPropertyNamed self.now class name.now q) (λ q. IsPropertyNamed self.now class name.now q) }
-        ensures only { IfSome result (λ q. (j : ℕ) → IsPropertyNamed self.now class name.now j → j ≡ q) }
+        ensures value { LooksUp (IsPropertyNamed self.now class name.now) result }
+        ensures only { FindsOnly (IsPropertyNamed self.now class name.now) result }
     {
         self.index.property(class, name)
     }
@@ -267,7 +267,8 @@ impl Meta {
         kind: Kind,
         wire: &MetaWire,
     ) -> bool
-        ensures { IsTrue result ↔ CoversBy self.now sender signal.now receiver method.now kind wire.now }
+        ensures { IsTrue result
+            ↔ CoversBy self.now sender signal.now receiver method.now kind wire.now }
     {
         wire.kind == kind
             && self.inherits(sender, wire.sender)
@@ -309,7 +310,7 @@ impl Meta {
     /// Whether the value has the type. Where the value refers to an object, `class` is that object's class, or `None`
     /// where the object is dead; else it plays no part.
     pub fn has_type(&self, value: &Value, class: Option<usize>, kind: ValueType) -> bool
-        ensures { (classes : ℕ → Option ℕ) → ((o : ℕ) → value.now ≡ Ref (Some o) → classes o ≡ class) → IsTrue result ↔ Has self.now classes value.now kind }
+        ensures { TellsType self.now value.now class kind result }
     {
         match (value, kind) {
             (Value::Int(_), ValueType::Int) => true,
@@ -322,7 +323,7 @@ impl Meta {
 
     /// Whether null, or a reference to an object of this class, has the type.
     fn refers_to(&self, object: Option<ObjectId>, class: Option<usize>, kind: ValueType) -> bool
-        ensures { (classes : ℕ → Option ℕ) → ((o : ℕ) → object ≡ Some o → classes o ≡ class) → IsTrue result ↔ Has self.now classes (Ref object) kind }
+        ensures { TellsReference self.now object class kind result }
     {
         let ValueType::Reference(wanted, _) = kind else {
             return false;

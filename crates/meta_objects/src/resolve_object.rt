@@ -1,8 +1,9 @@
 //! Classes whose members are resolved.
 
 ghost use Rattle.std.specs.Prelude.{◌≡◌, ℕ, [], IfOk, option_copied};
-ghost use Rattle.std.specs.List.{AllZip};
-ghost use Rattle.meta_objects.specs.Loading.{IsMethodOf, IsNotify, IsPropertyOf, IsObject, work_of, body_at, found_body, initial_of};
+ghost use Rattle.meta_objects.specs.Loading.{IsMethodOf, AreMethodsOf, work_of, body_at, found_body};
+ghost use Rattle.meta_objects.specs.Loading.{IsNotify, IsPropertyOf, ArePropertiesOf, initial_of};
+ghost use Rattle.meta_objects.specs.Loading.{IsObject, AreObjects};
 
 use meta_model::{
     Heading, IndexedOutline, MetaMethod, MetaObject, MetaProperty, SlotBody, Sort, ValueType, Work,
@@ -19,7 +20,7 @@ pub fn resolve_objects(
     outlines: &[IndexedOutline],
     bodies: &[Items<SlotBody>],
 ) -> Result<Items<MetaObject>, AllocError>
-    ensures { IfOk result (λ objects. AllZip (IsObject outlines.now bodies.now) outlines.now objects) }
+    ensures { IfOk result (AreObjects outlines.now bodies.now) }
 {
     let mut objects = Items::new(alloc);
     for outline in outlines {
@@ -36,7 +37,7 @@ fn resolve_object(
     bodies: &[Items<SlotBody>],
     outline: &IndexedOutline,
 ) -> Result<MetaObject, AllocError>
-    ensures { IfOk result (λ object. IsObject outlines.now bodies.now outline.now object) }
+    ensures { IfOk result (IsObject outlines.now bodies.now outline.now) }
 {
     let name = outline.name().copy()?;
     let methods = resolve_methods(alloc, outlines, bodies, outline.methods())?;
@@ -56,7 +57,7 @@ fn resolve_methods(
     bodies: &[Items<SlotBody>],
     headings: &[Heading],
 ) -> Result<Items<MetaMethod>, AllocError>
-    ensures { IfOk result (λ methods. AllZip (IsMethodOf outlines.now bodies.now) headings.now methods) }
+    ensures { IfOk result (AreMethodsOf outlines.now bodies.now headings.now) }
 {
     let mut methods = Items::new(alloc);
     for heading in headings {
@@ -73,7 +74,7 @@ fn resolve_method(
     bodies: &[Items<SlotBody>],
     heading: &Heading,
 ) -> Result<MetaMethod, AllocError>
-    ensures { IfOk result (λ method. IsMethodOf outlines.now bodies.now heading.now method) }
+    ensures { IfOk result (IsMethodOf outlines.now bodies.now heading.now) }
 {
     let sig = heading.sig.copy(alloc)?;
     let kinds = read_kinds(alloc, outlines, heading.sig.types.as_slice())?;
@@ -133,7 +134,7 @@ fn resolve_properties(
     outlines: &[IndexedOutline],
     outline: &IndexedOutline,
 ) -> Result<Items<MetaProperty>, AllocError>
-    ensures { IfOk result (λ properties. AllZip (IsPropertyOf outlines.now outline.now) outline.now.properties properties) }
+    ensures { IfOk result (ArePropertiesOf outlines.now outline.now) }
 {
     let mut properties = Items::new(alloc);
     for declared in outline.properties() {
@@ -150,7 +151,7 @@ fn resolve_property(
     outline: &IndexedOutline,
     declared: &Property,
 ) -> Result<MetaProperty, AllocError>
-    ensures { IfOk result (λ property. IsPropertyOf outlines.now outline.now declared.now property) }
+    ensures { IfOk result (IsPropertyOf outlines.now outline.now declared.now) }
 {
     let name = declared.name.copy()?;
     let kind = read_kind(outlines, &declared.kind);

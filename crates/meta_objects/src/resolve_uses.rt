@@ -1,8 +1,6 @@
 //! The parts of a program that use names of classes and members.
 
-ghost use Rattle.meta_objects.specs.Loading.{LacksMember, HasUses};
-ghost use Rattle.meta_model.specs.PartAnswers.{Loads};
-ghost use Rattle.meta_model.specs.declared.fault.MetaFault.TheVariants as fault;
+ghost use Rattle.meta_objects.specs.Resolving.{ResolvesUses};
 
 use crate::body_resolution::resolve_bodies;
 use crate::resolve_wire::{resolve_owns, resolve_wires};
@@ -25,7 +23,7 @@ pub fn resolve_uses(
     program: &Program,
     outlines: &[IndexedOutline],
 ) -> Result<Uses, MetaFault>
-    ensures { Loads fault.NoMember (LacksMember program.now outlines.now) (λ uses. HasUses program.now outlines.now uses.bodies uses.wires uses.owns) result }
+    ensures { ResolvesUses program.now outlines.now result }
 {
     let bodies = resolve_bodies(alloc, outlines, program.classes.as_slice())?;
     let wires = resolve_wires(alloc, outlines, program.wires.as_slice())?;

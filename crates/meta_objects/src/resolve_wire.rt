@@ -1,12 +1,11 @@
 //! Wires and owns whose names are replaced by numbers.
 
-ghost use Rattle.std.specs.Prelude.{◌≡◌, ℕ, Any, MatchOption};
-ghost use Rattle.std.specs.List.{AllZip};
+ghost use Rattle.std.specs.Prelude.{◌≡◌};
 ghost use Rattle.meta_model.specs.Conditions.{IsSignalOf};
-ghost use Rattle.meta_model.specs.Ends.{IsSigned, IsEnd};
-ghost use Rattle.meta_objects.specs.Loading.{IsWire, IsOwns, LacksEnd, LacksClass};
-ghost use Rattle.meta_model.specs.PartAnswers.{Loads};
-ghost use Rattle.meta_model.specs.declared.fault.MetaFault.TheVariants as fault;
+ghost use Rattle.meta_model.specs.Ends.{IsSigned};
+ghost use Rattle.meta_model.specs.LookUps.{LooksUp};
+ghost use Rattle.meta_objects.specs.Loading.{IsWire, IsOwns};
+ghost use Rattle.meta_objects.specs.Resolving.{FindsEnd, ResolvesEach};
 
 use meta_model::{DELETE_LATER, IndexedOutline, MetaFault, MetaOwns, MetaWire, find, place_of};
 use signatures::{Name, Sig};
@@ -20,7 +19,7 @@ pub fn resolve_wires(
     outlines: &[IndexedOutline],
     wires: &[Wire],
 ) -> Result<Items<MetaWire>, MetaFault>
-    ensures { Loads fault.NoMember (Any (LacksEnd outlines.now) wires.now) (λ loaded. AllZip (IsWire outlines.now) wires.now loaded) result }
+    ensures { ResolvesEach (IsWire outlines.now) wires.now result }
 {
     let mut loaded = Items::new(alloc);
     for wire in wires {
@@ -34,7 +33,7 @@ pub fn resolve_wires(
 
 /// The wire, if its ends are there.
 fn resolve_wire(outlines: &[IndexedOutline], wire: &Wire) -> Option<MetaWire>
-    ensures { MatchOption result (LacksEnd outlines.now wire.now) (λ loaded. IsWire outlines.now wire.now loaded) }
+    ensures { LooksUp (IsWire outlines.now wire.now) result }
 {
     let Some((sender, signal)) = signal_end(outlines, &wire.sender, &wire.signal) else {
         return None;
@@ -57,7 +56,7 @@ fn resolve_wire(outlines: &[IndexedOutline], wire: &Wire) -> Option<MetaWire>
 
 /// The numbers of the class of this name and of its signal of this signature.
 fn signal_end(outlines: &[IndexedOutline], name: &Name, sig: &Sig) -> Option<(usize, usize)>
-    ensures { MatchOption result ((c m : ℕ) → ¬ IsEnd (IsSignalOf sig.now) outlines.now name.now c m) (λ found. IsEnd (IsSignalOf sig.now) outlines.now name.now found.0 found.1) }
+    ensures { FindsEnd (IsSignalOf sig.now) outlines.now name.now result }
 {
     let Some((class, found)) = find(outlines, name) else {
         return None;
@@ -70,7 +69,7 @@ fn signal_end(outlines: &[IndexedOutline], name: &Name, sig: &Sig) -> Option<(us
 
 /// The numbers of the class of this name and of its method of this signature.
 fn method_end(outlines: &[IndexedOutline], name: &Name, sig: &Sig) -> Option<(usize, usize)>
-    ensures { MatchOption result ((c m : ℕ) → ¬ IsEnd (IsSigned sig.now) outlines.now name.now c m) (λ found. IsEnd (IsSigned sig.now) outlines.now name.now found.0 found.1) }
+    ensures { FindsEnd (IsSigned sig.now) outlines.now name.now result }
 {
     let Some((class, found)) = find(outlines, name) else {
         return None;
@@ -87,7 +86,7 @@ pub fn resolve_owns(
     outlines: &[IndexedOutline],
     owns: &[Owns],
 ) -> Result<Items<MetaOwns>, MetaFault>
-    ensures { Loads fault.NoMember (Any (LacksClass outlines.now) owns.now) (λ loaded. AllZip (IsOwns outlines.now) owns.now loaded) result }
+    ensures { ResolvesEach (IsOwns outlines.now) owns.now result }
 {
     let mut loaded = Items::new(alloc);
     for one in owns {
@@ -101,7 +100,7 @@ pub fn resolve_owns(
 
 /// The declaration, if its classes are there.
 fn resolve_one_owns(outlines: &[IndexedOutline], owns: &Owns) -> Option<MetaOwns>
-    ensures { MatchOption result (LacksClass outlines.now owns.now) (λ loaded. IsOwns outlines.now owns.now loaded) }
+    ensures { LooksUp (IsOwns outlines.now owns.now) result }
 {
     let Some(parent) = place_of(outlines, &owns.parent) else {
         return None;

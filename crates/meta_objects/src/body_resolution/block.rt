@@ -1,10 +1,8 @@
 //! The statements of bodies, whose names are resolved.
 
 ghost use Rattle.texts.specs.declared.syntax.Stmt.TheVariants.{Set, Emit, Call};
-ghost use Rattle.meta_objects.specs.Bodies.{scope, IsStatement, AreStatements, LacksInBody};
-ghost use Rattle.meta_model.specs.PartAnswers.{Loads};
-ghost use Rattle.meta_model.specs.declared.fault.MetaFault.TheVariants as fault;
-ghost use Rattle.meta_model.specs.declared.object.Statement.{Statement as AStatement};
+ghost use Rattle.meta_objects.specs.Bodies.{scope, IsStatement, AreStatements};
+ghost use Rattle.meta_objects.specs.Resolving.{Resolves};
 
 use crate::body_resolution::expr::{resolve_expr, resolve_exprs};
 use crate::body_resolution::path::{Led, find_class, find_member, resolve_path};
@@ -24,7 +22,8 @@ pub fn resolve_block(
     parameters: &[Parameter],
     body: &[Stmt],
 ) -> Result<Items<Statement>, MetaFault>
-    ensures { Loads fault.NoMember (LacksInBody (scope outlines.now me.now parameters.now) body.now) (λ loaded. AreStatements (scope outlines.now me.now parameters.now) body.now loaded) result }
+    ensures { let s = scope outlines.now me.now parameters.now in
+        Resolves (AreStatements s body.now) result }
 {
     let mut statements = Items::new(alloc);
     for statement in body {
@@ -43,7 +42,8 @@ fn resolve_statement(
     parameters: &[Parameter],
     statement: &Stmt,
 ) -> Result<Statement, MetaFault>
-    ensures { Loads fault.NoMember ((loaded : AStatement) → ¬ IsStatement (scope outlines.now me.now parameters.now) (statement.now) loaded) (λ loaded. IsStatement (scope outlines.now me.now parameters.now) (statement.now) loaded) result }
+    ensures { let s = scope outlines.now me.now parameters.now in
+        Resolves (IsStatement s statement.now) result }
 {
     match statement {
         Stmt::Set(path, name, value) => {
@@ -82,7 +82,8 @@ fn resolve_set(
     name: &Name,
     value: &Expr<Path>,
 ) -> Result<Statement, MetaFault>
-    ensures { Loads fault.NoMember ((loaded : AStatement) → ¬ IsStatement (scope outlines.now me.now parameters.now) (Set path.now name.now value.now) loaded) (λ loaded. IsStatement (scope outlines.now me.now parameters.now) (Set path.now name.now value.now) loaded) result }
+    ensures { let s = scope outlines.now me.now parameters.now in
+        Resolves (IsStatement s (Set path.now name.now value.now)) result }
 {
     let Led { path, kind } = resolve_path(alloc, outlines, me, parameters, path)?;
     let Some((property, _)) = find_member(outlines, &kind, name) else {
@@ -101,7 +102,8 @@ fn resolve_emit(
     name: &Name,
     values: &[Expr<Path>],
 ) -> Result<Statement, MetaFault>
-    ensures { Loads fault.NoMember ((loaded : AStatement) → ¬ IsStatement (scope outlines.now me.now parameters.now) (Emit name.now values.now) loaded) (λ loaded. IsStatement (scope outlines.now me.now parameters.now) (Emit name.now values.now) loaded) result }
+    ensures { let s = scope outlines.now me.now parameters.now in
+        Resolves (IsStatement s (Emit name.now values.now)) result }
 {
     let Some((_, class)) = find(outlines, me) else {
         return Err(MetaFault::NoMember);
@@ -126,7 +128,8 @@ fn resolve_call(
     name: &Name,
     values: &[Expr<Path>],
 ) -> Result<Statement, MetaFault>
-    ensures { Loads fault.NoMember ((loaded : AStatement) → ¬ IsStatement (scope outlines.now me.now parameters.now) (Call path.now name.now values.now) loaded) (λ loaded. IsStatement (scope outlines.now me.now parameters.now) (Call path.now name.now values.now) loaded) result }
+    ensures { let s = scope outlines.now me.now parameters.now in
+        Resolves (IsStatement s (Call path.now name.now values.now)) result }
 {
     let Led { path, kind } = resolve_path(alloc, outlines, me, parameters, path)?;
     let Some((_, class)) = find_class(outlines, &kind) else {

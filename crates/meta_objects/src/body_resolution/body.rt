@@ -1,10 +1,8 @@
 //! Slot bodies whose names are resolved.
 
-ghost use Rattle.std.specs.Prelude.{◌≡◌, ℕ, Any};
-ghost use Rattle.std.specs.List.{AllZip};
-ghost use Rattle.meta_objects.specs.Bodies.{IsBody, AreBodies, AllBodies, LacksInSlot, LacksInClass};
-ghost use Rattle.meta_model.specs.PartAnswers.{Loads};
-ghost use Rattle.meta_model.specs.declared.fault.MetaFault.TheVariants as fault;
+ghost use Rattle.std.specs.Prelude.{◌≡◌};
+ghost use Rattle.meta_objects.specs.Bodies.{IsBody};
+ghost use Rattle.meta_objects.specs.Resolving.{Resolves, ResolvesEach, ResolvesBodies};
 
 use crate::body_resolution::block::resolve_block;
 use meta_model::{IndexedOutline, MetaFault, SlotBody};
@@ -18,7 +16,7 @@ pub fn resolve_bodies(
     outlines: &[IndexedOutline],
     classes: &[Class],
 ) -> Result<Items<Items<SlotBody>>, MetaFault>
-    ensures { Loads fault.NoMember (Any (LacksInClass outlines.now) classes.now) (λ bodies. AllBodies outlines.now classes.now bodies) result }
+    ensures { ResolvesBodies outlines.now classes.now result }
 {
     let mut bodies = Items::new(alloc);
     for class in classes {
@@ -34,7 +32,7 @@ fn resolve_class_bodies(
     outlines: &[IndexedOutline],
     class: &Class,
 ) -> Result<Items<SlotBody>, MetaFault>
-    ensures { Loads fault.NoMember (LacksInClass outlines.now class.now) (λ bodies. AreBodies outlines.now class.now bodies) result }
+    ensures { ResolvesEach (IsBody outlines.now class.now) class.now.slots result }
 {
     let mut bodies = Items::new(alloc);
     for slot in class.slots.as_slice() {
@@ -51,7 +49,7 @@ fn resolve_slot_body(
     class: &Class,
     slot: &Slot,
 ) -> Result<SlotBody, MetaFault>
-    ensures { Loads fault.NoMember (LacksInSlot outlines.now class.now slot.now) (λ body. IsBody outlines.now class.now slot.now body) result }
+    ensures { Resolves (IsBody outlines.now class.now slot.now) result }
 {
     let parameters = slot.parameters.as_slice();
     let statements = resolve_block(

@@ -1,11 +1,8 @@
 //! Expressions whose names are resolved.
 
-ghost use Rattle.std.specs.Prelude.{◌≡◌, List};
-ghost use Rattle.texts.specs.declared.syntax.Expr.{Expr as AnExpr};
+ghost use Rattle.std.specs.Prelude.{◌≡◌};
 ghost use Rattle.meta_objects.specs.Bodies.{scope, IsExpr, AreExprs};
-ghost use Rattle.meta_model.specs.PartAnswers.{Loads};
-ghost use Rattle.meta_model.specs.declared.fault.MetaFault.TheVariants as fault;
-ghost use Rattle.meta_model.specs.declared.object.MetaPath.{MetaPath as AMetaPath};
+ghost use Rattle.meta_objects.specs.Resolving.{Resolves};
 
 use crate::body_resolution::path::{Led, resolve_path};
 use crate::literals::literal_of;
@@ -23,8 +20,8 @@ pub fn resolve_exprs(
     parameters: &[Parameter],
     expressions: &[Expr<Path>],
 ) -> Result<Items<Expr<MetaPath>>, MetaFault>
-    ensures { Loads fault.NoMember ((loaded : List (AnExpr AMetaPath)) → ¬ AreExprs (scope outlines.now me.now parameters.now) expressions.now loaded)
-        (λ loaded. AreExprs (scope outlines.now me.now parameters.now) expressions.now loaded) result }
+    ensures { let s = scope outlines.now me.now parameters.now in
+        Resolves (AreExprs s expressions.now) result }
 {
     let mut loaded = Items::new(alloc);
     for expression in expressions {
@@ -42,8 +39,8 @@ pub fn resolve_expr(
     parameters: &[Parameter],
     expression: &Expr<Path>,
 ) -> Result<Expr<MetaPath>, MetaFault>
-    ensures { Loads fault.NoMember ((loaded : AnExpr AMetaPath) → ¬ IsExpr (scope outlines.now me.now parameters.now) expression.now loaded)
-        (λ loaded. IsExpr (scope outlines.now me.now parameters.now) expression.now loaded) result }
+    ensures { let s = scope outlines.now me.now parameters.now in
+        Resolves (IsExpr s expression.now) result }
 {
     match expression {
         Expr::Literal(value) => {

@@ -1,13 +1,8 @@
 //! Paths whose names are resolved.
 
-ghost use Rattle.std.specs.Prelude.{◌≡◌, ℕ, List, MatchOption};
-ghost use Rattle.signatures.specs.declared.qtype.QType.{QType as AQType};
-ghost use Rattle.texts.specs.declared.program.Property.{Property as AProperty};
-ghost use Rattle.meta_objects.specs.Bodies.{scope, PointsTo, PointsToThis, HasMember, AreSteps, IsPath};
-ghost use Rattle.meta_model.specs.PartAnswers.{Loads};
-ghost use Rattle.meta_model.specs.declared.fault.MetaFault.TheVariants as fault;
-ghost use Rattle.meta_model.specs.declared.object.MetaPath.{MetaPath as AMetaPath};
-ghost use Rattle.meta_model.specs.declared.object.Step.{Step as AStep};
+ghost use Rattle.std.specs.Prelude.{◌≡◌};
+ghost use Rattle.meta_objects.specs.Bodies.{scope};
+ghost use Rattle.meta_objects.specs.Resolving.{FindsClass, FindsMember, ResolvesPath, ResolvesFrom};
 
 use meta_model::{
     IndexedOutline, MetaFault, MetaPath, MetaRoot, Step, find, read_kind, reference_to,
@@ -32,8 +27,7 @@ pub fn resolve_path(
     parameters: &[Parameter],
     path: &Path,
 ) -> Result<Led, MetaFault>
-    ensures { Loads fault.NoMember ((found : AMetaPath) (T : AQType) → ¬ IsPath (scope outlines.now me.now parameters.now) path.now found T)
-        (λ led. IsPath (scope outlines.now me.now parameters.now) path.now led.path led.kind) result }
+    ensures { ResolvesPath (scope outlines.now me.now parameters.now) path.now result }
 {
     match &path.root {
         Root::This => {
@@ -65,8 +59,7 @@ fn resolve_from(
     start: QType,
     names: &[Name],
 ) -> Result<Led, MetaFault>
-    ensures { Loads fault.NoMember ((steps : List AStep) (T : AQType) → ¬ AreSteps outlines.now start names.now steps T)
-        (λ led. (led.path.root ≡ root) × AreSteps outlines.now start names.now led.path.steps led.kind) result }
+    ensures { ResolvesFrom outlines.now root start names.now result }
 {
     let mut kind = start;
     let mut steps = Items::new(alloc);
@@ -93,7 +86,7 @@ pub fn find_class<'a>(
     outlines: &'a [IndexedOutline],
     kind: &QType,
 ) -> Option<(usize, &'a IndexedOutline)>
-    ensures { MatchOption result ((c : ℕ) → ¬ PointsTo outlines.now kind.now c) (λ found. PointsToThis outlines.now kind.now found.0 found.1.now) }
+    ensures { FindsClass outlines.now kind.now result }
 {
     if kind.pointer {
         let Some((number, outline)) = find(outlines, &kind.name) else {
@@ -111,8 +104,7 @@ pub fn find_member<'a>(
     kind: &QType,
     name: &Name,
 ) -> Option<(usize, &'a Property)>
-    ensures { MatchOption result ((q : ℕ) (property : AProperty) → ¬ HasMember outlines.now kind.now name.now q property)
-        (λ found. HasMember outlines.now kind.now name.now found.0 found.1.now) }
+    ensures { FindsMember outlines.now kind.now name.now result }
 {
     let Some((_, outline)) = find_class(outlines, kind) else {
         return None;

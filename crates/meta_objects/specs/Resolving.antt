@@ -1,0 +1,75 @@
+-- What looking up the names in a part of a program answers: the part with numbers in their place; or `NoMember`, where one
+-- of its names isn't there (docs/machine.md, "Loading").
+use Rattle.std.specs.Borrow.{Bor}
+use Rattle.std.specs.Prelude.{◌≡◌, ℕ, List, Option, Result, MatchOption, Any}
+use Rattle.std.specs.List.{AllZip}
+use Rattle.signatures.specs.declared.qtype.QType.{QType}
+use Rattle.texts.specs.declared.syntax.Path.{Path}
+use Rattle.texts.specs.declared.program.Property.{Property}
+use Rattle.texts.specs.declared.program.Class.{Class}
+use Rattle.texts.specs.declared.program.Program.{Program}
+use Rattle.meta_model.specs.declared.fault.MetaFault.{MetaFault}
+use Rattle.meta_model.specs.declared.fault.MetaFault.TheVariants as fault
+use Rattle.meta_model.specs.declared.object.MetaRoot.{MetaRoot}
+use Rattle.meta_model.specs.declared.object.MetaPath.{MetaPath}
+use Rattle.meta_model.specs.declared.object.Step.{Step}
+use Rattle.meta_model.specs.declared.object.Statement.{Statement}
+use Rattle.meta_model.specs.declared.outline.Heading.{Heading}
+use Rattle.meta_model.specs.declared.outline.Outline.{Outline}
+use Rattle.meta_model.specs.Ends.{IsEnd}
+use Rattle.meta_model.specs.PartAnswers.{Loads}
+use Rattle.meta_objects.specs.declared.body_resolution.path.Led.{Led}
+use Rattle.meta_objects.specs.declared.resolve_uses.Uses.{Uses}
+use Rattle.meta_objects.specs.Bodies.{Scope, PointsTo, PointsToThis, HasMember, AreSteps, IsPath, AllBodies, LacksInClass}
+use Rattle.meta_objects.specs.Loading.{LacksMember, HasUses}
+
+-- a resolved form of the part, or `NoMember`, where it has none
+abbrev pub Resolves : {Y : Type 0} → (Y → Type 0) → Result Y MetaFault → Type 0
+Resolves {Y} IsForm result = Loads fault.NoMember ((y : Y) → ¬ IsForm y) IsForm result
+
+-- .. of each of these parts
+abbrev pub ResolvesEach : {X Y : Type 0} → (X → Y → Type 0) → List X → Result (List Y) MetaFault → Type 0
+ResolvesEach {X} {Y} IsForm xs result =
+    Loads fault.NoMember (Any (λ (x : X). (y : Y) → ¬ IsForm x y) xs) (AllZip IsForm xs) result
+
+-- ---- paths
+-- the class that the type points to, with its number
+abbrev pub FindsClass : List Outline → QType → Option (ℕ × Bor Outline) → Type 0
+FindsClass outlines T answer =
+    MatchOption answer ((c : ℕ) → ¬ PointsTo outlines T c) (λ found. PointsToThis outlines T found.0 found.1.now)
+
+-- that class's property of this name, with its number
+abbrev pub FindsMember : List Outline → QType → List ℕ → Option (ℕ × Bor Property) → Type 0
+FindsMember outlines T name answer =
+    MatchOption answer ((q : ℕ) (property : Property) → ¬ HasMember outlines T name q property)
+    (λ found. HasMember outlines T name found.0 found.1.now)
+
+-- the path, with the type of what it is declared to lead to
+abbrev pub ResolvesPath : Scope → Path → Result Led MetaFault → Type 0
+ResolvesPath s path result =
+    Loads fault.NoMember ((found : MetaPath) (T : QType) → ¬ IsPath s path found T)
+    (λ (led : Led). IsPath s path led.path led.kind) result
+
+-- the path of these properties from a root of this type, with the type of what it leads to
+abbrev pub ResolvesFrom : List Outline → MetaRoot → QType → List (List ℕ) → Result Led MetaFault → Type 0
+ResolvesFrom outlines root start names result =
+    Loads fault.NoMember ((steps : List Step) (T : QType) → ¬ AreSteps outlines start names steps T)
+    (λ (led : Led). (led.path.root ≡ root) × AreSteps outlines start names led.path.steps led.kind) result
+
+-- ---- wires
+-- the numbers of the class of this name and of its first method with P
+abbrev pub FindsEnd : (Heading → Type 0) → List Outline → List ℕ → Option (ℕ × ℕ) → Type 0
+FindsEnd P outlines name answer =
+    MatchOption answer ((c m : ℕ) → ¬ IsEnd P outlines name c m) (λ found. IsEnd P outlines name found.0 found.1)
+
+-- ---- the program
+-- the bodies of all slots of these classes
+abbrev pub ResolvesBodies : List Outline → List Class → Result (List (List (List Statement))) MetaFault → Type 0
+ResolvesBodies outlines classes result =
+    Loads fault.NoMember (Any (LacksInClass outlines) classes) (AllBodies outlines classes) result
+
+-- the bodies, the wires and the owns
+abbrev pub ResolvesUses : Program → List Outline → Result Uses MetaFault → Type 0
+ResolvesUses program outlines result =
+    Loads fault.NoMember (LacksMember program outlines)
+    (λ (uses : Uses). HasUses program outlines uses.bodies uses.wires uses.owns) result
