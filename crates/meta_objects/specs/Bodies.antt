@@ -41,9 +41,6 @@ pub record Scope : Type 0 where
   pub me : List ℕ
   pub parameters : List Parameter
 
-abbrev pub scope : List Outline → List ℕ → List Parameter → Scope
-scope outlines me parameters = record { outlines = outlines; me = me; parameters = parameters }
-
 -- ---- paths
 -- `this` has the declaring class as a pointer, a parameter its declared type
 pub data IsRoot (s : Scope) : Root → MetaRoot → QType → Type 0 where
@@ -158,7 +155,8 @@ LacksInBody s xs = (ys : List Statement) → ¬ AreStatements s xs ys
 
 -- ---- the bodies of slots
 abbrev pub scope_of : List Outline → Class → Slot → Scope
-scope_of outlines class slot = scope outlines class.name slot.parameters
+scope_of outlines class slot =
+    record { outlines = outlines; me = class.name; parameters = slot.parameters }
 
 abbrev pub IsBody : List Outline → Class → Slot → List Statement → Type 0
 IsBody outlines class slot body = AreStatements (scope_of outlines class slot) slot.body body

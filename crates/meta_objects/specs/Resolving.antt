@@ -19,9 +19,14 @@ use Rattle.meta_model.specs.declared.outline.Outline.{Outline}
 use Rattle.meta_model.specs.Ends.{IsEnd}
 use Rattle.meta_model.specs.PartAnswers.{Loads}
 use Rattle.meta_objects.specs.declared.body_resolution.path.Led.{Led}
+use Rattle.meta_objects.specs.declared.body_resolution.scope.Scope.{Scope as ScopeGiven}
 use Rattle.meta_objects.specs.declared.resolve_uses.Uses.{Uses}
 use Rattle.meta_objects.specs.Bodies.{Scope, PointsTo, PointsToThis, HasMember, AreSteps, IsPath, AllBodies, LacksInClass}
 use Rattle.meta_objects.specs.Loading.{LacksMember, HasUses}
+
+-- what the names in a body mean there
+abbrev pub scope : ScopeGiven → Scope
+scope given = record { outlines = given.outlines.now; me = given.me.now; parameters = given.parameters.now }
 
 -- a resolved form of the part, or `NoMember`, where it has none
 abbrev pub Resolves : {Y : Type 0} → (Y → Type 0) → Result Y MetaFault → Type 0

@@ -18,4 +18,5 @@ TellsType p v class T answer =
 -- .. where it is null or refers to this object
 abbrev pub TellsReference : Loaded → Option ℕ → Option ℕ → ValueType → Bool → Type 0
 TellsReference p object class T answer =
-    (classes : ℕ → Option ℕ) → ((o : ℕ) → object ≡ Some o → classes o ≡ class) → (IsTrue answer ↔ Has p classes (Ref object) T)
+    (classes : ℕ → Option ℕ) → ((o : ℕ) → object ≡ Some o → classes o ≡ class)
+    → (IsTrue answer ↔ Has p classes (Ref object) T)

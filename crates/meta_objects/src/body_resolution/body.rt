@@ -4,7 +4,7 @@ ghost use Rattle.std.specs.Prelude.{◌≡◌};
 ghost use Rattle.meta_objects.specs.Bodies.{IsBody};
 ghost use Rattle.meta_objects.specs.Resolving.{Resolves, ResolvesEach, ResolvesBodies};
 
-use crate::body_resolution::block::resolve_block;
+use crate::body_resolution::scope::Scope;
 use meta_model::{IndexedOutline, MetaFault, SlotBody};
 use sqlite_items::Items;
 use std::alloc::Global;
@@ -51,14 +51,13 @@ fn resolve_slot_body(
 ) -> Result<SlotBody, MetaFault>
     ensures { Resolves (IsBody outlines.now class.now slot.now) result }
 {
-    let parameters = slot.parameters.as_slice();
-    let statements = resolve_block(
+    let scope = Scope {
         alloc,
         outlines,
-        &class.name,
-        parameters,
-        slot.body.as_slice(),
-    )?;
+        me: &class.name,
+        parameters: slot.parameters.as_slice(),
+    };
+    let statements = scope.resolve_block(slot.body.as_slice())?;
     let body = SlotBody::new(alloc, statements)?;
     Ok(body)
 }

@@ -4,5 +4,6 @@ mod block;
 mod body;
 mod expr;
 mod path;
+mod scope;
 
 pub use body::resolve_bodies;

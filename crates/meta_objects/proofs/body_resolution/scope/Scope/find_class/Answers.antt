@@ -1,5 +1,5 @@
 use Rattle.meta_objects.proofs.BodyPieces.{points_none, points_this}
-use Rattle.meta_objects.proofs.body_resolution.path.find_class.Goals as goal
+use Rattle.meta_objects.proofs.body_resolution.scope.Scope.find_class.Goals as goal
 
 pub returns-in_default : goal.returns-in_default
 returns-in_default c = points_none _ _ c.in_default.ensures

@@ -3,10 +3,11 @@ use Rattle.std.proofs.lemmas.Option.{slice_get_read}
 use Rattle.texts.specs.declared.syntax.Expr.{Expr}
 use Rattle.meta_model.specs.declared.object.MetaPath.{MetaPath}
 use Rattle.meta_model.specs.declared.fault.MetaFault.TheVariants as fault
-use Rattle.meta_objects.specs.Bodies.{scope, IsExpr, AreExprs}
+use Rattle.meta_objects.specs.Bodies.{IsExpr, AreExprs}
+use Rattle.meta_objects.specs.Resolving.{scope}
 use Rattle.meta_model.proofs.OutlineSteps.{failed}
 use Rattle.meta_objects.proofs.BodyPieces.{exprs_left, exprs_only, exprs_stuck, exprs_end}
-use Rattle.meta_objects.proofs.body_resolution.expr.resolve_exprs.Goals as goal
+use Rattle.meta_objects.proofs.body_resolution.scope.Scope.resolve_exprs.Goals as goal
 
 pub loop-expression-preserved : goal.loop-expression-preserved
 loop-expression-preserved c =
@@ -18,7 +19,7 @@ loop-expression-preserved c =
 
 pub returns-in_err-expression : goal.returns-in_err-expression
 returns-in_err-expression c =
-    let s = scope c.args.outlines.now c.args.me.now c.args.parameters.now in
+    let s = scope c.args.self.now in
     let at = slice_get_read _ _ _ _ refl c.loop-expression-test.true c.expression-item.is in
     failed fault.NoMember ((f : Expr MetaPath) → ¬ IsExpr s c.expression-item.result f) ((fs : List (Expr MetaPath)) → ¬ AreExprs s c.args.expressions.now fs)
     (λ f. IsExpr s c.expression-item.result f) (λ fs. AreExprs s c.args.expressions.now fs) _ c.in_err-expression.ensures

@@ -1,5 +1,5 @@
 use Rattle.meta_objects.proofs.BodyPieces.{no_class_member, no_member, a_member}
-use Rattle.meta_objects.proofs.body_resolution.path.find_member.Goals as goal
+use Rattle.meta_objects.proofs.body_resolution.scope.Scope.find_member.Goals as goal
 
 pub returns-in_default : goal.returns-in_default
 returns-in_default c = no_class_member _ _ _ c.in_default.ensures

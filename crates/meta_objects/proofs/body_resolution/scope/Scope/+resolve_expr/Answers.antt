@@ -3,14 +3,15 @@ use Rattle.texts.specs.declared.syntax.Expr.{Expr}
 use Rattle.meta_model.specs.declared.object.MetaPath.{MetaPath}
 use Rattle.meta_objects.specs.declared.body_resolution.path.Led.{Led}
 use Rattle.meta_model.specs.declared.fault.MetaFault.TheVariants as fault
-use Rattle.meta_objects.specs.Bodies.{scope, IsPath, IsExpr}
+use Rattle.meta_objects.specs.Bodies.{IsPath, IsExpr}
+use Rattle.meta_objects.specs.Resolving.{scope}
 use Rattle.meta_model.proofs.OutlineSteps.{failed}
 use Rattle.meta_objects.proofs.BodyPieces.{literal_piece, path_piece, unary_piece, binary_piece, no_path}
-use Rattle.meta_objects.proofs.body_resolution.expr.+resolve_expr.Goals as goal
+use Rattle.meta_objects.proofs.body_resolution.scope.Scope.+resolve_expr.Goals as goal
 
 pub returns-in_err-path-in-Path : goal.returns-in_err-path-in-Path
 returns-in_err-path-in-Path t c =
-    let s = scope c.args.outlines.now c.args.me.now c.args.parameters.now in
+    let s = scope c.args.self.now in
     failed fault.NoMember ((found : MetaPath) (T : QType) → ¬ IsPath s c.in-Path.path found T) ((loaded : Expr MetaPath) → ¬ IsExpr s c.args.expression.now loaded)
     (λ (led : Led). IsPath s c.in-Path.path led.path led.kind) (λ loaded. IsExpr s c.args.expression.now loaded) _ c.in_err-path-in-Path.ensures
     (λ lacks. rw c.in-Path.is (no_path s _ lacks)) _ c.from_residual-in_err-path-in-Path.ensures.0 c.from_residual-in_err-path-in-Path.ensures.1

@@ -1,7 +1,7 @@
 use Rattle.std.proofs.Common.{inr, refl}
 use Rattle.std.proofs.lemmas.Option.{slice_get_read}
 use Rattle.meta_objects.proofs.BodyPieces.{step_left, step_only, step_stuck, steps_end}
-use Rattle.meta_objects.proofs.body_resolution.path.resolve_from.Goals as goal
+use Rattle.meta_objects.proofs.body_resolution.scope.Scope.resolve_from.Goals as goal
 
 pub loop-name-preserved : goal.loop-name-preserved
 loop-name-preserved c =

@@ -2,10 +2,11 @@ use Rattle.std.proofs.Common.{refl}
 use Rattle.std.proofs.lemmas.Option.{slice_get_read}
 use Rattle.meta_model.specs.declared.object.Statement.{Statement}
 use Rattle.meta_model.specs.declared.fault.MetaFault.TheVariants as fault
-use Rattle.meta_objects.specs.Bodies.{scope, IsStatement, AreStatements, LacksInBody}
+use Rattle.meta_objects.specs.Bodies.{IsStatement, AreStatements, LacksInBody}
+use Rattle.meta_objects.specs.Resolving.{scope}
 use Rattle.meta_model.proofs.OutlineSteps.{failed}
 use Rattle.meta_objects.proofs.BodyPieces.{block_left, block_only, block_stuck, block_end, if_piece, no_other}
-use Rattle.meta_objects.proofs.body_resolution.block.+blocks.Goals as goal
+use Rattle.meta_objects.proofs.body_resolution.scope.Scope.+blocks.Goals as goal
 
 pub resolve_block-loop-statement-preserved : goal.resolve_block-loop-statement-preserved
 resolve_block-loop-statement-preserved t c =
@@ -17,7 +18,7 @@ resolve_block-loop-statement-preserved t c =
 
 pub resolve_block-returns-in_err-statement : goal.resolve_block-returns-in_err-statement
 resolve_block-returns-in_err-statement t c =
-    let s = scope c.args.outlines.now c.args.me.now c.args.parameters.now in
+    let s = scope c.args.self.now in
     let at = slice_get_read _ _ _ _ refl c.loop-statement-test.true c.statement-item.is in
     failed fault.NoMember ((y : Statement) → ¬ IsStatement s c.statement-item.result y) (LacksInBody s c.args.body.now)
     (λ y. IsStatement s c.statement-item.result y) (λ ys. AreStatements s c.args.body.now ys) _ c.in_err-statement.ensures
@@ -28,7 +29,7 @@ resolve_block-returns t c = block_end _ _ _ _ c.loop-statement-test.false c.loop
 
 pub resolve_statement-returns-in_err-other-in-If : goal.resolve_statement-returns-in_err-other-in-If
 resolve_statement-returns-in_err-other-in-If t c =
-    let s = scope c.args.outlines.now c.args.me.now c.args.parameters.now in
+    let s = scope c.args.self.now in
     failed fault.NoMember (LacksInBody s c.as_slice-in-If-2.result.now) ((y : Statement) → ¬ IsStatement s c.args.statement.now y)
     (λ ys. AreStatements s c.as_slice-in-If-2.result.now ys) (λ y. IsStatement s c.args.statement.now y) _ c.in_err-other-in-If.ensures
     (λ lacks. rw c.in-If.is (no_other s _ _ _ (rw c.as_slice-in-If-2.ensures at lacks))) _ c.from_residual-in_err-other-in-If.ensures.0 c.from_residual-in_err-other-in-If.ensures.1

@@ -1,0 +1,19 @@
+//! Where slot bodies stand.
+
+use meta_model::IndexedOutline;
+use signatures::Name;
+use std::alloc::Global;
+use texts::Parameter;
+
+/// Where a slot's body stands, which says what the names in it mean.
+#[derive(Clone, Copy)]
+pub struct Scope<'a> {
+    /// What resolved parts are built with.
+    pub alloc: Global,
+    /// The program's classes.
+    pub outlines: &'a [IndexedOutline],
+    /// The name of the slot's class.
+    pub me: &'a Name,
+    /// The slot's parameters.
+    pub parameters: &'a [Parameter],
+}
