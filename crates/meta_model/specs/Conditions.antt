@@ -82,7 +82,7 @@ abbrev pub LacksNotifier : Outline → Property → Option Sig → Type 0
 LacksNotifier outline property None = ⊥
 LacksNotifier outline property (Some sig) = (m : ℕ) → ¬ IsNotifiedBy outline property sig m
 
--- one of the class's properties has a notify signature that isn't
+-- a property of the class has a notify signature by which no signal of the class notifies it
 abbrev pub NotifiesBadly : Outline → Type 0
 NotifiesBadly outline = Any (λ (property : Property). LacksNotifier outline property property.notify) outline.properties
 
