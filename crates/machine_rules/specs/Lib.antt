@@ -1,5 +1,6 @@
 pub mod Paths
 pub mod Doings
+pub mod Scope
 pub mod There
 pub mod Rules
 pub mod Good
@@ -10,4 +11,5 @@ pub mod Remaining
 pub mod Active
 pub mod Coded
 pub mod Reaches
+pub mod Calls
 pub mod Laws

@@ -20,7 +20,7 @@ use Rattle.machine_state.specs.declared.fault.Fault.TheVariants.{TooDeep, Memory
 use Rattle.machine_state.specs.declared.world.World.{World}
 use Rattle.machine_state.specs.Connections.{is_silent}
 use Rattle.machine_state.specs.State.{State, Activation, Body, Emit, IsIdle}
-use Rattle.machine_state.specs.Objects.{all_shown}
+use Rattle.machine_state.specs.Objects.{shown, all_shown}
 use Rattle.machine_rules.specs.Rules.{Rule, Begins, Writes}
 use Rattle.machine_rules.specs.There.{IsMember, IsField}
 use Rattle.machine_rules.specs.Active.{shows}
@@ -44,21 +44,28 @@ Judges found (Err NoMemory) = Unit {0}
 -- ---- what calls of the machine's functions do
 
 -- over any stack that shows this, the machine goes from one world and top of the stack to another
-pub record Reaches (p : Loaded) (depth : ℕ) (shown : List (Option ℕ)) (w : World) (from : List Activation) (v : World) (to : List Activation) : Type 0 where
-  pub runs : (below : List Activation) → shows below ≡ shown → Rules p depth (at w (from ++ below)) w.left (at v (to ++ below)) v.left
+pub record Reaches (p : Loaded) (depth : ℕ) (shown : List (Option ℕ))
+    (w : World) (from : List Activation) (v : World) (to : List Activation) : Type 0 where
+  pub runs :
+      (below : List Activation) → shows below ≡ shown →
+      Rules p depth (at w (from ++ below)) w.left (at v (to ++ below)) v.left
 
 -- over any stack that shows this, the machine comes to a state where it stops
-pub record StopsIn (p : Loaded) (depth : ℕ) (shown : List (Option ℕ)) (w : World) (from : List Activation) (v : World) (fault : Fault) : Type 0 where
+pub record StopsIn (p : Loaded) (depth : ℕ) (shown : List (Option ℕ))
+    (w : World) (from : List Activation) (v : World) (fault : Fault) : Type 0 where
   pub stops :
       (below : List Activation) → shows below ≡ shown →
-      (stack : List Activation) × Rules p depth (at w (from ++ below)) w.left (at v stack) v.left × Reason p depth (at v stack) v.left fault
+      (stack : List Activation) × Rules p depth (at w (from ++ below)) w.left (at v stack) v.left ×
+      Reason p depth (at v stack) v.left fault
 
 -- a call went from one top of the stack to another, or stopped on the way
-pub record Ends (p : Loaded) (depth : ℕ) (shown : List (Option ℕ)) (w : World) (from : List Activation) (v : World) (to : List Activation) (result : Result (Unit {0}) Fault) : Type 0 where
+pub record Ends (p : Loaded) (depth : ℕ) (shown : List (Option ℕ))
+    (w : World) (from : List Activation) (v : World) (to : List Activation) (result : Result (Unit {0}) Fault) : Type 0 where
   pub cases : MatchResult result (λ _. Reaches p depth shown w from v to) (StopsIn p depth shown w from v)
 
 -- a call carried out one rule or more, or stopped on the way
-pub record Advances (p : Loaded) (depth : ℕ) (shown : List (Option ℕ)) (w : World) (from : List Activation) (v : World) (to : List Activation) (result : Result (Unit {0}) Fault) : Type 0 where
+pub record Advances (p : Loaded) (depth : ℕ) (shown : List (Option ℕ))
+    (w : World) (from : List Activation) (v : World) (to : List Activation) (result : Result (Unit {0}) Fault) : Type 0 where
   pub cases : MatchResult result (λ _. Reaches p depth shown w from v to × (v.left < w.left)) (StopsIn p depth shown w from v)
 
 -- whether an activation may be pushed over a stack that shows this
@@ -72,22 +79,38 @@ MayNest depth shown (Err fault) = (depth ≤ length shown) × (fault ≡ TooDeep
 pub record Calls (p : Loaded) (w : World) (from to : List Activation) (o m : ℕ) (arguments : List Value) : Type 0 where
   pub no_lower : length from ≤ length to
   pub goes_on : (below : List Activation) → ¬ IsIdle (at w (from ++ below))
-  pub gives : (below : List Activation) (t : State) → Begins p (at w (from ++ below)) (to ++ below) o m arguments t → Rule p (at w (from ++ below)) t
+  pub gives :
+      (below : List Activation) (t : State) →
+      Begins p (at w (from ++ below)) (to ++ below) o m arguments t → Rule p (at w (from ++ below)) t
 
 -- .. and nothing else may
 pub record OnlyCalls (p : Loaded) (w : World) (from to : List Activation) (o m : ℕ) (arguments : List Value) : Type 0 where
-  pub begins : (below : List Activation) (t : State) → Rule p (at w (from ++ below)) t → Begins p (at w (from ++ below)) (to ++ below) o m arguments t
+  pub begins :
+      (below : List Activation) (t : State) →
+      Rule p (at w (from ++ below)) t → Begins p (at w (from ++ below)) (to ++ below) o m arguments t
 
 -- the next rule is that a property of an object is written
 pub record Sets (p : Loaded) (w : World) (from to : List Activation) (o q : ℕ) (new : Value) : Type 0 where
   pub goes_on : (below : List Activation) → ¬ IsIdle (at w (from ++ below))
-  pub gives : (below : List Activation) (t : State) → Writes p (at w (from ++ below)) (to ++ below) o q new t → Rule p (at w (from ++ below)) t
-  pub only : (below : List Activation) (t : State) → Rule p (at w (from ++ below)) t → Writes p (at w (from ++ below)) (to ++ below) o q new t
+  pub gives :
+      (below : List Activation) (t : State) →
+      Writes p (at w (from ++ below)) (to ++ below) o q new t → Rule p (at w (from ++ below)) t
+  pub only :
+      (below : List Activation) (t : State) →
+      Rule p (at w (from ++ below)) t → Writes p (at w (from ++ below)) (to ++ below) o q new t
 
 -- the entry of a method that begins
 abbrev pub begin_entry : ℕ → Object → ℕ → List ℕ → List Shown → Work → Entry
 begin_entry depth x m method given Signal = At depth (happening.Emitted x.name method given (is_silent x m))
 begin_entry depth x m method given (Slot statements) = At depth (happening.Called x.name method given)
+
+-- the entry of a method of an object that begins with these arguments, where so many activations are on the stack
+abbrev pub entry_of_call : World → ℕ → Object → ℕ → MetaMethod → List Value → Entry
+entry_of_call w depth x m method arguments = begin_entry depth x m method.sig.name (all_shown w.objects arguments) method.work
+
+-- .. of a property of an object that is written
+abbrev pub entry_of_write : World → ℕ → Object → MetaProperty → Value → Entry
+entry_of_write w depth x property new = At depth (happening.Written x.name property.name (shown w.objects new))
 
 -- what is pushed where a method begins
 abbrev pub top_of : ℕ → ℕ → List Value → ℕ → Work → Activation
@@ -96,12 +119,13 @@ top_of o m arguments last (Slot statements) = Body o m arguments statements
 
 -- what is found of a method that may begin over a stack that shows this: the line to be written, what is to run, and
 -- the last connection that was made before
-pub record IsBegun (p : Loaded) (depth : ℕ) (shown : List (Option ℕ)) (w : World) (o m : ℕ) (arguments : List Value) (line : Entry) (work : Work) (last : ℕ) : Type 0 where
-  pub room : length shown < depth
+pub record IsBegun (p : Loaded) (depth : ℕ) (active : List (Option ℕ)) (w : World) (o m : ℕ) (arguments : List Value)
+    (line : Entry) (work : Work) (last : ℕ) : Type 0 where
+  pub room : length active < depth
   pub object : Object
   pub method : MetaMethod
   pub is : IsMember p w.objects o m object method
-  pub is_line : line ≡ begin_entry (length shown + 1) object m method.sig.name (all_shown w.objects arguments) method.work
+  pub is_line : line ≡ entry_of_call w (length active + 1) object m method arguments
   pub is_work : work ≡ method.work
   pub is_last : last ≡ w.connected
 

@@ -29,9 +29,11 @@ pushed s top below notes = record s { stack = top ∷ below; trace = s.trace ++ 
 -- a method of an object begins: a signal is emitted, and its entry tells whether it calls nothing; a slot's body is called
 abbrev pub begun : State → List Activation → ℕ → Object → ℕ → MetaMethod → List Value → Work → State
 begun s below o x m method arguments Signal =
-    pushed s (Emit o m arguments 0 s.connected) below (λ d. At d (happening.Emitted x.name method.sig.name (all_shown s.objects arguments) (is_silent x m)) ∷ [])
+    pushed s (Emit o m arguments 0 s.connected) below
+    (λ d. At d (happening.Emitted x.name method.sig.name (all_shown s.objects arguments) (is_silent x m)) ∷ [])
 begun s below o x m method arguments (Slot statements) =
-    pushed s (Body o m arguments statements) below (λ d. At d (happening.Called x.name method.sig.name (all_shown s.objects arguments)) ∷ [])
+    pushed s (Body o m arguments statements) below
+    (λ d. At d (happening.Called x.name method.sig.name (all_shown s.objects arguments)) ∷ [])
 
 -- method m of object o begins with these arguments
 pub record Begins (p : Loaded) (s : State) (below : List Activation) (o m : ℕ) (arguments : List Value) (t : State) : Type 0 where
@@ -97,7 +99,8 @@ Does p s o m arguments rest below (Choose block) t = t ≡ record s { stack = Bo
 Does p s o m arguments rest below Nothing t = t ≡ on_null s (Body o m arguments rest ∷ below)
 
 -- a statement is carried out, and `rest` follows it
-pub record StatementRule (p : Loaded) (s : State) (o m : ℕ) (arguments : List Value) (statement : Statement) (rest : List Statement) (below : List Activation) (t : State) : Type 0 where
+pub record StatementRule (p : Loaded) (s : State) (o m : ℕ) (arguments : List Value)
+    (statement : Statement) (rest : List Statement) (below : List Activation) (t : State) : Type 0 where
   pub what : Doing
   pub is : doing s.objects o arguments (out-Statement statement) ≡ Some what
   pub does : Does p s o m arguments rest below what t
@@ -126,7 +129,8 @@ EmitRule p s o g arguments last below t (Some c) = Uses p s (Emit o g arguments 
 abbrev pub RuleAt : Loaded → State → State → List Activation → Type 0
 RuleAt p s t [] = ⊥
 RuleAt p s t (Body o m arguments left ∷ below) = BodyRule p s o m arguments below t left
-RuleAt p s t (Emit o g arguments used last ∷ below) = EmitRule p s o g arguments last below t (next_used s.objects s.connections o g used last)
+RuleAt p s t (Emit o g arguments used last ∷ below) =
+    EmitRule p s o g arguments last below t (next_used s.objects s.connections o g used last)
 RuleAt p s t (Update places ∷ below) = UpdateRule p s below t places
 
 -- t follows s by the rule of the activation on top

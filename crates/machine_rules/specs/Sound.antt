@@ -1,14 +1,20 @@
 -- What every machine keeps: properties have values of their types, no connection names something that isn't there, and
 -- what a connection calls takes the first arguments of its signal (docs/machine.md, "What every run keeps").
-use Rattle.std.specs.Prelude.{◌≡◌, List, ◌++◌}
+use Rattle.std.specs.Prelude.{◌≡◌, ℕ, List, ◌++◌}
 use Rattle.std.specs.List.{AllByRecursion}
 use Rattle.meta_model.specs.declared.object.MetaMethod.{MetaMethod}
+use Rattle.meta_model.specs.declared.object.MetaObject.{MetaObject}
+use Rattle.meta_model.specs.declared.object.MetaProperty.{MetaProperty}
 use Rattle.meta_model.specs.declared.object.ValueType.{ValueType}
 use Rattle.meta_model.specs.Loaded.{Loaded}
+use Rattle.meta_model.specs.Members.{IsClass}
+use Rattle.meta_model.specs.Sound.{IsSoundProperty}
 use Rattle.machine_state.specs.declared.connections.Connection.{Connection}
+use Rattle.machine_state.specs.declared.world.World.{World}
 use Rattle.object_tree.specs.declared.object.Object.{Object}
+use Rattle.signatures.specs.declared.value.Value.{Value}
 use Rattle.machine_rules.specs.There.{IsMember}
-use Rattle.machine_rules.specs.Good.{AreTyped}
+use Rattle.machine_rules.specs.Good.{AreTyped, ArgumentsFit}
 
 -- a connection joins a signal and a method of two objects that are there, and the method fits the signal
 pub record Joined (p : Loaded) (objects : List Object) (c : Connection) : Type 0 where
@@ -24,3 +30,15 @@ pub record Joined (p : Loaded) (objects : List Object) (c : Connection) : Type 0
 pub record Sound (p : Loaded) (objects : List Object) (connections : List Connection) : Type 0 where
   pub typed : AreTyped p objects
   pub joined : AllByRecursion (Joined p objects) connections
+
+-- .. in a world
+abbrev pub IsSoundWorld : Loaded → World → Type 0
+IsSoundWorld p w = Sound p w.objects w.connections
+
+-- the arguments are those that a connection's signal declares
+abbrev pub SignalFits : Loaded → List Object → Connection → List Value → Type 0
+SignalFits p objects c arguments = ArgumentsFit p objects c.sender c.signal arguments
+
+-- a property is as the class of its object has it in a sound program
+abbrev pub IsSoundIn : Loaded → ℕ → MetaProperty → Type 0
+IsSoundIn p number property = (class : MetaObject) → IsClass p number class → IsSoundProperty p class property

@@ -1,14 +1,10 @@
 //! Bodies of slots.
 
-ghost use Rattle.std.specs.Prelude.{◌≡◌, ℕ, ◌<◌, ◌∷◌, [], length, List, Some};
-ghost use Rattle.signatures.specs.declared.value.Value.{Value as AValue};
-ghost use Rattle.meta_model.specs.declared.object.Statement.{Statement as AStatement};
-ghost use Rattle.meta_model.specs.declared.object.Statement.TheViews.{out-Statement};
-ghost use Rattle.machine_rules.specs.Sound.{Sound};
+ghost use Rattle.std.specs.Prelude.{◌≡◌, ◌<◌, length};
+ghost use Rattle.machine_rules.specs.Sound.{IsSoundWorld};
 ghost use Rattle.machine_state.specs.State.{Body};
 ghost use Rattle.machine_rules.specs.Coded.{meant};
-ghost use Rattle.machine_rules.specs.Doings.{doing};
-ghost use Rattle.machine_rules.specs.Reaches.{Ends, Advances};
+ghost use Rattle.machine_rules.specs.Calls.{Finishes, CarriesOut};
 
 use crate::active::Active;
 use crate::doing::Doing;
@@ -32,8 +28,9 @@ impl Setting {
         statements: &[Statement],
     ) -> Result<(), Fault>
         requires room { length active.now < self.now.depth }
-        requires sound { Sound self.now.meta world.old.objects world.old.connections }
-        ensures ends { Ends self.now.meta self.now.depth active.now world.old (Body object method arguments.now statements.now ∷ []) world.new [] result }
+        requires sound { IsSoundWorld self.now.meta world.old }
+        ensures ends { Finishes self.now active.now
+            (Body object method arguments.now statements.now) world.old world.new result }
     {
         let mut left = Remaining::all(self.alloc, statements);
         while let Some(statement) = left.next() {
@@ -55,9 +52,10 @@ impl Setting {
         left: &mut Remaining<'p>,
     ) -> Result<(), Fault>
         requires room { length active.now < self.now.depth }
-        requires sound { Sound self.now.meta world.old.objects world.old.connections }
+        requires sound { IsSoundWorld self.now.meta world.old }
         requires due { 0 < world.old.left }
-        ensures advances { (m : ℕ) (arguments : List AValue) (x : AStatement) → doing world.old.objects object arguments (out-Statement x) ≡ Some (meant done.entry) → Advances self.now.meta self.now.depth active.now world.old (Body object m arguments (x ∷ left.old) ∷ []) world.new (Body object m arguments left.new ∷ []) result }
+        ensures advances { CarriesOut self.now active.now
+            object (meant done.entry) left.old left.new world.old world.new result }
     {
         let over = (&*active).over(Some(object));
         match done {

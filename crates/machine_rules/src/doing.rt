@@ -3,7 +3,7 @@
 ghost use Rattle.std.specs.Prelude.{◌≡◌};
 ghost use Rattle.meta_model.specs.declared.object.Statement.TheOpen.{Set, Emit, Call, If};
 ghost use Rattle.meta_model.specs.declared.object.Statement.TheViews.{out-Statement};
-ghost use Rattle.machine_rules.specs.Doings.{doing};
+ghost use Rattle.machine_rules.specs.Scope.{doing_in};
 ghost use Rattle.machine_rules.specs.Coded.{Yields, chosen_of};
 
 use crate::paths::Scope;
@@ -28,7 +28,7 @@ pub enum Doing<'p> {
 impl<'w> Scope<'w> {
     /// What a statement does; `BadType` where it lacks a value that it needs.
     pub fn doing_of<'p>(&self, statement: &'p Statement) -> Result<Doing<'p>, EvalFault>
-        ensures { Yields (doing self.now.objects.now self.now.this self.now.arguments.now (out-Statement statement.now)) result }
+        ensures { Yields (doing_in self.now (out-Statement statement.now)) result }
     {
         match statement {
             Statement::Set(path, property, value) => self.assignment(path, *property, value),
@@ -47,7 +47,7 @@ impl<'w> Scope<'w> {
         property: usize,
         value: &Expr<MetaPath>,
     ) -> Result<Doing<'p>, EvalFault>
-        ensures { Yields (doing self.now.objects.now self.now.this self.now.arguments.now (Set path.now property value.now)) result }
+        ensures { Yields (doing_in self.now (Set path.now property value.now)) result }
     {
         let Some(target) = self.object_at(path)? else {
             return Ok(Doing::Nothing);
@@ -58,7 +58,7 @@ impl<'w> Scope<'w> {
 
     /// A signal of the body's object is emitted.
     fn emission<'p>(&self, signal: usize, given: &[Expr<MetaPath>]) -> Result<Doing<'p>, EvalFault>
-        ensures { Yields (doing self.now.objects.now self.now.this self.now.arguments.now (Emit signal given.now)) result }
+        ensures { Yields (doing_in self.now (Emit signal given.now)) result }
     {
         let values = self.values_of(given)?;
         Ok(Doing::Begin(self.this, signal, values))
@@ -71,7 +71,7 @@ impl<'w> Scope<'w> {
         method: usize,
         given: &[Expr<MetaPath>],
     ) -> Result<Doing<'p>, EvalFault>
-        ensures { Yields (doing self.now.objects.now self.now.this self.now.arguments.now (Call path.now method given.now)) result }
+        ensures { Yields (doing_in self.now (Call path.now method given.now)) result }
     {
         let Some(target) = self.object_at(path)? else {
             return Ok(Doing::Nothing);
@@ -87,7 +87,7 @@ impl<'w> Scope<'w> {
         block: &'p [Statement],
         other: &'p [Statement],
     ) -> Result<Doing<'p>, EvalFault>
-        ensures { Yields (doing self.now.objects.now self.now.this self.now.arguments.now (If condition.now block.now other.now)) result }
+        ensures { Yields (doing_in self.now (If condition.now block.now other.now)) result }
     {
         let holds = self.truth_of(condition)?;
         Ok(Doing::Choose(choose(holds, block, other)))

@@ -1,12 +1,11 @@
 //! Emissions, and the beginning of methods.
 
-ghost use Rattle.std.specs.Prelude.{◌≡◌, ℕ, ◌<◌, ◌∷◌, [], ◌++◌, length, List, Option, Some};
-ghost use Rattle.machine_state.specs.Connections.{next_used};
+ghost use Rattle.std.specs.Prelude.{◌<◌, length};
 ghost use Rattle.machine_rules.specs.Good.{ArgumentsFit};
-ghost use Rattle.machine_rules.specs.Sound.{Sound, Joined};
-ghost use Rattle.machine_state.specs.State.{Activation, Emit};
-ghost use Rattle.machine_rules.specs.Active.{shows};
-ghost use Rattle.machine_rules.specs.Reaches.{Ends, Calls, OnlyCalls, top_of};
+ghost use Rattle.machine_rules.specs.Sound.{IsSoundWorld, Joined, SignalFits};
+ghost use Rattle.machine_state.specs.State.{Emit};
+ghost use Rattle.machine_rules.specs.Calls.{Finishes, Delivers, EndsCall, EndsOnlyCall};
+ghost use Rattle.machine_rules.specs.Reaches.{top_of};
 ghost use Rattle.machine_rules.specs.Keeps.{KeepsWorld};
 
 use crate::active::Active;
@@ -28,11 +27,13 @@ impl Setting {
         last: u64,
     ) -> Result<(), Fault>
         requires room { length active.now < self.now.depth }
-        requires sound { Sound self.now.meta world.old.objects world.old.connections }
-        requires emitted { ArgumentsFit self.now.meta world.old.objects object signal arguments.now }
-        ensures ends { Ends self.now.meta self.now.depth active.now world.old (Emit object signal arguments.now 0 last ∷ []) world.new [] result }
+        requires sound { IsSoundWorld self.now.meta world.old }
+        requires emitted { ArgumentsFit self.now.meta world.old.objects
+            object signal arguments.now }
+        ensures ends { Finishes self.now active.now
+            (Emit object signal arguments.now 0 last) world.old world.new result }
         ensures keeps { KeepsWorld self.now.meta world.old world.new }
-        ensures sound { Sound self.now.meta world.new.objects world.new.connections }
+        ensures sound { IsSoundWorld self.now.meta world.new }
     {
         let mut used = 0;
         while let Some(connection) = world.next_used(object, signal, used, last) {
@@ -52,10 +53,11 @@ impl Setting {
         arguments: &[Value],
     ) -> Result<(), Fault>
         requires room { length active.now < self.now.depth }
-        requires sound { Sound self.now.meta world.old.objects world.old.connections }
+        requires sound { IsSoundWorld self.now.meta world.old }
         requires joined { Joined self.now.meta world.old.objects connection }
-        requires emitted { ArgumentsFit self.now.meta world.old.objects connection.sender connection.signal arguments.now }
-        ensures ends { (o g used last : ℕ) → next_used world.old.objects world.old.connections o g used last ≡ Some connection → Ends self.now.meta self.now.depth active.now world.old (Emit o g arguments.now used last ∷ []) world.new (Emit o g arguments.now connection.number last ∷ []) result }
+        requires emitted { SignalFits self.now.meta world.old.objects connection arguments.now }
+        ensures ends { Delivers self.now active.now
+            connection arguments.now world.old world.new result }
     {
         world.require_rule()?;
         let Some((_, method)) = self.member(world, connection.receiver, connection.method) else {
@@ -77,9 +79,10 @@ impl Setting {
         method: usize,
         arguments: &[Value],
     ) -> Result<(), Fault>
-        requires sound { Sound self.now.meta world.old.objects world.old.connections }
+        requires sound { IsSoundWorld self.now.meta world.old }
         requires left { 0 < world.old.left }
-        ensures ends { (from to : List Activation) (shown : List (Option ℕ)) → active.now ≡ shows to ++ shown → Calls self.now.meta world.old from to object method arguments.now → OnlyCalls self.now.meta world.old from to object method arguments.now → Ends self.now.meta self.now.depth shown world.old from world.new to result }
+        ensures ends { EndsOnlyCall self.now active.now
+            object method arguments.now world.old world.new result }
     {
         let Some((_, declared)) = self.member(world, object, method) else {
             return Err(Fault::BadType);
@@ -103,10 +106,11 @@ impl Setting {
         method: usize,
         arguments: &[Value],
     ) -> Result<(), Fault>
-        requires sound { Sound self.now.meta world.old.objects world.old.connections }
+        requires sound { IsSoundWorld self.now.meta world.old }
         requires left { 0 < world.old.left }
         requires fit { ArgumentsFit self.now.meta world.old.objects object method arguments.now }
-        ensures ends { (from to : List Activation) (shown : List (Option ℕ)) → active.now ≡ shows to ++ shown → Calls self.now.meta world.old from to object method arguments.now → Ends self.now.meta self.now.depth shown world.old from world.new to result }
+        ensures ends { EndsCall self.now active.now
+            object method arguments.now world.old world.new result }
     {
         let begun = self.begun(world, active, object, method, arguments)?;
         world.note([begun.line])?;
@@ -128,9 +132,10 @@ impl Setting {
         last: u64,
     ) -> Result<(), Fault>
         requires room { length active.now < self.now.depth }
-        requires sound { Sound self.now.meta world.old.objects world.old.connections }
+        requires sound { IsSoundWorld self.now.meta world.old }
         requires begun { ArgumentsFit self.now.meta world.old.objects object method arguments.now }
-        ensures ends { Ends self.now.meta self.now.depth active.now world.old (top_of object method arguments.now last work.now ∷ []) world.new [] result }
+        ensures ends { Finishes self.now active.now
+            (top_of object method arguments.now last work.now) world.old world.new result }
     {
         match work {
             Work::Signal => self.run_emission(world, active, object, method, arguments, last),

@@ -3,7 +3,8 @@
 ghost use Rattle.std.specs.Option.{option_copied};
 ghost use Rattle.expressions.specs.Evaluation.{Evaluates, EvaluatesAll};
 ghost use Rattle.machine_rules.specs.Reaches.{Finds, Judges};
-ghost use Rattle.machine_rules.specs.Paths.{root_value, step_value, path_value, value_of, values_of};
+ghost use Rattle.machine_rules.specs.Paths.{root_value, step_value};
+ghost use Rattle.machine_rules.specs.Scope.{path_in, value_in, values_in};
 
 use expressions::{self, EvalFault};
 use machine_state::stored;
@@ -39,21 +40,21 @@ impl<'w> expressions::World<MetaPath> for Scope<'w> {
 impl<'w> Scope<'w> {
     /// The value of an expression; `BadType` where it has none.
     pub fn value_of(&self, expression: &Expr<MetaPath>) -> Result<Value, EvalFault>
-        ensures { Evaluates (value_of self.now.objects.now self.now.this self.now.arguments.now expression.now) result }
+        ensures { Evaluates (value_in self.now expression.now) result }
     {
         expressions::eval(self.alloc, expression, self)
     }
 
     /// The values of expressions; `BadType` where one of them has none.
     pub fn values_of(&self, expressions: &[Expr<MetaPath>]) -> Result<Arguments, EvalFault>
-        ensures { EvaluatesAll (values_of self.now.objects.now self.now.this self.now.arguments.now expressions.now) result }
+        ensures { EvaluatesAll (values_in self.now expressions.now) result }
     {
         expressions::eval_all(self.alloc, expressions, self)
     }
 
     /// The object that a path leads to, or `None` where it leads to null; `BadType` where it leads to neither.
     pub fn object_at(&self, path: &MetaPath) -> Result<Option<ObjectId>, EvalFault>
-        ensures { Finds (path_value self.now.objects.now self.now.this self.now.arguments.now path.now) result }
+        ensures { Finds (path_in self.now path.now) result }
     {
         match expressions::World::value(self, path)? {
             Value::Ref(Some(object)) => Ok(Some(object)),
@@ -64,7 +65,7 @@ impl<'w> Scope<'w> {
 
     /// The truth value of a condition; `BadType` where it has none.
     pub fn truth_of(&self, condition: &Expr<MetaPath>) -> Result<bool, EvalFault>
-        ensures { Judges (value_of self.now.objects.now self.now.this self.now.arguments.now condition.now) result }
+        ensures { Judges (value_in self.now condition.now) result }
     {
         match self.value_of(condition)? {
             Value::Bool(truth) => Ok(truth),

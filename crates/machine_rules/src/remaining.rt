@@ -41,7 +41,8 @@ impl<'p> Remaining<'p> {
 
     /// Takes the next statement; `None` where none is left.
     pub fn next(&mut self) -> Option<&'p Statement>
-        ensures { MatchOption result ((self.old ≡ []) × (self.new ≡ [])) (λ x. self.old ≡ x.now ∷ self.new) }
+        ensures { MatchOption result ((self.old ≡ []) × (self.new ≡ []))
+            (λ x. self.old ≡ x.now ∷ self.new) }
     {
         while self.block.is_empty() {
             let Some(outer) = self.outer.pop() else {

@@ -1,18 +1,10 @@
 //! A program with its natives, and what its numbers lead to.
 
 ghost use Rattle.std.specs.Prelude.{◌≡◌, ◌≤◌, IfSome, IfOk, IfErr, MatchOption, take};
-ghost use Rattle.meta_model.specs.declared.object.MetaMethod.{MetaMethod as AMetaMethod};
-ghost use Rattle.meta_model.specs.declared.object.MetaProperty.{MetaProperty as AMetaProperty};
-ghost use Rattle.meta_model.specs.Members.{IsClass};
-ghost use Rattle.meta_model.specs.declared.object.MetaObject.{MetaObject as AMetaObject};
-ghost use Rattle.meta_model.specs.Sound.{IsSoundProperty};
-ghost use Rattle.object_tree.specs.declared.object.Object.{Object as AnObject};
-ghost use Rattle.machine_state.specs.declared.entry.Entry.TheVariants.{At};
-ghost use Rattle.machine_state.specs.declared.entry.Happening.TheVariants.{Written};
-ghost use Rattle.machine_rules.specs.Reaches.{begin_entry, MayNest, IsBegun, IsBarred};
+ghost use Rattle.machine_rules.specs.Reaches.{entry_of_call, entry_of_write, MayNest, IsBegun, IsBarred};
 ghost use Rattle.machine_rules.specs.Good.{ArgumentsFit};
-ghost use Rattle.machine_rules.specs.There.{IsMember, IsField};
-ghost use Rattle.machine_state.specs.Objects.{shown, all_shown};
+ghost use Rattle.machine_rules.specs.Sound.{IsSoundIn};
+ghost use Rattle.machine_rules.specs.There.{IsMember, IsField, LacksMember, LacksField};
 
 use crate::active::Active;
 use machine_state::{Entry, Fault, Happening, Natives, World, is_silent, show, show_all};
@@ -68,7 +60,8 @@ impl Setting {
         object: ObjectId,
         method: usize,
     ) -> Option<(&'w Object, &'s MetaMethod)>
-        ensures { MatchOption result ((x : AnObject) (k : AMetaMethod) → ¬ IsMember self.now.meta world.now.objects object method x k) (λ found. IsMember self.now.meta world.now.objects object method found.0.now found.1.now) }
+        ensures { MatchOption result (LacksMember self.now.meta world.now.objects object method)
+            (λ f. IsMember self.now.meta world.now.objects object method f.0.now f.1.now) }
     {
         let Some(found) = world.objects.object(object) else {
             return None;
@@ -86,8 +79,10 @@ impl Setting {
         object: ObjectId,
         property: usize,
     ) -> Option<(&'w Object, &'s MetaProperty)>
-        ensures value { MatchOption result ((x : AnObject) (k : AMetaProperty) → ¬ IsField self.now.meta world.now.objects object property x k) (λ found. IsField self.now.meta world.now.objects object property found.0.now found.1.now) }
-        ensures sound { IfSome result (λ found. (class : AMetaObject) → IsClass self.now.meta found.0.now.class class → IsSoundProperty self.now.meta class found.1.now) }
+        ensures value { MatchOption result
+            (LacksField self.now.meta world.now.objects object property)
+            (λ f. IsField self.now.meta world.now.objects object property f.0.now f.1.now) }
+        ensures sound { IfSome result (λ f. IsSoundIn self.now.meta f.0.now.class f.1.now) }
     {
         let Some(found) = world.objects.object(object) else {
             return None;
@@ -122,7 +117,8 @@ impl Setting {
         arguments: &[Value],
     ) -> Result<Begun<'s>, Fault>
         requires fit { ArgumentsFit self.now.meta world.now.objects object method arguments.now }
-        ensures ok { IfOk result (λ b. IsBegun self.now.meta self.now.depth active.now world.now object method arguments.now b.line b.work.now b.last) }
+        ensures ok { IfOk result (λ b. IsBegun self.now.meta self.now.depth active.now world.now
+            object method arguments.now b.line b.work.now b.last) }
         ensures err { IfErr result (IsBarred self.now.depth active.now) }
     {
         let Some((found, declared)) = self.member(world, object, method) else {
@@ -154,7 +150,8 @@ impl Setting {
         method: &MetaMethod,
         arguments: &[Value],
     ) -> Result<Entry, AllocError>
-        ensures { IfOk result (λ entry. entry ≡ begin_entry depth object.now number method.now.sig.name (all_shown world.now.objects arguments.now) method.now.work) }
+        ensures { IfOk result (λ entry. entry ≡
+            entry_of_call world.now depth object.now number method.now arguments.now) }
     {
         let name = object.name.copy()?;
         let called = method.sig.name.copy()?;
@@ -184,7 +181,8 @@ impl Setting {
         property: &MetaProperty,
         value: &Value,
     ) -> Result<Entry, AllocError>
-        ensures { IfOk result (λ entry. entry ≡ At depth (Written object.now.name property.now.name (shown world.now.objects value.now))) }
+        ensures { IfOk result (λ entry. entry ≡
+            entry_of_write world.now depth object.now property.now value.now) }
     {
         let written = Happening::Written {
             object: object.name.copy()?,

@@ -1,12 +1,12 @@
 //! Writes of properties, and the notifications that follow them.
 
-ghost use Rattle.std.specs.Prelude.{◌≡◌, ℕ, ◌<◌, ◌∷◌, [], ◌++◌, length, List, Option, Some, slice_get};
+ghost use Rattle.std.specs.Prelude.{◌≡◌, ◌<◌, [], length, Some, slice_get};
 ghost use Rattle.std.specs.Option.{option_copied};
 ghost use Rattle.signatures.specs.declared.value.Value.{Value as AValue};
-ghost use Rattle.machine_rules.specs.Sound.{Sound};
-ghost use Rattle.machine_state.specs.State.{Activation, Update};
-ghost use Rattle.machine_rules.specs.Active.{shows};
-ghost use Rattle.machine_rules.specs.Reaches.{Ends, Sets, Announces, MayAnnounce};
+ghost use Rattle.machine_rules.specs.Sound.{IsSoundWorld};
+ghost use Rattle.machine_state.specs.State.{Update};
+ghost use Rattle.machine_rules.specs.Calls.{Finishes, Leads, EndsWrite};
+ghost use Rattle.machine_rules.specs.Reaches.{Announces, MayAnnounce};
 ghost use Rattle.machine_rules.specs.Rules.{Changes, places_of};
 
 use crate::active::Active;
@@ -26,9 +26,10 @@ impl Setting {
         property: usize,
         value: Value,
     ) -> Result<(), Fault>
-        requires sound { Sound self.now.meta world.old.objects world.old.connections }
+        requires sound { IsSoundWorld self.now.meta world.old }
         requires left { 0 < world.old.left }
-        ensures ends { (from to : List Activation) (shown : List (Option ℕ)) → active.now ≡ shows to ++ shown → Sets self.now.meta world.old from to object property value → Ends self.now.meta self.now.depth shown world.old from world.new to result }
+        ensures ends { EndsWrite self.now active.now
+            object property value world.old world.new result }
     {
         let Some((found, declared)) = self.field(world, object, property) else {
             return Err(Fault::BadType);
@@ -54,9 +55,10 @@ impl Setting {
         changed: Option<usize>,
     ) -> Result<(), Fault>
         requires room { length active.now < self.now.depth }
-        requires sound { Sound self.now.meta world.old.objects world.old.connections }
+        requires sound { IsSoundWorld self.now.meta world.old }
         requires announces { MayAnnounce self.now.meta world.old.objects object property changed }
-        ensures ends { Ends self.now.meta self.now.depth active.now world.old (Update (places_of object property changed) ∷ []) world.new [] result }
+        ensures ends { Finishes self.now active.now
+            (Update (places_of object property changed)) world.old world.new result }
     {
         match changed {
             Some(signal) => {
@@ -78,9 +80,11 @@ impl Setting {
         signal: usize,
     ) -> Result<(), Fault>
         requires room { length active.now < self.now.depth }
-        requires sound { Sound self.now.meta world.old.objects world.old.connections }
+        requires sound { IsSoundWorld self.now.meta world.old }
         requires announces { Announces self.now.meta world.old.objects object property signal }
-        ensures ends { Ends self.now.meta self.now.depth active.now world.old (Update (places_of object property (Some signal)) ∷ []) world.new (Update [] ∷ []) result }
+        ensures ends { Leads self.now active.now
+            (Update (places_of object property (Some signal))) (Update [])
+            world.old world.new result }
     {
         world.require_rule()?;
         let Some((found, declared)) = self.member(world, object, signal) else {
@@ -98,7 +102,8 @@ impl Setting {
 
 /// The notify signal of a property that is written, where there is one and the new value isn't the old one.
 pub fn signal_of_change(notify: Option<usize>, old: Option<&Value>, new: &Value) -> Option<usize>
-    ensures { (before : AValue) → option_copied old.entry ≡ Some before → Changes before new.now notify result }
+    ensures { (before : AValue) → option_copied old.entry ≡ Some before →
+        Changes before new.now notify result }
 {
     match old {
         Some(before) => { if before.is_same(new) { None } else { notify } }

@@ -10,10 +10,17 @@ pub record Numbered (X : Type 0) : Type 0 where
   pub number : ℕ
   pub it : X
 
+abbrev pub numbered : {X : Type 0} → ℕ → X → Numbered X
+numbered number it = record { number = number; it = it }
+
+-- nothing is so
+abbrev pub NothingIs : {X : Type 0} → (X → Type 0) → Type 0
+NothingIs {X} Is = (x : X) → ¬ Is x
+
 -- what is so is found; where nothing is, the event is refused
 pub data Find {X : Type 0} (r : Refusal) (Is : X → Type 0) : Result X Refusal → Type 0 where
   found : {x : X} → Is x → Find r Is (Ok x)
-  missing : ((x : X) → ¬ Is x) → Find r Is (Err r)
+  missing : NothingIs Is → Find r Is (Err r)
 
 -- the event is refused unless this holds
 pub data Check (r : Refusal) (Holds : Type 0) : Result (Unit {0}) Refusal → Type 0 where
@@ -29,7 +36,8 @@ pub data Becomes {X : Type 0} (Is : X → Type 0) : Result X Refusal → Type 0 
   becomes : {x : X} → Is x → Becomes Is (Ok x)
 
 -- one step, and with what it gives the next
-pub data Then {X Y : Type 0} (First : Result X Refusal → Type 0) (Next : X → Result Y Refusal → Type 0) : Result Y Refusal → Type 0 where
+pub data Then {X Y : Type 0} (First : Result X Refusal → Type 0)
+    (Next : X → Result Y Refusal → Type 0) : Result Y Refusal → Type 0 where
   goes_on : (x : X) {r : Result Y Refusal} → First (Ok x) → Next x r → Then First Next r
   ends : {k : Refusal} → First (Err k) → Then First Next (Err k)
 

@@ -14,8 +14,10 @@ use Rattle.qt_runtime.specs.Takes.{Takes}
 -- order, and nothing of it brings a bad moment.
 pub data Runs (p : Loaded) (depth : ℕ) : State → ℕ → List Event → State → ℕ → Type 0 where
   done : {s : State} {n : ℕ} → Runs p depth s n [] s n
-  rules : {s m t : State} {n j k : ℕ} {events : List Event} → Rules p depth s n m j → Runs p depth m j events t k → Runs p depth s n events t k
-  takes : {s m t : State} {n k : ℕ} {e : Event} {events : List Event} → Takes p e s m → IsGood p depth s m → Runs p depth m n events t k → Runs p depth s (suc n) (e ∷ events) t k
+  rules : {s m t : State} {n j k : ℕ} {events : List Event} →
+      Rules p depth s n m j → Runs p depth m j events t k → Runs p depth s n events t k
+  takes : {s m t : State} {n k : ℕ} {e : Event} {events : List Event} →
+      Takes p e s m → IsGood p depth s m → Runs p depth m n events t k → Runs p depth s (suc n) (e ∷ events) t k
 
 -- a whole run: it takes all these events, and ends where nothing is going on
 pub record RunsWhole (p : Loaded) (depth : ℕ) (s : State) (n : ℕ) (events : List Event) (t : State) (k : ℕ) : Type 0 where
@@ -30,7 +32,8 @@ pub record RunsFront (p : Loaded) (depth : ℕ) (s : State) (n : ℕ) (events : 
   pub runs : Runs p depth s n taken t k
 
 -- one run is a front of another: from where it ends a run leads on to where the other ends
-pub record IsFront {p : Loaded} {depth : ℕ} {s : State} {n : ℕ} {events : List Event} {t u : State} {j k : ℕ} (a : RunsFront p depth s n events t j) (b : RunsFront p depth s n events u k) : Type 0 where
+pub record IsFront {p : Loaded} {depth : ℕ} {s : State} {n : ℕ} {events : List Event} {t u : State} {j k : ℕ}
+    (a : RunsFront p depth s n events t j) (b : RunsFront p depth s n events u k) : Type 0 where
   pub more : List Event
   pub taken : b.taken ≡ a.taken ++ more
   pub runs : Runs p depth t j more u k

@@ -33,14 +33,18 @@ begun program depth steps = record {
 pub record Completes (before : Seen) (events : List Event) (after : Seen) : Type 0 where
   pub went : before.stopped ≡ false
   pub same : after ≡ record before { world = after.world }
-  pub whole : RunsWhole before.program before.depth (at before.world []) before.world.left events (at after.world []) after.world.left
+  pub whole :
+      RunsWhole before.program before.depth (at before.world []) before.world.left events
+      (at after.world []) after.world.left
 
 -- the machine took a front of these events, and stopped on the way
 pub record Halts (before : Seen) (events : List Event) (f : Fault) (after : Seen) : Type 0 where
   pub went : before.stopped ≡ false
   pub same : after ≡ record before { world = after.world; stopped = true }
   pub stack : List Activation
-  pub front : RunsFront before.program before.depth (at before.world []) before.world.left events (at after.world stack) after.world.left
+  pub front :
+      RunsFront before.program before.depth (at before.world []) before.world.left events
+      (at after.world stack) after.world.left
   pub cause : Cause before.program before.depth (at after.world stack) after.world.left front.rest f
 
 -- a machine that has stopped does nothing more
@@ -49,9 +53,13 @@ pub record Stays (before : Seen) (f : Fault) (after : Seen) : Type 0 where
   pub answers : f ≡ fault.Stopped
   pub same : after ≡ before
 
+-- the machine stopped on the way, or had stopped before
+abbrev pub Stops : Seen → List Event → Fault → Seen → Type 0
+Stops before events f after = Halts before events f after ⊎ Stays before f after
+
 abbrev pub RunsAll : Seen → List Event → Result (Unit {0}) Fault → Seen → Type 0
 RunsAll before events (Ok done) after = Completes before events after
-RunsAll before events (Err f) after = Halts before events f after ⊎ Stays before f after
+RunsAll before events (Err f) after = Stops before events f after
 
 -- ---- one event
 

@@ -10,9 +10,11 @@ use Rattle.object_tree.specs.declared.fault.CreateFault.{CreateFault}
 use Rattle.object_tree.specs.declared.fault.CreateFault.TheVariants as create
 use Rattle.object_tree.specs.declared.object.Object.{Object}
 use Rattle.object_tree.specs.Objects.{class_of}
+use Rattle.script_lang.specs.declared.event.Connect.{Connect as Connecting}
 use Rattle.script_lang.specs.declared.event.Event.{Event}
 use Rattle.script_lang.specs.declared.event.Event.TheVariants as event
 use Rattle.script_lang.specs.declared.event.Input.{Input}
+use Rattle.machine_state.specs.declared.connections.Endpoints.{Endpoints}
 use Rattle.machine_state.specs.declared.fault.Answer.{Answer}
 use Rattle.machine_state.specs.declared.fault.Answer.TheVariants as answer
 use Rattle.machine_state.specs.declared.fault.Fault.{Fault}
@@ -23,7 +25,8 @@ use Rattle.machine_state.specs.declared.world.World.{World}
 use Rattle.machine_state.specs.Accepting.{accepted, refused}
 use Rattle.machine_state.specs.Refusals.{refusal_number}
 use Rattle.machine_state.specs.State.{State, Activation}
-use Rattle.machine_state.specs.Worlds.{at, after, Refuses}
+use Rattle.machine_state.specs.Worlds.{at, after, connected_by, Refuses}
+use Rattle.machine_rules.specs.declared.setting.Setting.{Setting}
 use Rattle.machine_rules.specs.There.{IsField}
 use Rattle.machine_rules.specs.Rules.{Begins, Writes}
 use Rattle.machine_rules.specs.Sound.{Sound}
@@ -33,6 +36,7 @@ use Rattle.qt_runtime.specs.declared.judgement.NotAccepted.{NotAccepted}
 use Rattle.qt_runtime.specs.declared.judgement.NotAccepted.TheVariants as reason
 use Rattle.qt_runtime.specs.Runs.{RunsWhole, RunsFront, Reason}
 use Rattle.qt_runtime.specs.Takes.{judged}
+use Rattle.qt_runtime.specs.events.Connect.{connect}
 
 -- what every machine's world keeps: its parts fit together, and no count is near its limit
 pub record WorldInvariant (p : Loaded) (w : World) : Type 0 where
@@ -70,6 +74,10 @@ TookCases p depth w e v (Err f) = Halted p depth w e v f
 pub record Took (p : Loaded) (depth : ℕ) (w : World) (e : Event) (v : World) (result : Result Answer Fault) : Type 0 where
   pub cases : TookCases p depth w e v result
 
+-- .. in the setting of a run
+abbrev pub Answers : Setting → Event → World → World → Result Answer Fault → Type 0
+Answers setting e w v result = Took setting.meta setting.depth w e v result
+
 -- what becomes of an event that isn't accepted
 abbrev pub IsRefused : World → NotAccepted → World → Result Answer Fault → Type 0
 IsRefused w (reason.Refused k) v result = Refuses w k v result
@@ -97,6 +105,10 @@ pub record AsksFor (p : Loaded) (w : World) (o m : ℕ) (values : List Value) (e
 -- .. that the property is written
 pub record WritesTo (p : Loaded) (w : World) (o q : ℕ) (value : Value) (e : Event) : Type 0 where
   pub effect : (t : State) → Writes p (accepted (at w [])) [] o q value t → judged p (at w []) e (Ok t)
+
+-- .. that the objects and methods of these numbers are connected
+abbrev pub ConnectsThese : Loaded → World → Connecting → Endpoints → Type 0
+ConnectsThese p w c ends = connect p (at w []) c (Ok (connected_by (accepted (at w [])) ends))
 
 -- the value is of the type of an object's property
 pub record ValueFits (p : Loaded) (objects : List Object) (o q : ℕ) (v : Value) : Type 0 where

@@ -1,5 +1,5 @@
-ghost use Rattle.std.specs.Prelude.{◌≡◌, ◌<◌, ◌≤◌, ◌^◌, ◌∷◌, [], ◌⊎◌, IfOk, IfErr};
-ghost use Rattle.qt_runtime.specs.Seen.{OnDone, OnRefused, Accepts, Refuses, Halts, Stays, RunsAll, begun};
+ghost use Rattle.std.specs.Prelude.{◌≡◌, ◌<◌, ◌≤◌, ◌^◌, ◌∷◌, [], IfOk, IfErr};
+ghost use Rattle.qt_runtime.specs.Seen.{OnDone, OnRefused, Accepts, Refuses, Stops, RunsAll, begun};
 
 use crate::taking::take_event;
 use machine_rules::Setting;
@@ -27,7 +27,12 @@ impl Model for Machine {
 
     ghost coded = { Prim.hlevel (codes, statement.the_row.coded) };
 
-    ghost view = { λ m. record { program = m.setting.meta; depth = m.setting.depth; world = m.world; stopped = m.stopped } };
+    ghost view = { λ m. record {
+      program = m.setting.meta;
+      depth = m.setting.depth;
+      world = m.world;
+      stopped = m.stopped;
+    } };
 
     ghost invariant = { λ m. MachineInvariant m.setting.meta m.setting.depth m.world };
 }
@@ -62,7 +67,7 @@ impl Machine {
     pub fn apply(&mut self, event: &Event) -> Result<Answer, Fault>
         ensures done { OnDone result (Accepts self.old event.now self.new) }
         ensures refused { OnRefused result (λ number. Refuses self.old event.now number self.new) }
-        ensures stopped { IfErr result (λ fault. Halts self.old (event.now ∷ []) fault self.new ⊎ Stays self.old fault self.new) }
+        ensures stopped { IfErr result (λ fault. Stops self.old (event.now ∷ []) fault self.new) }
     {
         if self.stopped {
             return Err(Fault::Stopped);

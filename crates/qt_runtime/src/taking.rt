@@ -1,7 +1,7 @@
 //! The taking of events.
 
 ghost use Rattle.std.specs.Prelude.{◌<◌};
-ghost use Rattle.qt_runtime.specs.Taking.{WorldInvariant, Took};
+ghost use Rattle.qt_runtime.specs.Taking.{WorldInvariant, Answers};
 
 use crate::events::adopt::adopt;
 use crate::events::assign::assign;
@@ -17,7 +17,7 @@ use script_lang::Event;
 pub fn take_event(setting: &Setting, world: &mut World, event: &Event) -> Result<Answer, Fault>
     requires depth { 0 < setting.now.depth }
     requires keeps { WorldInvariant setting.now.meta world.old }
-    ensures { Took setting.now.meta setting.now.depth world.old event.now world.new result }
+    ensures { Answers setting.now event.now world.old world.new result }
 {
     if world.left == 0 {
         return Err(Fault::Steps);

@@ -13,7 +13,7 @@ use Rattle.machine_state.specs.declared.refusal.Refusal.TheVariants.{NoMember, N
 use Rattle.machine_state.specs.Accepting.{accepted}
 use Rattle.machine_state.specs.State.{State}
 use Rattle.machine_state.specs.Worlds.{connected_by}
-use Rattle.qt_runtime.specs.Judgement.{Numbered, Find, Check, Gives, ◌>>=◌}
+use Rattle.qt_runtime.specs.Judgement.{Numbered, numbered, Find, Check, Gives, ◌>>=◌}
 use Rattle.qt_runtime.specs.events.Named.{living}
 
 -- the class's method of this signature
@@ -25,6 +25,10 @@ pub record IsMethodOf (p : Loaded) (class : ℕ) (sig : Sig) (m : Numbered MetaM
 pub record IsSignalOf (p : Loaded) (class : ℕ) (sig : Sig) (g : Numbered MetaMethod) : Type 0 where
   pub of : IsMethodOf p class sig g
   pub signal : g.it.work ≡ Signal
+
+-- the number of the class's signal of this signature
+abbrev pub IsSignalNumber : Loaded → ℕ → Sig → ℕ → Type 0
+IsSignalNumber p class sig m = (method : MetaMethod) × IsSignalOf p class sig (numbered m method)
 
 -- the signal that a spelling names: `destroyed()`, which has the number 1, is `destroyed(QObject*)`
 abbrev pub named_signal : ℕ → ℕ
@@ -41,4 +45,10 @@ connect p s e =
     Check NotWired (e.kind ≢ Queued) >>= λ _.
     Check NotWired (Covers p a.it.class e.signal b.it.class e.method e.kind) >>= λ _.
     Check Incompatible (Fits e.signal e.method) >>= λ _.
-    Gives (connected_by (accepted s) (record { sender = a.number; signal = named_signal g.number; receiver = b.number; method = m.number; kind = e.kind }))
+    Gives (connected_by (accepted s) (record {
+      sender = a.number;
+      signal = named_signal g.number;
+      receiver = b.number;
+      method = m.number;
+      kind = e.kind;
+    }))

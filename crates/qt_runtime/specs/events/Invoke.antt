@@ -26,7 +26,8 @@ May Emit m method = (OBJECT_NAME_CHANGED < m) × (method.work ≡ Signal)
 May Call m method = (DELETE_LATER < m) × (method.work ≢ Signal)
 
 -- the class's method of this name and number of parameters, of which the event may ask this
-pub record IsAskedOf (p : Loaded) (class : ℕ) (invocation : Invocation) (name : List ℕ) (count : ℕ) (m : Numbered MetaMethod) : Type 0 where
+pub record IsAskedOf (p : Loaded) (class : ℕ) (invocation : Invocation) (name : List ℕ) (count : ℕ)
+    (m : Numbered MetaMethod) : Type 0 where
   pub is : IsMethod p class m.number m.it
   pub named : m.it.sig.name ≡ name
   pub counted : length m.it.sig.types ≡ count

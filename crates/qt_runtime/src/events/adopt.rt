@@ -2,7 +2,7 @@
 
 ghost use Rattle.std.specs.Prelude.{◌≡◌, ◌<◌, [], IfOk, IfErr};
 ghost use Rattle.script_lang.specs.declared.event.Event.TheVariants.{Adopt};
-ghost use Rattle.qt_runtime.specs.Taking.{WorldInvariant, Took};
+ghost use Rattle.qt_runtime.specs.Taking.{WorldInvariant, Answers};
 ghost use Rattle.qt_runtime.specs.Taking.{adoption_reason};
 
 use crate::events::named::find_living;
@@ -21,7 +21,7 @@ pub fn adopt(
 ) -> Result<Answer, Fault>
     requires left { 0 < world.old.left }
     requires keeps { WorldInvariant setting.now.meta world.old }
-    ensures { Took setting.now.meta setting.now.depth world.old (Adopt parent.now child.now) world.new result }
+    ensures { Answers setting.now (Adopt parent.now child.now) world.old world.new result }
 {
     let parent = match find_living(world, parent) {
         Ok((number, _)) => ObjectId::new(number),

@@ -2,10 +2,9 @@
 
 ghost use Rattle.std.specs.Prelude.{◌≡◌, ◌<◌, [], Ok, IfOk, IfErr, MatchOption};
 ghost use Rattle.script_lang.specs.declared.event.Event.TheVariants.{Set};
-ghost use Rattle.meta_model.specs.declared.object.MetaProperty.{MetaProperty as AMetaProperty};
 ghost use Rattle.machine_state.specs.Worlds.{at};
-ghost use Rattle.qt_runtime.specs.Judgement.{IsNotAccepted, Numbered};
-ghost use Rattle.qt_runtime.specs.Taking.{WorldInvariant, Took, WritesTo, ValueFits};
+ghost use Rattle.qt_runtime.specs.Judgement.{IsNotAccepted, NothingIs, numbered};
+ghost use Rattle.qt_runtime.specs.Taking.{WorldInvariant, Answers, WritesTo, ValueFits};
 ghost use Rattle.qt_runtime.specs.events.Assign.{assign, IsPropertyOf};
 ghost use Rattle.script_lang.specs.declared.event.Event.{Event as AnEvent};
 
@@ -37,7 +36,8 @@ pub fn assign(
     requires depth { 0 < setting.now.depth }
     requires left { 0 < world.old.left }
     requires keeps { WorldInvariant setting.now.meta world.old }
-    ensures { Took setting.now.meta setting.now.depth world.old (Set name.now property.now input.now) world.new result }
+    ensures { Answers setting.now (Set name.now property.now input.now)
+        world.old world.new result }
 {
     match judge(setting, world, name, property, input) {
         Err(reason) => refuse(world, reason),
@@ -59,9 +59,12 @@ fn judge(
     property: &Name,
     input: &Input,
 ) -> Result<Assignment, NotAccepted>
-    ensures accepted { IfOk result (λ a. WritesTo setting.now.meta world.now a.object a.property a.value (Set name.now property.now input.now)) }
-    ensures fits { IfOk result (λ a. ValueFits setting.now.meta world.now.objects a.object a.property a.value) }
-    ensures refused { IfErr result (λ reason. IsNotAccepted (assign setting.now.meta (at world.now []) name.now property.now input.now) reason) }
+    ensures accepted { IfOk result (λ a. WritesTo setting.now.meta world.now
+        a.object a.property a.value (Set name.now property.now input.now)) }
+    ensures fits { IfOk result (λ a. ValueFits setting.now.meta world.now.objects
+        a.object a.property a.value) }
+    ensures refused { IfErr result (IsNotAccepted
+        (assign setting.now.meta (at world.now []) name.now property.now input.now)) }
 {
     let (object, found) = find_living(world, name)?;
     let Some((property, declared)) = property_of(&setting.meta, found.class, property) else {
@@ -81,7 +84,8 @@ fn judge(
 
 /// The class's property of this name.
 fn property_of<'m>(meta: &'m Meta, class: usize, name: &Name) -> Option<(usize, &'m MetaProperty)>
-    ensures { MatchOption result ((q : Numbered AMetaProperty) → ¬ IsPropertyOf meta.now class name.now q) (λ f. IsPropertyOf meta.now class name.now (record { number = f.0; it = f.1.now })) }
+    ensures { MatchOption result (NothingIs (IsPropertyOf meta.now class name.now))
+        (λ f. IsPropertyOf meta.now class name.now (numbered f.0 f.1.now)) }
 {
     let Some(number) = meta.property(class, name) else {
         return None;
@@ -103,7 +107,8 @@ fn write(
     requires left { 0 < world.old.left }
     requires keeps { WorldInvariant setting.now.meta world.old }
     requires fits { ValueFits setting.now.meta world.old.objects object property value }
-    ensures { (e : AnEvent) → WritesTo setting.now.meta world.old object property value e → Took setting.now.meta setting.now.depth world.old e world.new result }
+    ensures { (e : AnEvent) → WritesTo setting.now.meta world.old object property value e →
+        Answers setting.now e world.old world.new result }
 {
     let Some((found, declared)) = setting.field(world, object, property) else {
         unreachable!()

@@ -1,7 +1,7 @@
 //! `block` and `unblock`: an object's emissions call nothing, or call again.
 
 ghost use Rattle.std.specs.Prelude.{◌<◌};
-ghost use Rattle.qt_runtime.specs.Taking.{WorldInvariant, Took, blocking};
+ghost use Rattle.qt_runtime.specs.Taking.{WorldInvariant, Answers, blocking};
 
 use crate::events::named::find_living;
 use crate::judgement::refuse;
@@ -13,7 +13,7 @@ use signatures::{Name, ObjectId};
 pub fn block(setting: &Setting, world: &mut World, name: &Name, on: bool) -> Result<Answer, Fault>
     requires left { 0 < world.old.left }
     requires keeps { WorldInvariant setting.now.meta world.old }
-    ensures { Took setting.now.meta setting.now.depth world.old (blocking on name.now) world.new result }
+    ensures { Answers setting.now (blocking on name.now) world.old world.new result }
 {
     let object = match find_living(world, name) {
         Ok((number, _)) => ObjectId::new(number),

@@ -1,15 +1,13 @@
 //! `connect`: a connection is made.
 
-ghost use Rattle.std.specs.Prelude.{◌≡◌, ◌↔◌, ◌<◌, [], Ok, IfOk, IfErr, IsTrue, MatchOption};
+ghost use Rattle.std.specs.Prelude.{◌≡◌, ◌↔◌, ◌<◌, [], IfOk, IfErr, IsTrue, MatchOption};
 ghost use Rattle.script_lang.specs.declared.event.Event.TheVariants.{Connect as ConnectEvent};
-ghost use Rattle.meta_model.specs.declared.object.MetaMethod.{MetaMethod as AMetaMethod};
 ghost use Rattle.meta_model.specs.declared.object.Work.TheVariants.{Signal};
 ghost use Rattle.signatures.specs.declared.kind.Kind.TheVariants.{Queued};
-ghost use Rattle.machine_state.specs.Accepting.{accepted};
-ghost use Rattle.machine_state.specs.Worlds.{at, connected_by};
-ghost use Rattle.qt_runtime.specs.Judgement.{IsNotAccepted, Numbered};
-ghost use Rattle.qt_runtime.specs.Taking.{WorldInvariant, Took};
-ghost use Rattle.qt_runtime.specs.events.Connect.{connect, named_signal, IsMethodOf, IsSignalOf};
+ghost use Rattle.machine_state.specs.Worlds.{at};
+ghost use Rattle.qt_runtime.specs.Judgement.{IsNotAccepted, NothingIs};
+ghost use Rattle.qt_runtime.specs.Taking.{WorldInvariant, Answers, ConnectsThese};
+ghost use Rattle.qt_runtime.specs.events.Connect.{connect, named_signal, IsSignalOf, IsSignalNumber};
 
 use crate::events::named::find_living;
 use crate::judgement::{NotAccepted, refuse};
@@ -23,7 +21,7 @@ use signatures::{Kind, ObjectId, Sig};
 pub fn connect(setting: &Setting, world: &mut World, c: &Connect) -> Result<Answer, Fault>
     requires left { 0 < world.old.left }
     requires keeps { WorldInvariant setting.now.meta world.old }
-    ensures { Took setting.now.meta setting.now.depth world.old (ConnectEvent c.now) world.new result }
+    ensures { Answers setting.now (ConnectEvent c.now) world.old world.new result }
 {
     match judge(setting, world, c) {
         Err(reason) => refuse(world, reason),
@@ -36,8 +34,9 @@ pub fn connect(setting: &Setting, world: &mut World, c: &Connect) -> Result<Answ
 
 /// The numbers of a connection's objects and methods, or why the event isn't accepted.
 fn judge(setting: &Setting, world: &World, c: &Connect) -> Result<Endpoints, NotAccepted>
-    ensures accepted { IfOk result (λ ends. connect setting.now.meta (at world.now []) c.now (Ok (connected_by (accepted (at world.now [])) ends))) }
-    ensures refused { IfErr result (λ reason. IsNotAccepted (connect setting.now.meta (at world.now []) c.now) reason) }
+    ensures accepted { IfOk result (ConnectsThese setting.now.meta world.now c.now) }
+    ensures refused { IfErr result (IsNotAccepted
+        (connect setting.now.meta (at world.now []) c.now)) }
 {
     let (sender, from) = find_living(world, &c.sender)?;
     let (receiver, to) = find_living(world, &c.receiver)?;
@@ -68,7 +67,8 @@ fn judge(setting: &Setting, world: &World, c: &Connect) -> Result<Endpoints, Not
 
 /// The number of the class's signal of this signature.
 fn signal_of(meta: &Meta, class: usize, sig: &Sig) -> Option<usize>
-    ensures { MatchOption result ((g : Numbered AMetaMethod) → ¬ IsSignalOf meta.now class sig.now g) (λ m. (method : AMetaMethod) × IsSignalOf meta.now class sig.now (record { number = m; it = method })) }
+    ensures { MatchOption result (NothingIs (IsSignalOf meta.now class sig.now))
+        (IsSignalNumber meta.now class sig.now) }
 {
     let Some(number) = meta.method(class, sig) else {
         return None;

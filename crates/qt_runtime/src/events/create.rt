@@ -2,7 +2,7 @@
 
 ghost use Rattle.std.specs.Prelude.{◌≡◌, ◌<◌};
 ghost use Rattle.script_lang.specs.declared.event.Event.TheVariants.{New};
-ghost use Rattle.qt_runtime.specs.Taking.{WorldInvariant, Took};
+ghost use Rattle.qt_runtime.specs.Taking.{WorldInvariant, Answers};
 ghost use Rattle.qt_runtime.specs.Taking.{creation_reason};
 
 use machine_rules::Setting;
@@ -19,7 +19,7 @@ pub fn create(
 ) -> Result<Answer, Fault>
     requires left { 0 < world.old.left }
     requires keeps { WorldInvariant setting.now.meta world.old }
-    ensures { Took setting.now.meta setting.now.depth world.old (New name.now class.now) world.new result }
+    ensures { Answers setting.now (New name.now class.now) world.old world.new result }
 {
     match world.create(&setting.meta, name, class) {
         Ok(_object) => Ok(Answer::Done),

@@ -1,11 +1,10 @@
 //! `emit` and `call`: a method begins.
 
 ghost use Rattle.std.specs.Prelude.{◌≡◌, ◌↔◌, ◌<◌, [], Ok, length, IfOk, IfErr, IsTrue, MatchOption};
-ghost use Rattle.meta_model.specs.declared.object.MetaMethod.{MetaMethod as AMetaMethod};
 ghost use Rattle.machine_state.specs.Worlds.{at};
 ghost use Rattle.machine_rules.specs.Good.{ArgumentsFit};
-ghost use Rattle.qt_runtime.specs.Judgement.{IsNotAccepted, Numbered};
-ghost use Rattle.qt_runtime.specs.Taking.{WorldInvariant, Took, AsksFor, invoking};
+ghost use Rattle.qt_runtime.specs.Judgement.{IsNotAccepted, NothingIs, numbered};
+ghost use Rattle.qt_runtime.specs.Taking.{WorldInvariant, Answers, AsksFor, invoking};
 ghost use Rattle.qt_runtime.specs.events.Invoke.{invoke, May, IsAskedOf};
 ghost use Rattle.script_lang.specs.declared.event.Event.{Event as AnEvent};
 
@@ -61,7 +60,8 @@ pub fn invoke(
     requires depth { 0 < setting.now.depth }
     requires left { 0 < world.old.left }
     requires keeps { WorldInvariant setting.now.meta world.old }
-    ensures { Took setting.now.meta setting.now.depth world.old (invoking invocation name.now called.now inputs.now) world.new result }
+    ensures { Answers setting.now (invoking invocation name.now called.now inputs.now)
+        world.old world.new result }
 {
     match judge(setting, world, invocation, name, called, inputs) {
         Err(reason) => refuse(world, reason),
@@ -84,9 +84,12 @@ fn judge(
     called: &Name,
     inputs: &[Input],
 ) -> Result<Invoked, NotAccepted>
-    ensures accepted { IfOk result (λ i. AsksFor setting.now.meta world.now i.object i.method i.values (invoking invocation name.now called.now inputs.now)) }
-    ensures fits { IfOk result (λ i. ArgumentsFit setting.now.meta world.now.objects i.object i.method i.values) }
-    ensures refused { IfErr result (λ reason. IsNotAccepted (invoke setting.now.meta (at world.now []) invocation name.now called.now inputs.now) reason) }
+    ensures accepted { IfOk result (λ i. AsksFor setting.now.meta world.now
+        i.object i.method i.values (invoking invocation name.now called.now inputs.now)) }
+    ensures fits { IfOk result (λ i. ArgumentsFit setting.now.meta world.now.objects
+        i.object i.method i.values) }
+    ensures refused { IfErr result (IsNotAccepted
+        (invoke setting.now.meta (at world.now []) invocation name.now called.now inputs.now)) }
 {
     let (object, found) = find_living(world, name)?;
     let Some((method, declared)) = method_of(
@@ -118,7 +121,9 @@ fn method_of<'m>(
     name: &Name,
     count: usize,
 ) -> Option<(usize, &'m MetaMethod)>
-    ensures { MatchOption result ((m : Numbered AMetaMethod) → ¬ IsAskedOf meta.now class invocation name.now count m) (λ f. IsAskedOf meta.now class invocation name.now count (record { number = f.0; it = f.1.now })) }
+    ensures { MatchOption result
+        (NothingIs (IsAskedOf meta.now class invocation name.now count))
+        (λ f. IsAskedOf meta.now class invocation name.now count (numbered f.0 f.1.now)) }
 {
     let Some(number) = meta.by_name(class, name, count) else {
         return None;
@@ -145,7 +150,8 @@ fn begin(
     requires left { 0 < world.old.left }
     requires keeps { WorldInvariant setting.now.meta world.old }
     requires fit { ArgumentsFit setting.now.meta world.old.objects object method values.now }
-    ensures { (e : AnEvent) → AsksFor setting.now.meta world.old object method values.now e → Took setting.now.meta setting.now.depth world.old e world.new result }
+    ensures { (e : AnEvent) → AsksFor setting.now.meta world.old object method values.now e →
+        Answers setting.now e world.old world.new result }
 {
     let below = Active::nothing();
     let begun = setting.begun(world, &below, object, method, values)?;

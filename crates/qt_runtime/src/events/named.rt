@@ -1,7 +1,7 @@
 //! The objects that events name.
 
 ghost use Rattle.std.specs.Prelude.{IfOk, IfErr};
-ghost use Rattle.qt_runtime.specs.Judgement.{IsNotAccepted};
+ghost use Rattle.qt_runtime.specs.Judgement.{IsNotAccepted, numbered};
 ghost use Rattle.qt_runtime.specs.events.Named.{living, IsLiving};
 
 use crate::judgement::NotAccepted;
@@ -11,8 +11,8 @@ use signatures::Name;
 
 /// The living object of this name.
 pub fn find_living<'w>(world: &'w World, name: &Name) -> Result<(usize, &'w Object), NotAccepted>
-    ensures found { IfOk result (λ f. IsLiving world.now.objects name.now (record { number = f.0; it = f.1.now })) }
-    ensures refused { IfErr result (λ reason. IsNotAccepted (living world.now.objects name.now) reason) }
+    ensures found { IfOk result (λ f. IsLiving world.now.objects name.now (numbered f.0 f.1.now)) }
+    ensures refused { IfErr result (IsNotAccepted (living world.now.objects name.now)) }
 {
     let Some(number) = world.find(name) else {
         return Err(NotAccepted::Refused(Refusal::NoObject));

@@ -1,0 +1,26 @@
+-- What a body gives in its scope: the objects, the object whose body it is and the arguments of its call
+-- (docs/language.md, "Expressions").
+use Rattle.std.specs.Prelude.{List, Option}
+use Rattle.signatures.specs.declared.value.Value.{Value}
+use Rattle.texts.specs.declared.syntax.Expr.{Expr}
+use Rattle.meta_model.specs.declared.object.MetaPath.{MetaPath}
+use Rattle.meta_model.specs.declared.object.Statement.{Statement}
+use Rattle.meta_model.specs.declared.object.Statement.TheOpen as layer
+use Rattle.machine_rules.specs.Paths.{path_value, value_of, values_of}
+use Rattle.machine_rules.specs.Doings.{Doing, doing}
+use Rattle.machine_rules.specs.declared.paths.Scope.{Scope}
+
+-- the value that a path leads to
+abbrev pub path_in : Scope → MetaPath → Option Value
+path_in scope path = path_value scope.objects.now scope.this scope.arguments.now path
+
+-- the value of an expression, and of each of several
+abbrev pub value_in : Scope → Expr MetaPath → Option Value
+value_in scope e = value_of scope.objects.now scope.this scope.arguments.now e
+
+abbrev pub values_in : Scope → List (Expr MetaPath) → Option (List Value)
+values_in scope es = values_of scope.objects.now scope.this scope.arguments.now es
+
+-- what a statement does
+abbrev pub doing_in : Scope → layer.Statement-F Statement → Option Doing
+doing_in scope statement = doing scope.objects.now scope.this scope.arguments.now statement
