@@ -1,33 +1,11 @@
--- Objects that are found by name, and objects that change.
-use Rattle.std.proofs.Common.{◌≡◌, ℕ, zero, suc, List, [], ◌∷◌, Option, None, Some, MatchOption, slice_get, slice_set, refl, ap, ◌∙◌, arith}
-use Rattle.std.specs.Option.{option_map}
-use Rattle.std.proofs.lemmas.Option.{same_Some}
+-- Objects that change.
+use Rattle.std.proofs.Common.{◌≡◌, ℕ, zero, suc, List, [], ◌∷◌, Some, slice_get, slice_set, ap, ◌∙◌}
 use Rattle.object_tree.specs.declared.object.Object.{Object}
-use Rattle.object_tree.specs.Objects.{IsFree, change, written}
-use Rattle.object_tree.specs.Objects as tree
+use Rattle.object_tree.specs.Objects.{change, written}
 use Rattle.signatures.specs.declared.value.Value.{Value}
 use Rattle.machine_state.specs.declared.entry.Entry.{Entry}
 use Rattle.machine_state.specs.declared.world.World.{World}
-use Rattle.machine_state.specs.Objects.{IsNamed}
 use Rattle.machine_state.specs.Worlds.{noted, set_in}
-
--- the only object of a name is the first
-pub named-first : (objects : List Object) (name : List ℕ) (r : Option ℕ) → MatchOption r (IsFree objects name) (λ o. tree.IsNamed objects name o) → MatchOption r (IsFree objects name) (λ o. (x : Object) × IsNamed objects name o x)
-named-first objects name None free = free
-named-first objects name (Some o) is = by_object (slice_get objects o) refl is.named
-  where
-    by_object : (there : Option Object) → slice_get objects o ≡ there → option_map (λ (x : Object). x.name) there ≡ Some name → (x : Object) × IsNamed objects name o x
-    by_object None found e = absurd (cc e)
-    by_object (Some x) found e = (
-      x,
-      record {
-        is = found;
-        named = same_Some _ _ e;
-        first = λ k y less there named.
-            let same : k ≡ o = is.only k (ap (option_map (λ (z : Object). z.name)) there ∙ ap Some named) in
-            absurd (omega (arith, less, same));
-      },
-    )
 
 -- a change of an object that is there
 pub change-there : (n : ℕ) (f : Object → Object) (xs : List Object) (x : Object) → slice_get xs n ≡ Some x → change n f xs ≡ slice_set xs n (f x)

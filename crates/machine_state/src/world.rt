@@ -1,9 +1,8 @@
 //! All of the machine's state but the stack.
 
 ghost use Rattle.std.specs.Prelude.{◌≡◌, ◌<◌, ◌≤◌, ◌^◌, length, slice_get, IfSome, IsTrue, MatchOption};
-ghost use Rattle.object_tree.specs.Objects.{IsFree};
+ghost use Rattle.object_tree.specs.Objects.{IsFree, IsNamed};
 ghost use Rattle.machine_state.specs.Connections.{next_used, silences, is_silent};
-ghost use Rattle.machine_state.specs.Objects.{IsNumberOf};
 ghost use Rattle.machine_state.specs.Worlds.{untouched, Ticks, IsLeft, Becomes, noted, set_in};
 
 use crate::connections::{Connection, Connections};
@@ -49,7 +48,7 @@ impl World {
     /// The number of the object that has or had this name.
     pub fn find(&self, name: &Name) -> Option<ObjectId>
         ensures { MatchOption result (IsFree self.now.objects name.now)
-            (IsNumberOf self.now.objects name.now) }
+            (IsNamed self.now.objects name.now) }
     {
         self.objects.find(name)
     }

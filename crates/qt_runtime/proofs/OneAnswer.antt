@@ -1,6 +1,6 @@
 -- Judgements have at most one answer.
 use Rattle.std.proofs.Common.{◌≡◌, ℕ, List, [], ◌∷◌, Option, None, Some, slice_get, length, Result, Ok, Err, refl, sym, ap, ◌∙◌, subst, inl, inr}
-use Rattle.std.proofs.lemmas.Bool.{cases_eq, cases_order}
+use Rattle.std.proofs.lemmas.Bool.{cases_eq}
 use Rattle.meta_model.specs.declared.object.MetaMethod.{MetaMethod}
 use Rattle.meta_model.specs.declared.object.MetaObject.{MetaObject}
 use Rattle.meta_model.specs.declared.object.MetaProperty.{MetaProperty}
@@ -58,10 +58,9 @@ numbered-is {X} {a} {b} e f = ap (λ (n : ℕ). let x : Numbered X = record { nu
 
 pub one-object : {objects : List Object} {name : List ℕ} (a b : Numbered Object) → IsObject objects name a → IsObject objects name b → a ≡ b
 one-object {objects} a b f g =
-    elim (cases_order a.number b.number) [
-      | inl same ↦ let it : Some a.it ≡ Some b.it = sym f.is ∙ ap (λ (n : ℕ). slice_get objects n) same ∙ g.is in numbered-is same (cc it)
-      | inr other ↦ elim other [ inl below ↦ absurd (g.first a.number a.it below f.is f.named) | inr above ↦ absurd (f.first b.number b.it above g.is g.named) ]
-    ]
+    let same : a.number ≡ b.number = g.named.only a.number f.named.named in
+    let it : Some a.it ≡ Some b.it = sym f.is ∙ ap (λ (n : ℕ). slice_get objects n) same ∙ g.is in
+    numbered-is same (cc it)
 
 pub one-living : (objects : List Object) (name : List ℕ) → HasOneAnswer (living objects name)
 one-living objects name = one-then (one-find one-object) (λ o. one-then one-check (λ alive. one-gives o))

@@ -1,6 +1,5 @@
 -- Objects that events name.
-use Rattle.std.proofs.Common.{◌≡◌, ℕ, List, true, Some, Ok, Err, ap, ◌∙◌}
-use Rattle.std.specs.Option.{option_map}
+use Rattle.std.proofs.Common.{◌≡◌, ℕ, List, true, Ok, Err}
 use Rattle.object_tree.specs.declared.object.Object.{Object}
 use Rattle.object_tree.specs.Objects.{IsFree}
 use Rattle.machine_state.specs.declared.refusal.Refusal.TheVariants.{NoObject, Dead}
@@ -11,7 +10,7 @@ pub living-ok : {objects : List Object} {name : List ℕ} (o : Numbered Object) 
 living-ok o x = goes_on o (found x.is) (goes_on tt (holds x.alive) gives)
 
 pub living-free : {objects : List Object} {name : List ℕ} → IsFree objects name → living objects name (Err NoObject)
-living-free free = ends (missing (λ o is. free o.number (ap (option_map (λ (z : Object). z.name)) is.is ∙ ap Some is.named)))
+living-free free = ends (missing (λ o is. free o.number is.named.named))
 
 pub living-dead : {objects : List Object} {name : List ℕ} (o : Numbered Object) → IsObject objects name o → (o.it.alive ≡ true → ⊥) → living objects name (Err Dead)
 living-dead o is dead = goes_on o (found is) (ends (fails dead))

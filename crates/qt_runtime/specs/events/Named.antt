@@ -1,14 +1,15 @@
 -- The objects that events name (docs/machine.md, "Events").
-use Rattle.std.specs.Prelude.{◌≡◌, ℕ, true, List, Result}
+use Rattle.std.specs.Prelude.{◌≡◌, ℕ, true, List, Result, Some, slice_get}
 use Rattle.object_tree.specs.declared.object.Object.{Object}
+use Rattle.object_tree.specs.Objects.{IsNamed}
 use Rattle.machine_state.specs.declared.refusal.Refusal.{Refusal}
 use Rattle.machine_state.specs.declared.refusal.Refusal.TheVariants.{NoObject, Dead}
-use Rattle.machine_state.specs.Objects.{IsNamed}
 use Rattle.qt_runtime.specs.Judgement.{Numbered, Find, Check, Gives, ◌>>=◌}
 
--- the object has, or had, this name
-abbrev pub IsObject : List Object → List ℕ → Numbered Object → Type 0
-IsObject objects name o = IsNamed objects name o.number o.it
+-- the object that has, or had, this name
+pub record IsObject (objects : List Object) (name : List ℕ) (o : Numbered Object) : Type 0 where
+  pub is : slice_get objects o.number ≡ Some o.it
+  pub named : IsNamed objects name o.number
 
 -- .. and it lives
 pub record IsLiving (objects : List Object) (name : List ℕ) (o : Numbered Object) : Type 0 where
