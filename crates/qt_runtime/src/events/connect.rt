@@ -13,6 +13,7 @@ use crate::events::named::find_living;
 use crate::judgement::{NotAccepted, refuse};
 use machine_rules::Setting;
 use machine_state::{Answer, Endpoints, Fault, Refusal, World};
+use meta_model::{DESTROYED, DESTROYED_ALONE};
 use meta_objects::{Meta, MetaMethod, Wired, Work};
 use script_lang::Connect;
 use signatures::{Kind, ObjectId, Sig};
@@ -98,7 +99,7 @@ fn named_signal(signal: usize) -> usize
     ensures { result ≡ named_signal signal }
 {
     match signal {
-        1 => 0,
+        DESTROYED_ALONE => DESTROYED,
         _ => signal,
     }
 }
