@@ -17,16 +17,16 @@ use Rattle.meta_model.specs.Members.{IsMethod, IsProperty, Below}
 use Rattle.meta_model.specs.Sound.{IsSound, AreSound, set_sound, emit_sound, call_sound, if_sound}
 use Rattle.machine_state.specs.declared.connections.Connection.{Connection}
 use Rattle.machine_state.specs.declared.fault.Fault.{Fault}
-use Rattle.machine_state.specs.declared.fault.Fault.TheVariants.{BadType, TooDeep, Steps, Memory, Stopped}
 use Rattle.object_tree.specs.declared.object.Object.{Object}
 use Rattle.machine_rules.specs.Paths.{path_value, value_of, values_of}
-use Rattle.machine_state.specs.State.{State, Place, Activation, Body, Emit, Update}
+use Rattle.machine_state.specs.State.{State, IsIdle, Place, Activation, Body, Emit, Update}
 use Rattle.machine_rules.specs.Rules.{RuleAt, StatementRule, Does, EmitRule, UpdateRule, Begins, Writes, Changes, changed, unchanged, silent}
 use Rattle.machine_rules.specs.Doings.{Doing, Write, Begin, Choose, Nothing, on_object, chosen_by, doing}
 use Rattle.machine_state.specs.Connections.{is_next}
 use Rattle.machine_state.specs.Connections.{next_used}
 use Rattle.machine_rules.specs.Runs.{IsStuck}
-use Rattle.qt_runtime.specs.Runs.{Reason}
+use Rattle.machine_rules.proofs.Reaching.{reason-more}
+use Rattle.qt_runtime.specs.Runs.{RunStops}
 use Rattle.qt_runtime.specs.Causes.{LacksValue, Cause}
 use Rattle.machine_rules.specs.There.{IsField}
 use Rattle.machine_rules.proofs.Beginning.{find-some, used-is}
@@ -138,8 +138,8 @@ module _ {p : Loaded} {s : State} (sound : IsSound p) (up : Invariant p s) where
         gives = refl;
       })
 
-  stack-lacks : (stack : List Activation) → s.stack ≡ stack → stack ≢ [] → AllByRecursion (Stands p s.objects) stack → ((t : State) → ¬ RuleAt p s t stack) → LacksValue s
-  stack-lacks [] e goes_on all stuck = absurd (goes_on refl)
+  stack-lacks : (stack : List Activation) → s.stack ≡ stack → (¬ IsIdle s) → AllByRecursion (Stands p s.objects) stack → ((t : State) → ¬ RuleAt p s t stack) → LacksValue s
+  stack-lacks [] e goes_on all stuck = absurd (goes_on (record { empty = e }))
   stack-lacks (Body o m arguments [] ∷ below) e goes_on all stuck = absurd (stuck _ refl)
   stack-lacks (Body o m arguments (x ∷ rest) ∷ below) e goes_on all stuck =
       record { object = o; method = m; arguments = arguments; statement = x; rest = rest; below = below; is_next = e; lacks = statement-lacks o m arguments x rest below all.0 all.0.sound stuck }
@@ -149,11 +149,7 @@ module _ {p : Loaded} {s : State} (sound : IsSound p) (up : Invariant p s) where
 
   -- what goes on without a next rule lacks a value
   pub stuck-lacks : IsStuck p s → LacksValue s
-  stuck-lacks x = stack-lacks s.stack refl (λ empty. x.goes_on (record { empty = empty })) up.stands x.stuck
+  stuck-lacks x = stack-lacks s.stack refl x.goes_on up.stands x.stuck
 
-  pub cause-of : (d left : ℕ) (es : List Event) (f : Fault) → Reason p d s left es f → Cause p d s left es f
-  cause-of d left es BadType r = (r.0, elim r.1 [ inl stuck ↦ inl (stuck, stuck-lacks stuck) | inr ill ↦ inr ill ])
-  cause-of d left es TooDeep r = r
-  cause-of d left es Steps r = r
-  cause-of d left es Memory r = r
-  cause-of d left es Stopped r = r
+  pub cause-of : (d left : ℕ) (es : List Event) (f : Fault) → RunStops p d s left es f → Cause p d s left es f
+  cause-of d left es f r = reason-more p d s left f (λ stuck. (stuck, stuck-lacks stuck)) (λ t follows. follows) (λ due. due) r
