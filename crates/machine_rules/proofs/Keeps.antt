@@ -7,7 +7,7 @@ use Rattle.meta_model.specs.declared.object.Work.{Work}
 use Rattle.meta_model.specs.declared.object.Work.TheVariants.{Signal, Slot}
 use Rattle.meta_model.specs.declared.object.MetaMethod.{MetaMethod}
 use Rattle.object_tree.specs.declared.object.Object.{Object}
-use Rattle.machine_state.specs.declared.connections.Connection.{Connection}
+use Rattle.connections.specs.declared.connection.Connection.{Connection}
 use Rattle.machine_state.specs.declared.fault.Fault.{Fault}
 use Rattle.machine_state.specs.declared.world.World.{World}
 use Rattle.machine_state.specs.Objects.{shapes_of}
@@ -137,7 +137,7 @@ writes-kept {p = p} {s = s} {o = o} {q = q} {new = new} x =
     let stay : StayThere s.objects (slice_set s.objects o (written q new x.object)) = same-stay s.objects _ (shapes-written s.objects o x.object q new x.is.is_object) in
     keeps-is x.gives (record {
       objects = stay;
-      joined = λ all. all-joined-still p s.objects _ s.connections stay all;
+      joined = λ all. all-joined-still p s.objects _ s.connected.connections stay all;
       connected = omega arith;
       paid = omega arith;
       events = refl;
@@ -166,7 +166,7 @@ update-kept p s below t (place ∷ places) r = begun-kept p s _ place.object r.o
 pub rule-kept : (p : Loaded) (s t : State) (stack : List Activation) → RuleAt p s t stack → Keeps p s 1 t 0
 rule-kept p s t [] r = absurd r
 rule-kept p s t (Body o m arguments left ∷ below) r = body-kept p s o m arguments below t left r
-rule-kept p s t (Emit o g arguments used last ∷ below) r = emit-kept p s o g arguments last below t (next_used s.objects s.connections o g used last) r
+rule-kept p s t (Emit o g arguments used last ∷ below) r = emit-kept p s o g arguments last below t (next_used s.objects s.connected.connections o g used last) r
 rule-kept p s t (Update places ∷ below) r = update-kept p s below t places r
 
 -- a rule, whatever is left after it
@@ -222,14 +222,14 @@ ends-typed {h = h} (Err f) x typed = let q = some-stack h in rules-typed ((x.cas
 
 -- ---- the world stays sound
 
-keeps-sound : {p : Loaded} {w v : World} → KeepsWorld p w v → AreTyped p v.objects → Sound p w.objects w.connections → Sound p v.objects v.connections
+keeps-sound : {p : Loaded} {w v : World} → KeepsWorld p w v → AreTyped p v.objects → Sound p w.objects w.connected.connections → Sound p v.objects v.connected.connections
 keeps-sound keeps typed sound = record { typed = typed; joined = keeps.joined sound.joined }
 
 -- whatever a call does, the machine stays sound
-pub ends-sound : {p : Loaded} {d : ℕ} {h : List (Option ℕ)} {w v : World} {a b : List Activation} (r : Result (Unit {0}) Fault) → Ends p d h w a v b r → Sound p w.objects w.connections → Sound p v.objects v.connections
+pub ends-sound : {p : Loaded} {d : ℕ} {h : List (Option ℕ)} {w v : World} {a b : List Activation} (r : Result (Unit {0}) Fault) → Ends p d h w a v b r → Sound p w.objects w.connected.connections → Sound p v.objects v.connected.connections
 ends-sound r x sound = keeps-sound (ends-keeps r x) (ends-typed r x sound.typed) sound
 
-pub reaches-sound : {p : Loaded} {d : ℕ} {h : List (Option ℕ)} {w v : World} {a b : List Activation} → Reaches p d h w a v b → Sound p w.objects w.connections → Sound p v.objects v.connections
+pub reaches-sound : {p : Loaded} {d : ℕ} {h : List (Option ℕ)} {w v : World} {a b : List Activation} → Reaches p d h w a v b → Sound p w.objects w.connected.connections → Sound p v.objects v.connected.connections
 reaches-sound x sound = keeps-sound (reaches-keeps x) (reaches-typed x sound.typed) sound
 
 -- arguments fit as long as the objects stay there

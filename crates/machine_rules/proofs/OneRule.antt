@@ -9,7 +9,7 @@ use Rattle.meta_model.specs.Loaded.{Loaded}
 use Rattle.meta_model.specs.Members.{IsMethod}
 use Rattle.object_tree.specs.declared.object.Object.{Object}
 use Rattle.object_tree.specs.Objects.{written}
-use Rattle.machine_state.specs.declared.connections.Connection.{Connection}
+use Rattle.connections.specs.declared.connection.Connection.{Connection}
 use Rattle.machine_state.specs.declared.entry.Entry.TheVariants.{At}
 use Rattle.machine_state.specs.declared.entry.Happening.TheVariants.{Written}
 use Rattle.machine_state.specs.Connections.{next_used}
@@ -108,7 +108,7 @@ update-one p s below t u (place ∷ places) a b = notifies-one a b
 stack-one : (p : Loaded) (s t u : State) (stack : List Activation) → RuleAt p s t stack → RuleAt p s u stack → t ≡ u
 stack-one p s t u [] a b = absurd a
 stack-one p s t u (Body o m arguments left ∷ below) a b = body-one p s o m arguments below t u left a b
-stack-one p s t u (Emit o g arguments used last ∷ below) a b = emit-one p s o g arguments last below t u (next_used s.objects s.connections o g used last) a b
+stack-one p s t u (Emit o g arguments used last ∷ below) a b = emit-one p s o g arguments last below t u (next_used s.objects s.connected.connections o g used last) a b
 stack-one p s t u (Update places ∷ below) a b = update-one p s below t u places a b
 
 pub rule-one : (p : Loaded) (s t u : State) → Rule p s t → Rule p s u → t ≡ u

@@ -127,7 +127,7 @@ pub record IsBegun (p : Loaded) (depth : ℕ) (active : List (Option ℕ)) (w : 
   pub is : IsMember p w.objects o m object method
   pub is_line : line ≡ entry_of_call w (length active + 1) object m method arguments
   pub is_work : work ≡ method.work
-  pub is_last : last ≡ w.connected
+  pub is_last : last ≡ w.connected.last
 
 -- why a method that fits doesn't begin: activations would nest too deep, or memory was refused
 abbrev pub IsBarred : ℕ → List (Option ℕ) → Fault → Type 0

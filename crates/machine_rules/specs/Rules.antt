@@ -12,7 +12,7 @@ use Rattle.meta_model.specs.Loaded.{Loaded}
 use Rattle.meta_model.specs.Members.{IsMethod}
 use Rattle.object_tree.specs.declared.object.Object.{Object}
 use Rattle.object_tree.specs.Objects.{written}
-use Rattle.machine_state.specs.declared.connections.Connection.{Connection}
+use Rattle.connections.specs.declared.connection.Connection.{Connection}
 use Rattle.machine_state.specs.declared.entry.Entry.{Entry}
 use Rattle.machine_state.specs.declared.entry.Entry.TheVariants.{At}
 use Rattle.machine_state.specs.declared.entry.Happening.TheVariants as happening
@@ -29,7 +29,7 @@ pushed s top below notes = record s { stack = top ∷ below; trace = s.trace ++ 
 -- a method of an object begins: a signal is emitted, and its entry tells whether it calls nothing; a slot's body is called
 abbrev pub begun : State → List Activation → ℕ → Object → ℕ → MetaMethod → List Value → Work → State
 begun s below o x m method arguments Signal =
-    pushed s (Emit o m arguments 0 s.connected) below
+    pushed s (Emit o m arguments 0 s.connected.last) below
     (λ d. At d (happening.Emitted x.name method.sig.name (all_shown s.objects arguments) (is_silent x m)) ∷ [])
 begun s below o x m method arguments (Slot statements) =
     pushed s (Body o m arguments statements) below
@@ -130,7 +130,7 @@ abbrev pub RuleAt : Loaded → State → State → List Activation → Type 0
 RuleAt p s t [] = ⊥
 RuleAt p s t (Body o m arguments left ∷ below) = BodyRule p s o m arguments below t left
 RuleAt p s t (Emit o g arguments used last ∷ below) =
-    EmitRule p s o g arguments last below t (next_used s.objects s.connections o g used last)
+    EmitRule p s o g arguments last below t (next_used s.objects s.connected.connections o g used last)
 RuleAt p s t (Update places ∷ below) = UpdateRule p s below t places
 
 -- t follows s by the rule of the activation on top

@@ -10,7 +10,8 @@ ghost use Rattle.machine_rules.specs.Keeps.{KeepsWorld};
 
 use crate::active::Active;
 use crate::setting::{Setting, front};
-use machine_state::{Connection, Fault, World};
+use connections::Connection;
+use machine_state::{Fault, World};
 use meta_objects::Work;
 use signatures::{ObjectId, Value};
 

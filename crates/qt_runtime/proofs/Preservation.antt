@@ -15,7 +15,7 @@ use Rattle.meta_model.specs.Loaded.{Loaded}
 use Rattle.meta_model.specs.Members.{IsClass, Below}
 use Rattle.meta_model.specs.Sound.{IsSound, IsSoundWork, IsSoundBody, IsSoundStatement, AreSound, none_sound, next_sound}
 use Rattle.meta_model.specs.Values.{HaveTypes}
-use Rattle.machine_state.specs.declared.connections.Connection.{Connection}
+use Rattle.connections.specs.declared.connection.Connection.{Connection}
 use Rattle.object_tree.specs.declared.object.Object.{Object}
 use Rattle.object_tree.specs.Creating.{fresh, initial_values}
 use Rattle.object_tree.specs.Objects.{class_of, written, change, blocked}
@@ -81,7 +81,7 @@ Stands p objects (Update places) = AllByRecursion (PlaceStands p objects) places
 
 -- the world is sound, and what is going on stands
 pub record Invariant (p : Loaded) (s : State) : Type 0 where
-  pub sound : Sound p s.objects s.connections
+  pub sound : Sound p s.objects s.connected.connections
   pub stands : AllByRecursion (Stands p s.objects) s.stack
 
 -- ---- it stands as long as the objects are those that they were
@@ -203,7 +203,7 @@ module _ {p : Loaded} {s t : State} (sound : IsSound p) (well : IsWell p s t) wh
   rule-stands : (stack : List Activation) → AllByRecursion (Stands p s.objects) stack → length s.stack ≡ length stack → RuleAt p s t stack → AllStand p t
   rule-stands [] all high r = absurd r
   rule-stands (Body o m arguments left ∷ below) all high r = body-stands o m arguments below left all.0 all.1 high r
-  rule-stands (Emit o g arguments used last ∷ below) all high r = emission-stands o g arguments last below (next_used s.objects s.connections o g used last) all.1 high r
+  rule-stands (Emit o g arguments used last ∷ below) all high r = emission-stands o g arguments last below (next_used s.objects s.connected.connections o g used last) all.1 high r
   rule-stands (Update places ∷ below) all high r = update-stands below places all.0 all.1 r
 
   -- what is going on stands where the stack does
@@ -237,14 +237,14 @@ none-stand p objects idle = let Family : List Activation → Type 0 = λ l. AllB
 -- an object is added
 created-invariant : {p : Loaded} {s : State} (x : Object) → IsIdle s → Invariant p s → AreTyped p (s.objects ++ x ∷ []) → Invariant p (record (accepted s) { objects = s.objects ++ x ∷ [] })
 created-invariant {p} {s} x idle up typed = record {
-  sound = record { typed = typed; joined = all-weaken (Joined p s.objects) (Joined p (s.objects ++ x ∷ [])) s.connections (joined-more s.objects (x ∷ [])) up.sound.joined };
+  sound = record { typed = typed; joined = all-weaken (Joined p s.objects) (Joined p (s.objects ++ x ∷ [])) s.connected.connections (joined-more s.objects (x ∷ [])) up.sound.joined };
   stands = none-stand p (s.objects ++ x ∷ []) idle;
 }
 
 -- objects change, and none its name or class
 changed-invariant : {p : Loaded} {s : State} (objects : List Object) → IsIdle s → Invariant p s → AreTyped p objects → shapes_of objects ≡ shapes_of s.objects → Invariant p (record (accepted s) { objects = objects })
 changed-invariant {p} {s} objects idle up typed same = record {
-  sound = record { typed = typed; joined = all-joined-still p s.objects objects s.connections (same-stay s.objects objects same) up.sound.joined };
+  sound = record { typed = typed; joined = all-joined-still p s.objects objects s.connected.connections (same-stay s.objects objects same) up.sound.joined };
   stands = none-stand p objects idle;
 }
 
@@ -290,7 +290,7 @@ judged-invariant {p} (Adopt parent child) sound idle up (goes_on _ a (goes_on _ 
 judged-invariant {p} {s} (Connect e) sound idle up (goes_on a sender (goes_on b receiver (goes_on g (finds signal) (goes_on m (finds method) (goes_on _ kind (goes_on _ covers (goes_on _ (so fits) just))))))) well = record {
   sound = record {
     typed = well.values;
-    joined = all-snoc (Joined p s.objects) s.connections _ up.sound.joined (connection-joined e (s.connected + 1) a b g m sound (living-is sender) (living-is receiver) signal method fits);
+    joined = all-snoc (Joined p s.objects) s.connected.connections _ up.sound.joined (connection-joined e (s.connected.last + 1) a b g m sound (living-is sender) (living-is receiver) signal method fits);
   };
   stands = up.stands;
 }

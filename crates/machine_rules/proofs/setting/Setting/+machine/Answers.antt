@@ -16,9 +16,14 @@ pub run_emission-loop-connection-init : goal.run_emission-loop-connection-init
 run_emission-loop-connection-init t c = record { reaches = reaches-same; keeps = keeps-same; fewer = omega arith; sound = c.requires.sound }
 
 pub run_emission-deliver-requires : goal.run_emission-deliver-requires
-run_emission-deliver-requires t c = let sound = c.loop-connection.invariant.sound in
+run_emission-deliver-requires t c =
+    let now = c.loop-connection.world in
     let found = sym c.in-Some.ensures.value in
-    (omega (arith, c.loop-connection.invariant.fewer), (c.requires.room, (sound, (next-joined c.loop-connection.world.objects c.loop-connection.world.connections c.args.object c.args.signal c.loop-connection.used c.args.last _ sound.joined found, next-fits c.loop-connection.world.objects c.loop-connection.world.connections c.args.object c.args.signal c.loop-connection.used c.args.last _ sound.joined found (fit-still c.loop-connection.invariant.keeps c.requires.emitted)))))
+    let sound = c.loop-connection.invariant.sound in
+    let emitted = fit-still c.loop-connection.invariant.keeps c.requires.emitted in
+    let joined = next-joined now.objects now.connected.connections c.args.object c.args.signal c.loop-connection.used c.args.last _ sound.joined found in
+    let fits = next-fits now.objects now.connected.connections c.args.object c.args.signal c.loop-connection.used c.args.last _ found emitted in
+    (omega (arith, c.loop-connection.invariant.fewer), (c.requires.room, (sound, (joined, fits))))
 
 pub run_emission-loop-connection-preserved : goal.run_emission-loop-connection-preserved
 run_emission-loop-connection-preserved t c =
