@@ -250,7 +250,7 @@ changed-invariant {p} {s} objects idle up typed same = record {
 
 -- a connection joins what it names
 connection-joined : {p : Loaded} {objects : List Object} (e : Connecting) (n : ℕ) (a b : Numbered Object) (g m : Numbered MetaMethod) → IsSound p → IsLiving objects e.sender a → IsLiving objects e.receiver b → IsSignalOf p a.it.class e.signal g → IsMethodOf p b.it.class e.method m → Fits e.signal e.method →
-    Joined p objects (record { number = n; sender = a.number; signal = named_signal g.number; receiver = b.number; method = m.number; kind = e.kind })
+    Joined p objects (record { number = n; sender = a.number; signal = named_signal g.number; receiver = b.number; method = m.number; kind = e.kind; single = false })
 connection-joined e n a b g m sound sender receiver signal method fits =
     let Signal_types : Sig → Type 0 = λ t. Fits t e.method in
     let Method_types : Sig → Type 0 = λ t. Fits g.it.sig t in
