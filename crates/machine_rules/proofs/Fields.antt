@@ -1,5 +1,7 @@
 -- Values of lists of types, and objects whose properties are written.
-use Rattle.std.proofs.Common.{◌≡◌, ◌⊎◌, inl, inr, ℕ, zero, suc, List, [], ◌∷◌, ◌++◌, length, take, map, Option, Some, slice_get, slice_set, refl, sym, ap, ◌∙◌, subst}
+use Rattle.std.proofs.Common.{◌≡◌, inl, inr, ℕ, zero, suc, List, [], ◌∷◌, ◌++◌, length, take, map, Option, Some, slice_get, slice_set, refl, sym, ap, ◌∙◌, subst}
+use Rattle.std.proofs.lemmas.Bool.{cases_eq}
+use Rattle.std.specs.Option.{option_map}
 use Rattle.signatures.specs.declared.value.Value.{Value}
 use Rattle.meta_model.specs.declared.object.ValueType.{ValueType}
 use Rattle.meta_model.specs.declared.object.MetaObject.{MetaObject}
@@ -9,11 +11,11 @@ use Rattle.meta_model.specs.Loaded.{Loaded}
 use Rattle.meta_model.specs.Members.{IsClass, IsMethod}
 use Rattle.meta_model.specs.Values.{Has, HaveTypes}
 use Rattle.object_tree.specs.declared.object.Object.{Object}
-use Rattle.object_tree.specs.Objects.{written, class_of}
+use Rattle.object_tree.specs.Objects.{change, written, class_of}
+use Rattle.object_tree.proofs.Changing.{get-change_same, get-change_other, part-change}
 use Rattle.machine_rules.specs.Good.{AreTyped}
 use Rattle.object_tree.specs.Typed.{IsTyped}
 use Rattle.machine_rules.specs.There.{IsMember, IsField}
-use Rattle.machine_rules.proofs.Shapes.{classes-same, shapes-written}
 
 -- ---- what numbers lead to is unique
 
@@ -88,16 +90,6 @@ set-get [] k x y e = absurd (cc e)
 set-get (z ∷ zs) zero x y e = refl
 set-get (z ∷ zs) (suc k) x y e = set-get zs k x y e
 
-pub set-other : {X : Type 0} (xs : List X) (k j : ℕ) (y z : X) → slice_get (slice_set xs k y) j ≡ Some z → (z ≡ y) × (k ≡ j) ⊎ (slice_get xs j ≡ Some z)
-set-other [] k j y z e = inr e
-set-other (x ∷ xs) zero zero y z e = let same : y ≡ z = cc e in inl (sym same, refl)
-set-other (x ∷ xs) zero (suc j) y z e = inr e
-set-other (x ∷ xs) (suc k) zero y z e = inr e
-set-other (x ∷ xs) (suc k) (suc j) y z e = elim (set-other xs k j y z e) as (λ r. (z ≡ y) × (suc k ≡ suc j) ⊎ (slice_get (x ∷ xs) (suc j) ≡ Some z)) [
-  | inl a ↦ inl (a.0, ap suc a.1)
-  | inr b ↦ inr b
-]
-
 pub map-get : {X Y : Type 0} (f : X → Y) (xs : List X) (k : ℕ) (x : X) → slice_get xs k ≡ Some x → slice_get (map f xs) k ≡ Some (f x)
 map-get f [] k x e = absurd (cc e)
 map-get f (y ∷ ys) zero x e = let same : y ≡ x = cc e in ap (λ z. Some (f z)) same
@@ -108,9 +100,15 @@ map-get f (y ∷ ys) (suc k) x e = map-get f ys k x e
 abbrev pub kind_of : MetaProperty → ValueType
 kind_of q = q.kind
 
+-- an object after a write
+pub object-written : (objects : List Object) (o : ℕ) {x : Object} (q : ℕ) (new : Value) → slice_get objects o ≡ Some x → slice_get (change o (written q new) objects) o ≡ Some (written q new x)
+object-written objects o q new is = get-change_same o (written q new) objects ∙ ap (option_map (written q new)) is
+
 -- the classes of the objects after a write
-classes-written : {p : Loaded} {objects : List Object} {o q : ℕ} {x : Object} {property : MetaProperty} (new : Value) → IsField p objects o q x property → class_of (slice_set objects o (written q new x)) ≡ class_of objects
-classes-written {objects = objects} {o = o} {q = q} {x = x} new f = classes-same _ _ (shapes-written objects o x q new f.is_object)
+pub classes-written : (objects : List Object) (o q : ℕ) (new : Value) → class_of (change o (written q new) objects) ≡ class_of objects
+classes-written objects o q new =
+    let at_each : (k : ℕ) → class_of (change o (written q new) objects) k ≡ class_of objects k = λ k. part-change (option_map (λ (x : Object). x.class)) o k (written q new) objects (λ x. refl) in
+    λ i. λ k. at_each k i
 
 -- the values of an object that has the property
 pub field-typed : {p : Loaded} {objects : List Object} {o q : ℕ} {x : Object} {property : MetaProperty} (f : IsField p objects o q x property) → AreTyped p objects → HaveTypes p (class_of objects) x.values (map kind_of f.class.properties)
@@ -121,39 +119,37 @@ field-typed {p} {objects} {o} {x = x} f typed =
 pub old-there : {p : Loaded} {objects : List Object} {o q : ℕ} {x : Object} {property : MetaProperty} → IsField p objects o q x property → AreTyped p objects → (v : Value) × (slice_get x.values q ≡ Some v)
 old-there {p} {objects} {q = q} {property = property} f typed = types-there p (class_of objects) _ _ q property.kind (field-typed f typed) (map-get kind_of f.class.properties q property f.is_property)
 
-pub typed-written : {p : Loaded} {objects : List Object} {o q : ℕ} {x : Object} {property : MetaProperty} {new : Value} → IsField p objects o q x property → AreTyped p objects → Has p (class_of objects) new property.kind → AreTyped p (slice_set objects o (written q new x))
+pub typed-written : {p : Loaded} {objects : List Object} {o q : ℕ} {x : Object} {property : MetaProperty} {new : Value} → IsField p objects o q x property → AreTyped p objects → Has p (class_of objects) new property.kind → AreTyped p (change o (written q new) objects)
 typed-written {p} {objects} {o} {q} {x} {property} {new} f typed has = λ k y is.
-    let after : List Object = slice_set objects o (written q new x) in
-    let classes : class_of objects ≡ class_of after = sym (classes-written new f) in
+    let after : List Object = change o (written q new) objects in
+    let classes : class_of objects ≡ class_of after = sym (classes-written objects o q new) in
     let at_written : IsTyped p after (written q new x) = record {
       class = f.class;
       is_class = f.is_class;
       typed = subst (λ (c : ℕ → Option ℕ). HaveTypes p c (slice_set x.values q new) (map kind_of f.class.properties)) classes (types-set p (class_of objects) x.values (map kind_of f.class.properties) q new property.kind (field-typed f typed) (map-get kind_of f.class.properties q property f.is_property) has);
     } in
-    elim (set-other objects o k (written q new x) y is) as (λ r. IsTyped p after y) [
-      | inl a ↦ subst (λ (z : Object). IsTyped p after z) (sym a.0) at_written
-      | inr b ↦ (let t = typed k y b in record {
+    elim (cases_eq k o) as (λ r. IsTyped p after y) [
+      | inl same ↦ subst (λ (z : Object). IsTyped p after z) (some-is (object-written objects o q new f.is_object) (subst (λ (n : ℕ). slice_get after n ≡ Some y) same is)) at_written
+      | inr other ↦ (let t = typed k y (sym (get-change_other o k (written q new) objects other) ∙ is) in record {
         class = t.class;
         is_class = t.is_class;
         typed = subst (λ (c : ℕ → Option ℕ). HaveTypes p c y.values (map kind_of t.class.properties)) classes t.typed;
       })
     ]
 
--- a value that is written and stays of its type had it
-pub written-typed : {p : Loaded} {objects : List Object} {o q : ℕ} {x : Object} {property : MetaProperty} {new : Value} → IsField p objects o q x property → AreTyped p objects → AreTyped p (slice_set objects o (written q new x)) → Has p (class_of objects) new property.kind
-written-typed {p} {objects} {o} {q} {x} {property} {new} f typed after =
-    let old = old-there f typed in
-    let t = after o (written q new x) (set-get objects o x (written q new x) f.is_object) in
-    let kinds : HaveTypes p (class_of (slice_set objects o (written q new x))) (slice_set x.values q new) (map kind_of f.class.properties) =
-    subst (λ (c : MetaObject). HaveTypes p (class_of (slice_set objects o (written q new x))) (slice_set x.values q new) (map kind_of c.properties)) (class-unique t.is_class f.is_class) t.typed in
-    let has = types-get p _ _ _ q new property.kind kinds (set-get x.values q old.0 new old.1) (map-get kind_of f.class.properties q property f.is_property) in
-    subst (λ (c : ℕ → Option ℕ). Has p c new property.kind) (classes-written new f) has
-
 -- the property is there after the write
-abbrev pub field-written : {p : Loaded} {objects : List Object} {o q : ℕ} {x : Object} {property : MetaProperty} (new : Value) → IsField p objects o q x property → IsField p (slice_set objects o (written q new x)) o q (written q new x) property
-field-written {objects = objects} {o = o} {q = q} {x = x} new f = record {
-  is_object = set-get objects o x (written q new x) f.is_object;
+abbrev pub field-written : {p : Loaded} {objects : List Object} {o q : ℕ} {x : Object} {property : MetaProperty} (new : Value) → IsField p objects o q x property → IsField p (change o (written q new) objects) o q (written q new x) property
+field-written {objects = objects} {o = o} {q = q} new f = record {
+  is_object = object-written objects o q new f.is_object;
   class = f.class;
   is_class = f.is_class;
   is_property = f.is_property;
 }
+
+-- a value that is written and stays of its type had it
+pub written-typed : {p : Loaded} {objects : List Object} {o q : ℕ} {x : Object} {property : MetaProperty} {new : Value} → IsField p objects o q x property → AreTyped p objects → AreTyped p (change o (written q new) objects) → Has p (class_of objects) new property.kind
+written-typed {p} {objects} {o} {q} {x} {property} {new} f typed after =
+    let old = old-there f typed in
+    let kinds = field-typed (field-written new f) after in
+    let has = types-get p (class_of (change o (written q new) objects)) (slice_set x.values q new) _ q new property.kind kinds (set-get x.values q old.0 new old.1) (map-get kind_of f.class.properties q property f.is_property) in
+    subst (λ (c : ℕ → Option ℕ). Has p c new property.kind) (classes-written objects o q new) has

@@ -1,16 +1,16 @@
 -- What each rule leaves as it was.
-use Rattle.std.proofs.Common.{◌≡◌, ℕ, zero, suc, List, [], ◌∷◌, ◌++◌, Option, Some, None, slice_get, slice_set, refl, sym, ap, ◌∙◌, subst, arith, Result, Ok, Err, append_assoc, append-nil}
+use Rattle.std.proofs.Common.{◌≡◌, ℕ, zero, suc, List, [], ◌∷◌, ◌++◌, Option, Some, None, slice_get, refl, sym, ap, ◌∙◌, subst, arith, Result, Ok, Err, append_assoc, append-nil}
 use Rattle.signatures.specs.declared.value.Value.{Value}
 use Rattle.meta_model.specs.Loaded.{Loaded}
 use Rattle.meta_model.specs.declared.object.Statement.{Statement}
 use Rattle.meta_model.specs.declared.object.Work.{Work}
 use Rattle.meta_model.specs.declared.object.Work.TheVariants.{Signal, Slot}
 use Rattle.meta_model.specs.declared.object.MetaMethod.{MetaMethod}
+use Rattle.meta_model.specs.declared.object.MetaProperty.{MetaProperty}
 use Rattle.object_tree.specs.declared.object.Object.{Object}
 use Rattle.connections.specs.declared.connection.Connection.{Connection}
 use Rattle.machine_state.specs.declared.fault.Fault.{Fault}
 use Rattle.machine_state.specs.declared.world.World.{World}
-use Rattle.machine_state.specs.Objects.{shapes_of}
 use Rattle.machine_state.specs.Worlds.{at}
 use Rattle.machine_state.specs.State.{State, Place, Activation, Body, Emit, Update}
 use Rattle.machine_rules.specs.Rules.{RuleAt, BodyRule, Does, EmitRule, UpdateRule, Begins, Writes, begun}
@@ -18,16 +18,16 @@ use Rattle.machine_rules.specs.Doings.{Doing, Write, Begin, Choose, Nothing}
 use Rattle.machine_state.specs.Connections.{next_used}
 use Rattle.meta_model.specs.Values.{Has, HaveTypes, number_has, truth_has, text_has, null_has, object_has}
 use Rattle.meta_model.specs.declared.object.ValueType.{ValueType}
-use Rattle.object_tree.specs.Objects.{class_of, written}
+use Rattle.object_tree.specs.Objects.{class_of, change, written}
 use Rattle.machine_state.specs.declared.entry.Entry.{Entry}
-use Rattle.machine_rules.specs.There.{IsMember}
+use Rattle.machine_rules.specs.There.{IsMember, IsField}
 use Rattle.machine_rules.specs.Good.{AreTyped, ArgumentsFit}
 use Rattle.machine_rules.specs.Runs.{Rules, done, then}
 use Rattle.machine_rules.specs.Sound.{Sound, Joined}
 use Rattle.machine_rules.specs.Active.{whose, shows}
 use Rattle.machine_rules.specs.Reaches.{Reaches, StopsIn, Ends}
 use Rattle.machine_rules.specs.Keeps.{StayThere, AllJoined, Grows, Keeps, KeepsWorld}
-use Rattle.machine_rules.proofs.Shapes.{shapes-written, classes-same}
+use Rattle.machine_rules.proofs.Fields.{classes-written, typed-written}
 use Rattle.std.specs.Option.{option_map}
 use Rattle.meta_model.specs.Members.{IsMethod}
 
@@ -63,9 +63,13 @@ values-stay p f g stay [] (T ∷ Ts) have = absurd have
 values-stay p f g stay (v ∷ vs) [] have = absurd have
 values-stay p f g stay (v ∷ vs) (T ∷ Ts) have = (value-stays p f g stay v T have.0, values-stay p f g stay vs Ts have.1)
 
--- objects of the same names and classes
-pub same-stay : (old new : List Object) → shapes_of new ≡ shapes_of old → StayThere old new
-same-stay old new same o class is = ap (λ (f : ℕ → Option ℕ). f o) (classes-same new old same) ∙ is
+-- objects of the same classes
+pub same-stay : (old new : List Object) → ((o : ℕ) → class_of new o ≡ class_of old o) → StayThere old new
+same-stay old new same o class is = same o ∙ is
+
+-- objects of which one is written
+pub written-stay : (objects : List Object) (o q : ℕ) (new : Value) → StayThere objects (change o (written q new) objects)
+written-stay objects o q new = same-stay objects _ (λ k. ap (λ (f : ℕ → Option ℕ). f k) (classes-written objects o q new))
 
 -- ---- connections join what they joined
 
@@ -134,7 +138,7 @@ begins-kept {p = p} {s = s} {below = below} {o = o} {m = m} {arguments = argumen
 
 pub writes-kept : {p : Loaded} {s : State} {below : List Activation} {o q : ℕ} {new : Value} {t : State} → Writes p s below o q new t → Keeps p s 1 t 0
 writes-kept {p = p} {s = s} {o = o} {q = q} {new = new} x =
-    let stay : StayThere s.objects (slice_set s.objects o (written q new x.object)) = same-stay s.objects _ (shapes-written s.objects o x.object q new x.is.is_object) in
+    let stay : StayThere s.objects (change o (written q new) s.objects) = written-stay s.objects o q new in
     keeps-is x.gives (record {
       objects = stay;
       joined = λ all. all-joined-still p s.objects _ s.connected.connections stay all;
@@ -231,6 +235,15 @@ ends-sound r x sound = keeps-sound (ends-keeps r x) (ends-typed r x sound.typed)
 
 pub reaches-sound : {p : Loaded} {d : ℕ} {h : List (Option ℕ)} {w v : World} {a b : List Activation} → Reaches p d h w a v b → Sound p w.objects w.connected.connections → Sound p v.objects v.connected.connections
 reaches-sound x sound = keeps-sound (reaches-keeps x) (reaches-typed x sound.typed) sound
+
+-- .. also by a write
+pub sound-written : {p : Loaded} {objects : List Object} {connections : List Connection} {o q : ℕ} {x : Object} {property : MetaProperty} {new : Value} → IsField p objects o q x property → Has p (class_of objects) new property.kind → Sound p objects connections → Sound p (change o (written q new) objects) connections
+sound-written {p} {objects} {connections} {o} {q} {new = new} f has sound =
+    record { typed = typed-written f sound.typed has; joined = all-joined-still p objects _ connections (written-stay objects o q new) sound.joined }
+
+-- a world that is known to be another one
+pub sound-as : {p : Loaded} {w v : World} → v ≡ w → Sound p w.objects w.connected.connections → Sound p v.objects v.connected.connections
+sound-as {p} is sound = let In : World → Type 0 = λ u. Sound p u.objects u.connected.connections in subst In (sym is) sound
 
 -- arguments fit as long as the objects stay there
 pub fit-still : {p : Loaded} {w v : World} {o m : ℕ} {arguments : List Value} → KeepsWorld p w v → ArgumentsFit p w.objects o m arguments → ArgumentsFit p v.objects o m arguments

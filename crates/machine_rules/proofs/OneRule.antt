@@ -1,5 +1,5 @@
 -- From one state at most one follows by a rule.
-use Rattle.std.proofs.Common.{◌≡◌, ℕ, List, [], ◌∷◌, length, take, Option, Some, None, slice_get, slice_set, refl, sym, ap, ◌∙◌, subst}
+use Rattle.std.proofs.Common.{◌≡◌, ℕ, List, [], ◌∷◌, length, take, Option, Some, None, slice_get, refl, sym, ap, ◌∙◌, subst}
 use Rattle.signatures.specs.declared.value.Value.{Value}
 use Rattle.meta_model.specs.declared.object.MetaMethod.{MetaMethod}
 use Rattle.meta_model.specs.declared.object.MetaProperty.{MetaProperty}
@@ -8,7 +8,7 @@ use Rattle.meta_model.specs.declared.object.Work.TheVariants.{Signal}
 use Rattle.meta_model.specs.Loaded.{Loaded}
 use Rattle.meta_model.specs.Members.{IsMethod}
 use Rattle.object_tree.specs.declared.object.Object.{Object}
-use Rattle.object_tree.specs.Objects.{written}
+use Rattle.object_tree.specs.Objects.{change, written}
 use Rattle.connections.specs.declared.connection.Connection.{Connection}
 use Rattle.machine_state.specs.declared.entry.Entry.TheVariants.{At}
 use Rattle.machine_state.specs.declared.entry.Happening.TheVariants.{Written}
@@ -53,7 +53,7 @@ writes-one {s = s} {below = below} {o = o} {q = q} {new = new} a b =
     let Of : Value → MetaProperty → Type 0 = λ v k. Changes v new k.notify b.signal in
     let changes : Of a.old a.property = subst (λ (v : Value). Of v a.property) (sym old_is) (subst (λ (k : MetaProperty). Of b.old k) (sym property_is) b.changes) in
     let signal_is : a.signal ≡ b.signal = changes-one a.changes changes in
-    let state_of : Object → MetaProperty → Option ℕ → State = λ x k g. pushed (record s { objects = slice_set s.objects o (written q new x) }) (Update (places_of o q g)) below (λ d. At d (Written x.name k.name (shown s.objects new)) ∷ []) in
+    let state_of : Object → MetaProperty → Option ℕ → State = λ x k g. pushed (record s { objects = change o (written q new) s.objects }) (Update (places_of o q g)) below (λ d. At d (Written x.name k.name (shown s.objects new)) ∷ []) in
     a.gives
     ∙ ap (λ (x : Object). state_of x a.property a.signal) object_is
     ∙ ap (λ (k : MetaProperty). state_of b.object k a.signal) property_is

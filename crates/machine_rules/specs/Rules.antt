@@ -1,6 +1,6 @@
 -- What may follow a state by one rule, beside the taking of events (docs/machine.md, "Rules"). No rule is forbidden
 -- because activations would nest too deep or a value is of a wrong type: those are faults of a run, and not of a rule.
-use Rattle.std.specs.Prelude.{◌≡◌, ◌≢◌, ℕ, List, [], ◌∷◌, ◌++◌, length, take, Option, None, Some, slice_get, slice_set}
+use Rattle.std.specs.Prelude.{◌≡◌, ◌≢◌, ℕ, List, [], ◌∷◌, ◌++◌, length, take, Option, None, Some, slice_get}
 use Rattle.signatures.specs.declared.value.Value.{Value}
 use Rattle.meta_model.specs.declared.object.Statement.{Statement}
 use Rattle.meta_model.specs.declared.object.Statement.TheViews.{out-Statement}
@@ -11,7 +11,7 @@ use Rattle.meta_model.specs.declared.object.MetaProperty.{MetaProperty}
 use Rattle.meta_model.specs.Loaded.{Loaded}
 use Rattle.meta_model.specs.Members.{IsMethod}
 use Rattle.object_tree.specs.declared.object.Object.{Object}
-use Rattle.object_tree.specs.Objects.{written}
+use Rattle.object_tree.specs.Objects.{change, written}
 use Rattle.connections.specs.declared.connection.Connection.{Connection}
 use Rattle.machine_state.specs.declared.entry.Entry.{Entry}
 use Rattle.machine_state.specs.declared.entry.Entry.TheVariants.{At}
@@ -64,7 +64,7 @@ pub record Writes (p : Loaded) (s : State) (below : List Activation) (o q : ℕ)
   pub is_old : slice_get object.values q ≡ Some old
   pub signal : Option ℕ
   pub changes : Changes old new property.notify signal
-  pub gives : t ≡ pushed (record s { objects = slice_set s.objects o (written q new object) }) (Update (places_of o q signal)) below
+  pub gives : t ≡ pushed (record s { objects = change o (written q new) s.objects }) (Update (places_of o q signal)) below
       (λ d. At d (happening.Written object.name property.name (shown s.objects new)) ∷ [])
 
 -- the notify signal of a property is emitted, with its present value if the signal has a parameter

@@ -1,13 +1,13 @@
 //! A program with its natives, and what its numbers lead to.
 
 ghost use Rattle.std.specs.Prelude.{◌≡◌, ◌≤◌, IfSome, IfOk, IfErr, MatchOption, take};
-ghost use Rattle.machine_rules.specs.Reaches.{entry_of_call, entry_of_write, MayNest, IsBegun, IsBarred};
+ghost use Rattle.machine_rules.specs.Reaches.{entry_of_call, MayNest, IsBegun, IsBarred};
 ghost use Rattle.machine_rules.specs.Good.{ArgumentsFit};
 ghost use Rattle.machine_rules.specs.Sound.{IsSoundIn};
 ghost use Rattle.machine_rules.specs.There.{IsMember, IsField, LacksMember, LacksField};
 
 use crate::active::Active;
-use machine_state::{Entry, Fault, Happening, Natives, World, is_silent, show, show_all};
+use machine_state::{Entry, Fault, Happening, Natives, World, is_silent, show_all};
 use meta_objects::{Meta, MetaMethod, MetaProperty, Work};
 use object_tree::Object;
 use signatures::{ObjectId, Value};
@@ -170,26 +170,6 @@ impl Setting {
             },
         };
         Ok(Entry::At(depth, happening))
-    }
-
-    /// The entry of a write.
-    pub fn write_entry(
-        &self,
-        world: &World,
-        depth: usize,
-        object: &Object,
-        property: &MetaProperty,
-        value: &Value,
-    ) -> Result<Entry, AllocError>
-        ensures { IfOk result (λ entry. entry ≡
-            entry_of_write world.now depth object.now property.now value.now) }
-    {
-        let written = Happening::Written {
-            object: object.name.copy()?,
-            property: property.name.copy()?,
-            value: show(&world.objects, value)?,
-        };
-        Ok(Entry::At(depth, written))
     }
 }
 

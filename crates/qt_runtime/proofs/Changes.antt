@@ -1,6 +1,7 @@
 -- What stays as it was where parents, children and blocks change.
 use Rattle.std.proofs.Common.{◌≡◌, ℕ, zero, suc, List, [], ◌∷◌, map, Option, None, Some, slice_get, refl, sym, ap, ◌∙◌, subst, inl, inr}
 use Rattle.std.proofs.lemmas.Bool.{cases_eq}
+use Rattle.std.specs.Option.{option_map}
 use Rattle.signatures.specs.declared.value.Value.{Value}
 use Rattle.meta_model.specs.declared.object.MetaProperty.{MetaProperty}
 use Rattle.meta_model.specs.Loaded.{Loaded}
@@ -11,9 +12,7 @@ use Rattle.object_tree.specs.Adopting.{IsAdopted}
 use Rattle.object_tree.specs.Children.{without}
 use Rattle.object_tree.specs.Family.{leaves, moved, parent_of, joined_by, left_by, put_under}
 use Rattle.object_tree.specs.Objects.{change, class_of}
-use Rattle.machine_state.specs.Objects.{shapes_of}
 use Rattle.machine_rules.specs.Good.{AreTyped}
-use Rattle.machine_rules.proofs.Shapes.{classes-same}
 
 -- a part of each object that a change leaves alone
 pub map-change : {X : Type 0} (part : Object → X) (n : ℕ) (f : Object → Object) (xs : List Object) → ((x : Object) → part (f x) ≡ part x) → map part (change n f xs) ≡ map part xs
@@ -64,15 +63,25 @@ content-get [] o x e = absurd (cc e)
 content-get (y ∷ xs) zero x e = cc e
 content-get (y ∷ xs) (suc i) x e = content-get xs i x e
 
-pub typed-same : (p : Loaded) (old new : List Object) → map content_of new ≡ map content_of old → shapes_of new ≡ shapes_of old → AreTyped p old → AreTyped p new
-typed-same p old new contents shapes typed = λ o x is.
+class-by-content : (objects : List Object) (o : ℕ) → class_of objects o ≡ option_map (λ (k : Content). k.class) (slice_get (map content_of objects) o)
+class-by-content [] o = refl
+class-by-content (x ∷ xs) zero = refl
+class-by-content (x ∷ xs) (suc i) = class-by-content xs i
+
+pub classes-same : (old new : List Object) → map content_of new ≡ map content_of old → (o : ℕ) → class_of new o ≡ class_of old o
+classes-same old new contents o =
+    class-by-content new o ∙ ap (λ (l : List Content). option_map (λ (k : Content). k.class) (slice_get l o)) contents ∙ sym (class-by-content old o)
+
+pub typed-same : (p : Loaded) (old new : List Object) → map content_of new ≡ map content_of old → AreTyped p old → AreTyped p new
+typed-same p old new contents typed = λ o x is.
     let at_old = content-there old o (content_of x) (ap (λ (l : List Content). slice_get l o) (sym contents) ∙ content-get new o x is) in
     let t = typed o at_old.0 at_old.1 in
+    let classes : class_of old ≡ class_of new = λ i. λ k. classes-same new old (sym contents) k i in
     let Class : ℕ → Type 0 = λ k. IsClass p k t.class in
     let Types : List Value → Type 0 = λ vs. HaveTypes p (class_of old) vs (map (λ (q : MetaProperty). q.kind) t.class.properties) in
     let In : (ℕ → Option ℕ) → Type 0 = λ f. HaveTypes p f x.values (map (λ (q : MetaProperty). q.kind) t.class.properties) in
     record {
       class = t.class;
       is_class = subst Class (ap (λ (k : Content). k.class) at_old.2) t.is_class;
-      typed = subst In (sym (classes-same new old shapes)) (subst Types (ap (λ (k : Content). k.values) at_old.2) t.typed);
+      typed = subst In classes (subst Types (ap (λ (k : Content). k.values) at_old.2) t.typed);
     }

@@ -5,24 +5,26 @@ use Rattle.script_lang.specs.declared.event.Event.TheVariants.{New, Adopt, Conne
 use Rattle.script_lang.specs.declared.event.Input.{Input}
 use Rattle.meta_model.specs.Loaded.{Loaded}
 use Rattle.meta_model.specs.Sound.{IsSound}
+use Rattle.machine_state.specs.declared.endpoints.Endpoints.{Endpoints}
 use Rattle.machine_state.specs.declared.fault.Answer.{Answer}
 use Rattle.machine_state.specs.declared.fault.Fault.{Fault}
 use Rattle.machine_state.specs.declared.world.World.{World}
 use Rattle.machine_state.specs.Accepting.{accepted}
 use Rattle.machine_state.specs.State.{State, Activation}
-use Rattle.machine_state.specs.Worlds.{at}
+use Rattle.machine_state.specs.Worlds.{at, with_connection}
 use Rattle.machine_rules.specs.Sound.{Sound}
 use Rattle.machine_rules.specs.Keeps.{Grows, Keeps}
 use Rattle.machine_rules.proofs.Keeps.{grows-by, grows-same, grows-then, begins-kept, writes-kept, rules-kept}
 use Rattle.qt_runtime.specs.declared.events.invoke.Invocation.{Invocation}
 use Rattle.qt_runtime.specs.declared.events.invoke.Invocation.TheVariants.{Emit as EmitIt, Call as CallIt}
-use Rattle.qt_runtime.specs.Judgement.{becomes, gives, goes_on}
+use Rattle.qt_runtime.specs.Judgement.{Gives, becomes, gives, goes_on}
 use Rattle.qt_runtime.specs.Runs.{Runs, done, rules, takes}
 use Rattle.qt_runtime.specs.Takes.{judged, Takes, accepts, refuses}
 use Rattle.qt_runtime.specs.Taking.{WorldInvariant, Took}
 use Rattle.qt_runtime.specs.events.Block.{block}
 use Rattle.qt_runtime.specs.events.Invoke.{invoke}
-use Rattle.qt_runtime.proofs.Preservation.{Invariant, runs-invariant}
+use Rattle.qt_runtime.proofs.Preservation.{runs-invariant}
+use Rattle.qt_runtime.proofs.Standing.{Invariant}
 
 -- ---- counts
 
@@ -42,13 +44,16 @@ counts-invoked p a name called inputs (goes_on _ o (goes_on _ m (goes_on _ vs (g
 counts-blocked : {s t : State} (name : List ℕ) (on : Bool) → block s name on (Ok t) → Counts s t
 counts-blocked name on (goes_on _ lives gives) = record { events = refl; connected = omega arith; grows = grows-by _ }
 
+counts-connected : {s t : State} (ends : Endpoints) → Gives (with_connection (accepted s) ends) (Ok t) → Counts s t
+counts-connected ends gives = record { events = refl; connected = omega arith; grows = grows-by _ }
+
 counts-judged : (p : Loaded) {s t : State} (e : Event) → judged p s e (Ok t) → Counts s t
 counts-judged p (New name class) (goes_on _ free (goes_on _ is (goes_on _ room gives))) = record { events = refl; connected = omega arith; grows = grows-by _ }
 counts-judged p (Adopt parent child) (goes_on _ a (goes_on _ c (goes_on _ owns (goes_on _ over (goes_on _ home (becomes x)))))) =
     let events = ap (λ (u : State). u.events) x.gives in
     let connected = ap (λ (u : State). u.connected.last) x.gives in
     record { events = events; connected = omega (arith, connected); grows = record { more = _; is = ap (λ (u : State). u.trace) x.gives } }
-counts-judged p (Connect e) (goes_on _ sender (goes_on _ receiver (goes_on _ signal (goes_on _ method (goes_on _ kind (goes_on _ covers (goes_on _ fits gives))))))) = record { events = refl; connected = omega arith; grows = grows-by _ }
+counts-judged p (Connect e) (goes_on _ sender (goes_on _ receiver (goes_on _ signal (goes_on _ method (goes_on _ kind (goes_on _ covers (goes_on _ fits given))))))) = counts-connected _ given
 counts-judged p (Set name property i) (goes_on _ o (goes_on _ q (goes_on _ v (goes_on _ fits (becomes writes))))) = counts-kept (writes-kept writes)
 counts-judged p (Emit name signal inputs) x = counts-invoked p EmitIt name signal inputs x
 counts-judged p (Call name slot inputs) x = counts-invoked p CallIt name slot inputs x

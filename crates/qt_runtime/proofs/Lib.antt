@@ -14,7 +14,8 @@ mod OneRun
 mod Applying
 pub mod Inherited
 pub mod TypedPaths
-mod Choosing
+pub mod Standing
+pub mod Possible
 pub mod Preservation
 pub mod Progress
 pub mod Halting

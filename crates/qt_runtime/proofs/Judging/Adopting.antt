@@ -9,7 +9,6 @@ use Rattle.machine_state.specs.declared.fault.Fault.{Fault}
 use Rattle.machine_state.specs.declared.refusal.Refusal.{Refusal}
 use Rattle.machine_state.specs.declared.world.World.{World}
 use Rattle.machine_state.specs.Accepting.{accepted}
-use Rattle.machine_state.specs.Objects.{shape_of}
 use Rattle.machine_state.specs.Worlds.{at}
 use Rattle.machine_rules.specs.Good.{AreTyped}
 use Rattle.qt_runtime.specs.Judgement.{Numbered, holds, fails, becomes, goes_on, ends, IsNotAccepted}
@@ -28,7 +27,7 @@ no-parent p w parent child x = then-ends x
 
 pub typed-adopted : {p : Loaded} {a c : ℕ} {y : Object} {old new : List Object} → AreTyped p old → IsAdopted a c y old new → AreTyped p new
 typed-adopted {p} {old = old} {new = new} typed is =
-    typed-same p old new (map-adopted content_of (λ z l. refl) (λ z l. refl) is) (map-adopted shape_of (λ z l. refl) (λ z l. refl) is) typed
+    typed-same p old new (map-adopted content_of (λ z l. refl) (λ z l. refl) is) typed
 
 module _ (p : Loaded) (w : World) (parent child : List ℕ) (a : Numbered Object) (above : IsLiving w.objects parent a) where
   -- .. nor the child's

@@ -6,7 +6,6 @@ use Rattle.object_tree.specs.Objects.{change, blocked}
 use Rattle.machine_state.specs.declared.refusal.Refusal.{Refusal}
 use Rattle.machine_state.specs.declared.world.World.{World}
 use Rattle.machine_state.specs.Accepting.{accepted}
-use Rattle.machine_state.specs.Objects.{shape_of}
 use Rattle.machine_state.specs.State.{State}
 use Rattle.machine_state.specs.Worlds.{at}
 use Rattle.machine_rules.specs.Good.{AreTyped}
@@ -33,4 +32,4 @@ blocks p w name on o lives = judged-blocking p (at w []) name on (goes_on o (liv
 
 pub typed-blocked : {p : Loaded} {objects : List Object} (o : ℕ) (on : Bool) → AreTyped p objects → AreTyped p (change o (blocked on) objects)
 typed-blocked {p} {objects} o on typed =
-    typed-same p objects (change o (blocked on) objects) (map-change content_of o (blocked on) objects (λ z. refl)) (map-change shape_of o (blocked on) objects (λ z. refl)) typed
+    typed-same p objects (change o (blocked on) objects) (map-change content_of o (blocked on) objects (λ z. refl)) typed

@@ -1,10 +1,11 @@
 -- `connect A S B M kind` (docs/machine.md, "Events"; Qt 6, "Signals & Slots").
-use Rattle.std.specs.Prelude.{◌≡◌, ◌≢◌, ℕ, zero, suc, Result}
+use Rattle.std.specs.Prelude.{◌≡◌, ◌≢◌, ℕ, eqb, if◌then◌else◌, Result}
 use Rattle.signatures.specs.declared.kind.Kind.TheVariants.{Queued}
 use Rattle.signatures.specs.declared.sig.Sig.{Sig}
 use Rattle.signatures.specs.Types.{Fits}
 use Rattle.meta_model.specs.declared.object.MetaMethod.{MetaMethod}
 use Rattle.meta_model.specs.declared.object.Work.TheVariants.{Signal}
+use Rattle.meta_model.specs.declared.qobject.TheConstants.{DESTROYED, DESTROYED_ALONE}
 use Rattle.meta_model.specs.Loaded.{Loaded}
 use Rattle.meta_model.specs.Members.{IsMethod, Covers}
 use Rattle.script_lang.specs.declared.event.Connect.{Connect as Connecting}
@@ -30,10 +31,9 @@ pub record IsSignalOf (p : Loaded) (class : ℕ) (sig : Sig) (g : Numbered MetaM
 abbrev pub IsSignalNumber : Loaded → ℕ → Sig → ℕ → Type 0
 IsSignalNumber p class sig m = (method : MetaMethod) × IsSignalOf p class sig (numbered m method)
 
--- the signal that a spelling names: `destroyed()`, which has the number 1, is `destroyed(QObject*)`
+-- the signal that a spelling names: `destroyed()` is `destroyed(QObject*)`
 abbrev pub named_signal : ℕ → ℕ
-named_signal (suc zero) = 0
-named_signal g = g
+named_signal g = if eqb g DESTROYED_ALONE then DESTROYED else g
 
 -- A connection with the next number. One of kind queued is refused, as long as nothing carries queued calls out.
 abbrev pub connect : Loaded → State → Connecting → Result State Refusal → Type 0

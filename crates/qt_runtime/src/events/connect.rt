@@ -98,8 +98,9 @@ fn is_queued(kind: Kind) -> bool
 fn named_signal(signal: usize) -> usize
     ensures { result ≡ named_signal signal }
 {
-    match signal {
-        DESTROYED_ALONE => DESTROYED,
-        _ => signal,
+    if signal == DESTROYED_ALONE {
+        DESTROYED
+    } else {
+        signal
     }
 }

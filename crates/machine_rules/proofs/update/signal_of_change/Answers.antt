@@ -1,6 +1,6 @@
 use Rattle.std.proofs.Common.{◌≡◌, ◌∙◌, Some, sym}
 use Rattle.machine_rules.proofs.Beginning.{not-true}
-use Rattle.machine_rules.proofs.Writing.{changes-none, changes-all}
+use Rattle.machine_rules.proofs.Writes.{changes-none, changes-all}
 use Rattle.machine_rules.proofs.update.signal_of_change.Goals as goal
 
 pub returns-then-is_same : goal.returns-then-is_same
