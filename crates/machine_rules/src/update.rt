@@ -1,19 +1,17 @@
 //! Writes of properties, and the notifications that follow them.
 
-ghost use Rattle.std.specs.Prelude.{◌≡◌, ◌<◌, [], length, Some, slice_get, IfOk, IfErr};
-ghost use Rattle.std.specs.Option.{option_copied};
-ghost use Rattle.signatures.specs.declared.value.Value.{Value as AValue};
+ghost use Rattle.std.specs.Prelude.{◌≡◌, ◌<◌, [], length, Some, IfOk, IfErr};
 ghost use Rattle.machine_rules.specs.Sound.{IsSoundWorld};
 ghost use Rattle.machine_state.specs.State.{Update};
 ghost use Rattle.machine_rules.specs.Calls.{Finishes, Leads, EndsWrite};
-ghost use Rattle.machine_rules.specs.Writing.{entry_of_write, Announces, MayAnnounce, IsWriting, IsUnwritten};
-ghost use Rattle.machine_rules.specs.Rules.{Changes, places_of};
+ghost use Rattle.machine_rules.specs.Writing.{entry_of_write, TellsChange, Announces, MayAnnounce, IsWriting, IsUnwritten};
+ghost use Rattle.machine_rules.specs.Rules.{places_of};
 
 use crate::active::Active;
 use crate::setting::{Setting, front};
-use machine_state::{Entry, Fault, Happening, World, show};
+use machine_state::{Entry, Fault, Happening, World, show, stored};
 use meta_objects::MetaProperty;
-use object_tree::Object;
+use object_tree::{Object, Tree};
 use signatures::{ObjectId, Value};
 use std::alloc::AllocError;
 
@@ -67,7 +65,7 @@ impl Setting {
         let Some((found, declared)) = self.field(world, object, property) else {
             return Err(Fault::BadType);
         };
-        let changed = signal_of_change(declared.notify, found.values.get(property), value);
+        let changed = signal_of_change(&world.objects, object, property, declared.notify, value);
         if !world.objects.has_type(&self.meta, value, declared.kind) {
             return Err(Fault::BadType);
         }
@@ -139,10 +137,10 @@ impl Setting {
             world.old world.new result }
     {
         world.require_rule()?;
-        let Some((found, declared)) = self.member(world, object, signal) else {
+        let Some((_, declared)) = self.member(world, object, signal) else {
             unreachable!()
         };
-        let Some(value) = found.values.get(property) else {
+        let Some(value) = stored(&world.objects, object, property) else {
             unreachable!()
         };
         let present = [value.copy()?];
@@ -152,13 +150,22 @@ impl Setting {
     }
 }
 
-/// The notify signal of a property that is written, where there is one and the new value isn't the old one.
-fn signal_of_change(notify: Option<usize>, old: Option<&Value>, new: &Value) -> Option<usize>
-    ensures { (before : AValue) → option_copied old.entry ≡ Some before →
-        Changes before new.now notify result }
+/// The notify signal of a property that is written, where there is one and the new value doesn't read as the old one.
+fn signal_of_change(
+    objects: &Tree,
+    object: ObjectId,
+    property: usize,
+    notify: Option<usize>,
+    new: &Value,
+) -> Option<usize>
+    ensures { TellsChange objects.now object property notify new.now result }
 {
-    match old {
-        Some(before) => { if before.is_same(new) { None } else { notify } }
-        None => notify,
+    let Some(old) = stored(objects, object, property) else {
+        return notify;
+    };
+    if objects.is_same(old, new) {
+        None
+    } else {
+        notify
     }
 }

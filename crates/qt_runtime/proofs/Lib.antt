@@ -1,6 +1,5 @@
 mod Lists
 mod Changes
-mod Typed
 mod Fitting
 mod Running
 mod Judged

@@ -1,5 +1,5 @@
 -- What a statement of a body that stands does is possible: what it names is there.
-use Rattle.std.proofs.Common.{◌≡◌, ℕ, true, false, List, ◌∷◌, Option, Some, None, slice_get, subst}
+use Rattle.std.proofs.Common.{◌≡◌, ℕ, true, false, List, ◌∷◌, Option, Some, None, subst}
 use Rattle.std.specs.Prelude.{IfSome}
 use Rattle.std.specs.Option.{option_map}
 use Rattle.signatures.specs.declared.value.Value.{Value}
@@ -13,9 +13,11 @@ use Rattle.meta_model.specs.declared.object.ValueType.{ValueType}
 use Rattle.meta_model.specs.Loaded.{Loaded}
 use Rattle.meta_model.specs.Members.{Below}
 use Rattle.meta_model.specs.Sound.{IsSound, AreSound, IsSoundStatement, next_sound, set_sound, emit_sound, call_sound, if_sound}
+use Rattle.object_tree.specs.declared.life.Life.{Life}
 use Rattle.object_tree.specs.declared.object.Object.{Object}
+use Rattle.object_tree.specs.Objects.{Lives}
 use Rattle.machine_rules.specs.Doings.{Doing, Write, Begin, Choose, Nothing, on_object, chosen_by, doing}
-use Rattle.machine_rules.specs.Good.{AreTyped}
+use Rattle.object_tree.specs.Typed.{AreTyped}
 use Rattle.machine_rules.specs.Paths.{path_value, value_of, values_of}
 use Rattle.machine_rules.specs.There.{IsMember, IsField}
 use Rattle.qt_runtime.proofs.Inherited.{method-below, property-below}
@@ -36,9 +38,9 @@ map-so P act None all = tt
 map-so P act (Some v) all = all v
 
 -- a path leads to null, or to an object of the class
-object-so : {p : Loaded} {objects : List Object} {c : ℕ} (P : Doing → Type 0) (act : ℕ → Option Doing) (found : Option Value) → Reaches p objects c found → P Nothing → ((y : ℕ) (x : Object) → slice_get objects y ≡ Some x → Below p x.class c → IfSome (act y) P) → IfSome (on_object act found) P
+object-so : {p : Loaded} {objects : List Object} {c : ℕ} (P : Doing → Type 0) (act : ℕ → Option Doing) (found : Option Value) → Reaches p objects c found → P Nothing → ((y : ℕ) (x : Object) (l : Life) → Lives objects y x l → Below p l.class c → IfSome (act y) P) → IfSome (on_object act found) P
 object-so P act found to_null none all = none
-object-so P act found (to_object {o = y} {x = x} there beneath) none all = all y x there beneath
+object-so P act found (to_object {o = y} {x = x} {l = l} lives beneath) none all = all y x l lives beneath
 
 chosen-so : (P : Doing → Type 0) (block other : List Statement) (found : Option Value) → P (Choose block) → P (Choose other) → IfSome (chosen_by block other found) P
 chosen-so P block other None first second = tt
@@ -57,18 +59,18 @@ module _ {p : Loaded} {objects : List Object} (sound : IsSound p) (typed : AreTy
 
     statement-so : (f : layer.Statement-F Statement) → IsSoundStatement p body.declaring body.kinds f → IfSome (doing objects o arguments f) Possible
     statement-so f (set_sound {path = path} {q = q} {e = e} is) =
-        let reaches = path-reaches objects o body.declaring body.object arguments body.kinds path sound typed body.is_object body.below body.typed is.leads in
+        let reaches = path-reaches objects o body.declaring body.object body.life arguments body.kinds path sound typed body.lives body.below body.typed is.leads in
         object-so Possible (λ y. option_map (λ (new : Value). Write y q new) (value_of objects o arguments e)) (path_value objects o arguments path) reaches tt
-        (λ y z there beneath. map-so Possible (λ (new : Value). Write y q new) (value_of objects o arguments e)
-        (λ new. let own = property-below sound beneath is.is in (z, _, record { is_object = there; class = own.class; is_class = own.is_class; is_property = own.is })))
+        (λ y z l lives beneath. map-so Possible (λ (new : Value). Write y q new) (value_of objects o arguments e)
+        (λ new. let own = property-below sound beneath is.is in (z, _, record { life = l; lives = lives; class = own.class; is_class = own.is_class; is_property = own.is })))
     statement-so f (emit_sound {m = g} {es = es} is) =
         map-so Possible (λ (given : List Value). Begin o g given) (values_of objects o arguments es)
-        (λ given. (body.object, _, record { is_object = body.is_object; is_method = method-below sound body.below is.is }))
+        (λ given. (body.object, _, record { life = body.life; lives = body.lives; is_method = method-below sound body.below is.is }))
     statement-so f (call_sound {path = path} {m = n} {es = es} is) =
-        let reaches = path-reaches objects o body.declaring body.object arguments body.kinds path sound typed body.is_object body.below body.typed is.leads in
+        let reaches = path-reaches objects o body.declaring body.object body.life arguments body.kinds path sound typed body.lives body.below body.typed is.leads in
         object-so Possible (λ y. option_map (λ (given : List Value). Begin y n given) (values_of objects o arguments es)) (path_value objects o arguments path) reaches tt
-        (λ y z there beneath. map-so Possible (λ (given : List Value). Begin y n given) (values_of objects o arguments es)
-        (λ given. (z, _, record { is_object = there; is_method = method-below sound beneath is.is })))
+        (λ y z l lives beneath. map-so Possible (λ (given : List Value). Begin y n given) (values_of objects o arguments es)
+        (λ given. (z, _, record { life = l; lives = lives; is_method = method-below sound beneath is.is })))
     statement-so f (if_sound {e = e} {chosen = block} {other = other} is first second) =
         chosen-so Possible block other (value_of objects o arguments e) first second
 

@@ -1,5 +1,5 @@
 -- Why what is going on goes on: its objects, members and statements are there.
-use Rattle.std.proofs.Common.{◌≡◌, ℕ, suc, ◌+◌, ◌<◌, Bool, List, [], ◌∷◌, ◌++◌, length, take, true, false, Option, Some, None, slice_get, refl, sym, subst, Ok, arith}
+use Rattle.std.proofs.Common.{◌≡◌, ℕ, suc, ◌+◌, ◌<◌, Bool, List, [], ◌∷◌, ◌++◌, length, take, true, false, Option, Some, None, slice_get, refl, sym, ◌∙◌, subst, Ok, arith}
 use Rattle.std.specs.List.{AllByRecursion}
 use Rattle.signatures.specs.declared.value.Value.{Value}
 use Rattle.script_lang.specs.declared.event.Event.{Event}
@@ -14,11 +14,15 @@ use Rattle.meta_model.specs.declared.object.Work.TheVariants.{Signal, Slot}
 use Rattle.meta_model.specs.Loaded.{Loaded}
 use Rattle.meta_model.specs.Members.{IsClass, Below}
 use Rattle.meta_model.specs.Sound.{IsSound, IsSoundWork, IsSoundBody, AreSound, none_sound, next_sound}
-use Rattle.meta_model.specs.Values.{HaveTypes}
 use Rattle.connections.specs.declared.connection.Connection.{Connection}
+use Rattle.object_tree.specs.declared.life.Life.{Life}
 use Rattle.object_tree.specs.declared.object.Object.{Object}
-use Rattle.object_tree.specs.Creating.{fresh, initial_values}
-use Rattle.object_tree.specs.Objects.{class_of, written, change, blocked}
+use Rattle.object_tree.specs.Adopting.{IsAdopted}
+use Rattle.object_tree.specs.Creating.{begun as begun_life, fresh, initial_values}
+use Rattle.object_tree.specs.Family.{moved}
+use Rattle.object_tree.specs.Objects.{change_life, written, blocked}
+use Rattle.object_tree.specs.Typed.{AreTyped, ReadAs}
+use Rattle.object_tree.proofs.TypedObjects.{class-more, seen-appended, shape_in, class-same, seen-same, shape-change, shape-moved}
 use Rattle.machine_state.specs.Worlds.{main, with_connection}
 use Rattle.machine_state.specs.declared.endpoints.Endpoints.{Endpoints}
 use Rattle.machine_rules.specs.Doings.{Doing, Write, Begin, Choose, Nothing, doing}
@@ -41,8 +45,8 @@ use Rattle.qt_runtime.specs.events.Connect.{named_signal, IsMethodOf, IsSignalOf
 use Rattle.qt_runtime.specs.events.Invoke.{invoke}
 use Rattle.qt_runtime.specs.events.Named.{IsLiving}
 use Rattle.qt_runtime.proofs.Fitting.{kinds-fit}
-use Rattle.qt_runtime.proofs.Judging.Naming.{living-is}
-use Rattle.machine_rules.specs.Good.{AreTyped, ArgumentsFit, TopFits, IsWell}
+use Rattle.qt_runtime.proofs.Judging.Naming.{living-is, living-object}
+use Rattle.machine_rules.specs.Good.{ArgumentsFit, TopFits, IsWell}
 use Rattle.qt_runtime.specs.Runs.{Runs, done, rules, takes}
 use Rattle.machine_rules.specs.Runs.{Rules}
 use Rattle.machine_rules.specs.Runs as of_rules
@@ -50,9 +54,9 @@ use Rattle.machine_rules.specs.Sound.{Sound, Joined}
 use Rattle.machine_rules.specs.Keeps.{StayThere, Keeps}
 use Rattle.machine_rules.specs.There.{IsMember, IsField}
 use Rattle.machine_rules.proofs.Fields.{member-method, field-written}
-use Rattle.qt_runtime.proofs.Changes.{content_of, classes-same, map-change, map-adopted}
-use Rattle.qt_runtime.proofs.Lists.{all-snoc, all-weaken, get-append}
-use Rattle.machine_rules.proofs.Keeps.{stays, values-stay, same-stay, written-stay, all-joined-still, rule-kept, begins-kept, writes-kept}
+use Rattle.qt_runtime.proofs.Changes.{adopted-by}
+use Rattle.qt_runtime.proofs.Lists.{all-snoc, all-weaken}
+use Rattle.machine_rules.proofs.Keeps.{all-stay, written-stay, all-joined-still, rule-kept, begins-kept, writes-kept}
 
 -- ---- statements
 
@@ -65,7 +69,7 @@ sound-rest : {p : Loaded} {me : ℕ} {kinds : List ValueType} {x : Statement} {r
 sound-rest (next_sound one more) = more
 
 body-with : {p : Loaded} {objects : List Object} {o : ℕ} {arguments : List Value} {left : List Statement} (x : BodyStands p objects o arguments left) (rest : List Statement) → AreSound p x.declaring x.kinds rest → BodyStands p objects o arguments rest
-body-with x rest sound = record { object = x.object; is_object = x.is_object; declaring = x.declaring; below = x.below; kinds = x.kinds; typed = x.typed; sound = sound }
+body-with x rest sound = record { object = x.object; life = x.life; lives = x.lives; declaring = x.declaring; below = x.below; kinds = x.kinds; typed = x.typed; sound = sound }
 
 body-rest : {p : Loaded} {objects : List Object} {o : ℕ} {arguments : List Value} {x : Statement} {rest : List Statement} → BodyStands p objects o arguments (x ∷ rest) → BodyStands p objects o arguments rest
 body-rest {rest = rest} x = body-with x rest (sound-rest x.sound)
@@ -76,10 +80,10 @@ body-rest {rest = rest} x = body-with x rest (sound-rest x.sound)
 called-stands : {p : Loaded} {objects : List Object} {o m : ℕ} {x : Object} {method : MetaMethod} {arguments : List Value} {statements : List Statement} → IsSound p → IsMember p objects o m x method → method.work ≡ Slot statements → ArgumentsFit p objects o m arguments → BodyStands p objects o arguments statements
 called-stands {p} {objects} {m = m} {x = x} {method = method} {arguments = arguments} {statements = statements} sound is work_is fit =
     let method_is : fit.method ≡ method = member-method fit.is is in
-    let Typed : MetaMethod → Type 0 = λ k. HaveTypes p (class_of objects) arguments k.kinds in
-    let Sound_work : Work → Type 0 = λ w. IsSoundWork p x.class m method.kinds w in
-    let body : IsSoundBody p x.class m method.kinds statements = subst Sound_work work_is ((sound.classes x.class is.is_method.class is.is_method.is_class).methods m method is.is_method.is).work in
-    record { object = x; is_object = is.is_object; declaring = body.declaring; below = body.below; kinds = method.kinds; typed = subst Typed method_is fit.typed; sound = body.sound }
+    let Typed : MetaMethod → Type 0 = λ k. ReadAs p objects arguments k.kinds in
+    let Sound_work : Work → Type 0 = λ w. IsSoundWork p is.life.class m method.kinds w in
+    let body : IsSoundBody p is.life.class m method.kinds statements = subst Sound_work work_is ((sound.classes is.life.class is.is_method.class is.is_method.is_class).methods m method is.is_method.is).work in
+    record { object = x; life = is.life; lives = is.lives; declaring = body.declaring; below = body.below; kinds = method.kinds; typed = subst Typed method_is fit.typed; sound = body.sound }
 
 -- a method that begins, over what stands
 begun-stands : (p : Loaded) (s : State) (below : List Activation) (o : ℕ) (x : Object) (m : ℕ) (method : MetaMethod) (arguments : List Value) (work : Work) (t : State) → IsSound p → IsMember p s.objects o m x method → method.work ≡ work → t ≡ begun s below o x m method arguments work → length s.stack < suc (length below) → IsWell p s t → AllByRecursion (Stands p s.objects) below → AllStand p t
@@ -103,7 +107,7 @@ module _ {p : Loaded} {s t : State} (sound : IsSound p) (well : IsWell p s t) wh
 
   writes-stands : {below : List Activation} {o q : ℕ} {new : Value} → Writes p s below o q new t → AllByRecursion (Stands p s.objects) below → AllStand p t
   writes-stands {below} {o} {q} {new} w lower =
-      let after : List Object = change o (written q new) s.objects in
+      let after : List Object = change_life o (written q new) s.objects in
       let places : AllByRecursion (PlaceStands p after) (places_of o q w.signal) = notified-stands (field-written new w.is) refl w.changes in
       let Family : State → Type 0 = λ u. AllStand p u in
       subst Family (sym w.gives) (places, all-weaken (Stands p s.objects) (Stands p after) below (stands-still p s.objects after (written-stay s.objects o q new)) lower)
@@ -148,53 +152,44 @@ module _ {p : Loaded} {s t : State} (sound : IsSound p) (well : IsWell p s t) wh
 
 -- ---- events
 
-member-more : {p : Loaded} {o m : ℕ} {x : Object} {method : MetaMethod} (objects more : List Object) → IsMember p objects o m x method → IsMember p (objects ++ more) o m x method
-member-more {o = o} {x = x} objects more is = record { is_object = get-append objects more o x is.is_object; is_method = is.is_method }
-
-joined-more : {p : Loaded} (objects more : List Object) (c : Connection) → Joined p objects c → Joined p (objects ++ more) c
-joined-more objects more c j = record {
-  sender = j.sender;
-  signal = j.signal;
-  sends = member-more objects more j.sends;
-  receiver = j.receiver;
-  method = j.method;
-  receives = member-more objects more j.receives;
-  rest = j.rest;
-  fits = j.fits;
-}
-
 -- nothing is going on
 none-stand : (p : Loaded) {s : State} (objects : List Object) → IsIdle s → AllByRecursion (Stands p objects) s.stack
 none-stand p objects idle = let Family : List Activation → Type 0 = λ l. AllByRecursion (Stands p objects) l in subst Family (sym idle.empty) tt
 
 -- an object is added
-created-invariant : {p : Loaded} {s : State} (x : Object) → IsIdle s → Invariant p s → AreTyped p (s.objects ++ x ∷ []) → Invariant p (record (accepted s) { objects = s.objects ++ x ∷ [] })
-created-invariant {p} {s} x idle up typed = record {
-  sound = record { typed = typed; joined = all-weaken (Joined p s.objects) (Joined p (s.objects ++ x ∷ [])) s.connected.connections (joined-more s.objects (x ∷ [])) up.sound.joined };
-  stands = none-stand p (s.objects ++ x ∷ []) idle;
-}
+created-stay : (objects : List Object) (x : Object) (l : Life) → x.life ≡ Some l → StayThere objects (objects ++ x ∷ [])
+created-stay objects x l alive = record { living = λ o class is. class-more objects x o class is; dead = λ o is. seen-appended objects x l o o alive ∙ is }
 
--- objects change, and none its class
+-- objects change, and the living ones stay of their classes
 changed-invariant : {p : Loaded} {s : State} (objects : List Object) → IsIdle s → Invariant p s → AreTyped p objects → StayThere s.objects objects → Invariant p (record (accepted s) { objects = objects })
 changed-invariant {p} {s} objects idle up typed stay = record {
   sound = record { typed = typed; joined = all-joined-still p s.objects objects s.connected.connections stay up.sound.joined };
   stands = none-stand p objects idle;
 }
 
+-- .. where each of them shows the same
+same-stay : (old new : List Object) → ((o : ℕ) → shape_in (slice_get new o) ≡ shape_in (slice_get old o)) → StayThere old new
+same-stay old new same = record { living = λ o class is. class-same old new o (same o) ∙ is; dead = λ o is. seen-same old new o (same o) ∙ is }
+
+adopted-stay : {a c : ℕ} {y : Life} {old new : List Object} → IsAdopted a c y old new → StayThere old new
+adopted-stay {a} {c} {old = old} is = adopted-by (λ (l : List Object). StayThere old l) (all-stay old) (same-stay old (moved a c old) (shape-moved a c old)) is
+
 -- a connection joins what it names
-connection-joined : {p : Loaded} {objects : List Object} (e : Connecting) (n : ℕ) (a b : Numbered Object) (g m : Numbered MetaMethod) → IsSound p → IsLiving objects e.sender a → IsLiving objects e.receiver b → IsSignalOf p a.it.class e.signal g → IsMethodOf p b.it.class e.method m → Fits e.signal e.method →
+connection-joined : {p : Loaded} {objects : List Object} (e : Connecting) (n : ℕ) (a b : Numbered Life) (g m : Numbered MetaMethod) → IsSound p → IsLiving objects e.sender a → IsLiving objects e.receiver b → IsSignalOf p a.it.class e.signal g → IsMethodOf p b.it.class e.method m → Fits e.signal e.method →
     Joined p objects (record { number = n; sender = a.number; signal = named_signal g.number; receiver = b.number; method = m.number; kind = e.kind; single = false })
 connection-joined e n a b g m sound sender receiver signal method fits =
     let Signal_types : Sig → Type 0 = λ t. Fits t e.method in
     let Method_types : Sig → Type 0 = λ t. Fits g.it.sig t in
     let front = kinds-fit sound signal.of.is method.is (subst Method_types (sym method.signed) (subst Signal_types (sym signal.of.signed) fits)) in
+    let from = living-object a sender in
+    let to = living-object b receiver in
     record {
-      sender = a.it;
+      sender = from.0;
       signal = front.0;
-      sends = record { is_object = sender.is.is; is_method = front.1 };
-      receiver = b.it;
+      sends = record { life = a.it; lives = from.1; is_method = front.1 };
+      receiver = to.0;
       method = m.it;
-      receives = record { is_object = receiver.is.is; is_method = method.is };
+      receives = record { life = b.it; lives = to.1; is_method = method.is };
       rest = front.2.0;
       fits = front.2.1;
     }
@@ -219,14 +214,15 @@ invoked-invariant {p} {s} a name called inputs sound up well (goes_on _ o (goes_
 
 blocked-invariant : {p : Loaded} {s t : State} (name : List ℕ) (on : Bool) → IsIdle s → Invariant p s → IsWell p s t → block s name on (Ok t) → Invariant p t
 blocked-invariant {p} {s} name on idle up well (goes_on o lives just) =
-    changed-invariant (change o.number (blocked on) s.objects) idle up well.values (same-stay s.objects _ (classes-same s.objects _ (map-change content_of o.number (blocked on) s.objects (λ z. refl))))
+    changed-invariant (change_life o.number (blocked on) s.objects) idle up well.values (same-stay s.objects _ (shape-change o.number (blocked on) s.objects (λ l. refl)))
 
 judged-invariant : {p : Loaded} {s t : State} (e : Event) → IsSound p → IsIdle s → Invariant p s → judged p s e (Ok t) → IsWell p s t → Invariant p t
-judged-invariant (New name class) sound idle up (goes_on _ free (goes_on c is (goes_on _ room just))) well = created-invariant (fresh name c.number main (initial_values c.it)) idle up well.values
+judged-invariant (New name class) sound idle up (goes_on _ free (goes_on c is (goes_on _ room just))) well =
+    changed-invariant _ idle up well.values (created-stay _ (fresh name c.number main (initial_values c.it)) (begun_life c.number main (initial_values c.it)) refl)
 judged-invariant {p} {s} (Adopt parent child) sound idle up (goes_on _ a (goes_on _ c (goes_on _ owns (goes_on _ over (goes_on _ home (becomes x)))))) well =
     let Family : State → Type 0 = λ u. Invariant p u in
     let Typed : State → Type 0 = λ u. AreTyped p u.objects in
-    subst Family (sym x.gives) (changed-invariant x.objects idle up (subst Typed x.gives well.values) (same-stay s.objects _ (classes-same s.objects _ (map-adopted content_of (λ z l. refl) (λ z l. refl) x.is))))
+    subst Family (sym x.gives) (changed-invariant x.objects idle up (subst Typed x.gives well.values) (adopted-stay x.is))
 judged-invariant {p} {s} (Connect e) sound idle up (goes_on a sender (goes_on b receiver (goes_on g (finds signal) (goes_on m (finds method) (goes_on _ kind (goes_on _ covers (goes_on _ (so fits) given))))))) well =
     connected-invariant given up well (connection-joined e (s.connected.last + 1) a b g m sound (living-is sender) (living-is receiver) signal method fits)
 judged-invariant {p} {s} (Set name property i) sound idle up (goes_on _ o (goes_on _ q (goes_on _ v (goes_on _ fits (becomes writes))))) well =

@@ -13,6 +13,7 @@ use Rattle.meta_model.specs.Sound.{IsSound}
 use Rattle.connections.specs.declared.connection.Connection.{Connection}
 use Rattle.machine_state.specs.declared.fault.Fault.{Fault}
 use Rattle.object_tree.specs.declared.object.Object.{Object}
+use Rattle.object_tree.specs.Seen.{seen}
 use Rattle.machine_state.specs.State.{State, IsIdle, Place, Activation, Body, Emit, Update}
 use Rattle.machine_rules.specs.Rules.{RuleAt, StatementRule, Does, EmitRule, UpdateRule, Begins, Writes, Changes, changed, unchanged, silent}
 use Rattle.machine_rules.specs.Doings.{Doing, Write, Begin, Choose, Nothing, doing}
@@ -40,7 +41,7 @@ module _ {p : Loaded} {s : State} (sound : IsSound p) (up : Invariant p s) where
   no-write : {o q : ℕ} {x : Object} {property : MetaProperty} {new : Value} {below : List Activation} → IsField p s.objects o q x property → ((t : State) → ¬ Writes p s below o q new t) → ⊥
   no-write {x = x} {property = property} {new = new} field none =
       let old = old-there field up.sound.typed in
-      notified-somehow old.0 new property.notify (λ signal changes. none _ (record { object = x; property = property; is = field; old = old.0; is_old = old.1; signal = signal; changes = changes; gives = refl }))
+      notified-somehow (seen s.objects old.0) (seen s.objects new) property.notify (λ signal changes. none _ (record { object = x; property = property; is = field; old = old.0; is_old = old.1; signal = signal; changes = changes; gives = refl }))
 
   -- what is possible is done by some rule
   possible-goes : (o m : ℕ) (arguments : List Value) (rest : List Statement) (below : List Activation) (me : ℕ) (kinds : List ValueType) (d : Doing) → IsPossible p s.objects me kinds d → ((t : State) → ¬ Does p s o m arguments rest below d t) → ⊥
@@ -69,7 +70,7 @@ module _ {p : Loaded} {s : State} (sound : IsSound p) (up : Invariant p s) where
   update-goes below [] all stuck = stuck _ refl
   update-goes below (place ∷ places) all stuck =
       let x = all.0 in
-      let notifier = ((sound.classes x.object.class x.is.class x.is.is_class).properties place.property x.property x.is.is_property).notifies x.signal x.notifies in
+      let notifier = ((sound.classes x.is.life.class x.is.class x.is.is_class).properties place.property x.property x.is.is_property).notifies x.signal x.notifies in
       let present = old-there x.is up.sound.typed in
       stuck _ (record {
         object = x.object;

@@ -19,7 +19,8 @@ use Rattle.machine_state.specs.Accepting.{accepted}
 use Rattle.machine_state.specs.Worlds.{at, accepting_entries, accepting_write}
 use Rattle.qt_runtime.specs.Takes.{judged, accepts}
 use Rattle.machine_rules.specs.Reaches.{Ends, begin_entry, top_of, IsBegun, IsBarred}
-use Rattle.machine_rules.specs.Good.{AreTyped, ArgumentsFit, TopFits}
+use Rattle.object_tree.specs.Typed.{AreTyped}
+use Rattle.machine_rules.specs.Good.{ArgumentsFit, TopFits}
 use Rattle.machine_rules.specs.Rules.{begun, places_of}
 use Rattle.machine_rules.specs.Writing.{Alters, IsWriting, IsUnwritten, missing, ill, deep, short}
 use Rattle.machine_rules.proofs.Beginning.{top-fits}
@@ -91,7 +92,7 @@ pub assigned : {p : Loaded} {d o q : ℕ} {w v u : World} {value : Value} {line 
     MatchResult r (λ _. Took p d w e u (Ok Done)) (λ f. Halted p d w e u f)
 assigned {p} {d} {o} {q} {w} {v} {u} {value} {line} {changed} e typed some writes is v_is ends =
     let Typed : World → Type 0 = λ z. AreTyped p z.objects in
-    let typed_after : AreTyped p v.objects = subst Typed (sym v_is) (typed-written is.alters.is typed is.fits) in
+    let typed_after : AreTyped p v.objects = subst Typed (sym v_is) (typed-written value is.alters.is typed is.fits) in
     let less : v.left ≡ w.left - 1 = ap (λ (z : World). z.left) v_is in
     let set = judged-written w e writes typed is v_is in
     let room : 0 < d = is.room in

@@ -1,5 +1,5 @@
--- What stands in a run: the objects and properties that activations name are there, and bodies are sound.
-use Rattle.std.proofs.Common.{◌≡◌, ℕ, List, Some, slice_get, sym, subst}
+-- What stands in a run: the objects that activations name live, their properties are there, and bodies are sound.
+use Rattle.std.proofs.Common.{◌≡◌, ℕ, List, Some, sym, subst}
 use Rattle.std.specs.List.{AllByRecursion}
 use Rattle.signatures.specs.declared.value.Value.{Value}
 use Rattle.meta_model.specs.declared.object.MetaProperty.{MetaProperty}
@@ -8,9 +8,10 @@ use Rattle.meta_model.specs.declared.object.ValueType.{ValueType}
 use Rattle.meta_model.specs.Loaded.{Loaded}
 use Rattle.meta_model.specs.Members.{IsClass, Below}
 use Rattle.meta_model.specs.Sound.{AreSound}
-use Rattle.meta_model.specs.Values.{HaveTypes}
+use Rattle.object_tree.specs.declared.life.Life.{Life}
 use Rattle.object_tree.specs.declared.object.Object.{Object}
-use Rattle.object_tree.specs.Objects.{class_of}
+use Rattle.object_tree.specs.Objects.{Lives}
+use Rattle.object_tree.specs.Typed.{ReadAs}
 use Rattle.machine_state.specs.State.{State, Place, Activation, Body, Emit, Update}
 use Rattle.machine_rules.specs.Keeps.{StayThere}
 use Rattle.machine_rules.specs.Sound.{Sound}
@@ -20,14 +21,15 @@ use Rattle.qt_runtime.proofs.Lists.{all-weaken}
 
 -- ---- what stands
 
--- a body is of an object that is there, and what is left of it is sound for the arguments
+-- a body is of a living object, and what is left of it is sound for the arguments
 pub record BodyStands (p : Loaded) (objects : List Object) (o : ℕ) (arguments : List Value) (left : List Statement) : Type 0 where
   pub object : Object
-  pub is_object : slice_get objects o ≡ Some object
+  pub life : Life
+  pub lives : Lives objects o object life
   pub declaring : ℕ
-  pub below : Below p object.class declaring
+  pub below : Below p life.class declaring
   pub kinds : List ValueType
-  pub typed : HaveTypes p (class_of objects) arguments kinds
+  pub typed : ReadAs p objects arguments kinds
   pub sound : AreSound p declaring kinds left
 
 -- a property that is to be notified is there, and has a notify signal
@@ -52,27 +54,28 @@ pub record Invariant (p : Loaded) (s : State) : Type 0 where
 
 pub place-still : {p : Loaded} (old new : List Object) → StayThere old new → (place : Place) → PlaceStands p old place → PlaceStands p new place
 place-still {p} old new stay place x =
-    let y = stays old new place.object stay x.is.is_object in
+    let y = stays old new place.object stay x.is.lives in
     let Classes : ℕ → Type 0 = λ k. IsClass p k x.is.class in
     record {
       object = y.0;
       property = x.property;
-      is = record { is_object = y.1; class = x.is.class; is_class = subst Classes (sym y.2) x.is.is_class; is_property = x.is.is_property };
+      is = record { life = y.1; lives = y.2; class = x.is.class; is_class = subst Classes (sym y.3) x.is.is_class; is_property = x.is.is_property };
       signal = x.signal;
       notifies = x.notifies;
     }
 
 pub stands-still : (p : Loaded) (old new : List Object) → StayThere old new → (a : Activation) → Stands p old a → Stands p new a
 stands-still p old new stay (Body o m arguments left) x =
-    let y = stays old new o stay x.is_object in
+    let y = stays old new o stay x.lives in
     let Classes : ℕ → Type 0 = λ k. Below p k x.declaring in
     record {
       object = y.0;
-      is_object = y.1;
+      life = y.1;
+      lives = y.2;
       declaring = x.declaring;
-      below = subst Classes (sym y.2) x.below;
+      below = subst Classes (sym y.3) x.below;
       kinds = x.kinds;
-      typed = values-stay p (class_of old) (class_of new) stay arguments x.kinds x.typed;
+      typed = values-stay p stay arguments x.kinds x.typed;
       sound = x.sound;
     }
 stands-still p old new stay (Emit o g arguments used last) x = tt

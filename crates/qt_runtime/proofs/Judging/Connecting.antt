@@ -7,7 +7,7 @@ use Rattle.meta_model.specs.declared.object.MetaMethod.{MetaMethod}
 use Rattle.meta_model.specs.declared.object.Work.TheVariants.{Signal}
 use Rattle.meta_model.specs.Loaded.{Loaded}
 use Rattle.meta_model.specs.Members.{IsMethod, HasSig, Covers}
-use Rattle.object_tree.specs.declared.object.Object.{Object}
+use Rattle.object_tree.specs.declared.life.Life.{Life}
 use Rattle.script_lang.specs.declared.event.Connect.{Connect as Connecting}
 use Rattle.machine_state.specs.declared.refusal.Refusal.TheVariants.{NoMember, NotWired, Incompatible}
 use Rattle.machine_state.specs.Accepting.{accepted}
@@ -26,7 +26,7 @@ not-signal {p} {class} {number} {sig} {it} only at unlike g is =
     let there_too : IsMethod p class number g.it = subst (λ (k : ℕ). IsMethod p class k g.it) number_is is.of.is in
     unlike (subst (λ (k : MetaMethod). k.work ≡ Signal) (method-unique there_too at) is.signal)
 
-module _ (p : Loaded) (s : State) (e : Connecting) (a b : Numbered Object) (sender : IsLiving s.objects e.sender a) (receiver : IsLiving s.objects e.receiver b) where
+module _ (p : Loaded) (s : State) (e : Connecting) (a b : Numbered Life) (sender : IsLiving s.objects e.sender a) (receiver : IsLiving s.objects e.receiver b) where
   pub no-signal : ((g : Numbered MetaMethod) → ¬ IsSignalOf p a.it.class e.signal g) → connect p s e (Err NoMember)
   no-signal none = goes_on a (living-ok a sender) (goes_on b (living-ok b receiver) (ends (missing none)))
 

@@ -66,8 +66,8 @@ fn judge(
     ensures refused { IfErr result (IsNotAccepted
         (assign setting.now.meta (at world.now []) name.now property.now input.now)) }
 {
-    let (object, found) = find_living(world, name)?;
-    let Some((property, declared)) = property_of(&setting.meta, found.class, property) else {
+    let (object, life) = find_living(world, name)?;
+    let Some((property, declared)) = property_of(&setting.meta, life.class, property) else {
         return Err(NotAccepted::Refused(Refusal::NoMember));
     };
     let value = read_input(world, input)?;

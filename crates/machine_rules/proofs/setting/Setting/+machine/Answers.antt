@@ -170,7 +170,7 @@ write-returns-in_err-write t c = record { ends = λ from to shown over sets. end
 pub write-run_update-requires : goal.write-run_update-requires
 write-run_update-requires t c = let is = c.in_ok-writing.ensures.ok in
     let went = c.in_ok-write.ensures in
-    (omega (arith, ap (λ (w : World). w.left) went, c.requires.left), (is.room, (sound-as went (sound-written is.alters.is is.fits c.requires.sound), announces-as _ _ _ _ went (announces-written _ is.alters c.requires.sound.typed))))
+    (omega (arith, ap (λ (w : World). w.left) went, c.requires.left), (is.room, (sound-as went (sound-written c.args.value is.alters.is is.fits c.requires.sound), announces-as _ _ _ _ went (announces-written c.args.value _ is.alters c.requires.sound.typed))))
 
 pub write-returns : goal.write-returns
 write-returns t c = record {
@@ -190,20 +190,20 @@ notify-returns-in_err-require_rule t c = record { ends = ends-undue _ c.in_err-r
 pub notify-unreachable-requires : goal.notify-unreachable-requires
 notify-unreachable-requires t c = c.in_default.ensures _ _ (announced-member c.requires.announces)
 
-pub notify-unreachable-requires-in_default-get : goal.notify-unreachable-requires-in_default-get
-notify-unreachable-requires-in_default-get t c = let there = announced-value c.requires.announces c.requires.sound.typed c.in-Some.ensures in
-    let none = c.in_default-get.ensures ∙ there.1 in
+pub notify-unreachable-requires-in_default-stored : goal.notify-unreachable-requires-in_default-stored
+notify-unreachable-requires-in_default-stored t c = let there = announced-value c.requires.announces c.requires.sound.typed in
+    let none = c.in_default-stored.ensures ∙ there.1 in
     absurd (cc none)
 
 pub notify-returns-in_err-copy : goal.notify-returns-in_err-copy
 notify-returns-in_err-copy t c = record { ends = ends-short _ (not-idle c.args.world.now _) c.in_ok-require_rule.ensures c.from_residual-in_err-copy.ensures.1 }
 
 pub notify-begin-requires : goal.notify-begin-requires
-notify-begin-requires t c = let present = sym c.in-Some-get.ensures ∙ ap (λ (v : Value). Some v) (sym c.in_ok-copy.ensures) in
+notify-begin-requires t c = let present = sym c.in-Some-stored.ensures ∙ ap (λ (v : Value). Some v) (sym c.in_ok-copy.ensures) in
     let cut = rw c.as_slice.ensures at c.front-taken.ensures in
     (omega arith, (c.requires.sound, (c.in_ok-require_rule.ensures, announced-fits c.requires.announces c.requires.sound.typed c.in-Some.ensures present cut c.len.ensures)))
 
 pub notify-returns : goal.notify-returns
-notify-returns t c = let present = sym c.in-Some-get.ensures ∙ ap (λ (v : Value). Some v) (sym c.in_ok-copy.ensures) in
+notify-returns t c = let present = sym c.in-Some-stored.ensures ∙ ap (λ (v : Value). Some v) (sym c.in_ok-copy.ensures) in
     let cut = rw c.as_slice.ensures at c.front-taken.ensures in
     record { ends = c.begin.ensures.ends _ _ _ c.over-over.ensures (announcement-calls c.requires.announces c.in-Some.ensures present cut c.len.ensures) }

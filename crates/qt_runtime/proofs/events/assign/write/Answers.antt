@@ -14,10 +14,10 @@ returns-in_err-accept_write c = λ e writes. took-unchanged e _ c.requires.left 
 pub run_update-requires-clause-sound : goal.run_update-requires-clause-sound
 run_update-requires-clause-sound c =
     let is = c.in_ok-writing.ensures.ok in
-    sound-as c.in_ok-accept_write.ensures (sound-written is.alters.is is.fits c.requires.keeps.sound)
+    sound-as c.in_ok-accept_write.ensures (sound-written c.args.value is.alters.is is.fits c.requires.keeps.sound)
 
 pub run_update-requires-clause-announces : goal.run_update-requires-clause-announces
-run_update-requires-clause-announces c = announces-as _ _ _ _ c.in_ok-accept_write.ensures (announces-written _ c.in_ok-writing.ensures.ok.alters c.requires.keeps.sound.typed)
+run_update-requires-clause-announces c = announces-as _ _ _ _ c.in_ok-accept_write.ensures (announces-written c.args.value _ c.in_ok-writing.ensures.ok.alters c.requires.keeps.sound.typed)
 
 pub returns-in_err-run_update : goal.returns-in_err-run_update
 returns-in_err-run_update c = λ e writes.
