@@ -1,5 +1,5 @@
 -- Reading events from their parts.
-use Rattle.std.proofs.Common.{ℕ, ◌≡◌, Result, Ok, Err, List, ◌∷◌, map, refl, sym, ◌∙◌, ap}
+use Rattle.std.proofs.Common.{ℕ, ◌≡◌, false, None as no_loop, Result, Ok, Err, List, ◌∷◌, map, refl, sym, ◌∙◌, ap}
 use Rattle.signatures.specs.declared.kind.Kind.{Kind}
 use Rattle.signatures.specs.declared.sig.Sig.{Sig}
 use Rattle.signatures.specs.declared.word.Word.TheVariants as word
@@ -65,7 +65,7 @@ invocation_found m a =
       only = λ i rest ends g. a.only i.arguments rest tt (m.only i.member (spell_listed spell_input i.arguments rest) tt g);
     }
 
-pub new_found : {before between after : List Token} {object class : List ℕ} → Found spell_name (λ name. name) EndsAnywhere before object between → Found spell_name (λ name. name) EndsAnywhere between class after → Found spell_new tree_of_new EndsAnywhere before (tree.New object class) after
+pub new_found : {before between after : List Token} {object class : List ℕ} → Found spell_name (λ name. name) EndsAnywhere before object between → Found spell_name (λ name. name) EndsAnywhere between class after → Found spell_new tree_of_new EndsAnywhere before (tree.New object class no_loop) after
 new_found {object = object} {class = class} o c =
     let p = o.spelled in let q = c.spelled in
     let x = o.tree_is in let y = c.tree_is in
@@ -77,7 +77,7 @@ adopt_found {parent = parent} {child = child} n m =
     let x = n.tree_is in let y = m.tree_is in
     record { reading = record { parent = parent; child = child }; spelled = cc; tree_is = refl; only = λ e rest ends g. cc }
 
-pub connect_found : {before at_signal at_receiver at_method at_kind after : List Token} {sender receiver : List ℕ} {signal method : Sig} {kind : Kind} → Found spell_name (λ name. name) EndsAnywhere before sender at_signal → Found spell_sig tree_of_sig EndsAnywhere at_signal signal at_receiver → Found spell_name (λ name. name) EndsAnywhere at_receiver receiver at_method → Found spell_sig tree_of_sig EndsAnywhere at_method method at_kind → Found spell_kind (λ kind. kind) EndsAnywhere at_kind kind after → Found spell_connect tree_of_connect EndsAnywhere before (tree.Connect record { sender = sender; signal = signal; receiver = receiver; method = method; kind = kind }) after
+pub connect_found : {before at_signal at_receiver at_method at_kind after : List Token} {sender receiver : List ℕ} {signal method : Sig} {kind : Kind} → Found spell_name (λ name. name) EndsAnywhere before sender at_signal → Found spell_sig tree_of_sig EndsAnywhere at_signal signal at_receiver → Found spell_name (λ name. name) EndsAnywhere at_receiver receiver at_method → Found spell_sig tree_of_sig EndsAnywhere at_method method at_kind → Found spell_kind (λ kind. kind) EndsAnywhere at_kind kind after → Found spell_connect tree_of_connect EndsAnywhere before (tree.Connect (record { sender = sender; signal = signal; receiver = receiver; method = method }) (record { kind = kind; unique = false; single = false })) after
 connect_found {before} {at_signal} {at_receiver} {at_method} {at_kind} {after} {sender} {receiver} {signal} {method} {kind} n s m t k =
     let n_is = n.spelled in let s_is = s.spelled in let m_is = m.spelled in let t_is = t.spelled in let k_is = k.spelled in
     let n_tree = n.tree_is in let s_tree = s.tree_is in let m_tree = m.tree_is in let t_tree = t.tree_is in let k_tree = k.tree_is in

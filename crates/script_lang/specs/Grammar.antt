@@ -12,12 +12,11 @@
 --   value = literal | Name
 --
 -- `connect`, `set`, `emit` and `call` are reserved words; `new`, `adopt`, `block` and `unblock` are names.
-use Rattle.std.specs.Prelude.{ℕ, ◌≡◌, ◌≢◌, List, [], ◌∷◌, map, codes, Option, Some, None}
-use Rattle.std.specs.List.{AllByRecursion}
+use Rattle.std.specs.Prelude.{ℕ, ◌≡◌, ◌≢◌, false, List, [], ◌∷◌, map, codes, Option, Some, None, All}
 use Rattle.signatures.specs.declared.kind.Kind.{Kind}
-use Rattle.signatures.specs.declared.kind.Kind.TheVariants.{Queued}
 use Rattle.signatures.specs.declared.sig.Sig.{Sig}
 use Rattle.signatures.specs.declared.word.Word.TheVariants as word
+use Rattle.texts.specs.Connections.{signatures_at}
 use Rattle.texts.specs.Lists.{spell_listed}
 use Rattle.texts.specs.Literals.{LiteralReading, spell_literal, tree_of_literal}
 use Rattle.texts.specs.Reading.{spell_name}
@@ -93,7 +92,7 @@ abbrev pub spell_new : New → List Token → List Token
 spell_new e after = token.Name e.object ∷ token.Name e.class ∷ after
 
 abbrev pub tree_of_new : New → Event
-tree_of_new e = tree.New e.object e.class
+tree_of_new e = tree.New e.object e.class None
 
 -- `P O`, after `adopt`
 pub record Adopt : Type 0 where
@@ -120,13 +119,10 @@ spell_connect e after =
     ∷ spell_sig e.signal (token.Name e.receiver ∷ spell_sig e.method (spell_kind e.kind after))
 
 abbrev pub tree_of_connect : Connect → Event
-tree_of_connect e = tree.Connect record {
-  sender = e.sender;
-  signal = tree_of_sig e.signal;
-  receiver = e.receiver;
-  method = tree_of_sig e.method;
-  kind = e.kind;
-}
+tree_of_connect e =
+    tree.Connect
+    (record { sender = e.sender; signal = tree_of_sig e.signal; receiver = e.receiver; method = tree_of_sig e.method })
+    (record { kind = e.kind; unique = false; single = false })
 
 -- `O.P V`, after `set`
 pub record Assignment : Type 0 where
@@ -191,36 +187,23 @@ tree_of_event (unblock object) = tree_of_unblock object
 
 -- the signatures in an event
 abbrev pub signatures_in : Event → List Sig
-signatures_in (tree.New object class) = []
+signatures_in (tree.Loop l) = []
+signatures_in (tree.Turn l) = []
+signatures_in (tree.New object class l) = []
 signatures_in (tree.Adopt parent child) = []
-signatures_in (tree.Connect c) = c.signal ∷ c.method ∷ []
+signatures_in (tree.Connect ends type) = signatures_at ends
+signatures_in (tree.Disconnect ends) = signatures_at ends
 signatures_in (tree.Set object property value) = []
 signatures_in (tree.Emit object signal arguments) = []
 signatures_in (tree.Call object method arguments) = []
 signatures_in (tree.Block object) = []
 signatures_in (tree.Unblock object) = []
 
--- the kinds of connections in it
-abbrev pub kinds_in : Event → List Kind
-kinds_in (tree.New object class) = []
-kinds_in (tree.Adopt parent child) = []
-kinds_in (tree.Connect c) = c.kind ∷ []
-kinds_in (tree.Set object property value) = []
-kinds_in (tree.Emit object signal arguments) = []
-kinds_in (tree.Call object method arguments) = []
-kinds_in (tree.Block object) = []
-kinds_in (tree.Unblock object) = []
-
--- The signatures have at most 8 types. No connection is queued, as there is one event loop.
-pub record IsWithinLimits (event : Event) : Type 0 where
-  pub few_types : AllByRecursion HasFewTypes (signatures_in event)
-  pub not_queued : AllByRecursion (λ kind. kind ≢ Queued) (kinds_in event)
-
 -- the tokens are this event
 pub record IsEvent (tokens : List Token) (event : Event) : Type 0 where
   pub reading : Reading
   pub spelled : tokens ≡ spell_event reading []
   pub tree : tree_of_event reading ≡ event
-  pub within : IsWithinLimits event
+  pub few_types : All HasFewTypes (signatures_in event)
   -- signatures have a normal form
   pub normal : ¬ HasPlainReference tokens

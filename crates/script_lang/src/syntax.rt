@@ -4,11 +4,11 @@ ghost use Rattle.std.specs.Prelude.{◌<◌, length, OnOk};
 ghost use Rattle.script_lang.specs.Grammar.{InputReading, spell_input, tree_of_input, spell_verb, spell_member, spell_invocation, tree_of_invocation, spell_event, tree_of_event, spell_new, tree_of_new, spell_adopt, tree_of_adopt, spell_connect, tree_of_connect, spell_assignment, tree_of_assignment, tree_of_emit, tree_of_call, tree_of_block, tree_of_unblock};
 ghost use Rattle.texts.specs.Reading.{Reads, EndsAnywhere, spell_name};
 
-use crate::event::{Connect, Event, Input};
+use crate::event::{Event, Input};
 use crate::verb::Verb;
 use signatures::{Name, Word};
 use sqlite_items::Items;
-use texts::{Cursor, ParseFault, Part, Symbol, Token, list};
+use texts::{ConnectionType, Cursor, Endpoints, ParseFault, Part, Symbol, Token, list};
 
 /// Takes the event that has to come next.
 pub fn event(cursor: &mut Cursor) -> Result<Event, ParseFault>
@@ -49,7 +49,7 @@ fn new(cursor: &mut Cursor) -> Result<Event, ParseFault>
 {
     let object = cursor.name()?;
     let class = cursor.name()?;
-    Ok(Event::New(object, class))
+    Ok(Event::New(object, class, None))
 }
 
 /// `P O`, after `adopt`.
@@ -70,13 +70,18 @@ fn connect(cursor: &mut Cursor) -> Result<Event, ParseFault>
     let receiver = cursor.name()?;
     let method = cursor.sig()?;
     let kind = cursor.connection_kind()?;
-    Ok(Event::Connect(Connect {
+    let ends = Endpoints {
         sender,
         signal,
         receiver,
         method,
+    };
+    let how = ConnectionType {
         kind,
-    }))
+        unique: false,
+        single: false,
+    };
+    Ok(Event::Connect(ends, how))
 }
 
 /// `O.P V`, after `set`.

@@ -11,4 +11,5 @@ pub mod Numerals
 pub mod Literals
 pub mod Signatures
 pub mod SignatureTexts
+pub mod Connections
 pub mod Trees
