@@ -1,5 +1,5 @@
 -- The names of the loops are the keys of the map, in their order.
-use Rattle.std.proofs.Common.{◌≡◌, ◌≢◌, ℕ, zero, suc, ◌<◌, Bool, true, false, cond, List, [], ◌∷◌, length, Option, None, Some, refl, arith, ap, sym, ◌∙◌, slice_get, get_or, option_map, nat_eq, is_some}
+use Rattle.std.proofs.Common.{◌≡◌, ◌≢◌, ℕ, zero, suc, ◌<◌, Bool, true, false, cond, List, [], ◌∷◌, ◌++◌, length, Option, None, Some, refl, arith, ap, sym, ◌∙◌, slice_get, get_or, option_map, nat_eq, is_some}
 use Rattle.std.specs.declared.collections.VecDeque.{VecDeque}
 use Rattle.std.specs.List.{position}
 use Rattle.std.specs.Map.{keys_of, lookup}
@@ -7,9 +7,12 @@ use Rattle.std.specs.Cmp.Lexicographic.{pointwise, same_text, other_text}
 use Rattle.std.proofs.lemmas.List.Quantifiers.{position-Some}
 use Rattle.std.proofs.lemmas.Bool.{false≢true}
 use Rattle.std.proofs.lemmas.Option.{same_Some}
+use Rattle.indexmap.specs.IndexMap.{IndexMap, insert_entry}
+use Rattle.indexmap.proofs.CallerLemmas.{insert_entry-new}
 use Rattle.event_loops.specs.declared.item.Posted.{Posted}
-use Rattle.event_loops.specs.Queues.{name_at, IsTaken}
-use Rattle.event_loops.specs.Rings.{loops_of}
+use Rattle.event_loops.specs.Queues.{Loop, name_at, IsTaken}
+use Rattle.event_loops.specs.Rings.{loops_of, shown}
+use Rattle.event_loops.proofs.Entries.{loops_of-append}
 
 within : (names : List (List ℕ)) (home : ℕ) (d : List ℕ) → home < length names → slice_get names home ≡ Some (get_or names home d)
 within [] home d h = absurd (omega (arith, h))
@@ -59,3 +62,13 @@ module _ {A : Type 0} where
       by_test : (b : Bool) → pointwise nat_eq name e.0 ≡ b → lookup (pointwise nat_eq name) es ≡ None → cond b (Some e.1) (lookup (pointwise nat_eq name) es) ≡ None
       by_test true told none = absurd (free (0, ap Some (sym (same_text name e.0 (sym told)))))
       by_test false told none = none
+
+  -- a ring with no items, put under a name that no loop has, is a loop more
+  pub shown-insert : {S : Type 0} (queues : IndexMap (List ℕ) (VecDeque Posted A) S) (name copy : List ℕ) (ring : VecDeque Posted A) → copy ≡ name → ring.items ≡ [] → ¬ IsTaken (shown queues) name → loops_of (insert_entry (pointwise nat_eq) queues.entries copy ring) ≡ shown queues ++ record { name = name; items = [] } ∷ []
+  shown-insert queues name copy ring same none free =
+      let before : List Loop = shown queues in
+      let absent : lookup (pointwise nat_eq copy) queues.entries ≡ None = rw same (free-lookup queues.entries name free) in
+      ap loops_of (insert_entry-new (pointwise nat_eq) queues copy ring absent)
+      ∙ loops_of-append queues.entries ((copy, ring) ∷ [])
+      ∙ ap (λ (n : List ℕ). before ++ record { name = n; items = ring.items } ∷ []) same
+      ∙ ap (λ (items : List Posted). before ++ record { name = name; items = items } ∷ []) none

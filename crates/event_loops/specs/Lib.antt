@@ -1,3 +1,4 @@
 pub mod Queues
 pub mod FaultNumbers
 pub mod Rings
+pub mod Numbers

@@ -2,6 +2,7 @@ ghost use Rattle.std.specs.Prelude.{◌≡◌, ◌↔◌, ◌+◌, ◌-◌, ◌^
 ghost use Rattle.std.specs.List.{find};
 ghost use Rattle.std.specs.Option.{option_copied};
 ghost use Rattle.event_loops.specs.Queues.{start, name_at, items_at, HasName, IsTaken, change, is_before, with_item, without_first_before, without_object, posted_to, taken_before, dropped, with_loop};
+ghost use Rattle.event_loops.specs.Numbers.{AreDistinct, AreGiven, AreInOrder};
 ghost use Rattle.event_loops.specs.Rings.{shown};
 ghost use Rattle.event_loops.specs.declared.fault.AddFault.TheVariants.{Exists};
 ghost use Rattle.event_loops.specs.declared.fault.PostFault.TheVariants.{NoLoop};
@@ -29,12 +30,12 @@ impl Model for Loops {
 
     ghost Value = { Queues };
 
-    ghost use Rattle.std.specs.Prelude.{◌<◌, ◌^◌};
     ghost use Rattle.event_loops.specs.Rings.{shown};
+    ghost use Rattle.event_loops.specs.Numbers.{IsNumbered};
 
     ghost view = { λ l. record { loops = shown l.queues; posted = l.posted } };
 
-    ghost invariant = { λ l. l.posted < 2 ^ 63 };
+    ghost invariant = { λ l. IsNumbered (record { loops = shown l.queues; posted = l.posted }) };
 }
 
 impl Loops {
@@ -98,6 +99,21 @@ impl Loops {
         let name = name.copy()?;
         self.queues.insert(name, VecDeque::new(self.alloc))?;
         Ok(())
+    }
+
+    /// No two items that wait have one number, and each number is from 1 on and below the next one.
+    pub fn numbers_differ(&self)
+        ensures distinct { AreDistinct self.now.loops }
+        ensures given { AreGiven self.now.loops self.now.posted }
+    {
+        let _posted = self.posted;
+    }
+
+    /// The numbers rise along the items of each loop.
+    pub fn numbers_rise(&self)
+        ensures { AreInOrder self.now.loops }
+    {
+        let _posted = self.posted;
     }
 
     /// The number that the next item gets.

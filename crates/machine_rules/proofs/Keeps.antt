@@ -1,5 +1,5 @@
 -- What each rule leaves as it was.
-use Rattle.std.proofs.Common.{◌≡◌, ℕ, zero, suc, List, [], ◌∷◌, Option, Some, None, slice_get, slice_set, refl, sym, ap, ◌∙◌, subst, arith, Result, Ok, Err}
+use Rattle.std.proofs.Common.{◌≡◌, ℕ, zero, suc, List, [], ◌∷◌, ◌++◌, Option, Some, None, slice_get, slice_set, refl, sym, ap, ◌∙◌, subst, arith, Result, Ok, Err, append_assoc, append-nil}
 use Rattle.signatures.specs.declared.value.Value.{Value}
 use Rattle.meta_model.specs.Loaded.{Loaded}
 use Rattle.meta_model.specs.declared.object.Statement.{Statement}
@@ -11,6 +11,7 @@ use Rattle.machine_state.specs.declared.connections.Connection.{Connection}
 use Rattle.machine_state.specs.declared.fault.Fault.{Fault}
 use Rattle.machine_state.specs.declared.world.World.{World}
 use Rattle.machine_state.specs.Objects.{shapes_of}
+use Rattle.machine_state.specs.Worlds.{at}
 use Rattle.machine_state.specs.State.{State, Place, Activation, Body, Emit, Update}
 use Rattle.machine_rules.specs.Rules.{RuleAt, BodyRule, Does, EmitRule, UpdateRule, Begins, Writes, begun}
 use Rattle.machine_rules.specs.Doings.{Doing, Write, Begin, Choose, Nothing}
@@ -25,7 +26,7 @@ use Rattle.machine_rules.specs.Runs.{Rules, done, then}
 use Rattle.machine_rules.specs.Sound.{Sound, Joined}
 use Rattle.machine_rules.specs.Active.{whose, shows}
 use Rattle.machine_rules.specs.Reaches.{Reaches, StopsIn, Ends}
-use Rattle.machine_rules.specs.Keeps.{StayThere, AllJoined, Keeps, KeepsWorld}
+use Rattle.machine_rules.specs.Keeps.{StayThere, AllJoined, Grows, Keeps, KeepsWorld}
 use Rattle.machine_rules.proofs.Shapes.{shapes-written, classes-same}
 use Rattle.std.specs.Option.{option_map}
 use Rattle.meta_model.specs.Members.{IsMethod}
@@ -87,18 +88,46 @@ pub all-joined-still : (p : Loaded) (old new : List Object) (connections : List 
 all-joined-still p old new [] stay all = tt
 all-joined-still p old new (c ∷ cs) stay all = (joined-still c stay all.0, all-joined-still p old new cs stay all.1)
 
--- ---- rules
+-- ---- what was written down
+
+pub grows-by : {old : List Entry} (more : List Entry) → Grows old (old ++ more)
+grows-by more = record { more = more; is = refl }
+
+pub grows-same : (old : List Entry) → Grows old old
+grows-same old = record { more = []; is = sym (append-nil old) }
+
+pub grows-then : {a b c : List Entry} → Grows a b → Grows b c → Grows a c
+grows-then {a} x y =
+    record { more = x.more ++ y.more; is = y.is ∙ ap (λ (l : List Entry). l ++ y.more) x.is ∙ append_assoc a x.more y.more }
+
+-- ---- from state to state
+
+pub keeps-same : {p : Loaded} {s : State} {n : ℕ} → Keeps p s n s n
+keeps-same {s = s} = record { objects = λ o class is. is; joined = λ all. all; connected = omega arith; paid = omega arith; events = refl; fewer = omega arith; grows = grows-same s.trace }
+
+pub keeps-then : {p : Loaded} {s m t : State} {n j k : ℕ} → Keeps p s n m j → Keeps p m j t k → Keeps p s n t k
+keeps-then x y = record {
+  objects = λ o class is. y.objects o class (x.objects o class is);
+  joined = λ all. y.joined (x.joined all);
+  connected = omega (arith, x.connected, y.connected);
+  paid = omega (arith, x.paid, y.paid);
+  events = y.events ∙ x.events;
+  fewer = omega (arith, x.fewer, y.fewer);
+  grows = grows-then x.grows y.grows;
+}
 
 keeps-is : {p : Loaded} {s u t : State} {n k : ℕ} → t ≡ u → Keeps p s n u k → Keeps p s n t k
 keeps-is {p} {s} {n = n} {k = k} e x = let Family : State → Type 0 = λ u. Keeps p s n u k in subst Family (sym e) x
 
+-- ---- rules
+
 -- objects, connections and numbers are those that they were
-keeps-all : {p : Loaded} {s : State} (stack : List Activation) (trace : List Entry) → Keeps p s 1 (record s { stack = stack; trace = trace }) 0
-keeps-all stack trace = record { objects = λ o class is. is; joined = λ all. all; connected = omega arith; paid = omega arith; events = refl; fewer = omega arith }
+keeps-all : {p : Loaded} {s : State} (stack : List Activation) {trace : List Entry} → Grows s.trace trace → Keeps p s 1 (record s { stack = stack; trace = trace }) 0
+keeps-all stack grows = record { objects = λ o class is. is; joined = λ all. all; connected = omega arith; paid = omega arith; events = refl; fewer = omega arith; grows = grows }
 
 begun-kept : (p : Loaded) (s : State) (below : List Activation) (o : ℕ) (x : Object) (m : ℕ) (method : MetaMethod) (arguments : List Value) (work : Work) (t : State) → t ≡ begun s below o x m method arguments work → Keeps p s 1 t 0
-begun-kept p s below o x m method arguments Signal t e = keeps-is e (keeps-all _ _)
-begun-kept p s below o x m method arguments (Slot statements) t e = keeps-is e (keeps-all _ _)
+begun-kept p s below o x m method arguments Signal t e = keeps-is e (keeps-all _ (grows-by _))
+begun-kept p s below o x m method arguments (Slot statements) t e = keeps-is e (keeps-all _ (grows-by _))
 
 pub begins-kept : {p : Loaded} {s : State} {below : List Activation} {o m : ℕ} {arguments : List Value} {t : State} → Begins p s below o m arguments t → Keeps p s 1 t 0
 begins-kept {p = p} {s = s} {below = below} {o = o} {m = m} {arguments = arguments} {t = t} x = begun-kept p s below o x.object m x.method arguments x.method.work t x.gives
@@ -113,24 +142,25 @@ writes-kept {p = p} {s = s} {o = o} {q = q} {new = new} x =
       paid = omega arith;
       events = refl;
       fewer = omega arith;
+      grows = grows-by _;
     })
 
 does-kept : (p : Loaded) (s : State) (o m : ℕ) (arguments : List Value) (rest : List Statement) (below : List Activation) (d : Doing) (t : State) → Does p s o m arguments rest below d t → Keeps p s 1 t 0
 does-kept p s o m arguments rest below (Write x q new) t does = writes-kept does
 does-kept p s o m arguments rest below (Begin x n given) t does = begins-kept does
-does-kept p s o m arguments rest below (Choose block) t does = keeps-is does (keeps-all _ _)
-does-kept p s o m arguments rest below Nothing t does = keeps-is does (keeps-all _ _)
+does-kept p s o m arguments rest below (Choose block) t does = keeps-is does (keeps-all _ (grows-same s.trace))
+does-kept p s o m arguments rest below Nothing t does = keeps-is does (keeps-all _ (grows-by _))
 
 body-kept : (p : Loaded) (s : State) (o m : ℕ) (arguments : List Value) (below : List Activation) (t : State) (left : List Statement) → BodyRule p s o m arguments below t left → Keeps p s 1 t 0
-body-kept p s o m arguments below t [] r = keeps-is r (keeps-all _ _)
+body-kept p s o m arguments below t [] r = keeps-is r (keeps-all _ (grows-same s.trace))
 body-kept p s o m arguments below t (x ∷ rest) r = does-kept p s o m arguments rest below r.what t r.does
 
 emit-kept : (p : Loaded) (s : State) (o g : ℕ) (arguments : List Value) (last : ℕ) (below : List Activation) (t : State) (found : Option Connection) → EmitRule p s o g arguments last below t found → Keeps p s 1 t 0
-emit-kept p s o g arguments last below t None r = keeps-is r (keeps-all _ _)
+emit-kept p s o g arguments last below t None r = keeps-is r (keeps-all _ (grows-same s.trace))
 emit-kept p s o g arguments last below t (Some c) r = begun-kept p s _ c.receiver r.receiver c.method r.method _ r.method.work t r.gives
 
 update-kept : (p : Loaded) (s : State) (below : List Activation) (t : State) (places : List Place) → UpdateRule p s below t places → Keeps p s 1 t 0
-update-kept p s below t [] r = keeps-is r (keeps-all _ _)
+update-kept p s below t [] r = keeps-is r (keeps-all _ (grows-same s.trace))
 update-kept p s below t (place ∷ places) r = begun-kept p s _ place.object r.object r.signal r.method _ Signal t r.gives
 
 pub rule-kept : (p : Loaded) (s t : State) (stack : List Activation) → RuleAt p s t stack → Keeps p s 1 t 0
@@ -139,20 +169,14 @@ rule-kept p s t (Body o m arguments left ∷ below) r = body-kept p s o m argume
 rule-kept p s t (Emit o g arguments used last ∷ below) r = emit-kept p s o g arguments last below t (next_used s.objects s.connections o g used last) r
 rule-kept p s t (Update places ∷ below) r = update-kept p s below t places r
 
+-- a rule, whatever is left after it
+one-kept : {p : Loaded} {s t : State} (n : ℕ) → Keeps p s 1 t 0 → Keeps p s (suc n) t n
+one-kept n x = record { objects = x.objects; joined = x.joined; connected = x.connected; paid = omega (arith, x.paid); events = x.events; fewer = omega arith; grows = x.grows }
+
 -- so do runs of rules
 pub rules-kept : {p : Loaded} {d : ℕ} {s t : State} {n k : ℕ} → Rules p d s n t k → Keeps p s n t k
-rules-kept done = record { objects = λ o class is. is; joined = λ all. all; connected = omega arith; paid = omega arith; events = refl; fewer = omega arith }
-rules-kept {p} (then {s = s} {m = m} r good rest) =
-    let one = rule-kept p s m s.stack r in
-    let more = rules-kept rest in
-    record {
-      objects = λ o class is. more.objects o class (one.objects o class is);
-      joined = λ all. more.joined (one.joined all);
-      connected = omega (arith, one.connected, more.connected);
-      paid = omega (arith, one.paid, more.paid);
-      events = more.events ∙ one.events;
-      fewer = omega (arith, more.fewer);
-    }
+rules-kept done = keeps-same
+rules-kept {p} (then {s = s} {m = m} {n = n} r good rest) = keeps-then (one-kept n (rule-kept p s m s.stack r)) (rules-kept rest)
 
 -- .. and properties have values of their types after each
 pub rules-typed : {p : Loaded} {d : ℕ} {s t : State} {n k : ℕ} → Rules p d s n t k → AreTyped p s.objects → AreTyped p t.objects
@@ -174,17 +198,15 @@ some-stack (body ∷ shown) =
     let q = some-stack shown in
     (some-top body ∷ q.0, ap (λ (x : Option ℕ). x ∷ shows q.0) (some-whose body) ∙ ap (λ (l : List (Option ℕ)). body ∷ l) q.1)
 
+-- whatever the stacks are
+keeps-world : {p : Loaded} {w v : World} {a b : List Activation} → Keeps p (at w a) w.left (at v b) v.left → KeepsWorld p w v
+keeps-world x = record { objects = x.objects; joined = x.joined; connected = x.connected; paid = x.paid; events = x.events; fewer = x.fewer; grows = x.grows }
+
 pub reaches-keeps : {p : Loaded} {d : ℕ} {h : List (Option ℕ)} {w v : World} {a b : List Activation} → Reaches p d h w a v b → KeepsWorld p w v
-reaches-keeps {h = h} x =
-    let q = some-stack h in
-    let kept = rules-kept (x.runs q.0 q.1) in
-    record { objects = kept.objects; joined = kept.joined; connected = kept.connected; paid = kept.paid; events = kept.events; fewer = kept.fewer }
+reaches-keeps {h = h} x = let q = some-stack h in keeps-world (rules-kept (x.runs q.0 q.1))
 
 pub stops-keeps : {p : Loaded} {d : ℕ} {h : List (Option ℕ)} {w v : World} {a : List Activation} {f : Fault} → StopsIn p d h w a v f → KeepsWorld p w v
-stops-keeps {h = h} x =
-    let q = some-stack h in
-    let kept = rules-kept ((x.stops q.0 q.1).1) in
-    record { objects = kept.objects; joined = kept.joined; connected = kept.connected; paid = kept.paid; events = kept.events; fewer = kept.fewer }
+stops-keeps {h = h} x = let q = some-stack h in keeps-world (rules-kept ((x.stops q.0 q.1).1))
 
 -- whatever a call does, it keeps these
 pub ends-keeps : {p : Loaded} {d : ℕ} {h : List (Option ℕ)} {w v : World} {a b : List Activation} (r : Result (Unit {0}) Fault) → Ends p d h w a v b r → KeepsWorld p w v
@@ -209,19 +231,6 @@ ends-sound r x sound = keeps-sound (ends-keeps r x) (ends-typed r x sound.typed)
 
 pub reaches-sound : {p : Loaded} {d : ℕ} {h : List (Option ℕ)} {w v : World} {a b : List Activation} → Reaches p d h w a v b → Sound p w.objects w.connections → Sound p v.objects v.connections
 reaches-sound x sound = keeps-sound (reaches-keeps x) (reaches-typed x sound.typed) sound
-
-pub keeps-refl : {p : Loaded} {w : World} → KeepsWorld p w w
-keeps-refl = record { objects = λ o class is. is; joined = λ all. all; connected = omega arith; paid = omega arith; events = refl; fewer = omega arith }
-
-pub keeps-trans : {p : Loaded} {w v u : World} → KeepsWorld p w v → KeepsWorld p v u → KeepsWorld p w u
-keeps-trans x y = record {
-  objects = λ o class is. y.objects o class (x.objects o class is);
-  joined = λ all. y.joined (x.joined all);
-  connected = omega (arith, x.connected, y.connected);
-  paid = omega (arith, x.paid, y.paid);
-  events = y.events ∙ x.events;
-  fewer = omega (arith, x.fewer, y.fewer);
-}
 
 -- arguments fit as long as the objects stay there
 pub fit-still : {p : Loaded} {w v : World} {o m : ℕ} {arguments : List Value} → KeepsWorld p w v → ArgumentsFit p w.objects o m arguments → ArgumentsFit p v.objects o m arguments

@@ -5,12 +5,12 @@ use Rattle.meta_model.specs.Loaded.{Loaded}
 use Rattle.expressions.specs.declared.evaluation.EvalFault.{EvalFault}
 use Rattle.expressions.specs.declared.evaluation.EvalFault.TheVariants as eval
 use Rattle.machine_state.specs.declared.fault.Fault.{Fault}
-use Rattle.machine_state.specs.declared.fault.Fault.TheVariants.{BadType, TooDeep, Steps, Memory}
+use Rattle.machine_state.specs.declared.fault.Fault.TheVariants.{BadType, TooDeep, Steps, Memory, Stopped}
 use Rattle.machine_state.specs.declared.world.World.{World}
 use Rattle.machine_state.specs.State.{State, Activation, IsIdle}
 use Rattle.machine_rules.specs.Rules.{Rule}
 use Rattle.machine_rules.specs.Good.{AreTyped, IsWell, IsGood, TopFits}
-use Rattle.machine_rules.specs.Runs.{Rules, done, then, IsStuck, GoesIll, GoesDeep}
+use Rattle.machine_rules.specs.Runs.{Rules, done, then, IsStuck, GoesIll, GoesDeep, Reason}
 use Rattle.machine_state.specs.Worlds.{at, Ticks, Becomes}
 use Rattle.machine_rules.specs.Active.{shows}
 use Rattle.machine_rules.specs.Reaches.{Reaches, StopsIn, Ends}
@@ -89,7 +89,7 @@ pub stops-ill : {p : Loaded} {d : ℕ} {h : List (Option ℕ)} {w : World} {from
 stops-ill {p} {w = w} {from = from} some next = record {
   stops = λ below e.
       let q = next below in
-      let is : GoesIll p (at w (from ++ below)) = record { t = q.0; rule = q.1; ill = q.2 } in
+      let is : GoesIll p (at w (from ++ below)) (λ t. Rule p (at w (from ++ below)) t) = record { t = q.0; follows = q.1; ill = q.2 } in
       (from ++ below, done, (some, inr is));
 }
 
@@ -98,9 +98,21 @@ pub stops-deep : {p : Loaded} {d : ℕ} {h : List (Option ℕ)} {w : World} {fro
 stops-deep {p} {d} {w = w} {from = from} some next = record {
   stops = λ below e.
       let q = next below e in
-      let is : GoesDeep p d (at w (from ++ below)) = record { t = q.0; rule = q.1; well = q.2; deep = q.3 } in
+      let is : GoesDeep p d (at w (from ++ below)) (λ t. Rule p (at w (from ++ below)) t) = record { t = q.0; follows = q.1; well = q.2; deep = q.3 } in
       (from ++ below, done, (some, is));
 }
+
+-- a reason that stays one where more may follow
+pub reason-more : {Stuck Held : Type 0} {Follows Comes : State → Type 0} {Due Owed : Type 0} (p : Loaded) (d : ℕ) (s : State) (left : ℕ) (f : Fault) → (Stuck → Held) → ((t : State) → Follows t → Comes t) → (Due → Owed) → Reason Stuck Follows Due p d s left f → Reason Held Comes Owed p d s left f
+reason-more p d s left BadType stuck follows due r =
+    elim r.1 [
+      | inl none ↦ (r.0, inl (stuck none))
+      | inr ill ↦ (r.0, inr (record { t = ill.t; follows = follows ill.t ill.follows; ill = ill.ill }))
+    ]
+reason-more p d s left TooDeep stuck follows due r = let deep = r.1 in (r.0, record { t = deep.t; follows = follows deep.t deep.follows; well = deep.well; deep = deep.deep })
+reason-more p d s left Steps stuck follows due r = (r.0, due r.1)
+reason-more p d s left Memory stuck follows due r = (r.0, due r.1)
+reason-more p d s left Stopped stuck follows due r = absurd r
 
 -- ---- what is left behind a `?`
 

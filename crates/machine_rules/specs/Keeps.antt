@@ -1,10 +1,11 @@
 -- What rules never take back (docs/machine.md, "What every run keeps").
-use Rattle.std.specs.Prelude.{◌≡◌, ℕ, ◌+◌, ◌≤◌, List, [], Some}
+use Rattle.std.specs.Prelude.{◌≡◌, ℕ, ◌+◌, ◌≤◌, List, [], ◌++◌, Some}
 use Rattle.std.specs.List.{AllByRecursion}
 use Rattle.meta_model.specs.Loaded.{Loaded}
 use Rattle.object_tree.specs.declared.object.Object.{Object}
 use Rattle.object_tree.specs.Objects.{class_of}
 use Rattle.machine_state.specs.declared.connections.Connection.{Connection}
+use Rattle.machine_state.specs.declared.entry.Entry.{Entry}
 use Rattle.machine_state.specs.declared.world.World.{World}
 use Rattle.machine_state.specs.State.{State}
 use Rattle.machine_state.specs.Worlds.{at}
@@ -18,8 +19,13 @@ StayThere old new = (o class : ℕ) → class_of old o ≡ Some class → class_
 abbrev pub AllJoined : Loaded → List Object → List Connection → Type 0
 AllJoined p objects connections = AllByRecursion (Joined p objects) connections
 
+-- what was written down stays, and more may come after it
+pub record Grows (old new : List Entry) : Type 0 where
+  pub more : List Entry
+  pub is : new ≡ old ++ more
+
 -- From s, with so many rules left, to t, with so many left: no object goes, connections go on to join what is there, no
--- count falls, a number of a connection is paid with a rule, and no event is taken.
+-- count falls, a number of a connection is paid with a rule, no event is taken, and nothing that was written down goes.
 pub record Keeps (p : Loaded) (s : State) (left : ℕ) (t : State) (after : ℕ) : Type 0 where
   pub objects : StayThere s.objects t.objects
   pub joined : AllJoined p s.objects s.connections → AllJoined p t.objects t.connections
@@ -27,6 +33,7 @@ pub record Keeps (p : Loaded) (s : State) (left : ℕ) (t : State) (after : ℕ)
   pub paid : t.connected + after ≤ s.connected + left
   pub events : t.events ≡ s.events
   pub fewer : after ≤ left
+  pub grows : Grows s.trace t.trace
 
 -- .. from one world to another, whatever is going on in them
 abbrev pub KeepsWorld : Loaded → World → World → Type 0

@@ -24,7 +24,7 @@ use Rattle.machine_state.specs.Objects.{shown, all_shown}
 use Rattle.machine_rules.specs.Rules.{Rule, Begins, Writes}
 use Rattle.machine_rules.specs.There.{IsMember, IsField}
 use Rattle.machine_rules.specs.Active.{shows}
-use Rattle.machine_rules.specs.Runs.{Rules, Reason}
+use Rattle.machine_rules.specs.Runs.{Rules, RulesStop}
 use Rattle.machine_state.specs.Worlds.{at}
 
 -- ---- what a body's paths and expressions give to the code
@@ -56,7 +56,7 @@ pub record StopsIn (p : Loaded) (depth : ℕ) (shown : List (Option ℕ))
   pub stops :
       (below : List Activation) → shows below ≡ shown →
       (stack : List Activation) × Rules p depth (at w (from ++ below)) w.left (at v stack) v.left ×
-      Reason p depth (at v stack) v.left fault
+      RulesStop p depth (at v stack) v.left fault
 
 -- a call went from one top of the stack to another, or stopped on the way
 pub record Ends (p : Loaded) (depth : ℕ) (shown : List (Option ℕ))

@@ -18,24 +18,30 @@ pub record IsStuck (p : Loaded) (s : State) : Type 0 where
   pub goes_on : ¬ IsIdle s
   pub stuck : (t : State) → ¬ Rule p s t
 
--- the next rule gives a property or a call a value that is not of its type
-pub record GoesIll (p : Loaded) (s : State) : Type 0 where
+-- ---- why a run stops, told of what may follow
+
+-- what follows gives a property or a call a value that is not of its type
+pub record GoesIll (p : Loaded) (s : State) (Follows : State → Type 0) : Type 0 where
   pub t : State
-  pub rule : Rule p s t
+  pub follows : Follows t
   pub ill : ¬ IsWell p s t
 
--- the next rule nests too deep, and is well but for that
-pub record GoesDeep (p : Loaded) (depth : ℕ) (s : State) : Type 0 where
+-- what follows nests too deep, and is well but for that
+pub record GoesDeep (p : Loaded) (depth : ℕ) (s : State) (Follows : State → Type 0) : Type 0 where
   pub t : State
-  pub rule : Rule p s t
+  pub follows : Follows t
   pub well : IsWell p s t
   pub deep : depth < length t.stack
 
--- Why rules stop in a state. There is no next rule, or it would give a value of a wrong type; it would nest too deep;
--- no rule is left where one is due; memory was refused where a rule is due.
-abbrev pub Reason : Loaded → ℕ → State → ℕ → Fault → Type 0
-Reason p depth s left BadType = (0 < left) × (IsStuck p s ⊎ GoesIll p s)
-Reason p depth s left TooDeep = (0 < left) × GoesDeep p depth s
-Reason p depth s left Steps = (left ≡ 0) × (¬ IsIdle s)
-Reason p depth s left Memory = (0 < left) × (¬ IsIdle s)
-Reason p depth s left Stopped = ⊥
+-- Why a run stops in a state. Nothing follows, or what follows would give a value of a wrong type; it would nest too
+-- deep; no rule is left where one is due; memory was refused where a rule is due.
+abbrev pub Reason : Type 0 → (State → Type 0) → Type 0 → Loaded → ℕ → State → ℕ → Fault → Type 0
+Reason Stuck Follows Due p depth s left BadType = (0 < left) × (Stuck ⊎ GoesIll p s Follows)
+Reason Stuck Follows Due p depth s left TooDeep = (0 < left) × GoesDeep p depth s Follows
+Reason Stuck Follows Due p depth s left Steps = (left ≡ 0) × Due
+Reason Stuck Follows Due p depth s left Memory = (0 < left) × Due
+Reason Stuck Follows Due p depth s left Stopped = ⊥
+
+-- why rules stop in a state
+abbrev pub RulesStop : Loaded → ℕ → State → ℕ → Fault → Type 0
+RulesStop p depth s left fault = Reason (IsStuck p s) (λ t. Rule p s t) (¬ IsIdle s) p depth s left fault

@@ -104,17 +104,24 @@ pub record IsSoundCall (p : Loaded) (me : ℕ) (kinds : List ValueType) (path : 
   pub counted : length slot.kinds ≡ length es
   pub values : AreSoundExprs p me kinds es
 
--- the statements' members and paths are there
-pub data AreSound (p : Loaded) (me : ℕ) (kinds : List ValueType) : List Statement → Type 0 where
-  none_sound : AreSound p me kinds []
-  set_sound : {s : Statement} {path : MetaPath} {q : ℕ} {e : Expr MetaPath} {rest : List Statement} → out-Statement s ≡ statement.Set path q e
-      → IsSoundSet p me kinds path q e → AreSound p me kinds rest → AreSound p me kinds (s ∷ rest)
-  emit_sound : {s : Statement} {m : ℕ} {es : List (Expr MetaPath)} {rest : List Statement} → out-Statement s ≡ statement.Emit m es
-      → IsSoundEmit p me kinds m es → AreSound p me kinds rest → AreSound p me kinds (s ∷ rest)
-  call_sound : {s : Statement} {path : MetaPath} {m : ℕ} {es : List (Expr MetaPath)} {rest : List Statement} → out-Statement s ≡ statement.Call path m es
-      → IsSoundCall p me kinds path m es → AreSound p me kinds rest → AreSound p me kinds (s ∷ rest)
-  if_sound : {s : Statement} {e : Expr MetaPath} {chosen other rest : List Statement} → out-Statement s ≡ statement.If e chosen other
-      → IsSoundExpr p me kinds e → AreSound p me kinds chosen → AreSound p me kinds other → AreSound p me kinds rest → AreSound p me kinds (s ∷ rest)
+mutual
+  -- the members and paths of one statement, by its parts, are there
+  pub data IsSoundStatement (p : Loaded) (me : ℕ) (kinds : List ValueType) : statement.Statement-F Statement → Type 0 where
+    set_sound : {path : MetaPath} {q : ℕ} {e : Expr MetaPath}
+        → IsSoundSet p me kinds path q e → IsSoundStatement p me kinds (statement.Set path q e)
+    emit_sound : {m : ℕ} {es : List (Expr MetaPath)}
+        → IsSoundEmit p me kinds m es → IsSoundStatement p me kinds (statement.Emit m es)
+    call_sound : {path : MetaPath} {m : ℕ} {es : List (Expr MetaPath)}
+        → IsSoundCall p me kinds path m es → IsSoundStatement p me kinds (statement.Call path m es)
+    if_sound : {e : Expr MetaPath} {chosen other : List Statement}
+        → IsSoundExpr p me kinds e → AreSound p me kinds chosen → AreSound p me kinds other
+        → IsSoundStatement p me kinds (statement.If e chosen other)
+
+  -- .. of the statements of a block
+  pub data AreSound (p : Loaded) (me : ℕ) (kinds : List ValueType) : List Statement → Type 0 where
+    none_sound : AreSound p me kinds []
+    next_sound : {s : Statement} {rest : List Statement}
+        → IsSoundStatement p me kinds (out-Statement s) → AreSound p me kinds rest → AreSound p me kinds (s ∷ rest)
 
 -- the body of method m of class c speaks of objects of the class that declares the method, which is c or above it
 pub record IsSoundBody (p : Loaded) (c m : ℕ) (kinds : List ValueType) (body : List Statement) : Type 0 where

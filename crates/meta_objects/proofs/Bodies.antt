@@ -9,6 +9,7 @@ use Rattle.texts.specs.declared.syntax.Root.{Root}
 use Rattle.texts.specs.declared.syntax.Path.{Path}
 use Rattle.texts.specs.declared.syntax.Stmt.{Stmt}
 use Rattle.texts.specs.declared.syntax.Stmt.TheOpen as stmt
+use Rattle.texts.specs.declared.syntax.Stmt.TheViews.{out-Stmt}
 use Rattle.texts.specs.declared.program.Parameter.{Parameter}
 use Rattle.texts.specs.declared.program.Property.{Property}
 use Rattle.meta_model.specs.declared.object.MetaRoot.{MetaRoot}
@@ -17,13 +18,14 @@ use Rattle.meta_model.specs.declared.object.Step.{Step}
 use Rattle.meta_model.specs.declared.object.MetaPath.{MetaPath}
 use Rattle.meta_model.specs.declared.object.ValueType.{ValueType}
 use Rattle.meta_model.specs.declared.object.Statement.{Statement}
+use Rattle.meta_model.specs.declared.object.Statement.TheOpen as statement
 use Rattle.meta_model.specs.declared.object.Statement.TheViews.{out-Statement, roll-Statement, roll-out-Statement}
 use Rattle.meta_model.specs.declared.outline.Outline.{Outline}
 use Rattle.meta_model.specs.Places.{StandsFirst}
 use Rattle.meta_model.specs.Outlines.{IsOutlineNamed}
 use Rattle.meta_model.specs.Kinds.{IsReadAs}
 use Rattle.meta_model.specs.Literals.{literal}
-use Rattle.meta_objects.specs.Bodies.{Scope, IsRoot, this_root, parameter_root, PointsTo, HasMember, IsStep, AreSteps, IsPath, IsExpr, literal_is, path_is, unary_is, binary_is, AreExprs, IsSet, IsCallOf, IsEmit, IsCall, AreStatements, none_are, set_is, emit_is, call_is, if_is, IsStatement}
+use Rattle.meta_objects.specs.Bodies.{Scope, IsRoot, this_root, parameter_root, PointsTo, HasMember, IsStep, AreSteps, IsPath, IsExpr, literal_is, path_is, unary_is, binary_is, AreExprs, IsObjectPath, IsPropertyOfName, IsCallOf, IsSet, IsEmit, IsCall, IsStatement, set_is, emit_is, call_is, if_is, AreStatements, none_are, next_is, IsStatementOf}
 use Rattle.meta_model.proofs.Searches.{same_first}
 use Rattle.meta_model.proofs.Firsts.{first_item}
 use Rattle.meta_model.proofs.ReadTypes.{same_read}
@@ -132,12 +134,19 @@ module _ (s : Scope) where
   same_all_exprs (e ∷ es) (f ∷ fs) [] h k = absurd k
   same_all_exprs (e ∷ es) (f ∷ fs) (g ∷ gs) h k = ap (λ x. x ∷ fs) (same_exprs e f g h.0 k.0) ∙ ap (λ xs. g ∷ xs) (same_all_exprs es fs gs h.1 k.1)
 
+  -- ---- objects
+  pub same_object : (path : Path) (f g : MetaPath) (o u : Outline) → IsObjectPath s path f o → IsObjectPath s path g u → (f ≡ g) × (o ≡ u)
+  same_object path f g o u h k =
+      let path_is = same_path path f g h.kind k.kind h.leads k.leads in
+      let class = same_named s.outlines h.kind.name k.kind.name (ap (λ (T : QType). T.name) path_is.1) h.number k.number h.points.points.class k.points.points.class in
+      (path_is.0, sym h.points.is ∙ class ∙ k.points.is)
+
   -- ---- statements
   same_set : (path : Path) (name : List ℕ) (e : Expr Path) (x y : MetaPath) (q r : ℕ) (f g : Expr MetaPath) → IsSet s path name e x q f → IsSet s path name e y r g → (x ≡ y) × (q ≡ r) × (f ≡ g)
   same_set path name e x y q r f g h k =
-      let object = same_path path x y h.kind k.kind h.object k.object in
-      let member = same_member h.kind name q r h.property k.property h.member (subst (λ T. HasMember s.outlines T name r k.property) (sym object.1) k.member) in
-      (object.0, member.0, same_exprs e f g h.value k.value)
+      let object = same_object path x y h.class k.class h.object k.object in
+      let at = same_in (λ (o : Outline). o.properties) (IsPropertyOfName name) h.class k.class object.1 q r h.property k.property in
+      (object.0, at.0, same_exprs e f g h.value k.value)
 
   same_emit : (name : List ℕ) (es : List (Expr Path)) (m n : ℕ) (fs gs : List (Expr MetaPath)) → IsEmit s name es m fs → IsEmit s name es n gs → (m ≡ n) × (fs ≡ gs)
   same_emit name es m n fs gs h k =
@@ -147,91 +156,48 @@ module _ (s : Scope) where
 
   same_call : (path : Path) (name : List ℕ) (es : List (Expr Path)) (x y : MetaPath) (m n : ℕ) (fs gs : List (Expr MetaPath)) → IsCall s path name es x m fs → IsCall s path name es y n gs → (x ≡ y) × (m ≡ n) × (fs ≡ gs)
   same_call path name es x y m n fs gs h k =
-      let object = same_path path x y h.kind k.kind h.object k.object in
-      let name_is : h.kind.name ≡ k.kind.name = ap (λ (T : QType). T.name) object.1 in
-      let item : h.points.class.at.item ≡ k.points.class.at.item = same_named s.outlines h.kind.name k.kind.name name_is h.number k.number h.points.class k.points.class in
-      let at = same_in (λ (o : Outline). o.methods) (IsCallOf name (length es)) h.points.class.at.item k.points.class.at.item item m n h.method k.method in
+      let object = same_object path x y h.class k.class h.object k.object in
+      let at = same_in (λ (o : Outline). o.methods) (IsCallOf name (length es)) h.class k.class object.1 m n h.method k.method in
       (object.0, at.0, same_all_exprs es fs gs h.values k.values)
 
-  abbrev pub set_layer : stmt.Stmt-F Stmt → MetaPath → ℕ → Expr MetaPath → Type 0
-  set_layer (stmt.Set p n e) x q f = IsSet s p n e x q f
-  set_layer (stmt.Emit n es) x q f = ⊥
-  set_layer (stmt.Call p n es) x q f = ⊥
-  set_layer (stmt.If e a b) x q f = ⊥
+  mutual
+    same_parts : (x : stmt.Stmt-F Stmt) (y z : statement.Statement-F Statement) → IsStatement s x y → IsStatement s x z → y ≡ z
+    same_parts x y z (set_is {path = p} {name = n} {e = e} {found = o} {q = q} {f = f} h) (set_is {found = u} {q = r} {f = g} k) =
+        let part = same_set p n e o u q r f g h k in
+        let same_o : o ≡ u = part.0 in
+        let same_q : q ≡ r = part.1 in
+        let same_f : f ≡ g = part.2 in
+        cc
+    same_parts x y z (emit_is {name = n} {es = es} {m = m} {fs = fs} h) (emit_is {m = r} {fs = gs} k) =
+        let part = same_emit n es m r fs gs h k in
+        let same_m : m ≡ r = part.0 in
+        let same_f : fs ≡ gs = part.1 in
+        cc
+    same_parts x y z (call_is {path = p} {name = n} {es = es} {found = o} {m = m} {fs = fs} h) (call_is {found = u} {m = r} {fs = gs} k) =
+        let part = same_call p n es o u m r fs gs h k in
+        let same_o : o ≡ u = part.0 in
+        let same_m : m ≡ r = part.1 in
+        let same_f : fs ≡ gs = part.2 in
+        cc
+    same_parts x y z (if_is {e = e} {then_x = a1} {else_x = a2} {f = f} {then_y = b1} {else_y = b2} h h1 h2) (if_is {f = g} {then_y = c1} {else_y = c2} k k1 k2) =
+        let same_f : f ≡ g = same_exprs e f g h k in
+        let same_1 : b1 ≡ c1 = same_statements a1 b1 c1 h1 k1 in
+        let same_2 : b2 ≡ c2 = same_statements a2 b2 c2 h2 k2 in
+        cc
 
-  abbrev pub emit_layer : stmt.Stmt-F Stmt → ℕ → List (Expr MetaPath) → Type 0
-  emit_layer (stmt.Set p n e) m fs = ⊥
-  emit_layer (stmt.Emit n es) m fs = IsEmit s n es m fs
-  emit_layer (stmt.Call p n es) m fs = ⊥
-  emit_layer (stmt.If e a b) m fs = ⊥
-
-  abbrev pub call_layer : stmt.Stmt-F Stmt → MetaPath → ℕ → List (Expr MetaPath) → Type 0
-  call_layer (stmt.Set p n e) x m fs = ⊥
-  call_layer (stmt.Emit n es) x m fs = ⊥
-  call_layer (stmt.Call p n es) x m fs = IsCall s p n es x m fs
-  call_layer (stmt.If e a b) x m fs = ⊥
-
-  abbrev if_layer : stmt.Stmt-F Stmt → Expr MetaPath → List Statement → List Statement → Type 0
-  if_layer (stmt.Set p n e) f c d = ⊥
-  if_layer (stmt.Emit n es) f c d = ⊥
-  if_layer (stmt.Call p n es) f c d = ⊥
-  if_layer (stmt.If e a b) f c d = IsExpr s e f × AreStatements s a c × AreStatements s b d
-
-  pub same_statements : (xs : List Stmt) (ys zs : List Statement) → AreStatements s xs ys → AreStatements s xs zs → ys ≡ zs
-  same_statements xs ys zs none_are none_are = refl
-  same_statements xs ys zs (set_is a b h0 h1) (emit_is c d k0 k1) = absurd (cc)
-  same_statements xs ys zs (set_is a b h0 h1) (call_is c d k0 k1) = absurd (cc)
-  same_statements xs ys zs (set_is a b h0 h1) (if_is c d k0 k1 k2 k3) = absurd (cc)
-  same_statements xs ys zs (emit_is a b h0 h1) (set_is c d k0 k1) = absurd (cc)
-  same_statements xs ys zs (emit_is a b h0 h1) (call_is c d k0 k1) = absurd (cc)
-  same_statements xs ys zs (emit_is a b h0 h1) (if_is c d k0 k1 k2 k3) = absurd (cc)
-  same_statements xs ys zs (call_is a b h0 h1) (set_is c d k0 k1) = absurd (cc)
-  same_statements xs ys zs (call_is a b h0 h1) (emit_is c d k0 k1) = absurd (cc)
-  same_statements xs ys zs (call_is a b h0 h1) (if_is c d k0 k1 k2 k3) = absurd (cc)
-  same_statements xs ys zs (if_is a b h0 h1 h2 h3) (set_is c d k0 k1) = absurd (cc)
-  same_statements xs ys zs (if_is a b h0 h1 h2 h3) (emit_is c d k0 k1) = absurd (cc)
-  same_statements xs ys zs (if_is a b h0 h1 h2 h3) (call_is c d k0 k1) = absurd (cc)
-  same_statements xs ys zs (set_is {path = p} {name = n} {e = e} {y = y} {found = x} {q = q} {f = f} {xs = us} {ys = vs} a b h t) (set_is {y = z} {found = x2} {q = r} {f = g} {ys = ws} c d k u) =
-      let part = same_set p n e x x2 q r f g h (subst (λ l. set_layer l x2 r g) (sym c ∙ a) k) in
-      let same_x : x ≡ x2 = part.0 in
-      let same_q : q ≡ r = part.1 in
-      let same_f : f ≡ g = part.2 in
-      ap (λ v. v ∷ vs) (same_statement y z (cc)) ∙ ap (λ v. z ∷ v) (same_statements us vs ws t u)
-  same_statements xs ys zs (emit_is {name = n} {es = es} {y = y} {m = m} {fs = fs} {xs = us} {ys = vs} a b h t) (emit_is {y = z} {m = r} {fs = gs} {ys = ws} c d k u) =
-      let part = same_emit n es m r fs gs h (subst (λ l. emit_layer l r gs) (sym c ∙ a) k) in
-      let same_m : m ≡ r = part.0 in
-      let same_f : fs ≡ gs = part.1 in
-      ap (λ v. v ∷ vs) (same_statement y z (cc)) ∙ ap (λ v. z ∷ v) (same_statements us vs ws t u)
-  same_statements xs ys zs (call_is {path = p} {name = n} {es = es} {y = y} {found = x} {m = m} {fs = fs} {xs = us} {ys = vs} a b h t) (call_is {y = z} {found = x2} {m = r} {fs = gs} {ys = ws} c d k u) =
-      let part = same_call p n es x x2 m r fs gs h (subst (λ l. call_layer l x2 r gs) (sym c ∙ a) k) in
-      let same_x : x ≡ x2 = part.0 in
-      let same_m : m ≡ r = part.1 in
-      let same_f : fs ≡ gs = part.2 in
-      ap (λ v. v ∷ vs) (same_statement y z (cc)) ∙ ap (λ v. z ∷ v) (same_statements us vs ws t u)
-  same_statements xs ys zs (if_is {e = e} {then_x = a1} {else_x = a2} {y = y} {f = f} {then_y = b1} {else_y = b2} {xs = us} {ys = vs} a b h h1 h2 t) (if_is {y = z} {f = g} {then_y = c1} {else_y = c2} {ys = ws} c d k k1 k2 u) =
-      let part = subst (λ l. if_layer l g c1 c2) (sym c ∙ a) (k, k1, k2) in
-      let same_f : f ≡ g = same_exprs e f g h part.0 in
-      let same_1 : b1 ≡ c1 = same_statements a1 b1 c1 h1 part.1 in
-      let same_2 : b2 ≡ c2 = same_statements a2 b2 c2 h2 part.2 in
-      ap (λ v. v ∷ vs) (same_statement y z (cc)) ∙ ap (λ v. z ∷ v) (same_statements us vs ws t u)
+    pub same_statements : (xs : List Stmt) (ys zs : List Statement) → AreStatements s xs ys → AreStatements s xs zs → ys ≡ zs
+    same_statements xs ys zs none_are none_are = refl
+    same_statements xs ys zs (next_is {x = x} {xs = us} {y = y} {ys = vs} h t) (next_is {y = z} {ys = ws} k u) =
+        ap (λ v. v ∷ vs) (same_statement y z (same_parts (out-Stmt x) (out-Statement y) (out-Statement z) h k)) ∙ ap (λ v. z ∷ v) (same_statements us vs ws t u)
 
 -- ---- made of parts
 module _ (s : Scope) where
-  pub join : (x : Stmt) (y : Statement) (xs : List Stmt) (ys : List Statement) → IsStatement s x y → AreStatements s xs ys → AreStatements s (x ∷ xs) (y ∷ ys)
-  join x y xs ys (set_is a b h t) rest = set_is a b h rest
-  join x y xs ys (emit_is a b h t) rest = emit_is a b h rest
-  join x y xs ys (call_is a b h t) rest = call_is a b h rest
-  join x y xs ys (if_is a b h k l t) rest = if_is a b h k l rest
-
   pub record Parted (x : Stmt) (xs : List Stmt) (zs : List Statement) : Type 0 where
     pub first : Statement
     pub rest : List Statement
     pub is : zs ≡ first ∷ rest
-    pub one : IsStatement s x first
+    pub one : IsStatementOf s x first
     pub more : AreStatements s xs rest
 
   pub part : (x : Stmt) (xs : List Stmt) (zs : List Statement) → AreStatements s (x ∷ xs) zs → Parted x xs zs
-  part x xs zs (set_is {y = y} {ys = ys} a b h t) = record { first = y; rest = ys; is = refl; one = set_is a b h none_are; more = t }
-  part x xs zs (emit_is {y = y} {ys = ys} a b h t) = record { first = y; rest = ys; is = refl; one = emit_is a b h none_are; more = t }
-  part x xs zs (call_is {y = y} {ys = ys} a b h t) = record { first = y; rest = ys; is = refl; one = call_is a b h none_are; more = t }
-  part x xs zs (if_is {y = y} {ys = ys} a b h k l t) = record { first = y; rest = ys; is = refl; one = if_is a b h k l none_are; more = t }
+  part x xs zs (next_is {y = y} {ys = ys} h t) = record { first = y; rest = ys; is = refl; one = h; more = t }

@@ -29,14 +29,16 @@ use Rattle.meta_model.specs.declared.object.MetaPath.{MetaPath}
 use Rattle.meta_model.specs.declared.object.ValueType.{ValueType}
 use Rattle.meta_model.specs.declared.object.Statement.{Statement}
 use Rattle.meta_model.specs.declared.object.Statement.TheVariants as statement_by
+use Rattle.meta_model.specs.declared.object.Statement.TheOpen as statement
+use Rattle.meta_model.specs.declared.object.Statement.TheViews.{out-Statement}
 use Rattle.meta_model.specs.declared.outline.Outline.{Outline}
 use Rattle.meta_model.specs.Places.{StandsAt, StandsFirst, Found}
 use Rattle.meta_model.specs.Kinds.{IsReadAs}
 use Rattle.meta_model.specs.Literals.{literal}
-use Rattle.meta_objects.specs.Bodies.{Scope, IsRoot, this_root, parameter_root, IsSet, PointsTo, PointsToThis, HasMember, AreSteps, IsPath, IsExpr, literal_is, path_is, unary_is, binary_is, AreExprs, IsStatement, AreStatements, none_are, set_is, emit_is, call_is, if_is, LacksInBody}
+use Rattle.meta_objects.specs.Bodies.{Scope, IsRoot, this_root, parameter_root, PointsTo, PointsToThis, HasMember, AreSteps, IsPath, IsExpr, literal_is, path_is, unary_is, binary_is, AreExprs, IsObjectPath, IsPropertyOfName, IsSet, IsStatement, set_is, if_is, AreStatements, none_are, next_is, IsStatementOf, LacksInBody}
 use Rattle.meta_model.proofs.OutlineSteps.{drop_at, drop_end}
 use Rattle.meta_model.proofs.Firsts.{first_item}
-use Rattle.meta_objects.proofs.Bodies.{join, part, same_in, same_member, same_root, same_path, set_layer}
+use Rattle.meta_objects.proofs.Bodies.{part, same_in, same_member, same_root, same_path, same_object}
 
 -- ---- members
 module _ (outlines : List Outline) where
@@ -144,11 +146,11 @@ module _ (s : Scope) where
     abbrev OnlyOf : ℕ → Type 0
     OnlyOf i = (all : List Statement) → AreStatements s body all → (more : List Statement) × AreStatements s (drop i body) more
 
-    pub block_left : (i : ℕ) (x : Stmt) (y : Statement) (done after : List Statement) → slice_get body i ≡ Some x → IsStatement s x y → after ≡ done ++ y ∷ [] → LeftOf i done → LeftOf (i + 1) after
+    pub block_left : (i : ℕ) (x : Stmt) (y : Statement) (done after : List Statement) → slice_get body i ≡ Some x → IsStatementOf s x y → after ≡ done ++ y ∷ [] → LeftOf i done → LeftOf (i + 1) after
     block_left i x y done after at one pushed left more h =
         let number : suc i ≡ i + 1 = omega arith in
         let h1 = subst (λ n. AreStatements s (drop n body) more) (sym number) h in
-        let h2 = left (y ∷ more) (subst (λ xs. AreStatements s xs (y ∷ more)) (sym (drop_at body i x at)) (join s x y (drop (suc i) body) more one h1)) in
+        let h2 = left (y ∷ more) (subst (λ xs. AreStatements s xs (y ∷ more)) (sym (drop_at body i x at)) (next_is one h1)) in
         subst (λ ys. AreStatements s body ys) (sym (append_assoc done (y ∷ []) more) ∙ ap (λ ys. ys ++ more) (sym pushed)) h2
 
     pub block_only : (i : ℕ) (x : Stmt) → slice_get body i ≡ Some x → OnlyOf i → OnlyOf (i + 1)
@@ -158,7 +160,7 @@ module _ (s : Scope) where
         let parts = part s x (drop (suc i) body) more.0 (subst (λ xs. AreStatements s xs more.0) (drop_at body i x at) more.1) in
         (parts.rest, subst (λ n. AreStatements s (drop n body) parts.rest) number parts.more)
 
-    pub block_stuck : (i : ℕ) (x : Stmt) → slice_get body i ≡ Some x → OnlyOf i → ((y : Statement) → ¬ IsStatement s x y) → LacksInBody s body
+    pub block_stuck : (i : ℕ) (x : Stmt) → slice_get body i ≡ Some x → OnlyOf i → ((y : Statement) → ¬ IsStatementOf s x y) → LacksInBody s body
     block_stuck i x at only none all h =
         let more = only all h in
         let parts = part s x (drop (suc i) body) more.0 (subst (λ xs. AreStatements s xs more.0) (drop_at body i x at) more.1) in
@@ -168,17 +170,21 @@ module _ (s : Scope) where
     block_end i done past left =
         subst (λ ys. AreStatements s body ys) (append_none done) (left [] (subst (λ xs. AreStatements s xs []) (sym (drop_end body i past)) none_are))
 
-  pub if_piece : (x : Expr Path) (f : Expr MetaPath) (a b : List Stmt) (c d : List Statement) → IsExpr s x f → AreStatements s a c → AreStatements s b d → IsStatement s (stmt_by.If x a b) (statement_by.If f c d)
-  if_piece x f a b c d h k l = if_is (stmt_by.outs-If x a b) (statement_by.outs-If f c d) h k l none_are
+  -- ---- statements by their parts
+  pub by_parts : (x : Stmt) (y : Statement) (f : stmt.Stmt-F Stmt) (g : statement.Statement-F Statement) → out-Stmt x ≡ f → out-Statement y ≡ g → IsStatement s f g → IsStatementOf s x y
+  by_parts x y f g a b h = subst (λ k. IsStatement s (out-Stmt x) k) (sym b) (subst (λ k. IsStatement s k g) (sym a) h)
 
-  other_of : (x : Stmt) (zs : List Statement) (t : Expr Path) (a b : List Stmt) → out-Stmt x ≡ stmt.If t a b → AreStatements s (x ∷ []) zs → (ys : List Statement) × AreStatements s b ys
-  other_of x zs t a b is (set_is u v h r) = absurd (cc)
-  other_of x zs t a b is (emit_is u v h r) = absurd (cc)
-  other_of x zs t a b is (call_is u v h r) = absurd (cc)
-  other_of x zs t a b is (if_is {else_x = b2} {else_y = ys} u v h k l r) = let same : b2 ≡ b = cc in (ys, subst (λ z. AreStatements s z ys) same l)
+  pub parts_of : (x : Stmt) (y : Statement) (f : stmt.Stmt-F Stmt) → out-Stmt x ≡ f → IsStatementOf s x y → IsStatement s f (out-Statement y)
+  parts_of x y f a h = subst (λ k. IsStatement s k (out-Statement y)) a h
 
-  pub no_other : (t : Expr Path) (a b : List Stmt) → LacksInBody s b → (y : Statement) → ¬ IsStatement s (stmt_by.If t a b) y
-  no_other t a b lacks y is = let r = other_of (stmt_by.If t a b) (y ∷ []) t a b (stmt_by.outs-If t a b) is in lacks r.0 r.1
+  pub if_piece : (x : Expr Path) (f : Expr MetaPath) (a b : List Stmt) (c d : List Statement) → IsExpr s x f → AreStatements s a c → AreStatements s b d → IsStatementOf s (stmt_by.If x a b) (statement_by.If f c d)
+  if_piece x f a b c d h k l = by_parts _ _ _ _ (stmt_by.outs-If x a b) (statement_by.outs-If f c d) (if_is h k l)
+
+  other_of : (t : Expr Path) (a b : List Stmt) (g : statement.Statement-F Statement) → IsStatement s (stmt.If t a b) g → (ys : List Statement) × AreStatements s b ys
+  other_of t a b g (if_is {else_y = ys} h k l) = (ys, l)
+
+  pub no_other : (t : Expr Path) (a b : List Stmt) → LacksInBody s b → (y : Statement) → ¬ IsStatementOf s (stmt_by.If t a b) y
+  no_other t a b lacks y is = let r = other_of t a b (out-Statement y) (parts_of _ y _ (stmt_by.outs-If t a b) is) in lacks r.0 r.1
 
   -- ---- paths from their roots
   pub a_parameter : (name : List ℕ) (k : ℕ) (p : Parameter) (start : QType) → Found (λ (p : Parameter). p.name ≡ Some name) s.parameters k p → start ≡ p.kind → IsRoot s (root.Name name) (resolved.Parameter k) start
@@ -202,32 +208,44 @@ module _ (s : Scope) where
             n.1 found.steps T (subst (λ U. AreSteps s.outlines U path.properties found.steps T) same.1 h.steps),
       )
 
+  -- ---- objects
+  module _ (path : Path) where
+    pub no_object_path : ((found : MetaPath) (T : QType) → ¬ IsPath s path found T) → (found : MetaPath) (class : Outline) → ¬ IsObjectPath s path found class
+    no_object_path lacks found class h = lacks found h.kind h.leads
+
+    pub no_object_class : (g : MetaPath) (T : QType) → IsPath s path g T → ((c : ℕ) → ¬ PointsTo s.outlines T c) → (found : MetaPath) (class : Outline) → ¬ IsObjectPath s path found class
+    no_object_class g T to none found class h =
+        let same = same_path s path found g h.kind T h.leads to in
+        none h.number (subst (λ U. PointsTo s.outlines U h.number) same.1 h.points.points)
+
+    pub an_object : (g : MetaPath) (T : QType) (c : ℕ) (class : Outline) → IsPath s path g T → PointsToThis s.outlines T c class → IsObjectPath s path g class
+    an_object g T c class to this = record { kind = T; leads = to; number = c; points = this }
+
   -- ---- set
-  set_of : (x : Stmt) (zs : List Statement) (p : Path) (n : List ℕ) (v : Expr Path) → out-Stmt x ≡ stmt.Set p n v → AreStatements s (x ∷ []) zs → (found : MetaPath) × (q : ℕ) × (f : Expr MetaPath) × IsSet s p n v found q f
-  set_of x zs p n v is (set_is {found = found} {q = q} {f = f} a b h t) = (found, q, f, subst (λ l. set_layer s l found q f) (sym a ∙ is) h)
-  set_of x zs p n v is (emit_is a b h t) = absurd (cc)
-  set_of x zs p n v is (call_is a b h t) = absurd (cc)
-  set_of x zs p n v is (if_is a b h k l t) = absurd (cc)
+  set_of : (p : Path) (n : List ℕ) (v : Expr Path) (g : statement.Statement-F Statement) → IsStatement s (stmt.Set p n v) g → (found : MetaPath) × (q : ℕ) × (f : Expr MetaPath) × IsSet s p n v found q f
+  set_of p n v g (set_is {found = found} {q = q} {f = f} h) = (found, q, f, h)
 
   module _ (p : Path) (n : List ℕ) (v : Expr Path) where
-    a_set : (y : Statement) → IsStatement s (stmt_by.Set p n v) y → (found : MetaPath) × (q : ℕ) × (f : Expr MetaPath) × IsSet s p n v found q f
-    a_set y is = set_of (stmt_by.Set p n v) (y ∷ []) p n v (stmt_by.outs-Set p n v) is
+    a_set : (y : Statement) → IsStatementOf s (stmt_by.Set p n v) y → (found : MetaPath) × (q : ℕ) × (f : Expr MetaPath) × IsSet s p n v found q f
+    a_set y is = set_of p n v (out-Statement y) (parts_of _ y _ (stmt_by.outs-Set p n v) is)
 
-    pub no_set_path : ((found : MetaPath) (T : QType) → ¬ IsPath s p found T) → (y : Statement) → ¬ IsStatement s (stmt_by.Set p n v) y
-    no_set_path lacks y is = let r = a_set y is in lacks r.0 r.3.kind r.3.object
+    pub no_set_object : ((found : MetaPath) (class : Outline) → ¬ IsObjectPath s p found class) → (y : Statement) → ¬ IsStatementOf s (stmt_by.Set p n v) y
+    no_set_object lacks y is = let r = a_set y is in lacks r.0 r.3.class r.3.object
 
-    pub no_set_value : ((f : Expr MetaPath) → ¬ IsExpr s v f) → (y : Statement) → ¬ IsStatement s (stmt_by.Set p n v) y
+    pub no_set_value : ((f : Expr MetaPath) → ¬ IsExpr s v f) → (y : Statement) → ¬ IsStatementOf s (stmt_by.Set p n v) y
     no_set_value lacks y is = let r = a_set y is in lacks r.2 r.3.value
 
-    pub no_set_member : (g : MetaPath) (T : QType) → IsPath s p g T → ((q : ℕ) (x : Property) → ¬ HasMember s.outlines T n q x) → (y : Statement) → ¬ IsStatement s (stmt_by.Set p n v) y
-    no_set_member g T to none y is =
-        let r = a_set y is in
-        let same = same_path s p r.0 g r.3.kind T r.3.object to in
-        none r.1 r.3.property (subst (λ U. HasMember s.outlines U n r.1 r.3.property) same.1 r.3.member)
+    module _ (g : MetaPath) (class : Outline) (object : IsObjectPath s p g class) where
+      pub no_set_property : ((k : ℕ) → ¬ StandsAt (IsPropertyOfName n) class.properties k) → (y : Statement) → ¬ IsStatementOf s (stmt_by.Set p n v) y
+      no_set_property none y is =
+          let r = a_set y is in
+          let same = same_object s p r.0 g r.3.class class r.3.object object in
+          none r.1 (subst (λ (o : Outline). StandsAt (IsPropertyOfName n) o.properties r.1) same.1 r.3.property.at)
 
-    pub set_piece : (g : MetaPath) (T : QType) (q : ℕ) (x : Property) (f : Expr MetaPath) → IsPath s p g T → HasMember s.outlines T n q x → IsExpr s v f → IsStatement s (stmt_by.Set p n v) (statement_by.Set g q f)
-    set_piece g T q x f to member value =
-        set_is (stmt_by.outs-Set p n v) (statement_by.outs-Set g q f) (record { kind = T; object = to; property = x; member = member; value = value }) none_are
+      pub set_piece : (q : ℕ) (x : Property) (f : Expr MetaPath) → Found (IsPropertyOfName n) class.properties q x → IsExpr s v f → IsStatementOf s (stmt_by.Set p n v) (statement_by.Set g q f)
+      set_piece q x f found value =
+          by_parts _ _ _ _ (stmt_by.outs-Set p n v) (statement_by.outs-Set g q f)
+          (set_is (record { class = class; object = object; property = found.first; value = value }))
 
   -- ---- lists of expressions
   part_of : (x : Expr Path) (xs : List (Expr Path)) (fs : List (Expr MetaPath)) → AreExprs s (x ∷ xs) fs → (f : Expr MetaPath) × (gs : List (Expr MetaPath)) × IsExpr s x f × AreExprs s xs gs

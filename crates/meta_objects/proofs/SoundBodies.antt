@@ -6,16 +6,20 @@ use Rattle.texts.specs.declared.syntax.Expr.{Expr}
 use Rattle.texts.specs.declared.syntax.Root.{Root}
 use Rattle.texts.specs.declared.syntax.Path.{Path}
 use Rattle.texts.specs.declared.syntax.Stmt.{Stmt}
+use Rattle.texts.specs.declared.syntax.Stmt.TheOpen as stmt
+use Rattle.texts.specs.declared.syntax.Stmt.TheViews.{out-Stmt}
 use Rattle.meta_model.specs.declared.object.ValueType.{ValueType}
 use Rattle.meta_model.specs.declared.object.MetaRoot.{MetaRoot}
 use Rattle.meta_model.specs.declared.object.Step.{Step}
 use Rattle.meta_model.specs.declared.object.MetaPath.{MetaPath}
 use Rattle.meta_model.specs.declared.object.Statement.{Statement}
+use Rattle.meta_model.specs.declared.object.Statement.TheOpen as statement
+use Rattle.meta_model.specs.declared.object.Statement.TheViews.{out-Statement}
 use Rattle.meta_model.specs.declared.object.MetaMethod.{MetaMethod}
 use Rattle.meta_model.specs.Members.{IsMethod}
-use Rattle.meta_model.specs.Sound.{HasRoot, this_has, parameter_has, Leads, here, on, LeadsTo, LeadsToClass, IsSoundExpr, literal_sound, path_sound, unary_sound, binary_sound, AreSoundExprs, AreSound, none_sound, set_sound, emit_sound, call_sound, if_sound}
+use Rattle.meta_model.specs.Sound.{HasRoot, this_has, parameter_has, Leads, here, on, LeadsTo, LeadsToClass, IsSoundExpr, literal_sound, path_sound, unary_sound, binary_sound, AreSoundExprs, IsSoundStatement, set_sound, emit_sound, call_sound, if_sound, AreSound, none_sound, next_sound}
 use Rattle.meta_model.specs.Literals.{literal, HoldsNoObject}
-use Rattle.meta_objects.specs.LoadedBodies.{Site, IsLoadedRoot, this_loaded, parameter_loaded, AreLoadedSteps, no_steps, step_on, IsLoadedPath, IsLoadedObject, IsLoadedExpr, literal_loaded, path_loaded, unary_loaded, binary_loaded, AreLoadedExprs, AreLoadedStatements, none_loaded, set_loaded, emit_loaded, call_loaded, if_loaded}
+use Rattle.meta_objects.specs.LoadedBodies.{Site, IsLoadedRoot, this_loaded, parameter_loaded, AreLoadedSteps, no_steps, step_on, IsLoadedPath, IsLoadedObject, IsLoadedExpr, literal_loaded, path_loaded, unary_loaded, binary_loaded, AreLoadedExprs, IsLoadedStatement, set_loaded, emit_loaded, call_loaded, if_loaded, AreLoadedStatements, none_loaded, next_loaded}
 use Rattle.meta_objects.proofs.Soundness.{zip_length}
 
 -- a literal holds no object
@@ -56,35 +60,34 @@ module _ (s : Site) (counted : (c m : ℕ) (method : MetaMethod) → IsMethod s.
   exprs_sound (e ∷ es) [] h = absurd h
   exprs_sound (e ∷ es) (f ∷ fs) h = (expr_sound e f h.0, exprs_sound es fs h.1)
 
-  pub statements_sound : (xs : List Stmt) (ys : List Statement) → AreLoadedStatements s xs ys → AreSound s.program s.me s.kinds ys
-  statements_sound xs ys none_loaded = none_sound
-  statements_sound xs ys (set_loaded {path = path} {e = e} {found = found} {f = f} {xs = us} {ys = vs} a b h t) =
-      set_sound b
-      (record { class = h.class; leads = object_sound path found h.class h.object; property = h.property; is = h.has.is; value = expr_sound e f h.value })
-      (statements_sound us vs t)
-  statements_sound xs ys (emit_loaded {es = es} {m = m} {fs = fs} {xs = us} {ys = vs} a b h t) =
-      emit_sound b
-      (record {
-        signal = h.signal.method;
-        is = h.signal.is;
-        signals = h.signals;
-        emitted = h.emitted;
-        counted = sym (counted s.me m h.signal.method h.signal.is) ∙ h.signal.counted ∙ zip_length (IsLoadedExpr s) es fs h.values;
-        values = exprs_sound es fs h.values;
-      })
-      (statements_sound us vs t)
-  statements_sound xs ys (call_loaded {path = path} {es = es} {found = found} {m = m} {fs = fs} {xs = us} {ys = vs} a b h t) =
-      call_sound b
-      (record {
-        class = h.class;
-        leads = object_sound path found h.class h.object;
-        slot = h.slot.method;
-        is = h.slot.is;
-        body = h.body;
-        slots = h.slots;
-        counted = sym (counted h.class m h.slot.method h.slot.is) ∙ h.slot.counted ∙ zip_length (IsLoadedExpr s) es fs h.values;
-        values = exprs_sound es fs h.values;
-      })
-      (statements_sound us vs t)
-  statements_sound xs ys (if_loaded {e = e} {then_x = x1} {else_x = x2} {f = f} {then_y = y1} {else_y = y2} {xs = us} {ys = vs} a b h h1 h2 t) =
-      if_sound b (expr_sound e f h) (statements_sound x1 y1 h1) (statements_sound x2 y2 h2) (statements_sound us vs t)
+  mutual
+    statement_sound : (x : stmt.Stmt-F Stmt) (y : statement.Statement-F Statement) → IsLoadedStatement s x y → IsSoundStatement s.program s.me s.kinds y
+    statement_sound x y (set_loaded {path = path} {e = e} {found = found} {f = f} h) =
+        set_sound (record { class = h.class; leads = object_sound path found h.class h.object; property = h.property; is = h.has.is; value = expr_sound e f h.value })
+    statement_sound x y (emit_loaded {es = es} {m = m} {fs = fs} h) =
+        emit_sound (record {
+          signal = h.signal.method;
+          is = h.signal.is;
+          signals = h.signals;
+          emitted = h.emitted;
+          counted = sym (counted s.me m h.signal.method h.signal.is) ∙ h.signal.counted ∙ zip_length (IsLoadedExpr s) es fs h.values;
+          values = exprs_sound es fs h.values;
+        })
+    statement_sound x y (call_loaded {path = path} {es = es} {found = found} {m = m} {fs = fs} h) =
+        call_sound (record {
+          class = h.class;
+          leads = object_sound path found h.class h.object;
+          slot = h.slot.method;
+          is = h.slot.is;
+          body = h.body;
+          slots = h.slots;
+          counted = sym (counted h.class m h.slot.method h.slot.is) ∙ h.slot.counted ∙ zip_length (IsLoadedExpr s) es fs h.values;
+          values = exprs_sound es fs h.values;
+        })
+    statement_sound x y (if_loaded {e = e} {then_x = x1} {else_x = x2} {f = f} {then_y = y1} {else_y = y2} h h1 h2) =
+        if_sound (expr_sound e f h) (statements_sound x1 y1 h1) (statements_sound x2 y2 h2)
+
+    pub statements_sound : (xs : List Stmt) (ys : List Statement) → AreLoadedStatements s xs ys → AreSound s.program s.me s.kinds ys
+    statements_sound xs ys none_loaded = none_sound
+    statements_sound xs ys (next_loaded {x = x} {xs = us} {y = y} {ys = vs} h t) =
+        next_sound (statement_sound (out-Stmt x) (out-Statement y) h) (statements_sound us vs t)

@@ -1,5 +1,5 @@
 -- Bodies that are resolved in outlines, as they are loaded: by the numbers of the members with their names.
-use Rattle.std.proofs.Common.{◌≡◌, ◌≢◌, ℕ, zero, suc, false, List, [], ◌∷◌, map, length, slice_get, Some, inl, refl, sym, ap, ◌∙◌, subst}
+use Rattle.std.proofs.Common.{◌≡◌, ℕ, zero, suc, false, List, [], ◌∷◌, map, length, slice_get, Some, inl, refl, sym, ap, ◌∙◌, subst}
 use Rattle.std.specs.List.{AllZip}
 use Rattle.std.proofs.lemmas.Option.{none-some, same_Some}
 use Rattle.signatures.specs.declared.qtype.QType.{QType}
@@ -8,6 +8,8 @@ use Rattle.texts.specs.declared.syntax.Expr.{Expr}
 use Rattle.texts.specs.declared.syntax.Root.{Root}
 use Rattle.texts.specs.declared.syntax.Path.{Path}
 use Rattle.texts.specs.declared.syntax.Stmt.{Stmt}
+use Rattle.texts.specs.declared.syntax.Stmt.TheOpen as stmt
+use Rattle.texts.specs.declared.syntax.Stmt.TheViews.{out-Stmt}
 use Rattle.texts.specs.declared.program.Parameter.{Parameter}
 use Rattle.texts.specs.declared.program.Property.{Property}
 use Rattle.meta_model.specs.declared.object.ValueType.{ValueType}
@@ -16,6 +18,8 @@ use Rattle.meta_model.specs.declared.object.MetaRoot.{MetaRoot}
 use Rattle.meta_model.specs.declared.object.Step.{Step}
 use Rattle.meta_model.specs.declared.object.MetaPath.{MetaPath}
 use Rattle.meta_model.specs.declared.object.Statement.{Statement}
+use Rattle.meta_model.specs.declared.object.Statement.TheOpen as statement
+use Rattle.meta_model.specs.declared.object.Statement.TheViews.{out-Statement}
 use Rattle.meta_model.specs.declared.object.Work.TheVariants as work
 use Rattle.meta_model.specs.declared.object.MetaMethod.{MetaMethod}
 use Rattle.meta_model.specs.declared.object.MetaProperty.{MetaProperty}
@@ -27,10 +31,10 @@ use Rattle.meta_model.specs.declared.outline.Outline.{Outline}
 use Rattle.meta_model.specs.Loaded.{Loaded}
 use Rattle.meta_model.specs.Members.{IsClassNamed, IsMethod, IsMethodNamed, IsProperty}
 use Rattle.meta_model.specs.Sound.{IsKind}
-use Rattle.meta_model.specs.Outlines.{IsOutlineNamed, kinds_of}
+use Rattle.meta_model.specs.Outlines.{IsOutlineNamed, MayBeCalled, kinds_of}
 use Rattle.meta_model.specs.Kinds.{IsKindIn, IsReadAs}
-use Rattle.meta_objects.specs.Bodies.{Scope, IsRoot, this_root, parameter_root, PointsTo, HasMember, AreSteps, IsPath, IsExpr, literal_is, path_is, unary_is, binary_is, AreExprs, IsSet, IsCallOf, IsEmit, IsCall, AreStatements, none_are, set_is, emit_is, call_is, if_is}
-use Rattle.meta_objects.specs.LoadedBodies.{Site, site, IsLoadedRoot, this_loaded, parameter_loaded, HasProperty, AreLoadedSteps, no_steps, step_on, IsLoadedPath, IsLoadedObject, IsLoadedExpr, literal_loaded, path_loaded, unary_loaded, binary_loaded, AreLoadedExprs, IsLoadedSet, IsLoadedEmit, IsLoadedCall, AreLoadedStatements, none_loaded, set_loaded, emit_loaded, call_loaded, if_loaded}
+use Rattle.meta_objects.specs.Bodies.{Scope, IsRoot, this_root, parameter_root, PointsTo, HasMember, AreSteps, IsPath, IsExpr, literal_is, path_is, unary_is, binary_is, AreExprs, IsObjectPath, IsCallOf, IsSet, IsEmit, IsCall, IsStatement, set_is, emit_is, call_is, if_is, AreStatements, none_are, next_is}
+use Rattle.meta_objects.specs.LoadedBodies.{Site, site, IsLoadedRoot, this_loaded, parameter_loaded, HasProperty, AreLoadedSteps, no_steps, step_on, IsLoadedPath, IsLoadedObject, IsLoadedExpr, literal_loaded, path_loaded, unary_loaded, binary_loaded, AreLoadedExprs, IsLoadedSet, IsLoadedEmit, IsLoadedCall, IsLoadedStatement, set_loaded, emit_loaded, call_loaded, if_loaded, AreLoadedStatements, none_loaded, next_loaded}
 use Rattle.meta_objects.specs.Loading.{body_at, found_body, work_of, IsMethodOf, IsPropertyOf, IsObject}
 use Rattle.meta_model.proofs.Zips.{zip_left, zip_right}
 use Rattle.meta_model.proofs.Searches.{same_first}
@@ -140,10 +144,14 @@ module _ (outlines : List Outline) (bodies : List (List (List Statement))) (p : 
         let steps = steps_load path.properties h.root_type root.0 f.steps T root.2 h.steps in
         (steps.0, steps.1, record { root_type = root.0; root = root.1; steps = steps.2 })
 
-    object_loads : (path : Path) (f : MetaPath) (T : QType) (c : ℕ) → IsPath scope path f T → PointsTo outlines T c → IsLoadedObject loaded_site path f c
-    object_loads path f T c h to =
-        let path_to = path_loads path f T h in
-        record { constant = T.constant; leads = subst (λ k. IsLoadedPath loaded_site path f k) (points T c path_to.0 to path_to.1) path_to.2 }
+    object_loads : (path : Path) (f : MetaPath) (class : Outline) (h : IsObjectPath scope path f class) → IsLoadedObject loaded_site path f h.number
+    object_loads path f class h =
+        let path_to = path_loads path f h.kind h.leads in
+        record { constant = h.kind.constant; leads = subst (λ k. IsLoadedPath loaded_site path f k) (points h.kind h.number path_to.0 h.points.points path_to.1) path_to.2 }
+
+    -- the class of the objects that the path leads to, by its number
+    target_at : (path : Path) (f : MetaPath) (class : Outline) (h : IsObjectPath scope path f class) → slice_get outlines h.number ≡ Some class
+    target_at path f class h = h.points.points.class.at.is ∙ ap (λ (o : Outline). Some o) h.points.is
 
     expr_loads : (e : Expr Path) (f : Expr MetaPath) → IsExpr scope e f → IsLoadedExpr loaded_site e f
     expr_loads e f (literal_is a b) = literal_loaded a b
@@ -158,19 +166,21 @@ module _ (outlines : List Outline) (bodies : List (List (List Statement))) (p : 
     exprs_load (e ∷ es) (f ∷ fs) h = (expr_loads e f h.0, exprs_load es fs h.1)
 
     set_loads : (path : Path) (n : List ℕ) (e : Expr Path) (found : MetaPath) (q : ℕ) (f : Expr MetaPath) → IsSet scope path n e found q f → IsLoadedSet loaded_site path n e found q f
-    set_loads path n e found q f h = record {
-      class = h.member.number;
-      object = object_loads path found h.kind h.member.number h.object h.member.points;
-      property = (member h.kind n q h.property h.member).loaded;
-      has = has_property h.kind n q h.property h.member;
-      value = expr_loads e f h.value;
-    }
+    set_loads path n e found q f h =
+        let property = property_at h.object.number h.class (target_at path found h.class h.object) q h.property.at.item h.property.at.is in
+        record {
+          class = h.object.number;
+          object = object_loads path found h.class h.object;
+          property = property.loaded;
+          has = record { is = property.is; named = property.named ∙ h.property.at.has };
+          value = expr_loads e f h.value;
+        }
 
     -- a signal's work, and a slot's
-    sort_slot : (s : Sort) → s ≢ sort.Signal → (body : List Statement) × (work_of bodies s ≡ work.Slot body)
-    sort_slot sort.Signal not_signal = absurd (not_signal refl)
-    sort_slot sort.DeleteLater not_signal = ([], refl)
-    sort_slot (sort.Slot i j) not_signal = (found_body (body_at bodies i j), refl)
+    sort_slot : (s : Sort) → MayBeCalled s → (body : List Statement) × (work_of bodies s ≡ work.Slot body)
+    sort_slot sort.Signal callable = absurd (callable.0 refl)
+    sort_slot sort.DeleteLater callable = absurd (callable.1 refl)
+    sort_slot (sort.Slot i j) callable = (found_body (body_at bodies i j), refl)
 
     -- the method that a name and a number of parameters are resolved to has them
     abbrev method_named : (c m : ℕ) (h : Heading) → FoundMethod c m h → (n : List ℕ) (count : ℕ) → IsCallOf n count h → IsMethodNamed p c n count m
@@ -195,21 +205,26 @@ module _ (outlines : List Outline) (bodies : List (List (List Statement))) (p : 
 
     call_loads : (path : Path) (n : List ℕ) (es : List (Expr Path)) (found : MetaPath) (m : ℕ) (fs : List (Expr MetaPath)) → IsCall scope path n es found m fs → IsLoadedCall loaded_site path n es found m fs
     call_loads path n es found m fs h =
-        let method = method_at h.number h.points.class.at.item h.points.class.at.is m h.method.at.item h.method.at.is in
-        let body = sort_slot h.method.at.item.sort h.slot in
+        let method = method_at h.object.number h.class (target_at path found h.class h.object) m h.method.at.item h.method.at.is in
+        let body = sort_slot h.method.at.item.sort h.callable in
         record {
-          class = h.number;
-          object = object_loads path found h.kind h.number h.object h.points;
-          slot = method_named h.number m h.method.at.item method n (length es) h.method.at.has;
+          class = h.object.number;
+          object = object_loads path found h.class h.object;
+          slot = method_named h.object.number m h.method.at.item method n (length es) h.method.at.has;
           body = body.0;
           slots = method.by.work ∙ body.1;
           values = exprs_load es fs h.values;
         }
 
-    pub statements_load : (xs : List Stmt) (ys : List Statement) → AreStatements scope xs ys → AreLoadedStatements loaded_site xs ys
-    statements_load xs ys none_are = none_loaded
-    statements_load xs ys (set_is {path = path} {name = n} {e = e} {found = found} {q = q} {f = f} {xs = us} {ys = vs} a b h t) = set_loaded a b (set_loads path n e found q f h) (statements_load us vs t)
-    statements_load xs ys (emit_is {name = n} {es = es} {m = m} {fs = fs} {xs = us} {ys = vs} a b h t) = emit_loaded a b (emit_loads n es m fs h) (statements_load us vs t)
-    statements_load xs ys (call_is {path = path} {name = n} {es = es} {found = found} {m = m} {fs = fs} {xs = us} {ys = vs} a b h t) = call_loaded a b (call_loads path n es found m fs h) (statements_load us vs t)
-    statements_load xs ys (if_is {e = e} {then_x = x1} {else_x = x2} {f = f} {then_y = y1} {else_y = y2} {xs = us} {ys = vs} a b h h1 h2 t) =
-        if_loaded a b (expr_loads e f h) (statements_load x1 y1 h1) (statements_load x2 y2 h2) (statements_load us vs t)
+    mutual
+      statement_loads : (x : stmt.Stmt-F Stmt) (y : statement.Statement-F Statement) → IsStatement scope x y → IsLoadedStatement loaded_site x y
+      statement_loads x y (set_is {path = path} {name = n} {e = e} {found = found} {q = q} {f = f} h) = set_loaded (set_loads path n e found q f h)
+      statement_loads x y (emit_is {name = n} {es = es} {m = m} {fs = fs} h) = emit_loaded (emit_loads n es m fs h)
+      statement_loads x y (call_is {path = path} {name = n} {es = es} {found = found} {m = m} {fs = fs} h) = call_loaded (call_loads path n es found m fs h)
+      statement_loads x y (if_is {e = e} {then_x = x1} {else_x = x2} {f = f} {then_y = y1} {else_y = y2} h h1 h2) =
+          if_loaded (expr_loads e f h) (statements_load x1 y1 h1) (statements_load x2 y2 h2)
+
+      pub statements_load : (xs : List Stmt) (ys : List Statement) → AreStatements scope xs ys → AreLoadedStatements loaded_site xs ys
+      statements_load xs ys none_are = none_loaded
+      statements_load xs ys (next_is {x = x} {xs = us} {y = y} {ys = vs} h t) =
+          next_loaded (statement_loads (out-Stmt x) (out-Statement y) h) (statements_load us vs t)

@@ -1,6 +1,6 @@
 -- How the names in slot bodies are resolved: where a part has no resolved form, one of its names isn't there
 -- (docs/language.md, "Names").
-use Rattle.std.specs.Prelude.{◌≡◌, ℕ, ◌<◌, ◌≢◌, true, List, [], ◌∷◌, length, Some, Any}
+use Rattle.std.specs.Prelude.{◌≡◌, ℕ, ◌<◌, true, List, [], ◌∷◌, length, Some, Any}
 use Rattle.std.specs.List.{AllZip}
 use Rattle.signatures.specs.declared.qtype.QType.{QType}
 use Rattle.signatures.specs.declared.value.Value.{Value}
@@ -29,8 +29,8 @@ use Rattle.meta_model.specs.declared.object.Statement.TheViews.{out-Statement}
 use Rattle.meta_model.specs.declared.outline.Outline.{Outline}
 use Rattle.meta_model.specs.declared.outline.Sort.TheVariants as sort
 use Rattle.meta_model.specs.Places.{StandsFirst}
-pub use Rattle.meta_model.specs.Indexed.{IsCallOf}
-use Rattle.meta_model.specs.Outlines.{IsOutlineNamed, reference_to}
+pub use Rattle.meta_model.specs.Indexed.{IsCallOf, IsPropertyOfName}
+use Rattle.meta_model.specs.Outlines.{IsOutlineNamed, MayBeCalled, reference_to}
 use Rattle.meta_model.specs.declared.qobject.TheConstants.{OBJECT_NAME_CHANGED}
 use Rattle.meta_model.specs.Literals.{literal}
 use Rattle.meta_model.specs.Kinds.{IsReadAs}
@@ -100,13 +100,21 @@ AreExprs s [] (f ∷ fs) = ⊥
 AreExprs s (e ∷ es) [] = ⊥
 AreExprs s (e ∷ es) (f ∷ fs) = IsExpr s e f × AreExprs s es fs
 
+-- ---- objects
+-- a path in the place of an object: it is declared to lead to objects of this class
+pub record IsObjectPath (s : Scope) (path : Path) (found : MetaPath) (class : Outline) : Type 0 where
+  pub kind : QType
+  pub leads : IsPath s path found kind
+  pub number : ℕ
+  pub points : PointsToThis s.outlines kind number class
+
 -- ---- statements
 -- `set`: the object's class has the property
-pub record IsSet (s : Scope) (path : Path) (name : List ℕ) (e : Expr Path) (found : MetaPath) (q : ℕ) (f : Expr MetaPath) : Type 0 where
-  pub kind : QType
-  pub object : IsPath s path found kind
-  pub property : Property
-  pub member : HasMember s.outlines kind name q property
+pub record IsSet (s : Scope) (path : Path) (name : List ℕ) (e : Expr Path) (found : MetaPath) (q : ℕ)
+    (f : Expr MetaPath) : Type 0 where
+  pub class : Outline
+  pub object : IsObjectPath s path found class
+  pub property : StandsFirst (IsPropertyOfName name) class.properties q
   pub value : IsExpr s e f
 
 -- `emit`: the body's class has the signal, which isn't one of those that the runtime emits
@@ -119,35 +127,37 @@ pub record IsEmit (s : Scope) (name : List ℕ) (es : List (Expr Path)) (m : ℕ
   pub values : AreExprs s es fs
 
 -- `call`: the object's class has the slot, which isn't `deleteLater()`
-pub record IsCall (s : Scope) (path : Path) (name : List ℕ) (es : List (Expr Path)) (found : MetaPath) (m : ℕ) (fs : List (Expr MetaPath)) : Type 0 where
-  pub kind : QType
-  pub object : IsPath s path found kind
-  pub number : ℕ
-  pub points : PointsTo s.outlines kind number
-  pub method : StandsFirst (IsCallOf name (length es)) points.class.at.item.methods m
-  pub slot : method.at.item.sort ≢ sort.Signal
-  pub called : method.at.item.sort ≢ sort.DeleteLater
+pub record IsCall (s : Scope) (path : Path) (name : List ℕ) (es : List (Expr Path)) (found : MetaPath) (m : ℕ)
+    (fs : List (Expr MetaPath)) : Type 0 where
+  pub class : Outline
+  pub object : IsObjectPath s path found class
+  pub method : StandsFirst (IsCallOf name (length es)) class.methods m
+  pub callable : MayBeCalled method.at.item.sort
   pub values : AreExprs s es fs
 
--- the statements of a block
-pub data AreStatements (s : Scope) : List Stmt → List Statement → Type 0 where
-  none_are : AreStatements s [] []
-  set_is : {x : Stmt} {path : Path} {name : List ℕ} {e : Expr Path} {y : Statement} {found : MetaPath} {q : ℕ} {f : Expr MetaPath} {xs : List Stmt} {ys : List Statement}
-      → out-Stmt x ≡ stmt.Set path name e → out-Statement y ≡ statement.Set found q f
-      → IsSet s path name e found q f → AreStatements s xs ys → AreStatements s (x ∷ xs) (y ∷ ys)
-  emit_is : {x : Stmt} {name : List ℕ} {es : List (Expr Path)} {y : Statement} {m : ℕ} {fs : List (Expr MetaPath)} {xs : List Stmt} {ys : List Statement}
-      → out-Stmt x ≡ stmt.Emit name es → out-Statement y ≡ statement.Emit m fs
-      → IsEmit s name es m fs → AreStatements s xs ys → AreStatements s (x ∷ xs) (y ∷ ys)
-  call_is : {x : Stmt} {path : Path} {name : List ℕ} {es : List (Expr Path)} {y : Statement} {found : MetaPath} {m : ℕ} {fs : List (Expr MetaPath)} {xs : List Stmt} {ys : List Statement}
-      → out-Stmt x ≡ stmt.Call path name es → out-Statement y ≡ statement.Call found m fs
-      → IsCall s path name es found m fs → AreStatements s xs ys → AreStatements s (x ∷ xs) (y ∷ ys)
-  if_is : {x : Stmt} {e : Expr Path} {then_x else_x : List Stmt} {y : Statement} {f : Expr MetaPath} {then_y else_y : List Statement} {xs : List Stmt} {ys : List Statement}
-      → out-Stmt x ≡ stmt.If e then_x else_x → out-Statement y ≡ statement.If f then_y else_y
-      → IsExpr s e f → AreStatements s then_x then_y → AreStatements s else_x else_y → AreStatements s xs ys → AreStatements s (x ∷ xs) (y ∷ ys)
+mutual
+  -- one statement, by its parts
+  pub data IsStatement (s : Scope) : stmt.Stmt-F Stmt → statement.Statement-F Statement → Type 0 where
+    set_is : {path : Path} {name : List ℕ} {e : Expr Path} {found : MetaPath} {q : ℕ} {f : Expr MetaPath}
+        → IsSet s path name e found q f → IsStatement s (stmt.Set path name e) (statement.Set found q f)
+    emit_is : {name : List ℕ} {es : List (Expr Path)} {m : ℕ} {fs : List (Expr MetaPath)}
+        → IsEmit s name es m fs → IsStatement s (stmt.Emit name es) (statement.Emit m fs)
+    call_is : {path : Path} {name : List ℕ} {es : List (Expr Path)} {found : MetaPath} {m : ℕ}
+        {fs : List (Expr MetaPath)}
+        → IsCall s path name es found m fs → IsStatement s (stmt.Call path name es) (statement.Call found m fs)
+    if_is : {e : Expr Path} {then_x else_x : List Stmt} {f : Expr MetaPath} {then_y else_y : List Statement}
+        → IsExpr s e f → AreStatements s then_x then_y → AreStatements s else_x else_y
+        → IsStatement s (stmt.If e then_x else_x) (statement.If f then_y else_y)
+
+  -- the statements of a block, in their order
+  pub data AreStatements (s : Scope) : List Stmt → List Statement → Type 0 where
+    none_are : AreStatements s [] []
+    next_is : {x : Stmt} {xs : List Stmt} {y : Statement} {ys : List Statement}
+        → IsStatement s (out-Stmt x) (out-Statement y) → AreStatements s xs ys → AreStatements s (x ∷ xs) (y ∷ ys)
 
 -- one statement
-abbrev pub IsStatement : Scope → Stmt → Statement → Type 0
-IsStatement s x y = AreStatements s (x ∷ []) (y ∷ [])
+abbrev pub IsStatementOf : Scope → Stmt → Statement → Type 0
+IsStatementOf s x y = IsStatement s (out-Stmt x) (out-Statement y)
 
 -- a name in the body isn't there
 abbrev pub LacksInBody : Scope → List Stmt → Type 0

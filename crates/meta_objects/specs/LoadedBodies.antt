@@ -121,23 +121,24 @@ pub record IsLoadedCall (s : Site) (path : Path) (name : List ℕ) (es : List (E
   pub slots : slot.method.work ≡ Slot body
   pub values : AreLoadedExprs s es fs
 
--- the statements of a block, in their order
-pub data AreLoadedStatements (s : Site) : List Stmt → List Statement → Type 0 where
-  none_loaded : AreLoadedStatements s [] []
-  set_loaded : {x : Stmt} {path : Path} {name : List ℕ} {e : Expr Path} {y : Statement} {found : MetaPath} {q : ℕ}
-      {f : Expr MetaPath} {xs : List Stmt} {ys : List Statement}
-      → out-Stmt x ≡ stmt.Set path name e → out-Statement y ≡ statement.Set found q f
-      → IsLoadedSet s path name e found q f → AreLoadedStatements s xs ys → AreLoadedStatements s (x ∷ xs) (y ∷ ys)
-  emit_loaded : {x : Stmt} {name : List ℕ} {es : List (Expr Path)} {y : Statement} {m : ℕ} {fs : List (Expr MetaPath)}
-      {xs : List Stmt} {ys : List Statement}
-      → out-Stmt x ≡ stmt.Emit name es → out-Statement y ≡ statement.Emit m fs
-      → IsLoadedEmit s name es m fs → AreLoadedStatements s xs ys → AreLoadedStatements s (x ∷ xs) (y ∷ ys)
-  call_loaded : {x : Stmt} {path : Path} {name : List ℕ} {es : List (Expr Path)} {y : Statement} {found : MetaPath}
-      {m : ℕ} {fs : List (Expr MetaPath)} {xs : List Stmt} {ys : List Statement}
-      → out-Stmt x ≡ stmt.Call path name es → out-Statement y ≡ statement.Call found m fs
-      → IsLoadedCall s path name es found m fs → AreLoadedStatements s xs ys → AreLoadedStatements s (x ∷ xs) (y ∷ ys)
-  if_loaded : {x : Stmt} {e : Expr Path} {then_x else_x : List Stmt} {y : Statement} {f : Expr MetaPath}
-      {then_y else_y : List Statement} {xs : List Stmt} {ys : List Statement}
-      → out-Stmt x ≡ stmt.If e then_x else_x → out-Statement y ≡ statement.If f then_y else_y
-      → IsLoadedExpr s e f → AreLoadedStatements s then_x then_y → AreLoadedStatements s else_x else_y
-      → AreLoadedStatements s xs ys → AreLoadedStatements s (x ∷ xs) (y ∷ ys)
+mutual
+  -- one statement, by its parts
+  pub data IsLoadedStatement (s : Site) : stmt.Stmt-F Stmt → statement.Statement-F Statement → Type 0 where
+    set_loaded : {path : Path} {name : List ℕ} {e : Expr Path} {found : MetaPath} {q : ℕ} {f : Expr MetaPath}
+        → IsLoadedSet s path name e found q f → IsLoadedStatement s (stmt.Set path name e) (statement.Set found q f)
+    emit_loaded : {name : List ℕ} {es : List (Expr Path)} {m : ℕ} {fs : List (Expr MetaPath)}
+        → IsLoadedEmit s name es m fs → IsLoadedStatement s (stmt.Emit name es) (statement.Emit m fs)
+    call_loaded : {path : Path} {name : List ℕ} {es : List (Expr Path)} {found : MetaPath} {m : ℕ}
+        {fs : List (Expr MetaPath)}
+        → IsLoadedCall s path name es found m fs
+        → IsLoadedStatement s (stmt.Call path name es) (statement.Call found m fs)
+    if_loaded : {e : Expr Path} {then_x else_x : List Stmt} {f : Expr MetaPath} {then_y else_y : List Statement}
+        → IsLoadedExpr s e f → AreLoadedStatements s then_x then_y → AreLoadedStatements s else_x else_y
+        → IsLoadedStatement s (stmt.If e then_x else_x) (statement.If f then_y else_y)
+
+  -- the statements of a block, in their order
+  pub data AreLoadedStatements (s : Site) : List Stmt → List Statement → Type 0 where
+    none_loaded : AreLoadedStatements s [] []
+    next_loaded : {x : Stmt} {xs : List Stmt} {y : Statement} {ys : List Statement}
+        → IsLoadedStatement s (out-Stmt x) (out-Statement y) → AreLoadedStatements s xs ys
+        → AreLoadedStatements s (x ∷ xs) (y ∷ ys)

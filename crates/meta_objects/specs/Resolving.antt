@@ -19,9 +19,10 @@ use Rattle.meta_model.specs.declared.outline.Outline.{Outline}
 use Rattle.meta_model.specs.Ends.{IsEnd}
 use Rattle.meta_model.specs.PartAnswers.{Loads}
 use Rattle.meta_objects.specs.declared.body_resolution.path.Led.{Led}
+use Rattle.meta_objects.specs.declared.body_resolution.path.Target.{Target}
 use Rattle.meta_objects.specs.declared.body_resolution.scope.Scope.{Scope as ScopeGiven}
 use Rattle.meta_objects.specs.declared.resolve_uses.Uses.{Uses}
-use Rattle.meta_objects.specs.Bodies.{Scope, PointsTo, PointsToThis, HasMember, AreSteps, IsPath, AllBodies, LacksInClass}
+use Rattle.meta_objects.specs.Bodies.{Scope, PointsTo, PointsToThis, HasMember, AreSteps, IsPath, IsObjectPath, AllBodies, LacksInClass}
 use Rattle.meta_objects.specs.Loading.{LacksMember, HasUses}
 
 -- what the names in a body mean there
@@ -60,6 +61,12 @@ abbrev pub ResolvesFrom : List Outline → MetaRoot → QType → List (List ℕ
 ResolvesFrom outlines root start names result =
     Loads fault.NoMember ((steps : List Step) (T : QType) → ¬ AreSteps outlines start names steps T)
     (λ (led : Led). (led.path.root ≡ root) × AreSteps outlines start names led.path.steps led.kind) result
+
+-- the path in the place of an object, with the class of the objects that it is declared to lead to
+abbrev pub ResolvesObject : Scope → Path → Result Target MetaFault → Type 0
+ResolvesObject s path result =
+    Loads fault.NoMember ((found : MetaPath) (class : Outline) → ¬ IsObjectPath s path found class)
+    (λ (target : Target). IsObjectPath s path target.path target.class.now) result
 
 -- ---- wires
 -- the numbers of the class of this name and of its first method with P

@@ -4,8 +4,8 @@ use Rattle.std.specs.Result.{IsErrAnd}
 use Rattle.script_lang.specs.declared.event.Event.{Event}
 use Rattle.meta_model.specs.Loaded.{Loaded}
 use Rattle.machine_state.specs.declared.fault.Fault.{Fault}
-use Rattle.machine_state.specs.declared.fault.Fault.TheVariants.{BadType, TooDeep, Steps, Memory, Stopped}
 use Rattle.machine_state.specs.State.{State}
+use Rattle.machine_rules.proofs.Reaching.{reason-more}
 use Rattle.qt_runtime.specs.Runs.{done, Follows, by_rule, by_event, IsDue, goes_on, is_next}
 use Rattle.qt_runtime.specs.Causes.{Cause}
 use Rattle.qt_runtime.specs.Seen.{Seen, Completes, Halts, Stays, RunsAll}
@@ -44,22 +44,12 @@ due-more : {s : State} {es : List Event} (more : List Event) → IsDue s es → 
 due-more more (goes_on x) = goes_on x
 due-more more (is_next x) = is_next x
 
-follows-more : {p : Loaded} {s t : State} {es rest : List Event} (more : List Event) → Follows p s t es rest → Follows p s t (es ++ more) (rest ++ more)
+follows-more : {p : Loaded} {s t : State} {es : List Event} (more : List Event) → Follows p s t es → Follows p s t (es ++ more)
 follows-more more (by_rule x) = by_rule x
 follows-more more (by_event x) = by_event x
 
 cause-more : (p : Loaded) (d left : ℕ) (s : State) (es more : List Event) (f : Fault) → Cause p d s left es f → Cause p d s left (es ++ more) f
-cause-more p d left s es more BadType r =
-    elim r.1 [
-      | inl lacks ↦ (r.0, inl lacks)
-      | inr ill ↦ (r.0, inr (record { t = ill.t; rest = ill.rest ++ more; follows = follows-more more ill.follows; ill = ill.ill }))
-    ]
-cause-more p d left s es more TooDeep r =
-    let deep = r.1 in
-    (r.0, record { t = deep.t; rest = deep.rest ++ more; follows = follows-more more deep.follows; well = deep.well; deep = deep.deep })
-cause-more p d left s es more Steps r = (r.0, due-more more r.1)
-cause-more p d left s es more Memory r = (r.0, due-more more r.1)
-cause-more p d left s es more Stopped r = absurd r
+cause-more p d left s es more f r = reason-more p d s left f (λ stuck. stuck) (λ t follows. follows-more more follows) (λ due. due-more more due) r
 
 -- a run that stopped takes no further event
 pub halts-more : {a c : Seen} {f : Fault} {es : List Event} (more : List Event) → Halts a es f c → Halts a (es ++ more) f c

@@ -1,14 +1,13 @@
 -- Which statements choose a block, and what that block is.
-use Rattle.std.proofs.Common.{◌≡◌, ◌≢◌, ℕ, true, false, List, ◌∷◌, Option, Some, None, sym, ap, ◌∙◌, subst}
+use Rattle.std.proofs.Common.{◌≡◌, ◌≢◌, ℕ, true, false, List, Option, Some, None, subst}
 use Rattle.std.specs.Option.{option_map}
 use Rattle.signatures.specs.declared.value.Value.{Value}
 use Rattle.signatures.specs.declared.value.Value.TheVariants as value
 use Rattle.meta_model.specs.declared.object.Statement.{Statement}
 use Rattle.meta_model.specs.declared.object.Statement.TheOpen as layer
-use Rattle.meta_model.specs.declared.object.Statement.TheViews.{out-Statement}
 use Rattle.meta_model.specs.declared.object.ValueType.{ValueType}
 use Rattle.meta_model.specs.Loaded.{Loaded}
-use Rattle.meta_model.specs.Sound.{AreSound, set_sound, emit_sound, call_sound, if_sound}
+use Rattle.meta_model.specs.Sound.{AreSound, IsSoundStatement, set_sound, emit_sound, call_sound, if_sound}
 use Rattle.object_tree.specs.declared.object.Object.{Object}
 use Rattle.machine_rules.specs.Doings.{Doing, Write, Begin, Choose, on_object, chosen_by, doing}
 use Rattle.machine_rules.specs.Paths.{path_value, value_of, values_of}
@@ -46,17 +45,16 @@ chosen-sound (Some (value.Ref n)) block other chosen a b e = absurd (cc e)
 chosen-sound None block other chosen a b e = absurd (cc e)
 
 -- a block that is chosen is sound where the statement is
-pub block-sound : {p : Loaded} {me : ℕ} {kinds : List ValueType} {x : Statement} {rest : List Statement} (objects : List Object) (o : ℕ) (arguments : List Value) (block : List Statement) → AreSound p me kinds (x ∷ rest) → doing objects o arguments (out-Statement x) ≡ Some (Choose block) → AreSound p me kinds block
-block-sound objects o arguments block (set_sound {path = path} {q = q} {e = e} out is more) chooses =
+pub block-sound : {p : Loaded} {me : ℕ} {kinds : List ValueType} (objects : List Object) (o : ℕ) (arguments : List Value) (block : List Statement) (f : layer.Statement-F Statement) → IsSoundStatement p me kinds f → doing objects o arguments f ≡ Some (Choose block) → AreSound p me kinds block
+block-sound objects o arguments block f (set_sound {path = path} {q = q} {e = e} is) chooses =
     absurd (never-object (λ y. option_map (λ (new : Value). Write y q new) (value_of objects o arguments e)) (path_value objects o arguments path) block
     (λ y. never-map (λ (new : Value). Write y q new) (value_of objects o arguments e) block (write-other block y q))
-    (sym (ap (λ (f : layer.Statement-F Statement). doing objects o arguments f) out) ∙ chooses))
-block-sound objects o arguments block (emit_sound {m = g} {es = es} out is more) chooses =
-    absurd (never-map (λ (given : List Value). Begin o g given) (values_of objects o arguments es) block (begin-other block o g)
-    (sym (ap (λ (f : layer.Statement-F Statement). doing objects o arguments f) out) ∙ chooses))
-block-sound objects o arguments block (call_sound {path = path} {m = n} {es = es} out is more) chooses =
+    chooses)
+block-sound objects o arguments block f (emit_sound {m = g} {es = es} is) chooses =
+    absurd (never-map (λ (given : List Value). Begin o g given) (values_of objects o arguments es) block (begin-other block o g) chooses)
+block-sound objects o arguments block f (call_sound {path = path} {m = n} {es = es} is) chooses =
     absurd (never-object (λ y. option_map (λ (given : List Value). Begin y n given) (values_of objects o arguments es)) (path_value objects o arguments path) block
     (λ y. never-map (λ (given : List Value). Begin y n given) (values_of objects o arguments es) block (begin-other block y n))
-    (sym (ap (λ (f : layer.Statement-F Statement). doing objects o arguments f) out) ∙ chooses))
-block-sound objects o arguments block (if_sound {e = e} {chosen = first} {other = other} out is a b more) chooses =
-    chosen-sound (value_of objects o arguments e) first other block a b (sym (ap (λ (f : layer.Statement-F Statement). doing objects o arguments f) out) ∙ chooses)
+    chooses)
+block-sound objects o arguments block f (if_sound {e = e} {chosen = first} {other = other} is a b) chooses =
+    chosen-sound (value_of objects o arguments e) first other block a b chooses

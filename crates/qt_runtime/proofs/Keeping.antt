@@ -8,10 +8,12 @@ use Rattle.meta_model.specs.Sound.{IsSound}
 use Rattle.machine_state.specs.declared.fault.Answer.{Answer}
 use Rattle.machine_state.specs.declared.fault.Fault.{Fault}
 use Rattle.machine_state.specs.declared.world.World.{World}
+use Rattle.machine_state.specs.Accepting.{accepted}
 use Rattle.machine_state.specs.State.{State, Activation}
 use Rattle.machine_state.specs.Worlds.{at}
 use Rattle.machine_rules.specs.Sound.{Sound}
-use Rattle.machine_rules.proofs.Keeps.{begins-kept, writes-kept, rules-kept}
+use Rattle.machine_rules.specs.Keeps.{Grows, Keeps}
+use Rattle.machine_rules.proofs.Keeps.{grows-by, grows-same, grows-then, begins-kept, writes-kept, rules-kept}
 use Rattle.qt_runtime.specs.declared.events.invoke.Invocation.{Invocation}
 use Rattle.qt_runtime.specs.declared.events.invoke.Invocation.TheVariants.{Emit as EmitIt, Call as CallIt}
 use Rattle.qt_runtime.specs.Judgement.{becomes, gives, goes_on}
@@ -24,29 +26,30 @@ use Rattle.qt_runtime.proofs.Preservation.{Invariant, runs-invariant}
 
 -- ---- counts
 
--- an event is counted, and makes at most one connection
+-- an event is counted, makes at most one connection, and leaves what was written down
 record Counts (s t : State) : Type 0 where
   pub events : t.events ≡ s.events + 1
   pub connected : t.connected ≤ s.connected + 1
+  pub grows : Grows s.trace t.trace
+
+-- it begins with this, after its line
+counts-kept : {p : Loaded} {s t : State} → Keeps p (accepted s) 1 t 0 → Counts s t
+counts-kept kept = record { events = kept.events; connected = omega (arith, kept.paid); grows = grows-then (grows-by _) kept.grows }
 
 counts-invoked : (p : Loaded) {s t : State} (a : Invocation) (name called : List ℕ) (inputs : List Input) → invoke p s a name called inputs (Ok t) → Counts s t
-counts-invoked p a name called inputs (goes_on _ o (goes_on _ m (goes_on _ vs (goes_on _ fit (becomes begins))))) =
-    let kept = begins-kept begins in
-    record { events = kept.events; connected = omega (arith, kept.paid) }
+counts-invoked p a name called inputs (goes_on _ o (goes_on _ m (goes_on _ vs (goes_on _ fit (becomes begins))))) = counts-kept (begins-kept begins)
 
 counts-blocked : {s t : State} (name : List ℕ) (on : Bool) → block s name on (Ok t) → Counts s t
-counts-blocked name on (goes_on _ lives gives) = record { events = refl; connected = omega arith }
+counts-blocked name on (goes_on _ lives gives) = record { events = refl; connected = omega arith; grows = grows-by _ }
 
 counts-judged : (p : Loaded) {s t : State} (e : Event) → judged p s e (Ok t) → Counts s t
-counts-judged p (New name class) (goes_on _ free (goes_on _ is (goes_on _ room gives))) = record { events = refl; connected = omega arith }
+counts-judged p (New name class) (goes_on _ free (goes_on _ is (goes_on _ room gives))) = record { events = refl; connected = omega arith; grows = grows-by _ }
 counts-judged p (Adopt parent child) (goes_on _ a (goes_on _ c (goes_on _ owns (goes_on _ over (goes_on _ home (becomes x)))))) =
     let events = ap (λ (u : State). u.events) x.gives in
     let connected = ap (λ (u : State). u.connected) x.gives in
-    record { events = events; connected = omega (arith, connected) }
-counts-judged p (Connect e) (goes_on _ sender (goes_on _ receiver (goes_on _ signal (goes_on _ method (goes_on _ kind (goes_on _ covers (goes_on _ fits gives))))))) = record { events = refl; connected = omega arith }
-counts-judged p (Set name property i) (goes_on _ o (goes_on _ q (goes_on _ v (goes_on _ fits (becomes writes))))) =
-    let kept = writes-kept writes in
-    record { events = kept.events; connected = omega (arith, kept.paid) }
+    record { events = events; connected = omega (arith, connected); grows = record { more = _; is = ap (λ (u : State). u.trace) x.gives } }
+counts-judged p (Connect e) (goes_on _ sender (goes_on _ receiver (goes_on _ signal (goes_on _ method (goes_on _ kind (goes_on _ covers (goes_on _ fits gives))))))) = record { events = refl; connected = omega arith; grows = grows-by _ }
+counts-judged p (Set name property i) (goes_on _ o (goes_on _ q (goes_on _ v (goes_on _ fits (becomes writes))))) = counts-kept (writes-kept writes)
 counts-judged p (Emit name signal inputs) x = counts-invoked p EmitIt name signal inputs x
 counts-judged p (Call name slot inputs) x = counts-invoked p CallIt name slot inputs x
 counts-judged p (Block name) x = counts-blocked name true x
@@ -54,23 +57,24 @@ counts-judged p (Unblock name) x = counts-blocked name false x
 
 counts-takes : {p : Loaded} {s t : State} {e : Event} → Takes p e s t → Counts s t
 counts-takes {p = p} {e = e} (accepts idle x) = counts-judged p e x
-counts-takes (refuses k idle x) = record { events = refl; connected = omega arith }
+counts-takes (refuses k idle x) = record { events = refl; connected = omega arith; grows = grows-by _ }
 
--- what a run counts it pays for with rules
-record Pays (s : State) (n : ℕ) (t : State) (k : ℕ) : Type 0 where
+-- what a run counts it pays for with rules, and it leaves what was written down
+pub record Pays (s : State) (n : ℕ) (t : State) (k : ℕ) : Type 0 where
   pub events : t.events + k ≤ s.events + n
   pub connected : t.connected + k ≤ s.connected + n
+  pub grows : Grows s.trace t.trace
 
-runs-pay : {p : Loaded} {d : ℕ} {s t : State} {n k : ℕ} {es : List Event} → Runs p d s n es t k → Pays s n t k
-runs-pay done = record { events = omega arith; connected = omega arith }
+pub runs-pay : {p : Loaded} {d : ℕ} {s t : State} {n k : ℕ} {es : List Event} → Runs p d s n es t k → Pays s n t k
+runs-pay {s = s} done = record { events = omega arith; connected = omega arith; grows = grows-same s.trace }
 runs-pay (rules r rest) =
     let kept = rules-kept r in
     let more = runs-pay rest in
-    record { events = omega (arith, kept.events, kept.fewer, more.events); connected = omega (arith, kept.paid, more.connected) }
+    record { events = omega (arith, kept.events, kept.fewer, more.events); connected = omega (arith, kept.paid, more.connected); grows = grows-then kept.grows more.grows }
 runs-pay (takes x good rest) =
     let one = counts-takes x in
     let more = runs-pay rest in
-    record { events = omega (arith, one.events, more.events); connected = omega (arith, one.connected, more.connected) }
+    record { events = omega (arith, one.events, more.events); connected = omega (arith, one.connected, more.connected); grows = grows-then one.grows more.grows }
 
 -- ---- what a run keeps
 

@@ -11,6 +11,7 @@ use Rattle.machine_rules.specs.Good.{IsGood}
 use Rattle.qt_runtime.specs.Laws.{OneRun, OneFront}
 use Rattle.qt_runtime.specs.Runs.{Runs, done, rules, takes}
 use Rattle.qt_runtime.specs.Takes.{Takes, accepts, refuses}
+use Rattle.qt_runtime.proofs.Keeping.{runs-pay}
 use Rattle.qt_runtime.proofs.OneTaking.{one_taking}
 
 -- a run cut into its single steps
@@ -83,8 +84,8 @@ fronts {p} {d} {s} {u = u} {k = k} x y sound same (take {m = l} {n = n} {e = e} 
 pub one_front : OneFront
 one_front p depth s n events t u j k sound a b =
     elim (fronts a.rest b.rest sound (sym a.split ∙ b.split) (steps-of a.runs) (steps-of b.runs)) [
-      | inl leads ↦ inl (record { more = leads.more; taken = leads.taken; runs = leads.runs })
-      | inr leads ↦ inr (record { more = leads.more; taken = leads.taken; runs = leads.runs })
+      | inl leads ↦ inl (record { more = leads.more; taken = leads.taken; runs = leads.runs; grows = (runs-pay leads.runs).grows })
+      | inr leads ↦ inr (record { more = leads.more; taken = leads.taken; runs = leads.runs; grows = (runs-pay leads.runs).grows })
     ]
 
 -- ---- whole runs

@@ -13,7 +13,7 @@ use Rattle.meta_model.specs.declared.object.Work.{Work}
 use Rattle.meta_model.specs.declared.object.Work.TheVariants.{Signal, Slot}
 use Rattle.meta_model.specs.Loaded.{Loaded}
 use Rattle.meta_model.specs.Members.{IsClass, Below}
-use Rattle.meta_model.specs.Sound.{IsSound, IsSoundWork, IsSoundBody, AreSound, none_sound, set_sound, emit_sound, call_sound, if_sound}
+use Rattle.meta_model.specs.Sound.{IsSound, IsSoundWork, IsSoundBody, IsSoundStatement, AreSound, none_sound, next_sound}
 use Rattle.meta_model.specs.Values.{HaveTypes}
 use Rattle.machine_state.specs.declared.connections.Connection.{Connection}
 use Rattle.object_tree.specs.declared.object.Object.{Object}
@@ -118,17 +118,14 @@ stands-still p old new stay (Update places) x = all-weaken (PlaceStands p old) (
 
 sound-append : {p : Loaded} {me : ℕ} {kinds : List ValueType} {chosen rest : List Statement} → AreSound p me kinds chosen → AreSound p me kinds rest → AreSound p me kinds (chosen ++ rest)
 sound-append none_sound b = b
-sound-append (set_sound out is more) b = set_sound out is (sound-append more b)
-sound-append (emit_sound out is more) b = emit_sound out is (sound-append more b)
-sound-append (call_sound out is more) b = call_sound out is (sound-append more b)
-sound-append (if_sound out is chosen other more) b = if_sound out is chosen other (sound-append more b)
+sound-append (next_sound one more) b = next_sound one (sound-append more b)
 
--- what follows a statement
+-- a statement, and what follows it
+pub sound-first : {p : Loaded} {me : ℕ} {kinds : List ValueType} {x : Statement} {rest : List Statement} → AreSound p me kinds (x ∷ rest) → IsSoundStatement p me kinds (out-Statement x)
+sound-first (next_sound one more) = one
+
 sound-rest : {p : Loaded} {me : ℕ} {kinds : List ValueType} {x : Statement} {rest : List Statement} → AreSound p me kinds (x ∷ rest) → AreSound p me kinds rest
-sound-rest (set_sound out is more) = more
-sound-rest (emit_sound out is more) = more
-sound-rest (call_sound out is more) = more
-sound-rest (if_sound out is chosen other more) = more
+sound-rest (next_sound one more) = more
 
 body-with : {p : Loaded} {objects : List Object} {o : ℕ} {arguments : List Value} {left : List Statement} (x : BodyStands p objects o arguments left) (rest : List Statement) → AreSound p x.declaring x.kinds rest → BodyStands p objects o arguments rest
 body-with x rest sound = record { object = x.object; is_object = x.is_object; declaring = x.declaring; below = x.below; kinds = x.kinds; typed = x.typed; sound = sound }
@@ -187,7 +184,7 @@ module _ {p : Loaded} {s t : State} (sound : IsSound p) (well : IsWell p s t) wh
   does-stands o m arguments x rest below (Write y q new) body is lower high does = writes-stands does (body-rest body, lower)
   does-stands o m arguments x rest below (Begin y n given) body is lower high does = begins-stands does (omega (arith, high)) (body-rest body, lower)
   does-stands o m arguments x rest below (Choose block) body is lower high does =
-      as-is does (body-with body (block ++ rest) (sound-append (block-sound s.objects o arguments block body.sound is) (sound-rest body.sound)), lower)
+      as-is does (body-with body (block ++ rest) (sound-append (block-sound s.objects o arguments block (out-Statement x) (sound-first body.sound) is) (sound-rest body.sound)), lower)
   does-stands o m arguments x rest below Nothing body is lower high does = as-is does (body-rest body, lower)
 
   body-stands : (o m : ℕ) (arguments : List Value) (below : List Activation) (left : List Statement) → BodyStands p s.objects o arguments left → AllByRecursion (Stands p s.objects) below → length s.stack ≡ suc (length below) → BodyRule p s o m arguments below t left → AllStand p t

@@ -1,5 +1,5 @@
 -- What goes on in a run lacks a next rule only for want of a value.
-use Rattle.std.proofs.Common.{◌≡◌, ◌≢◌, ℕ, inl, inr, true, false, List, [], ◌∷◌, Option, Some, None, slice_get, refl, sym, subst}
+use Rattle.std.proofs.Common.{◌≡◌, ◌≢◌, ℕ, inl, inr, true, false, List, [], ◌∷◌, Option, Some, None, slice_get, refl}
 use Rattle.std.specs.List.{AllByRecursion}
 use Rattle.std.specs.Option.{option_map}
 use Rattle.signatures.specs.declared.value.Value.{Value}
@@ -14,26 +14,26 @@ use Rattle.meta_model.specs.declared.object.Statement.TheOpen as layer
 use Rattle.meta_model.specs.declared.object.Statement.TheViews.{out-Statement}
 use Rattle.meta_model.specs.Loaded.{Loaded}
 use Rattle.meta_model.specs.Members.{IsMethod, IsProperty, Below}
-use Rattle.meta_model.specs.Sound.{IsSound, AreSound, set_sound, emit_sound, call_sound, if_sound}
+use Rattle.meta_model.specs.Sound.{IsSound, IsSoundStatement, set_sound, emit_sound, call_sound, if_sound}
 use Rattle.machine_state.specs.declared.connections.Connection.{Connection}
 use Rattle.machine_state.specs.declared.fault.Fault.{Fault}
-use Rattle.machine_state.specs.declared.fault.Fault.TheVariants.{BadType, TooDeep, Steps, Memory, Stopped}
 use Rattle.object_tree.specs.declared.object.Object.{Object}
 use Rattle.machine_rules.specs.Paths.{path_value, value_of, values_of}
-use Rattle.machine_state.specs.State.{State, Place, Activation, Body, Emit, Update}
-use Rattle.machine_rules.specs.Rules.{RuleAt, StatementRule, Does, EmitRule, UpdateRule, Begins, Writes, Changes, changed, unchanged, silent}
+use Rattle.machine_state.specs.State.{State, IsIdle, Place, Activation, Body, Emit, Update}
+use Rattle.machine_rules.specs.Rules.{RuleAt, Does, EmitRule, UpdateRule, Begins, Writes, Changes, changed, unchanged, silent}
 use Rattle.machine_rules.specs.Doings.{Doing, Write, Begin, Choose, Nothing, on_object, chosen_by, doing}
 use Rattle.machine_state.specs.Connections.{is_next}
 use Rattle.machine_state.specs.Connections.{next_used}
 use Rattle.machine_rules.specs.Runs.{IsStuck}
-use Rattle.qt_runtime.specs.Runs.{Reason}
+use Rattle.machine_rules.proofs.Reaching.{reason-more}
+use Rattle.qt_runtime.specs.Runs.{RunStops}
 use Rattle.qt_runtime.specs.Causes.{LacksValue, Cause}
 use Rattle.machine_rules.specs.There.{IsField}
 use Rattle.machine_rules.proofs.Beginning.{find-some, used-is}
 use Rattle.machine_rules.proofs.Fields.{old-there}
 use Rattle.qt_runtime.proofs.Inherited.{method-below, property-below}
 use Rattle.qt_runtime.proofs.TypedPaths.{Reaches, to_null, to_object, path-reaches}
-use Rattle.qt_runtime.proofs.Preservation.{BodyStands, PlaceStands, Stands, Invariant}
+use Rattle.qt_runtime.proofs.Preservation.{BodyStands, PlaceStands, Stands, Invariant, sound-first}
 use Rattle.machine_rules.specs.Sound.{Joined}
 
 -- whether the value has changed or not, something may be notified
@@ -92,24 +92,18 @@ module _ {p : Loaded} {s : State} (sound : IsSound p) (up : Invariant p s) where
     if-lacks block other (Some (value.Text n)) none = refl
     if-lacks block other (Some (value.Ref n)) none = refl
 
-    layer-lacks : (x : Statement) (f : layer.Statement-F Statement) → out-Statement x ≡ f → (None_does (doing s.objects o arguments f) → doing s.objects o arguments f ≡ None) → ((t : State) → ¬ StatementRule p s o m arguments x rest below t) → doing s.objects o arguments (out-Statement x) ≡ None
-    layer-lacks x f out lacks stuck =
-        let Family : layer.Statement-F Statement → Type 0 = λ g. None_does (doing s.objects o arguments g) → doing s.objects o arguments g ≡ None in
-        (subst Family (sym out) lacks) (λ d t is does. stuck t (record { what = d; is = is; does = does }))
-
-  -- a statement that has no next rule lacks a value
-  statement-lacks : (o m : ℕ) (arguments : List Value) (x : Statement) (rest : List Statement) (below : List Activation) → (body : BodyStands p s.objects o arguments (x ∷ rest)) → AreSound p body.declaring body.kinds (x ∷ rest) → ((t : State) → ¬ StatementRule p s o m arguments x rest below t) → doing s.objects o arguments (out-Statement x) ≡ None
-  statement-lacks o m arguments x rest below body (set_sound {path = path} {q = q} {e = e} out is more) stuck =
+  -- a statement of which nothing can be done lacks a value
+  statement-lacks : (o m : ℕ) (arguments : List Value) (rest : List Statement) (below : List Activation) {left : List Statement} → (body : BodyStands p s.objects o arguments left) → (f : layer.Statement-F Statement) → IsSoundStatement p body.declaring body.kinds f → None_does o m arguments rest below (doing s.objects o arguments f) → doing s.objects o arguments f ≡ None
+  statement-lacks o m arguments rest below body f (set_sound {path = path} {e = e} is) none =
       let reaches = path-reaches s.objects o body.declaring body.object arguments body.kinds path sound up.sound.typed body.is_object body.below body.typed is.leads in
-      layer-lacks o m arguments rest below x (layer.Set path q e) out (λ none. set-lacks o m arguments rest below e (path_value s.objects o arguments path) reaches is.is none) stuck
-  statement-lacks o m arguments x rest below body (emit_sound {m = g} {es = es} out is more) stuck =
-      layer-lacks o m arguments rest below x (layer.Emit g es) out
-      (λ none. map-lacks o m arguments rest below (λ (given : List Value). Begin o g given) (values_of s.objects o arguments es) (λ given no. no-begin {arguments = given} {below = Body o m arguments rest ∷ below} body.is_object body.below is.is no) none) stuck
-  statement-lacks o m arguments x rest below body (call_sound {path = path} {m = n} {es = es} out is more) stuck =
+      set-lacks o m arguments rest below e (path_value s.objects o arguments path) reaches is.is none
+  statement-lacks o m arguments rest below body f (emit_sound {m = g} {es = es} is) none =
+      map-lacks o m arguments rest below (λ (given : List Value). Begin o g given) (values_of s.objects o arguments es) (λ given no. no-begin {arguments = given} {below = Body o m arguments rest ∷ below} body.is_object body.below is.is no) none
+  statement-lacks o m arguments rest below body f (call_sound {path = path} {es = es} is) none =
       let reaches = path-reaches s.objects o body.declaring body.object arguments body.kinds path sound up.sound.typed body.is_object body.below body.typed is.leads in
-      layer-lacks o m arguments rest below x (layer.Call path n es) out (λ none. call-lacks o m arguments rest below es (path_value s.objects o arguments path) reaches is.is none) stuck
-  statement-lacks o m arguments x rest below body (if_sound {e = e} {chosen = block} {other = other} out is first second more) stuck =
-      layer-lacks o m arguments rest below x (layer.If e block other) out (λ none. if-lacks o m arguments rest below block other (value_of s.objects o arguments e) none) stuck
+      call-lacks o m arguments rest below es (path_value s.objects o arguments path) reaches is.is none
+  statement-lacks o m arguments rest below body f (if_sound {e = e} {chosen = block} {other = other} is first second) none =
+      if-lacks o m arguments rest below block other (value_of s.objects o arguments e) none
 
   -- an emission has a next rule
   emission-goes : (o g : ℕ) (arguments : List Value) (last : ℕ) (below : List Activation) (found : Option Connection) → ((c : Connection) → found ≡ Some c → Joined p s.objects c) → ((t : State) → ¬ EmitRule p s o g arguments last below t found) → ⊥
@@ -138,22 +132,18 @@ module _ {p : Loaded} {s : State} (sound : IsSound p) (up : Invariant p s) where
         gives = refl;
       })
 
-  stack-lacks : (stack : List Activation) → s.stack ≡ stack → stack ≢ [] → AllByRecursion (Stands p s.objects) stack → ((t : State) → ¬ RuleAt p s t stack) → LacksValue s
-  stack-lacks [] e goes_on all stuck = absurd (goes_on refl)
+  stack-lacks : (stack : List Activation) → s.stack ≡ stack → (¬ IsIdle s) → AllByRecursion (Stands p s.objects) stack → ((t : State) → ¬ RuleAt p s t stack) → LacksValue s
+  stack-lacks [] e goes_on all stuck = absurd (goes_on (record { empty = e }))
   stack-lacks (Body o m arguments [] ∷ below) e goes_on all stuck = absurd (stuck _ refl)
   stack-lacks (Body o m arguments (x ∷ rest) ∷ below) e goes_on all stuck =
-      record { object = o; method = m; arguments = arguments; statement = x; rest = rest; below = below; is_next = e; lacks = statement-lacks o m arguments x rest below all.0 all.0.sound stuck }
+      record { object = o; method = m; arguments = arguments; statement = x; rest = rest; below = below; is_next = e; lacks = statement-lacks o m arguments rest below all.0 (out-Statement x) (sound-first all.0.sound) (λ d t is does. stuck t (record { what = d; is = is; does = does })) }
   stack-lacks (Emit o g arguments used last ∷ below) e goes_on all stuck =
       absurd (emission-goes o g arguments last below (next_used s.objects s.connections o g used last) (λ c found. (find-some (Joined p s.objects) (is_next o g used last) s.connections c up.sound.joined (used-is s.objects s.connections o g used last c found)).0) stuck)
   stack-lacks (Update places ∷ below) e goes_on all stuck = absurd (update-goes below places all.0 stuck)
 
   -- what goes on without a next rule lacks a value
   pub stuck-lacks : IsStuck p s → LacksValue s
-  stuck-lacks x = stack-lacks s.stack refl (λ empty. x.goes_on (record { empty = empty })) up.stands x.stuck
+  stuck-lacks x = stack-lacks s.stack refl x.goes_on up.stands x.stuck
 
-  pub cause-of : (d left : ℕ) (es : List Event) (f : Fault) → Reason p d s left es f → Cause p d s left es f
-  cause-of d left es BadType r = (r.0, elim r.1 [ inl stuck ↦ inl (stuck, stuck-lacks stuck) | inr ill ↦ inr ill ])
-  cause-of d left es TooDeep r = r
-  cause-of d left es Steps r = r
-  cause-of d left es Memory r = r
-  cause-of d left es Stopped r = r
+  pub cause-of : (d left : ℕ) (es : List Event) (f : Fault) → RunStops p d s left es f → Cause p d s left es f
+  cause-of d left es f r = reason-more p d s left f (λ stuck. (stuck, stuck-lacks stuck)) (λ t follows. follows) (λ due. due) r

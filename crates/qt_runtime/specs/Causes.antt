@@ -1,16 +1,15 @@
 -- Why a machine stops (docs/machine.md, "Faults").
-use Rattle.std.specs.Prelude.{◌≡◌, ℕ, ◌<◌, ◌⊎◌, List, ◌∷◌, None}
+use Rattle.std.specs.Prelude.{◌≡◌, ℕ, List, ◌∷◌, None}
 use Rattle.script_lang.specs.declared.event.Event.{Event}
 use Rattle.signatures.specs.declared.value.Value.{Value}
 use Rattle.meta_model.specs.declared.object.Statement.{Statement}
 use Rattle.meta_model.specs.declared.object.Statement.TheViews.{out-Statement}
 use Rattle.meta_model.specs.Loaded.{Loaded}
 use Rattle.machine_state.specs.declared.fault.Fault.{Fault}
-use Rattle.machine_state.specs.declared.fault.Fault.TheVariants.{BadType}
 use Rattle.machine_rules.specs.Doings.{doing}
 use Rattle.machine_state.specs.State.{State, Activation, Body}
-use Rattle.machine_rules.specs.Runs.{IsStuck}
-use Rattle.qt_runtime.specs.Runs.{GoesIll, Reason}
+use Rattle.machine_rules.specs.Runs.{IsStuck, Reason}
+use Rattle.qt_runtime.specs.Runs.{Follows, IsDue}
 
 -- what is going on is a body whose next statement lacks a value
 pub record LacksValue (s : State) : Type 0 where
@@ -23,7 +22,8 @@ pub record LacksValue (s : State) : Type 0 where
   pub is_next : s.stack ≡ Body object method arguments (statement ∷ rest) ∷ below
   pub lacks : doing s.objects object arguments (out-Statement statement) ≡ None
 
--- Why a machine stops in a state. Where no rule follows, it is for want of a value, and not of a member.
+-- Why a machine stops in a state, with these events left. Where no rule follows, it is for want of a value, and not of
+-- a member.
 abbrev pub Cause : Loaded → ℕ → State → ℕ → List Event → Fault → Type 0
-Cause p depth s left events BadType = (0 < left) × (IsStuck p s × LacksValue s ⊎ GoesIll p s events)
-Cause p depth s left events fault = Reason p depth s left events fault
+Cause p depth s left events fault =
+    Reason (IsStuck p s × LacksValue s) (λ t. Follows p s t events) (IsDue s events) p depth s left fault

@@ -28,7 +28,7 @@ OneRun =
     IsSound p → RunsWhole p depth s n events t j → RunsWhole p depth s n events u k → (t ≡ u) × (j ≡ k)
 
 -- of two runs of fronts of one list of events, from one state and with as many rules left, one goes on where the other
--- ends: so a run that stops on the way is a front of the whole one
+-- ends, and writes after what that one wrote: so a run that stops on the way is a front of the whole one
 abbrev pub OneFront : Type 0
 OneFront =
     (p : Loaded) (depth : ℕ) (s : State) (n : ℕ) (events : List Event) (t u : State) (j k : ℕ) → IsSound p →

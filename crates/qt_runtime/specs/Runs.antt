@@ -1,13 +1,13 @@
 -- Runs of the machine (docs/machine.md, "Runs").
-use Rattle.std.specs.Prelude.{◌≡◌, ℕ, suc, ◌<◌, ◌⊎◌, List, [], ◌∷◌, ◌++◌, length}
+use Rattle.std.specs.Prelude.{◌≡◌, ℕ, suc, List, [], ◌∷◌, ◌++◌}
 use Rattle.script_lang.specs.declared.event.Event.{Event}
 use Rattle.meta_model.specs.Loaded.{Loaded}
 use Rattle.machine_state.specs.declared.fault.Fault.{Fault}
-use Rattle.machine_state.specs.declared.fault.Fault.TheVariants.{BadType, TooDeep, Steps, Memory, Stopped}
 use Rattle.machine_state.specs.State.{State, IsIdle}
 use Rattle.machine_rules.specs.Rules.{Rule}
-use Rattle.machine_rules.specs.Good.{IsWell, IsGood}
-use Rattle.machine_rules.specs.Runs.{Rules, IsStuck}
+use Rattle.machine_rules.specs.Good.{IsGood}
+use Rattle.machine_rules.specs.Keeps.{Grows}
+use Rattle.machine_rules.specs.Runs.{Rules, IsStuck, Reason}
 use Rattle.qt_runtime.specs.Takes.{Takes}
 
 -- From s, with so many rules left, to t, with so many left: rules are carried out and these events are taken in their
@@ -31,43 +31,25 @@ pub record RunsFront (p : Loaded) (depth : ℕ) (s : State) (n : ℕ) (events : 
   pub split : events ≡ taken ++ rest
   pub runs : Runs p depth s n taken t k
 
--- one run is a front of another: from where it ends a run leads on to where the other ends
+-- one run is a front of another: from where it ends a run leads on to where the other ends, and writes on
 pub record IsFront {p : Loaded} {depth : ℕ} {s : State} {n : ℕ} {events : List Event} {t u : State} {j k : ℕ}
     (a : RunsFront p depth s n events t j) (b : RunsFront p depth s n events u k) : Type 0 where
   pub more : List Event
   pub taken : b.taken ≡ a.taken ++ more
   pub runs : Runs p depth t j more u k
+  pub grows : Grows t.trace u.trace
 
 -- t follows s by one rule, or by the taking of the first of these events
-pub data Follows (p : Loaded) (s t : State) : List Event → List Event → Type 0 where
-  by_rule : {events : List Event} → Rule p s t → Follows p s t events events
-  by_event : {e : Event} {events : List Event} → Takes p e s t → Follows p s t (e ∷ events) events
+pub data Follows (p : Loaded) (s t : State) : List Event → Type 0 where
+  by_rule : {events : List Event} → Rule p s t → Follows p s t events
+  by_event : {e : Event} {events : List Event} → Takes p e s t → Follows p s t (e ∷ events)
 
 -- a rule is due: something is going on, or else an event is next
 pub data IsDue (s : State) : List Event → Type 0 where
   goes_on : {events : List Event} → (¬ IsIdle s) → IsDue s events
   is_next : {e : Event} {events : List Event} → IsIdle s → IsDue s (e ∷ events)
 
--- the next rule gives a property or a call a value that is not of its type
-pub record GoesIll (p : Loaded) (s : State) (events : List Event) : Type 0 where
-  pub t : State
-  pub rest : List Event
-  pub follows : Follows p s t events rest
-  pub ill : ¬ IsWell p s t
-
--- the next rule nests too deep, and is well but for that
-pub record GoesDeep (p : Loaded) (depth : ℕ) (s : State) (events : List Event) : Type 0 where
-  pub t : State
-  pub rest : List Event
-  pub follows : Follows p s t events rest
-  pub well : IsWell p s t
-  pub deep : depth < length t.stack
-
--- Why a run stops in a state. There is no next rule, or it would give a value of a wrong type; it would nest too deep;
--- no rule is left where one is due; memory was refused where a rule is due.
-abbrev pub Reason : Loaded → ℕ → State → ℕ → List Event → Fault → Type 0
-Reason p depth s left events BadType = (0 < left) × (IsStuck p s ⊎ GoesIll p s events)
-Reason p depth s left events TooDeep = (0 < left) × GoesDeep p depth s events
-Reason p depth s left events Steps = (left ≡ 0) × IsDue s events
-Reason p depth s left events Memory = (0 < left) × IsDue s events
-Reason p depth s left events Stopped = ⊥
+-- why a run stops in a state, with these events left
+abbrev pub RunStops : Loaded → ℕ → State → ℕ → List Event → Fault → Type 0
+RunStops p depth s left events fault =
+    Reason (IsStuck p s) (λ t. Follows p s t events) (IsDue s events) p depth s left fault

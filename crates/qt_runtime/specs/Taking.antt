@@ -34,7 +34,7 @@ use Rattle.qt_runtime.specs.declared.events.invoke.Invocation.{Invocation}
 use Rattle.qt_runtime.specs.declared.events.invoke.Invocation.TheVariants.{Emit, Call}
 use Rattle.qt_runtime.specs.declared.judgement.NotAccepted.{NotAccepted}
 use Rattle.qt_runtime.specs.declared.judgement.NotAccepted.TheVariants as reason
-use Rattle.qt_runtime.specs.Runs.{RunsWhole, RunsFront, Reason}
+use Rattle.qt_runtime.specs.Runs.{RunsWhole, RunsFront, RunStops}
 use Rattle.qt_runtime.specs.Takes.{judged}
 use Rattle.qt_runtime.specs.events.Connect.{connect}
 
@@ -48,7 +48,7 @@ pub record WorldInvariant (p : Loaded) (w : World) : Type 0 where
 pub record Halted (p : Loaded) (depth : ℕ) (w : World) (e : Event) (v : World) (f : Fault) : Type 0 where
   pub stack : List Activation
   pub front : RunsFront p depth (at w []) w.left (e ∷ []) (at v stack) v.left
-  pub reason : Reason p depth (at v stack) v.left front.rest f
+  pub reason : RunStops p depth (at v stack) v.left front.rest f
 
 -- the event is accepted
 pub record IsAccepted (p : Loaded) (w : World) (e : Event) : Type 0 where

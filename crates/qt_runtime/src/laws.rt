@@ -19,7 +19,7 @@ pub fn one_run()
 {}
 
 /// Of two runs of fronts of one list of events, from one state and with as many rules left, one goes on where the other
-/// ends: a run that a fault stops has taken the way of every other one.
+/// ends, and its trace begins with the other's: a run that a fault stops has taken the way of every other one.
 pub fn one_front()
     ensures { OneFront }
 {}

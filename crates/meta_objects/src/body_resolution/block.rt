@@ -1,10 +1,10 @@
 //! The statements of bodies, whose names are resolved.
 
 ghost use Rattle.texts.specs.declared.syntax.Stmt.TheVariants.{Set, Emit, Call};
-ghost use Rattle.meta_objects.specs.Bodies.{IsStatement, AreStatements};
+ghost use Rattle.meta_objects.specs.Bodies.{IsStatementOf, AreStatements};
 ghost use Rattle.meta_objects.specs.Resolving.{scope, Resolves};
 
-use crate::body_resolution::path::Led;
+use crate::body_resolution::path::Target;
 use crate::body_resolution::scope::Scope;
 use meta_model::{MetaFault, OBJECT_NAME_CHANGED, Statement, find};
 use signatures::Name;
@@ -28,7 +28,7 @@ impl<'a> Scope<'a> {
     /// The statement.
     #[cycle(blocks)]
     fn resolve_statement(&self, statement: &Stmt) -> Result<Statement, MetaFault>
-        ensures { Resolves (IsStatement (scope self.now) statement.now) result }
+        ensures { Resolves (IsStatementOf (scope self.now) statement.now) result }
     {
         match statement {
             Stmt::Set(path, name, value) => self.resolve_set(path, name, value),
@@ -50,10 +50,10 @@ impl<'a> Scope<'a> {
         name: &Name,
         value: &Expr<Path>,
     ) -> Result<Statement, MetaFault>
-        ensures { Resolves (IsStatement (scope self.now) (Set path.now name.now value.now)) result }
+        ensures { Resolves (IsStatementOf (scope self.now) (Set path.now name.now value.now)) result }
     {
-        let Led { path, kind } = self.resolve_path(path)?;
-        let Some((property, _)) = self.find_member(&kind, name) else {
+        let Target { path, class } = self.resolve_object(path)?;
+        let Some((property, _)) = class.find_property(name) else {
             return Err(MetaFault::NoMember);
         };
         let value = self.resolve_expr(value)?;
@@ -62,7 +62,7 @@ impl<'a> Scope<'a> {
 
     /// `emit s(e, ..);`
     fn resolve_emit(&self, name: &Name, values: &[Expr<Path>]) -> Result<Statement, MetaFault>
-        ensures { Resolves (IsStatement (scope self.now) (Emit name.now values.now)) result }
+        ensures { Resolves (IsStatementOf (scope self.now) (Emit name.now values.now)) result }
     {
         let Some((_, class)) = find(self.outlines, self.me) else {
             return Err(MetaFault::NoMember);
@@ -84,12 +84,9 @@ impl<'a> Scope<'a> {
         name: &Name,
         values: &[Expr<Path>],
     ) -> Result<Statement, MetaFault>
-        ensures { Resolves (IsStatement (scope self.now) (Call path.now name.now values.now)) result }
+        ensures { Resolves (IsStatementOf (scope self.now) (Call path.now name.now values.now)) result }
     {
-        let Led { path, kind } = self.resolve_path(path)?;
-        let Some((_, class)) = self.find_class(&kind) else {
-            return Err(MetaFault::NoMember);
-        };
+        let Target { path, class } = self.resolve_object(path)?;
         let Some((slot, heading)) = class.find_call(name, values.len()) else {
             return Err(MetaFault::NoMember);
         };

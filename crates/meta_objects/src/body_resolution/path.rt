@@ -1,7 +1,7 @@
 //! Paths whose names are resolved.
 
 ghost use Rattle.std.specs.Prelude.{◌≡◌};
-ghost use Rattle.meta_objects.specs.Resolving.{scope, ResolvesPath, ResolvesFrom};
+ghost use Rattle.meta_objects.specs.Resolving.{scope, ResolvesPath, ResolvesFrom, ResolvesObject};
 ghost use Rattle.meta_objects.specs.Resolving.{FindsClass, FindsMember};
 
 use crate::body_resolution::scope::Scope;
@@ -19,7 +19,26 @@ pub struct Led {
     pub kind: QType,
 }
 
+/// A path in the place of an object, whose names are resolved, and the class that it is declared to lead to.
+#[derive(Drop)]
+pub struct Target<'a> {
+    pub path: MetaPath,
+    pub class: &'a IndexedOutline,
+}
+
 impl<'a> Scope<'a> {
+    /// The path in the place of an object; `NoMember` where a name in it isn't there, or it isn't declared to lead to
+    /// objects of a class that is there.
+    pub fn resolve_object(&self, path: &Path) -> Result<Target<'a>, MetaFault>
+        ensures { ResolvesObject (scope self.now) path.now result }
+    {
+        let Led { path, kind } = self.resolve_path(path)?;
+        let Some((_, class)) = self.find_class(&kind) else {
+            return Err(MetaFault::NoMember);
+        };
+        Ok(Target { path, class })
+    }
+
     /// The path; `NoMember` where a name in it isn't there.
     pub fn resolve_path(&self, path: &Path) -> Result<Led, MetaFault>
         ensures { ResolvesPath (scope self.now) path.now result }
@@ -65,7 +84,7 @@ impl<'a> Scope<'a> {
     }
 
     /// The class that the type points to, with its number.
-    pub fn find_class(&self, kind: &QType) -> Option<(usize, &'a IndexedOutline)>
+    fn find_class(&self, kind: &QType) -> Option<(usize, &'a IndexedOutline)>
         ensures { FindsClass self.now.outlines.now kind.now result }
     {
         if kind.pointer {
@@ -79,7 +98,7 @@ impl<'a> Scope<'a> {
     }
 
     /// The property of this name in the class that the type points to, with its number.
-    pub fn find_member(&self, kind: &QType, name: &Name) -> Option<(usize, &'a Property)>
+    fn find_member(&self, kind: &QType, name: &Name) -> Option<(usize, &'a Property)>
         ensures { FindsMember self.now.outlines.now kind.now name.now result }
     {
         let Some((_, outline)) = self.find_class(kind) else {

@@ -58,7 +58,7 @@ module _ (p : Loaded) (w : World) (name class : List ℕ) where
       record {
         stack = [];
         front = record { taken = []; rest = New name class ∷ []; split = refl; runs = done };
-        reason = (some, inr (record { t = after; rest = []; follows = by_event (accepts (idle w) (creates free named is room)); ill = not_well }));
+        reason = (some, inr (record { t = after; follows = by_event (accepts (idle w) (creates free named is room)); ill = not_well }));
       }
 
   -- no object is created

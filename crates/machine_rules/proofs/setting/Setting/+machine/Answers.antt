@@ -4,7 +4,7 @@ use Rattle.machine_state.specs.declared.world.World.{World}
 use Rattle.machine_state.proofs.Found.{set-there}
 use Rattle.machine_rules.proofs.Fields.{old-there}
 use Rattle.machine_rules.proofs.Reaching.{not-idle, reaches-same, reaches-then, stops-after, stops-as, ends-after, ends-left, ends-undue, ends-short, ends-unchanged, ends-faulted, ends-ticked}
-use Rattle.machine_rules.proofs.Keeps.{keeps-refl, keeps-trans, ends-keeps, ends-sound, fit-still, reaches-typed, reaches-keeps, reaches-sound}
+use Rattle.machine_rules.proofs.Keeps.{keeps-same, keeps-then, ends-keeps, ends-sound, fit-still, reaches-typed, reaches-keeps, reaches-sound}
 use Rattle.machine_rules.proofs.Beginning.{ends-begun, stops-barred, stops-no-member, stops-ill-typed, fit-of, next-joined, next-fits, delivered-fits, delivery-calls, not-true}
 use Rattle.machine_rules.proofs.Writing.{ends-written, stops-write-deep, stops-write-ill, stops-no-field, announces-in, announced-member, announced-value, announced-fits, announcement-calls, sound-written}
 use Rattle.machine_rules.proofs.Bodies.{does-call, does-call-alone, does-set, does-nothing, does-choose, lacks-read, advances-one, advances-ticked, advances-left}
@@ -13,7 +13,7 @@ use Rattle.machine_rules.proofs.setting.Setting.+machine.Goals as goal
 -- ---- emissions
 
 pub run_emission-loop-connection-init : goal.run_emission-loop-connection-init
-run_emission-loop-connection-init t c = record { reaches = reaches-same; keeps = keeps-refl; fewer = omega arith; sound = c.requires.sound }
+run_emission-loop-connection-init t c = record { reaches = reaches-same; keeps = keeps-same; fewer = omega arith; sound = c.requires.sound }
 
 pub run_emission-deliver-requires : goal.run_emission-deliver-requires
 run_emission-deliver-requires t c = let sound = c.loop-connection.invariant.sound in
@@ -23,7 +23,7 @@ run_emission-deliver-requires t c = let sound = c.loop-connection.invariant.soun
 pub run_emission-loop-connection-preserved : goal.run_emission-loop-connection-preserved
 run_emission-loop-connection-preserved t c =
     let went = c.in_ok-deliver.ensures.ends _ _ _ _ (sym c.in-Some.ensures.value) in
-    let keeps = keeps-trans c.loop-connection.invariant.keeps (ends-keeps _ went) in
+    let keeps = keeps-then c.loop-connection.invariant.keeps (ends-keeps _ went) in
     record { reaches = reaches-then c.loop-connection.invariant.reaches went.cases; keeps = keeps; fewer = keeps.fewer; sound = ends-sound _ went c.loop-connection.invariant.sound }
 
 pub run_emission-returns-in_err-deliver-clause-ends : goal.run_emission-returns-in_err-deliver-clause-ends
@@ -32,7 +32,7 @@ run_emission-returns-in_err-deliver-clause-ends t c =
 
 pub run_emission-returns-in_err-deliver-clause-keeps : goal.run_emission-returns-in_err-deliver-clause-keeps
 run_emission-returns-in_err-deliver-clause-keeps t c =
-    keeps-trans c.loop-connection.invariant.keeps (ends-keeps _ (c.in_err-deliver.ensures.ends _ _ _ _ (sym c.in-Some.ensures.value)))
+    keeps-then c.loop-connection.invariant.keeps (ends-keeps _ (c.in_err-deliver.ensures.ends _ _ _ _ (sym c.in-Some.ensures.value)))
 
 pub run_emission-returns-in_err-deliver-clause-sound : goal.run_emission-returns-in_err-deliver-clause-sound
 run_emission-returns-in_err-deliver-clause-sound t c =
@@ -91,7 +91,7 @@ begin-returns t c = record {
 -- ---- bodies
 
 pub run_body-loop-statement-init : goal.run_body-loop-statement-init
-run_body-loop-statement-init t c = record { reaches = rw c.all-left.ensures reaches-same; keeps = keeps-refl; fewer = omega arith; sound = c.requires.sound }
+run_body-loop-statement-init t c = record { reaches = rw c.all-left.ensures reaches-same; keeps = keeps-same; fewer = omega arith; sound = c.requires.sound }
 
 pub run_body-returns-in_err-require_rule : goal.run_body-returns-in_err-require_rule
 run_body-returns-in_err-require_rule t c = record { ends = ends-after c.loop-statement.invariant.reaches (ends-undue _ c.in_err-require_rule.ensures c.from_residual.ensures.1) }
@@ -115,7 +115,7 @@ run_body-loop-statement-preserved t c =
     let came = rw c.in-Some.ensures at c.loop-statement.invariant.reaches in
     let is = rw (c.scope.ensures.objects, c.scope.ensures.this, c.scope.ensures.arguments) at c.in_ok-doing.ensures in
     let one = (c.in_ok-carry_out.ensures.advances c.args.method c.args.arguments.now _ is).cases in
-    let keeps = keeps-trans c.loop-statement.invariant.keeps (reaches-keeps one.0) in
+    let keeps = keeps-then c.loop-statement.invariant.keeps (reaches-keeps one.0) in
     record { reaches = reaches-then came one.0; keeps = keeps; fewer = keeps.fewer; sound = reaches-sound one.0 c.loop-statement.invariant.sound }
 
 pub run_body-loop-statement-smaller : goal.run_body-loop-statement-smaller

@@ -2,7 +2,7 @@ use Rattle.std.proofs.Common.{refl}
 use Rattle.std.proofs.lemmas.Option.{slice_get_read}
 use Rattle.meta_model.specs.declared.object.Statement.{Statement}
 use Rattle.meta_model.specs.declared.fault.MetaFault.TheVariants as fault
-use Rattle.meta_objects.specs.Bodies.{IsStatement, AreStatements, LacksInBody}
+use Rattle.meta_objects.specs.Bodies.{IsStatementOf, AreStatements, LacksInBody}
 use Rattle.meta_objects.specs.Resolving.{scope}
 use Rattle.meta_model.proofs.OutlineSteps.{failed}
 use Rattle.meta_objects.proofs.BodyPieces.{block_left, block_only, block_stuck, block_end, if_piece, no_other}
@@ -20,8 +20,8 @@ pub resolve_block-returns-in_err-statement : goal.resolve_block-returns-in_err-s
 resolve_block-returns-in_err-statement t c =
     let s = scope c.args.self.now in
     let at = slice_get_read _ _ _ _ refl c.loop-statement-test.true c.statement-item.is in
-    failed fault.NoMember ((y : Statement) → ¬ IsStatement s c.statement-item.result y) (LacksInBody s c.args.body.now)
-    (λ y. IsStatement s c.statement-item.result y) (λ ys. AreStatements s c.args.body.now ys) _ c.in_err-statement.ensures
+    failed fault.NoMember ((y : Statement) → ¬ IsStatementOf s c.statement-item.result y) (LacksInBody s c.args.body.now)
+    (λ y. IsStatementOf s c.statement-item.result y) (λ ys. AreStatements s c.args.body.now ys) _ c.in_err-statement.ensures
     (λ lacks. block_stuck s _ _ _ at c.loop-statement.invariant.only lacks) _ c.from_residual.ensures.0 c.from_residual.ensures.1
 
 pub resolve_block-returns : goal.resolve_block-returns
@@ -30,8 +30,8 @@ resolve_block-returns t c = block_end _ _ _ _ c.loop-statement-test.false c.loop
 pub resolve_statement-returns-in_err-other-in-If : goal.resolve_statement-returns-in_err-other-in-If
 resolve_statement-returns-in_err-other-in-If t c =
     let s = scope c.args.self.now in
-    failed fault.NoMember (LacksInBody s c.as_slice-in-If-2.result.now) ((y : Statement) → ¬ IsStatement s c.args.statement.now y)
-    (λ ys. AreStatements s c.as_slice-in-If-2.result.now ys) (λ y. IsStatement s c.args.statement.now y) _ c.in_err-other-in-If.ensures
+    failed fault.NoMember (LacksInBody s c.as_slice-in-If-2.result.now) ((y : Statement) → ¬ IsStatementOf s c.args.statement.now y)
+    (λ ys. AreStatements s c.as_slice-in-If-2.result.now ys) (λ y. IsStatementOf s c.args.statement.now y) _ c.in_err-other-in-If.ensures
     (λ lacks. rw c.in-If.is (no_other s _ _ _ (rw c.as_slice-in-If-2.ensures at lacks))) _ c.from_residual-in_err-other-in-If.ensures.0 c.from_residual-in_err-other-in-If.ensures.1
 
 pub resolve_statement-returns-in_ok-other-in-If : goal.resolve_statement-returns-in_ok-other-in-If

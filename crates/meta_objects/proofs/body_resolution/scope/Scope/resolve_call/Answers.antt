@@ -1,51 +1,44 @@
 use Rattle.std.proofs.Common.{List, inr, refl}
-use Rattle.signatures.specs.declared.qtype.QType.{QType}
 use Rattle.texts.specs.declared.syntax.Expr.{Expr}
 use Rattle.texts.specs.declared.syntax.Stmt.TheVariants.{Call}
 use Rattle.meta_model.specs.declared.object.MetaPath.{MetaPath}
 use Rattle.meta_model.specs.declared.object.Statement.{Statement}
-use Rattle.meta_objects.specs.declared.body_resolution.path.Led.{Led}
+use Rattle.meta_model.specs.declared.outline.Outline.{Outline}
 use Rattle.meta_model.specs.declared.fault.MetaFault.TheVariants as fault
-use Rattle.meta_objects.specs.Bodies.{IsPath, AreExprs, IsStatement}
+use Rattle.meta_objects.specs.declared.body_resolution.path.Target.{Target}
+use Rattle.meta_objects.specs.Bodies.{IsObjectPath, AreExprs, IsStatementOf}
 use Rattle.meta_objects.specs.Resolving.{scope}
 use Rattle.meta_model.proofs.OutlineSteps.{failed}
-use Rattle.meta_objects.proofs.BodyCalls.{no_call_path, no_call_values, no_call_class, no_call_method, no_call, call_piece}
+use Rattle.meta_objects.proofs.BodyCalls.{no_call_object, no_call_values, no_call_method, no_call, call_piece}
 use Rattle.meta_objects.proofs.body_resolution.scope.Scope.resolve_call.Goals as goal
 
 pub returns-in_err-path : goal.returns-in_err-path
 returns-in_err-path c =
     let s = scope c.args.self.now in
-    failed fault.NoMember ((found : MetaPath) (T : QType) → ¬ IsPath s c.args.path.now found T) ((y : Statement) → ¬ IsStatement s (Call c.args.path.now c.args.name.now c.args.values.now) y)
-    (λ (led : Led). IsPath s c.args.path.now led.path led.kind) (λ y. IsStatement s (Call c.args.path.now c.args.name.now c.args.values.now) y) _ c.in_err-path.ensures
-    (no_call_path s _ _ _) _ c.from_residual.ensures.0 c.from_residual.ensures.1
+    failed fault.NoMember ((found : MetaPath) (class : Outline) → ¬ IsObjectPath s c.args.path.now found class) ((y : Statement) → ¬ IsStatementOf s (Call c.args.path.now c.args.name.now c.args.values.now) y)
+    (λ (target : Target). IsObjectPath s c.args.path.now target.path target.class.now) (λ y. IsStatementOf s (Call c.args.path.now c.args.name.now c.args.values.now) y) _ c.in_err-path.ensures
+    (no_call_object s _ _ _) _ c.from_residual.ensures.0 c.from_residual.ensures.1
 
 pub returns-in_default : goal.returns-in_default
-returns-in_default c = inr (refl, no_call_class (scope c.args.self.now) _ _ _ _ _ c.in_ok-path.ensures c.in_default.ensures)
-
-pub returns-in_default-find_call : goal.returns-in_default-find_call
-returns-in_default-find_call c =
-    inr (
-      refl,
-      no_call_method (scope c.args.self.now) _ _ _ _ _ c.in_ok-path.ensures _ _ c.in-Some.ensures
-          c.in_default-find_call.ensures.value,
-    )
+returns-in_default c =
+    inr (refl, no_call_method (scope c.args.self.now) _ _ _ _ _ c.in_ok-path.ensures c.in_default.ensures.value)
 
 pub returns-then-not-may_be_called : goal.returns-then-not-may_be_called
 returns-then-not-may_be_called c =
     inr (
       refl,
-      no_call (scope c.args.self.now) _ _ _ _ _ c.in_ok-path.ensures _ _ c.in-Some.ensures _ _
-          c.in-Some-find_call.ensures.value (λ callable. let e = c.if-not-may_be_called.ensures.1 callable in absurd (cc)),
+      no_call (scope c.args.self.now) _ _ _ _ _ c.in_ok-path.ensures _ _ c.in-Some.ensures.value
+          (λ callable. let e = c.if-not-may_be_called.ensures.1 callable in absurd (cc)),
     )
 
 pub returns-in_err-values : goal.returns-in_err-values
 returns-in_err-values c =
     let s = scope c.args.self.now in
-    failed fault.NoMember ((fs : List (Expr MetaPath)) → ¬ AreExprs s c.args.values.now fs) ((y : Statement) → ¬ IsStatement s (Call c.args.path.now c.args.name.now c.args.values.now) y)
-    (λ fs. AreExprs s c.args.values.now fs) (λ y. IsStatement s (Call c.args.path.now c.args.name.now c.args.values.now) y) _ c.in_err-values.ensures
+    failed fault.NoMember ((fs : List (Expr MetaPath)) → ¬ AreExprs s c.args.values.now fs) ((y : Statement) → ¬ IsStatementOf s (Call c.args.path.now c.args.name.now c.args.values.now) y)
+    (λ fs. AreExprs s c.args.values.now fs) (λ y. IsStatementOf s (Call c.args.path.now c.args.name.now c.args.values.now) y) _ c.in_err-values.ensures
     (no_call_values s _ _ _) _ c.from_residual-in_err-values.ensures.0 c.from_residual-in_err-values.ensures.1
 
 pub returns : goal.returns
 returns c =
-    call_piece (scope c.args.self.now) _ _ _ _ _ c.in_ok-path.ensures _ _ c.in-Some.ensures _ _
-    c.in-Some-find_call.ensures.value _ (c.if-not-may_be_called.ensures.0 refl) c.in_ok-values.ensures
+    call_piece (scope c.args.self.now) _ _ _ _ _ c.in_ok-path.ensures _ _
+    c.in-Some.ensures.value _ (c.if-not-may_be_called.ensures.0 refl) c.in_ok-values.ensures

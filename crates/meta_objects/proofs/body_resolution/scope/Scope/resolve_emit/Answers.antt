@@ -4,7 +4,7 @@ use Rattle.texts.specs.declared.syntax.Stmt.TheVariants.{Emit}
 use Rattle.meta_model.specs.declared.object.MetaPath.{MetaPath}
 use Rattle.meta_model.specs.declared.object.Statement.{Statement}
 use Rattle.meta_model.specs.declared.fault.MetaFault.TheVariants as fault
-use Rattle.meta_objects.specs.Bodies.{AreExprs, IsStatement}
+use Rattle.meta_objects.specs.Bodies.{AreExprs, IsStatementOf}
 use Rattle.meta_objects.specs.Resolving.{scope}
 use Rattle.meta_model.proofs.OutlineSteps.{failed}
 use Rattle.meta_objects.proofs.BodyCalls.{no_emit_class, no_emit_values, no_emit_method, no_emit, emit_piece}
@@ -33,8 +33,8 @@ returns-then-signal-le-OBJECT_NAME_CHANGED c =
 pub returns-in_err-values : goal.returns-in_err-values
 returns-in_err-values c =
     let s = scope c.args.self.now in
-    failed fault.NoMember ((fs : List (Expr MetaPath)) → ¬ AreExprs s c.args.values.now fs) ((y : Statement) → ¬ IsStatement s (Emit c.args.name.now c.args.values.now) y)
-    (λ fs. AreExprs s c.args.values.now fs) (λ y. IsStatement s (Emit c.args.name.now c.args.values.now) y) _ c.in_err-values.ensures
+    failed fault.NoMember ((fs : List (Expr MetaPath)) → ¬ AreExprs s c.args.values.now fs) ((y : Statement) → ¬ IsStatementOf s (Emit c.args.name.now c.args.values.now) y)
+    (λ fs. AreExprs s c.args.values.now fs) (λ y. IsStatementOf s (Emit c.args.name.now c.args.values.now) y) _ c.in_err-values.ensures
     (no_emit_values s _ _) _ c.from_residual.ensures.0 c.from_residual.ensures.1
 
 pub returns : goal.returns

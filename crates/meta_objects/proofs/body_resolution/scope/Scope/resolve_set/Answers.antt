@@ -1,34 +1,34 @@
 use Rattle.std.proofs.Common.{inr, refl}
-use Rattle.signatures.specs.declared.qtype.QType.{QType}
 use Rattle.texts.specs.declared.syntax.Expr.{Expr}
 use Rattle.texts.specs.declared.syntax.Stmt.TheVariants.{Set}
 use Rattle.meta_model.specs.declared.object.MetaPath.{MetaPath}
 use Rattle.meta_model.specs.declared.object.Statement.{Statement}
-use Rattle.meta_objects.specs.declared.body_resolution.path.Led.{Led}
+use Rattle.meta_model.specs.declared.outline.Outline.{Outline}
 use Rattle.meta_model.specs.declared.fault.MetaFault.TheVariants as fault
-use Rattle.meta_objects.specs.Bodies.{IsPath, IsExpr, IsStatement}
+use Rattle.meta_objects.specs.declared.body_resolution.path.Target.{Target}
+use Rattle.meta_objects.specs.Bodies.{IsObjectPath, IsExpr, IsStatementOf}
 use Rattle.meta_objects.specs.Resolving.{scope}
 use Rattle.meta_model.proofs.OutlineSteps.{failed}
-use Rattle.meta_objects.proofs.BodyPieces.{no_set_path, no_set_value, no_set_member, set_piece}
+use Rattle.meta_objects.proofs.BodyPieces.{no_set_object, no_set_value, no_set_property, set_piece}
 use Rattle.meta_objects.proofs.body_resolution.scope.Scope.resolve_set.Goals as goal
 
 pub returns-in_err-path : goal.returns-in_err-path
 returns-in_err-path c =
     let s = scope c.args.self.now in
-    failed fault.NoMember ((found : MetaPath) (T : QType) → ¬ IsPath s c.args.path.now found T) ((y : Statement) → ¬ IsStatement s (Set c.args.path.now c.args.name.now c.args.value.now) y)
-    (λ (led : Led). IsPath s c.args.path.now led.path led.kind) (λ y. IsStatement s (Set c.args.path.now c.args.name.now c.args.value.now) y) _ c.in_err-path.ensures
-    (no_set_path s _ _ _) _ c.from_residual.ensures.0 c.from_residual.ensures.1
+    failed fault.NoMember ((found : MetaPath) (class : Outline) → ¬ IsObjectPath s c.args.path.now found class) ((y : Statement) → ¬ IsStatementOf s (Set c.args.path.now c.args.name.now c.args.value.now) y)
+    (λ (target : Target). IsObjectPath s c.args.path.now target.path target.class.now) (λ y. IsStatementOf s (Set c.args.path.now c.args.name.now c.args.value.now) y) _ c.in_err-path.ensures
+    (no_set_object s _ _ _) _ c.from_residual.ensures.0 c.from_residual.ensures.1
 
 pub returns-in_default : goal.returns-in_default
-returns-in_default c = inr (refl, no_set_member (scope c.args.self.now) _ _ _ _ _ c.in_ok-path.ensures c.in_default.ensures)
+returns-in_default c = inr (refl, no_set_property (scope c.args.self.now) _ _ _ _ _ c.in_ok-path.ensures c.in_default.ensures)
 
 pub returns-in_err-value : goal.returns-in_err-value
 returns-in_err-value c =
     let s = scope c.args.self.now in
-    failed fault.NoMember ((f : Expr MetaPath) → ¬ IsExpr s c.args.value.now f) ((y : Statement) → ¬ IsStatement s (Set c.args.path.now c.args.name.now c.args.value.now) y)
-    (λ f. IsExpr s c.args.value.now f) (λ y. IsStatement s (Set c.args.path.now c.args.name.now c.args.value.now) y) _ c.in_err-value.ensures
+    failed fault.NoMember ((f : Expr MetaPath) → ¬ IsExpr s c.args.value.now f) ((y : Statement) → ¬ IsStatementOf s (Set c.args.path.now c.args.name.now c.args.value.now) y)
+    (λ f. IsExpr s c.args.value.now f) (λ y. IsStatementOf s (Set c.args.path.now c.args.name.now c.args.value.now) y) _ c.in_err-value.ensures
     (no_set_value s _ _ _) _ c.from_residual-in_err-value.ensures.0 c.from_residual-in_err-value.ensures.1
 
 pub returns : goal.returns
 returns c =
-    set_piece (scope c.args.self.now) _ _ _ _ _ _ _ _ c.in_ok-path.ensures c.in-Some.ensures c.in_ok-value.ensures
+    set_piece (scope c.args.self.now) _ _ _ _ _ c.in_ok-path.ensures _ _ _ c.in-Some.ensures c.in_ok-value.ensures

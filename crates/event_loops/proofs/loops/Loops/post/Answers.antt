@@ -1,0 +1,14 @@
+use Rattle.std.proofs.Common.{◌≡◌, ◌+◌, ◌-◌, ◌<◌, ◌^◌, sym, ap, subst, List, arith}
+use Rattle.event_loops.specs.Queues.{Queues, Loop}
+use Rattle.event_loops.specs.Rings.{shown}
+use Rattle.event_loops.specs.Numbers.{IsNumbered}
+use Rattle.event_loops.proofs.Numbers.{IsNumbered-posted}
+use Rattle.event_loops.proofs.loops.Loops.post.Goals as goal
+
+pub invariant_of-self-2 : goal.invariant_of-self-2
+invariant_of-self-2 c =
+    let HasRoom : Queues → Type 0 = λ s. s.posted < 2 ^ 63 - 1 in
+    let room = subst HasRoom (sym c.self.view_is) c.requires in
+    let Numbered : List Loop → Type 0 = λ loops. IsNumbered (record { loops = loops; posted = c.self.inside.posted + 1 }) in
+    let before : Queues = record { loops = shown c.self.inside.queues; posted = c.self.inside.posted } in
+    subst Numbered (sym c.in_ok-push_at.ensures.pushed) (IsNumbered-posted c.number.result c.args.item before room c.self.invariant)

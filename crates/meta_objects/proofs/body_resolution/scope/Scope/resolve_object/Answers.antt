@@ -1,0 +1,25 @@
+use Rattle.std.proofs.Common.{inr, refl}
+use Rattle.signatures.specs.declared.qtype.QType.{QType}
+use Rattle.meta_model.specs.declared.object.MetaPath.{MetaPath}
+use Rattle.meta_model.specs.declared.outline.Outline.{Outline}
+use Rattle.meta_model.specs.declared.fault.MetaFault.TheVariants as fault
+use Rattle.meta_objects.specs.declared.body_resolution.path.Led.{Led}
+use Rattle.meta_objects.specs.declared.body_resolution.path.Target.{Target}
+use Rattle.meta_objects.specs.Bodies.{IsPath, IsObjectPath}
+use Rattle.meta_objects.specs.Resolving.{scope}
+use Rattle.meta_model.proofs.OutlineSteps.{failed}
+use Rattle.meta_objects.proofs.BodyPieces.{no_object_path, no_object_class, an_object}
+use Rattle.meta_objects.proofs.body_resolution.scope.Scope.resolve_object.Goals as goal
+
+pub returns-in_err-path : goal.returns-in_err-path
+returns-in_err-path c =
+    let s = scope c.args.self.now in
+    failed fault.NoMember ((found : MetaPath) (T : QType) → ¬ IsPath s c.args.path.now found T) ((found : MetaPath) (class : Outline) → ¬ IsObjectPath s c.args.path.now found class)
+    (λ (led : Led). IsPath s c.args.path.now led.path led.kind) (λ (target : Target). IsObjectPath s c.args.path.now target.path target.class.now) _ c.in_err-path.ensures
+    (no_object_path s _) _ c.from_residual.ensures.0 c.from_residual.ensures.1
+
+pub returns-in_default : goal.returns-in_default
+returns-in_default c = inr (refl, no_object_class (scope c.args.self.now) _ _ _ c.in_ok-path.ensures c.in_default.ensures)
+
+pub returns : goal.returns
+returns c = an_object (scope c.args.self.now) _ _ _ _ _ c.in_ok-path.ensures c.in-Some.ensures
