@@ -3,7 +3,7 @@ use Rattle.std.proofs.Common.{◌≡◌, ℕ, ◌≤◌, ◌+◌, List, [], ◌�
 use Rattle.std.proofs.lemmas.List.{append-nil, length-append}
 use Rattle.texts.proofs.Cut.{same_tokens}
 use Rattle.texts.specs.Pieces.{AreTokens}
-use Rattle.texts.specs.Reading.{Found, EndsAnywhere}
+use Rattle.texts.specs.Reading.{Found, IsAtEnd}
 use Rattle.texts.specs.Signatures.{HasFewTypes, HasPlainReference}
 use Rattle.texts.specs.declared.fault.ParseFault.{ParseFault}
 use Rattle.texts.specs.declared.fault.ParseFault.TheVariants as parse
@@ -44,19 +44,19 @@ no_tokens none None h = none [] h
 no_tokens none (Some event) h = none h.tokens h.cut
 
 module _ {line : List ℕ} {tokens : List Token} (cut : AreTokens line tokens) (some : tokens ≡ [] → ⊥) where
-  pub no_event : ((r : Reading) (rest : List Token) → EndsAnywhere rest → tokens ≡ spell_event r rest → ⊥) → IsRefused line
+  pub no_event : ((r : Reading) (rest : List Token) → IsAtEnd rest → tokens ≡ spell_event r rest → ⊥) → IsRefused line
   no_event none None h = some (same_tokens line tokens [] cut h)
-  no_event none (Some event) h = none h.is_event.reading [] tt (same_tokens line tokens h.tokens cut h.cut ∙ h.is_event.spelled)
+  no_event none (Some event) h = none h.is_event.reading [] refl (same_tokens line tokens h.tokens cut h.cut ∙ h.is_event.spelled)
 
   pub no_normal_form : HasPlainReference tokens → IsRefused line
   no_normal_form plain None h = some (same_tokens line tokens [] cut h)
   no_normal_form plain (Some event) h = h.is_event.normal (rw (same_tokens line tokens h.tokens cut h.cut) at plain)
 
-  pub more_than_event : {event : Event} {after : List Token} → Found spell_event tree_of_event EndsAnywhere tokens event after → (after ≡ [] → ⊥) → IsRefused line
+  pub more_than_event : {event : Event} {after : List Token} → Found spell_event tree_of_event IsAtEnd tokens event after → (after ≡ [] → ⊥) → IsRefused line
   more_than_event f more None h = some (same_tokens line tokens [] cut h)
-  more_than_event f more (Some event) h = more (f.only h.is_event.reading [] tt (same_tokens line tokens h.tokens cut h.cut ∙ h.is_event.spelled))
+  more_than_event f more (Some event) h = more (f.only h.is_event.reading [] refl (same_tokens line tokens h.tokens cut h.cut ∙ h.is_event.spelled))
 
-module _ {line : List ℕ} {tokens after : List Token} {event : Event} (cut : AreTokens line tokens) (f : Found spell_event tree_of_event EndsAnywhere tokens event after) (end : after ≡ []) where
+module _ {line : List ℕ} {tokens after : List Token} {event : Event} (cut : AreTokens line tokens) (f : Found spell_event tree_of_event IsAtEnd tokens event after) (end : after ≡ []) where
   pub event_line : All HasFewTypes (signatures_in event) → ¬ HasPlainReference tokens → IsEventLine line event
   event_line few normal = record {
     tokens = tokens;

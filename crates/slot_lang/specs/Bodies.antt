@@ -12,7 +12,7 @@ signatures_step (layer.Set path property value) = []
 signatures_step (layer.Emit signal arguments) = []
 signatures_step (layer.Call path method arguments) = []
 signatures_step (layer.If condition body other) = flat_map (λ sigs. sigs) body ++ flat_map (λ sigs. sigs) other
-signatures_step (layer.Connect ends type) = signatures_at ends
+signatures_step (layer.Connect ends how) = signatures_at ends
 signatures_step (layer.Disconnect ends) = signatures_at ends
 
 abbrev pub signatures_of : Stmt → List Sig

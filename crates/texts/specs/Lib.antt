@@ -7,6 +7,7 @@ pub mod Splitting
 pub mod Cursor
 pub mod Reading
 pub mod Lists
+pub mod Optional
 pub mod Numerals
 pub mod Literals
 pub mod Signatures

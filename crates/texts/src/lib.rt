@@ -16,7 +16,7 @@ mod symbol;
 mod syntax;
 mod token;
 
-pub use connection::{ConnectionType, Endpoints};
+pub use connection::{ConnectionType, Endpoints, both_ends};
 pub use cursor::Cursor;
 pub use depth::nesting;
 pub use fault::ParseFault;
