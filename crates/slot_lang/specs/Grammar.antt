@@ -214,3 +214,9 @@ ReadsCondition before result after = Reads spell_condition tree_of_expression En
 
 abbrev pub ReadsArguments : List Token → Result (List (Expr Path)) ParseFault → List Token → Type 0
 ReadsArguments before result after = Reads spell_arguments (map tree_of_expression) EndsAnywhere before result after
+
+abbrev pub ReadsConnection : List Token → Result Stmt ParseFault → List Token → Type 0
+ReadsConnection before result after = Reads spell_connection tree_of_connection EndsAnywhere before result after
+
+abbrev pub ReadsDisconnection : List Token → Result Stmt ParseFault → List Token → Type 0
+ReadsDisconnection before result after = Reads spell_disconnection tree_of_disconnection EndsAnywhere before result after

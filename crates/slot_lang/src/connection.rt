@@ -1,7 +1,7 @@
 //! The statements that connect and disconnect.
 
 ghost use Rattle.std.specs.Prelude.{◌<◌, length, OnOk};
-ghost use Rattle.slot_lang.specs.Grammar.{spell_connection, tree_of_connection, spell_disconnection, tree_of_disconnection, spell_how};
+ghost use Rattle.slot_lang.specs.Grammar.{ReadsConnection, ReadsDisconnection, spell_how};
 ghost use Rattle.texts.specs.Reading.{Reads, EndsAnywhere};
 
 use crate::path::PathPart;
@@ -12,7 +12,7 @@ const SEPARATOR: Option<Symbol> = Some(Symbol::Comma);
 
 /// What follows `connect`.
 pub fn connection(cursor: &mut Cursor) -> Result<Stmt, ParseFault>
-    ensures reads { Reads spell_connection tree_of_connection EndsAnywhere cursor.old result cursor.new }
+    ensures reads { ReadsConnection cursor.old result cursor.new }
     ensures shorter { OnOk result (length cursor.new < length cursor.old) }
 {
     let ends = both_ends::<PathPart>(cursor, SEPARATOR)?;
@@ -22,7 +22,7 @@ pub fn connection(cursor: &mut Cursor) -> Result<Stmt, ParseFault>
 
 /// What follows `disconnect`.
 pub fn disconnection(cursor: &mut Cursor) -> Result<Stmt, ParseFault>
-    ensures reads { Reads spell_disconnection tree_of_disconnection EndsAnywhere cursor.old result cursor.new }
+    ensures reads { ReadsDisconnection cursor.old result cursor.new }
     ensures shorter { OnOk result (length cursor.new < length cursor.old) }
 {
     let ends = both_ends::<PathPart>(cursor, SEPARATOR)?;
