@@ -16,7 +16,7 @@ use Rattle.connections.specs.declared.connection.Connection.{Connection}
 use Rattle.machine_state.specs.declared.entry.Entry.{Entry}
 use Rattle.machine_state.specs.declared.entry.Entry.TheVariants.{At}
 use Rattle.machine_state.specs.declared.entry.Happening.TheVariants as happening
-use Rattle.machine_state.specs.Connections.{is_silent, next_used}
+use Rattle.machine_state.specs.Connections.{is_silent, next_used, after_use}
 use Rattle.machine_state.specs.Objects.{shown, all_shown}
 use Rattle.machine_rules.specs.There.{IsMember, IsField}
 use Rattle.machine_rules.specs.Doings.{Doing, Write, Begin, Choose, Nothing, doing}
@@ -112,12 +112,16 @@ BodyRule p s o m arguments below t (statement ∷ rest) = StatementRule p s o m 
 
 -- ---- emissions
 
--- a connection is used: its method begins at the receiver, with as many arguments as it declares
+-- a connection is used: a single-shot one is removed
+abbrev pub with_used : State → Connection → State
+with_used s c = record s { connected = after_use c s.connected }
+
+-- .. and its method begins at the receiver, with as many arguments as it declares
 pub record Uses (p : Loaded) (s : State) (below : List Activation) (c : Connection) (arguments : List Value) (t : State) : Type 0 where
   pub receiver : Object
   pub method : MetaMethod
   pub is : IsMember p s.objects c.receiver c.method receiver method
-  pub gives : t ≡ begun s below c.receiver receiver c.method method (take (length method.kinds) arguments) method.work
+  pub gives : t ≡ begun (with_used s c) below c.receiver receiver c.method method (take (length method.kinds) arguments) method.work
 
 -- the next connection is used; with none left, and where the object is blocked, the emission ends
 abbrev pub EmitRule : Loaded → State → ℕ → ℕ → List Value → ℕ → List Activation → State → Option Connection → Type 0

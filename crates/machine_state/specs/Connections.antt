@@ -4,7 +4,11 @@ use Rattle.std.specs.List.{find}
 use Rattle.meta_model.specs.declared.qobject.TheConstants.{DESTROYED}
 use Rattle.object_tree.specs.declared.object.Object.{Object}
 use Rattle.connections.specs.declared.connection.Connection.{Connection}
-use Rattle.connections.specs.Connected.{is_due}
+use Rattle.connections.specs.Connected.{Connected, is_due, is_numbered, removed}
+
+-- what is left of the connections when one is used: a single-shot one is removed (Qt 6, `Qt::SingleShotConnection`)
+abbrev pub after_use : Connection → Connected → Connected
+after_use c connected = if c.single then removed (is_numbered c.number) connected else connected
 
 -- a blocked object's emission calls nothing, unless it is `destroyed` (Qt 6, `QObject::blockSignals`)
 abbrev pub is_silent : Object → ℕ → Bool

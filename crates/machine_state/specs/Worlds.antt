@@ -1,6 +1,7 @@
 -- What the world's functions do, and what a world says of the machine's state (docs/machine.md, "The state").
 use Rattle.std.specs.Prelude.{◌≡◌, ℕ, Bool, false, ◌+◌, ◌-◌, ◌<◌, List, [], ◌∷◌, ◌++◌, Result, Ok, Err}
 use Rattle.signatures.specs.declared.value.Value.{Value}
+use Rattle.connections.specs.declared.connection.Connection.{Connection}
 use Rattle.connections.specs.Connected.{unconnected, connected_by}
 use Rattle.object_tree.specs.declared.object.Object.{Object}
 use Rattle.object_tree.specs.Objects.{change, blocked, written}
@@ -12,6 +13,7 @@ use Rattle.machine_state.specs.declared.fault.Fault.TheVariants.{Steps, Memory}
 use Rattle.machine_state.specs.declared.refusal.Refusal.{Refusal}
 use Rattle.machine_state.specs.declared.world.World.{World}
 use Rattle.machine_state.specs.Refusals.{refusal_number}
+use Rattle.machine_state.specs.Connections.{after_use}
 use Rattle.machine_state.specs.Accepting.{accepted, refused, with_entries}
 use Rattle.machine_state.specs.declared.endpoints.Endpoints.{Endpoints}
 use Rattle.machine_state.specs.State.{State, Activation}
@@ -41,6 +43,13 @@ noted w entries = record w { left = w.left - 1; trace = w.trace ++ entries }
 -- .. that also writes a property of an object, if there is one
 abbrev pub set_in : World → List Entry → ℕ → ℕ → Value → World
 set_in w entries o q new = record (noted w entries) { objects = change o (written q new) w.objects }
+
+-- .. that also uses a connection
+abbrev pub having_used : World → Connection → World
+having_used w c = record w { connected = after_use c w.connected }
+
+abbrev pub using : World → List Entry → Connection → World
+using w entries c = noted (having_used w c) entries
 
 -- a rule that writes nothing down was carried out, or none was left
 abbrev pub Ticks : World → World → Result (Unit {0}) Fault → Type 0

@@ -3,7 +3,7 @@
 ghost use Rattle.std.specs.Prelude.{◌≡◌, ◌<◌, ◌≤◌, ◌^◌, length, slice_get, IfSome, IsTrue, MatchOption};
 ghost use Rattle.object_tree.specs.Objects.{IsFree, IsNamed};
 ghost use Rattle.machine_state.specs.Connections.{next_used, silences, is_silent};
-ghost use Rattle.machine_state.specs.Worlds.{untouched, Ticks, IsLeft, Becomes, noted, set_in};
+ghost use Rattle.machine_state.specs.Worlds.{untouched, Ticks, IsLeft, Becomes, noted, using, set_in};
 
 use crate::entry::{Entry, Trace};
 use crate::fault::Fault;
@@ -111,6 +111,24 @@ impl World {
     {
         self.trace.append(entries)?;
         self.left -= 1;
+        Ok(())
+    }
+
+    /// A rule that uses a connection, so that a single-shot one is removed, and writes these entries down; without memory
+    /// nothing changes.
+    pub fn use_connection<const N: usize>(
+        &mut self,
+        entries: [Entry; N],
+        connection: &Connection,
+    ) -> Result<(), Fault>
+        requires left { 0 < self.old.left }
+        requires few { N < 2 ^ 32 }
+        ensures { Becomes self.old (using self.old entries.entry connection.now) self.new result }
+    {
+        self.note(entries)?;
+        if connection.single {
+            self.connected.cut(connection.number);
+        }
         Ok(())
     }
 

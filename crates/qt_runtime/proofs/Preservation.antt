@@ -24,7 +24,7 @@ use Rattle.machine_state.specs.Worlds.{main}
 use Rattle.machine_rules.specs.Doings.{Doing, Write, Begin, Choose, Nothing, doing}
 use Rattle.qt_runtime.proofs.Choosing.{block-sound}
 use Rattle.machine_state.specs.State.{State, IsIdle, Place, Activation, Body, Emit, Update}
-use Rattle.machine_rules.specs.Rules.{Rule, RuleAt, BodyRule, Does, EmitRule, UpdateRule, Begins, Writes, Changes, places_of, changed, unchanged, silent, begun}
+use Rattle.machine_rules.specs.Rules.{Rule, RuleAt, BodyRule, Does, EmitRule, UpdateRule, Begins, Writes, Changes, places_of, changed, unchanged, silent, begun, with_used}
 use Rattle.machine_state.specs.Connections.{next_used}
 use Rattle.signatures.specs.declared.sig.Sig.{Sig}
 use Rattle.signatures.specs.Types.{Fits}
@@ -194,7 +194,8 @@ module _ {p : Loaded} {s t : State} (sound : IsSound p) (well : IsWell p s t) wh
   emission-stands : (o g : ℕ) (arguments : List Value) (last : ℕ) (below : List Activation) (found : Option Connection) → AllByRecursion (Stands p s.objects) below → length s.stack ≡ suc (length below) → EmitRule p s o g arguments last below t found → AllStand p t
   emission-stands o g arguments last below None lower high r = as-is r lower
   emission-stands o g arguments last below (Some c) lower high r =
-      begun-stands p s (Emit o g arguments c.number last ∷ below) c.receiver r.receiver c.method r.method (take (length r.method.kinds) arguments) r.method.work t sound r.is refl r.gives (omega (arith, high)) well (tt, lower)
+      let well_used : IsWell p (with_used s c) t = record { arguments = well.arguments; values = well.values } in
+      begun-stands p (with_used s c) (Emit o g arguments c.number last ∷ below) c.receiver r.receiver c.method r.method (take (length r.method.kinds) arguments) r.method.work t sound r.is refl r.gives (omega (arith, high)) well_used (tt, lower)
 
   update-stands : (below : List Activation) (places : List Place) → AllByRecursion (PlaceStands p s.objects) places → AllByRecursion (Stands p s.objects) below → UpdateRule p s below t places → AllStand p t
   update-stands below [] there lower r = as-is r lower
