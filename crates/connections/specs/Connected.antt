@@ -11,6 +11,10 @@ pub record Connected : Type 0 where
   pub connections : List Connection
   pub last : ℕ
 
+-- no connection was made yet
+abbrev pub unconnected : Connected
+unconnected = record { connections = []; last = 0 }
+
 -- of this sender and signal
 abbrev pub is_of : ℕ → ℕ → Connection → Bool
 is_of sender signal c = eqb c.sender sender && eqb c.signal signal

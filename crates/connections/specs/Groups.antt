@@ -20,6 +20,14 @@ module _ {K S : Type 0} (eq : K → K → Bool) where
   abbrev pub HasRoom : IndexMap K Places S → K → Type 0
   HasRoom groups q = IsSomeAnd (get eq groups q) (λ places. vec_len places.items < vec_capacity places.items)
 
+  -- a key that is there has places
+  abbrev pub HasPlaces : IndexMap K Places S → K → Type 0
+  HasPlaces groups q = list_of groups q ≡ [] → get eq groups q ≡ None
+
+  -- what is seen stays, under each key
+  abbrev pub SameGroups : IndexMap K Places S → IndexMap K Places S → Type 0
+  SameGroups old new = (q : K) → list_of new q ≡ list_of old q
+
   -- Each of these says what is under a key q, which may be the group's key in another form.
 
   -- what is seen stays

@@ -1,6 +1,6 @@
 ghost use Rattle.std.specs.Prelude.{◌≡◌, ◌↔◌, ℕ, ◌+◌, ◌^◌, ◌<◌, ◌-◌, ◌≤◌, ◌&&◌, Err, [], ◌∷◌, ◌++◌, IsTrue, IsOk, OnOk, OnErr, IfSome};
 ghost use Rattle.std.specs.List.{find};
-ghost use Rattle.connections.specs.Connected.{Connected, joins, is_later, is_due, is_numbered, touches, are_connected, connected_by, removed, not_above, Rises};
+ghost use Rattle.connections.specs.Connected.{Connected, unconnected, joins, is_later, is_due, is_numbered, touches, are_connected, connected_by, removed, not_above, Rises};
 ghost use Rattle.connections.specs.Cells.{fits};
 ghost use Rattle.connections.specs.declared.fault.ConnectFault.TheVariants.{Exists};
 
@@ -44,7 +44,7 @@ impl Model for Connections {
 impl Connections {
     /// No connections, and no number given.
     pub fn new(alloc: Global) -> Connections
-        ensures { result ≡ record { connections = []; last = 0 } }
+        ensures { result ≡ unconnected }
     {
         Connections {
             alloc,

@@ -2,7 +2,7 @@
 
 ghost use Rattle.std.specs.Prelude.{◌≡◌, ◌∷◌, [], ◌++◌, ◌<◌, false, if◌then◌else◌, OnOk, IsSomeAnd};
 ghost use Rattle.std.specs.Vec.{vec_len};
-ghost use Rattle.connections.specs.Groups.{list_of, HasRoom, Keeps, Pushes, KeepsRoom, KeepsOtherRoom, TidiesGroup};
+ghost use Rattle.connections.specs.Groups.{list_of, HasRoom, Keeps, Pushes, KeepsRoom, KeepsOtherRoom, TidiesGroup, SameGroups, HasPlaces};
 ghost use Rattle.connections.specs.Lists.{of_signal, of_object, IsEmpty};
 ghost use Rattle.connections.specs.Places.{Tidies};
 
@@ -96,8 +96,22 @@ where
     }
 }
 
-/// One more of the places under a key leads nowhere.
-pub fn forget_place<K: Eq + Hash>(groups: &mut IndexMap<K, Places>, group: K, cells: &Slab<Cell>)
+/// One more of the places under a key leads nowhere. A key with no places left is dropped.
+pub fn forget_place<K: Eq + Hash + Copy>(
+    groups: &mut IndexMap<K, Places>,
+    group: K,
+    cells: &Slab<Cell>,
+)
+where
+    K: Drop,
+    ensures lists { TidiesGroup K.eq cells.now groups.old groups.new group }
+    ensures dropped { HasPlaces K.eq groups.new group }
+{
+    forget_one(groups, group, cells);
+    drop_empty(groups, group);
+}
+
+fn forget_one<K: Eq + Hash>(groups: &mut IndexMap<K, Places>, group: K, cells: &Slab<Cell>)
 where
     K: Drop,
     ensures { TidiesGroup K.eq cells.now groups.old groups.new group }
@@ -105,5 +119,17 @@ where
     match groups.get_mut(&group) {
         None => {}
         Some(places) => places.forget(cells),
+    }
+}
+
+/// Drops a key with no places.
+fn drop_empty<K: Eq + Hash + Copy>(groups: &mut IndexMap<K, Places>, group: K)
+where
+    K: Drop,
+    ensures lists { SameGroups K.eq groups.old groups.new }
+    ensures dropped { HasPlaces K.eq groups.new group }
+{
+    if places_of(groups, group).is_empty() {
+        groups.swap_remove(&group);
     }
 }

@@ -2,6 +2,7 @@
 
 ghost use Rattle.std.specs.Prelude.{◌≡◌, ℕ, if◌then◌else◌, eqb};
 ghost use Rattle.std.specs.Option.{option_map};
+ghost use Rattle.std.specs.Vec.{vec_len};
 ghost use Rattle.slab.specs.Slab.{Slab as ASlab, get};
 ghost use Rattle.connections.specs.declared.cell.Cell.{Cell as ACell};
 ghost use Rattle.connections.specs.Connected.{without};
@@ -50,6 +51,7 @@ pub fn remove(cells: &mut Slab<Cell>, lists: &mut Lists, marked: &mut Vec<usize>
     requires marked { Marked cells.old marked.old }
     ensures led { StayLed cells.old lists.old cells.new lists.new }
     ensures marked { Marked cells.new marked.new }
+    ensures swept { vec_len marked.new ≡ 0 }
     ensures shown { shown_in cells.new lists.new
         ≡ without (fits removal.now) (shown_in cells.old lists.old) }
 {

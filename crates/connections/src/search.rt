@@ -32,7 +32,8 @@ fn places_from(places: &[Place], number: u64) -> &[Place]
 /// The place of this number, if there is one.
 pub fn place_of_number(places: &[Place], number: u64) -> &[Place]
     requires { AreRising places.now }
-    ensures { HoldNumbered number places.now result.now }
+    ensures held { HoldNumbered number places.now result.now }
+    ensures one { length result.now ≤ 1 }
 {
     let rest = places_from(places, number);
     &rest[..rest.len().min(1)]

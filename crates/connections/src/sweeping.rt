@@ -1,6 +1,7 @@
 //! Removed connections leave their cells, and in time the lists.
 
 ghost use Rattle.std.specs.Prelude.{◌≡◌, ℕ, ◌≤◌, IfNone, IfSome, Some, None, false, if◌then◌else◌, eqb};
+ghost use Rattle.std.specs.Vec.{vec_len};
 ghost use Rattle.slab.specs.Slab.{get, slab_len};
 ghost use Rattle.std.specs.List.{Contains};
 ghost use Rattle.connections.specs.declared.cell.Cell.{Cell as ACell};
@@ -16,6 +17,7 @@ use slab::Slab;
 pub fn sweep(cells: &mut Slab<Cell>, lists: &mut Lists, marked: &mut Vec<usize>)
     requires { Marked cells.old marked.old }
     ensures marked { Marked cells.new marked.new }
+    ensures none { vec_len marked.new ≡ 0 }
     ensures lists { StayLed cells.old lists.old cells.new lists.new }
     ensures shown { StayShown cells.old lists.old cells.new lists.new }
 {

@@ -1,7 +1,6 @@
 -- How methods begin.
-use Rattle.std.proofs.Common.{◌≡◌, ℕ, suc, ◌+◌, ◌<◌, ◌≤◌, inl, inr, ◌&&◌, eqb, Bool, true, false, IsTrue, cond, List, [], ◌∷◌, ◌++◌, length, take, Result, Option, None, Some, slice_get, refl, sym, ap, ◌∙◌, subst, arith, length-append}
-use Rattle.std.specs.List.{AllByRecursion, find}
-use Rattle.std.proofs.lemmas.Bool.{eqb-true}
+use Rattle.std.proofs.Common.{◌≡◌, ℕ, suc, ◌+◌, ◌-◌, ◌<◌, ◌≤◌, inl, inr, Bool, true, false, IsTrue, List, [], ◌∷◌, ◌++◌, length, take, Result, Option, Some, refl, sym, ap, ◌∙◌, subst, arith, length-append}
+use Rattle.std.specs.List.{AllByRecursion}
 use Rattle.signatures.specs.declared.value.Value.{Value}
 use Rattle.meta_model.specs.declared.object.MetaMethod.{MetaMethod}
 use Rattle.meta_model.specs.declared.object.ValueType.{ValueType}
@@ -9,7 +8,7 @@ use Rattle.meta_model.specs.declared.object.Work.{Work}
 use Rattle.meta_model.specs.declared.object.Work.TheVariants.{Signal, Slot}
 use Rattle.meta_model.specs.Loaded.{Loaded}
 use Rattle.meta_model.specs.Values.{HaveTypes}
-use Rattle.machine_state.specs.declared.connections.Connection.{Connection}
+use Rattle.connections.specs.declared.connection.Connection.{Connection}
 use Rattle.machine_state.specs.declared.entry.Entry.{Entry}
 use Rattle.machine_state.specs.declared.fault.Fault.{Fault}
 use Rattle.machine_state.specs.declared.fault.Fault.TheVariants.{BadType, TooDeep}
@@ -18,12 +17,13 @@ use Rattle.machine_state.specs.declared.world.World.{World}
 use Rattle.object_tree.specs.Objects.{class_of}
 use Rattle.machine_state.specs.Objects.{all_shown}
 use Rattle.machine_state.specs.State.{State, Activation, Emit}
-use Rattle.machine_rules.specs.Rules.{Begins, begun, EmitRule, Uses}
-use Rattle.machine_state.specs.Connections.{is_next, next_connection, silences, next_used}
+use Rattle.machine_rules.specs.Rules.{Begins, begun, with_used, EmitRule, Uses}
+use Rattle.machine_state.specs.Connections.{next_used}
+use Rattle.machine_state.proofs.Due.{used-among, used-due, last-used}
 use Rattle.machine_rules.specs.Good.{AreTyped, ArgumentsFit, TopFits, IsWell}
 use Rattle.machine_rules.specs.Sound.{Joined}
-use Rattle.machine_state.specs.Worlds.{at, noted}
-use Rattle.machine_rules.specs.Reaches.{Reaches, StopsIn, Ends, Calls, OnlyCalls, begin_entry, top_of, IsBegun, IsBarred}
+use Rattle.machine_state.specs.Worlds.{at, noted, having_used}
+use Rattle.machine_rules.specs.Reaches.{Reaches, StopsIn, Ends, CallsIn, Calls, OnlyCalls, begin_entry, top_of, IsBegun, IsBarred}
 use Rattle.machine_rules.specs.Active.{shows}
 use Rattle.machine_rules.proofs.Frames.{high, shows-over}
 use Rattle.machine_rules.specs.There.{IsMember}
@@ -35,15 +35,15 @@ abbrev pub begun_world : World → ℕ → Object → ℕ → MetaMethod → Lis
 begun_world w depth x m method arguments = noted w (begin_entry depth x m method.sig.name (all_shown w.objects arguments) method.work ∷ [])
 
 begun-is : (w : World) (stack over : List Activation) (o : ℕ) (x : Object) (m : ℕ) (method : MetaMethod) (arguments : List Value) (work : Work) →
-    at (noted w (begin_entry (suc (length over)) x m method.sig.name (all_shown w.objects arguments) work ∷ [])) (top_of o m arguments w.connected work ∷ over) ≡ begun (at w stack) over o x m method arguments work
+    at (noted w (begin_entry (suc (length over)) x m method.sig.name (all_shown w.objects arguments) work ∷ [])) (top_of o m arguments w.connected.last work ∷ over) ≡ begun (at w stack) over o x m method arguments work
 begun-is w stack over o x m method arguments Signal = refl
 begun-is w stack over o x m method arguments (Slot statements) = refl
 
 -- a method that is there begins
 begins-there : {p : Loaded} {n o m : ℕ} {x : Object} {method : MetaMethod} (w : World) (arguments : List Value) (stack over : List Activation) → IsMember p w.objects o m x method → n ≡ suc (length over) →
-    Begins p (at w stack) over o m arguments (at (begun_world w n x m method arguments) (top_of o m arguments w.connected method.work ∷ over))
+    Begins p (at w stack) over o m arguments (at (begun_world w n x m method arguments) (top_of o m arguments w.connected.last method.work ∷ over))
 begins-there {o = o} {m = m} {x = x} {method = method} w arguments stack over is depth_is =
-    let with_depth : ℕ → State = λ n. at (begun_world w n x m method arguments) (top_of o m arguments w.connected method.work ∷ over) in
+    let with_depth : ℕ → State = λ n. at (begun_world w n x m method arguments) (top_of o m arguments w.connected.last method.work ∷ over) in
     record {
       object = x;
       method = method;
@@ -63,38 +63,38 @@ fits-top : {p : Loaded} {objects : List Object} {o m : ℕ} {arguments : List Va
 fits-top last Signal below fit = fit
 fits-top last (Slot statements) below fit = fit
 
-reaches-begun : {p : Loaded} {d o m : ℕ} {h active : List (Option ℕ)} {w v : World} {from to : List Activation} {arguments : List Value} {line : Entry} {work : Work} {last : ℕ} →
-    active ≡ shows to ++ h → Calls p w from to o m arguments → IsBegun p d active w o m arguments line work last → ArgumentsFit p w.objects o m arguments → AreTyped p w.objects → 0 < w.left → v ≡ noted w (line ∷ []) →
+reaches-begun : {p : Loaded} {d o m : ℕ} {h active : List (Option ℕ)} {w u v : World} {from to : List Activation} {arguments : List Value} {line : Entry} {work : Work} {last : ℕ} →
+    active ≡ shows to ++ h → CallsIn p w u from to o m arguments → IsBegun p d active u o m arguments line work last → ArgumentsFit p u.objects o m arguments → AreTyped p u.objects → 0 < w.left → u.left ≡ w.left → v ≡ noted u (line ∷ []) →
     Reaches p d h w from v (top_of o m arguments last work ∷ to)
-reaches-begun {p} {d} {o} {m} {h} {active} {w} {v} {from} {to} {arguments} {line} {work} {last} over calls is fit typed some v_is =
-    let Pushed : World → Work → ℕ → Type 0 = λ u k l. Reaches p d h w from u (top_of o m arguments l k ∷ to) in
-    let target : World = begun_world w (length active + 1) is.object m is.method arguments in
-    let target_is : v ≡ target = v_is ∙ ap (λ (y : Entry). noted w (y ∷ [])) is.is_line in
-    let went : Pushed target is.method.work w.connected =
-    reaches-high over (λ below e. calls.gives below _ (begins-there w arguments (from ++ below) (to ++ below) is.is (one-more to below over e))) (λ below. top-fits w.connected is.method.work (to ++ below) fit) is.room typed refl some in
-    subst (λ (u : World). Pushed u work last) (sym target_is) (subst (λ (k : Work). Pushed target k last) (sym is.is_work) (subst (λ (l : ℕ). Pushed target is.method.work l) (sym is.is_last) went))
+reaches-begun {p} {d} {o} {m} {h} {active} {w} {u} {v} {from} {to} {arguments} {line} {work} {last} over calls is fit typed some same v_is =
+    let Pushed : World → Work → ℕ → Type 0 = λ z k l. Reaches p d h w from z (top_of o m arguments l k ∷ to) in
+    let target : World = begun_world u (length active + 1) is.object m is.method arguments in
+    let target_is : v ≡ target = v_is ∙ ap (λ (y : Entry). noted u (y ∷ [])) is.is_line in
+    let went : Pushed target is.method.work u.connected.last =
+    reaches-high over (λ below e. calls.gives below _ (begins-there u arguments (from ++ below) (to ++ below) is.is (one-more to below over e))) (λ below. top-fits u.connected.last is.method.work (to ++ below) fit) is.room typed (ap (λ (n : ℕ). n - 1) same) some in
+    subst (λ (z : World). Pushed z work last) (sym target_is) (subst (λ (k : Work). Pushed target k last) (sym is.is_work) (subst (λ (l : ℕ). Pushed target is.method.work l) (sym is.is_last) went))
 
 -- a method begins, and what it pushed runs
-pub ends-begun : {p : Loaded} {d o m : ℕ} {h active : List (Option ℕ)} {w v u : World} {from to : List Activation} {arguments : List Value} {line : Entry} {work : Work} {last : ℕ} {r : Result (Unit {0}) Fault} →
-    active ≡ shows to ++ h → Calls p w from to o m arguments → IsBegun p d active w o m arguments line work last → ArgumentsFit p w.objects o m arguments → AreTyped p w.objects → 0 < w.left → v ≡ noted w (line ∷ []) →
-    Ends p d active v (top_of o m arguments last work ∷ []) u [] r → Ends p d h w from u to r
-ends-begun over calls is fit typed some v_is x = ends-after (reaches-begun over calls is fit typed some v_is) (ends-lifted over x)
+pub ends-begun : {p : Loaded} {d o m : ℕ} {h active : List (Option ℕ)} {w u v z : World} {from to : List Activation} {arguments : List Value} {line : Entry} {work : Work} {last : ℕ} {r : Result (Unit {0}) Fault} →
+    active ≡ shows to ++ h → CallsIn p w u from to o m arguments → IsBegun p d active u o m arguments line work last → ArgumentsFit p u.objects o m arguments → AreTyped p u.objects → 0 < w.left → u.left ≡ w.left → v ≡ noted u (line ∷ []) →
+    Ends p d active v (top_of o m arguments last work ∷ []) z [] r → Ends p d h w from z to r
+ends-begun over calls is fit typed some same v_is x = ends-after (reaches-begun over calls is fit typed some same v_is) (ends-lifted over x)
 
 -- activations would nest too deep
-stops-begin : {p : Loaded} {d o m : ℕ} {h active : List (Option ℕ)} {w : World} {from to : List Activation} {arguments : List Value} →
-    active ≡ shows to ++ h → Calls p w from to o m arguments → ArgumentsFit p w.objects o m arguments → AreTyped p w.objects → 0 < w.left → d ≤ length active → StopsIn p d h w from w TooDeep
-stops-begin {o = o} {m = m} {active = active} {w = w} {from = from} {to = to} {arguments = arguments} over calls fit typed some deep =
-    let target : World = begun_world w (length active + 1) fit.object m fit.method arguments in
+stops-begin : {p : Loaded} {d o m : ℕ} {h active : List (Option ℕ)} {w u : World} {from to : List Activation} {arguments : List Value} →
+    active ≡ shows to ++ h → CallsIn p w u from to o m arguments → ArgumentsFit p u.objects o m arguments → AreTyped p u.objects → 0 < w.left → d ≤ length active → StopsIn p d h w from w TooDeep
+stops-begin {o = o} {m = m} {active = active} {w = w} {u = u} {from = from} {to = to} {arguments = arguments} over calls fit typed some deep =
+    let target : World = begun_world u (length active + 1) fit.object m fit.method arguments in
     stops-deep some (λ below e. (
-      at target (top_of o m arguments w.connected fit.method.work ∷ to ++ below),
-      calls.gives below _ (begins-there w arguments (from ++ below) (to ++ below) fit.is (one-more to below over e)),
-      record { arguments = λ higher. top-fits w.connected fit.method.work (to ++ below) fit; values = typed },
+      at target (top_of o m arguments u.connected.last fit.method.work ∷ to ++ below),
+      calls.gives below _ (begins-there u arguments (from ++ below) (to ++ below) fit.is (one-more to below over e)),
+      record { arguments = λ higher. top-fits u.connected.last fit.method.work (to ++ below) fit; values = typed },
       omega (arith, one-more to below over e, deep),
     ))
 
 -- a method that fits doesn't begin
-pub stops-barred : {p : Loaded} {d o m : ℕ} {h active : List (Option ℕ)} {w : World} {from to : List Activation} {arguments : List Value} {f : Fault} →
-    active ≡ shows to ++ h → Calls p w from to o m arguments → ArgumentsFit p w.objects o m arguments → AreTyped p w.objects → 0 < w.left → IsBarred d active f → StopsIn p d h w from w f
+pub stops-barred : {p : Loaded} {d o m : ℕ} {h active : List (Option ℕ)} {w u : World} {from to : List Activation} {arguments : List Value} {f : Fault} →
+    active ≡ shows to ++ h → CallsIn p w u from to o m arguments → ArgumentsFit p u.objects o m arguments → AreTyped p u.objects → 0 < w.left → IsBarred d active f → StopsIn p d h w from w f
 stops-barred over calls fit typed some why = elim why [
   | inl deep ↦ stops-as deep.1 (stops-begin over calls fit typed some deep.0)
   | inr short ↦ stops-as short (stops-memory calls.goes_on some)
@@ -116,10 +116,10 @@ pub stops-ill-typed : {p : Loaded} {d o m : ℕ} {h : List (Option ℕ)} {w : Wo
     Calls p w from to o m arguments → IsMember p w.objects o m x method → (¬ HaveTypes p (class_of w.objects) arguments method.kinds) → 0 < w.left → StopsIn p d h w from w BadType
 stops-ill-typed {p} {o = o} {m = m} {w = w} {from = from} {to = to} {x = x} {method = method} {arguments = arguments} calls is ill some =
     stops-ill some (λ below.
-    let t : State = at (begun_world w (suc (length (to ++ below))) x m method arguments) (top_of o m arguments w.connected method.work ∷ to ++ below) in (
+    let t : State = at (begun_world w (suc (length (to ++ below))) x m method arguments) (top_of o m arguments w.connected.last method.work ∷ to ++ below) in (
       t,
       calls.gives below t (begins-there w arguments (from ++ below) (to ++ below) is refl),
-      λ (well : IsWell p (at w (from ++ below)) t). ill (fit-typed is (fits-top w.connected method.work (to ++ below) (well.arguments (omega (arith, calls.no_lower, length-append from below, length-append to below))))),
+      λ (well : IsWell p (at w (from ++ below)) t). ill (fit-typed is (fits-top w.connected.last method.work (to ++ below) (well.arguments (omega (arith, calls.no_lower, length-append from below, length-append to below))))),
     ))
 
 pub fit-of : {p : Loaded} {objects : List Object} {o m : ℕ} {x : Object} {method : MetaMethod} {arguments : List Value} → IsMember p objects o m x method → HaveTypes p (class_of objects) arguments method.kinds → ArgumentsFit p objects o m arguments
@@ -127,45 +127,13 @@ fit-of {x = x} {method = method} is typed = record { object = x; method = method
 
 -- ---- connections
 
--- what is found is one of the list, and passes
-pub find-some : {X : Type 0} (P : X → Type 0) (test : X → Bool) (xs : List X) (c : X) → AllByRecursion P xs → find test xs ≡ Some c → P c × (test c ≡ true)
-find-some P test [] c all e = absurd (cc e)
-find-some {X} P test (x ∷ xs) c all e =
-    let Goal : Bool → Type 0 = λ b. test x ≡ b → cond b (Some x) (find test xs) ≡ Some c → P c × (test c ≡ true) in
-    (elim (test x) as (λ b. test x ≡ b → cond b (Some x) (find test xs) ≡ Some c → P c × (test c ≡ true)) [
-      | true ↦ λ passes is. let same : x ≡ c = cc is in (subst P same all.0, subst (λ (y : X). test y ≡ true) same passes)
-      | false ↦ λ fails is. find-some P test xs c all.1 is
-    ]) refl e
-
-and-first : (a b : Bool) → (a && b) ≡ true → a ≡ true
-and-first true b e = refl
-and-first false b e = absurd (cc e)
-
-and-second : (a b : Bool) → (a && b) ≡ true → b ≡ true
-and-second true b e = e
-and-second false b e = absurd (cc e)
-
--- the next connection is of the emission's object and signal
-pub next-is : (o g used last : ℕ) (c : Connection) → is_next o g used last c ≡ true → (c.sender ≡ o) × (c.signal ≡ g)
-next-is o g used last c e =
-    let ends = and-first (eqb c.sender o && eqb c.signal g) _ e in
-    (eqb-true c.sender o (and-first (eqb c.sender o) _ ends), eqb-true c.signal g (and-second (eqb c.sender o) _ ends))
-
--- a connection that is used is the next one
-pub used-is : (objects : List Object) (connections : List Connection) (o g used last : ℕ) (c : Connection) → next_used objects connections o g used last ≡ Some c → next_connection connections o g used last ≡ Some c
-used-is objects connections o g used last c found = by_test (silences (slice_get objects o) g) found
-  where
-    by_test : (b : Bool) → cond b None (next_connection connections o g used last) ≡ Some c → next_connection connections o g used last ≡ Some c
-    by_test true e = absurd (cc e)
-    by_test false e = e
-
 pub next-joined : {p : Loaded} {objects : List Object} (now : List Object) (connections : List Connection) (o g used last : ℕ) (c : Connection) → AllByRecursion (Joined p objects) connections → next_used now connections o g used last ≡ Some c → Joined p objects c
-next-joined {p} {objects} now connections o g used last c all found = (find-some (Joined p objects) (is_next o g used last) connections c all (used-is now connections o g used last c found)).0
+next-joined {p} {objects} now connections o g used last c all found = used-among (Joined p objects) now connections o g used last c all found
 
 -- the emission's arguments are those of the connection's signal
-pub next-fits : {p : Loaded} {objects : List Object} {arguments : List Value} (now : List Object) (connections : List Connection) (o g used last : ℕ) (c : Connection) → AllByRecursion (Joined p objects) connections → next_used now connections o g used last ≡ Some c → ArgumentsFit p objects o g arguments → ArgumentsFit p objects c.sender c.signal arguments
-next-fits {p} {objects} {arguments} now connections o g used last c all found fit =
-    let is = next-is o g used last c ((find-some (Joined p objects) (is_next o g used last) connections c all (used-is now connections o g used last c found)).1) in
+pub next-fits : {p : Loaded} {objects : List Object} {arguments : List Value} (now : List Object) (connections : List Connection) (o g used last : ℕ) (c : Connection) → next_used now connections o g used last ≡ Some c → ArgumentsFit p objects o g arguments → ArgumentsFit p objects c.sender c.signal arguments
+next-fits {p} {objects} {arguments} now connections o g used last c found fit =
+    let is = (used-due now connections o g used last c found).0 in
     subst (λ (n : ℕ). ArgumentsFit p objects c.sender n arguments) (sym is.1) (subst (λ (n : ℕ). ArgumentsFit p objects n g arguments) (sym is.0) fit)
 
 -- the method that a connection leads to takes the first arguments of the signal
@@ -180,8 +148,14 @@ delivered-fits {p} {objects} {c} {x} {method} {arguments} {taken} j fit is cut c
     let taken_is : taken ≡ take (length j.method.kinds) arguments = long ∙ ap (λ (k : MetaMethod). take (length k.kinds) arguments) (sym same) in
     subst (λ (l : List Value). ArgumentsFit p objects c.receiver c.method l) (sym taken_is) has
 
+-- ---- a connection is used
+
+-- what is found of a method before the connection is used holds after it
+pub begun-used : {p : Loaded} {d o m : ℕ} {active : List (Option ℕ)} {w : World} {arguments : List Value} {line : Entry} {work : Work} {last : ℕ} (c : Connection) → IsBegun p d active w o m arguments line work last → IsBegun p d active (having_used w c) o m arguments line work last
+begun-used {w = w} c x = record { room = x.room; object = x.object; method = x.method; is = x.is; is_line = x.is_line; is_work = x.is_work; is_last = x.is_last ∙ sym (last-used c w.connected) }
+
 -- a connection that comes next begins its method
-pub delivery-calls : {p : Loaded} {w : World} {c : Connection} {x : Object} {method : MetaMethod} {arguments taken : List Value} {count : ℕ} (o g used last : ℕ) → next_used w.objects w.connections o g used last ≡ Some c → IsMember p w.objects c.receiver c.method x method → taken ≡ take count arguments → count ≡ length method.kinds → Calls p w (Emit o g arguments used last ∷ []) (Emit o g arguments c.number last ∷ []) c.receiver c.method taken
+pub delivery-calls : {p : Loaded} {w : World} {c : Connection} {x : Object} {method : MetaMethod} {arguments taken : List Value} {count : ℕ} (o g used last : ℕ) → next_used w.objects w.connected.connections o g used last ≡ Some c → IsMember p w.objects c.receiver c.method x method → taken ≡ take count arguments → count ≡ length method.kinds → CallsIn p w (having_used w c) (Emit o g arguments used last ∷ []) (Emit o g arguments c.number last ∷ []) c.receiver c.method taken
 delivery-calls {p} {w} {c} {x} {method} {arguments} {taken} {count} o g used last found is cut count_is = record {
   no_lower = omega arith;
   goes_on = λ below. not-idle w _ below;
@@ -194,7 +168,7 @@ delivery-calls {p} {w} {c} {x} {method} {arguments} {taken} {count} o g used las
         receiver = b.object;
         method = b.method;
         is = b.is;
-        gives = b.gives ∙ ap (λ (l : List Value). begun s over c.receiver b.object c.method b.method l b.method.work) taken_is;
+        gives = b.gives ∙ ap (λ (l : List Value). begun (with_used s c) over c.receiver b.object c.method b.method l b.method.work) taken_is;
       } in
       let Next : Option Connection → Type 0 = λ n. EmitRule p s o g arguments last below t n in
       subst Next (sym found) uses;

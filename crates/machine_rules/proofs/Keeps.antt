@@ -7,13 +7,14 @@ use Rattle.meta_model.specs.declared.object.Work.{Work}
 use Rattle.meta_model.specs.declared.object.Work.TheVariants.{Signal, Slot}
 use Rattle.meta_model.specs.declared.object.MetaMethod.{MetaMethod}
 use Rattle.object_tree.specs.declared.object.Object.{Object}
-use Rattle.machine_state.specs.declared.connections.Connection.{Connection}
+use Rattle.connections.specs.declared.connection.Connection.{Connection}
 use Rattle.machine_state.specs.declared.fault.Fault.{Fault}
 use Rattle.machine_state.specs.declared.world.World.{World}
 use Rattle.machine_state.specs.Objects.{shapes_of}
-use Rattle.machine_state.specs.Worlds.{at}
+use Rattle.machine_state.specs.Worlds.{at, using}
+use Rattle.machine_state.proofs.Due.{last-used, all-used}
 use Rattle.machine_state.specs.State.{State, Place, Activation, Body, Emit, Update}
-use Rattle.machine_rules.specs.Rules.{RuleAt, BodyRule, Does, EmitRule, UpdateRule, Begins, Writes, begun}
+use Rattle.machine_rules.specs.Rules.{RuleAt, BodyRule, Does, EmitRule, UpdateRule, Begins, Writes, begun, with_used}
 use Rattle.machine_rules.specs.Doings.{Doing, Write, Begin, Choose, Nothing}
 use Rattle.machine_state.specs.Connections.{next_used}
 use Rattle.meta_model.specs.Values.{Has, HaveTypes, number_has, truth_has, text_has, null_has, object_has}
@@ -88,6 +89,12 @@ pub all-joined-still : (p : Loaded) (old new : List Object) (connections : List 
 all-joined-still p old new [] stay all = tt
 all-joined-still p old new (c ∷ cs) stay all = (joined-still c stay all.0, all-joined-still p old new cs stay all.1)
 
+-- .. and so do those that are left when one is used
+pub sound-used : {p : Loaded} {v : World} (w : World) (entries : List Entry) (c : Connection) → v ≡ using w entries c → Sound p w.objects w.connected.connections → Sound p v.objects v.connected.connections
+sound-used {p} w entries c v_is sound =
+    let Family : World → Type 0 = λ u. Sound p u.objects u.connected.connections in
+    subst Family (sym v_is) (record { typed = sound.typed; joined = all-used (Joined p w.objects) c w.connected sound.joined })
+
 -- ---- what was written down
 
 pub grows-by : {old : List Entry} (more : List Entry) → Grows old (old ++ more)
@@ -125,6 +132,18 @@ keeps-is {p} {s} {n = n} {k = k} e x = let Family : State → Type 0 = λ u. Kee
 keeps-all : {p : Loaded} {s : State} (stack : List Activation) {trace : List Entry} → Grows s.trace trace → Keeps p s 1 (record s { stack = stack; trace = trace }) 0
 keeps-all stack grows = record { objects = λ o class is. is; joined = λ all. all; connected = omega arith; paid = omega arith; events = refl; fewer = omega arith; grows = grows }
 
+-- a connection is used
+used-kept : {p : Loaded} {s : State} {n : ℕ} (c : Connection) → Keeps p s n (with_used s c) n
+used-kept {p = p} {s = s} c = record {
+  objects = λ o class is. is;
+  joined = all-used (Joined p s.objects) c s.connected;
+  connected = omega (arith, last-used c s.connected);
+  paid = omega (arith, last-used c s.connected);
+  events = refl;
+  fewer = omega arith;
+  grows = grows-same s.trace;
+}
+
 begun-kept : (p : Loaded) (s : State) (below : List Activation) (o : ℕ) (x : Object) (m : ℕ) (method : MetaMethod) (arguments : List Value) (work : Work) (t : State) → t ≡ begun s below o x m method arguments work → Keeps p s 1 t 0
 begun-kept p s below o x m method arguments Signal t e = keeps-is e (keeps-all _ (grows-by _))
 begun-kept p s below o x m method arguments (Slot statements) t e = keeps-is e (keeps-all _ (grows-by _))
@@ -137,7 +156,7 @@ writes-kept {p = p} {s = s} {o = o} {q = q} {new = new} x =
     let stay : StayThere s.objects (slice_set s.objects o (written q new x.object)) = same-stay s.objects _ (shapes-written s.objects o x.object q new x.is.is_object) in
     keeps-is x.gives (record {
       objects = stay;
-      joined = λ all. all-joined-still p s.objects _ s.connections stay all;
+      joined = λ all. all-joined-still p s.objects _ s.connected.connections stay all;
       connected = omega arith;
       paid = omega arith;
       events = refl;
@@ -157,7 +176,7 @@ body-kept p s o m arguments below t (x ∷ rest) r = does-kept p s o m arguments
 
 emit-kept : (p : Loaded) (s : State) (o g : ℕ) (arguments : List Value) (last : ℕ) (below : List Activation) (t : State) (found : Option Connection) → EmitRule p s o g arguments last below t found → Keeps p s 1 t 0
 emit-kept p s o g arguments last below t None r = keeps-is r (keeps-all _ (grows-same s.trace))
-emit-kept p s o g arguments last below t (Some c) r = begun-kept p s _ c.receiver r.receiver c.method r.method _ r.method.work t r.gives
+emit-kept p s o g arguments last below t (Some c) r = keeps-then (used-kept c) (begun-kept p (with_used s c) _ c.receiver r.receiver c.method r.method _ r.method.work t r.gives)
 
 update-kept : (p : Loaded) (s : State) (below : List Activation) (t : State) (places : List Place) → UpdateRule p s below t places → Keeps p s 1 t 0
 update-kept p s below t [] r = keeps-is r (keeps-all _ (grows-same s.trace))
@@ -166,7 +185,7 @@ update-kept p s below t (place ∷ places) r = begun-kept p s _ place.object r.o
 pub rule-kept : (p : Loaded) (s t : State) (stack : List Activation) → RuleAt p s t stack → Keeps p s 1 t 0
 rule-kept p s t [] r = absurd r
 rule-kept p s t (Body o m arguments left ∷ below) r = body-kept p s o m arguments below t left r
-rule-kept p s t (Emit o g arguments used last ∷ below) r = emit-kept p s o g arguments last below t (next_used s.objects s.connections o g used last) r
+rule-kept p s t (Emit o g arguments used last ∷ below) r = emit-kept p s o g arguments last below t (next_used s.objects s.connected.connections o g used last) r
 rule-kept p s t (Update places ∷ below) r = update-kept p s below t places r
 
 -- a rule, whatever is left after it
@@ -222,14 +241,14 @@ ends-typed {h = h} (Err f) x typed = let q = some-stack h in rules-typed ((x.cas
 
 -- ---- the world stays sound
 
-keeps-sound : {p : Loaded} {w v : World} → KeepsWorld p w v → AreTyped p v.objects → Sound p w.objects w.connections → Sound p v.objects v.connections
+keeps-sound : {p : Loaded} {w v : World} → KeepsWorld p w v → AreTyped p v.objects → Sound p w.objects w.connected.connections → Sound p v.objects v.connected.connections
 keeps-sound keeps typed sound = record { typed = typed; joined = keeps.joined sound.joined }
 
 -- whatever a call does, the machine stays sound
-pub ends-sound : {p : Loaded} {d : ℕ} {h : List (Option ℕ)} {w v : World} {a b : List Activation} (r : Result (Unit {0}) Fault) → Ends p d h w a v b r → Sound p w.objects w.connections → Sound p v.objects v.connections
+pub ends-sound : {p : Loaded} {d : ℕ} {h : List (Option ℕ)} {w v : World} {a b : List Activation} (r : Result (Unit {0}) Fault) → Ends p d h w a v b r → Sound p w.objects w.connected.connections → Sound p v.objects v.connected.connections
 ends-sound r x sound = keeps-sound (ends-keeps r x) (ends-typed r x sound.typed) sound
 
-pub reaches-sound : {p : Loaded} {d : ℕ} {h : List (Option ℕ)} {w v : World} {a b : List Activation} → Reaches p d h w a v b → Sound p w.objects w.connections → Sound p v.objects v.connections
+pub reaches-sound : {p : Loaded} {d : ℕ} {h : List (Option ℕ)} {w v : World} {a b : List Activation} → Reaches p d h w a v b → Sound p w.objects w.connected.connections → Sound p v.objects v.connected.connections
 reaches-sound x sound = keeps-sound (reaches-keeps x) (reaches-typed x sound.typed) sound
 
 -- arguments fit as long as the objects stay there

@@ -9,14 +9,14 @@ use Rattle.meta_model.specs.Loaded.{Loaded}
 use Rattle.meta_model.specs.Members.{IsMethod}
 use Rattle.object_tree.specs.declared.object.Object.{Object}
 use Rattle.object_tree.specs.Objects.{written}
-use Rattle.machine_state.specs.declared.connections.Connection.{Connection}
+use Rattle.connections.specs.declared.connection.Connection.{Connection}
 use Rattle.machine_state.specs.declared.entry.Entry.TheVariants.{At}
 use Rattle.machine_state.specs.declared.entry.Happening.TheVariants.{Written}
 use Rattle.machine_state.specs.Connections.{next_used}
 use Rattle.machine_state.specs.Objects.{shown}
 use Rattle.machine_state.specs.State.{State, Place, Activation, Body, Emit, Update}
 use Rattle.machine_rules.specs.Doings.{Doing, Write, Begin, Choose, Nothing}
-use Rattle.machine_rules.specs.Rules.{Rule, RuleAt, BodyRule, Does, EmitRule, Uses, UpdateRule, Notifies, Begins, Writes, Changes, places_of, changed, unchanged, silent, begun, pushed}
+use Rattle.machine_rules.specs.Rules.{Rule, RuleAt, BodyRule, Does, EmitRule, Uses, UpdateRule, Notifies, Begins, Writes, Changes, places_of, changed, unchanged, silent, begun, pushed, with_used}
 use Rattle.machine_rules.proofs.Fields.{some-is, method-unique, member-object, member-method, field-property}
 
 -- two methods of one number of one object's class
@@ -78,7 +78,7 @@ uses-one : {p : Loaded} {s t u : State} {below : List Activation} {c : Connectio
 uses-one {s = s} {below = below} {c = c} {arguments = arguments} a b =
     let receiver_is : a.receiver ≡ b.receiver = member-object a.is b.is in
     let method_is : a.method ≡ b.method = member-method a.is b.is in
-    let state_of : Object → MetaMethod → State = λ x k. begun s below c.receiver x c.method k (take (length k.kinds) arguments) k.work in
+    let state_of : Object → MetaMethod → State = λ x k. begun (with_used s c) below c.receiver x c.method k (take (length k.kinds) arguments) k.work in
     a.gives ∙ ap (λ (x : Object). state_of x a.method) receiver_is ∙ ap (λ (k : MetaMethod). state_of b.receiver k) method_is ∙ sym b.gives
 
 emit-one : (p : Loaded) (s : State) (o g : ℕ) (arguments : List Value) (last : ℕ) (below : List Activation) (t u : State) (found : Option Connection) → EmitRule p s o g arguments last below t found → EmitRule p s o g arguments last below u found → t ≡ u
@@ -108,7 +108,7 @@ update-one p s below t u (place ∷ places) a b = notifies-one a b
 stack-one : (p : Loaded) (s t u : State) (stack : List Activation) → RuleAt p s t stack → RuleAt p s u stack → t ≡ u
 stack-one p s t u [] a b = absurd a
 stack-one p s t u (Body o m arguments left ∷ below) a b = body-one p s o m arguments below t u left a b
-stack-one p s t u (Emit o g arguments used last ∷ below) a b = emit-one p s o g arguments last below t u (next_used s.objects s.connections o g used last) a b
+stack-one p s t u (Emit o g arguments used last ∷ below) a b = emit-one p s o g arguments last below t u (next_used s.objects s.connected.connections o g used last) a b
 stack-one p s t u (Update places ∷ below) a b = update-one p s below t u places a b
 
 pub rule-one : (p : Loaded) (s t u : State) → Rule p s t → Rule p s u → t ≡ u

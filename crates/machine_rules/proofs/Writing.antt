@@ -181,11 +181,11 @@ announcement-calls {p} {w} {o} {q} {signal} {count} {x} {method} {present} {take
 }
 
 -- the machine stays sound
-pub sound-written : {p : Loaded} {v : World} {o q : ℕ} {x : Object} {property : MetaProperty} {new : Value} (w : World) (entries : List Entry) → v ≡ set_there w entries o x q new → IsField p w.objects o q x property → Has p (class_of w.objects) new property.kind → Sound p w.objects w.connections → Sound p v.objects v.connections
+pub sound-written : {p : Loaded} {v : World} {o q : ℕ} {x : Object} {property : MetaProperty} {new : Value} (w : World) (entries : List Entry) → v ≡ set_there w entries o x q new → IsField p w.objects o q x property → Has p (class_of w.objects) new property.kind → Sound p w.objects w.connected.connections → Sound p v.objects v.connected.connections
 sound-written {p} {v} {o} {q} {x} {property} {new} w entries is f has sound =
     let target : World = set_there w entries o x q new in
-    let kept : Sound p target.objects target.connections = record { typed = typed-written f sound.typed has; joined = all-joined-still p w.objects _ w.connections (same-stay w.objects _ (shapes-written w.objects o x q new f.is_object)) sound.joined } in
-    let Family : World → Type 0 = λ u. Sound p u.objects u.connections in
+    let kept : Sound p target.objects target.connected.connections = record { typed = typed-written f sound.typed has; joined = all-joined-still p w.objects _ w.connected.connections (same-stay w.objects _ (shapes-written w.objects o x q new f.is_object)) sound.joined } in
+    let Family : World → Type 0 = λ u. Sound p u.objects u.connected.connections in
     subst Family (sym is) kept
 
 pub announces-in : {p : Loaded} {v : World} {o q : ℕ} {x : Object} {property : MetaProperty} {old new : Value} (w : World) (entries : List Entry) (result : Option ℕ) → v ≡ set_there w entries o x q new → (f : IsField p w.objects o q x property) → ((class : MetaObject) → IsClass p x.class class → IsSoundProperty p class property) → Changes old new property.notify result → MayAnnounce p v.objects o q result

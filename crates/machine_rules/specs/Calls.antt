@@ -4,7 +4,7 @@ use Rattle.std.specs.Prelude.{◌≡◌, ℕ, List, [], ◌∷◌, ◌++◌, Opt
 use Rattle.signatures.specs.declared.value.Value.{Value}
 use Rattle.meta_model.specs.declared.object.Statement.{Statement}
 use Rattle.meta_model.specs.declared.object.Statement.TheViews.{out-Statement}
-use Rattle.machine_state.specs.declared.connections.Connection.{Connection}
+use Rattle.connections.specs.declared.connection.Connection.{Connection}
 use Rattle.machine_state.specs.declared.fault.Fault.{Fault}
 use Rattle.machine_state.specs.declared.world.World.{World}
 use Rattle.machine_state.specs.Connections.{next_used}
@@ -25,7 +25,7 @@ Finishes setting active a w v result = Ends setting.meta setting.depth active w 
 -- a connection is used, in every emission of which it is the next
 abbrev pub Delivers : Setting → List (Option ℕ) → Connection → List Value → World → World → Result (Unit {0}) Fault → Type 0
 Delivers setting active c arguments w v result =
-    (o g used last : ℕ) → next_used w.objects w.connections o g used last ≡ Some c →
+    (o g used last : ℕ) → next_used w.objects w.connected.connections o g used last ≡ Some c →
     Leads setting active (Emit o g arguments used last) (Emit o g arguments c.number last) w v result
 
 -- this is done by the next statement, in every body of the object in which it does that and `rest` follows; `left` is

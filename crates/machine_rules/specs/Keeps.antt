@@ -4,7 +4,7 @@ use Rattle.std.specs.List.{AllByRecursion}
 use Rattle.meta_model.specs.Loaded.{Loaded}
 use Rattle.object_tree.specs.declared.object.Object.{Object}
 use Rattle.object_tree.specs.Objects.{class_of}
-use Rattle.machine_state.specs.declared.connections.Connection.{Connection}
+use Rattle.connections.specs.declared.connection.Connection.{Connection}
 use Rattle.machine_state.specs.declared.entry.Entry.{Entry}
 use Rattle.machine_state.specs.declared.world.World.{World}
 use Rattle.machine_state.specs.State.{State}
@@ -28,9 +28,9 @@ pub record Grows (old new : List Entry) : Type 0 where
 -- count falls, a number of a connection is paid with a rule, no event is taken, and nothing that was written down goes.
 pub record Keeps (p : Loaded) (s : State) (left : ℕ) (t : State) (after : ℕ) : Type 0 where
   pub objects : StayThere s.objects t.objects
-  pub joined : AllJoined p s.objects s.connections → AllJoined p t.objects t.connections
-  pub connected : s.connected ≤ t.connected
-  pub paid : t.connected + after ≤ s.connected + left
+  pub joined : AllJoined p s.objects s.connected.connections → AllJoined p t.objects t.connected.connections
+  pub connected : s.connected.last ≤ t.connected.last
+  pub paid : t.connected.last + after ≤ s.connected.last + left
   pub events : t.events ≡ s.events
   pub fewer : after ≤ left
   pub grows : Grows s.trace t.trace

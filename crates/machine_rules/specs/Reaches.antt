@@ -75,13 +75,17 @@ MayNest depth shown (Err fault) = (depth ≤ length shown) × (fault ≡ TooDeep
 
 -- ---- what begins and what is written, from any top of the stack, over what is left of it
 
--- a method of an object may begin by the next rule
-pub record Calls (p : Loaded) (w : World) (from to : List Activation) (o m : ℕ) (arguments : List Value) : Type 0 where
+-- by the next rule of a world a method of an object may begin, in what the rule makes of the world before that
+pub record CallsIn (p : Loaded) (w u : World) (from to : List Activation) (o m : ℕ) (arguments : List Value) : Type 0 where
   pub no_lower : length from ≤ length to
   pub goes_on : (below : List Activation) → ¬ IsIdle (at w (from ++ below))
   pub gives :
       (below : List Activation) (t : State) →
-      Begins p (at w (from ++ below)) (to ++ below) o m arguments t → Rule p (at w (from ++ below)) t
+      Begins p (at u (from ++ below)) (to ++ below) o m arguments t → Rule p (at w (from ++ below)) t
+
+-- .. in the world as it is
+abbrev pub Calls : Loaded → World → List Activation → List Activation → ℕ → ℕ → List Value → Type 0
+Calls p w from to o m arguments = CallsIn p w w from to o m arguments
 
 -- .. and nothing else may
 pub record OnlyCalls (p : Loaded) (w : World) (from to : List Activation) (o m : ℕ) (arguments : List Value) : Type 0 where
@@ -127,7 +131,7 @@ pub record IsBegun (p : Loaded) (depth : ℕ) (active : List (Option ℕ)) (w : 
   pub is : IsMember p w.objects o m object method
   pub is_line : line ≡ entry_of_call w (length active + 1) object m method arguments
   pub is_work : work ≡ method.work
-  pub is_last : last ≡ w.connected
+  pub is_last : last ≡ w.connected.last
 
 -- why a method that fits doesn't begin: activations would nest too deep, or memory was refused
 abbrev pub IsBarred : ℕ → List (Option ℕ) → Fault → Type 0

@@ -12,11 +12,11 @@ use Rattle.meta_model.specs.Loaded.{Loaded}
 use Rattle.meta_model.specs.Members.{IsMethod}
 use Rattle.object_tree.specs.declared.object.Object.{Object}
 use Rattle.object_tree.specs.Objects.{written}
-use Rattle.machine_state.specs.declared.connections.Connection.{Connection}
+use Rattle.connections.specs.declared.connection.Connection.{Connection}
 use Rattle.machine_state.specs.declared.entry.Entry.{Entry}
 use Rattle.machine_state.specs.declared.entry.Entry.TheVariants.{At}
 use Rattle.machine_state.specs.declared.entry.Happening.TheVariants as happening
-use Rattle.machine_state.specs.Connections.{is_silent, next_used}
+use Rattle.machine_state.specs.Connections.{is_silent, next_used, after_use}
 use Rattle.machine_state.specs.Objects.{shown, all_shown}
 use Rattle.machine_rules.specs.There.{IsMember, IsField}
 use Rattle.machine_rules.specs.Doings.{Doing, Write, Begin, Choose, Nothing, doing}
@@ -29,7 +29,7 @@ pushed s top below notes = record s { stack = top ∷ below; trace = s.trace ++ 
 -- a method of an object begins: a signal is emitted, and its entry tells whether it calls nothing; a slot's body is called
 abbrev pub begun : State → List Activation → ℕ → Object → ℕ → MetaMethod → List Value → Work → State
 begun s below o x m method arguments Signal =
-    pushed s (Emit o m arguments 0 s.connected) below
+    pushed s (Emit o m arguments 0 s.connected.last) below
     (λ d. At d (happening.Emitted x.name method.sig.name (all_shown s.objects arguments) (is_silent x m)) ∷ [])
 begun s below o x m method arguments (Slot statements) =
     pushed s (Body o m arguments statements) below
@@ -112,12 +112,16 @@ BodyRule p s o m arguments below t (statement ∷ rest) = StatementRule p s o m 
 
 -- ---- emissions
 
--- a connection is used: its method begins at the receiver, with as many arguments as it declares
+-- a connection is used: a single-shot one is removed
+abbrev pub with_used : State → Connection → State
+with_used s c = record s { connected = after_use c s.connected }
+
+-- .. and its method begins at the receiver, with as many arguments as it declares
 pub record Uses (p : Loaded) (s : State) (below : List Activation) (c : Connection) (arguments : List Value) (t : State) : Type 0 where
   pub receiver : Object
   pub method : MetaMethod
   pub is : IsMember p s.objects c.receiver c.method receiver method
-  pub gives : t ≡ begun s below c.receiver receiver c.method method (take (length method.kinds) arguments) method.work
+  pub gives : t ≡ begun (with_used s c) below c.receiver receiver c.method method (take (length method.kinds) arguments) method.work
 
 -- the next connection is used; with none left, and where the object is blocked, the emission ends
 abbrev pub EmitRule : Loaded → State → ℕ → ℕ → List Value → ℕ → List Activation → State → Option Connection → Type 0
@@ -130,7 +134,7 @@ abbrev pub RuleAt : Loaded → State → State → List Activation → Type 0
 RuleAt p s t [] = ⊥
 RuleAt p s t (Body o m arguments left ∷ below) = BodyRule p s o m arguments below t left
 RuleAt p s t (Emit o g arguments used last ∷ below) =
-    EmitRule p s o g arguments last below t (next_used s.objects s.connections o g used last)
+    EmitRule p s o g arguments last below t (next_used s.objects s.connected.connections o g used last)
 RuleAt p s t (Update places ∷ below) = UpdateRule p s below t places
 
 -- t follows s by the rule of the activation on top

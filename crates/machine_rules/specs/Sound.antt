@@ -9,7 +9,7 @@ use Rattle.meta_model.specs.declared.object.ValueType.{ValueType}
 use Rattle.meta_model.specs.Loaded.{Loaded}
 use Rattle.meta_model.specs.Members.{IsClass}
 use Rattle.meta_model.specs.Sound.{IsSoundProperty}
-use Rattle.machine_state.specs.declared.connections.Connection.{Connection}
+use Rattle.connections.specs.declared.connection.Connection.{Connection}
 use Rattle.machine_state.specs.declared.world.World.{World}
 use Rattle.object_tree.specs.declared.object.Object.{Object}
 use Rattle.signatures.specs.declared.value.Value.{Value}
@@ -33,7 +33,7 @@ pub record Sound (p : Loaded) (objects : List Object) (connections : List Connec
 
 -- .. in a world
 abbrev pub IsSoundWorld : Loaded → World → Type 0
-IsSoundWorld p w = Sound p w.objects w.connections
+IsSoundWorld p w = Sound p w.objects w.connected.connections
 
 -- the arguments are those that a connection's signal declares
 abbrev pub SignalFits : Loaded → List Object → Connection → List Value → Type 0

@@ -10,7 +10,8 @@ ghost use Rattle.machine_rules.specs.Keeps.{KeepsWorld};
 
 use crate::active::Active;
 use crate::setting::{Setting, front};
-use machine_state::{Connection, Fault, World};
+use connections::Connection;
+use machine_state::{Fault, World};
 use meta_objects::Work;
 use signatures::{ObjectId, Value};
 
@@ -43,7 +44,7 @@ impl Setting {
         world.tick()
     }
 
-    /// Begins the method that a connection leads to, with as many arguments as it declares.
+    /// Uses a connection: begins the method that it leads to, with as many arguments as it declares.
     #[cycle(machine)]
     fn deliver(
         &self,
@@ -65,7 +66,17 @@ impl Setting {
         };
         let taken = front(arguments, method.kinds.len());
         let over = (&*active).over(None);
-        self.begin(world, &over, connection.receiver, connection.method, taken)
+        let begun = self.begun(world, &over, connection.receiver, connection.method, taken)?;
+        world.use_connection([begun.line], &connection)?;
+        self.run_begun(
+            world,
+            &over,
+            connection.receiver,
+            connection.method,
+            taken,
+            begun.work,
+            begun.last,
+        )
     }
 
     /// Begins a method whose arguments an expression gave, over what is left of the top of the stack; `BadType` where the

@@ -136,7 +136,7 @@ impl Setting {
         Ok(Begun {
             line,
             work: &declared.work,
-            last: world.connected,
+            last: world.connected.last(),
         })
     }
 

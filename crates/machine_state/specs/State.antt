@@ -3,7 +3,7 @@ use Rattle.std.specs.Prelude.{◌≡◌, ℕ, List, []}
 use Rattle.signatures.specs.declared.value.Value.{Value}
 use Rattle.meta_model.specs.declared.object.Statement.{Statement}
 use Rattle.object_tree.specs.declared.object.Object.{Object}
-use Rattle.machine_state.specs.declared.connections.Connection.{Connection}
+use Rattle.connections.specs.Connected.{Connected, unconnected}
 use Rattle.machine_state.specs.declared.entry.Entry.{Entry}
 
 -- a property of an object, both by number
@@ -23,14 +23,13 @@ pub data Activation : Type 0 where
 pub record State : Type 0 where
   -- in the order of creation
   pub objects : List Object
-  -- in the order in which they were made
-  pub connections : List Connection
+  -- the connections in the order in which they were made, and how many were ever numbered
+  pub connected : Connected
   -- the latest first
   pub stack : List Activation
   pub trace : List Entry
-  -- how many events were taken, and how many connections were ever numbered
+  -- how many events were taken
   pub events : ℕ
-  pub connected : ℕ
 
 -- nothing is going on: only then an event is taken
 pub record IsIdle (s : State) : Type 0 where
@@ -38,4 +37,4 @@ pub record IsIdle (s : State) : Type 0 where
 
 -- nothing has happened
 abbrev pub start : State
-start = record { objects = []; connections = []; stack = []; trace = []; events = 0; connected = 0 }
+start = record { objects = []; connected = unconnected; stack = []; trace = []; events = 0 }

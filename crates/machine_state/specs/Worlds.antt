@@ -1,6 +1,8 @@
 -- What the world's functions do, and what a world says of the machine's state (docs/machine.md, "The state").
-use Rattle.std.specs.Prelude.{◌≡◌, ℕ, Bool, ◌+◌, ◌-◌, ◌<◌, List, [], ◌∷◌, ◌++◌, Result, Ok, Err}
+use Rattle.std.specs.Prelude.{◌≡◌, ℕ, Bool, false, ◌+◌, ◌-◌, ◌<◌, List, [], ◌∷◌, ◌++◌, Result, Ok, Err}
 use Rattle.signatures.specs.declared.value.Value.{Value}
+use Rattle.connections.specs.declared.connection.Connection.{Connection}
+use Rattle.connections.specs.Connected.{unconnected, connected_by}
 use Rattle.object_tree.specs.declared.object.Object.{Object}
 use Rattle.object_tree.specs.Objects.{change, blocked, written}
 use Rattle.machine_state.specs.declared.entry.Entry.{Entry}
@@ -11,13 +13,14 @@ use Rattle.machine_state.specs.declared.fault.Fault.TheVariants.{Steps, Memory}
 use Rattle.machine_state.specs.declared.refusal.Refusal.{Refusal}
 use Rattle.machine_state.specs.declared.world.World.{World}
 use Rattle.machine_state.specs.Refusals.{refusal_number}
+use Rattle.machine_state.specs.Connections.{after_use}
 use Rattle.machine_state.specs.Accepting.{accepted, refused, with_entries}
-use Rattle.machine_state.specs.declared.connections.Endpoints.{Endpoints}
+use Rattle.machine_state.specs.declared.endpoints.Endpoints.{Endpoints}
 use Rattle.machine_state.specs.State.{State, Activation}
 
 -- a world's state with a stack
 abbrev pub at : World → List Activation → State
-at w stack = record { objects = w.objects; connections = w.connections; stack = stack; trace = w.trace; events = w.events; connected = w.connected }
+at w stack = record { objects = w.objects; connected = w.connected; stack = stack; trace = w.trace; events = w.events }
 
 -- the world was changed so, or memory was refused and nothing changed
 abbrev pub Becomes : World → World → World → Result (Unit {0}) Fault → Type 0
@@ -26,7 +29,7 @@ Becomes w target v (Err fault) = (fault ≡ Memory) × (v ≡ w)
 
 -- nothing has happened, and so many rules may be used
 abbrev pub untouched : ℕ → World
-untouched steps = record { objects = []; connections = []; trace = []; events = 0; connected = 0; left = steps }
+untouched steps = record { objects = []; connected = unconnected; trace = []; events = 0; left = steps }
 
 -- ---- rules
 
@@ -40,6 +43,13 @@ noted w entries = record w { left = w.left - 1; trace = w.trace ++ entries }
 -- .. that also writes a property of an object, if there is one
 abbrev pub set_in : World → List Entry → ℕ → ℕ → Value → World
 set_in w entries o q new = record (noted w entries) { objects = change o (written q new) w.objects }
+
+-- .. that also uses a connection
+abbrev pub having_used : World → Connection → World
+having_used w c = record w { connected = after_use c w.connected }
+
+abbrev pub using : World → List Entry → Connection → World
+using w entries c = noted (having_used w c) entries
 
 -- a rule that writes nothing down was carried out, or none was left
 abbrev pub Ticks : World → World → Result (Unit {0}) Fault → Type 0
@@ -55,7 +65,7 @@ IsLeft w (Err fault) = (w.left ≡ 0) × (fault ≡ Steps)
 
 -- a world after one rule that leads to this state
 abbrev pub after : World → State → World
-after w s = record { objects = s.objects; connections = s.connections; trace = s.trace; events = s.events; connected = s.connected; left = w.left - 1 }
+after w s = record { objects = s.objects; connected = s.connected; trace = s.trace; events = s.events; left = w.left - 1 }
 
 -- an event is counted, which is one rule
 abbrev pub counted : World → World
@@ -83,15 +93,12 @@ Refuses w r v (Ok a) = (a ≡ answer.Refused (refusal_number r)) × (v ≡ after
 Refuses w r v (Err fault) = (fault ≡ Memory) × (v ≡ w)
 
 -- a state with a connection more, which has the next number
-abbrev pub connected_by : State → Endpoints → State
-connected_by s ends = record s {
-  connections = s.connections ++ record { number = s.connected + 1; sender = ends.sender; signal = ends.signal; receiver = ends.receiver; method = ends.method; kind = ends.kind } ∷ [];
-  connected = s.connected + 1;
-}
+abbrev pub with_connection : State → Endpoints → State
+with_connection s ends = record s { connected = connected_by s.connected ends.sender ends.signal ends.receiver ends.method ends.kind false }
 
 -- .. a connection is made
 abbrev pub accepting_connection : World → Endpoints → World
-accepting_connection w ends = after w (connected_by (accepted (at w [])) ends)
+accepting_connection w ends = after w (with_connection (accepted (at w [])) ends)
 
 -- the loop `main` is the first
 abbrev pub main : ℕ

@@ -1,12 +1,12 @@
 //! What the world becomes where an event is refused or accepted.
 
-ghost use Rattle.std.specs.Prelude.{◌≡◌, ◌<◌, ◌^◌, OnOk, OnErr, IsErrAnd};
+ghost use Rattle.std.specs.Prelude.{◌≡◌, ◌<◌, ◌^◌, ◌-◌, OnOk, OnErr, IsErrAnd};
 ghost use Rattle.object_tree.specs.Adopting.{AdoptsLiving, MayBeGone};
 ghost use Rattle.object_tree.specs.Creating.{Creates};
 ghost use Rattle.object_tree.specs.Objects.{IsGone};
 ghost use Rattle.machine_state.specs.Worlds.{main, counted, accepting_objects, accepting_block, accepting_entries, accepting_write, accepting_connection, Becomes, Refuses};
 
-use crate::connections::{Connection, Endpoints};
+use crate::endpoints::Endpoints;
 use crate::entry::Entry;
 use crate::fault::{Answer, Fault};
 use crate::refusal::Refusal;
@@ -153,24 +153,27 @@ impl World {
     pub fn accept_connection(&mut self, ends: Endpoints) -> Result<(), Fault>
         requires left { 0 < self.old.left }
         requires few { self.old.events < 2 ^ 63 }
-        requires few_connected { self.old.connected < 2 ^ 63 }
+        requires few_connected { self.old.connected.last < 2 ^ 63 - 1 }
         ensures { Becomes self.old (accepting_connection self.old ends) self.new result }
     {
-        let number = self.connected + 1;
-        self.connections.push(Connection {
-            number,
-            sender: ends.sender,
-            signal: ends.signal,
-            receiver: ends.receiver,
-            method: ends.method,
-            kind: ends.kind,
-        })?;
-        if self.trace.accept(self.events + 1, []).is_err() {
-            self.connections.pop();
-            return Err(Fault::Memory);
+        self.trace.accept(self.events + 1, [])?;
+        match self.connected.connect(
+            ends.sender,
+            ends.signal,
+            ends.receiver,
+            ends.method,
+            ends.kind,
+            false,
+            false,
+        ) {
+            Ok(()) => {
+                self.count_event();
+                Ok(())
+            }
+            Err(_) => {
+                self.trace.pop();
+                Err(Fault::Memory)
+            }
         }
-        self.connected = number;
-        self.count_event();
-        Ok(())
     }
 }

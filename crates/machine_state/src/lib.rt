@@ -2,7 +2,7 @@
 #![tactic(auto)]
 
 mod accepting;
-mod connections;
+mod endpoints;
 mod entry;
 mod fault;
 mod natives;
@@ -10,7 +10,7 @@ mod refusal;
 mod showing;
 mod world;
 
-pub use connections::{Connection, Connections, Endpoints};
+pub use endpoints::Endpoints;
 pub use entry::{Entry, Happening, Shown, Trace};
 pub use fault::{Answer, Fault};
 pub use natives::Natives;

@@ -3,11 +3,11 @@
 ghost use Rattle.std.specs.Prelude.{◌≡◌, ◌<◌, ◌≤◌, ◌^◌, length, slice_get, IfSome, IsTrue, MatchOption};
 ghost use Rattle.object_tree.specs.Objects.{IsFree, IsNamed};
 ghost use Rattle.machine_state.specs.Connections.{next_used, silences, is_silent};
-ghost use Rattle.machine_state.specs.Worlds.{untouched, Ticks, IsLeft, Becomes, noted, set_in};
+ghost use Rattle.machine_state.specs.Worlds.{untouched, Ticks, IsLeft, Becomes, noted, using, set_in};
 
-use crate::connections::{Connection, Connections};
 use crate::entry::{Entry, Trace};
 use crate::fault::Fault;
+use connections::{Connection, Connections};
 use meta_model::DESTROYED;
 use object_tree::{Object, Tree};
 use signatures::{Name, ObjectId, Value};
@@ -18,14 +18,12 @@ use std::alloc::Global;
 pub struct World {
     /// The objects, and who is whose parent.
     pub objects: Tree,
-    /// The connections in the order in which they were made.
-    pub connections: Connections,
+    /// The connections in the order in which they were made, and how many were ever numbered.
+    pub connected: Connections,
     /// What was written down so far.
     pub trace: Trace,
     /// How many events were taken.
     pub events: u64,
-    /// How many connections were ever numbered.
-    pub connected: u64,
     /// How many rules may still be used.
     pub left: u64,
 }
@@ -37,10 +35,9 @@ impl World {
     {
         World {
             objects: Tree::new(alloc),
-            connections: Connections::new(alloc),
+            connected: Connections::new(alloc),
             trace: Trace::new(alloc),
             events: 0,
-            connected: 0,
             left: steps,
         }
     }
@@ -53,8 +50,9 @@ impl World {
         self.objects.find(name)
     }
 
-    /// The connection that an emission uses next: the first of this sender and signal that is numbered above `used`, and
-    /// not above `last`; none where the sender is blocked, unless the signal is `destroyed`.
+    /// The connection that an emission uses next: the first of this sender and signal that was made later than the one
+    /// of the number `used`, and not later than that of `last`; none where the sender is blocked, unless the signal is
+    /// `destroyed`.
     pub fn next_used(
         &self,
         sender: ObjectId,
@@ -62,14 +60,14 @@ impl World {
         used: u64,
         last: u64,
     ) -> Option<Connection>
-        ensures value { let connections = self.now.connections in
+        ensures value { let connections = self.now.connected.connections in
             result ≡ next_used self.now.objects connections sender signal used last }
         ensures within { IfSome result (λ c. (used < c.number) × (c.number ≤ last)) }
     {
         if self.is_silent(sender, signal) {
             None
         } else {
-            self.connections.next(sender, signal, used, last)
+            self.connected.next_due(sender, signal, used, last)
         }
     }
 
@@ -113,6 +111,24 @@ impl World {
     {
         self.trace.append(entries)?;
         self.left -= 1;
+        Ok(())
+    }
+
+    /// A rule that uses a connection, so that a single-shot one is removed, and writes these entries down; without memory
+    /// nothing changes.
+    pub fn use_connection<const N: usize>(
+        &mut self,
+        entries: [Entry; N],
+        connection: &Connection,
+    ) -> Result<(), Fault>
+        requires left { 0 < self.old.left }
+        requires few { N < 2 ^ 32 }
+        ensures { Becomes self.old (using self.old entries.entry connection.now) self.new result }
+    {
+        self.note(entries)?;
+        if connection.single {
+            self.connected.cut(connection.number);
+        }
         Ok(())
     }
 

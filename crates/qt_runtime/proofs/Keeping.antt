@@ -29,7 +29,7 @@ use Rattle.qt_runtime.proofs.Preservation.{Invariant, runs-invariant}
 -- an event is counted, makes at most one connection, and leaves what was written down
 record Counts (s t : State) : Type 0 where
   pub events : t.events ≡ s.events + 1
-  pub connected : t.connected ≤ s.connected + 1
+  pub connected : t.connected.last ≤ s.connected.last + 1
   pub grows : Grows s.trace t.trace
 
 -- it begins with this, after its line
@@ -46,7 +46,7 @@ counts-judged : (p : Loaded) {s t : State} (e : Event) → judged p s e (Ok t) �
 counts-judged p (New name class) (goes_on _ free (goes_on _ is (goes_on _ room gives))) = record { events = refl; connected = omega arith; grows = grows-by _ }
 counts-judged p (Adopt parent child) (goes_on _ a (goes_on _ c (goes_on _ owns (goes_on _ over (goes_on _ home (becomes x)))))) =
     let events = ap (λ (u : State). u.events) x.gives in
-    let connected = ap (λ (u : State). u.connected) x.gives in
+    let connected = ap (λ (u : State). u.connected.last) x.gives in
     record { events = events; connected = omega (arith, connected); grows = record { more = _; is = ap (λ (u : State). u.trace) x.gives } }
 counts-judged p (Connect e) (goes_on _ sender (goes_on _ receiver (goes_on _ signal (goes_on _ method (goes_on _ kind (goes_on _ covers (goes_on _ fits gives))))))) = record { events = refl; connected = omega arith; grows = grows-by _ }
 counts-judged p (Set name property i) (goes_on _ o (goes_on _ q (goes_on _ v (goes_on _ fits (becomes writes))))) = counts-kept (writes-kept writes)
@@ -62,7 +62,7 @@ counts-takes (refuses k idle x) = record { events = refl; connected = omega arit
 -- what a run counts it pays for with rules, and it leaves what was written down
 pub record Pays (s : State) (n : ℕ) (t : State) (k : ℕ) : Type 0 where
   pub events : t.events + k ≤ s.events + n
-  pub connected : t.connected + k ≤ s.connected + n
+  pub connected : t.connected.last + k ≤ s.connected.last + n
   pub grows : Grows s.trace t.trace
 
 pub runs-pay : {p : Loaded} {d : ℕ} {s t : State} {n k : ℕ} {es : List Event} → Runs p d s n es t k → Pays s n t k
@@ -79,7 +79,7 @@ runs-pay (takes x good rest) =
 -- ---- what a run keeps
 
 -- where nothing is going on, all that is going on stands
-pub invariant-at : {p : Loaded} (w : World) → Sound p w.objects w.connections → Invariant p (at w [])
+pub invariant-at : {p : Loaded} (w : World) → Sound p w.objects w.connected.connections → Invariant p (at w [])
 invariant-at w sound = record { sound = record { typed = sound.typed; joined = sound.joined }; stands = tt }
 
 keeps-run : {p : Loaded} {d : ℕ} {w v : World} {stack : List Activation} {es : List Event} → IsSound p → WorldInvariant p w → Runs p d (at w []) w.left es (at v stack) v.left → WorldInvariant p v

@@ -15,7 +15,7 @@ use Rattle.meta_model.specs.Loaded.{Loaded}
 use Rattle.meta_model.specs.Members.{IsClass, Below}
 use Rattle.meta_model.specs.Sound.{IsSound, IsSoundWork, IsSoundBody, IsSoundStatement, AreSound, none_sound, next_sound}
 use Rattle.meta_model.specs.Values.{HaveTypes}
-use Rattle.machine_state.specs.declared.connections.Connection.{Connection}
+use Rattle.connections.specs.declared.connection.Connection.{Connection}
 use Rattle.object_tree.specs.declared.object.Object.{Object}
 use Rattle.object_tree.specs.Creating.{fresh, initial_values}
 use Rattle.object_tree.specs.Objects.{class_of, written, change, blocked}
@@ -24,7 +24,7 @@ use Rattle.machine_state.specs.Worlds.{main}
 use Rattle.machine_rules.specs.Doings.{Doing, Write, Begin, Choose, Nothing, doing}
 use Rattle.qt_runtime.proofs.Choosing.{block-sound}
 use Rattle.machine_state.specs.State.{State, IsIdle, Place, Activation, Body, Emit, Update}
-use Rattle.machine_rules.specs.Rules.{Rule, RuleAt, BodyRule, Does, EmitRule, UpdateRule, Begins, Writes, Changes, places_of, changed, unchanged, silent, begun}
+use Rattle.machine_rules.specs.Rules.{Rule, RuleAt, BodyRule, Does, EmitRule, UpdateRule, Begins, Writes, Changes, places_of, changed, unchanged, silent, begun, with_used}
 use Rattle.machine_state.specs.Connections.{next_used}
 use Rattle.signatures.specs.declared.sig.Sig.{Sig}
 use Rattle.signatures.specs.Types.{Fits}
@@ -81,7 +81,7 @@ Stands p objects (Update places) = AllByRecursion (PlaceStands p objects) places
 
 -- the world is sound, and what is going on stands
 pub record Invariant (p : Loaded) (s : State) : Type 0 where
-  pub sound : Sound p s.objects s.connections
+  pub sound : Sound p s.objects s.connected.connections
   pub stands : AllByRecursion (Stands p s.objects) s.stack
 
 -- ---- it stands as long as the objects are those that they were
@@ -194,7 +194,8 @@ module _ {p : Loaded} {s t : State} (sound : IsSound p) (well : IsWell p s t) wh
   emission-stands : (o g : ℕ) (arguments : List Value) (last : ℕ) (below : List Activation) (found : Option Connection) → AllByRecursion (Stands p s.objects) below → length s.stack ≡ suc (length below) → EmitRule p s o g arguments last below t found → AllStand p t
   emission-stands o g arguments last below None lower high r = as-is r lower
   emission-stands o g arguments last below (Some c) lower high r =
-      begun-stands p s (Emit o g arguments c.number last ∷ below) c.receiver r.receiver c.method r.method (take (length r.method.kinds) arguments) r.method.work t sound r.is refl r.gives (omega (arith, high)) well (tt, lower)
+      let well_used : IsWell p (with_used s c) t = record { arguments = well.arguments; values = well.values } in
+      begun-stands p (with_used s c) (Emit o g arguments c.number last ∷ below) c.receiver r.receiver c.method r.method (take (length r.method.kinds) arguments) r.method.work t sound r.is refl r.gives (omega (arith, high)) well_used (tt, lower)
 
   update-stands : (below : List Activation) (places : List Place) → AllByRecursion (PlaceStands p s.objects) places → AllByRecursion (Stands p s.objects) below → UpdateRule p s below t places → AllStand p t
   update-stands below [] there lower r = as-is r lower
@@ -203,7 +204,7 @@ module _ {p : Loaded} {s t : State} (sound : IsSound p) (well : IsWell p s t) wh
   rule-stands : (stack : List Activation) → AllByRecursion (Stands p s.objects) stack → length s.stack ≡ length stack → RuleAt p s t stack → AllStand p t
   rule-stands [] all high r = absurd r
   rule-stands (Body o m arguments left ∷ below) all high r = body-stands o m arguments below left all.0 all.1 high r
-  rule-stands (Emit o g arguments used last ∷ below) all high r = emission-stands o g arguments last below (next_used s.objects s.connections o g used last) all.1 high r
+  rule-stands (Emit o g arguments used last ∷ below) all high r = emission-stands o g arguments last below (next_used s.objects s.connected.connections o g used last) all.1 high r
   rule-stands (Update places ∷ below) all high r = update-stands below places all.0 all.1 r
 
   -- what is going on stands where the stack does
@@ -237,20 +238,20 @@ none-stand p objects idle = let Family : List Activation → Type 0 = λ l. AllB
 -- an object is added
 created-invariant : {p : Loaded} {s : State} (x : Object) → IsIdle s → Invariant p s → AreTyped p (s.objects ++ x ∷ []) → Invariant p (record (accepted s) { objects = s.objects ++ x ∷ [] })
 created-invariant {p} {s} x idle up typed = record {
-  sound = record { typed = typed; joined = all-weaken (Joined p s.objects) (Joined p (s.objects ++ x ∷ [])) s.connections (joined-more s.objects (x ∷ [])) up.sound.joined };
+  sound = record { typed = typed; joined = all-weaken (Joined p s.objects) (Joined p (s.objects ++ x ∷ [])) s.connected.connections (joined-more s.objects (x ∷ [])) up.sound.joined };
   stands = none-stand p (s.objects ++ x ∷ []) idle;
 }
 
 -- objects change, and none its name or class
 changed-invariant : {p : Loaded} {s : State} (objects : List Object) → IsIdle s → Invariant p s → AreTyped p objects → shapes_of objects ≡ shapes_of s.objects → Invariant p (record (accepted s) { objects = objects })
 changed-invariant {p} {s} objects idle up typed same = record {
-  sound = record { typed = typed; joined = all-joined-still p s.objects objects s.connections (same-stay s.objects objects same) up.sound.joined };
+  sound = record { typed = typed; joined = all-joined-still p s.objects objects s.connected.connections (same-stay s.objects objects same) up.sound.joined };
   stands = none-stand p objects idle;
 }
 
 -- a connection joins what it names
 connection-joined : {p : Loaded} {objects : List Object} (e : Connecting) (n : ℕ) (a b : Numbered Object) (g m : Numbered MetaMethod) → IsSound p → IsLiving objects e.sender a → IsLiving objects e.receiver b → IsSignalOf p a.it.class e.signal g → IsMethodOf p b.it.class e.method m → Fits e.signal e.method →
-    Joined p objects (record { number = n; sender = a.number; signal = named_signal g.number; receiver = b.number; method = m.number; kind = e.kind })
+    Joined p objects (record { number = n; sender = a.number; signal = named_signal g.number; receiver = b.number; method = m.number; kind = e.kind; single = false })
 connection-joined e n a b g m sound sender receiver signal method fits =
     let Signal_types : Sig → Type 0 = λ t. Fits t e.method in
     let Method_types : Sig → Type 0 = λ t. Fits g.it.sig t in
@@ -290,7 +291,7 @@ judged-invariant {p} (Adopt parent child) sound idle up (goes_on _ a (goes_on _ 
 judged-invariant {p} {s} (Connect e) sound idle up (goes_on a sender (goes_on b receiver (goes_on g (finds signal) (goes_on m (finds method) (goes_on _ kind (goes_on _ covers (goes_on _ (so fits) just))))))) well = record {
   sound = record {
     typed = well.values;
-    joined = all-snoc (Joined p s.objects) s.connections _ up.sound.joined (connection-joined e (s.connected + 1) a b g m sound (living-is sender) (living-is receiver) signal method fits);
+    joined = all-snoc (Joined p s.objects) s.connected.connections _ up.sound.joined (connection-joined e (s.connected.last + 1) a b g m sound (living-is sender) (living-is receiver) signal method fits);
   };
   stands = up.stands;
 }

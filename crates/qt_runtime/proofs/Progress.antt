@@ -15,21 +15,20 @@ use Rattle.meta_model.specs.declared.object.Statement.TheViews.{out-Statement}
 use Rattle.meta_model.specs.Loaded.{Loaded}
 use Rattle.meta_model.specs.Members.{IsMethod, IsProperty, Below}
 use Rattle.meta_model.specs.Sound.{IsSound, IsSoundStatement, set_sound, emit_sound, call_sound, if_sound}
-use Rattle.machine_state.specs.declared.connections.Connection.{Connection}
+use Rattle.connections.specs.declared.connection.Connection.{Connection}
 use Rattle.machine_state.specs.declared.fault.Fault.{Fault}
 use Rattle.object_tree.specs.declared.object.Object.{Object}
 use Rattle.machine_rules.specs.Paths.{path_value, value_of, values_of}
 use Rattle.machine_state.specs.State.{State, IsIdle, Place, Activation, Body, Emit, Update}
 use Rattle.machine_rules.specs.Rules.{RuleAt, Does, EmitRule, UpdateRule, Begins, Writes, Changes, changed, unchanged, silent}
 use Rattle.machine_rules.specs.Doings.{Doing, Write, Begin, Choose, Nothing, on_object, chosen_by, doing}
-use Rattle.machine_state.specs.Connections.{is_next}
 use Rattle.machine_state.specs.Connections.{next_used}
 use Rattle.machine_rules.specs.Runs.{IsStuck}
 use Rattle.machine_rules.proofs.Reaching.{reason-more}
 use Rattle.qt_runtime.specs.Runs.{RunStops}
 use Rattle.qt_runtime.specs.Causes.{LacksValue, Cause}
 use Rattle.machine_rules.specs.There.{IsField}
-use Rattle.machine_rules.proofs.Beginning.{find-some, used-is}
+use Rattle.machine_rules.proofs.Beginning.{next-joined}
 use Rattle.machine_rules.proofs.Fields.{old-there}
 use Rattle.qt_runtime.proofs.Inherited.{method-below, property-below}
 use Rattle.qt_runtime.proofs.TypedPaths.{Reaches, to_null, to_object, path-reaches}
@@ -138,7 +137,7 @@ module _ {p : Loaded} {s : State} (sound : IsSound p) (up : Invariant p s) where
   stack-lacks (Body o m arguments (x ∷ rest) ∷ below) e goes_on all stuck =
       record { object = o; method = m; arguments = arguments; statement = x; rest = rest; below = below; is_next = e; lacks = statement-lacks o m arguments rest below all.0 (out-Statement x) (sound-first all.0.sound) (λ d t is does. stuck t (record { what = d; is = is; does = does })) }
   stack-lacks (Emit o g arguments used last ∷ below) e goes_on all stuck =
-      absurd (emission-goes o g arguments last below (next_used s.objects s.connections o g used last) (λ c found. (find-some (Joined p s.objects) (is_next o g used last) s.connections c up.sound.joined (used-is s.objects s.connections o g used last c found)).0) stuck)
+      absurd (emission-goes o g arguments last below (next_used s.objects s.connected.connections o g used last) (λ c found. next-joined s.objects s.connected.connections o g used last c up.sound.joined found) stuck)
   stack-lacks (Update places ∷ below) e goes_on all stuck = absurd (update-goes below places all.0 stuck)
 
   -- what goes on without a next rule lacks a value

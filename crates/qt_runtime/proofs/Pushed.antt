@@ -37,7 +37,7 @@ use Rattle.qt_runtime.specs.Taking.{AsksFor, WritesTo, Took, Halted}
 use Rattle.qt_runtime.proofs.Taken.{idle, good-pushed, took-run, took-unchanged}
 
 begun-here : (w : World) (o : ℕ) (x : Object) (m : ℕ) (method : MetaMethod) (values : List Value) (work : Work) →
-    at (after w (with_entries (accepted (at w [])) (begin_entry 1 x m method.sig.name (all_shown w.objects values) work ∷ []))) (top_of o m values w.connected work ∷ []) ≡ begun (accepted (at w [])) [] o x m method values work
+    at (after w (with_entries (accepted (at w [])) (begin_entry 1 x m method.sig.name (all_shown w.objects values) work ∷ []))) (top_of o m values w.connected.last work ∷ []) ≡ begun (accepted (at w [])) [] o x m method values work
 begun-here w o x m method values Signal = refl
 begun-here w o x m method values (Slot statements) = refl
 
@@ -117,20 +117,20 @@ assigned {p} {d} {o} {q} {w} {v} {u} {x} {value = value} {changed = changed} {en
 
 -- ---- what stays sound meanwhile
 
-pub sound-begun : {p : Loaded} {v : World} (w : World) (entry : Entry) → Sound p w.objects w.connections → v ≡ after w (with_entries (accepted (at w [])) (entry ∷ [])) → Sound p v.objects v.connections
+pub sound-begun : {p : Loaded} {v : World} (w : World) (entry : Entry) → Sound p w.objects w.connected.connections → v ≡ after w (with_entries (accepted (at w [])) (entry ∷ [])) → Sound p v.objects v.connected.connections
 sound-begun {p} w entry sound v_is =
-    let Family : World → Type 0 = λ z. Sound p z.objects z.connections in
+    let Family : World → Type 0 = λ z. Sound p z.objects z.connected.connections in
     subst Family (sym v_is) (record { typed = sound.typed; joined = sound.joined })
 
 -- the objects after a write
 pub objects-written : {p : Loaded} {o q : ℕ} {v : World} {x : Object} {property : MetaProperty} (w : World) (entry : Entry) (value : Value) → IsField p w.objects o q x property → v ≡ with_written w entry o q value → v.objects ≡ slice_set w.objects o (written q value x)
 objects-written w entry value f v_is = ap (λ (z : World). z.objects) (set-there w entry value f v_is)
 
-pub sound-written : {p : Loaded} {o q : ℕ} {v : World} {x : Object} {property : MetaProperty} (w : World) (entry : Entry) (value : Value) → Sound p w.objects w.connections → IsField p w.objects o q x property → Has p (class_of w.objects) value property.kind → v ≡ with_written w entry o q value → Sound p v.objects v.connections
+pub sound-written : {p : Loaded} {o q : ℕ} {v : World} {x : Object} {property : MetaProperty} (w : World) (entry : Entry) (value : Value) → Sound p w.objects w.connected.connections → IsField p w.objects o q x property → Has p (class_of w.objects) value property.kind → v ≡ with_written w entry o q value → Sound p v.objects v.connected.connections
 sound-written {p} {o} {q} {v} {x} w entry value sound f has v_is =
-    let Family : World → Type 0 = λ z. Sound p z.objects z.connections in
+    let Family : World → Type 0 = λ z. Sound p z.objects z.connected.connections in
     let objects : List Object = slice_set w.objects o (written q value x) in
     subst Family (sym (set-there w entry value f v_is)) (record {
       typed = typed-written f sound.typed has;
-      joined = all-joined-still p w.objects objects w.connections (same-stay w.objects objects (shapes-written w.objects o x q value f.is_object)) sound.joined;
+      joined = all-joined-still p w.objects objects w.connected.connections (same-stay w.objects objects (shapes-written w.objects o x q value f.is_object)) sound.joined;
     })

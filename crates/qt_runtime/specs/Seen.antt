@@ -8,7 +8,7 @@ use Rattle.machine_state.specs.declared.fault.Answer.TheVariants as answer
 use Rattle.machine_state.specs.declared.fault.Fault.{Fault}
 use Rattle.machine_state.specs.declared.fault.Fault.TheVariants as fault
 use Rattle.machine_state.specs.State.{Activation}
-use Rattle.machine_state.specs.Worlds.{at}
+use Rattle.machine_state.specs.Worlds.{at, untouched}
 use Rattle.qt_runtime.specs.Runs.{RunsWhole, RunsFront}
 use Rattle.qt_runtime.specs.Causes.{Cause}
 use Rattle.qt_runtime.specs.Taking.{IsAccepted, IsRefusedAs}
@@ -25,7 +25,7 @@ abbrev pub begun : Loaded → ℕ → ℕ → Seen
 begun program depth steps = record {
   program = program;
   depth = depth;
-  world = record { objects = []; connections = []; trace = []; events = 0; connected = 0; left = steps };
+  world = untouched steps;
   stopped = false;
 }
 

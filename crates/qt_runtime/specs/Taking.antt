@@ -14,7 +14,7 @@ use Rattle.script_lang.specs.declared.event.Connect.{Connect as Connecting}
 use Rattle.script_lang.specs.declared.event.Event.{Event}
 use Rattle.script_lang.specs.declared.event.Event.TheVariants as event
 use Rattle.script_lang.specs.declared.event.Input.{Input}
-use Rattle.machine_state.specs.declared.connections.Endpoints.{Endpoints}
+use Rattle.machine_state.specs.declared.endpoints.Endpoints.{Endpoints}
 use Rattle.machine_state.specs.declared.fault.Answer.{Answer}
 use Rattle.machine_state.specs.declared.fault.Answer.TheVariants as answer
 use Rattle.machine_state.specs.declared.fault.Fault.{Fault}
@@ -25,7 +25,7 @@ use Rattle.machine_state.specs.declared.world.World.{World}
 use Rattle.machine_state.specs.Accepting.{accepted, refused}
 use Rattle.machine_state.specs.Refusals.{refusal_number}
 use Rattle.machine_state.specs.State.{State, Activation}
-use Rattle.machine_state.specs.Worlds.{at, after, connected_by, Refuses}
+use Rattle.machine_state.specs.Worlds.{at, after, with_connection, Refuses}
 use Rattle.machine_rules.specs.declared.setting.Setting.{Setting}
 use Rattle.machine_rules.specs.There.{IsField}
 use Rattle.machine_rules.specs.Rules.{Begins, Writes}
@@ -40,9 +40,9 @@ use Rattle.qt_runtime.specs.events.Connect.{connect}
 
 -- what every machine's world keeps: its parts fit together, and no count is near its limit
 pub record WorldInvariant (p : Loaded) (w : World) : Type 0 where
-  pub sound : Sound p w.objects w.connections
+  pub sound : Sound p w.objects w.connected.connections
   pub events : w.events + w.left < 2 ^ 63
-  pub connected : w.connected + w.left < 2 ^ 63
+  pub connected : w.connected.last + w.left < 2 ^ 63
 
 -- the machine stopped before or after it took the event
 pub record Halted (p : Loaded) (depth : ℕ) (w : World) (e : Event) (v : World) (f : Fault) : Type 0 where
@@ -108,7 +108,7 @@ pub record WritesTo (p : Loaded) (w : World) (o q : ℕ) (value : Value) (e : Ev
 
 -- .. that the objects and methods of these numbers are connected
 abbrev pub ConnectsThese : Loaded → World → Connecting → Endpoints → Type 0
-ConnectsThese p w c ends = connect p (at w []) c (Ok (connected_by (accepted (at w [])) ends))
+ConnectsThese p w c ends = connect p (at w []) c (Ok (with_connection (accepted (at w [])) ends))
 
 -- the value is of the type of an object's property
 pub record ValueFits (p : Loaded) (objects : List Object) (o q : ℕ) (v : Value) : Type 0 where

@@ -12,7 +12,7 @@ use Rattle.script_lang.specs.declared.event.Connect.{Connect as Connecting}
 use Rattle.machine_state.specs.declared.refusal.Refusal.TheVariants.{NoMember, NotWired, Incompatible}
 use Rattle.machine_state.specs.Accepting.{accepted}
 use Rattle.machine_state.specs.State.{State}
-use Rattle.machine_state.specs.Worlds.{connected_by}
+use Rattle.machine_state.specs.Worlds.{with_connection}
 use Rattle.machine_rules.proofs.Fields.{method-unique}
 use Rattle.qt_runtime.specs.Judgement.{Numbered, found, missing, holds, fails, gives, goes_on, ends}
 use Rattle.qt_runtime.specs.events.Connect.{connect, named_signal, IsSignalOf}
@@ -56,7 +56,7 @@ module _ (p : Loaded) (s : State) (e : Connecting) (a b : Numbered Object) (send
             goes_on a (living-ok a sender) (goes_on b (living-ok b receiver) (goes_on g (found signal)
             (goes_on method (found (record { is = has.is; signed = has.signed })) (goes_on tt (holds kind) (goes_on tt (holds covers) (ends (fails none)))))))
 
-        pub connects : Covers p a.it.class e.signal b.it.class e.method e.kind → Fits e.signal e.method → connect p s e (Ok (connected_by (accepted s) (record { sender = a.number; signal = named_signal g.number; receiver = b.number; method = number; kind = e.kind })))
+        pub connects : Covers p a.it.class e.signal b.it.class e.method e.kind → Fits e.signal e.method → connect p s e (Ok (with_connection (accepted s) (record { sender = a.number; signal = named_signal g.number; receiver = b.number; method = number; kind = e.kind })))
         connects covers fits =
             goes_on a (living-ok a sender) (goes_on b (living-ok b receiver) (goes_on g (found signal)
             (goes_on method (found (record { is = has.is; signed = has.signed })) (goes_on tt (holds kind) (goes_on tt (holds covers) (goes_on tt (holds fits) gives))))))

@@ -12,7 +12,7 @@ use Rattle.machine_state.specs.declared.refusal.Refusal.{Refusal}
 use Rattle.machine_state.specs.declared.refusal.Refusal.TheVariants.{NoMember, NotWired, Incompatible}
 use Rattle.machine_state.specs.Accepting.{accepted}
 use Rattle.machine_state.specs.State.{State}
-use Rattle.machine_state.specs.Worlds.{connected_by}
+use Rattle.machine_state.specs.Worlds.{with_connection}
 use Rattle.qt_runtime.specs.Judgement.{Numbered, numbered, Find, Check, Gives, ◌>>=◌}
 use Rattle.qt_runtime.specs.events.Named.{living}
 
@@ -45,7 +45,7 @@ connect p s e =
     Check NotWired (e.kind ≢ Queued) >>= λ _.
     Check NotWired (Covers p a.it.class e.signal b.it.class e.method e.kind) >>= λ _.
     Check Incompatible (Fits e.signal e.method) >>= λ _.
-    Gives (connected_by (accepted s) (record {
+    Gives (with_connection (accepted s) (record {
       sender = a.number;
       signal = named_signal g.number;
       receiver = b.number;

@@ -7,4 +7,4 @@ place_of_number-requires c = rw c.deref.ensures.value c.requires
 pub returns-in-Numbered : goal.returns-in-Numbered
 returns-in-Numbered c = λ cells last l.
     rw c.in-Numbered.is (Covers-numbered cells c.args.lists.now last c.in-Numbered.number c.place_of_number.result.now
-    (λ p among same. c.place_of_number.ensures p (rw c.deref.ensures.value among) same) l)
+    (λ p among same. c.place_of_number.ensures.held p (rw c.deref.ensures.value among) same) l)

@@ -1,11 +1,12 @@
-use Rattle.std.proofs.Common.{◌∙◌, ℕ, List, [], ◌∷◌, length, refl, sym, ap, arith, Option, Some}
+use Rattle.std.proofs.Common.{◌∙◌, ℕ, List, [], ◌∷◌, length, refl, sym, ap, subst, arith, Option, Some}
 use Rattle.signatures.specs.declared.value.Value.{Value}
 use Rattle.machine_state.specs.declared.world.World.{World}
+use Rattle.machine_rules.specs.Good.{ArgumentsFit}
 use Rattle.machine_state.proofs.Found.{set-there}
 use Rattle.machine_rules.proofs.Fields.{old-there}
 use Rattle.machine_rules.proofs.Reaching.{not-idle, reaches-same, reaches-then, stops-after, stops-as, ends-after, ends-left, ends-undue, ends-short, ends-unchanged, ends-faulted, ends-ticked}
-use Rattle.machine_rules.proofs.Keeps.{keeps-same, keeps-then, ends-keeps, ends-sound, fit-still, reaches-typed, reaches-keeps, reaches-sound}
-use Rattle.machine_rules.proofs.Beginning.{ends-begun, stops-barred, stops-no-member, stops-ill-typed, fit-of, next-joined, next-fits, delivered-fits, delivery-calls, not-true}
+use Rattle.machine_rules.proofs.Keeps.{keeps-same, keeps-then, ends-keeps, ends-sound, fit-still, reaches-typed, reaches-keeps, reaches-sound, sound-used}
+use Rattle.machine_rules.proofs.Beginning.{ends-begun, stops-barred, stops-no-member, stops-ill-typed, fit-of, next-joined, next-fits, delivered-fits, delivery-calls, begun-used, not-true}
 use Rattle.machine_rules.proofs.Writing.{ends-written, stops-write-deep, stops-write-ill, stops-no-field, announces-in, announced-member, announced-value, announced-fits, announcement-calls, sound-written}
 use Rattle.machine_rules.proofs.Bodies.{does-call, does-call-alone, does-set, does-nothing, does-choose, lacks-read, advances-one, advances-ticked, advances-left}
 use Rattle.machine_rules.proofs.setting.Setting.+machine.Goals as goal
@@ -16,9 +17,14 @@ pub run_emission-loop-connection-init : goal.run_emission-loop-connection-init
 run_emission-loop-connection-init t c = record { reaches = reaches-same; keeps = keeps-same; fewer = omega arith; sound = c.requires.sound }
 
 pub run_emission-deliver-requires : goal.run_emission-deliver-requires
-run_emission-deliver-requires t c = let sound = c.loop-connection.invariant.sound in
+run_emission-deliver-requires t c =
+    let now = c.loop-connection.world in
     let found = sym c.in-Some.ensures.value in
-    (omega (arith, c.loop-connection.invariant.fewer), (c.requires.room, (sound, (next-joined c.loop-connection.world.objects c.loop-connection.world.connections c.args.object c.args.signal c.loop-connection.used c.args.last _ sound.joined found, next-fits c.loop-connection.world.objects c.loop-connection.world.connections c.args.object c.args.signal c.loop-connection.used c.args.last _ sound.joined found (fit-still c.loop-connection.invariant.keeps c.requires.emitted)))))
+    let sound = c.loop-connection.invariant.sound in
+    let emitted = fit-still c.loop-connection.invariant.keeps c.requires.emitted in
+    let joined = next-joined now.objects now.connected.connections c.args.object c.args.signal c.loop-connection.used c.args.last _ sound.joined found in
+    let fits = next-fits now.objects now.connected.connections c.args.object c.args.signal c.loop-connection.used c.args.last _ found emitted in
+    (omega (arith, c.loop-connection.invariant.fewer), (c.requires.room, (sound, (joined, fits))))
 
 pub run_emission-loop-connection-preserved : goal.run_emission-loop-connection-preserved
 run_emission-loop-connection-preserved t c =
@@ -49,11 +55,37 @@ deliver-returns-in_err-require_rule t c = record { ends = λ o g used last found
 pub deliver-unreachable-requires : goal.deliver-unreachable-requires
 deliver-unreachable-requires t c = c.in_default.ensures _ _ c.requires.joined.receives
 
-pub deliver-begin-requires : goal.deliver-begin-requires
-deliver-begin-requires t c = (omega arith, (c.requires.sound, (c.in_ok-require_rule.ensures, delivered-fits c.requires.joined c.requires.emitted c.in-Some.ensures c.front-taken.ensures c.len.ensures)))
+pub deliver-begun-requires : goal.deliver-begun-requires
+deliver-begun-requires t c = record { fit = delivered-fits c.requires.joined c.requires.emitted c.in-Some.ensures c.front-taken.ensures c.len.ensures }
+
+pub deliver-returns-in_err-begun : goal.deliver-returns-in_err-begun
+deliver-returns-in_err-begun t c = record {
+  ends = λ o g used last found.
+      let calls = delivery-calls o g used last found c.in-Some.ensures c.front-taken.ensures c.len.ensures in
+      let fits = delivered-fits c.requires.joined c.requires.emitted c.in-Some.ensures c.front-taken.ensures c.len.ensures in
+      ends-left _ (stops-barred c.over-over.ensures calls fits c.requires.sound.typed c.in_ok-require_rule.ensures c.in_err-begun.ensures.err) c.from_residual-in_err-begun.ensures.1;
+}
+
+pub deliver-returns-in_err-use_connection : goal.deliver-returns-in_err-use_connection
+deliver-returns-in_err-use_connection t c = record {
+  ends = λ o g used last found. ends-unchanged _ (not-idle c.args.world.now _) c.in_ok-require_rule.ensures c.in_err-use_connection.ensures c.from_residual-in_err-use_connection.ensures.1;
+}
+
+pub deliver-run_begun-requires : goal.deliver-run_begun-requires
+deliver-run_begun-requires t c =
+    let went = c.in_ok-use_connection.ensures in
+    let fits = delivered-fits c.requires.joined c.requires.emitted c.in-Some.ensures c.front-taken.ensures c.len.ensures in
+    let Fit : World → Type 0 = λ v. ArgumentsFit c.args.self.now.meta v.objects c.args.connection.receiver c.args.connection.method c.front-taken.result.now in
+    let emitted = subst Fit (sym went) fits in
+    (omega (arith, ap (λ (w : World). w.left) went, c.in_ok-require_rule.ensures), (c.in_ok-begun.ensures.ok.room, (sound-used c.args.world.now _ c.args.connection went c.requires.sound, emitted)))
 
 pub deliver-returns : goal.deliver-returns
-deliver-returns t c = record { ends = λ o g used last found. c.begin.ensures.ends _ _ _ c.over-over.ensures (delivery-calls o g used last found c.in-Some.ensures c.front-taken.ensures c.len.ensures) }
+deliver-returns t c = record {
+  ends = λ o g used last found.
+      let calls = delivery-calls o g used last found c.in-Some.ensures c.front-taken.ensures c.len.ensures in
+      let fits = delivered-fits c.requires.joined c.requires.emitted c.in-Some.ensures c.front-taken.ensures c.len.ensures in
+      ends-begun c.over-over.ensures calls (begun-used c.args.connection c.in_ok-begun.ensures.ok) fits c.requires.sound.typed c.in_ok-require_rule.ensures refl c.in_ok-use_connection.ensures c.run_begun.ensures.ends;
+}
 
 -- ---- the beginning of methods
 
@@ -85,7 +117,7 @@ begin-returns-in_err-note t c = record { ends = λ from to shown over calls. end
 pub begin-returns : goal.begin-returns
 begin-returns t c = record {
   ends = λ from to shown over calls.
-      ends-begun over calls c.in_ok-begun.ensures.ok c.requires.fit c.requires.sound.typed c.requires.left c.in_ok-note.ensures c.run_begun.ensures.ends;
+      ends-begun over calls c.in_ok-begun.ensures.ok c.requires.fit c.requires.sound.typed c.requires.left refl c.in_ok-note.ensures c.run_begun.ensures.ends;
 }
 
 -- ---- bodies

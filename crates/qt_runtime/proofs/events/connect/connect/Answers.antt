@@ -1,6 +1,6 @@
 use Rattle.std.proofs.Common.{[], refl}
 use Rattle.machine_state.specs.Accepting.{accepted}
-use Rattle.machine_state.specs.Worlds.{at, connected_by}
+use Rattle.machine_state.specs.Worlds.{at, with_connection}
 use Rattle.qt_runtime.proofs.Taken.{took-quiet, took-unchanged, took-not-accepted}
 use Rattle.qt_runtime.proofs.events.connect.connect.Goals as goal
 
@@ -12,4 +12,4 @@ returns-in_err-accept_connection-in-Ok c = took-unchanged _ _ c.requires.left c.
 
 pub returns-in_ok-accept_connection-in-Ok : goal.returns-in_ok-accept_connection-in-Ok
 returns-in_ok-accept_connection-in-Ok c =
-    took-quiet (connected_by (accepted (at c.args.world.now [])) c.in-Ok.ends) _ c.in-Ok.ensures.accepted refl c.requires.keeps.sound.typed c.requires.left c.in_ok-accept_connection-in-Ok.ensures
+    took-quiet (with_connection (accepted (at c.args.world.now [])) c.in-Ok.ends) _ c.in-Ok.ensures.accepted refl c.requires.keeps.sound.typed c.requires.left c.in_ok-accept_connection-in-Ok.ensures
