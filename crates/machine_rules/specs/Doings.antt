@@ -38,7 +38,7 @@ chosen_by block other (Some (value.Text t)) = None
 chosen_by block other (Some (value.Ref r)) = None
 
 -- What a statement of a body of object o does. `None`: it lacks a value that it needs, or its path leads to no object,
--- or its condition is no truth value.
+-- or its condition is no truth value; what connects or disconnects in a body has no rule yet.
 abbrev pub doing : List Object → ℕ → List Value → layer.Statement-F Statement → Option Doing
 doing objects o arguments (layer.Set path q e) =
     on_object (λ x. option_map (λ new. Write x q new) (value_of objects o arguments e)) (path_value objects o arguments path)
@@ -46,3 +46,5 @@ doing objects o arguments (layer.Emit g es) = option_map (λ given. Begin o g gi
 doing objects o arguments (layer.Call path n es) =
     on_object (λ x. option_map (λ given. Begin x n given) (values_of objects o arguments es)) (path_value objects o arguments path)
 doing objects o arguments (layer.If e block other) = chosen_by block other (value_of objects o arguments e)
+doing objects o arguments (layer.Connect ends how) = None
+doing objects o arguments (layer.Disconnect ends) = None

@@ -37,6 +37,7 @@ impl<'w> Scope<'w> {
             Statement::If(condition, block, other) => {
                 self.choice(condition, block.as_slice(), other.as_slice())
             }
+            Statement::Connect(_, _) | Statement::Disconnect(_) => Err(EvalFault::BadType),
         }
     }
 

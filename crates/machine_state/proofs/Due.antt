@@ -36,11 +36,14 @@ all-filtered {X} P test (x ∷ xs) all = by_test (test x) (all-filtered P test x
     by_test true rest = (all.0, rest)
     by_test false rest = rest
 
+pub all-removed : (P : Connection → Type 0) (test : Connection → Bool) (connected : Connected) → AllByRecursion P connected.connections → AllByRecursion P (removed test connected).connections
+all-removed P test connected all = all-filtered P (λ d. not (test d)) connected.connections all
+
 pub all-used : (P : Connection → Type 0) (c : Connection) (connected : Connected) → AllByRecursion P connected.connections → AllByRecursion P (after_use c connected).connections
 all-used P c connected all = by_test c.single
   where
     by_test : (b : Bool) → AllByRecursion P (cond b (removed (is_numbered c.number) connected) connected).connections
-    by_test true = all-filtered P (λ d. not (is_numbered c.number d)) connected.connections all
+    by_test true = all-removed P (is_numbered c.number) connected all
     by_test false = all
 
 -- no number is given

@@ -3,12 +3,20 @@ use Rattle.std.specs.Prelude.{ℕ, ◌&&◌, not, eqb, if◌then◌else◌, Bool
 use Rattle.std.specs.List.{find}
 use Rattle.meta_model.specs.declared.qobject.TheConstants.{DESTROYED}
 use Rattle.object_tree.specs.declared.object.Object.{Object}
+use Rattle.machine_state.specs.declared.endpoints.Endpoints.{Endpoints}
 use Rattle.connections.specs.declared.connection.Connection.{Connection}
-use Rattle.connections.specs.Connected.{Connected, is_due, is_numbered, removed}
+use Rattle.connections.specs.Connected.{Connected, joins, are_connected, is_due, is_numbered, removed}
 
 -- what is left of the connections when one is used: a single-shot one is removed (Qt 6, `Qt::SingleShotConnection`)
 abbrev pub after_use : Connection → Connected → Connected
 after_use c connected = if c.single then removed (is_numbered c.number) connected else connected
+
+-- some connection joins these ends, and those that do
+abbrev pub are_joined : Endpoints → Connected → Bool
+are_joined ends connected = are_connected ends.sender ends.signal ends.receiver ends.method connected
+
+abbrev pub joins_these : Endpoints → Connection → Bool
+joins_these ends c = joins ends.sender ends.signal ends.receiver ends.method c
 
 -- a blocked object's emission calls nothing, unless it is `destroyed` (Qt 6, `QObject::blockSignals`)
 abbrev pub is_silent : Object → ℕ → Bool

@@ -1,8 +1,9 @@
 -- What the world's functions do, and what a world says of the machine's state (docs/machine.md, "The state").
-use Rattle.std.specs.Prelude.{◌≡◌, ℕ, Bool, false, ◌+◌, ◌-◌, ◌<◌, List, [], ◌∷◌, ◌++◌, Result, Ok, Err}
+use Rattle.std.specs.Prelude.{◌≡◌, ℕ, Bool, ◌+◌, ◌-◌, ◌<◌, List, [], ◌∷◌, ◌++◌, Result, Ok, Err}
 use Rattle.signatures.specs.declared.value.Value.{Value}
+use Rattle.texts.specs.declared.connection.ConnectionType.{ConnectionType}
 use Rattle.connections.specs.declared.connection.Connection.{Connection}
-use Rattle.connections.specs.Connected.{unconnected, connected_by}
+use Rattle.connections.specs.Connected.{unconnected, connected_by, removed}
 use Rattle.object_tree.specs.declared.object.Object.{Object}
 use Rattle.object_tree.specs.Objects.{change, blocked, written}
 use Rattle.machine_state.specs.declared.entry.Entry.{Entry}
@@ -13,7 +14,7 @@ use Rattle.machine_state.specs.declared.fault.Fault.TheVariants.{Steps, Memory}
 use Rattle.machine_state.specs.declared.refusal.Refusal.{Refusal}
 use Rattle.machine_state.specs.declared.world.World.{World}
 use Rattle.machine_state.specs.Refusals.{refusal_number}
-use Rattle.machine_state.specs.Connections.{after_use}
+use Rattle.machine_state.specs.Connections.{after_use, joins_these}
 use Rattle.machine_state.specs.Accepting.{accepted, refused, with_entries}
 use Rattle.machine_state.specs.declared.endpoints.Endpoints.{Endpoints}
 use Rattle.machine_state.specs.State.{State, Activation}
@@ -93,12 +94,22 @@ Refuses w r v (Ok a) = (a ≡ answer.Refused (refusal_number r)) × (v ≡ after
 Refuses w r v (Err fault) = (fault ≡ Memory) × (v ≡ w)
 
 -- a state with a connection more, which has the next number
-abbrev pub with_connection : State → Endpoints → State
-with_connection s ends = record s { connected = connected_by s.connected ends.sender ends.signal ends.receiver ends.method ends.kind false }
+abbrev pub with_connection : State → Endpoints → ConnectionType → State
+with_connection s ends how = record s {
+  connected = connected_by s.connected ends.sender ends.signal ends.receiver ends.method how.kind how.single;
+}
 
 -- .. a connection is made
-abbrev pub accepting_connection : World → Endpoints → World
-accepting_connection w ends = after w (with_connection (accepted (at w [])) ends)
+abbrev pub accepting_connection : World → Endpoints → ConnectionType → World
+accepting_connection w ends how = after w (with_connection (accepted (at w [])) ends how)
+
+-- a state without the connections that join these ends
+abbrev pub without_connections : State → Endpoints → State
+without_connections s ends = record s { connected = removed (joins_these ends) s.connected }
+
+-- .. they are removed
+abbrev pub accepting_disconnection : World → Endpoints → World
+accepting_disconnection w ends = after w (without_connections (accepted (at w [])) ends)
 
 -- the loop `main` is the first
 abbrev pub main : ℕ

@@ -1,10 +1,11 @@
 //! What the world becomes where an event is refused or accepted.
 
-ghost use Rattle.std.specs.Prelude.{◌≡◌, ◌<◌, ◌^◌, ◌-◌, OnOk, OnErr, IsErrAnd};
+ghost use Rattle.std.specs.Prelude.{◌≡◌, ◌<◌, ◌^◌, ◌-◌, OnOk, OnErr, IsErrAnd, IsTrue};
 ghost use Rattle.object_tree.specs.Adopting.{AdoptsLiving, MayBeGone};
 ghost use Rattle.object_tree.specs.Creating.{Creates};
 ghost use Rattle.object_tree.specs.Objects.{IsGone};
-ghost use Rattle.machine_state.specs.Worlds.{main, counted, accepting_objects, accepting_block, accepting_entries, accepting_write, accepting_connection, Becomes, Refuses};
+ghost use Rattle.machine_state.specs.Connections.{are_joined};
+ghost use Rattle.machine_state.specs.Worlds.{main, counted, accepting_objects, accepting_block, accepting_entries, accepting_write, accepting_connection, accepting_disconnection, Becomes, Refuses};
 
 use crate::endpoints::Endpoints;
 use crate::entry::Entry;
@@ -14,6 +15,7 @@ use crate::world::World;
 use meta_objects::Meta;
 use object_tree::{AdoptFault, CreateFault};
 use signatures::{LoopId, Name, ObjectId, Value};
+use texts::ConnectionType;
 
 /// The number of the loop `main`.
 const MAIN: usize = 0;
@@ -149,12 +151,12 @@ impl World {
         Ok(())
     }
 
-    /// Adds the connection of an accepted event; without memory nothing changes.
-    pub fn accept_connection(&mut self, ends: Endpoints) -> Result<(), Fault>
+    /// Adds the connection of an accepted event; without memory nothing changes. Whether a unique one exists isn't asked.
+    pub fn accept_connection(&mut self, ends: Endpoints, how: ConnectionType) -> Result<(), Fault>
         requires left { 0 < self.old.left }
         requires few { self.old.events < 2 ^ 63 }
         requires few_connected { self.old.connected.last < 2 ^ 63 - 1 }
-        ensures { Becomes self.old (accepting_connection self.old ends) self.new result }
+        ensures { Becomes self.old (accepting_connection self.old ends how) self.new result }
     {
         self.trace.accept(self.events + 1, [])?;
         match self.connected.connect(
@@ -162,9 +164,9 @@ impl World {
             ends.signal,
             ends.receiver,
             ends.method,
-            ends.kind,
+            how.kind,
             false,
-            false,
+            how.single,
         ) {
             Ok(()) => {
                 self.count_event();
@@ -175,5 +177,23 @@ impl World {
                 Err(Fault::Memory)
             }
         }
+    }
+
+    /// Removes the connections that join these ends for an accepted event; without memory nothing changes.
+    pub fn accept_disconnection(&mut self, ends: Endpoints) -> Result<(), Fault>
+        requires left { 0 < self.old.left }
+        requires few { self.old.events < 2 ^ 63 }
+        requires joined { IsTrue (are_joined ends self.old.connected) }
+        ensures { Becomes self.old (accepting_disconnection self.old ends) self.new result }
+    {
+        self.trace.accept(self.events + 1, [])?;
+        let Ok(()) = self
+            .connected
+            .disconnect(ends.sender, ends.signal, ends.receiver, ends.method)
+        else {
+            unreachable!()
+        };
+        self.count_event();
+        Ok(())
     }
 }

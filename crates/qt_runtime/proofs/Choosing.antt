@@ -7,7 +7,7 @@ use Rattle.meta_model.specs.declared.object.Statement.{Statement}
 use Rattle.meta_model.specs.declared.object.Statement.TheOpen as layer
 use Rattle.meta_model.specs.declared.object.ValueType.{ValueType}
 use Rattle.meta_model.specs.Loaded.{Loaded}
-use Rattle.meta_model.specs.Sound.{AreSound, IsSoundStatement, set_sound, emit_sound, call_sound, if_sound}
+use Rattle.meta_model.specs.Sound.{AreSound, IsSoundStatement, set_sound, emit_sound, call_sound, if_sound, connect_sound, disconnect_sound}
 use Rattle.object_tree.specs.declared.object.Object.{Object}
 use Rattle.machine_rules.specs.Doings.{Doing, Write, Begin, Choose, on_object, chosen_by, doing}
 use Rattle.machine_rules.specs.Paths.{path_value, value_of, values_of}
@@ -58,3 +58,5 @@ block-sound objects o arguments block f (call_sound {path = path} {m = n} {es = 
     chooses)
 block-sound objects o arguments block f (if_sound {e = e} {chosen = first} {other = other} is a b) chooses =
     chosen-sound (value_of objects o arguments e) first other block a b chooses
+block-sound objects o arguments block f (connect_sound is) chooses = absurd (cc chooses)
+block-sound objects o arguments block f (disconnect_sound is) chooses = absurd (cc chooses)

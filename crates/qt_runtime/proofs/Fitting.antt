@@ -9,7 +9,7 @@ use Rattle.meta_model.specs.declared.object.ValueType.TheVariants as kind
 use Rattle.meta_model.specs.Loaded.{Loaded}
 use Rattle.meta_model.specs.Members.{IsMethod}
 use Rattle.meta_model.specs.Sound.{IsKind, IsSound, AreDistinctClasses}
-use Rattle.qt_runtime.specs.events.Connect.{named_signal}
+use Rattle.qt_runtime.specs.events.Ends.{named_signal}
 use Rattle.meta_model.proofs.Roots.{destroyed_alone_types}
 
 -- of what `int`, `bool` and `QString` differ

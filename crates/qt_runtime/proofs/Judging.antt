@@ -3,6 +3,7 @@ pub mod Naming
 pub mod Reading
 pub mod Creating
 pub mod Adopting
+pub mod Ends
 pub mod Connecting
 pub mod Assigning
 pub mod Invoking

@@ -1,7 +1,7 @@
 -- What every machine's world keeps.
-use Rattle.std.proofs.Common.{◌≡◌, ℕ, ◌+◌, ◌≤◌, List, [], Bool, true, false, Result, Ok, Err, refl, ap, arith}
+use Rattle.std.proofs.Common.{◌≡◌, ℕ, ◌+◌, ◌≤◌, List, [], Bool, true, false, Some, None, Result, Ok, Err, refl, sym, ap, subst, arith}
 use Rattle.script_lang.specs.declared.event.Event.{Event}
-use Rattle.script_lang.specs.declared.event.Event.TheVariants.{New, Adopt, Connect, Set, Emit, Call, Block, Unblock}
+use Rattle.script_lang.specs.declared.event.Event.TheVariants.{Loop, Turn, New, Adopt, Connect, Disconnect, Set, Emit, Call, Block, Unblock}
 use Rattle.script_lang.specs.declared.event.Input.{Input}
 use Rattle.meta_model.specs.Loaded.{Loaded}
 use Rattle.meta_model.specs.Sound.{IsSound}
@@ -17,6 +17,7 @@ use Rattle.machine_rules.proofs.Keeps.{grows-by, grows-same, grows-then, begins-
 use Rattle.qt_runtime.specs.declared.events.invoke.Invocation.{Invocation}
 use Rattle.qt_runtime.specs.declared.events.invoke.Invocation.TheVariants.{Emit as EmitIt, Call as CallIt}
 use Rattle.qt_runtime.specs.Judgement.{becomes, gives, goes_on}
+use Rattle.qt_runtime.proofs.Judged.{given-is}
 use Rattle.qt_runtime.specs.Runs.{Runs, done, rules, takes}
 use Rattle.qt_runtime.specs.Takes.{judged, Takes, accepts, refuses}
 use Rattle.qt_runtime.specs.Taking.{WorldInvariant, Took}
@@ -43,12 +44,20 @@ counts-blocked : {s t : State} (name : List ℕ) (on : Bool) → block s name on
 counts-blocked name on (goes_on _ lives gives) = record { events = refl; connected = omega arith; grows = grows-by _ }
 
 counts-judged : (p : Loaded) {s t : State} (e : Event) → judged p s e (Ok t) → Counts s t
-counts-judged p (New name class) (goes_on _ free (goes_on _ is (goes_on _ room gives))) = record { events = refl; connected = omega arith; grows = grows-by _ }
+counts-judged p (Loop name) x = absurd x
+counts-judged p (Turn name) x = absurd x
+counts-judged p (New name class (Some home)) x = absurd x
+counts-judged p (New name class None) (goes_on _ free (goes_on _ is (goes_on _ room gives))) = record { events = refl; connected = omega arith; grows = grows-by _ }
 counts-judged p (Adopt parent child) (goes_on _ a (goes_on _ c (goes_on _ owns (goes_on _ over (goes_on _ home (becomes x)))))) =
     let events = ap (λ (u : State). u.events) x.gives in
     let connected = ap (λ (u : State). u.connected.last) x.gives in
     record { events = events; connected = omega (arith, connected); grows = record { more = _; is = ap (λ (u : State). u.trace) x.gives } }
-counts-judged p (Connect e) (goes_on _ sender (goes_on _ receiver (goes_on _ signal (goes_on _ method (goes_on _ kind (goes_on _ covers (goes_on _ fits gives))))))) = record { events = refl; connected = omega arith; grows = grows-by _ }
+counts-judged p {s = s} (Disconnect e) (goes_on f named (goes_on _ is given)) =
+    let Family : State → Type 0 = λ u. Counts s u in
+    subst Family (sym (given-is given)) (record { events = refl; connected = omega arith; grows = grows-by _ })
+counts-judged p {s = s} (Connect e how) (goes_on f named (goes_on _ kind (goes_on _ covers (goes_on _ fits (goes_on _ new given))))) =
+    let Family : State → Type 0 = λ u. Counts s u in
+    subst Family (sym (given-is given)) (record { events = refl; connected = omega arith; grows = grows-by _ })
 counts-judged p (Set name property i) (goes_on _ o (goes_on _ q (goes_on _ v (goes_on _ fits (becomes writes))))) = counts-kept (writes-kept writes)
 counts-judged p (Emit name signal inputs) x = counts-invoked p EmitIt name signal inputs x
 counts-judged p (Call name slot inputs) x = counts-invoked p CallIt name slot inputs x

@@ -1,15 +1,17 @@
 -- An event has one answer.
-use Rattle.std.proofs.Common.{◌≡◌, ℕ, List, Some, slice_get, length, Ok, Err, true, false, sym, ap, ◌∙◌}
+use Rattle.std.proofs.Common.{◌≡◌, ℕ, List, Some, None, slice_get, length, Ok, Err, true, false, sym, ap, ◌∙◌}
 use Rattle.signatures.specs.declared.sig.Sig.{Sig}
 use Rattle.meta_model.specs.declared.object.MetaMethod.{MetaMethod}
 use Rattle.meta_model.specs.declared.object.MetaObject.{MetaObject}
 use Rattle.meta_model.specs.Loaded.{Loaded}
 use Rattle.meta_model.specs.Sound.{IsSound}
 use Rattle.object_tree.specs.declared.object.Object.{Object}
-use Rattle.script_lang.specs.declared.event.Connect.{Connect as Connecting}
+use Rattle.texts.specs.declared.connection.ConnectionType.{ConnectionType}
+use Rattle.texts.specs.declared.connection.Endpoints.{Endpoints as Named}
 use Rattle.script_lang.specs.declared.event.Event.TheVariants as event
 use Rattle.script_lang.specs.declared.event.Input.{Input}
 use Rattle.machine_state.specs.declared.refusal.Refusal.{Refusal}
+use Rattle.machine_state.specs.declared.refusal.Refusal.TheVariants.{NoLoop, LoopExists}
 use Rattle.machine_state.specs.Accepting.{accepted, refused}
 use Rattle.machine_state.specs.State.{State}
 use Rattle.machine_rules.proofs.OneRule.{begins-one, writes-one}
@@ -21,10 +23,12 @@ use Rattle.qt_runtime.specs.Takes.{accepts, refuses}
 use Rattle.qt_runtime.specs.events.Adopt.{adopt, Adopts}
 use Rattle.qt_runtime.specs.events.Assign.{assign}
 use Rattle.qt_runtime.specs.events.Block.{block}
-use Rattle.qt_runtime.specs.events.Connect.{connect, IsMethodOf}
+use Rattle.qt_runtime.specs.events.Connect.{connect}
+use Rattle.qt_runtime.specs.events.Disconnect.{disconnect}
+use Rattle.qt_runtime.specs.events.Ends.{find_ends, IsMethodOf}
 use Rattle.qt_runtime.specs.events.Create.{create, IsClassOf}
 use Rattle.qt_runtime.specs.events.Invoke.{invoke}
-use Rattle.qt_runtime.proofs.OneAnswer.{one-find, one-check, one-gives, one-becomes, one-then, numbered-is, one-living, one-value, one-values, one-method, one-property, one-adopted}
+use Rattle.qt_runtime.proofs.OneAnswer.{one-find, one-check, one-gives, one-refuses, one-becomes, one-then, numbered-is, one-living, one-value, one-values, one-method, one-property, one-adopted}
 
 one-class : {p : Loaded} {name : List ℕ} → IsSound p → (a b : Numbered MetaObject) → IsClassOf p name a → IsClassOf p name b → a ≡ b
 one-class {p} sound a b f g =
@@ -48,11 +52,18 @@ one-adopt p s parent child =
     one-then (one-living s.objects parent) (λ a. one-then (one-living s.objects child) (λ c.
     one-then one-check (λ owns. one-then one-check (λ over. one-then one-check (λ home. one-becomes (one-adopts (accepted s) a c))))))
 
-one-connect : (p : Loaded) (s : State) (e : Connecting) → IsSound p → HasOneAnswer (connect p s e)
-one-connect p s e sound =
-    one-then (one-living s.objects e.sender) (λ a. one-then (one-living s.objects e.receiver) (λ b.
-    one-then (one-find (λ g h f k. one-sig sound g h f.of k.of)) (λ g. one-then (one-find (one-sig sound)) (λ m.
-    one-then one-check (λ kind. one-then one-check (λ covers. one-then one-check (λ fits. one-gives _)))))))
+one-ends : (p : Loaded) (objects : List Object) (e : Named (List ℕ)) → IsSound p → HasOneAnswer (find_ends p objects e)
+one-ends p objects e sound =
+    one-then (one-living objects e.sender) (λ a. one-then (one-living objects e.receiver) (λ b.
+    one-then (one-find (λ g h f k. one-sig sound g h f.of k.of)) (λ g. one-then (one-find (one-sig sound)) (λ m. one-gives _))))
+
+one-connect : (p : Loaded) (s : State) (e : Named (List ℕ)) (how : ConnectionType) → IsSound p → HasOneAnswer (connect p s e how)
+one-connect p s e how sound =
+    one-then (one-ends p s.objects e sound) (λ f. one-then one-check (λ kind. one-then one-check (λ covers.
+    one-then one-check (λ fits. one-then one-check (λ new. one-gives _)))))
+
+one-disconnect : (p : Loaded) (s : State) (e : Named (List ℕ)) → IsSound p → HasOneAnswer (disconnect p s e)
+one-disconnect p s e sound = one-then (one-ends p s.objects e sound) (λ f. one-then one-check (λ is. one-gives _))
 
 one-block : (s : State) (name : List ℕ) (on : _) → HasOneAnswer (block s name on)
 one-block s name on = one-then (one-living s.objects name) (λ o. one-gives _)
@@ -70,9 +81,13 @@ one-invoke p s a name called inputs sound =
     one-then (one-values s.objects inputs) (λ vs. one-then one-check (λ fits. one-becomes (λ t u f g. begins-one f g)))))
 
 pub one_judgement : OneJudgement
-one_judgement p s (event.New name class) sound = one-create p s name class sound
+one_judgement p s (event.Loop name) sound = one-refuses LoopExists
+one_judgement p s (event.Turn name) sound = one-refuses NoLoop
+one_judgement p s (event.New name class (Some home)) sound = one-refuses NoLoop
+one_judgement p s (event.New name class None) sound = one-create p s name class sound
 one_judgement p s (event.Adopt parent child) sound = one-adopt p s parent child
-one_judgement p s (event.Connect e) sound = one-connect p s e sound
+one_judgement p s (event.Connect e how) sound = one-connect p s e how sound
+one_judgement p s (event.Disconnect e) sound = one-disconnect p s e sound
 one_judgement p s (event.Set name property i) sound = one-assign p s name property i sound
 one_judgement p s (event.Emit name signal inputs) sound = one-invoke p s Emit name signal inputs sound
 one_judgement p s (event.Call name slot inputs) sound = one-invoke p s Call name slot inputs sound

@@ -3,7 +3,7 @@ use Rattle.std.proofs.Common.{◌≡◌, ℕ, suc, ◌+◌, ◌<◌, Bool, List,
 use Rattle.std.specs.List.{AllByRecursion}
 use Rattle.signatures.specs.declared.value.Value.{Value}
 use Rattle.script_lang.specs.declared.event.Event.{Event}
-use Rattle.script_lang.specs.declared.event.Event.TheVariants.{New, Adopt, Connect, Set, Emit as EmitEvent, Call as CallEvent, Block, Unblock}
+use Rattle.script_lang.specs.declared.event.Event.TheVariants.{Loop, Turn, New, Adopt, Connect, Disconnect, Set, Emit as EmitEvent, Call as CallEvent, Block, Unblock}
 use Rattle.meta_model.specs.declared.object.MetaMethod.{MetaMethod}
 use Rattle.meta_model.specs.declared.object.MetaProperty.{MetaProperty}
 use Rattle.meta_model.specs.declared.object.Statement.{Statement}
@@ -28,7 +28,8 @@ use Rattle.machine_rules.specs.Rules.{Rule, RuleAt, BodyRule, Does, EmitRule, Up
 use Rattle.machine_state.specs.Connections.{next_used}
 use Rattle.signatures.specs.declared.sig.Sig.{Sig}
 use Rattle.signatures.specs.Types.{Fits}
-use Rattle.script_lang.specs.declared.event.Connect.{Connect as Connecting}
+use Rattle.texts.specs.declared.connection.ConnectionType.{ConnectionType}
+use Rattle.texts.specs.declared.connection.Endpoints.{Endpoints as Named}
 use Rattle.script_lang.specs.declared.event.Input.{Input}
 use Rattle.machine_state.specs.Accepting.{accepted}
 use Rattle.qt_runtime.specs.declared.events.invoke.Invocation.{Invocation}
@@ -36,7 +37,11 @@ use Rattle.qt_runtime.specs.declared.events.invoke.Invocation.TheVariants.{Emit 
 use Rattle.qt_runtime.specs.Judgement.{Numbered, found as finds, holds as so, becomes, gives as just, goes_on}
 use Rattle.qt_runtime.specs.Takes.{judged, Takes, accepts, refuses}
 use Rattle.qt_runtime.specs.events.Block.{block}
-use Rattle.qt_runtime.specs.events.Connect.{named_signal, IsMethodOf, IsSignalOf}
+use Rattle.qt_runtime.specs.declared.events.ends.FoundEnds.{FoundEnds}
+use Rattle.qt_runtime.specs.events.Ends.{find_ends}
+use Rattle.machine_state.specs.Connections.{joins_these}
+use Rattle.machine_state.proofs.Due.{all-removed}
+use Rattle.qt_runtime.proofs.Judged.{given-is}
 use Rattle.qt_runtime.specs.events.Invoke.{invoke}
 use Rattle.qt_runtime.specs.events.Named.{IsLiving}
 use Rattle.qt_runtime.proofs.Fitting.{kinds-fit}
@@ -250,19 +255,19 @@ changed-invariant {p} {s} objects idle up typed same = record {
 }
 
 -- a connection joins what it names
-connection-joined : {p : Loaded} {objects : List Object} (e : Connecting) (n : ℕ) (a b : Numbered Object) (g m : Numbered MetaMethod) → IsSound p → IsLiving objects e.sender a → IsLiving objects e.receiver b → IsSignalOf p a.it.class e.signal g → IsMethodOf p b.it.class e.method m → Fits e.signal e.method →
-    Joined p objects (record { number = n; sender = a.number; signal = named_signal g.number; receiver = b.number; method = m.number; kind = e.kind; single = false })
-connection-joined e n a b g m sound sender receiver signal method fits =
+connection-joined : {p : Loaded} {objects : List Object} (e : Named (List ℕ)) (how : ConnectionType) (n : ℕ) (f : FoundEnds) → IsSound p → find_ends p objects e (Ok f) → Fits e.signal e.method →
+    Joined p objects (record { number = n; sender = f.ends.sender; signal = f.ends.signal; receiver = f.ends.receiver; method = f.ends.method; kind = how.kind; single = how.single })
+connection-joined e how n f sound (goes_on a sender (goes_on b receiver (goes_on g (finds signal) (goes_on m (finds method) just)))) fits =
     let Signal_types : Sig → Type 0 = λ t. Fits t e.method in
     let Method_types : Sig → Type 0 = λ t. Fits g.it.sig t in
     let front = kinds-fit sound signal.of.is method.is (subst Method_types (sym method.signed) (subst Signal_types (sym signal.of.signed) fits)) in
     record {
       sender = a.it;
       signal = front.0;
-      sends = record { is_object = sender.is.is; is_method = front.1 };
+      sends = record { is_object = (living-is sender).is.is; is_method = front.1 };
       receiver = b.it;
       method = m.it;
-      receives = record { is_object = receiver.is.is; is_method = method.is };
+      receives = record { is_object = (living-is receiver).is.is; is_method = method.is };
       rest = front.2.0;
       fits = front.2.1;
     }
@@ -283,18 +288,29 @@ blocked-invariant {p} {s} name on idle up well (goes_on o lives just) =
     changed-invariant (change o.number (blocked on) s.objects) idle up well.values (map-change shape_of o.number (blocked on) s.objects (λ z. refl))
 
 judged-invariant : {p : Loaded} {s t : State} (e : Event) → IsSound p → IsIdle s → Invariant p s → judged p s e (Ok t) → IsWell p s t → Invariant p t
-judged-invariant (New name class) sound idle up (goes_on _ free (goes_on c is (goes_on _ room just))) well = created-invariant (fresh name c.number main (initial_values c.it)) idle up well.values
+judged-invariant (Loop name) sound idle up x well = absurd x
+judged-invariant (Turn name) sound idle up x well = absurd x
+judged-invariant (New name class (Some home)) sound idle up x well = absurd x
+judged-invariant (New name class None) sound idle up (goes_on _ free (goes_on c is (goes_on _ room just))) well = created-invariant (fresh name c.number main (initial_values c.it)) idle up well.values
 judged-invariant {p} (Adopt parent child) sound idle up (goes_on _ a (goes_on _ c (goes_on _ owns (goes_on _ over (goes_on _ home (becomes x)))))) well =
     let Family : State → Type 0 = λ u. Invariant p u in
     let Typed : State → Type 0 = λ u. AreTyped p u.objects in
     subst Family (sym x.gives) (changed-invariant x.objects idle up (subst Typed x.gives well.values) (map-adopted shape_of (λ z l. refl) (λ z l. refl) x.is))
-judged-invariant {p} {s} (Connect e) sound idle up (goes_on a sender (goes_on b receiver (goes_on g (finds signal) (goes_on m (finds method) (goes_on _ kind (goes_on _ covers (goes_on _ (so fits) just))))))) well = record {
-  sound = record {
-    typed = well.values;
-    joined = all-snoc (Joined p s.objects) s.connected.connections _ up.sound.joined (connection-joined e (s.connected.last + 1) a b g m sound (living-is sender) (living-is receiver) signal method fits);
-  };
-  stands = up.stands;
-}
+judged-invariant {p} {s} (Connect e how) sound idle up (goes_on f named (goes_on _ kind (goes_on _ covers (goes_on _ (so fits) (goes_on _ new given))))) well =
+    let Family : State → Type 0 = λ u. Invariant p u in
+    subst Family (sym (given-is given)) (record {
+      sound = record {
+        typed = up.sound.typed;
+        joined = all-snoc (Joined p s.objects) s.connected.connections _ up.sound.joined (connection-joined e how (s.connected.last + 1) f sound named fits);
+      };
+      stands = up.stands;
+    })
+judged-invariant {p} {s} (Disconnect e) sound idle up (goes_on f named (goes_on _ is given)) well =
+    let Family : State → Type 0 = λ u. Invariant p u in
+    subst Family (sym (given-is given)) (record {
+      sound = record { typed = up.sound.typed; joined = all-removed (Joined p s.objects) (joins_these f.ends) s.connected up.sound.joined };
+      stands = up.stands;
+    })
 judged-invariant {p} {s} (Set name property i) sound idle up (goes_on _ o (goes_on _ q (goes_on _ v (goes_on _ fits (becomes writes))))) well =
     kept-invariant sound (accepted-well well) (accepted-invariant up) (writes-kept writes) (writes-stands sound (accepted-well well) writes up.stands)
 judged-invariant (EmitEvent name signal inputs) sound idle up x well = invoked-invariant EmitIt name signal inputs sound up well x

@@ -14,7 +14,7 @@ use Rattle.meta_model.specs.declared.object.Statement.TheOpen as layer
 use Rattle.meta_model.specs.declared.object.Statement.TheViews.{out-Statement}
 use Rattle.meta_model.specs.Loaded.{Loaded}
 use Rattle.meta_model.specs.Members.{IsMethod, IsProperty, Below}
-use Rattle.meta_model.specs.Sound.{IsSound, IsSoundStatement, set_sound, emit_sound, call_sound, if_sound}
+use Rattle.meta_model.specs.Sound.{IsSound, IsSoundStatement, set_sound, emit_sound, call_sound, if_sound, connect_sound, disconnect_sound}
 use Rattle.connections.specs.declared.connection.Connection.{Connection}
 use Rattle.machine_state.specs.declared.fault.Fault.{Fault}
 use Rattle.object_tree.specs.declared.object.Object.{Object}
@@ -103,6 +103,8 @@ module _ {p : Loaded} {s : State} (sound : IsSound p) (up : Invariant p s) where
       call-lacks o m arguments rest below es (path_value s.objects o arguments path) reaches is.is none
   statement-lacks o m arguments rest below body f (if_sound {e = e} {chosen = block} {other = other} is first second) none =
       if-lacks o m arguments rest below block other (value_of s.objects o arguments e) none
+  statement-lacks o m arguments rest below body f (connect_sound is) none = refl
+  statement-lacks o m arguments rest below body f (disconnect_sound is) none = refl
 
   -- an emission has a next rule
   emission-goes : (o g : ℕ) (arguments : List Value) (last : ℕ) (below : List Activation) (found : Option Connection) → ((c : Connection) → found ≡ Some c → Joined p s.objects c) → ((t : State) → ¬ EmitRule p s o g arguments last below t found) → ⊥

@@ -1,6 +1,6 @@
 -- How an event is judged: what is found hands on to what is asked after it, and the first that isn't so is the refusal
 -- (docs/machine.md, "Events").
-use Rattle.std.specs.Prelude.{ℕ, Result, Ok, Err}
+use Rattle.std.specs.Prelude.{◌≡◌, ℕ, Result, Ok, Err}
 use Rattle.machine_state.specs.declared.refusal.Refusal.{Refusal}
 use Rattle.qt_runtime.specs.declared.judgement.NotAccepted.{NotAccepted}
 use Rattle.qt_runtime.specs.declared.judgement.NotAccepted.TheVariants.{Refused, Memory}
@@ -30,6 +30,11 @@ pub data Check (r : Refusal) (Holds : Type 0) : Result (Unit {0}) Refusal → Ty
 -- what was found is given
 pub data Gives {X : Type 0} (x : X) : Result X Refusal → Type 0 where
   gives : Gives x (Ok x)
+
+-- nothing is given, whatever is so
+abbrev pub Refuses : {X : Type 0} → Refusal → Result X Refusal → Type 0
+Refuses r (Ok x) = ⊥
+Refuses r (Err k) = k ≡ r
 
 -- one that this relation tells of is given
 pub data Becomes {X : Type 0} (Is : X → Type 0) : Result X Refusal → Type 0 where

@@ -10,7 +10,8 @@ use Rattle.object_tree.specs.declared.fault.CreateFault.{CreateFault}
 use Rattle.object_tree.specs.declared.fault.CreateFault.TheVariants as create
 use Rattle.object_tree.specs.declared.object.Object.{Object}
 use Rattle.object_tree.specs.Objects.{class_of}
-use Rattle.script_lang.specs.declared.event.Connect.{Connect as Connecting}
+use Rattle.texts.specs.declared.connection.ConnectionType.{ConnectionType}
+use Rattle.texts.specs.declared.connection.Endpoints.{Endpoints as Named}
 use Rattle.script_lang.specs.declared.event.Event.{Event}
 use Rattle.script_lang.specs.declared.event.Event.TheVariants as event
 use Rattle.script_lang.specs.declared.event.Input.{Input}
@@ -25,7 +26,7 @@ use Rattle.machine_state.specs.declared.world.World.{World}
 use Rattle.machine_state.specs.Accepting.{accepted, refused}
 use Rattle.machine_state.specs.Refusals.{refusal_number}
 use Rattle.machine_state.specs.State.{State, Activation}
-use Rattle.machine_state.specs.Worlds.{at, after, with_connection, Refuses}
+use Rattle.machine_state.specs.Worlds.{at, after, with_connection, without_connections, Refuses}
 use Rattle.machine_rules.specs.declared.setting.Setting.{Setting}
 use Rattle.machine_rules.specs.There.{IsField}
 use Rattle.machine_rules.specs.Rules.{Begins, Writes}
@@ -37,6 +38,7 @@ use Rattle.qt_runtime.specs.declared.judgement.NotAccepted.TheVariants as reason
 use Rattle.qt_runtime.specs.Runs.{RunsWhole, RunsFront, RunStops}
 use Rattle.qt_runtime.specs.Takes.{judged}
 use Rattle.qt_runtime.specs.events.Connect.{connect}
+use Rattle.qt_runtime.specs.events.Disconnect.{disconnect}
 
 -- what every machine's world keeps: its parts fit together, and no count is near its limit
 pub record WorldInvariant (p : Loaded) (w : World) : Type 0 where
@@ -107,8 +109,12 @@ pub record WritesTo (p : Loaded) (w : World) (o q : ℕ) (value : Value) (e : Ev
   pub effect : (t : State) → Writes p (accepted (at w [])) [] o q value t → judged p (at w []) e (Ok t)
 
 -- .. that the objects and methods of these numbers are connected
-abbrev pub ConnectsThese : Loaded → World → Connecting → Endpoints → Type 0
-ConnectsThese p w c ends = connect p (at w []) c (Ok (with_connection (accepted (at w [])) ends))
+abbrev pub ConnectsThese : Loaded → World → Named (List ℕ) → ConnectionType → Endpoints → Type 0
+ConnectsThese p w e how ends = connect p (at w []) e how (Ok (with_connection (accepted (at w [])) ends how))
+
+-- .. that they aren't connected any more
+abbrev pub DisconnectsThese : Loaded → World → Named (List ℕ) → Endpoints → Type 0
+DisconnectsThese p w e ends = disconnect p (at w []) e (Ok (without_connections (accepted (at w [])) ends))
 
 -- the value is of the type of an object's property
 pub record ValueFits (p : Loaded) (objects : List Object) (o q : ℕ) (v : Value) : Type 0 where

@@ -2,7 +2,9 @@
 pub mod Named
 pub mod Create
 pub mod Adopt
+pub mod Ends
 pub mod Connect
+pub mod Disconnect
 pub mod Values
 pub mod Assign
 pub mod Invoke

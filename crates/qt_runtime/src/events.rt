@@ -5,6 +5,8 @@ pub mod assign;
 pub mod block;
 pub mod connect;
 pub mod create;
+pub mod disconnect;
+pub mod ends;
 pub mod invoke;
 pub mod named;
 pub mod values;

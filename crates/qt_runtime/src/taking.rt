@@ -7,10 +7,11 @@ use crate::events::adopt::adopt;
 use crate::events::assign::assign;
 use crate::events::block::block;
 use crate::events::connect::connect;
-use crate::events::create::create;
+use crate::events::create::create_in;
+use crate::events::disconnect::disconnect;
 use crate::events::invoke::{Invocation, invoke};
 use machine_rules::Setting;
-use machine_state::{Answer, Fault, World};
+use machine_state::{Answer, Fault, Refusal, World};
 use script_lang::Event;
 
 /// Takes an event, and runs until nothing is going on.
@@ -23,9 +24,12 @@ pub fn take_event(setting: &Setting, world: &mut World, event: &Event) -> Result
         return Err(Fault::Steps);
     }
     match event {
-        Event::New(name, class) => create(setting, world, name, class),
+        Event::Loop(_) => world.refuse(Refusal::LoopExists),
+        Event::Turn(_) => world.refuse(Refusal::NoLoop),
+        Event::New(name, class, home) => create_in(setting, world, name, class, home),
         Event::Adopt(parent, child) => adopt(setting, world, parent, child),
-        Event::Connect(c) => connect(setting, world, c),
+        Event::Connect(named, how) => connect(setting, world, named, *how),
+        Event::Disconnect(named) => disconnect(setting, world, named),
         Event::Set(name, property, input) => assign(setting, world, name, property, input),
         Event::Emit(name, signal, inputs) => {
             let inputs = inputs.as_slice();

@@ -1,5 +1,5 @@
 -- `new`.
-use Rattle.std.proofs.Common.{◌≡◌, ℕ, ◌<◌, List, [], ◌∷◌, ◌++◌, length, Result, Ok, Err, MatchResult, refl, sym, ap, ◌∙◌, subst, inr, arith}
+use Rattle.std.proofs.Common.{◌≡◌, ℕ, None, ◌<◌, List, [], ◌∷◌, ◌++◌, length, Result, Ok, Err, MatchResult, refl, sym, ap, ◌∙◌, subst, inr, arith}
 use Rattle.meta_model.specs.declared.object.MetaObject.{MetaObject}
 use Rattle.meta_model.specs.Loaded.{Loaded}
 use Rattle.meta_model.specs.Members.{IsClass, IsClassNamed}
@@ -50,32 +50,32 @@ module _ (p : Loaded) (w : World) (name class : List ℕ) where
       subst Family (sym is.appended) (typed-snoc w.objects (made name is.number is.kind) typed (fresh-typed p w.objects name is.number main is.kind is.may.is is.may.begins))
 
   -- an initial value isn't of its property's type
-  halted-ill : {d number : ℕ} {kind : MetaObject} → 0 < w.left → IsFree w.objects name → IsClassNamed p class number → IsClass p number kind → length w.objects < most_objects → (¬ BeginsWell p w.objects number kind) → Halted p d w (New name class) w BadType
+  halted-ill : {d number : ℕ} {kind : MetaObject} → 0 < w.left → IsFree w.objects name → IsClassNamed p class number → IsClass p number kind → length w.objects < most_objects → (¬ BeginsWell p w.objects number kind) → Halted p d w (New name class None) w BadType
   halted-ill {number = number} {kind = kind} some free named is room ill =
       let after : State = record (accepted (at w [])) { objects = w.objects ++ made name number kind ∷ [] } in
       let not_well : IsWell p (at w []) after → ⊥ = λ well.
       ill (typed-fresh p w.objects name number main kind is (well.values (length w.objects) (made name number kind) (get-last w.objects (made name number kind)))) in
       record {
         stack = [];
-        front = record { taken = []; rest = New name class ∷ []; split = refl; runs = done };
+        front = record { taken = []; rest = New name class None ∷ []; split = refl; runs = done };
         reason = (some, inr (record { t = after; follows = by_event (accepts (idle w) (creates free named is room)); ill = not_well }));
       }
 
   -- no object is created
-  pub not-created : (d : ℕ) {f : CreateFault} → 0 < w.left → IsNotCreated p w.objects name class f → MatchResult (creation_reason f) (λ k. create p (at w []) name class (Err k)) (λ g. Halted p d w (New name class) w g)
+  pub not-created : (d : ℕ) {f : CreateFault} → 0 < w.left → IsNotCreated p w.objects name class f → MatchResult (creation_reason f) (λ k. create p (at w []) name class (Err k)) (λ g. Halted p d w (New name class None) w g)
   not-created d some (name_used is) = ends (fails (λ free. free _ is.named))
   not-created d some (no_class free none) = goes_on tt (holds free) (ends (missing (λ c is. none c.number (record { class = c.it; is = is.is; named = is.named }))))
   not-created d some (too_many {c = c} free named many) =
       goes_on tt (holds free) (goes_on (record { number = c; it = named.class }) (found (record { is = named.is; named = named.named })) (ends (fails (λ few. absurd (omega (arith, few, many))))))
   not-created d some (bad_type free named is room ill) = halted-ill some free named is room ill
-  not-created d some no_memory = halted-short (New name class) some
+  not-created d some no_memory = halted-short (New name class None) some
 
-  pub creation-stops : (d : ℕ) {f : CreateFault} {g : Fault} → 0 < w.left → IsNotCreated p w.objects name class f → Err g ≡ creation_reason f → Halted p d w (New name class) w g
+  pub creation-stops : (d : ℕ) {f : CreateFault} {g : Fault} → 0 < w.left → IsNotCreated p w.objects name class f → Err g ≡ creation_reason f → Halted p d w (New name class None) w g
   creation-stops d some is e =
-      let Decides : Result Refusal Fault → Type 0 = λ r. MatchResult r (λ k. create p (at w []) name class (Err k)) (λ h. Halted p d w (New name class) w h) in
+      let Decides : Result Refusal Fault → Type 0 = λ r. MatchResult r (λ k. create p (at w []) name class (Err k)) (λ h. Halted p d w (New name class None) w h) in
       subst Decides (sym e) (not-created d some is)
 
   pub creation-refuses : {f : CreateFault} {k : Refusal} → 0 < w.left → IsNotCreated p w.objects name class f → Ok k ≡ creation_reason f → create p (at w []) name class (Err k)
   creation-refuses some is e =
-      let Decides : Result Refusal Fault → Type 0 = λ r. MatchResult r (λ k. create p (at w []) name class (Err k)) (λ h. Halted p 0 w (New name class) w h) in
+      let Decides : Result Refusal Fault → Type 0 = λ r. MatchResult r (λ k. create p (at w []) name class (Err k)) (λ h. Halted p 0 w (New name class None) w h) in
       subst Decides (sym e) (not-created 0 some is)

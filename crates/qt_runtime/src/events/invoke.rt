@@ -8,7 +8,7 @@ ghost use Rattle.qt_runtime.specs.Taking.{WorldInvariant, Answers, AsksFor, invo
 ghost use Rattle.qt_runtime.specs.events.Invoke.{invoke, May, IsAskedOf};
 ghost use Rattle.script_lang.specs.declared.event.Event.{Event as AnEvent};
 
-use crate::events::connect::is_signal;
+use crate::events::ends::is_signal;
 use crate::events::named::find_living;
 use crate::events::values::read_inputs;
 use crate::judgement::{NotAccepted, refuse};

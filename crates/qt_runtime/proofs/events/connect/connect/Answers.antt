@@ -12,4 +12,4 @@ returns-in_err-accept_connection-in-Ok c = took-unchanged _ _ c.requires.left c.
 
 pub returns-in_ok-accept_connection-in-Ok : goal.returns-in_ok-accept_connection-in-Ok
 returns-in_ok-accept_connection-in-Ok c =
-    took-quiet (with_connection (accepted (at c.args.world.now [])) c.in-Ok.ends) _ c.in-Ok.ensures.accepted refl c.requires.keeps.sound.typed c.requires.left c.in_ok-accept_connection-in-Ok.ensures
+    took-quiet (with_connection (accepted (at c.args.world.now [])) c.in-Ok.ends c.args.how) _ c.in-Ok.ensures.accepted refl c.requires.keeps.sound.typed c.requires.left c.in_ok-accept_connection-in-Ok.ensures

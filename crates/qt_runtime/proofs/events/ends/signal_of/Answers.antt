@@ -1,5 +1,5 @@
-use Rattle.qt_runtime.proofs.Judging.Connecting.{not-signal}
-use Rattle.qt_runtime.proofs.events.connect.signal_of.Goals as goal
+use Rattle.qt_runtime.proofs.Judging.Ends.{not-signal}
+use Rattle.qt_runtime.proofs.events.ends.signal_of.Goals as goal
 
 pub returns-in_default : goal.returns-in_default
 returns-in_default c = λ g is. c.in_default.ensures.value g.number (record { method = g.it; is = is.of.is; signed = is.of.signed })
