@@ -3,6 +3,7 @@
 mod blocking;
 mod bodies;
 mod classes;
+mod connecting;
 mod events;
 mod refusals;
 mod rows;
