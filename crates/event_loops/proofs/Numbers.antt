@@ -1,5 +1,5 @@
 -- Each call keeps what holds of the items' numbers.
-use Rattle.std.proofs.Common.{◌≡◌, ⊎_elim, ◌≢◌, ℕ, zero, suc, ◌+◌, ◌<◌, ◌≤◌, ◌^◌, ◌-◌, Bool, true, false, cond, not, List, [], ◌∷◌, ◌++◌, length, map, filter, Option, None, Some, refl, arith, ap, sym, ◌∙◌, get_or, count_by, eqb}
+use Rattle.std.proofs.Common.{◌≡◌, ⊎_elim, ◌≢◌, ℕ, zero, suc, ◌+◌, ◌<◌, ◌≤◌, ◌^◌, ◌-◌, Bool, true, false, cond, not, List, [], ◌∷◌, ◌++◌, length, map, Option, None, Some, refl, arith, get_or, count_by, eqb}
 use Rattle.std.proofs.lemmas.Bool.{cases_eq, cases_lt, eq-eqb, ne_eqb}
 use Rattle.std.proofs.lemmas.List.Sums.{sum_by-cons, sum_by_push, sum_by-remove, get_or-le-sum_by}
 use Rattle.std.proofs.lemmas.List.Filters.{sum_by-filter_both}
@@ -7,9 +7,9 @@ use Rattle.std.proofs.lemmas.List.Kept.{AllPairs-filter}
 use Rattle.std.proofs.lemmas.List.Quantifiers.{all_pairs_remove, all_pairs_push}
 use Rattle.event_loops.specs.declared.item.Posted.{Posted}
 use Rattle.event_loops.specs.declared.item.Item.{Item}
-use Rattle.event_loops.specs.Queues.{Loop, Queues, items_at, change, is_before, is_for, without_first, without_first_before, none_for, with_items, with_item, without_object, posted_to, taken_before, dropped, with_loop}
+use Rattle.event_loops.specs.Queues.{Loop, Queues, items_at, change, is_before, is_for, without_first, none_for, with_items, with_item, posted_to, taken_before, dropped, with_loop}
 use Rattle.event_loops.specs.Rings.{place_of}
-use Rattle.event_loops.specs.Numbers.{has_number, count_under, AreDistinct, AreGiven, IsEarlier, IsInOrder, AreInOrder, IsNumbered}
+use Rattle.event_loops.specs.Numbers.{has_number, count_under, AreGiven, IsEarlier, IsInOrder, AreInOrder, IsNumbered}
 use Rattle.event_loops.proofs.Places.{without_first-nowhere, without_first-place, place_of-within}
 
 -- how many of a loop's items have the number

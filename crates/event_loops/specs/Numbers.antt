@@ -1,5 +1,5 @@
 -- The numbers of the items that wait: each is given once, in the order in which the items are posted.
-use Rattle.std.specs.Prelude.{ℕ, ◌+◌, ◌<◌, ◌≤◌, ◌^◌, eqb, Bool, List}
+use Rattle.std.specs.Prelude.{ℕ, ◌<◌, ◌≤◌, ◌^◌, eqb, Bool, List}
 use Rattle.std.specs.List.{AllPairs, count_by, sum_by}
 use Rattle.event_loops.specs.declared.item.Posted.{Posted}
 use Rattle.event_loops.specs.Queues.{Loop, Queues, items_at}

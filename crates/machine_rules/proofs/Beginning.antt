@@ -7,20 +7,19 @@ use Rattle.meta_model.specs.declared.object.ValueType.{ValueType}
 use Rattle.meta_model.specs.declared.object.Work.{Work}
 use Rattle.meta_model.specs.declared.object.Work.TheVariants.{Signal, Slot}
 use Rattle.meta_model.specs.Loaded.{Loaded}
-use Rattle.meta_model.specs.Values.{HaveTypes}
 use Rattle.connections.specs.declared.connection.Connection.{Connection}
 use Rattle.machine_state.specs.declared.entry.Entry.{Entry}
 use Rattle.machine_state.specs.declared.fault.Fault.{Fault}
 use Rattle.machine_state.specs.declared.fault.Fault.TheVariants.{BadType, TooDeep}
 use Rattle.object_tree.specs.declared.object.Object.{Object}
 use Rattle.machine_state.specs.declared.world.World.{World}
-use Rattle.object_tree.specs.Objects.{class_of}
 use Rattle.machine_state.specs.Objects.{all_shown}
 use Rattle.machine_state.specs.State.{State, Activation, Emit}
 use Rattle.machine_rules.specs.Rules.{Begins, begun, with_used, EmitRule, Uses}
 use Rattle.machine_state.specs.Connections.{next_used}
 use Rattle.machine_state.proofs.Due.{used-among, used-due, last-used}
-use Rattle.machine_rules.specs.Good.{AreTyped, ArgumentsFit, TopFits, IsWell}
+use Rattle.object_tree.specs.Typed.{AreTyped, ReadAs}
+use Rattle.machine_rules.specs.Good.{ArgumentsFit, TopFits, IsWell}
 use Rattle.machine_rules.specs.Sound.{Joined}
 use Rattle.machine_state.specs.Worlds.{at, noted, having_used}
 use Rattle.machine_rules.specs.Reaches.{Reaches, StopsIn, Ends, CallsIn, Calls, OnlyCalls, begin_entry, top_of, IsBegun, IsBarred}
@@ -28,7 +27,7 @@ use Rattle.machine_rules.specs.Active.{shows}
 use Rattle.machine_rules.proofs.Frames.{high, shows-over}
 use Rattle.machine_rules.specs.There.{IsMember}
 use Rattle.machine_rules.proofs.Reaching.{reaches-high, ends-after, ends-lifted, not-idle, stops-as, stops-memory, stops-deep, stops-ill, stops-stuck}
-use Rattle.machine_rules.proofs.Fields.{member-method, types-front}
+use Rattle.machine_rules.proofs.Fields.{member-method, read-front}
 
 -- the world after a method began
 abbrev pub begun_world : World → ℕ → Object → ℕ → MetaMethod → List Value → World
@@ -106,14 +105,14 @@ pub stops-no-member : {p : Loaded} {d o m : ℕ} {h : List (Option ℕ)} {w : Wo
 stops-no-member calls only none some = stops-stuck calls.goes_on some (λ below t r. let b = only.begins below t r in none b.object b.method b.is)
 
 -- the arguments that fit are of the method's types
-fit-typed : {p : Loaded} {objects : List Object} {o m : ℕ} {x : Object} {method : MetaMethod} {arguments : List Value} → IsMember p objects o m x method → ArgumentsFit p objects o m arguments → HaveTypes p (class_of objects) arguments method.kinds
+fit-typed : {p : Loaded} {objects : List Object} {o m : ℕ} {x : Object} {method : MetaMethod} {arguments : List Value} → IsMember p objects o m x method → ArgumentsFit p objects o m arguments → ReadAs p objects arguments method.kinds
 fit-typed {p} {objects} {o} {m} {x} {method} {arguments} is fit =
-    let Kinds : MetaMethod → Type 0 = λ k. HaveTypes p (class_of objects) arguments k.kinds in
+    let Kinds : MetaMethod → Type 0 = λ k. ReadAs p objects arguments k.kinds in
     subst Kinds (member-method fit.is is) fit.typed
 
 -- the arguments aren't of the method's types
 pub stops-ill-typed : {p : Loaded} {d o m : ℕ} {h : List (Option ℕ)} {w : World} {from to : List Activation} {x : Object} {method : MetaMethod} {arguments : List Value} →
-    Calls p w from to o m arguments → IsMember p w.objects o m x method → (¬ HaveTypes p (class_of w.objects) arguments method.kinds) → 0 < w.left → StopsIn p d h w from w BadType
+    Calls p w from to o m arguments → IsMember p w.objects o m x method → (¬ ReadAs p w.objects arguments method.kinds) → 0 < w.left → StopsIn p d h w from w BadType
 stops-ill-typed {p} {o = o} {m = m} {w = w} {from = from} {to = to} {x = x} {method = method} {arguments = arguments} calls is ill some =
     stops-ill some (λ below.
     let t : State = at (begun_world w (suc (length (to ++ below))) x m method arguments) (top_of o m arguments w.connected.last method.work ∷ to ++ below) in (
@@ -122,7 +121,7 @@ stops-ill-typed {p} {o = o} {m = m} {w = w} {from = from} {to = to} {x = x} {met
       λ (well : IsWell p (at w (from ++ below)) t). ill (fit-typed is (fits-top w.connected.last method.work (to ++ below) (well.arguments (omega (arith, calls.no_lower, length-append from below, length-append to below))))),
     ))
 
-pub fit-of : {p : Loaded} {objects : List Object} {o m : ℕ} {x : Object} {method : MetaMethod} {arguments : List Value} → IsMember p objects o m x method → HaveTypes p (class_of objects) arguments method.kinds → ArgumentsFit p objects o m arguments
+pub fit-of : {p : Loaded} {objects : List Object} {o m : ℕ} {x : Object} {method : MetaMethod} {arguments : List Value} → IsMember p objects o m x method → ReadAs p objects arguments method.kinds → ArgumentsFit p objects o m arguments
 fit-of {x = x} {method = method} is typed = record { object = x; method = method; is = is; typed = typed }
 
 -- ---- connections
@@ -139,9 +138,9 @@ next-fits {p} {objects} {arguments} now connections o g used last c found fit =
 -- the method that a connection leads to takes the first arguments of the signal
 pub delivered-fits : {p : Loaded} {objects : List Object} {c : Connection} {x : Object} {method : MetaMethod} {arguments taken : List Value} {count : ℕ} → Joined p objects c → ArgumentsFit p objects c.sender c.signal arguments → IsMember p objects c.receiver c.method x method → taken ≡ take count arguments → count ≡ length method.kinds → ArgumentsFit p objects c.receiver c.method taken
 delivered-fits {p} {objects} {c} {x} {method} {arguments} {taken} j fit is cut count_is =
-    let of_signal : HaveTypes p (class_of objects) arguments j.signal.kinds = fit-typed j.sends fit in
-    let split : HaveTypes p (class_of objects) arguments (j.method.kinds ++ j.rest) = subst (λ (l : List ValueType). HaveTypes p (class_of objects) arguments l) j.fits of_signal in
-    let front : HaveTypes p (class_of objects) (take (length j.method.kinds) arguments) j.method.kinds = types-front p (class_of objects) arguments j.method.kinds j.rest split in
+    let of_signal : ReadAs p objects arguments j.signal.kinds = fit-typed j.sends fit in
+    let split : ReadAs p objects arguments (j.method.kinds ++ j.rest) = subst (λ (l : List ValueType). ReadAs p objects arguments l) j.fits of_signal in
+    let front : ReadAs p objects (take (length j.method.kinds) arguments) j.method.kinds = read-front p objects arguments j.method.kinds j.rest split in
     let long : taken ≡ take (length method.kinds) arguments = cut ∙ ap (λ (n : ℕ). take n arguments) count_is in
     let has : ArgumentsFit p objects c.receiver c.method (take (length j.method.kinds) arguments) = fit-of j.receives front in
     let same : j.method ≡ method = member-method j.receives is in

@@ -1,5 +1,6 @@
 -- Values of lists of types, and objects whose properties are written.
-use Rattle.std.proofs.Common.{◌≡◌, ◌⊎◌, inl, inr, ℕ, zero, suc, List, [], ◌∷◌, ◌++◌, length, take, map, Option, Some, slice_get, slice_set, refl, sym, ap, ◌∙◌, subst}
+use Rattle.std.proofs.Common.{◌≡◌, ℕ, zero, suc, List, [], ◌∷◌, ◌++◌, length, take, map, Option, Some, slice_get, slice_set, refl, sym, ap, ◌∙◌, subst}
+use Rattle.std.specs.Option.{option_map, option_and_then}
 use Rattle.signatures.specs.declared.value.Value.{Value}
 use Rattle.meta_model.specs.declared.object.ValueType.{ValueType}
 use Rattle.meta_model.specs.declared.object.MetaObject.{MetaObject}
@@ -7,13 +8,14 @@ use Rattle.meta_model.specs.declared.object.MetaMethod.{MetaMethod}
 use Rattle.meta_model.specs.declared.object.MetaProperty.{MetaProperty}
 use Rattle.meta_model.specs.Loaded.{Loaded}
 use Rattle.meta_model.specs.Members.{IsClass, IsMethod}
-use Rattle.meta_model.specs.Values.{Has, HaveTypes}
+use Rattle.object_tree.specs.declared.life.Life.{Life}
 use Rattle.object_tree.specs.declared.object.Object.{Object}
-use Rattle.object_tree.specs.Objects.{written, class_of}
-use Rattle.machine_rules.specs.Good.{AreTyped}
-use Rattle.object_tree.specs.Typed.{IsTyped}
+use Rattle.object_tree.specs.Objects.{Lives, change_life, with_life, written}
+use Rattle.object_tree.specs.Typed.{AreTyped, ReadsAs, ReadAs}
+use Rattle.object_tree.proofs.Changing.{get-change_same, life-of-lives, one-life}
+use Rattle.object_tree.proofs.TypedObjects.{typed-written as written-well, reads-still, follow-unwritten}
+use Rattle.machine_state.specs.Objects.{stored}
 use Rattle.machine_rules.specs.There.{IsMember, IsField}
-use Rattle.machine_rules.proofs.Shapes.{classes-same, shapes-written}
 
 -- ---- what numbers lead to is unique
 
@@ -26,60 +28,59 @@ class-unique x y = some-is x.is y.is
 pub method-unique : {p : Loaded} {k m : ℕ} {a b : MetaMethod} → IsMethod p k m a → IsMethod p k m b → a ≡ b
 method-unique {m = m} x y = some-is x.is (ap (λ (c : MetaObject). slice_get c.methods m) (class-unique x.is_class y.is_class) ∙ y.is)
 
+pub life-unique : {objects : List Object} {o : ℕ} {x y : Object} {k l : Life} → Lives objects o x k → Lives objects o y l → k ≡ l
+life-unique {objects} {o} {x} {y} {k} {l} u v = one-life objects o x y k l u v
+
 pub member-object : {p : Loaded} {objects : List Object} {o m n : ℕ} {x y : Object} {a b : MetaMethod} → IsMember p objects o m x a → IsMember p objects o n y b → x ≡ y
-member-object u v = some-is u.is_object v.is_object
-
-pub member-method : {p : Loaded} {objects : List Object} {o m : ℕ} {x y : Object} {a b : MetaMethod} → IsMember p objects o m x a → IsMember p objects o m y b → a ≡ b
-member-method {p} {m = m} {y = y} {b = b} u v =
-    let At : Object → Type 0 = λ z. IsMethod p z.class m b in
-    method-unique u.is_method (subst At (sym (member-object u v)) v.is_method)
-
-pub field-property : {p : Loaded} {objects : List Object} {o q : ℕ} {x y : Object} {a b : MetaProperty} → IsField p objects o q x a → IsField p objects o q y b → a ≡ b
-field-property {p} {q = q} {b = b} u v =
-    let At : Object → Type 0 = λ z. IsClass p z.class v.class in
-    let class_is : u.class ≡ v.class = class-unique u.is_class (subst At (sym (some-is u.is_object v.is_object)) v.is_class) in
-    let In : MetaObject → Type 0 = λ c. slice_get c.properties q ≡ Some b in
-    some-is u.is_property (subst In (sym class_is) v.is_property)
+member-object u v = some-is u.lives.is v.lives.is
 
 -- a method of an object is one of its class
-pub member-at : {p : Loaded} {objects : List Object} {o m : ℕ} {x y : Object} {method : MetaMethod} → slice_get objects o ≡ Some y → IsMember p objects o m x method → IsMethod p y.class m method
-member-at {p} {m = m} {method = method} is u =
-    let At : Object → Type 0 = λ z. IsMethod p z.class m method in
-    subst At (some-is u.is_object is) u.is_method
+pub member-at : {p : Loaded} {objects : List Object} {o m : ℕ} {x y : Object} {l : Life} {method : MetaMethod} → Lives objects o y l → IsMember p objects o m x method → IsMethod p l.class m method
+member-at {p} {m = m} {method = method} lives u =
+    let At : Life → Type 0 = λ k. IsMethod p k.class m method in
+    subst At (life-unique u.lives lives) u.is_method
+
+pub member-method : {p : Loaded} {objects : List Object} {o m : ℕ} {x y : Object} {a b : MetaMethod} → IsMember p objects o m x a → IsMember p objects o m y b → a ≡ b
+member-method u v = method-unique u.is_method (member-at u.lives v)
+
+-- a property of an object is one of its class
+pub field-at : {p : Loaded} {objects : List Object} {o q : ℕ} {x y : Object} {l : Life} {property : MetaProperty} (class : MetaObject) → Lives objects o y l → IsClass p l.class class → IsField p objects o q x property → slice_get class.properties q ≡ Some property
+field-at {p} {q = q} {property = property} class lives is_class f =
+    let At : Life → Type 0 = λ k. IsClass p k.class class in
+    let same : f.class ≡ class = class-unique f.is_class (subst At (life-unique lives f.lives) is_class) in
+    subst (λ (c : MetaObject). slice_get c.properties q ≡ Some property) same f.is_property
+
+pub field-property : {p : Loaded} {objects : List Object} {o q : ℕ} {x y : Object} {a b : MetaProperty} → IsField p objects o q x a → IsField p objects o q y b → a ≡ b
+field-property u v = some-is u.is_property (field-at u.class u.lives u.is_class v)
+
+-- the value that a living object has of a property
+pub stored-is : {objects : List Object} {o : ℕ} {x : Object} {l : Life} (q : ℕ) → Lives objects o x l → stored objects o q ≡ slice_get l.values q
+stored-is q lives = ap (option_and_then (λ (l : Life). slice_get l.values q)) (life-of-lives lives)
 
 -- ---- values of lists of types
 
-pub types-front : (p : Loaded) (classes : ℕ → Option ℕ) (vs : List Value) (ks more : List ValueType) → HaveTypes p classes vs (ks ++ more) → HaveTypes p classes (take (length ks) vs) ks
-types-front p classes [] [] more h = tt
-types-front p classes (v ∷ vs) [] more h = tt
-types-front p classes [] (k ∷ ks) more h = absurd h
-types-front p classes (v ∷ vs) (k ∷ ks) more h = (h.0, types-front p classes vs ks more h.1)
+pub read-front : (p : Loaded) (objects : List Object) (vs : List Value) (ks more : List ValueType) → ReadAs p objects vs (ks ++ more) → ReadAs p objects (take (length ks) vs) ks
+read-front p objects [] [] more h = tt
+read-front p objects (v ∷ vs) [] more h = tt
+read-front p objects [] (k ∷ ks) more h = absurd h
+read-front p objects (v ∷ vs) (k ∷ ks) more h = (h.0, read-front p objects vs ks more h.1)
 
-pub types-get : (p : Loaded) (classes : ℕ → Option ℕ) (vs : List Value) (ks : List ValueType) (q : ℕ) (v : Value) (k : ValueType) → HaveTypes p classes vs ks → slice_get vs q ≡ Some v → slice_get ks q ≡ Some k → Has p classes v k
-types-get p classes [] [] q v k h a b = absurd (cc a)
-types-get p classes [] (j ∷ ks) q v k h a b = absurd h
-types-get p classes (u ∷ vs) [] q v k h a b = absurd h
-types-get p classes (u ∷ vs) (j ∷ ks) zero v k h a b =
+pub read-get : (p : Loaded) (objects : List Object) (vs : List Value) (ks : List ValueType) (q : ℕ) (v : Value) (k : ValueType) → ReadAs p objects vs ks → slice_get vs q ≡ Some v → slice_get ks q ≡ Some k → ReadsAs p objects v k
+read-get p objects [] [] q v k h a b = absurd (cc a)
+read-get p objects [] (j ∷ ks) q v k h a b = absurd h
+read-get p objects (u ∷ vs) [] q v k h a b = absurd h
+read-get p objects (u ∷ vs) (j ∷ ks) zero v k h a b =
     let value_is : u ≡ v = cc a in
     let kind_is : j ≡ k = cc b in
-    subst (λ (x : Value). Has p classes x k) value_is (subst (λ (x : ValueType). Has p classes u x) kind_is h.0)
-types-get p classes (u ∷ vs) (j ∷ ks) (suc q) v k h a b = types-get p classes vs ks q v k h.1 a b
+    subst (λ (x : Value). ReadsAs p objects x k) value_is (subst (λ (x : ValueType). ReadsAs p objects u x) kind_is h.0)
+read-get p objects (u ∷ vs) (j ∷ ks) (suc q) v k h a b = read-get p objects vs ks q v k h.1 a b
 
-pub types-there : (p : Loaded) (classes : ℕ → Option ℕ) (vs : List Value) (ks : List ValueType) (q : ℕ) (k : ValueType) → HaveTypes p classes vs ks → slice_get ks q ≡ Some k → (v : Value) × (slice_get vs q ≡ Some v)
-types-there p classes [] [] q k h b = absurd (cc b)
-types-there p classes [] (j ∷ ks) q k h b = absurd h
-types-there p classes (u ∷ vs) [] q k h b = absurd h
-types-there p classes (u ∷ vs) (j ∷ ks) zero k h b = (u, refl)
-types-there p classes (u ∷ vs) (j ∷ ks) (suc q) k h b = types-there p classes vs ks q k h.1 b
-
-pub types-set : (p : Loaded) (classes : ℕ → Option ℕ) (vs : List Value) (ks : List ValueType) (q : ℕ) (v : Value) (k : ValueType) → HaveTypes p classes vs ks → slice_get ks q ≡ Some k → Has p classes v k → HaveTypes p classes (slice_set vs q v) ks
-types-set p classes [] [] q v k h b new = absurd (cc b)
-types-set p classes [] (j ∷ ks) q v k h b new = absurd h
-types-set p classes (u ∷ vs) [] q v k h b new = absurd h
-types-set p classes (u ∷ vs) (j ∷ ks) zero v k h b new =
-    let kind_is : j ≡ k = cc b in
-    (subst (λ (x : ValueType). Has p classes v x) (sym kind_is) new, h.1)
-types-set p classes (u ∷ vs) (j ∷ ks) (suc q) v k h b new = (h.0, types-set p classes vs ks q v k h.1 b new)
+pub read-there : (p : Loaded) (objects : List Object) (vs : List Value) (ks : List ValueType) (q : ℕ) (k : ValueType) → ReadAs p objects vs ks → slice_get ks q ≡ Some k → (v : Value) × (slice_get vs q ≡ Some v)
+read-there p objects [] [] q k h b = absurd (cc b)
+read-there p objects [] (j ∷ ks) q k h b = absurd h
+read-there p objects (u ∷ vs) [] q k h b = absurd h
+read-there p objects (u ∷ vs) (j ∷ ks) zero k h b = (u, refl)
+read-there p objects (u ∷ vs) (j ∷ ks) (suc q) k h b = read-there p objects vs ks q k h.1 b
 
 -- ---- a list with a place set
 
@@ -87,16 +88,6 @@ pub set-get : {X : Type 0} (xs : List X) (k : ℕ) (x y : X) → slice_get xs k 
 set-get [] k x y e = absurd (cc e)
 set-get (z ∷ zs) zero x y e = refl
 set-get (z ∷ zs) (suc k) x y e = set-get zs k x y e
-
-pub set-other : {X : Type 0} (xs : List X) (k j : ℕ) (y z : X) → slice_get (slice_set xs k y) j ≡ Some z → (z ≡ y) × (k ≡ j) ⊎ (slice_get xs j ≡ Some z)
-set-other [] k j y z e = inr e
-set-other (x ∷ xs) zero zero y z e = let same : y ≡ z = cc e in inl (sym same, refl)
-set-other (x ∷ xs) zero (suc j) y z e = inr e
-set-other (x ∷ xs) (suc k) zero y z e = inr e
-set-other (x ∷ xs) (suc k) (suc j) y z e = elim (set-other xs k j y z e) as (λ r. (z ≡ y) × (suc k ≡ suc j) ⊎ (slice_get (x ∷ xs) (suc j) ≡ Some z)) [
-  | inl a ↦ inl (a.0, ap suc a.1)
-  | inr b ↦ inr b
-]
 
 pub map-get : {X Y : Type 0} (f : X → Y) (xs : List X) (k : ℕ) (x : X) → slice_get xs k ≡ Some x → slice_get (map f xs) k ≡ Some (f x)
 map-get f [] k x e = absurd (cc e)
@@ -108,51 +99,56 @@ map-get f (y ∷ ys) (suc k) x e = map-get f ys k x e
 abbrev pub kind_of : MetaProperty → ValueType
 kind_of q = q.kind
 
--- the classes of the objects after a write
-classes-written : {p : Loaded} {objects : List Object} {o q : ℕ} {x : Object} {property : MetaProperty} (new : Value) → IsField p objects o q x property → class_of (slice_set objects o (written q new x)) ≡ class_of objects
-classes-written {objects = objects} {o = o} {q = q} {x = x} new f = classes-same _ _ (shapes-written objects o x q new f.is_object)
-
 -- the values of an object that has the property
-pub field-typed : {p : Loaded} {objects : List Object} {o q : ℕ} {x : Object} {property : MetaProperty} (f : IsField p objects o q x property) → AreTyped p objects → HaveTypes p (class_of objects) x.values (map kind_of f.class.properties)
+pub field-typed : {p : Loaded} {objects : List Object} {o q : ℕ} {x : Object} {property : MetaProperty} (f : IsField p objects o q x property) → AreTyped p objects → ReadAs p objects f.life.values (map kind_of f.class.properties)
 field-typed {p} {objects} {o} {x = x} f typed =
-    let t = typed o x f.is_object in
-    subst (λ (c : MetaObject). HaveTypes p (class_of objects) x.values (map kind_of c.properties)) (class-unique t.is_class f.is_class) t.typed
+    let t = typed o x f.life f.lives in
+    subst (λ (c : MetaObject). ReadAs p objects f.life.values (map kind_of c.properties)) (class-unique t.is_class f.is_class) t.typed
 
-pub old-there : {p : Loaded} {objects : List Object} {o q : ℕ} {x : Object} {property : MetaProperty} → IsField p objects o q x property → AreTyped p objects → (v : Value) × (slice_get x.values q ≡ Some v)
-old-there {p} {objects} {q = q} {property = property} f typed = types-there p (class_of objects) _ _ q property.kind (field-typed f typed) (map-get kind_of f.class.properties q property f.is_property)
+pub old-there : {p : Loaded} {objects : List Object} {o q : ℕ} {x : Object} {property : MetaProperty} → IsField p objects o q x property → AreTyped p objects → (v : Value) × (stored objects o q ≡ Some v)
+old-there {p} {objects} {q = q} {property = property} f typed =
+    let there = read-there p objects _ _ q property.kind (field-typed f typed) (map-get kind_of f.class.properties q property f.is_property) in
+    (there.0, stored-is q f.lives ∙ there.1)
 
-pub typed-written : {p : Loaded} {objects : List Object} {o q : ℕ} {x : Object} {property : MetaProperty} {new : Value} → IsField p objects o q x property → AreTyped p objects → Has p (class_of objects) new property.kind → AreTyped p (slice_set objects o (written q new x))
-typed-written {p} {objects} {o} {q} {x} {property} {new} f typed has = λ k y is.
-    let after : List Object = slice_set objects o (written q new x) in
-    let classes : class_of objects ≡ class_of after = sym (classes-written new f) in
-    let at_written : IsTyped p after (written q new x) = record {
-      class = f.class;
-      is_class = f.is_class;
-      typed = subst (λ (c : ℕ → Option ℕ). HaveTypes p c (slice_set x.values q new) (map kind_of f.class.properties)) classes (types-set p (class_of objects) x.values (map kind_of f.class.properties) q new property.kind (field-typed f typed) (map-get kind_of f.class.properties q property f.is_property) has);
-    } in
-    elim (set-other objects o k (written q new x) y is) as (λ r. IsTyped p after y) [
-      | inl a ↦ subst (λ (z : Object). IsTyped p after z) (sym a.0) at_written
-      | inr b ↦ (let t = typed k y b in record {
-        class = t.class;
-        is_class = t.is_class;
-        typed = subst (λ (c : ℕ → Option ℕ). HaveTypes p c y.values (map kind_of t.class.properties)) classes t.typed;
-      })
-    ]
+-- the value that a property has reads as its type
+pub stored-reads : {p : Loaded} {objects : List Object} {o q : ℕ} {x : Object} {property : MetaProperty} {v : Value} → IsField p objects o q x property → AreTyped p objects → stored objects o q ≡ Some v → ReadsAs p objects v property.kind
+stored-reads {p} {objects} {q = q} {property = property} {v = v} f typed is =
+    read-get p objects _ _ q v property.kind (field-typed f typed) (sym (stored-is q f.lives) ∙ is) (map-get kind_of f.class.properties q property f.is_property)
+
+pub typed-written : {p : Loaded} {objects : List Object} {o q : ℕ} {x : Object} {property : MetaProperty} (new : Value) → IsField p objects o q x property → AreTyped p objects → ReadsAs p objects new property.kind → AreTyped p (change_life o (written q new) objects)
+typed-written {p} {objects} {o} {q} {x} {property} new f typed reads =
+    written-well p objects o q new (record {
+      object = x;
+      life = f.life;
+      lives = f.lives;
+      property = property;
+      is_property = record { class = f.class; is_class = f.is_class; is = f.is_property };
+      reads = reads;
+    }) typed
+
+-- the object lives on
+pub lives-written : {objects : List Object} {o : ℕ} {x : Object} {l : Life} (q : ℕ) (new : Value) → Lives objects o x l → Lives (change_life o (written q new) objects) o (with_life (written q new) x) (written q new l)
+lives-written {objects} {o} q new lives = record {
+  is = get-change_same o (with_life (written q new)) objects ∙ ap (option_map (with_life (written q new))) lives.is;
+  lives = ap (option_map (written q new)) lives.lives;
+}
 
 -- a value that is written and stays of its type had it
-pub written-typed : {p : Loaded} {objects : List Object} {o q : ℕ} {x : Object} {property : MetaProperty} {new : Value} → IsField p objects o q x property → AreTyped p objects → AreTyped p (slice_set objects o (written q new x)) → Has p (class_of objects) new property.kind
-written-typed {p} {objects} {o} {q} {x} {property} {new} f typed after =
-    let old = old-there f typed in
-    let t = after o (written q new x) (set-get objects o x (written q new x) f.is_object) in
-    let kinds : HaveTypes p (class_of (slice_set objects o (written q new x))) (slice_set x.values q new) (map kind_of f.class.properties) =
-    subst (λ (c : MetaObject). HaveTypes p (class_of (slice_set objects o (written q new x))) (slice_set x.values q new) (map kind_of c.properties)) (class-unique t.is_class f.is_class) t.typed in
-    let has = types-get p _ _ _ q new property.kind kinds (set-get x.values q old.0 new old.1) (map-get kind_of f.class.properties q property f.is_property) in
-    subst (λ (c : ℕ → Option ℕ). Has p c new property.kind) (classes-written new f) has
+pub written-typed : {p : Loaded} {objects : List Object} {o q : ℕ} {x : Object} {property : MetaProperty} (new : Value) → IsField p objects o q x property → AreTyped p objects → AreTyped p (change_life o (written q new) objects) → ReadsAs p objects new property.kind
+written-typed {p} {objects} {o} {q} {x} {property} new f typed after =
+    let old = read-there p objects _ _ q property.kind (field-typed f typed) (map-get kind_of f.class.properties q property f.is_property) in
+    let later : List Object = change_life o (written q new) objects in
+    let t = after o (with_life (written q new) x) (written q new f.life) (lives-written q new f.lives) in
+    let kinds : ReadAs p later (slice_set f.life.values q new) (map kind_of f.class.properties) =
+    subst (λ (c : MetaObject). ReadAs p later (slice_set f.life.values q new) (map kind_of c.properties)) (class-unique t.is_class f.is_class) t.typed in
+    let reads = read-get p later _ _ q new property.kind kinds (set-get f.life.values q old.0 new old.1) (map-get kind_of f.class.properties q property f.is_property) in
+    reads-still p later objects (follow-unwritten o q new objects) new property.kind reads
 
 -- the property is there after the write
-abbrev pub field-written : {p : Loaded} {objects : List Object} {o q : ℕ} {x : Object} {property : MetaProperty} (new : Value) → IsField p objects o q x property → IsField p (slice_set objects o (written q new x)) o q (written q new x) property
-field-written {objects = objects} {o = o} {q = q} {x = x} new f = record {
-  is_object = set-get objects o x (written q new x) f.is_object;
+abbrev pub field-written : {p : Loaded} {objects : List Object} {o q : ℕ} {x : Object} {property : MetaProperty} (new : Value) → IsField p objects o q x property → IsField p (change_life o (written q new) objects) o q (with_life (written q new) x) property
+field-written {q = q} new f = record {
+  life = written q new f.life;
+  lives = lives-written q new f.lives;
   class = f.class;
   is_class = f.is_class;
   is_property = f.is_property;

@@ -1,72 +1,77 @@
 -- What each rule leaves as it was.
-use Rattle.std.proofs.Common.{◌≡◌, ℕ, zero, suc, List, [], ◌∷◌, ◌++◌, Option, Some, None, slice_get, slice_set, refl, sym, ap, ◌∙◌, subst, arith, Result, Ok, Err, append_assoc, append-nil}
+use Rattle.std.proofs.Common.{◌≡◌, inl, ℕ, suc, List, [], ◌∷◌, ◌++◌, Option, Some, None, slice_get, refl, sym, ap, ◌∙◌, subst, arith, Result, Ok, Err, append_assoc, append-nil}
 use Rattle.signatures.specs.declared.value.Value.{Value}
 use Rattle.meta_model.specs.Loaded.{Loaded}
 use Rattle.meta_model.specs.declared.object.Statement.{Statement}
 use Rattle.meta_model.specs.declared.object.Work.{Work}
 use Rattle.meta_model.specs.declared.object.Work.TheVariants.{Signal, Slot}
 use Rattle.meta_model.specs.declared.object.MetaMethod.{MetaMethod}
+use Rattle.object_tree.specs.declared.life.Life.{Life}
 use Rattle.object_tree.specs.declared.object.Object.{Object}
 use Rattle.connections.specs.declared.connection.Connection.{Connection}
 use Rattle.machine_state.specs.declared.fault.Fault.{Fault}
 use Rattle.machine_state.specs.declared.world.World.{World}
-use Rattle.machine_state.specs.Objects.{shapes_of}
 use Rattle.machine_state.specs.Worlds.{at, using}
 use Rattle.machine_state.proofs.Due.{last-used, all-used}
 use Rattle.machine_state.specs.State.{State, Place, Activation, Body, Emit, Update}
 use Rattle.machine_rules.specs.Rules.{RuleAt, BodyRule, Does, EmitRule, UpdateRule, Begins, Writes, begun, with_used}
 use Rattle.machine_rules.specs.Doings.{Doing, Write, Begin, Choose, Nothing}
 use Rattle.machine_state.specs.Connections.{next_used}
-use Rattle.meta_model.specs.Values.{Has, HaveTypes, number_has, truth_has, text_has, null_has, object_has}
 use Rattle.meta_model.specs.declared.object.ValueType.{ValueType}
-use Rattle.object_tree.specs.Objects.{class_of, written}
+use Rattle.object_tree.specs.Objects.{Lives, life_of, class_of, change_life, written}
+use Rattle.object_tree.proofs.Changing.{life-of-lives, lives-of-life}
+use Rattle.object_tree.specs.Typed.{AreTyped, ReadsAs, ReadAs}
 use Rattle.machine_state.specs.declared.entry.Entry.{Entry}
-use Rattle.machine_rules.specs.There.{IsMember}
-use Rattle.machine_rules.specs.Good.{AreTyped, ArgumentsFit}
+use Rattle.machine_rules.specs.There.{IsMember, IsField}
+use Rattle.machine_rules.proofs.Fields.{typed-written}
+use Rattle.meta_model.specs.declared.object.MetaProperty.{MetaProperty}
+use Rattle.machine_rules.specs.Good.{ArgumentsFit}
 use Rattle.machine_rules.specs.Runs.{Rules, done, then}
 use Rattle.machine_rules.specs.Sound.{Sound, Joined}
 use Rattle.machine_rules.specs.Active.{whose, shows}
 use Rattle.machine_rules.specs.Reaches.{Reaches, StopsIn, Ends}
 use Rattle.machine_rules.specs.Keeps.{StayThere, AllJoined, Grows, Keeps, KeepsWorld}
-use Rattle.machine_rules.proofs.Shapes.{shapes-written, classes-same}
+use Rattle.object_tree.proofs.TypedObjects.{Follow, read-still, class-written, seen-written}
 use Rattle.std.specs.Option.{option_map}
 use Rattle.meta_model.specs.Members.{IsMethod}
 
 -- ---- objects that stay
 
--- an object of a class is there
-there-of-class : (objects : List Object) (o class : ℕ) → class_of objects o ≡ Some class → (x : Object) × (slice_get objects o ≡ Some x) × (x.class ≡ class)
-there-of-class [] o class e = absurd (cc e)
-there-of-class (x ∷ xs) zero class e = (x, refl, cc e)
-there-of-class (x ∷ xs) (suc i) class e = there-of-class xs i class e
+-- an object of a class lives
+pub lives-of-class : (objects : List Object) (o class : ℕ) → class_of objects o ≡ Some class → (x : Object) × (l : Life) × Lives objects o x l × (l.class ≡ class)
+lives-of-class objects o class e = by_life (life_of objects o) refl e
+  where
+    by_life : (there : Option Life) → life_of objects o ≡ there → option_map (λ (l : Life). l.class) there ≡ Some class → (x : Object) × (l : Life) × Lives objects o x l × (l.class ≡ class)
+    by_life None is f = absurd (cc f)
+    by_life (Some l) is f = let there = lives-of-life objects o l is in (there.0, l, there.1, cc f)
 
-pub stays : (old new : List Object) (o : ℕ) {x : Object} → StayThere old new → slice_get old o ≡ Some x → (y : Object) × (slice_get new o ≡ Some y) × (y.class ≡ x.class)
-stays old new o {x} stay is = there-of-class new o x.class (stay o x.class (ap (λ (f : Option Object). option_map (λ (y : Object). y.class) f) is))
+-- .. and a living object has a class
+pub class-of-lives : (objects : List Object) (o : ℕ) {x : Object} {l : Life} → Lives objects o x l → class_of objects o ≡ Some l.class
+class-of-lives objects o lives = ap (option_map (λ (l : Life). l.class)) (life-of-lives lives)
+
+pub stays : (old new : List Object) (o : ℕ) {x : Object} {l : Life} → StayThere old new → Lives old o x l → (y : Object) × (k : Life) × Lives new o y k × (k.class ≡ l.class)
+stays old new o {x} {l} stay lives = lives-of-class new o l.class (stay.living o l.class (class-of-lives old o lives))
 
 -- a method of an object stays one of it
 pub member-still : {p : Loaded} {old new : List Object} {o m : ℕ} {x : Object} {method : MetaMethod} → StayThere old new → IsMember p old o m x method → (y : Object) × IsMember p new o m y method
 member-still {p} {old} {new} {o} {m} {x} {method} stay is =
-    let there = stays old new o stay is.is_object in
+    let there = stays old new o stay is.lives in
     let Methods : ℕ → Type 0 = λ k. IsMethod p k m method in
-    (there.0, record { is_object = there.1; is_method = subst Methods (sym there.2) is.is_method })
+    (there.0, record { life = there.1; lives = there.2; is_method = subst Methods (sym there.3) is.is_method })
 
--- what has a type has it still
-value-stays : (p : Loaded) (f g : ℕ → Option ℕ) → ((o class : ℕ) → f o ≡ Some class → g o ≡ Some class) → (v : Value) (T : ValueType) → Has p f v T → Has p g v T
-value-stays p f g stay v T number_has = number_has
-value-stays p f g stay v T truth_has = truth_has
-value-stays p f g stay v T text_has = text_has
-value-stays p f g stay v T null_has = null_has
-value-stays p f g stay v T (object_has {o = o} {d = d} is below) = object_has (stay o d is) below
+-- what reads as a type does so still
+follow-stay : {old new : List Object} → StayThere old new → Follow old new
+follow-stay stay = record { stays = λ o c e. inl (stay.living o c e); rests = stay.dead }
 
-pub values-stay : (p : Loaded) (f g : ℕ → Option ℕ) → ((o class : ℕ) → f o ≡ Some class → g o ≡ Some class) → (vs : List Value) (Ts : List ValueType) → HaveTypes p f vs Ts → HaveTypes p g vs Ts
-values-stay p f g stay [] [] have = tt
-values-stay p f g stay [] (T ∷ Ts) have = absurd have
-values-stay p f g stay (v ∷ vs) [] have = absurd have
-values-stay p f g stay (v ∷ vs) (T ∷ Ts) have = (value-stays p f g stay v T have.0, values-stay p f g stay vs Ts have.1)
+pub values-stay : (p : Loaded) {old new : List Object} → StayThere old new → (vs : List Value) (Ts : List ValueType) → ReadAs p old vs Ts → ReadAs p new vs Ts
+values-stay p {old} {new} stay vs Ts have = read-still p old new (follow-stay stay) vs Ts have
 
--- objects of the same names and classes
-pub same-stay : (old new : List Object) → shapes_of new ≡ shapes_of old → StayThere old new
-same-stay old new same o class is = ap (λ (f : ℕ → Option ℕ). f o) (classes-same new old same) ∙ is
+pub all-stay : (objects : List Object) → StayThere objects objects
+all-stay objects = record { living = λ o class is. is; dead = λ o is. is }
+
+-- objects of which one is written
+pub written-stay : (objects : List Object) (o q : ℕ) (new : Value) → StayThere objects (change_life o (written q new) objects)
+written-stay objects o q new = record { living = λ k class is. class-written o q new objects k ∙ is; dead = λ k is. seen-written o q new objects k ∙ is }
 
 -- ---- connections join what they joined
 
@@ -110,11 +115,11 @@ grows-then {a} x y =
 -- ---- from state to state
 
 pub keeps-same : {p : Loaded} {s : State} {n : ℕ} → Keeps p s n s n
-keeps-same {s = s} = record { objects = λ o class is. is; joined = λ all. all; connected = omega arith; paid = omega arith; events = refl; fewer = omega arith; grows = grows-same s.trace }
+keeps-same {s = s} = record { objects = all-stay _; joined = λ all. all; connected = omega arith; paid = omega arith; events = refl; fewer = omega arith; grows = grows-same s.trace }
 
 pub keeps-then : {p : Loaded} {s m t : State} {n j k : ℕ} → Keeps p s n m j → Keeps p m j t k → Keeps p s n t k
 keeps-then x y = record {
-  objects = λ o class is. y.objects o class (x.objects o class is);
+  objects = record { living = λ o class is. y.objects.living o class (x.objects.living o class is); dead = λ o is. y.objects.dead o (x.objects.dead o is) };
   joined = λ all. y.joined (x.joined all);
   connected = omega (arith, x.connected, y.connected);
   paid = omega (arith, x.paid, y.paid);
@@ -130,7 +135,7 @@ keeps-is {p} {s} {n = n} {k = k} e x = let Family : State → Type 0 = λ u. Kee
 
 -- objects, connections and numbers are those that they were
 keeps-all : {p : Loaded} {s : State} (stack : List Activation) {trace : List Entry} → Grows s.trace trace → Keeps p s 1 (record s { stack = stack; trace = trace }) 0
-keeps-all stack grows = record { objects = λ o class is. is; joined = λ all. all; connected = omega arith; paid = omega arith; events = refl; fewer = omega arith; grows = grows }
+keeps-all stack grows = record { objects = all-stay _; joined = λ all. all; connected = omega arith; paid = omega arith; events = refl; fewer = omega arith; grows = grows }
 
 -- a connection is used
 used-kept : {p : Loaded} {s : State} {n : ℕ} (c : Connection) → Keeps p s n (with_used s c) n
@@ -153,7 +158,7 @@ begins-kept {p = p} {s = s} {below = below} {o = o} {m = m} {arguments = argumen
 
 pub writes-kept : {p : Loaded} {s : State} {below : List Activation} {o q : ℕ} {new : Value} {t : State} → Writes p s below o q new t → Keeps p s 1 t 0
 writes-kept {p = p} {s = s} {o = o} {q = q} {new = new} x =
-    let stay : StayThere s.objects (slice_set s.objects o (written q new x.object)) = same-stay s.objects _ (shapes-written s.objects o x.object q new x.is.is_object) in
+    let stay : StayThere s.objects (change_life o (written q new) s.objects) = written-stay s.objects o q new in
     keeps-is x.gives (record {
       objects = stay;
       joined = λ all. all-joined-still p s.objects _ s.connected.connections stay all;
@@ -251,6 +256,15 @@ ends-sound r x sound = keeps-sound (ends-keeps r x) (ends-typed r x sound.typed)
 pub reaches-sound : {p : Loaded} {d : ℕ} {h : List (Option ℕ)} {w v : World} {a b : List Activation} → Reaches p d h w a v b → Sound p w.objects w.connected.connections → Sound p v.objects v.connected.connections
 reaches-sound x sound = keeps-sound (reaches-keeps x) (reaches-typed x sound.typed) sound
 
+-- .. also by a write
+pub sound-written : {p : Loaded} {objects : List Object} {connections : List Connection} {o q : ℕ} {x : Object} {property : MetaProperty} (new : Value) → IsField p objects o q x property → ReadsAs p objects new property.kind → Sound p objects connections → Sound p (change_life o (written q new) objects) connections
+sound-written {p} {objects} {connections} {o} {q} new f reads sound =
+    record { typed = typed-written new f sound.typed reads; joined = all-joined-still p objects _ connections (written-stay objects o q new) sound.joined }
+
+-- a world that is known to be another one
+pub sound-as : {p : Loaded} {w v : World} → v ≡ w → Sound p w.objects w.connected.connections → Sound p v.objects v.connected.connections
+sound-as {p} is sound = let In : World → Type 0 = λ u. Sound p u.objects u.connected.connections in subst In (sym is) sound
+
 -- arguments fit as long as the objects stay there
 pub fit-still : {p : Loaded} {w v : World} {o m : ℕ} {arguments : List Value} → KeepsWorld p w v → ArgumentsFit p w.objects o m arguments → ArgumentsFit p v.objects o m arguments
 fit-still {p} {w} {v} {o} {m} {arguments} keeps fit =
@@ -259,5 +273,5 @@ fit-still {p} {w} {v} {o} {m} {arguments} keeps fit =
       object = there.0;
       method = fit.method;
       is = there.1;
-      typed = values-stay p (class_of w.objects) (class_of v.objects) keeps.objects arguments fit.method.kinds fit.typed;
+      typed = values-stay p keeps.objects arguments fit.method.kinds fit.typed;
     }

@@ -1,10 +1,9 @@
 pub mod Frames
-pub mod Shapes
 pub mod Keeps
 pub mod Reaching
 pub mod Fields
 pub mod Beginning
-pub mod Writing
+pub mod Writes
 pub mod Bodies
 pub mod Reading
 pub mod Yielding

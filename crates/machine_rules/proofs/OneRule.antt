@@ -1,5 +1,5 @@
 -- From one state at most one follows by a rule.
-use Rattle.std.proofs.Common.{◌≡◌, ℕ, List, [], ◌∷◌, length, take, Option, Some, None, slice_get, slice_set, refl, sym, ap, ◌∙◌, subst}
+use Rattle.std.proofs.Common.{◌≡◌, ℕ, List, [], ◌∷◌, length, take, Option, Some, None, refl, sym, ap, ◌∙◌, subst}
 use Rattle.signatures.specs.declared.value.Value.{Value}
 use Rattle.meta_model.specs.declared.object.MetaMethod.{MetaMethod}
 use Rattle.meta_model.specs.declared.object.MetaProperty.{MetaProperty}
@@ -7,8 +7,10 @@ use Rattle.meta_model.specs.declared.object.Statement.{Statement}
 use Rattle.meta_model.specs.declared.object.Work.TheVariants.{Signal}
 use Rattle.meta_model.specs.Loaded.{Loaded}
 use Rattle.meta_model.specs.Members.{IsMethod}
+use Rattle.object_tree.specs.declared.life.Life.{Life}
 use Rattle.object_tree.specs.declared.object.Object.{Object}
-use Rattle.object_tree.specs.Objects.{written}
+use Rattle.object_tree.specs.Objects.{change_life, written}
+use Rattle.object_tree.specs.Seen.{seen}
 use Rattle.connections.specs.declared.connection.Connection.{Connection}
 use Rattle.machine_state.specs.declared.entry.Entry.TheVariants.{At}
 use Rattle.machine_state.specs.declared.entry.Happening.TheVariants.{Written}
@@ -17,17 +19,14 @@ use Rattle.machine_state.specs.Objects.{shown}
 use Rattle.machine_state.specs.State.{State, Place, Activation, Body, Emit, Update}
 use Rattle.machine_rules.specs.Doings.{Doing, Write, Begin, Choose, Nothing}
 use Rattle.machine_rules.specs.Rules.{Rule, RuleAt, BodyRule, Does, EmitRule, Uses, UpdateRule, Notifies, Begins, Writes, Changes, places_of, changed, unchanged, silent, begun, pushed, with_used}
-use Rattle.machine_rules.proofs.Fields.{some-is, method-unique, member-object, member-method, field-property}
+use Rattle.machine_rules.proofs.Fields.{some-is, life-unique, method-unique, member-object, member-method, field-property}
 
--- two methods of one number of one object's class
-method-is : {p : Loaded} {x y : Object} {m n : ℕ} {a b : MetaMethod} → x ≡ y → m ≡ n → IsMethod p x.class m a → IsMethod p y.class n b → a ≡ b
-method-is {p} {x} {y} {m} {n} {a} {b} object_is number_is f g =
-    let At : Object → Type 0 = λ z. IsMethod p z.class n b in
+-- two methods of one number of one life's class
+method-is : {p : Loaded} {x y : Life} {m n : ℕ} {a b : MetaMethod} → x ≡ y → m ≡ n → IsMethod p x.class m a → IsMethod p y.class n b → a ≡ b
+method-is {p} {x} {y} {m} {n} {a} {b} life_is number_is f g =
+    let At : Life → Type 0 = λ z. IsMethod p z.class n b in
     let Numbered : ℕ → Type 0 = λ k. IsMethod p x.class k b in
-    method-unique f (subst Numbered (sym number_is) (subst At (sym object_is) g))
-
-value-is : (q : ℕ) {x y : Object} {a b : Value} → x ≡ y → slice_get x.values q ≡ Some a → slice_get y.values q ≡ Some b → a ≡ b
-value-is q {b = b} object_is f g = let At : Object → Type 0 = λ z. slice_get z.values q ≡ Some b in some-is f (subst At (sym object_is) g)
+    method-unique f (subst Numbered (sym number_is) (subst At (sym life_is) g))
 
 pub begins-one : {p : Loaded} {s t u : State} {below : List Activation} {o m : ℕ} {arguments : List Value} → Begins p s below o m arguments t → Begins p s below o m arguments u → t ≡ u
 begins-one {s = s} {below = below} {o = o} {m = m} {arguments = arguments} a b =
@@ -47,13 +46,13 @@ changes-one silent silent = refl
 
 pub writes-one : {p : Loaded} {s t u : State} {below : List Activation} {o q : ℕ} {new : Value} → Writes p s below o q new t → Writes p s below o q new u → t ≡ u
 writes-one {s = s} {below = below} {o = o} {q = q} {new = new} a b =
-    let object_is : a.object ≡ b.object = some-is a.is.is_object b.is.is_object in
+    let object_is : a.object ≡ b.object = some-is a.is.lives.is b.is.lives.is in
     let property_is : a.property ≡ b.property = field-property a.is b.is in
-    let old_is : a.old ≡ b.old = value-is _ object_is a.is_old b.is_old in
-    let Of : Value → MetaProperty → Type 0 = λ v k. Changes v new k.notify b.signal in
+    let old_is : a.old ≡ b.old = some-is a.is_old b.is_old in
+    let Of : Value → MetaProperty → Type 0 = λ v k. Changes (seen s.objects v) (seen s.objects new) k.notify b.signal in
     let changes : Of a.old a.property = subst (λ (v : Value). Of v a.property) (sym old_is) (subst (λ (k : MetaProperty). Of b.old k) (sym property_is) b.changes) in
     let signal_is : a.signal ≡ b.signal = changes-one a.changes changes in
-    let state_of : Object → MetaProperty → Option ℕ → State = λ x k g. pushed (record s { objects = slice_set s.objects o (written q new x) }) (Update (places_of o q g)) below (λ d. At d (Written x.name k.name (shown s.objects new)) ∷ []) in
+    let state_of : Object → MetaProperty → Option ℕ → State = λ x k g. pushed (record s { objects = change_life o (written q new) s.objects }) (Update (places_of o q g)) below (λ d. At d (Written x.name k.name (shown s.objects new)) ∷ []) in
     a.gives
     ∙ ap (λ (x : Object). state_of x a.property a.signal) object_is
     ∙ ap (λ (k : MetaProperty). state_of b.object k a.signal) property_is
@@ -87,12 +86,12 @@ emit-one p s o g arguments last below t u (Some c) a b = uses-one a b
 
 notifies-one : {p : Loaded} {s t u : State} {below : List Activation} {place : Place} → Notifies p s below place t → Notifies p s below place u → t ≡ u
 notifies-one {s = s} {below = below} {place = place} a b =
-    let object_is : a.object ≡ b.object = some-is a.is.is_object b.is.is_object in
+    let object_is : a.object ≡ b.object = some-is a.is.lives.is b.is.lives.is in
     let property_is : a.property ≡ b.property = field-property a.is b.is in
     let both : Some a.signal ≡ Some b.signal = sym a.is_signal ∙ ap (λ (k : MetaProperty). k.notify) property_is ∙ b.is_signal in
     let signal_is : a.signal ≡ b.signal = cc both in
-    let present_is : a.present ≡ b.present = value-is _ object_is a.is_present b.is_present in
-    let method_is : a.method ≡ b.method = method-is object_is signal_is a.is_method b.is_method in
+    let present_is : a.present ≡ b.present = some-is a.is_present b.is_present in
+    let method_is : a.method ≡ b.method = method-is (life-unique a.is.lives b.is.lives) signal_is a.is_method b.is_method in
     let state_of : Object → ℕ → Value → MetaMethod → State = λ x g v k. begun s below place.object x g k (take (length k.kinds) (v ∷ [])) Signal in
     a.gives
     ∙ ap (λ (x : Object). state_of x a.signal a.present a.method) object_is

@@ -9,7 +9,8 @@ use Rattle.machine_state.specs.declared.fault.Fault.TheVariants.{BadType, TooDee
 use Rattle.machine_state.specs.declared.world.World.{World}
 use Rattle.machine_state.specs.State.{State, Activation, IsIdle}
 use Rattle.machine_rules.specs.Rules.{Rule}
-use Rattle.machine_rules.specs.Good.{AreTyped, IsWell, IsGood, TopFits}
+use Rattle.object_tree.specs.Typed.{AreTyped}
+use Rattle.machine_rules.specs.Good.{IsWell, IsGood, TopFits}
 use Rattle.machine_rules.specs.Runs.{Rules, done, then, IsStuck, GoesIll, GoesDeep, Reason}
 use Rattle.machine_state.specs.Worlds.{at, Ticks, Becomes}
 use Rattle.machine_rules.specs.Active.{shows}

@@ -1,9 +1,10 @@
 -- What rules never take back (docs/machine.md, "What every run keeps").
-use Rattle.std.specs.Prelude.{◌≡◌, ℕ, ◌+◌, ◌≤◌, List, [], ◌++◌, Some}
+use Rattle.std.specs.Prelude.{◌≡◌, ℕ, ◌+◌, ◌≤◌, List, [], ◌++◌, Some, None}
 use Rattle.std.specs.List.{AllByRecursion}
 use Rattle.meta_model.specs.Loaded.{Loaded}
 use Rattle.object_tree.specs.declared.object.Object.{Object}
 use Rattle.object_tree.specs.Objects.{class_of}
+use Rattle.object_tree.specs.Seen.{seen_reference}
 use Rattle.connections.specs.declared.connection.Connection.{Connection}
 use Rattle.machine_state.specs.declared.entry.Entry.{Entry}
 use Rattle.machine_state.specs.declared.world.World.{World}
@@ -11,9 +12,10 @@ use Rattle.machine_state.specs.State.{State}
 use Rattle.machine_state.specs.Worlds.{at}
 use Rattle.machine_rules.specs.Sound.{Joined}
 
--- objects that are there stay there, each of its class; others may come
-abbrev pub StayThere : List Object → List Object → Type 0
-StayThere old new = (o class : ℕ) → class_of old o ≡ Some class → class_of new o ≡ Some class
+-- living objects stay alive, each of its class, and dead ones stay dead; others may come
+pub record StayThere (old new : List Object) : Type 0 where
+  pub living : (o class : ℕ) → class_of old o ≡ Some class → class_of new o ≡ Some class
+  pub dead : (o : ℕ) → seen_reference old (Some o) ≡ None → seen_reference new (Some o) ≡ None
 
 -- every connection joins what is there
 abbrev pub AllJoined : Loaded → List Object → List Connection → Type 0

@@ -11,5 +11,6 @@ pub mod Remaining
 pub mod Active
 pub mod Coded
 pub mod Reaches
+pub mod Writing
 pub mod Calls
 pub mod Laws

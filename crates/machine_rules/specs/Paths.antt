@@ -1,6 +1,6 @@
 -- What paths and expressions of a body give (docs/language.md, "Expressions").
 use Rattle.std.specs.Prelude.{ℕ, List, [], ◌∷◌, Option, None, Some, slice_get}
-use Rattle.std.specs.Option.{option_and_then}
+use Rattle.std.specs.Option.{option_and_then, option_map}
 use Rattle.signatures.specs.declared.value.Value.{Value}
 use Rattle.signatures.specs.declared.value.Value.TheVariants as value
 use Rattle.texts.specs.declared.syntax.Expr.{Expr}
@@ -12,6 +12,7 @@ use Rattle.meta_model.specs.declared.object.MetaRoot.TheVariants.{This, Paramete
 use Rattle.meta_model.specs.declared.object.Step.{Step}
 use Rattle.meta_model.specs.Values.{default}
 use Rattle.object_tree.specs.declared.object.Object.{Object}
+use Rattle.object_tree.specs.Seen.{seen}
 use Rattle.machine_state.specs.Objects.{stored}
 
 -- `this` is the object o; a parameter is the argument in its place
@@ -19,10 +20,10 @@ abbrev pub root_value : ℕ → List Value → MetaRoot → Option Value
 root_value o arguments This = Some (value.Ref (Some o))
 root_value o arguments (Parameter k) = slice_get arguments k
 
--- the property of what a path has led to so far; where that is null, the default of the property's type
+-- the property of what a path has led to so far, as it reads; where that is null, the default of the property's type
 abbrev pub step_value : List Object → Step → Value → Option Value
 step_value objects s (value.Ref None) = Some (default s.kind)
-step_value objects s (value.Ref (Some o)) = stored objects o s.property
+step_value objects s (value.Ref (Some o)) = option_map (seen objects) (stored objects o s.property)
 step_value objects s (value.Int n) = None
 step_value objects s (value.Bool b) = None
 step_value objects s (value.Text t) = None
@@ -31,9 +32,10 @@ abbrev pub steps_value : List Object → List Step → Option Value → Option V
 steps_value objects [] found = found
 steps_value objects (s ∷ steps) found = steps_value objects steps (option_and_then (step_value objects s) found)
 
--- the value that a path leads to, for the object o and the arguments of a call
+-- the value that a path leads to, for the object o and the arguments of a call: each value on the way is read
 abbrev pub path_value : List Object → ℕ → List Value → MetaPath → Option Value
-path_value objects o arguments path = steps_value objects path.steps (root_value o arguments path.root)
+path_value objects o arguments path =
+    steps_value objects path.steps (option_map (seen objects) (root_value o arguments path.root))
 
 -- .. that an expression has
 abbrev pub value_of : List Object → ℕ → List Value → Expr MetaPath → Option Value

@@ -1,13 +1,11 @@
 -- What a call of the machine's code does, whatever activations are below (docs/machine.md, "Runs").
-use Rattle.std.specs.Prelude.{◌≡◌, ◌≢◌, ℕ, ◌+◌, ◌<◌, ◌≤◌, ◌⊎◌, List, ◌++◌, length, Result, Ok, Err, MatchResult, Bool, Option, Some, None}
+use Rattle.std.specs.Prelude.{◌≡◌, ◌≢◌, ℕ, ◌+◌, ◌<◌, ◌≤◌, ◌⊎◌, List, ◌++◌, length, Result, Ok, Err, MatchResult, Bool, Option, Some}
 use Rattle.meta_model.specs.Loaded.{Loaded}
 use Rattle.signatures.specs.declared.value.Value.{Value}
 use Rattle.signatures.specs.declared.value.Value.TheVariants as value
 use Rattle.meta_model.specs.declared.object.MetaMethod.{MetaMethod}
-use Rattle.meta_model.specs.declared.object.MetaProperty.{MetaProperty}
 use Rattle.meta_model.specs.declared.object.Work.{Work}
 use Rattle.meta_model.specs.declared.object.Work.TheVariants.{Signal, Slot}
-use Rattle.meta_model.specs.Sound.{IsNotifier}
 use Rattle.expressions.specs.declared.evaluation.EvalFault.{EvalFault}
 use Rattle.expressions.specs.declared.evaluation.EvalFault.TheVariants.{BadType, Memory as NoMemory}
 use Rattle.machine_state.specs.declared.entry.Entry.{Entry}
@@ -20,9 +18,9 @@ use Rattle.machine_state.specs.declared.fault.Fault.TheVariants.{TooDeep, Memory
 use Rattle.machine_state.specs.declared.world.World.{World}
 use Rattle.machine_state.specs.Connections.{is_silent}
 use Rattle.machine_state.specs.State.{State, Activation, Body, Emit, IsIdle}
-use Rattle.machine_state.specs.Objects.{shown, all_shown}
+use Rattle.machine_state.specs.Objects.{all_shown}
 use Rattle.machine_rules.specs.Rules.{Rule, Begins, Writes}
-use Rattle.machine_rules.specs.There.{IsMember, IsField}
+use Rattle.machine_rules.specs.There.{IsMember}
 use Rattle.machine_rules.specs.Active.{shows}
 use Rattle.machine_rules.specs.Runs.{Rules, RulesStop}
 use Rattle.machine_state.specs.Worlds.{at}
@@ -112,10 +110,6 @@ begin_entry depth x m method given (Slot statements) = At depth (happening.Calle
 abbrev pub entry_of_call : World → ℕ → Object → ℕ → MetaMethod → List Value → Entry
 entry_of_call w depth x m method arguments = begin_entry depth x m method.sig.name (all_shown w.objects arguments) method.work
 
--- .. of a property of an object that is written
-abbrev pub entry_of_write : World → ℕ → Object → MetaProperty → Value → Entry
-entry_of_write w depth x property new = At depth (happening.Written x.name property.name (shown w.objects new))
-
 -- what is pushed where a method begins
 abbrev pub top_of : ℕ → ℕ → List Value → ℕ → Work → Activation
 top_of o m arguments last Signal = Emit o m arguments 0 last
@@ -136,15 +130,3 @@ pub record IsBegun (p : Loaded) (depth : ℕ) (active : List (Option ℕ)) (w : 
 -- why a method that fits doesn't begin: activations would nest too deep, or memory was refused
 abbrev pub IsBarred : ℕ → List (Option ℕ) → Fault → Type 0
 IsBarred depth shown fault = (depth ≤ length shown) × (fault ≡ TooDeep) ⊎ (fault ≡ Memory)
-
--- the signal is the notify signal of an object's property
-pub record Announces (p : Loaded) (objects : List Object) (o q signal : ℕ) : Type 0 where
-  pub object : Object
-  pub property : MetaProperty
-  pub is : IsField p objects o q object property
-  pub is_signal : property.notify ≡ Some signal
-  pub sound : IsNotifier is.class property signal
-
-abbrev pub MayAnnounce : Loaded → List Object → ℕ → ℕ → Option ℕ → Type 0
-MayAnnounce p objects o q None = Unit {0}
-MayAnnounce p objects o q (Some signal) = Announces p objects o q signal

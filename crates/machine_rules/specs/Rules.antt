@@ -1,6 +1,6 @@
 -- What may follow a state by one rule, beside the taking of events (docs/machine.md, "Rules"). No rule is forbidden
 -- because activations would nest too deep or a value is of a wrong type: those are faults of a run, and not of a rule.
-use Rattle.std.specs.Prelude.{◌≡◌, ◌≢◌, ℕ, List, [], ◌∷◌, ◌++◌, length, take, Option, None, Some, slice_get, slice_set}
+use Rattle.std.specs.Prelude.{◌≡◌, ◌≢◌, ℕ, List, [], ◌∷◌, ◌++◌, length, take, Option, None, Some}
 use Rattle.signatures.specs.declared.value.Value.{Value}
 use Rattle.meta_model.specs.declared.object.Statement.{Statement}
 use Rattle.meta_model.specs.declared.object.Statement.TheViews.{out-Statement}
@@ -11,13 +11,14 @@ use Rattle.meta_model.specs.declared.object.MetaProperty.{MetaProperty}
 use Rattle.meta_model.specs.Loaded.{Loaded}
 use Rattle.meta_model.specs.Members.{IsMethod}
 use Rattle.object_tree.specs.declared.object.Object.{Object}
-use Rattle.object_tree.specs.Objects.{written}
+use Rattle.object_tree.specs.Objects.{change_life, written}
+use Rattle.object_tree.specs.Seen.{seen}
 use Rattle.connections.specs.declared.connection.Connection.{Connection}
 use Rattle.machine_state.specs.declared.entry.Entry.{Entry}
 use Rattle.machine_state.specs.declared.entry.Entry.TheVariants.{At}
 use Rattle.machine_state.specs.declared.entry.Happening.TheVariants as happening
 use Rattle.machine_state.specs.Connections.{is_silent, next_used, after_use}
-use Rattle.machine_state.specs.Objects.{shown, all_shown}
+use Rattle.machine_state.specs.Objects.{stored, shown, all_shown}
 use Rattle.machine_rules.specs.There.{IsMember, IsField}
 use Rattle.machine_rules.specs.Doings.{Doing, Write, Begin, Choose, Nothing, doing}
 use Rattle.machine_state.specs.State.{State, Place, Activation, Body, Emit, Update}
@@ -55,16 +56,16 @@ abbrev pub places_of : ℕ → ℕ → Option ℕ → List Place
 places_of o q None = []
 places_of o q (Some signal) = record { object = o; property = q } ∷ []
 
--- a property is written, and what is to be notified is pushed
+-- a property is written, and what is to be notified is pushed; whether the value has changed is judged as it reads
 pub record Writes (p : Loaded) (s : State) (below : List Activation) (o q : ℕ) (new : Value) (t : State) : Type 0 where
   pub object : Object
   pub property : MetaProperty
   pub is : IsField p s.objects o q object property
   pub old : Value
-  pub is_old : slice_get object.values q ≡ Some old
+  pub is_old : stored s.objects o q ≡ Some old
   pub signal : Option ℕ
-  pub changes : Changes old new property.notify signal
-  pub gives : t ≡ pushed (record s { objects = slice_set s.objects o (written q new object) }) (Update (places_of o q signal)) below
+  pub changes : Changes (seen s.objects old) (seen s.objects new) property.notify signal
+  pub gives : t ≡ pushed (record s { objects = change_life o (written q new) s.objects }) (Update (places_of o q signal)) below
       (λ d. At d (happening.Written object.name property.name (shown s.objects new)) ∷ [])
 
 -- the notify signal of a property is emitted, with its present value if the signal has a parameter
@@ -75,9 +76,9 @@ pub record Notifies (p : Loaded) (s : State) (below : List Activation) (place : 
   pub signal : ℕ
   pub is_signal : property.notify ≡ Some signal
   pub present : Value
-  pub is_present : slice_get object.values place.property ≡ Some present
+  pub is_present : stored s.objects place.object place.property ≡ Some present
   pub method : MetaMethod
-  pub is_method : IsMethod p object.class signal method
+  pub is_method : IsMethod p is.life.class signal method
   pub gives : t ≡ begun s below place.object object signal method (take (length method.kinds) (present ∷ [])) Signal
 
 -- the next property is notified; with none left the update ends

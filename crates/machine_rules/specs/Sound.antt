@@ -11,12 +11,15 @@ use Rattle.meta_model.specs.Members.{IsClass}
 use Rattle.meta_model.specs.Sound.{IsSoundProperty}
 use Rattle.connections.specs.declared.connection.Connection.{Connection}
 use Rattle.machine_state.specs.declared.world.World.{World}
+use Rattle.object_tree.specs.declared.life.Life.{Life}
 use Rattle.object_tree.specs.declared.object.Object.{Object}
+use Rattle.object_tree.specs.Objects.{Lives}
+use Rattle.object_tree.specs.Typed.{AreTyped}
 use Rattle.signatures.specs.declared.value.Value.{Value}
 use Rattle.machine_rules.specs.There.{IsMember}
-use Rattle.machine_rules.specs.Good.{AreTyped, ArgumentsFit}
+use Rattle.machine_rules.specs.Good.{ArgumentsFit}
 
--- a connection joins a signal and a method of two objects that are there, and the method fits the signal
+-- a connection joins a signal and a method of two living objects, and the method fits the signal
 pub record Joined (p : Loaded) (objects : List Object) (c : Connection) : Type 0 where
   pub sender : Object
   pub signal : MetaMethod
@@ -40,5 +43,7 @@ abbrev pub SignalFits : Loaded → List Object → Connection → List Value →
 SignalFits p objects c arguments = ArgumentsFit p objects c.sender c.signal arguments
 
 -- a property is as the class of its object has it in a sound program
-abbrev pub IsSoundIn : Loaded → ℕ → MetaProperty → Type 0
-IsSoundIn p number property = (class : MetaObject) → IsClass p number class → IsSoundProperty p class property
+abbrev pub IsSoundIn : Loaded → List Object → ℕ → MetaProperty → Type 0
+IsSoundIn p objects o property =
+    (x : Object) (life : Life) (class : MetaObject) →
+    Lives objects o x life → IsClass p life.class class → IsSoundProperty p class property

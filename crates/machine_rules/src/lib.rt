@@ -14,4 +14,4 @@ mod update;
 pub use active::Active;
 pub use laws::one_rule;
 pub use setting::{Begun, Setting};
-pub use update::signal_of_change;
+pub use update::Writing;

@@ -29,7 +29,7 @@ impl<'w> expressions::World<MetaPath> for Scope<'w> {
     ghost read = { λ scope path. path_value scope.objects.now scope.this scope.arguments.now path };
 
     fn value(&self, path: &MetaPath) -> Result<Value, EvalFault> {
-        let mut found = self.root(path.root)?;
+        let mut found = self.objects.seen(self.root(path.root)?);
         for step in path.steps.as_slice() {
             found = self.step(step, &found)?;
         }
@@ -83,7 +83,7 @@ impl<'w> Scope<'w> {
         }
     }
 
-    /// The property of what a path has led to so far.
+    /// The property of what a path has led to so far, as it reads.
     fn step(&self, step: &Step, from: &Value) -> Result<Value, EvalFault>
         ensures { Evaluates (step_value self.now.objects.now step.now from.now) result }
     {
@@ -92,7 +92,10 @@ impl<'w> Scope<'w> {
                 let value = step.kind.default_value(self.alloc)?;
                 Ok(value)
             }
-            Value::Ref(Some(object)) => copy_found(stored(self.objects, *object, step.property)),
+            Value::Ref(Some(object)) => {
+                let found = copy_found(stored(self.objects, *object, step.property))?;
+                Ok(self.objects.seen(found))
+            }
             _ => Err(EvalFault::BadType),
         }
     }

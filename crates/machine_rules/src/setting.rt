@@ -1,13 +1,13 @@
 //! A program with its natives, and what its numbers lead to.
 
 ghost use Rattle.std.specs.Prelude.{◌≡◌, ◌≤◌, IfSome, IfOk, IfErr, MatchOption, take};
-ghost use Rattle.machine_rules.specs.Reaches.{entry_of_call, entry_of_write, MayNest, IsBegun, IsBarred};
+ghost use Rattle.machine_rules.specs.Reaches.{entry_of_call, MayNest, IsBegun, IsBarred};
 ghost use Rattle.machine_rules.specs.Good.{ArgumentsFit};
 ghost use Rattle.machine_rules.specs.Sound.{IsSoundIn};
 ghost use Rattle.machine_rules.specs.There.{IsMember, IsField, LacksMember, LacksField};
 
 use crate::active::Active;
-use machine_state::{Entry, Fault, Happening, Natives, World, is_silent, show, show_all};
+use machine_state::{Entry, Fault, Happening, Natives, World, is_silent, show_all};
 use meta_objects::{Meta, MetaMethod, MetaProperty, Work};
 use object_tree::Object;
 use signatures::{ObjectId, Value};
@@ -53,7 +53,7 @@ impl Setting {
         }
     }
 
-    /// An object and one of its methods, or `None` where either isn't there.
+    /// A living object and one of its methods, or `None` where either isn't there.
     pub fn member<'s, 'w>(
         &'s self,
         world: &'w World,
@@ -63,16 +63,16 @@ impl Setting {
         ensures { MatchOption result (LacksMember self.now.meta world.now.objects object method)
             (λ f. IsMember self.now.meta world.now.objects object method f.0.now f.1.now) }
     {
-        let Some(found) = world.objects.object(object) else {
+        let Some((found, life)) = world.objects.get(object) else {
             return None;
         };
-        let Some(declared) = self.meta.method_at(found.class, method) else {
+        let Some(declared) = self.meta.method_at(life.class, method) else {
             return None;
         };
         Some((found, declared))
     }
 
-    /// An object and one of its properties, or `None` where either isn't there.
+    /// A living object and one of its properties, or `None` where either isn't there.
     pub fn field<'s, 'w>(
         &'s self,
         world: &'w World,
@@ -82,12 +82,13 @@ impl Setting {
         ensures value { MatchOption result
             (LacksField self.now.meta world.now.objects object property)
             (λ f. IsField self.now.meta world.now.objects object property f.0.now f.1.now) }
-        ensures sound { IfSome result (λ f. IsSoundIn self.now.meta f.0.now.class f.1.now) }
+        ensures sound { IfSome result (λ f.
+            IsSoundIn self.now.meta world.now.objects object f.1.now) }
     {
-        let Some(found) = world.objects.object(object) else {
+        let Some((found, life)) = world.objects.get(object) else {
             return None;
         };
-        let Some(class) = self.meta.object(found.class) else {
+        let Some(class) = self.meta.object(life.class) else {
             return None;
         };
         let Some(declared) = class.properties.get(property) else {
@@ -170,26 +171,6 @@ impl Setting {
             },
         };
         Ok(Entry::At(depth, happening))
-    }
-
-    /// The entry of a write.
-    pub fn write_entry(
-        &self,
-        world: &World,
-        depth: usize,
-        object: &Object,
-        property: &MetaProperty,
-        value: &Value,
-    ) -> Result<Entry, AllocError>
-        ensures { IfOk result (λ entry. entry ≡
-            entry_of_write world.now depth object.now property.now value.now) }
-    {
-        let written = Happening::Written {
-            object: object.name.copy()?,
-            property: property.name.copy()?,
-            value: show(&world.objects, value)?,
-        };
-        Ok(Entry::At(depth, written))
     }
 }
 

@@ -1,18 +1,28 @@
 //! Writes of properties, and the notifications that follow them.
 
-ghost use Rattle.std.specs.Prelude.{◌≡◌, ◌<◌, [], length, Some, slice_get};
-ghost use Rattle.std.specs.Option.{option_copied};
-ghost use Rattle.signatures.specs.declared.value.Value.{Value as AValue};
+ghost use Rattle.std.specs.Prelude.{◌≡◌, ◌<◌, [], length, Some, IfOk, IfErr};
 ghost use Rattle.machine_rules.specs.Sound.{IsSoundWorld};
 ghost use Rattle.machine_state.specs.State.{Update};
 ghost use Rattle.machine_rules.specs.Calls.{Finishes, Leads, EndsWrite};
-ghost use Rattle.machine_rules.specs.Reaches.{Announces, MayAnnounce};
-ghost use Rattle.machine_rules.specs.Rules.{Changes, places_of};
+ghost use Rattle.machine_rules.specs.Writing.{entry_of_write, TellsChange, Announces, MayAnnounce, IsWriting, IsUnwritten};
+ghost use Rattle.machine_rules.specs.Rules.{places_of};
 
 use crate::active::Active;
 use crate::setting::{Setting, front};
-use machine_state::{Fault, World};
+use machine_state::{Entry, Fault, Happening, World, show, stored};
+use meta_objects::MetaProperty;
+use object_tree::{Object, Tree};
 use signatures::{ObjectId, Value};
+use std::alloc::AllocError;
+
+/// What is found of a property that may be written.
+#[derive(Drop)]
+pub struct Writing {
+    /// The line that is written down.
+    pub line: Entry,
+    /// The notify signal that is to be emitted then, if any.
+    pub changed: Option<usize>,
+}
 
 impl Setting {
     /// Writes a property of an object, over what is left of the top of the stack, and notifies where the value has
@@ -31,17 +41,57 @@ impl Setting {
         ensures ends { EndsWrite self.now active.now
             object property value world.old world.new result }
     {
+        let writing = self.writing(world, active, object, property, &value)?;
+        world.write([writing.line], object, property, value)?;
+        self.run_update(world, active, object, property, writing.changed)
+    }
+
+    /// What is found of a property before a value is written to it over these activations, or why it isn't: `BadType`
+    /// where the object has no such property, or the value isn't of its type; `TooDeep` where no activation may stand
+    /// over these; or `Memory`.
+    pub fn writing(
+        &self,
+        world: &World,
+        active: &Active<'_>,
+        object: ObjectId,
+        property: usize,
+        value: &Value,
+    ) -> Result<Writing, Fault>
+        ensures ok { IfOk result (λ x. IsWriting self.now.meta self.now.depth active.now world.now
+            object property value.now x.line x.changed) }
+        ensures err { IfErr result (IsUnwritten self.now.meta self.now.depth active.now world.now
+            object property value.now) }
+    {
         let Some((found, declared)) = self.field(world, object, property) else {
             return Err(Fault::BadType);
         };
-        let changed = signal_of_change(declared.notify, found.values.get(property), &value);
-        if !world.objects.has_type(&self.meta, &value, declared.kind) {
+        let changed = signal_of_change(&world.objects, object, property, declared.notify, value);
+        if !world.objects.has_type(&self.meta, value, declared.kind) {
             return Err(Fault::BadType);
         }
         self.may_nest(active)?;
-        let entry = self.write_entry(world, active.count() + 1, found, declared, &value)?;
-        world.write([entry], object, property, value)?;
-        self.run_update(world, active, object, property, changed)
+        let line = self.write_entry(world, active.count() + 1, found, declared, value)?;
+        Ok(Writing { line, changed })
+    }
+
+    /// The entry of a write.
+    fn write_entry(
+        &self,
+        world: &World,
+        depth: usize,
+        object: &Object,
+        property: &MetaProperty,
+        value: &Value,
+    ) -> Result<Entry, AllocError>
+        ensures { IfOk result (λ entry. entry ≡
+            entry_of_write world.now depth object.now property.now value.now) }
+    {
+        let written = Happening::Written {
+            object: object.name.copy()?,
+            property: property.name.copy()?,
+            value: show(&world.objects, value)?,
+        };
+        Ok(Entry::At(depth, written))
     }
 
     /// Notifies that a property has changed, if it has and has a notify signal, and ends the update.
@@ -87,10 +137,10 @@ impl Setting {
             world.old world.new result }
     {
         world.require_rule()?;
-        let Some((found, declared)) = self.member(world, object, signal) else {
+        let Some((_, declared)) = self.member(world, object, signal) else {
             unreachable!()
         };
-        let Some(value) = found.values.get(property) else {
+        let Some(value) = stored(&world.objects, object, property) else {
             unreachable!()
         };
         let present = [value.copy()?];
@@ -100,13 +150,22 @@ impl Setting {
     }
 }
 
-/// The notify signal of a property that is written, where there is one and the new value isn't the old one.
-pub fn signal_of_change(notify: Option<usize>, old: Option<&Value>, new: &Value) -> Option<usize>
-    ensures { (before : AValue) → option_copied old.entry ≡ Some before →
-        Changes before new.now notify result }
+/// The notify signal of a property that is written, where there is one and the new value doesn't read as the old one.
+fn signal_of_change(
+    objects: &Tree,
+    object: ObjectId,
+    property: usize,
+    notify: Option<usize>,
+    new: &Value,
+) -> Option<usize>
+    ensures { TellsChange objects.now object property notify new.now result }
 {
-    match old {
-        Some(before) => { if before.is_same(new) { None } else { notify } }
-        None => notify,
+    let Some(old) = stored(objects, object, property) else {
+        return notify;
+    };
+    if objects.is_same(old, new) {
+        None
+    } else {
+        notify
     }
 }

@@ -1,10 +1,11 @@
 -- The connection that an emission uses next.
-use Rattle.std.proofs.Common.{◌≡◌, ℕ, ◌<◌, ◌≤◌, ◌&&◌, eqb, nat_lt, nat_le, not, Bool, true, false, cond, List, [], ◌∷◌, Option, Some, None, IfSome, slice_get, refl, sym, subst}
+use Rattle.std.proofs.Common.{◌≡◌, ℕ, ◌<◌, ◌≤◌, ◌&&◌, eqb, nat_lt, nat_le, not, Bool, true, false, cond, List, [], ◌∷◌, Option, Some, None, IfSome, refl, sym, subst}
 use Rattle.std.specs.List.{AllByRecursion, filter, find}
 use Rattle.std.proofs.lemmas.Bool.{eqb-true, ltb-true, leb-true, and_parts}
 use Rattle.connections.specs.declared.connection.Connection.{Connection}
 use Rattle.connections.specs.Connected.{Connected, is_of, is_due, is_numbered, removed}
 use Rattle.object_tree.specs.declared.object.Object.{Object}
+use Rattle.object_tree.specs.Objects.{life_of}
 use Rattle.machine_state.specs.Connections.{silences, next_used, after_use}
 
 -- what is found passes
@@ -71,7 +72,7 @@ due-within connections o g used last (Some c) e = (found-due connections o g use
 
 -- what is used is due
 used-found : (objects : List Object) (connections : List Connection) (o g used last : ℕ) (c : Connection) → next_used objects connections o g used last ≡ Some c → find (is_due o g used last) connections ≡ Some c
-used-found objects connections o g used last c found = by_test (silences (slice_get objects o) g) found
+used-found objects connections o g used last c found = by_test (silences (life_of objects o) g) found
   where
     by_test : (b : Bool) → cond b None (find (is_due o g used last) connections) ≡ Some c → find (is_due o g used last) connections ≡ Some c
     by_test true e = absurd (cc e)

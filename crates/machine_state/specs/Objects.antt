@@ -1,38 +1,35 @@
 -- Objects' properties, and how values are written down (docs/machine.md, "Objects").
 use Rattle.std.specs.Prelude.{ℕ, List, map, Option, None, Some, slice_get}
-use Rattle.std.specs.Option.{option_and_then}
+use Rattle.std.specs.Option.{option_and_then, option_map}
 use Rattle.signatures.specs.declared.value.Value.{Value}
 use Rattle.signatures.specs.declared.value.Value.TheVariants as value
+use Rattle.object_tree.specs.declared.life.Life.{Life}
 use Rattle.object_tree.specs.declared.object.Object.{Object}
+use Rattle.object_tree.specs.Objects.{name_of, life_of}
+use Rattle.object_tree.specs.Seen.{seen_reference}
 use Rattle.machine_state.specs.declared.entry.Shown.{Shown}
 use Rattle.machine_state.specs.declared.entry.Shown.TheVariants as show
 
--- the value of an object's property
+-- the value of a living object's property
 abbrev pub stored : List Object → ℕ → ℕ → Option Value
-stored objects o q = option_and_then (λ (x : Object). slice_get x.values q) (slice_get objects o)
+stored objects o q = option_and_then (λ (l : Life). slice_get l.values q) (life_of objects o)
 
--- what of an object never changes
-pub record Shape : Type 0 where
-  pub name : List ℕ
-  pub class : ℕ
-
-abbrev pub shape_of : Object → Shape
-shape_of x = record { name = x.name; class = x.class }
-
-abbrev pub shapes_of : List Object → List Shape
-shapes_of objects = map shape_of objects
+-- a name, or null where there is none
+abbrev pub shown_name : Option (List ℕ) → Shown
+shown_name None = show.Null
+shown_name (Some name) = show.Object name
 
 -- a reference is written down as the object's name
-abbrev pub shown_object : Option Object → Shown
-shown_object None = show.Null
-shown_object (Some x) = show.Object x.name
+abbrev pub shown_reference : List Object → Option ℕ → Shown
+shown_reference objects None = show.Null
+shown_reference objects (Some o) = shown_name (name_of objects o)
 
+-- a value is written down as it reads
 abbrev pub shown : List Object → Value → Shown
 shown objects (value.Int n) = show.Int n
 shown objects (value.Bool b) = show.Bool b
 shown objects (value.Text t) = show.Text t
-shown objects (value.Ref None) = show.Null
-shown objects (value.Ref (Some o)) = shown_object (slice_get objects o)
+shown objects (value.Ref r) = shown_reference objects (seen_reference objects r)
 
 abbrev pub all_shown : List Object → List Value → List Shown
 all_shown objects values = map (shown objects) values

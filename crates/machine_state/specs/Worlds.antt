@@ -5,7 +5,7 @@ use Rattle.texts.specs.declared.connection.ConnectionType.{ConnectionType}
 use Rattle.connections.specs.declared.connection.Connection.{Connection}
 use Rattle.connections.specs.Connected.{unconnected, connected_by, removed}
 use Rattle.object_tree.specs.declared.object.Object.{Object}
-use Rattle.object_tree.specs.Objects.{change, blocked, written}
+use Rattle.object_tree.specs.Objects.{change_life, blocked, written}
 use Rattle.machine_state.specs.declared.entry.Entry.{Entry}
 use Rattle.machine_state.specs.declared.fault.Answer.{Answer}
 use Rattle.machine_state.specs.declared.fault.Answer.TheVariants as answer
@@ -41,9 +41,9 @@ ticked w = record w { left = w.left - 1 }
 abbrev pub noted : World → List Entry → World
 noted w entries = record w { left = w.left - 1; trace = w.trace ++ entries }
 
--- .. that also writes a property of an object, if there is one
+-- .. that also writes a property of an object, if it lives
 abbrev pub set_in : World → List Entry → ℕ → ℕ → Value → World
-set_in w entries o q new = record (noted w entries) { objects = change o (written q new) w.objects }
+set_in w entries o q new = record (noted w entries) { objects = change_life o (written q new) w.objects }
 
 -- .. that also uses a connection
 abbrev pub having_used : World → Connection → World
@@ -76,17 +76,17 @@ counted w = record w { events = w.events + 1; left = w.left - 1 }
 abbrev pub accepting_objects : World → List Object → World
 accepting_objects w objects = after w (record (accepted (at w [])) { objects = objects })
 
--- .. an object is blocked or may emit again
+-- .. an object is blocked or may emit again, if it lives
 abbrev pub accepting_block : World → ℕ → Bool → World
-accepting_block w o on = accepting_objects w (change o (blocked on) w.objects)
+accepting_block w o on = accepting_objects w (change_life o (blocked on) w.objects)
 
 -- .. these entries are written down
 abbrev pub accepting_entries : World → List Entry → World
 accepting_entries w entries = after w (with_entries (accepted (at w [])) entries)
 
--- .. and a property of an object is written, if there is one
+-- .. and a property of an object is written, if it lives
 abbrev pub accepting_write : World → List Entry → ℕ → ℕ → Value → World
-accepting_write w entries o q value = record (accepting_entries w entries) { objects = change o (written q value) w.objects }
+accepting_write w entries o q value = record (accepting_entries w entries) { objects = change_life o (written q value) w.objects }
 
 -- the event was refused for this reason, or memory was
 abbrev pub Refuses : World → Refusal → World → Result Answer Fault → Type 0

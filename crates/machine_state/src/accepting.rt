@@ -107,7 +107,7 @@ impl World {
         }
     }
 
-    /// Blocks an object for an accepted event, or lets it emit again; without memory nothing changes.
+    /// Blocks a living object for an accepted event, or lets it emit again; without memory nothing changes.
     pub fn accept_block(&mut self, object: ObjectId, on: bool) -> Result<(), Fault>
         requires left { 0 < self.old.left }
         requires few { self.old.events < 2 ^ 63 }
@@ -131,8 +131,8 @@ impl World {
         Ok(())
     }
 
-    /// Writes a property for an accepted event, and writes these entries down; without memory nothing changes. A number
-    /// of no object or of no property writes nothing.
+    /// Writes a living object's property for an accepted event, and writes these entries down; without memory nothing
+    /// changes. A number of no living object or of no property writes nothing.
     pub fn accept_write<const N: usize>(
         &mut self,
         entries: [Entry; N],

@@ -1,8 +1,8 @@
 //! What is read of objects, and how values are written down.
 
-ghost use Rattle.std.specs.Prelude.{◌≡◌, slice_get, IfOk};
+ghost use Rattle.std.specs.Prelude.{◌≡◌, IfOk};
 ghost use Rattle.std.specs.Option.{option_copied};
-ghost use Rattle.machine_state.specs.Objects.{stored, shown, shown_object, all_shown};
+ghost use Rattle.machine_state.specs.Objects.{stored, shown, shown_reference, all_shown};
 
 use crate::entry::Shown;
 use object_tree::Tree;
@@ -10,14 +10,14 @@ use signatures::{ObjectId, Value};
 use sqlite_items::Items;
 use std::alloc::{AllocError, Global};
 
-/// The value of an object's property.
+/// The value of a living object's property.
 pub fn stored(objects: &Tree, object: ObjectId, property: usize) -> Option<&Value>
     ensures { option_copied result ≡ stored objects.now object property }
 {
-    objects.object(object)?.values.get(property)
+    objects.life(object)?.values.get(property)
 }
 
-/// A value as it is written down: a reference as the object's name, or as null where there is no such object.
+/// A value as it is written down: a reference, as it reads, by the object's name, or as null.
 pub fn show(objects: &Tree, value: &Value) -> Result<Shown, AllocError>
     ensures { IfOk result (λ text. text ≡ shown objects.now value.now) }
 {
@@ -28,19 +28,21 @@ pub fn show(objects: &Tree, value: &Value) -> Result<Shown, AllocError>
             let copy = text.copy()?;
             Ok(Shown::Text(copy))
         }
-        Value::Ref(None) => Ok(Shown::Null),
-        Value::Ref(Some(object)) => show_object(objects, *object),
+        Value::Ref(reference) => show_reference(objects, objects.seen_reference(*reference)),
     }
 }
 
-/// The name of an object, or null where there is no such object.
-fn show_object(objects: &Tree, object: ObjectId) -> Result<Shown, AllocError>
-    ensures { IfOk result (λ text. text ≡ shown_object (slice_get objects.now object)) }
+/// The name of the object that a reference refers to, or null.
+fn show_reference(objects: &Tree, reference: Option<ObjectId>) -> Result<Shown, AllocError>
+    ensures { IfOk result (λ text. text ≡ shown_reference objects.now reference) }
 {
-    match objects.object(object) {
-        Some(found) => {
-            let name = found.name.copy()?;
-            Ok(Shown::Object(name))
+    let Some(object) = reference else {
+        return Ok(Shown::Null);
+    };
+    match objects.name(object) {
+        Some(name) => {
+            let copy = name.copy()?;
+            Ok(Shown::Object(copy))
         }
         None => Ok(Shown::Null),
     }

@@ -1,7 +1,8 @@
 //! All of the machine's state but the stack.
 
-ghost use Rattle.std.specs.Prelude.{◌≡◌, ◌<◌, ◌≤◌, ◌^◌, length, slice_get, IfSome, IsTrue, MatchOption};
-ghost use Rattle.object_tree.specs.Objects.{IsFree, IsNamed};
+ghost use Rattle.std.specs.Prelude.{◌≡◌, ◌<◌, ◌≤◌, ◌^◌, length, IfSome, IsTrue, MatchOption};
+ghost use Rattle.std.specs.Option.{option_copied};
+ghost use Rattle.object_tree.specs.Objects.{IsFree, IsNamed, life_of};
 ghost use Rattle.machine_state.specs.Connections.{are_joined, next_used, silences, is_silent};
 ghost use Rattle.machine_state.specs.Worlds.{untouched, Ticks, IsLeft, Becomes, noted, using, set_in};
 
@@ -10,7 +11,7 @@ use crate::entry::{Entry, Trace};
 use crate::fault::Fault;
 use connections::{Connection, Connections};
 use meta_model::DESTROYED;
-use object_tree::{Object, Tree};
+use object_tree::{Life, Object, Tree};
 use signatures::{Name, ObjectId, Value};
 use std::alloc::Global;
 
@@ -82,12 +83,9 @@ impl World {
 
     /// Whether an emission of this signal calls nothing, since the sender is blocked.
     fn is_silent(&self, sender: ObjectId, signal: usize) -> bool
-        ensures { result ≡ silences (slice_get self.now.objects sender) signal }
+        ensures { result ≡ silences (life_of self.now.objects sender) signal }
     {
-        match self.objects.object(sender) {
-            Some(object) => is_silent(object, signal),
-            None => false,
-        }
+        silences(self.objects.life(sender), signal)
     }
 
     /// A rule that writes nothing down.
@@ -141,8 +139,8 @@ impl World {
         Ok(())
     }
 
-    /// A rule that writes an object's property, and these entries down; without memory nothing changes. A number of no
-    /// object or of no property writes nothing.
+    /// A rule that writes a living object's property, and these entries down; without memory nothing changes. A number of
+    /// no living object or of no property writes nothing.
     pub fn write<const N: usize>(
         &mut self,
         entries: [Entry; N],
@@ -165,5 +163,15 @@ impl World {
 pub fn is_silent(object: &Object, signal: usize) -> bool
     ensures { result ≡ is_silent object.now signal }
 {
-    object.blocked && signal != DESTROYED
+    silences(object.life.as_ref(), signal)
+}
+
+/// Whether an object that lives this life is blocked, and the signal isn't `destroyed`.
+fn silences(life: Option<&Life>, signal: usize) -> bool
+    ensures { result ≡ silences (option_copied life.entry) signal }
+{
+    match life {
+        Some(life) => life.blocked && signal != DESTROYED,
+        None => false,
+    }
 }

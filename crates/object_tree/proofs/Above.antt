@@ -3,27 +3,29 @@ use Rattle.std.proofs.lemmas.Bool.{eqb-true, eq-eqb}
 use Rattle.std.proofs.Common.{◌≡◌, ◌≢◌, ◌↔◌, ℕ, eqb, not, Bool, true, false, IsTrue, List, Option, None, Some, refl, sym, ap, ◌∙◌, subst}
 use Rattle.std.specs.Prelude.{slice_get}
 use Rattle.std.specs.Option.{option_and_then}
+use Rattle.object_tree.specs.declared.life.Life.{Life}
 use Rattle.object_tree.specs.declared.object.Object.{Object}
 use Rattle.object_tree.specs.Family.{parent_of, IsChild, Above, itself, over_parent}
-use Rattle.object_tree.specs.Forest.{Forest}
+
+-- what shows of the parent in an object, and in a life
+abbrev pub parent_in : Option Object → Option ℕ
+parent_in there = option_and_then (λ (l : Life). l.parent) (option_and_then (λ (x : Object). x.life) there)
 
 -- an object that has a parent lives
-child-lives : (objects : List Object) (o parent : ℕ) (x : Object) → Forest objects → slice_get objects o ≡ Some x → x.parent ≡ Some parent → IsChild objects parent o
-child-lives objects o parent x forest is under = by_life x.alive refl
+pub child-is : (objects : List Object) (o parent : ℕ) → parent_of objects o ≡ Some parent → IsChild objects parent o
+child-is objects o parent found = by_object (slice_get objects o) refl found
   where
-    by_life : (b : Bool) → x.alive ≡ b → IsChild objects parent o
-    by_life true alive = record { object = x; lives = record { is = is; alive = alive }; under = under }
-    by_life false gone = let none : x.parent ≡ None = forest.orphaned o x is gone in absurd (cc (none, under))
+    by_life : (x : Object) → slice_get objects o ≡ Some x → (there : Option Life) → x.life ≡ there → option_and_then (λ (l : Life). l.parent) there ≡ Some parent → IsChild objects parent o
+    by_life x is None lives e = absurd (cc e)
+    by_life x is (Some l) lives e = record { object = x; life = l; lives = record { is = is; lives = lives }; under = e }
 
-pub child-is : (objects : List Object) (o parent : ℕ) → Forest objects → parent_of objects o ≡ Some parent → IsChild objects parent o
-child-is objects o parent forest found = by_object (slice_get objects o) refl found
-  where
-    by_object : (there : Option Object) → slice_get objects o ≡ there → option_and_then (λ (x : Object). x.parent) there ≡ Some parent → IsChild objects parent o
+    by_object : (there : Option Object) → slice_get objects o ≡ there → parent_in there ≡ Some parent → IsChild objects parent o
     by_object None is e = absurd (cc e)
-    by_object (Some x) is e = child-lives objects o parent x forest is e
+    by_object (Some x) is e = by_life x is x.life refl e
 
 pub parent-is : (objects : List Object) (o parent : ℕ) → IsChild objects parent o → parent_of objects o ≡ Some parent
-parent-is objects o parent child = ap (λ (there : Option Object). option_and_then (λ (x : Object). x.parent) there) child.lives.is ∙ child.under
+parent-is objects o parent child =
+    ap parent_in child.lives.is ∙ ap (λ (there : Option Life). option_and_then (λ (l : Life). l.parent) there) child.lives.lives ∙ child.under
 
 -- who is above another object is above its parent
 above-down : (objects : List Object) (a o parent : ℕ) → Above objects a o → o ≢ a → parent_of objects o ≡ Some parent → Above objects a parent
@@ -33,9 +35,9 @@ above-down objects a o parent (over_parent {parent = p} child above) other found
     let is : p ≡ parent = cc same in
     subst (λ (q : ℕ). Above objects a q) is above
 
-pub above-parent : {Before : Type 0} (objects : List Object) (a o parent : ℕ) → Forest objects → parent_of objects o ≡ Some parent → o ≢ a → Before ↔ Above objects a o → Before ↔ Above objects a parent
-above-parent objects a o parent forest found other so_far =
-    (λ b. above-down objects a o parent (so_far.0 b) other found, λ above. so_far.1 (over_parent (child-is objects o parent forest found) above))
+pub above-parent : {Before : Type 0} (objects : List Object) (a o parent : ℕ) → parent_of objects o ≡ Some parent → o ≢ a → Before ↔ Above objects a o → Before ↔ Above objects a parent
+above-parent objects a o parent found other so_far =
+    (λ b. above-down objects a o parent (so_far.0 b) other found, λ above. so_far.1 (over_parent (child-is objects o parent found) above))
 
 pub here-above : {Before : Type 0} (objects : List Object) (a o : ℕ) → o ≡ a → Before ↔ Above objects a o → IsTrue true ↔ Before
 here-above objects a o same so_far =

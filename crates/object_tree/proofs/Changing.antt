@@ -1,9 +1,11 @@
 -- What a change of one object leaves as it was.
-use Rattle.std.proofs.Common.{◌≡◌, ◌≢◌, ℕ, zero, suc, ◌<◌, ◌≤◌, List, [], ◌∷◌, length, get_or, Option, Some, refl, ap, ◌∙◌, arith}
+use Rattle.std.proofs.Common.{◌≡◌, ◌≢◌, ℕ, zero, suc, ◌<◌, ◌≤◌, List, [], ◌∷◌, length, get_or, Option, None, Some, refl, sym, ap, ◌∙◌, arith}
 use Rattle.std.specs.Prelude.{slice_get, slice_set}
-use Rattle.std.specs.Option.{option_map}
+use Rattle.std.specs.Option.{option_map, option_and_then}
+use Rattle.std.proofs.lemmas.Option.{same_Some}
+use Rattle.object_tree.specs.declared.life.Life.{Life}
 use Rattle.object_tree.specs.declared.object.Object.{Object}
-use Rattle.object_tree.specs.Objects.{change, class_of, class_with}
+use Rattle.object_tree.specs.Objects.{Lives, life_of, change, class_of, class_with}
 
 -- a write to a place that is there
 pub change-set : (n : ℕ) (f : Object → Object) (xs : List Object) (d : Object) → n < length xs → slice_set xs n (f (get_or xs n d)) ≡ change n f xs
@@ -40,6 +42,27 @@ part-change part zero zero f (x ∷ xs) h = h x
 part-change part zero (suc k) f (x ∷ xs) h = refl
 part-change part (suc n) zero f (x ∷ xs) h = refl
 part-change part (suc n) (suc k) f (x ∷ xs) h = part-change part n k f xs h
+
+-- .. of a life that is changed in others
+pub life-part : {X : Type 0} (part : Option Life → X) (f : Life → Life) → ((l : Life) → part (Some (f l)) ≡ part (Some l)) → (there : Option Life) → part (option_map f there) ≡ part there
+life-part part f h None = refl
+life-part part f h (Some l) = h l
+
+-- an object lives one life
+pub life-of-lives : {objects : List Object} {o : ℕ} {x : Object} {l : Life} → Lives objects o x l → life_of objects o ≡ Some l
+life-of-lives lives = ap (λ (there : Option Object). option_and_then (λ (x : Object). x.life) there) lives.is ∙ lives.lives
+
+pub lives-of-life : (objects : List Object) (o : ℕ) (l : Life) → life_of objects o ≡ Some l → (x : Object) × Lives objects o x l
+lives-of-life objects o l e = by_object (slice_get objects o) refl e
+  where
+    by_object : (there : Option Object) → slice_get objects o ≡ there → option_and_then (λ (x : Object). x.life) there ≡ Some l → (x : Object) × Lives objects o x l
+    by_object None is f = absurd (cc f)
+    by_object (Some x) is f = (x, record { is = is; lives = f })
+
+pub one-life : (objects : List Object) (o : ℕ) (u v : Object) (x y : Life) → Lives objects o u x → Lives objects o v y → x ≡ y
+one-life objects o u v x y lu lv =
+    let same : u ≡ v = same_Some _ _ (sym lu.is ∙ lv.is) in
+    same_Some _ _ (sym lu.lives ∙ ap (λ (w : Object). w.life) same ∙ lv.lives)
 
 -- what a write through `&mut` does
 pub set-changes : (xs : List Object) (m n : ℕ) (f : Object → Object) (x : Object) → m ≡ n → x ≡ get_or xs m x → m < length xs → slice_set xs m (f x) ≡ change n f xs

@@ -1,21 +1,18 @@
 -- What every tree keeps.
 use Rattle.std.proofs.Common.{◌≡◌, ◌≢◌, ⊎_elim, ◌⊎◌, inl, inr, ℕ, ◌<◌, eqb, Bool, true, false, List, [], ◌∷◌, ◌++◌, length, Option, None, Some, refl, sym, ap, ◌∙◌, subst}
-use Rattle.std.specs.Prelude.{slice_get}
+use Rattle.std.specs.Prelude.{slice_get, is_some}
 use Rattle.std.specs.Option.{option_and_then, option_map}
 use Rattle.std.proofs.lemmas.Bool.{cases_eq, eq-eqb, ne_eqb}
 use Rattle.std.proofs.lemmas.Option.{slice_get_within, same_Some}
+use Rattle.object_tree.specs.declared.life.Life.{Life}
 use Rattle.object_tree.specs.declared.object.Object.{Object}
 use Rattle.object_tree.specs.Children.{without, is_among, are_distinct}
-use Rattle.object_tree.specs.Objects.{Lives, change}
+use Rattle.object_tree.specs.Objects.{Lives, change, change_life, with_life}
 use Rattle.object_tree.specs.Family.{parent_of, children_in, children_of, IsChild, Above, itself, over_parent, joined_by, left_by, leaves, put_under, moved, dead, without_life}
 use Rattle.object_tree.specs.Forest.{Forest, is_the}
 use Rattle.object_tree.proofs.Lists.{among-without_other, among-without_same, among-join_other, among-join_same, distinct-without, distinct-join}
-use Rattle.object_tree.proofs.Above.{child-is, parent-is}
-use Rattle.object_tree.proofs.Changing.{get-change_same, get-change_other, part-change}
-
--- the part that `parent_of` reads
-abbrev pub parent_in : Option Object → Option ℕ
-parent_in there = option_and_then (λ (x : Object). x.parent) there
+use Rattle.object_tree.proofs.Above.{parent_in, child-is, parent-is}
+use Rattle.object_tree.proofs.Changing.{get-change_same, get-change_other, part-change, life-part}
 
 -- ---- depths
 
@@ -46,47 +43,28 @@ above-over above (over_parent child next) = over_parent child (above-over above 
 
 -- ---- changes that leave the family alone
 
-abbrev pub alive_in : Option Object → Bool
-alive_in None = true
-alive_in (Some x) = x.alive
-
--- a dead object has no parent
-abbrev Orphan : Option Object → Type 0
-Orphan there = alive_in there ≡ false → parent_in there ≡ None
-
-orphan-of : (objects : List Object) → Forest objects → (o : ℕ) → Orphan (slice_get objects o)
-orphan-of objects forest o = by_object (slice_get objects o) refl
-  where
-    by_object : (there : Option Object) → slice_get objects o ≡ there → Orphan there
-    by_object None is gone = refl
-    by_object (Some x) is gone = forest.orphaned o x is gone
-
-orphaned-by : (objects : List Object) → ((o : ℕ) → Orphan (slice_get objects o)) → (o : ℕ) (x : Object) → slice_get objects o ≡ Some x → x.alive ≡ false → x.parent ≡ None
-orphaned-by objects all o x is gone =
-    let Goal : Option Object → Type 0 = λ there. Orphan there in
-    let here : Orphan (Some x) = subst Goal is (all o) in
-    here gone
-
-pub forest-same : (old new : List Object) → ((k : ℕ) → parent_of new k ≡ parent_of old k) → ((k : ℕ) → children_of new k ≡ children_of old k) → ((k : ℕ) → alive_in (slice_get new k) ≡ alive_in (slice_get old k)) → Forest old → Forest new
-forest-same old new parents children lives forest =
+pub forest-same : (old new : List Object) → ((k : ℕ) → parent_of new k ≡ parent_of old k) → ((k : ℕ) → children_of new k ≡ children_of old k) → Forest old → Forest new
+forest-same old new parents children forest =
     let listed : (parent child : ℕ) → is_among child (children_of new parent) ≡ is_the parent (parent_of new child) =
     λ parent child. ap (is_among child) (children parent) ∙ forest.listed parent child ∙ ap (is_the parent) (sym (parents child)) in
     let kept : (parent child : ℕ) → IsChild new parent child → IsChild old parent child =
-    λ parent child is. child-is old child parent forest (sym (parents child) ∙ parent-is new child parent is) in
+    λ parent child is. child-is old child parent (sym (parents child) ∙ parent-is new child parent is) in
     record {
       listed = listed;
       distinct = λ parent. ap are_distinct (children parent) ∙ forest.distinct parent;
       acyclic = λ parent child is above. forest.acyclic parent child (kept parent child is) (above-through kept above);
-      orphaned = orphaned-by new (λ o gone. parents o ∙ orphan-of old forest o (sym (lives o) ∙ gone));
     }
 
--- a change of other parts of one object
-pub forest-change : (n : ℕ) (f : Object → Object) (objects : List Object) → ((x : Object) → (f x).parent ≡ x.parent) → ((x : Object) → (f x).children ≡ x.children) → ((x : Object) → (f x).alive ≡ x.alive) → Forest objects → Forest (change n f objects)
-forest-change n f objects parents children lives forest =
-    forest-same objects (change n f objects)
-    (λ k. part-change parent_in n k f objects parents)
-    (λ k. part-change children_in n k f objects children)
-    (λ k. part-change alive_in n k f objects lives)
+-- the parent that shows in an object whose life is changed
+parent-with_life : (f : Life → Life) → ((l : Life) → (f l).parent ≡ l.parent) → (x : Object) → parent_in (Some (with_life f x)) ≡ parent_in (Some x)
+parent-with_life f same x = life-part (λ (there : Option Life). option_and_then (λ (l : Life). l.parent) there) f same x.life
+
+-- a change of other parts of one life
+pub forest-change : (n : ℕ) (f : Life → Life) (objects : List Object) → ((l : Life) → (f l).parent ≡ l.parent) → Forest objects → Forest (change_life n f objects)
+forest-change n f objects same forest =
+    forest-same objects (change_life n f objects)
+    (λ k. part-change parent_in n k (with_life f) objects (parent-with_life f same))
+    (λ k. part-change children_in n k (with_life f) objects (λ x. refl))
     forest
 
 -- ---- a child that leaves its parent's children
@@ -165,7 +143,6 @@ died-children o k objects = part-change children_in o k dead (leaves (parent_of 
 pub forest-died : (o : ℕ) (objects : List Object) → Forest objects → Forest (without_life o objects)
 forest-died o objects forest =
     let new : List Object = without_life o objects in
-    let between : List Object = leaves (parent_of objects o) o objects in
     let listed : (parent child : ℕ) → is_among child (children_of new parent) ≡ is_the parent (parent_of new child) =
     λ parent child. ap (is_among child) (died-children o parent objects) ∙ ⊎_elim
     (λ (same : child ≡ o). rw same (leaves-gone (parent_of objects o) o parent objects (forest.listed parent o) (forest.distinct parent) ∙ ap (is_the parent) (sym (died-parent o o objects))))
@@ -174,18 +151,12 @@ forest-died o objects forest =
     let kept : (parent child : ℕ) → IsChild new parent child → IsChild objects parent child =
     λ parent child is. let e : parent_of new child ≡ Some parent = parent-is new child parent is in ⊎_elim
     (λ (same : child ≡ o). let none : parent_of new child ≡ None = rw same (died-parent o o objects) in absurd (cc (none, e)))
-    (λ (other : child ≢ o). child-is objects child parent forest (sym (died-other o child objects other) ∙ e))
+    (λ (other : child ≢ o). child-is objects child parent (sym (died-other o child objects other) ∙ e))
     (cases_eq child o) in
     record {
       listed = listed;
       distinct = λ parent. ap are_distinct (died-children o parent objects) ∙ leaves-distinct (parent_of objects o) o parent objects (forest.distinct parent);
       acyclic = λ parent child is above. forest.acyclic parent child (kept parent child is) (above-through kept above);
-      orphaned = orphaned-by new (λ k gone. ⊎_elim
-          (λ (same : k ≡ o). rw same (died-parent o o objects))
-          (λ (other : k ≢ o).
-          let lives : alive_in (slice_get new k) ≡ alive_in (slice_get objects k) = ap alive_in (get-change_other o k dead between other) ∙ leaves-part alive_in (parent_of objects o) o k objects (λ x. refl) in
-          died-other o k objects other ∙ orphan-of objects forest k (sym lives ∙ gone))
-          (cases_eq k o));
     }
 
 -- ---- a child that gets another parent
@@ -200,7 +171,8 @@ pub record Moves (objects : List Object) (a c : ℕ) : Type 0 where
   pub owner : Object
   pub there : slice_get objects a ≡ Some owner
   pub child : Object
-  pub lives : Lives objects c child
+  pub life : Life
+  pub lives : Lives objects c child life
   pub elsewhere : parent_of objects c ≢ Some a
   pub no_cycle : ¬ Above objects c a
 
@@ -216,40 +188,43 @@ joined-other objects a c d k x is other = ⊎_elim
     (cases_eq k a)
 
 moved-children : (objects : List Object) (a c k : ℕ) → children_of (moved a c objects) k ≡ children_of (leaves (parent_of objects c) c (change a (joined_by c) objects)) k
-moved-children objects a c k = part-change children_in c k (put_under a) (leaves (parent_of objects c) c (change a (joined_by c) objects)) (λ x. refl)
+moved-children objects a c k = part-change children_in c k (with_life (put_under a)) (leaves (parent_of objects c) c (change a (joined_by c) objects)) (λ x. refl)
 
 -- another part of every object stays
-pub moved-part : {X : Type 0} (part : Option Object → X) (objects : List Object) (a c k : ℕ) → ((x : Object) (l : List ℕ) → part (Some (record x { children = l })) ≡ part (Some x)) → ((x : Object) (l : Option ℕ) → part (Some (record x { parent = l })) ≡ part (Some x)) → part (slice_get (moved a c objects) k) ≡ part (slice_get objects k)
+pub moved-part : {X : Type 0} (part : Option Object → X) (objects : List Object) (a c k : ℕ) → ((x : Object) (l : List ℕ) → part (Some (record x { children = l })) ≡ part (Some x)) → ((x : Object) → part (Some (with_life (put_under a) x)) ≡ part (Some x)) → part (slice_get (moved a c objects) k) ≡ part (slice_get objects k)
 moved-part part objects a c k children parents =
-    part-change part c k (put_under a) (leaves (parent_of objects c) c (change a (joined_by c) objects)) (λ x. parents x (Some a))
+    part-change part c k (with_life (put_under a)) (leaves (parent_of objects c) c (change a (joined_by c) objects)) parents
     ∙ leaves-part part (parent_of objects c) c k (change a (joined_by c) objects) (λ x. children x (without c x.children))
     ∙ part-change part a k (joined_by c) objects (λ x. children x (x.children ++ c ∷ []))
 
 moved-parent_other : (objects : List Object) (a c k : ℕ) → k ≢ c → parent_of (moved a c objects) k ≡ parent_of objects k
 moved-parent_other objects a c k other =
-    parent-change_other c k (put_under a) (leaves (parent_of objects c) c (change a (joined_by c) objects)) other
+    parent-change_other c k (with_life (put_under a)) (leaves (parent_of objects c) c (change a (joined_by c) objects)) other
     ∙ leaves-part parent_in (parent_of objects c) c k (change a (joined_by c) objects) (λ x. refl)
     ∙ part-change parent_in a k (joined_by c) objects (λ x. refl)
 
-abbrev there_in : Option Object → Bool
-there_in None = false
-there_in (Some x) = true
+abbrev alive_in : Option Object → Bool
+alive_in there = is_some (option_and_then (λ (x : Object). x.life) there)
 
 -- the new parent
-moved-parent : (objects : List Object) (a c : ℕ) (y : Object) → slice_get objects c ≡ Some y → parent_of (moved a c objects) c ≡ Some a
-moved-parent objects a c y is =
-    ap parent_in (get-change_same c (put_under a) (leaves (parent_of objects c) c (change a (joined_by c) objects)))
-    ∙ by_object (slice_get (leaves (parent_of objects c) c (change a (joined_by c) objects)) c) (leaves-part there_in (parent_of objects c) c c (change a (joined_by c) objects) (λ x. refl) ∙ part-change there_in a c (joined_by c) objects (λ x. refl) ∙ ap there_in is)
+moved-parent : (objects : List Object) (a c : ℕ) (y : Object) (l : Life) → Lives objects c y l → parent_of (moved a c objects) c ≡ Some a
+moved-parent objects a c y l lives =
+    ap parent_in (get-change_same c (with_life (put_under a)) (leaves (parent_of objects c) c (change a (joined_by c) objects)))
+    ∙ by_object (slice_get (leaves (parent_of objects c) c (change a (joined_by c) objects)) c) (leaves-part alive_in (parent_of objects c) c c (change a (joined_by c) objects) (λ x. refl) ∙ part-change alive_in a c (joined_by c) objects (λ x. refl) ∙ ap alive_in lives.is ∙ ap is_some lives.lives)
   where
-    by_object : (there : Option Object) → there_in there ≡ true → parent_in (option_map (put_under a) there) ≡ Some a
+    by_life : (there : Option Life) → is_some there ≡ true → option_and_then (λ (m : Life). m.parent) (option_map (put_under a) there) ≡ Some a
+    by_life None e = absurd (cc e)
+    by_life (Some m) e = refl
+
+    by_object : (there : Option Object) → alive_in there ≡ true → parent_in (option_map (with_life (put_under a)) there) ≡ Some a
     by_object None e = absurd (cc e)
-    by_object (Some z) e = refl
+    by_object (Some z) e = by_life z.life e
 
 -- who is among whose children after the move
 moved-listed : (objects : List Object) (a c : ℕ) → Moves objects a c → (parent child : ℕ) → is_among child (children_of (moved a c objects) parent) ≡ is_the parent (parent_of (moved a c objects) child)
 moved-listed objects a c m parent child =
     ap (is_among child) (moved-children objects a c parent) ∙ ⊎_elim
-    (λ (same : child ≡ c). rw same (itself_listed ∙ ap (is_the parent) (sym (moved-parent objects a c m.child m.lives.is))))
+    (λ (same : child ≡ c). rw same (itself_listed ∙ ap (is_the parent) (sym (moved-parent objects a c m.child m.life m.lives))))
     (λ (other : child ≢ c).
     leaves-other (parent_of objects c) c child parent (change a (joined_by c) objects) other
     ∙ joined-other objects a c child parent m.owner m.there other
@@ -283,10 +258,10 @@ moved-distinct objects a c m parent =
 module _ (objects : List Object) (a c : ℕ) (m : Moves objects a c) where
   -- every parent but the moved child's was the parent before
   moved-child : (parent child : ℕ) → IsChild (moved a c objects) parent child → child ≢ c → IsChild objects parent child
-  moved-child parent child is other = child-is objects child parent m.forest (sym (moved-parent_other objects a c child other) ∙ parent-is (moved a c objects) child parent is)
+  moved-child parent child is other = child-is objects child parent (sym (moved-parent_other objects a c child other) ∙ parent-is (moved a c objects) child parent is)
 
   moved-under : (parent : ℕ) → IsChild (moved a c objects) parent c → parent ≡ a
-  moved-under parent is = same_Some _ _ (sym (parent-is (moved a c objects) c parent is) ∙ moved-parent objects a c m.child m.lives.is)
+  moved-under parent is = same_Some _ _ (sym (parent-is (moved a c objects) c parent is) ∙ moved-parent objects a c m.child m.life m.lives)
 
   -- who is above an object that the child isn't above was so before
   above-apart : (x o : ℕ) → Above (moved a c objects) x o → (¬ Above objects c o) → Above objects x o
@@ -335,13 +310,4 @@ forest-moved objects a c m = record {
   listed = moved-listed objects a c m;
   distinct = moved-distinct objects a c m;
   acyclic = moved-acyclic objects a c m;
-  orphaned = orphaned-by (moved a c objects) (λ k gone.
-      let lives : alive_in (slice_get (moved a c objects) k) ≡ alive_in (slice_get objects k) = moved-part alive_in objects a c k (λ x l. refl) (λ x l. refl) in
-      let dead_before : alive_in (slice_get objects k) ≡ false = sym lives ∙ gone in
-      ⊎_elim
-      (λ (same : k ≡ c).
-      let alive : alive_in (slice_get objects k) ≡ true = rw same (ap alive_in m.lives.is ∙ m.lives.alive) in
-      absurd (cc (alive, dead_before)))
-      (λ (other : k ≢ c). moved-parent_other objects a c k other ∙ orphan-of objects m.forest k dead_before)
-      (cases_eq k c));
 }

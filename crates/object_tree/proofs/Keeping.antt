@@ -1,21 +1,22 @@
 -- What every tree keeps, with its index of names.
 use Rattle.std.proofs.Common.{◌≡◌, ◌≢◌, ◌⊎◌, ⊎_elim, inl, inr, ℕ, zero, suc, true, false, List, [], ◌∷◌, ◌++◌, length, Option, None, Some, refl, sym, ap, ◌∙◌, subst}
 use Rattle.std.specs.Prelude.{slice_get, is_some, MatchOption}
-use Rattle.std.specs.Option.{option_map, unwrap_or}
+use Rattle.std.specs.Option.{option_map, option_and_then, unwrap_or}
 use Rattle.std.proofs.lemmas.Bool.{cases_eq, eq-eqb, eqb-true}
 use Rattle.std.proofs.lemmas.Option.{same_Some}
 use Rattle.meta_model.specs.NamePlaces.{place_in, Adds}
+use Rattle.object_tree.specs.declared.life.Life.{Life}
 use Rattle.object_tree.specs.declared.object.Object.{Object}
 use Rattle.object_tree.specs.Children.{is_among}
-use Rattle.object_tree.specs.Objects.{Lives, IsNamed, IsFree, change, name_of}
+use Rattle.object_tree.specs.Objects.{Lives, IsNamed, IsFree, change_life, with_life, name_of}
 use Rattle.object_tree.specs.Family.{leaves, moved, dead, without_life, parent_of, children_of, IsChild, IsChildless}
 use Rattle.object_tree.specs.Forest.{Forest, is_the}
 use Rattle.object_tree.specs.Kept.{Kept}
 use Rattle.meta_model.specs.Loaded.{Loaded}
 use Rattle.object_tree.specs.Adopting.{MayAdopt, IsAdopted}
-use Rattle.object_tree.proofs.Above.{child-is, parent-is}
-use Rattle.object_tree.proofs.Changing.{part-change}
-use Rattle.object_tree.proofs.Families.{parent_in, Moves, moved-part, leaves-part, alive_in, forest-same, forest-change, forest-died, forest-moved}
+use Rattle.object_tree.proofs.Above.{parent_in, child-is, parent-is}
+use Rattle.object_tree.proofs.Changing.{part-change, one-life}
+use Rattle.object_tree.proofs.Families.{Moves, moved-part, leaves-part, forest-same, forest-change, forest-died, forest-moved}
 
 -- ---- names
 
@@ -46,9 +47,9 @@ names-same names old new same forest kept = record {
   forest = forest;
 }
 
-pub kept-change : (names : List (List ℕ × ℕ)) (n : ℕ) (f : Object → Object) (objects : List Object) → ((x : Object) → (f x).parent ≡ x.parent) → ((x : Object) → (f x).children ≡ x.children) → ((x : Object) → (f x).alive ≡ x.alive) → ((x : Object) → (f x).name ≡ x.name) → Kept names objects → Kept names (change n f objects)
-kept-change names n f objects parents children lives same kept =
-    names-same names objects (change n f objects) (λ o. part-change (option_map (λ (x : Object). x.name)) n o f objects (λ x. ap Some (same x))) (forest-change n f objects parents children lives kept.forest) kept
+pub kept-change : (names : List (List ℕ × ℕ)) (n : ℕ) (f : Life → Life) (objects : List Object) → ((l : Life) → (f l).parent ≡ l.parent) → Kept names objects → Kept names (change_life n f objects)
+kept-change names n f objects parents kept =
+    names-same names objects (change_life n f objects) (λ o. part-change (option_map (λ (x : Object). x.name)) n o (with_life f) objects (λ x. refl)) (forest-change n f objects parents kept.forest) kept
 
 pub kept-died : (names : List (List ℕ × ℕ)) (o : ℕ) (objects : List Object) → Kept names objects → Kept names (without_life o objects)
 kept-died names o objects kept =
@@ -58,7 +59,7 @@ kept-died names o objects kept =
 
 pub kept-moved : (names : List (List ℕ × ℕ)) (a c : ℕ) (objects : List Object) → Moves objects a c → Kept names objects → Kept names (moved a c objects)
 kept-moved names a c objects moves kept =
-    names-same names objects (moved a c objects) (λ k. moved-part (option_map (λ (x : Object). x.name)) objects a c k (λ x l. refl) (λ x l. refl)) (forest-moved objects a c moves) kept
+    names-same names objects (moved a c objects) (λ k. moved-part (option_map (λ (x : Object). x.name)) objects a c k (λ x l. refl) (λ x. refl)) (forest-moved objects a c moves) kept
 
 -- ---- children
 
@@ -85,7 +86,7 @@ first-child objects a None forest e = λ o child.
     cc (none, some)
 first-child objects a (Some o) forest e =
     let among : is_among o (children_of objects a) ≡ true = first-among o (children_of objects a) (sym e) in
-    child-is objects o a forest (the-is a (parent_of objects o) (sym (forest.listed a o) ∙ among))
+    child-is objects o a (the-is a (parent_of objects o) (sym (forest.listed a o) ∙ among))
 
 -- ---- an object that is created
 
@@ -118,7 +119,7 @@ name-appended (x ∷ xs) z (suc o) name e = ⊎_elim
     (λ (last : (o ≡ length xs) × (z.name ≡ name)). inr (ap suc last.0, last.1))
     (name-appended xs z o name e)
 
-parent-created : (xs : List Object) (z : Object) (o : ℕ) → z.parent ≡ None → parent_of (xs ++ z ∷ []) o ≡ parent_of xs o
+parent-created : (xs : List Object) (z : Object) (o : ℕ) → parent_in (Some z) ≡ None → parent_of (xs ++ z ∷ []) o ≡ parent_of xs o
 parent-created [] z zero none = none
 parent-created [] z (suc o) none = refl
 parent-created (x ∷ xs) z zero none = refl
@@ -130,16 +131,10 @@ children-created [] z (suc o) none = refl
 children-created (x ∷ xs) z zero none = refl
 children-created (x ∷ xs) z (suc o) none = children-created xs z o none
 
-alive-created : (xs : List Object) (z : Object) (o : ℕ) → z.alive ≡ true → alive_in (slice_get (xs ++ z ∷ []) o) ≡ alive_in (slice_get xs o)
-alive-created [] z zero alive = alive
-alive-created [] z (suc o) alive = refl
-alive-created (x ∷ xs) z zero alive = refl
-alive-created (x ∷ xs) z (suc o) alive = alive-created xs z o alive
-
-pub kept-created : (old new : List (List ℕ × ℕ)) (objects : List Object) (z : Object) → z.parent ≡ None → z.children ≡ [] → z.alive ≡ true → IsFree objects z.name → Adds z.name (length objects) old new → Kept old objects → Kept new (objects ++ z ∷ [])
-kept-created old new objects z orphan childless alive free adds kept = record {
+pub kept-created : (old new : List (List ℕ × ℕ)) (objects : List Object) (z : Object) → parent_in (Some z) ≡ None → z.children ≡ [] → IsFree objects z.name → Adds z.name (length objects) old new → Kept old objects → Kept new (objects ++ z ∷ [])
+kept-created old new objects z orphan childless free adds kept = record {
   named = λ name o. (to name o (list_cases name z.name), from name o);
-  forest = forest-same objects (objects ++ z ∷ []) (λ k. parent-created objects z k orphan) (λ k. children-created objects z k childless) (λ k. alive-created objects z k alive) kept.forest;
+  forest = forest-same objects (objects ++ z ∷ []) (λ k. parent-created objects z k orphan) (λ k. children-created objects z k childless) kept.forest;
 }
   where
     unfound : place_in old z.name ≡ None
@@ -169,22 +164,23 @@ kept-created old new objects z orphan childless alive free adds kept = record {
 
 -- ---- an object that gets another parent
 
-pub moves-by : (objects : List Object) (p : Loaded) (a c : ℕ) (u v : Object) → Forest objects → Lives objects a u → Lives objects c v → MayAdopt p objects a c u v → v.parent ≢ Some a → Moves objects a c
-moves-by objects p a c u v forest owner child may elsewhere = record {
+pub moves-by : (objects : List Object) (p : Loaded) (a c : ℕ) (u v : Object) (x y : Life) → Forest objects → Lives objects a u x → Lives objects c v y → MayAdopt p objects a c x y → y.parent ≢ Some a → Moves objects a c
+moves-by objects p a c u v x y forest owner child may elsewhere = record {
   forest = forest;
   owner = u;
   there = owner.is;
   child = v;
+  life = y;
   lives = child;
-  elsewhere = λ e. elsewhere (sym (ap parent_in child.is) ∙ e);
+  elsewhere = λ e. elsewhere (sym (ap parent_in child.is ∙ ap (λ (there : Option Life). option_and_then (λ (l : Life). l.parent) there) child.lives) ∙ e);
   no_cycle = may.no_cycle;
 }
 
-pub adopts-moved : (p : Loaded) (objects new : List Object) (a c : ℕ) (x y u v : Object) → Lives objects a x → Lives objects c y → Lives objects a u → Lives objects c v → MayAdopt p objects a c u v → v.parent ≢ Some a → new ≡ moved a c objects → MayAdopt p objects a c x y × IsAdopted a c y objects new
-adopts-moved p objects new a c x y u v lx ly lu lv may elsewhere is =
-    let same_owner : u ≡ x = same_Some _ _ (sym lu.is ∙ lx.is) in
-    let same_child : v ≡ y = same_Some _ _ (sym lv.is ∙ ly.is) in
-    let with_owner : MayAdopt p objects a c x v = subst (λ (w : Object). MayAdopt p objects a c w v) same_owner may in (
-      subst (λ (w : Object). MayAdopt p objects a c x w) same_child with_owner,
-      record { same = λ e. absurd (elsewhere (ap (λ (w : Object). w.parent) same_child ∙ e)); other = λ e. is },
+pub adopts-moved : (p : Loaded) (objects new : List Object) (a c : ℕ) (s t u v : Object) (x y k l : Life) → Lives objects a s x → Lives objects c t y → Lives objects a u k → Lives objects c v l → MayAdopt p objects a c k l → l.parent ≢ Some a → new ≡ moved a c objects → MayAdopt p objects a c x y × IsAdopted a c y objects new
+adopts-moved p objects new a c s t u v x y k l lx ly lu lv may elsewhere is =
+    let same_owner : k ≡ x = one-life objects a u s k x lu lx in
+    let same_child : l ≡ y = one-life objects c v t l y lv ly in
+    let with_owner : MayAdopt p objects a c x l = subst (λ (w : Life). MayAdopt p objects a c w l) same_owner may in (
+      subst (λ (w : Life). MayAdopt p objects a c x w) same_child with_owner,
+      record { same = λ e. absurd (elsewhere (ap (λ (w : Life). w.parent) same_child ∙ e)); other = λ e. is },
     )

@@ -1,5 +1,5 @@
 -- When an object is created, and why not (docs/machine.md, "Objects" and "Events").
-use Rattle.std.specs.Prelude.{◌≡◌, ℕ, ◌<◌, ◌≤◌, true, false, List, [], ◌∷◌, ◌++◌, length, map, All, Result, Ok, Err, Option, None}
+use Rattle.std.specs.Prelude.{◌≡◌, ℕ, ◌<◌, ◌≤◌, false, List, [], ◌∷◌, ◌++◌, length, map, All, Result, Ok, Err, Option, None, Some}
 use Rattle.signatures.specs.declared.value.Value.{Value}
 use Rattle.meta_model.specs.declared.object.MetaObject.{MetaObject}
 use Rattle.meta_model.specs.declared.object.MetaProperty.{MetaProperty}
@@ -8,20 +8,22 @@ use Rattle.meta_model.specs.Members.{IsClass, IsClassNamed}
 use Rattle.meta_model.specs.Values.{Has}
 use Rattle.object_tree.specs.declared.fault.CreateFault.{CreateFault}
 use Rattle.object_tree.specs.declared.fault.CreateFault.TheVariants.{NameUsed, NoClass, TooMany, BadType, Memory}
+use Rattle.object_tree.specs.declared.life.Life.{Life}
 use Rattle.object_tree.specs.declared.object.Object.{Object}
 use Rattle.object_tree.specs.Objects.{IsNamed, IsFree, class_with}
+use Rattle.object_tree.specs.Seen.{seen}
 
 -- how many objects may be created
 abbrev pub most_objects : ℕ
 most_objects = 100000
 
--- the property has at first a value of its type, where `class` gives the class of each living object
-abbrev pub BeginsAs : Loaded → (ℕ → Option ℕ) → MetaProperty → Type 0
-BeginsAs p class q = Has p class q.initial q.kind
+-- the property of a new object of the class of this number has at first a value that reads as its type
+abbrev pub BeginsAs : Loaded → List Object → ℕ → MetaProperty → Type 0
+BeginsAs p objects number q = Has p (class_with objects number) (seen objects q.initial) q.kind
 
--- each property of a new object of this class has at first a value of its type
+-- .. each property
 abbrev pub BeginsWell : Loaded → List Object → ℕ → MetaObject → Type 0
-BeginsWell p objects number class = All (BeginsAs p (class_with objects number)) class.properties
+BeginsWell p objects number class = All (BeginsAs p objects number) class.properties
 
 -- the values that properties have at first
 abbrev pub initials : List MetaProperty → List Value
@@ -30,19 +32,14 @@ initials properties = map (λ (q : MetaProperty). q.initial) properties
 abbrev pub initial_values : MetaObject → List Value
 initial_values class = initials class.properties
 
+-- the life of a new object
+abbrev pub begun : ℕ → ℕ → List Value → Life
+begun class home values =
+    record { class = class; home = home; parent = None; blocked = false; scheduled = false; values = values }
+
 -- a new object
 abbrev pub fresh : List ℕ → ℕ → ℕ → List Value → Object
-fresh name class home values = record {
-  name = name;
-  class = class;
-  home = home;
-  alive = true;
-  parent = None;
-  children = [];
-  blocked = false;
-  scheduled = false;
-  values = values;
-}
+fresh name class home values = record { name = name; children = []; life = Some (begun class home values) }
 
 -- an object of this name and class may be created: the class has this number and this meta-object
 pub record MayCreate (p : Loaded) (objects : List Object) (name class : List ℕ) (number : ℕ) (kind : MetaObject)

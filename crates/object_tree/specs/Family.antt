@@ -1,13 +1,14 @@
 -- Who is whose parent (docs/machine.md, "Objects"; Qt 6, "Object Trees & Ownership").
-use Rattle.std.specs.Prelude.{◌≡◌, ℕ, false, List, [], ◌∷◌, ◌++◌, Option, None, Some, slice_get}
+use Rattle.std.specs.Prelude.{◌≡◌, ℕ, List, [], ◌∷◌, ◌++◌, Option, None, Some, slice_get}
 use Rattle.std.specs.Option.{option_and_then}
+use Rattle.object_tree.specs.declared.life.Life.{Life}
 use Rattle.object_tree.specs.declared.object.Object.{Object}
 use Rattle.object_tree.specs.Children.{without}
-use Rattle.object_tree.specs.Objects.{Lives, change}
+use Rattle.object_tree.specs.Objects.{Lives, life_of, change, change_life}
 
--- the parent of an object
+-- the parent of a living object
 abbrev pub parent_of : List Object → ℕ → Option ℕ
-parent_of objects o = option_and_then (λ (x : Object). x.parent) (slice_get objects o)
+parent_of objects o = option_and_then (λ (l : Life). l.parent) (life_of objects o)
 
 abbrev pub children_in : Option Object → List ℕ
 children_in None = []
@@ -20,8 +21,9 @@ children_of objects o = children_in (slice_get objects o)
 -- object o lives, and this is its parent
 pub record IsChild (objects : List Object) (parent o : ℕ) : Type 0 where
   pub object : Object
-  pub lives : Lives objects o object
-  pub under : object.parent ≡ Some parent
+  pub life : Life
+  pub lives : Lives objects o object life
+  pub under : life.parent ≡ Some parent
 
 -- no living object has this parent
 abbrev pub IsChildless : List Object → ℕ → Type 0
@@ -45,18 +47,18 @@ abbrev pub leaves : Option ℕ → ℕ → List Object → List Object
 leaves None child objects = objects
 leaves (Some parent) child objects = change parent (left_by child) objects
 
-abbrev pub put_under : ℕ → Object → Object
-put_under parent x = record x { parent = Some parent }
+abbrev pub put_under : ℕ → Life → Life
+put_under parent l = record l { parent = Some parent }
 
 -- the child comes last among the new parent's children, and leaves those of its old parent
 abbrev pub moved : ℕ → ℕ → List Object → List Object
 moved parent child objects =
-    change child (put_under parent)
+    change_life child (put_under parent)
     (leaves (parent_of objects child) child (change parent (joined_by child) objects))
 
 -- an object that lives no more
 abbrev pub dead : Object → Object
-dead x = record x { alive = false; parent = None; values = [] }
+dead x = record x { life = None }
 
 -- .. leaves its parent's children; its own stay its children
 abbrev pub without_life : ℕ → List Object → List Object

@@ -1,5 +1,5 @@
 -- What every tree keeps (docs/machine.md, "What every run keeps").
-use Rattle.std.specs.Prelude.{◌≡◌, ℕ, eqb, Bool, true, false, List, Option, None, Some, slice_get}
+use Rattle.std.specs.Prelude.{◌≡◌, ℕ, eqb, Bool, true, false, List, Option, None, Some}
 use Rattle.object_tree.specs.declared.object.Object.{Object}
 use Rattle.object_tree.specs.Children.{is_among, are_distinct}
 use Rattle.object_tree.specs.Family.{parent_of, children_of, IsChild, Above}
@@ -13,4 +13,3 @@ pub record Forest (objects : List Object) : Type 0 where
   pub listed : (parent child : ℕ) → is_among child (children_of objects parent) ≡ is_the parent (parent_of objects child)
   pub distinct : (parent : ℕ) → are_distinct (children_of objects parent) ≡ true
   pub acyclic : (parent child : ℕ) → IsChild objects parent child → ¬ Above objects child parent
-  pub orphaned : (o : ℕ) (x : Object) → slice_get objects o ≡ Some x → x.alive ≡ false → x.parent ≡ None

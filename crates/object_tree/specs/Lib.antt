@@ -1,6 +1,7 @@
 pub mod Lists
 pub mod Children
 pub mod Objects
+pub mod Seen
 pub mod Family
 pub mod Typed
 pub mod Creating

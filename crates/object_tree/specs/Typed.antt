@@ -1,23 +1,34 @@
 -- Objects whose properties have values of their types (docs/machine.md, "What every run keeps").
-use Rattle.std.specs.Prelude.{◌≡◌, ℕ, List, map, Some, slice_get}
+use Rattle.std.specs.Prelude.{◌≡◌, ℕ, List, map}
 use Rattle.signatures.specs.declared.value.Value.{Value}
 use Rattle.meta_model.specs.declared.object.MetaObject.{MetaObject}
 use Rattle.meta_model.specs.declared.object.MetaProperty.{MetaProperty}
+use Rattle.meta_model.specs.declared.object.ValueType.{ValueType}
 use Rattle.meta_model.specs.Loaded.{Loaded}
 use Rattle.meta_model.specs.Members.{IsClass, IsProperty}
 use Rattle.meta_model.specs.Values.{Has, HaveTypes}
+use Rattle.object_tree.specs.declared.life.Life.{Life}
 use Rattle.object_tree.specs.declared.object.Object.{Object}
 use Rattle.object_tree.specs.Objects.{Lives, class_of}
+use Rattle.object_tree.specs.Seen.{seen, all_seen}
 
--- the object's class is there, and the values are as many as its properties, each of its type
-pub record IsTyped (p : Loaded) (objects : List Object) (x : Object) : Type 0 where
+-- as it reads, the value has the type
+abbrev pub ReadsAs : Loaded → List Object → Value → ValueType → Type 0
+ReadsAs p objects v kind = Has p (class_of objects) (seen objects v) kind
+
+-- .. there are as many values as types, each of its type
+abbrev pub ReadAs : Loaded → List Object → List Value → List ValueType → Type 0
+ReadAs p objects values kinds = HaveTypes p (class_of objects) (all_seen objects values) kinds
+
+-- the class is there, and the values are as many as its properties, each of its type
+pub record IsTyped (p : Loaded) (objects : List Object) (life : Life) : Type 0 where
   pub class : MetaObject
-  pub is_class : IsClass p x.class class
-  pub typed : HaveTypes p (class_of objects) x.values (map (λ (q : MetaProperty). q.kind) class.properties)
+  pub is_class : IsClass p life.class class
+  pub typed : ReadAs p objects life.values (map (λ (q : MetaProperty). q.kind) class.properties)
 
 -- .. of each living object
 abbrev pub AreTyped : Loaded → List Object → Type 0
-AreTyped p objects = (o : ℕ) (x : Object) → Lives objects o x → IsTyped p objects x
+AreTyped p objects = (o : ℕ) (x : Object) (life : Life) → Lives objects o x life → IsTyped p objects life
 
 -- what was typed stays so, by whatever program
 abbrev pub StayTyped : List Object → List Object → Type 0
@@ -27,10 +38,11 @@ StayTyped old new = (p : Loaded) → AreTyped p old → AreTyped p new
 abbrev pub StayTypedIf : (Loaded → Type 0) → List Object → List Object → Type 0
 StayTypedIf holds old new = (p : Loaded) → holds p → AreTyped p old → AreTyped p new
 
--- the value has the type of an object's property
+-- the value has the type of a living object's property
 pub record FitsProperty (objects : List Object) (o q : ℕ) (v : Value) (p : Loaded) : Type 0 where
   pub object : Object
-  pub is : slice_get objects o ≡ Some object
+  pub life : Life
+  pub lives : Lives objects o object life
   pub property : MetaProperty
-  pub is_property : IsProperty p object.class q property
-  pub has : Has p (class_of objects) v property.kind
+  pub is_property : IsProperty p life.class q property
+  pub reads : ReadsAs p objects v property.kind

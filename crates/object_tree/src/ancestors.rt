@@ -6,7 +6,7 @@ ghost use Rattle.object_tree.specs.Family.{Above};
 ghost use Rattle.object_tree.specs.Forest.{Forest};
 
 use crate::fault::AdoptFault;
-use crate::object::Object;
+use crate::life::Life;
 use crate::objects::Objects;
 use meta_objects::Meta;
 use signatures::ObjectId;
@@ -26,14 +26,14 @@ pub fn is_above(objects: &Objects, above: ObjectId, object: ObjectId) -> bool
     true
 }
 
-/// Whether a living object, `owner`, may become the parent of another, `owned`, or why not.
+/// Whether a living object may become the parent of another, `owner` and `owned` being their lives, or why not.
 pub fn may_adopt(
     meta: &Meta,
     objects: &Objects,
     parent: ObjectId,
-    owner: &Object,
+    owner: &Life,
     child: ObjectId,
-    owned: &Object,
+    owned: &Life,
 ) -> Result<(), AdoptFault>
     requires { Forest objects.now }
     ensures { JudgesAdoption meta.now objects.now parent child owner.now owned.now result }

@@ -7,6 +7,7 @@ ghost use Rattle.object_tree.specs.Kept.{Kept};
 
 use crate::children::Children;
 use crate::fault::CreateFault;
+use crate::life::Life;
 use crate::object::Object;
 use crate::objects::Objects;
 use crate::typing::begin_well;
@@ -62,16 +63,18 @@ pub fn new_object(
     ensures { IfOk result (λ x. x ≡ fresh name.now number home (initial_values kind.now)) }
 {
     let values = Values::initial(alloc, kind.properties.as_slice())?;
-    Ok(Object {
-        name: name.copy()?,
+    let life = Life {
         class: number,
         home,
-        alive: true,
         parent: None,
-        children: Children::new(alloc),
         blocked: false,
         scheduled: false,
         values,
+    };
+    Ok(Object {
+        name: name.copy()?,
+        children: Children::new(alloc),
+        life: Some(life),
     })
 }
 

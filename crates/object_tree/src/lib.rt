@@ -1,12 +1,14 @@
-//! Objects by number and name, and who is whose parent.
+//! Objects by number and name, what they have while they live, and who is whose parent.
 #![tactic(auto)]
 
 mod ancestors;
 mod children;
 mod creation;
 mod fault;
+mod life;
 mod object;
 mod objects;
+mod seen;
 mod tree;
 mod typing;
 mod values;
@@ -14,6 +16,7 @@ mod values;
 pub use children::Children;
 pub use creation::MOST_OBJECTS;
 pub use fault::{AdoptFault, CreateFault};
+pub use life::Life;
 pub use object::Object;
 pub use tree::Tree;
 pub use values::Values;

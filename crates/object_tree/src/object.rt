@@ -1,37 +1,67 @@
-ghost use Rattle.std.specs.Prelude.{◌≡◌, ◌↔◌, IsTrue, Some};
+ghost use Rattle.std.specs.Prelude.{◌≡◌};
+ghost use Rattle.object_tree.specs.Objects.{with_life, blocked, scheduled, written};
+ghost use Rattle.object_tree.specs.Family.{put_under, dead};
 
 use crate::children::Children;
-use crate::values::Values;
-use signatures::{LoopId, Name, ObjectId};
+use crate::life::Life;
+use signatures::{Name, ObjectId, Value};
 
-/// An object that was created. Of a dead one only its name, its class and its living children mean something.
+/// An object that was created.
 #[derive(Drop)]
 pub struct Object {
     /// Its name, which no other object ever has.
     pub name: Name,
-    /// Its class's number.
-    pub class: usize,
-    /// The loop that it lives in.
-    pub home: LoopId,
-    /// Whether it lives.
-    pub alive: bool,
-    /// Its parent, which may be dead; a dead object has none.
-    pub parent: Option<ObjectId>,
-    /// Its living children, in the order of adoption.
+    /// Its living children, in the order of adoption. Those of a dead object stay its children until they die.
     pub children: Children,
-    /// Whether its signals call nothing.
-    pub blocked: bool,
-    /// Whether its deletion is scheduled.
-    pub scheduled: bool,
-    /// Its properties' values, by the properties' numbers.
-    pub values: Values,
+    /// What it has while it lives, or `None` once it is dead.
+    pub life: Option<Life>,
 }
 
 impl Object {
-    /// Whether this is the object's parent.
-    pub fn is_under(&self, parent: ObjectId) -> bool
-        ensures { IsTrue result ↔ (self.now.parent ≡ Some parent) }
+    /// Blocks the object, or lets it emit again, if it lives.
+    pub fn block(&mut self, on: bool)
+        ensures { self.new ≡ with_life (blocked on) self.old }
     {
-        self.parent == Some(parent)
+        match &mut self.life {
+            Some(life) => life.blocked = on,
+            None => {}
+        }
+    }
+
+    /// Marks that the object's deletion is scheduled, if it lives.
+    pub fn schedule(&mut self)
+        ensures { self.new ≡ with_life scheduled self.old }
+    {
+        match &mut self.life {
+            Some(life) => life.scheduled = true,
+            None => {}
+        }
+    }
+
+    /// Writes a property of the object, if it lives.
+    pub fn write(&mut self, property: usize, value: Value)
+        ensures { self.new ≡ with_life (written property value) self.old }
+    {
+        match &mut self.life {
+            Some(life) => life.values.set(property, value),
+            None => {}
+        }
+    }
+
+    /// The object has this parent, if it lives.
+    pub fn put_under(&mut self, parent: ObjectId)
+        ensures { self.new ≡ with_life (put_under parent) self.old }
+    {
+        match &mut self.life {
+            Some(life) => life.parent = Some(parent),
+            None => {}
+        }
+    }
+
+    /// The object lives no more, and gives back the memory of its values.
+    pub fn end_life(&mut self)
+        ensures { self.new ≡ dead self.old }
+    {
+        self.life = None;
     }
 }

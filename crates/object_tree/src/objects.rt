@@ -2,10 +2,11 @@
 
 ghost use Rattle.std.specs.Prelude.{◌≡◌, [], ◌∷◌, ◌++◌, ◌<◌, length, slice_get, OnOk, OnErr, Some};
 ghost use Rattle.std.specs.Option.{option_copied};
-ghost use Rattle.object_tree.specs.Objects.{name_of, class_of, class_with, change, blocked, scheduled, written};
+ghost use Rattle.object_tree.specs.Objects.{name_of, life_of, class_of, class_with, change, change_life, blocked, scheduled, written};
 ghost use Rattle.object_tree.specs.Family.{parent_of, children_of, joined_by, left_by, leaves, put_under, moved, dead, without_life};
 ghost use Rattle.object_tree.specs.Lists.{LosesLast};
 
+use crate::life::Life;
 use crate::object::Object;
 use signatures::{Name, ObjectId, Value};
 use std::alloc::{AllocError, Global};
@@ -60,17 +61,27 @@ impl Objects {
         }
     }
 
-    /// The class of an object, which may be dead.
-    pub fn class(&self, object: ObjectId) -> Option<usize>
-        ensures { result ≡ class_of self.now object }
+    /// What an object has while it lives.
+    pub fn life(&self, object: ObjectId) -> Option<&Life>
+        ensures { option_copied result ≡ life_of self.now object }
     {
         match self.get(object) {
-            Some(found) => Some(found.class),
+            Some(found) => found.life.as_ref(),
             None => None,
         }
     }
 
-    /// The class of an object, where one more of the class `new` comes last.
+    /// The class of a living object.
+    pub fn class(&self, object: ObjectId) -> Option<usize>
+        ensures { result ≡ class_of self.now object }
+    {
+        match self.life(object) {
+            Some(life) => Some(life.class),
+            None => None,
+        }
+    }
+
+    /// The class of a living object, where one more of the class `new` comes last.
     pub fn class_with(&self, object: ObjectId, new: usize) -> Option<usize>
         ensures { result ≡ class_with self.now new object }
     {
@@ -81,12 +92,12 @@ impl Objects {
         }
     }
 
-    /// The parent of an object.
+    /// The parent of a living object.
     pub fn parent(&self, object: ObjectId) -> Option<ObjectId>
         ensures { result ≡ parent_of self.now object }
     {
-        match self.get(object) {
-            Some(found) => found.parent,
+        match self.life(object) {
+            Some(life) => life.parent,
             None => None,
         }
     }
@@ -117,33 +128,33 @@ impl Objects {
         let _last = self.items.pop();
     }
 
-    /// Blocks an object, or lets it emit again.
+    /// Blocks a living object, or lets it emit again.
     pub fn block(&mut self, object: ObjectId, on: bool)
-        ensures { self.new ≡ change object (blocked on) self.old }
+        ensures { self.new ≡ change_life object (blocked on) self.old }
     {
         let number = object.number();
         if number < self.len() {
-            self.items[number].blocked = on;
+            self.items[number].block(on);
         }
     }
 
-    /// Marks that an object's deletion is scheduled.
+    /// Marks that a living object's deletion is scheduled.
     pub fn schedule(&mut self, object: ObjectId)
-        ensures { self.new ≡ change object scheduled self.old }
+        ensures { self.new ≡ change_life object scheduled self.old }
     {
         let number = object.number();
         if number < self.len() {
-            self.items[number].scheduled = true;
+            self.items[number].schedule();
         }
     }
 
-    /// Writes a property of an object.
+    /// Writes a property of a living object.
     pub fn write(&mut self, object: ObjectId, property: usize, value: Value)
-        ensures { self.new ≡ change object (written property value) self.old }
+        ensures { self.new ≡ change_life object (written property value) self.old }
     {
         let number = object.number();
         if number < self.len() {
-            self.items[number].values.set(property, value);
+            self.items[number].write(property, value);
         }
     }
 
@@ -200,13 +211,13 @@ impl Objects {
         }
     }
 
-    /// An object has this parent.
+    /// A living object has this parent.
     fn put_under(&mut self, parent: ObjectId, child: ObjectId)
-        ensures { self.new ≡ change child (put_under parent) self.old }
+        ensures { self.new ≡ change_life child (put_under parent) self.old }
     {
         let number = child.number();
         if number < self.len() {
-            self.items[number].parent = Some(parent);
+            self.items[number].put_under(parent);
         }
     }
 
@@ -216,10 +227,7 @@ impl Objects {
     {
         let number = object.number();
         if number < self.len() {
-            let found = &mut self.items[number];
-            found.alive = false;
-            found.parent = None;
-            found.values.clear();
+            self.items[number].end_life();
         }
     }
 }

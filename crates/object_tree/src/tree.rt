@@ -1,19 +1,21 @@
 ghost use Rattle.std.specs.Prelude.{◌≡◌, [], ◌↔◌, length, slice_get, IsTrue, Err, OnErr, MatchOption};
 ghost use Rattle.std.specs.Option.{option_copied};
-ghost use Rattle.meta_model.specs.Values.{Has, HaveTypes};
 ghost use Rattle.object_tree.specs.Adopting.{AdoptsLiving};
 ghost use Rattle.object_tree.specs.Creating.{Creates};
 ghost use Rattle.object_tree.specs.Family.{IsChild, IsChildless, children_of, without_life};
 ghost use Rattle.object_tree.specs.Forest.{Forest};
-ghost use Rattle.object_tree.specs.Objects.{Lives, IsGone, IsNamed, IsFree, name_of, class_of, change, blocked, scheduled, written};
-ghost use Rattle.object_tree.specs.Typed.{AreTyped, StayTyped, StayTypedIf, FitsProperty};
+ghost use Rattle.object_tree.specs.Objects.{Lives, IsGone, IsNamed, IsFree, name_of, life_of, change_life, blocked, scheduled, written};
+ghost use Rattle.object_tree.specs.Seen.{seen, seen_reference};
+ghost use Rattle.object_tree.specs.Typed.{AreTyped, StayTyped, StayTypedIf, FitsProperty, ReadsAs, ReadAs};
 ghost use Rattle.object_tree.specs.declared.fault.AdoptFault.TheVariants.{NotOwned};
 
 use crate::ancestors::may_adopt;
 use crate::creation::{add, may_create, new_object};
 use crate::fault::{AdoptFault, CreateFault};
+use crate::life::Life;
 use crate::object::Object;
 use crate::objects::Objects;
+use crate::seen::{is_same, seen, seen_reference};
 use crate::typing::{has_type, have_types};
 use meta_model::NameIndex;
 use meta_objects::{Meta, ValueType};
@@ -70,33 +72,55 @@ impl Tree {
         }
     }
 
-    /// A living object with all its parts, or `None` for any other number.
-    pub fn get(&self, object: ObjectId) -> Option<&Object>
+    /// A living object and its life, or `None` for any other number.
+    pub fn get(&self, object: ObjectId) -> Option<(&Object, &Life)>
         ensures value { MatchOption result (IsGone self.now object)
-            (λ x. Lives self.now object x.now) }
+            (λ f. Lives self.now object f.0.now f.1.now) }
         ensures forest { Forest self.now }
     {
         let found = self.objects.get(object)?;
-        if found.alive { Some(found) } else { None }
+        let life = found.life.as_ref()?;
+        Some((found, life))
     }
 
-    /// An object with all its parts, which may be dead, or `None` where no object has the number.
-    pub fn object(&self, object: ObjectId) -> Option<&Object>
-        ensures { option_copied result ≡ slice_get self.now object }
+    /// What an object has while it lives, or `None` for any other number.
+    pub fn life(&self, object: ObjectId) -> Option<&Life>
+        ensures { option_copied result ≡ life_of self.now object }
     {
-        self.objects.get(object)
+        self.objects.life(object)
     }
 
-    /// Whether the value is of the type; a reference refers to one of these objects.
+    /// A value as it reads: a reference to a dead object is null. It takes no memory.
+    pub fn seen(&self, value: Value) -> Value
+        ensures { result ≡ seen self.now value }
+    {
+        seen(&self.objects, value)
+    }
+
+    /// What a reference refers to as it reads: nothing where its object is dead.
+    pub fn seen_reference(&self, reference: Option<ObjectId>) -> Option<ObjectId>
+        ensures { result ≡ seen_reference self.now reference }
+    {
+        seen_reference(&self.objects, reference)
+    }
+
+    /// Whether both values read alike.
+    pub fn is_same(&self, a: &Value, b: &Value) -> bool
+        ensures { IsTrue result ↔ (seen self.now a.now ≡ seen self.now b.now) }
+    {
+        is_same(&self.objects, a, b)
+    }
+
+    /// Whether the value, as it reads, is of the type; a reference refers to one of these objects.
     pub fn has_type(&self, meta: &Meta, value: &Value, kind: ValueType) -> bool
-        ensures { IsTrue result ↔ Has meta.now (class_of self.now) value.now kind }
+        ensures { IsTrue result ↔ ReadsAs meta.now self.now value.now kind }
     {
         has_type(meta, &self.objects, value, kind)
     }
 
-    /// Whether there are as many values as types, each of its type.
+    /// Whether there are as many values as types, each, as it reads, of its type.
     pub fn have_types(&self, meta: &Meta, values: &[Value], kinds: &[ValueType]) -> bool
-        ensures { IsTrue result ↔ HaveTypes meta.now (class_of self.now) values.now kinds.now }
+        ensures { IsTrue result ↔ ReadAs meta.now self.now values.now kinds.now }
     {
         have_types(meta, &self.objects, values, kinds)
     }
@@ -116,25 +140,25 @@ impl Tree {
         self.objects.first_child(parent)
     }
 
-    /// Blocks an object, or lets it emit again; a number of no object changes nothing.
+    /// Blocks a living object, or lets it emit again; any other number changes nothing.
     pub fn block(&mut self, object: ObjectId, on: bool)
-        ensures value { self.new ≡ change object (blocked on) self.old }
+        ensures value { self.new ≡ change_life object (blocked on) self.old }
         ensures typed { StayTyped self.old self.new }
     {
         self.objects.block(object, on);
     }
 
-    /// Marks that an object's deletion is scheduled; a number of no object changes nothing.
+    /// Marks that a living object's deletion is scheduled; any other number changes nothing.
     pub fn mark_scheduled(&mut self, object: ObjectId)
-        ensures value { self.new ≡ change object scheduled self.old }
+        ensures value { self.new ≡ change_life object scheduled self.old }
         ensures typed { StayTyped self.old self.new }
     {
         self.objects.schedule(object);
     }
 
-    /// Writes a property of an object; a number of no object or of no property changes nothing.
+    /// Writes a property of a living object; a number of no living object or of no property changes nothing.
     pub fn set_value(&mut self, object: ObjectId, property: usize, value: Value)
-        ensures value { self.new ≡ change object (written property value) self.old }
+        ensures value { self.new ≡ change_life object (written property value) self.old }
         ensures typed { StayTypedIf (FitsProperty self.old object property value)
             self.old self.new }
     {
@@ -185,7 +209,7 @@ impl Tree {
         ensures unchanged { OnErr result (self.new ≡ self.old) }
         ensures typed { StayTyped self.old self.new }
     {
-        let (Some(owner), Some(owned)) = (self.get(parent), self.get(child)) else {
+        let (Some((_, owner)), Some((_, owned))) = (self.get(parent), self.get(child)) else {
             return Err(AdoptFault::NotOwned);
         };
         may_adopt(meta, &self.objects, parent, owner, child, owned)?;

@@ -1,18 +1,20 @@
 //! Whether values are of the types that are declared.
 
 ghost use Rattle.std.specs.Prelude.{◌↔◌, All, IsTrue};
-ghost use Rattle.meta_model.specs.Values.{Has, HaveTypes};
+ghost use Rattle.meta_objects.specs.Typed.{TellsType};
 ghost use Rattle.object_tree.specs.Creating.{BeginsAs};
-ghost use Rattle.object_tree.specs.Objects.{class_of, class_with};
+ghost use Rattle.object_tree.specs.Seen.{seen};
+ghost use Rattle.object_tree.specs.Typed.{ReadsAs, ReadAs};
 
 use crate::objects::Objects;
+use crate::seen::seen_reference;
 use meta_objects::{Meta, MetaProperty, ValueType};
 use signatures::Value;
 
 /// Whether each property of a new object of the class `new` has at first a value of its type.
 pub fn begin_well(meta: &Meta, objects: &Objects, new: usize, properties: &[MetaProperty]) -> bool
     ensures { IsTrue result ↔
-        All (BeginsAs meta.now (class_with objects.now new)) properties.now }
+        All (BeginsAs meta.now objects.now new) properties.now }
 {
     properties
         .iter()
@@ -21,20 +23,20 @@ pub fn begin_well(meta: &Meta, objects: &Objects, new: usize, properties: &[Meta
 
 /// Whether the property of a new object of the class `new` has at first a value of its type.
 fn begins_well(meta: &Meta, objects: &Objects, new: usize, property: &MetaProperty) -> bool
-    ensures { IsTrue result ↔ BeginsAs meta.now (class_with objects.now new) property.now }
+    ensures { IsTrue result ↔ BeginsAs meta.now objects.now new property.now }
 {
     match &property.initial {
         Value::Ref(Some(object)) => {
             let class = objects.class_with(*object, new);
-            meta.has_type(&property.initial, class, property.kind)
+            reads_as(meta, objects, &property.initial, class, property.kind)
         }
-        _ => meta.has_type(&property.initial, None, property.kind),
+        _ => reads_as(meta, objects, &property.initial, None, property.kind),
     }
 }
 
-/// Whether there are as many values as types, each of its type.
+/// Whether there are as many values as types, each, as it reads, of its type.
 pub fn have_types(meta: &Meta, objects: &Objects, values: &[Value], kinds: &[ValueType]) -> bool
-    ensures { IsTrue result ↔ HaveTypes meta.now (class_of objects.now) values.now kinds.now }
+    ensures { IsTrue result ↔ ReadAs meta.now objects.now values.now kinds.now }
 {
     let (mut rest, mut left) = (values, kinds);
     while let Some((kind, more)) = left.split_first() {
@@ -47,12 +49,34 @@ pub fn have_types(meta: &Meta, objects: &Objects, values: &[Value], kinds: &[Val
     rest.is_empty()
 }
 
-/// Whether the value is of the type.
+/// Whether the value, as it reads, is of the type.
 pub fn has_type(meta: &Meta, objects: &Objects, value: &Value, kind: ValueType) -> bool
-    ensures { IsTrue result ↔ Has meta.now (class_of objects.now) value.now kind }
+    ensures { IsTrue result ↔ ReadsAs meta.now objects.now value.now kind }
 {
     match value {
-        Value::Ref(Some(object)) => meta.has_type(value, objects.class(*object), kind),
-        _ => meta.has_type(value, None, kind),
+        Value::Ref(Some(object)) => {
+            let class = objects.class(*object);
+            reads_as(meta, objects, value, class, kind)
+        }
+        _ => reads_as(meta, objects, value, None, kind),
+    }
+}
+
+/// Whether the value, as it reads, is of the type. Where it then refers to an object, `class` is that object's class.
+fn reads_as(
+    meta: &Meta,
+    objects: &Objects,
+    value: &Value,
+    class: Option<usize>,
+    kind: ValueType,
+) -> bool
+    ensures { TellsType meta.now (seen objects.now value.now) class kind result }
+{
+    match value {
+        Value::Ref(reference) => {
+            let read = Value::Ref(seen_reference(objects, *reference));
+            meta.has_type(&read, class, kind)
+        }
+        _ => meta.has_type(value, class, kind),
     }
 }

@@ -1,4 +1,4 @@
-ghost use Rattle.std.specs.Prelude.{◌≡◌, [], slice_get, slice_set, IfOk};
+ghost use Rattle.std.specs.Prelude.{◌≡◌, slice_get, slice_set, IfOk};
 ghost use Rattle.std.specs.Option.{option_copied};
 ghost use Rattle.object_tree.specs.Creating.{initials};
 
@@ -47,13 +47,6 @@ impl Values {
         ensures { result.now ≡ self.now }
     {
         self.items.as_slice()
-    }
-
-    /// Takes all values out.
-    pub fn clear(&mut self)
-        ensures { self.new ≡ [] }
-    {
-        self.items.clear();
     }
 
     /// Puts a value in place of that of a property; a number of no property changes nothing.

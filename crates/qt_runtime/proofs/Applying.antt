@@ -11,9 +11,10 @@ use Rattle.qt_runtime.specs.Causes.{Cause}
 use Rattle.qt_runtime.specs.Seen.{Seen, Completes, Halts, Stays, RunsAll}
 use Rattle.machine_state.specs.Worlds.{at}
 use Rattle.qt_runtime.proofs.Running.{runs-trans}
+use Rattle.qt_runtime.proofs.Taken.{idle}
 
 pub completes-none : {a : Seen} → a.stopped ≡ false → Completes a [] a
-completes-none went = record { went = went; same = refl; whole = record { runs = done; ends = record { empty = refl } } }
+completes-none {a} went = record { went = went; same = refl; whole = record { runs = done; ends = idle a.world } }
 
 -- a run goes on where another came
 pub completes-then : {a b c : Seen} {es fs : List Event} → Completes a es b → Completes b fs c → Completes a (es ++ fs) c

@@ -1,11 +1,13 @@
 -- A method that fits a signal by its declared types fits it by their kinds.
-use Rattle.std.proofs.Common.{◌≡◌, ◌≢◌, ℕ, zero, suc, Bool, true, false, List, [], ◌∷◌, ◌++◌, length, Some, slice_get, codes, refl, sym, ap, ◌∙◌, subst, arith}
+use Rattle.std.proofs.Common.{◌≡◌, ◌≢◌, ◌⊎◌, inl, inr, ℕ, zero, suc, Bool, true, false, cond, List, [], ◌∷◌, ◌++◌, length, Some, slice_get, codes, refl, sym, ap, ◌∙◌, subst, arith}
 use Rattle.std.specs.List.{AllZip}
+use Rattle.std.proofs.lemmas.Bool.{cases_eq, ne_eqb}
 use Rattle.signatures.specs.declared.qtype.QType.{QType}
 use Rattle.signatures.specs.Types.{Fits, value_type}
 use Rattle.meta_model.specs.declared.object.MetaMethod.{MetaMethod}
 use Rattle.meta_model.specs.declared.object.ValueType.{ValueType}
 use Rattle.meta_model.specs.declared.object.ValueType.TheVariants as kind
+use Rattle.meta_model.specs.declared.qobject.TheConstants.{DESTROYED, DESTROYED_ALONE}
 use Rattle.meta_model.specs.Loaded.{Loaded}
 use Rattle.meta_model.specs.Members.{IsMethod}
 use Rattle.meta_model.specs.Sound.{IsKind, IsSound, AreDistinctClasses}
@@ -81,22 +83,29 @@ first-there : {X : Type 0} (xs : List X) (x : X) → slice_get xs 1 ≡ Some x �
 first-there [] x e = absurd (cc e)
 first-there (y ∷ xs) x e = (y, refl)
 
--- the signal that a connection keeps gives what a method takes that fits the signal that is spelled
-pub kinds-fit : {p : Loaded} {c d g m : ℕ} {signal method : MetaMethod} → IsSound p → IsMethod p c g signal → IsMethod p d m method → Fits signal.sig method.sig → (kept : MetaMethod) × IsMethod p c (named_signal g) kept × ((rest : List ValueType) × (kept.kinds ≡ method.kinds ++ rest))
-kinds-fit {p} {g = zero} {signal = signal} {method = method} sound is has fits =
-    (signal, is, kinds-front p signal.sig.types method.sig.types signal.kinds method.kinds fits.0 sound.distinct_classes (kinds-of sound is) (kinds-of sound has) fits.1)
-kinds-fit {p} {c} {g = suc zero} {signal = signal} {method = method} sound is has fits =
+-- a spelling that isn't `destroyed()` names itself
+named-other : (g : ℕ) → g ≢ DESTROYED_ALONE → named_signal g ≡ g
+named-other g other = ap (λ (b : Bool). cond b DESTROYED g) (ne_eqb g DESTROYED_ALONE other)
+
+-- a method of the class that gives what this one takes
+abbrev Gives : Loaded → ℕ → MetaMethod → ℕ → Type 0
+Gives p c method n = (kept : MetaMethod) × IsMethod p c n kept × ((rest : List ValueType) × (kept.kinds ≡ method.kinds ++ rest))
+
+destroyed-gives : {p : Loaded} {c d m : ℕ} {signal method : MetaMethod} → IsSound p → IsMethod p c DESTROYED_ALONE signal → IsMethod p d m method → Fits signal.sig method.sig → Gives p c method DESTROYED
+destroyed-gives {p} {c} {signal = signal} {method = method} sound is has fits =
     let none = destroyed_alone_types sound c signal is in
     let takes_none = front-none method.sig.types fits.0 (sym none ∙ fits.1) in
     let empty : method.kinds ≡ [] = none-kinds p method.sig.types method.kinds takes_none (kinds-of sound has) in
     let first = first-there is.class.methods signal is.is in
     let all : first.0.kinds ≡ method.kinds ++ first.0.kinds = sym (ap (λ (ks : List ValueType). ks ++ first.0.kinds) empty) in
     (first.0, record { class = is.class; is_class = is.is_class; is = first.1 }, (first.0.kinds, all))
-kinds-fit {p} {g = suc (suc n)} {signal = signal} {method = method} sound is has fits =
-    (signal, is, kinds-front p signal.sig.types method.sig.types signal.kinds method.kinds fits.0 sound.distinct_classes (kinds-of sound is) (kinds-of sound has) fits.1)
 
--- a signal that isn't `destroyed()` is the one that it names
-pub named-other : (g : ℕ) → g ≢ 1 → g ≡ named_signal g
-named-other zero e = refl
-named-other (suc zero) e = absurd (e refl)
-named-other (suc (suc n)) e = refl
+-- the signal that a connection keeps gives what a method takes that fits the signal that is spelled
+pub kinds-fit : {p : Loaded} {c d g m : ℕ} {signal method : MetaMethod} → IsSound p → IsMethod p c g signal → IsMethod p d m method → Fits signal.sig method.sig → (kept : MetaMethod) × IsMethod p c (named_signal g) kept × ((rest : List ValueType) × (kept.kinds ≡ method.kinds ++ rest))
+kinds-fit {p} {c} {g = g} {signal = signal} {method = method} sound is has fits =
+    let Is : ℕ → Type 0 = λ n. IsMethod p c n signal in
+    elim (cases_eq g DESTROYED_ALONE) as (λ r. Gives p c method (named_signal g)) [
+      | inl same ↦ subst (λ (n : ℕ). Gives p c method (named_signal n)) (sym same) (destroyed-gives sound (subst Is same is) has fits)
+      | inr other ↦ subst (λ (n : ℕ). Gives p c method n) (sym (named-other g other))
+          (signal, is, kinds-front p signal.sig.types method.sig.types signal.kinds method.kinds fits.0 sound.distinct_classes (kinds-of sound is) (kinds-of sound has) fits.1)
+    ]

@@ -5,12 +5,13 @@ use Rattle.script_lang.specs.declared.event.Event.TheVariants.{Loop, Turn, New, 
 use Rattle.script_lang.specs.declared.event.Input.{Input}
 use Rattle.meta_model.specs.Loaded.{Loaded}
 use Rattle.meta_model.specs.Sound.{IsSound}
+use Rattle.machine_state.specs.declared.endpoints.Endpoints.{Endpoints}
 use Rattle.machine_state.specs.declared.fault.Answer.{Answer}
 use Rattle.machine_state.specs.declared.fault.Fault.{Fault}
 use Rattle.machine_state.specs.declared.world.World.{World}
 use Rattle.machine_state.specs.Accepting.{accepted}
 use Rattle.machine_state.specs.State.{State, Activation}
-use Rattle.machine_state.specs.Worlds.{at}
+use Rattle.machine_state.specs.Worlds.{at, with_connection}
 use Rattle.machine_rules.specs.Sound.{Sound}
 use Rattle.machine_rules.specs.Keeps.{Grows, Keeps}
 use Rattle.machine_rules.proofs.Keeps.{grows-by, grows-same, grows-then, begins-kept, writes-kept, rules-kept}
@@ -23,7 +24,8 @@ use Rattle.qt_runtime.specs.Takes.{judged, Takes, accepts, refuses}
 use Rattle.qt_runtime.specs.Taking.{WorldInvariant, Took}
 use Rattle.qt_runtime.specs.events.Block.{block}
 use Rattle.qt_runtime.specs.events.Invoke.{invoke}
-use Rattle.qt_runtime.proofs.Preservation.{Invariant, runs-invariant}
+use Rattle.qt_runtime.proofs.Preservation.{runs-invariant}
+use Rattle.qt_runtime.proofs.Standing.{Invariant}
 
 -- ---- counts
 

@@ -1,6 +1,5 @@
 mod Lists
 mod Changes
-mod Typed
 mod Fitting
 mod Running
 mod Judged
@@ -14,7 +13,8 @@ mod OneRun
 mod Applying
 pub mod Inherited
 pub mod TypedPaths
-mod Choosing
+pub mod Standing
+pub mod Possible
 pub mod Preservation
 pub mod Progress
 pub mod Halting

@@ -7,6 +7,7 @@ use Rattle.meta_model.specs.declared.object.MetaProperty.{MetaProperty}
 use Rattle.meta_model.specs.Loaded.{Loaded}
 use Rattle.meta_model.specs.Members.{IsMethod, IsProperty}
 use Rattle.meta_model.specs.Sound.{IsSound}
+use Rattle.object_tree.specs.declared.life.Life.{Life}
 use Rattle.object_tree.specs.declared.object.Object.{Object}
 use Rattle.object_tree.specs.Adopting.{IsAdopted}
 use Rattle.script_lang.specs.declared.event.Input.{Input}
@@ -15,7 +16,7 @@ use Rattle.machine_state.specs.declared.refusal.Refusal.{Refusal}
 use Rattle.machine_rules.proofs.Fields.{class-unique}
 use Rattle.qt_runtime.specs.Judgement.{Numbered, Find, Check, Gives, Refuses, Becomes, Then, found, missing, holds, fails, gives, becomes, goes_on, ends}
 use Rattle.qt_runtime.specs.Laws.{HasOneAnswer}
-use Rattle.qt_runtime.specs.events.Named.{IsObject, living}
+use Rattle.qt_runtime.specs.events.Named.{living}
 use Rattle.qt_runtime.specs.events.Values.{value, values}
 
 -- ---- steps
@@ -61,14 +62,11 @@ numbered-is {X} {a} {b} e f = ap (λ (n : ℕ). let x : Numbered X = record { nu
 
 -- ---- objects and values
 
-pub one-object : {objects : List Object} {name : List ℕ} (a b : Numbered Object) → IsObject objects name a → IsObject objects name b → a ≡ b
-one-object {objects} a b f g =
-    let same : a.number ≡ b.number = g.named.only a.number f.named.named in
-    let it : Some a.it ≡ Some b.it = sym f.is ∙ ap (λ (n : ℕ). slice_get objects n) same ∙ g.is in
-    numbered-is same (cc it)
+one-life : {found : Option Life} (a b : Life) → found ≡ Some a → found ≡ Some b → a ≡ b
+one-life a b f g = let both : Some a ≡ Some b = sym f ∙ g in cc both
 
 pub one-living : (objects : List Object) (name : List ℕ) → HasOneAnswer (living objects name)
-one-living objects name = one-then (one-find one-object) (λ o. one-then one-check (λ alive. one-gives o))
+one-living objects name = one-then (one-find (λ a b f g. g.only a f.named)) (λ o. one-then (one-find one-life) (λ l. one-gives _))
 
 pub one-value : (objects : List Object) (i : Input) → HasOneAnswer (value objects i)
 one-value objects (input.Literal l) = one-gives _
@@ -101,7 +99,7 @@ module _ {p : Loaded} (sound : IsSound p) {class : ℕ} where
 
 -- ---- parents
 
-pub one-adopted : {a c : ℕ} {y : Object} {old new other : List Object} → IsAdopted a c y old new → IsAdopted a c y old other → new ≡ other
+pub one-adopted : {a c : ℕ} {y : Life} {old new other : List Object} → IsAdopted a c y old new → IsAdopted a c y old other → new ≡ other
 one-adopted {a} {y = y} {new = new} {other = other} f g = by_parent y.parent refl
   where
     by_parent : (up : Option ℕ) → y.parent ≡ up → new ≡ other

@@ -5,6 +5,7 @@ use Rattle.meta_model.specs.declared.object.MetaMethod.{MetaMethod}
 use Rattle.meta_model.specs.declared.object.MetaObject.{MetaObject}
 use Rattle.meta_model.specs.Loaded.{Loaded}
 use Rattle.meta_model.specs.Sound.{IsSound}
+use Rattle.object_tree.specs.declared.life.Life.{Life}
 use Rattle.object_tree.specs.declared.object.Object.{Object}
 use Rattle.texts.specs.declared.connection.ConnectionType.{ConnectionType}
 use Rattle.texts.specs.declared.connection.Endpoints.{Endpoints as Named}
@@ -44,7 +45,7 @@ one-sig sound a b f g =
 one-create : (p : Loaded) (s : State) (name class : List ℕ) → IsSound p → HasOneAnswer (create p s name class)
 one-create p s name class sound = one-then one-check (λ free. one-then (one-find (one-class sound)) (λ c. one-then one-check (λ room. one-gives _)))
 
-one-adopts : (s : State) (a c : Numbered Object) (t u : State) → Adopts s a c t → Adopts s a c u → t ≡ u
+one-adopts : (s : State) (a c : Numbered Life) (t u : State) → Adopts s a c t → Adopts s a c u → t ≡ u
 one-adopts s a c t u f g = f.gives ∙ ap (λ (l : List Object). record s { objects = l }) (one-adopted f.is g.is) ∙ sym g.gives
 
 one-adopt : (p : Loaded) (s : State) (parent child : List ℕ) → HasOneAnswer (adopt p s parent child)

@@ -1,5 +1,5 @@
 -- Why what is going on goes on: its objects, members and statements are there.
-use Rattle.std.proofs.Common.{◌≡◌, ℕ, suc, ◌+◌, ◌<◌, Bool, List, [], ◌∷◌, ◌++◌, length, take, true, false, Option, Some, None, slice_get, slice_set, refl, sym, subst, Ok, arith}
+use Rattle.std.proofs.Common.{◌≡◌, ℕ, suc, ◌+◌, ◌<◌, Bool, List, [], ◌∷◌, ◌++◌, length, take, true, false, Option, Some, None, slice_get, refl, sym, ◌∙◌, subst, Ok, arith}
 use Rattle.std.specs.List.{AllByRecursion}
 use Rattle.signatures.specs.declared.value.Value.{Value}
 use Rattle.script_lang.specs.declared.event.Event.{Event}
@@ -13,16 +13,21 @@ use Rattle.meta_model.specs.declared.object.Work.{Work}
 use Rattle.meta_model.specs.declared.object.Work.TheVariants.{Signal, Slot}
 use Rattle.meta_model.specs.Loaded.{Loaded}
 use Rattle.meta_model.specs.Members.{IsClass, Below}
-use Rattle.meta_model.specs.Sound.{IsSound, IsSoundWork, IsSoundBody, IsSoundStatement, AreSound, none_sound, next_sound}
-use Rattle.meta_model.specs.Values.{HaveTypes}
+use Rattle.meta_model.specs.Sound.{IsSound, IsSoundWork, IsSoundBody, AreSound, none_sound, next_sound}
 use Rattle.connections.specs.declared.connection.Connection.{Connection}
+use Rattle.object_tree.specs.declared.life.Life.{Life}
 use Rattle.object_tree.specs.declared.object.Object.{Object}
-use Rattle.object_tree.specs.Creating.{fresh, initial_values}
-use Rattle.object_tree.specs.Objects.{class_of, written, change, blocked}
-use Rattle.machine_state.specs.Objects.{shape_of, shapes_of}
-use Rattle.machine_state.specs.Worlds.{main}
+use Rattle.object_tree.specs.Adopting.{IsAdopted}
+use Rattle.object_tree.specs.Creating.{begun as begun_life, fresh, initial_values}
+use Rattle.object_tree.specs.Family.{moved}
+use Rattle.object_tree.specs.Objects.{change_life, written, blocked}
+use Rattle.object_tree.specs.Typed.{AreTyped, ReadAs}
+use Rattle.object_tree.proofs.TypedObjects.{class-more, seen-appended, shape_in, class-same, seen-same, shape-change, shape-moved}
+use Rattle.machine_state.specs.Worlds.{main, with_connection}
+use Rattle.machine_state.specs.declared.endpoints.Endpoints.{Endpoints}
 use Rattle.machine_rules.specs.Doings.{Doing, Write, Begin, Choose, Nothing, doing}
-use Rattle.qt_runtime.proofs.Choosing.{block-sound}
+use Rattle.qt_runtime.proofs.Possible.{possible}
+use Rattle.qt_runtime.proofs.Standing.{BodyStands, PlaceStands, Stands, Invariant, AllStand, stands-still}
 use Rattle.machine_state.specs.State.{State, IsIdle, Place, Activation, Body, Emit, Update}
 use Rattle.machine_rules.specs.Rules.{Rule, RuleAt, BodyRule, Does, EmitRule, UpdateRule, Begins, Writes, Changes, places_of, changed, unchanged, silent, begun, with_used}
 use Rattle.machine_state.specs.Connections.{next_used}
@@ -34,7 +39,7 @@ use Rattle.script_lang.specs.declared.event.Input.{Input}
 use Rattle.machine_state.specs.Accepting.{accepted}
 use Rattle.qt_runtime.specs.declared.events.invoke.Invocation.{Invocation}
 use Rattle.qt_runtime.specs.declared.events.invoke.Invocation.TheVariants.{Emit as EmitIt, Call as CallIt}
-use Rattle.qt_runtime.specs.Judgement.{Numbered, found as finds, holds as so, becomes, gives as just, goes_on}
+use Rattle.qt_runtime.specs.Judgement.{Numbered, Gives, found as finds, holds as so, becomes, gives as just, goes_on}
 use Rattle.qt_runtime.specs.Takes.{judged, Takes, accepts, refuses}
 use Rattle.qt_runtime.specs.events.Block.{block}
 use Rattle.qt_runtime.specs.declared.events.ends.FoundEnds.{FoundEnds}
@@ -45,8 +50,8 @@ use Rattle.qt_runtime.proofs.Judged.{given-is}
 use Rattle.qt_runtime.specs.events.Invoke.{invoke}
 use Rattle.qt_runtime.specs.events.Named.{IsLiving}
 use Rattle.qt_runtime.proofs.Fitting.{kinds-fit}
-use Rattle.qt_runtime.proofs.Judging.Naming.{living-is}
-use Rattle.machine_rules.specs.Good.{AreTyped, ArgumentsFit, TopFits, IsWell}
+use Rattle.qt_runtime.proofs.Judging.Naming.{living-is, living-object}
+use Rattle.machine_rules.specs.Good.{ArgumentsFit, TopFits, IsWell}
 use Rattle.qt_runtime.specs.Runs.{Runs, done, rules, takes}
 use Rattle.machine_rules.specs.Runs.{Rules}
 use Rattle.machine_rules.specs.Runs as of_rules
@@ -54,70 +59,9 @@ use Rattle.machine_rules.specs.Sound.{Sound, Joined}
 use Rattle.machine_rules.specs.Keeps.{StayThere, Keeps}
 use Rattle.machine_rules.specs.There.{IsMember, IsField}
 use Rattle.machine_rules.proofs.Fields.{member-method, field-written}
-use Rattle.qt_runtime.proofs.Changes.{map-change, map-adopted}
-use Rattle.qt_runtime.proofs.Lists.{all-snoc, all-weaken, get-append}
-use Rattle.machine_rules.proofs.Keeps.{stays, values-stay, same-stay, all-joined-still, rule-kept, begins-kept, writes-kept}
-use Rattle.machine_rules.proofs.Shapes.{shapes-written}
-
--- ---- what stands
-
--- a body is of an object that is there, and what is left of it is sound for the arguments
-pub record BodyStands (p : Loaded) (objects : List Object) (o : ℕ) (arguments : List Value) (left : List Statement) : Type 0 where
-  pub object : Object
-  pub is_object : slice_get objects o ≡ Some object
-  pub declaring : ℕ
-  pub below : Below p object.class declaring
-  pub kinds : List ValueType
-  pub typed : HaveTypes p (class_of objects) arguments kinds
-  pub sound : AreSound p declaring kinds left
-
--- a property that is to be notified is there, and has a notify signal
-pub record PlaceStands (p : Loaded) (objects : List Object) (place : Place) : Type 0 where
-  pub object : Object
-  pub property : MetaProperty
-  pub is : IsField p objects place.object place.property object property
-  pub signal : ℕ
-  pub notifies : property.notify ≡ Some signal
-
-abbrev pub Stands : Loaded → List Object → Activation → Type 0
-Stands p objects (Body o m arguments left) = BodyStands p objects o arguments left
-Stands p objects (Emit o g arguments used last) = Unit {0}
-Stands p objects (Update places) = AllByRecursion (PlaceStands p objects) places
-
--- the world is sound, and what is going on stands
-pub record Invariant (p : Loaded) (s : State) : Type 0 where
-  pub sound : Sound p s.objects s.connected.connections
-  pub stands : AllByRecursion (Stands p s.objects) s.stack
-
--- ---- it stands as long as the objects are those that they were
-
-place-still : {p : Loaded} (old new : List Object) → StayThere old new → (place : Place) → PlaceStands p old place → PlaceStands p new place
-place-still {p} old new stay place x =
-    let y = stays old new place.object stay x.is.is_object in
-    let Classes : ℕ → Type 0 = λ k. IsClass p k x.is.class in
-    record {
-      object = y.0;
-      property = x.property;
-      is = record { is_object = y.1; class = x.is.class; is_class = subst Classes (sym y.2) x.is.is_class; is_property = x.is.is_property };
-      signal = x.signal;
-      notifies = x.notifies;
-    }
-
-stands-still : (p : Loaded) (old new : List Object) → StayThere old new → (a : Activation) → Stands p old a → Stands p new a
-stands-still p old new stay (Body o m arguments left) x =
-    let y = stays old new o stay x.is_object in
-    let Classes : ℕ → Type 0 = λ k. Below p k x.declaring in
-    record {
-      object = y.0;
-      is_object = y.1;
-      declaring = x.declaring;
-      below = subst Classes (sym y.2) x.below;
-      kinds = x.kinds;
-      typed = values-stay p (class_of old) (class_of new) stay arguments x.kinds x.typed;
-      sound = x.sound;
-    }
-stands-still p old new stay (Emit o g arguments used last) x = tt
-stands-still p old new stay (Update places) x = all-weaken (PlaceStands p old) (PlaceStands p new) places (place-still old new stay) x
+use Rattle.qt_runtime.proofs.Changes.{adopted-by}
+use Rattle.qt_runtime.proofs.Lists.{all-snoc, all-weaken}
+use Rattle.machine_rules.proofs.Keeps.{all-stay, written-stay, all-joined-still, rule-kept, begins-kept, writes-kept}
 
 -- ---- statements
 
@@ -125,15 +69,12 @@ sound-append : {p : Loaded} {me : ℕ} {kinds : List ValueType} {chosen rest : L
 sound-append none_sound b = b
 sound-append (next_sound one more) b = next_sound one (sound-append more b)
 
--- a statement, and what follows it
-pub sound-first : {p : Loaded} {me : ℕ} {kinds : List ValueType} {x : Statement} {rest : List Statement} → AreSound p me kinds (x ∷ rest) → IsSoundStatement p me kinds (out-Statement x)
-sound-first (next_sound one more) = one
-
+-- what follows a statement
 sound-rest : {p : Loaded} {me : ℕ} {kinds : List ValueType} {x : Statement} {rest : List Statement} → AreSound p me kinds (x ∷ rest) → AreSound p me kinds rest
 sound-rest (next_sound one more) = more
 
 body-with : {p : Loaded} {objects : List Object} {o : ℕ} {arguments : List Value} {left : List Statement} (x : BodyStands p objects o arguments left) (rest : List Statement) → AreSound p x.declaring x.kinds rest → BodyStands p objects o arguments rest
-body-with x rest sound = record { object = x.object; is_object = x.is_object; declaring = x.declaring; below = x.below; kinds = x.kinds; typed = x.typed; sound = sound }
+body-with x rest sound = record { object = x.object; life = x.life; lives = x.lives; declaring = x.declaring; below = x.below; kinds = x.kinds; typed = x.typed; sound = sound }
 
 body-rest : {p : Loaded} {objects : List Object} {o : ℕ} {arguments : List Value} {x : Statement} {rest : List Statement} → BodyStands p objects o arguments (x ∷ rest) → BodyStands p objects o arguments rest
 body-rest {rest = rest} x = body-with x rest (sound-rest x.sound)
@@ -144,14 +85,10 @@ body-rest {rest = rest} x = body-with x rest (sound-rest x.sound)
 called-stands : {p : Loaded} {objects : List Object} {o m : ℕ} {x : Object} {method : MetaMethod} {arguments : List Value} {statements : List Statement} → IsSound p → IsMember p objects o m x method → method.work ≡ Slot statements → ArgumentsFit p objects o m arguments → BodyStands p objects o arguments statements
 called-stands {p} {objects} {m = m} {x = x} {method = method} {arguments = arguments} {statements = statements} sound is work_is fit =
     let method_is : fit.method ≡ method = member-method fit.is is in
-    let Typed : MetaMethod → Type 0 = λ k. HaveTypes p (class_of objects) arguments k.kinds in
-    let Sound_work : Work → Type 0 = λ w. IsSoundWork p x.class m method.kinds w in
-    let body : IsSoundBody p x.class m method.kinds statements = subst Sound_work work_is ((sound.classes x.class is.is_method.class is.is_method.is_class).methods m method is.is_method.is).work in
-    record { object = x; is_object = is.is_object; declaring = body.declaring; below = body.below; kinds = method.kinds; typed = subst Typed method_is fit.typed; sound = body.sound }
-
--- what stands in a state
-abbrev pub AllStand : Loaded → State → Type 0
-AllStand p s = AllByRecursion (Stands p s.objects) s.stack
+    let Typed : MetaMethod → Type 0 = λ k. ReadAs p objects arguments k.kinds in
+    let Sound_work : Work → Type 0 = λ w. IsSoundWork p is.life.class m method.kinds w in
+    let body : IsSoundBody p is.life.class m method.kinds statements = subst Sound_work work_is ((sound.classes is.life.class is.is_method.class is.is_method.is_class).methods m method is.is_method.is).work in
+    record { object = x; life = is.life; lives = is.lives; declaring = body.declaring; below = body.below; kinds = method.kinds; typed = subst Typed method_is fit.typed; sound = body.sound }
 
 -- a method that begins, over what stands
 begun-stands : (p : Loaded) (s : State) (below : List Activation) (o : ℕ) (x : Object) (m : ℕ) (method : MetaMethod) (arguments : List Value) (work : Work) (t : State) → IsSound p → IsMember p s.objects o m x method → method.work ≡ work → t ≡ begun s below o x m method arguments work → length s.stack < suc (length below) → IsWell p s t → AllByRecursion (Stands p s.objects) below → AllStand p t
@@ -175,26 +112,26 @@ module _ {p : Loaded} {s t : State} (sound : IsSound p) (well : IsWell p s t) wh
 
   writes-stands : {below : List Activation} {o q : ℕ} {new : Value} → Writes p s below o q new t → AllByRecursion (Stands p s.objects) below → AllStand p t
   writes-stands {below} {o} {q} {new} w lower =
-      let after : List Object = slice_set s.objects o (written q new w.object) in
+      let after : List Object = change_life o (written q new) s.objects in
       let places : AllByRecursion (PlaceStands p after) (places_of o q w.signal) = notified-stands (field-written new w.is) refl w.changes in
       let Family : State → Type 0 = λ u. AllStand p u in
-      subst Family (sym w.gives) (places, all-weaken (Stands p s.objects) (Stands p after) below (stands-still p s.objects after (same-stay s.objects after (shapes-written s.objects o w.object q new w.is.is_object))) lower)
+      subst Family (sym w.gives) (places, all-weaken (Stands p s.objects) (Stands p after) below (stands-still p s.objects after (written-stay s.objects o q new)) lower)
 
   -- the stack is another one, and the objects are the same
   as-is : {u : State} → t ≡ u → AllStand p u → AllStand p t
   as-is e lower = let Family : State → Type 0 = λ v. AllStand p v in subst Family (sym e) lower
 
   -- what a statement does, over what stands
-  does-stands : (o m : ℕ) (arguments : List Value) (x : Statement) (rest : List Statement) (below : List Activation) (d : Doing) → BodyStands p s.objects o arguments (x ∷ rest) → doing s.objects o arguments (out-Statement x) ≡ Some d → AllByRecursion (Stands p s.objects) below → length s.stack ≡ suc (length below) → Does p s o m arguments rest below d t → AllStand p t
-  does-stands o m arguments x rest below (Write y q new) body is lower high does = writes-stands does (body-rest body, lower)
-  does-stands o m arguments x rest below (Begin y n given) body is lower high does = begins-stands does (omega (arith, high)) (body-rest body, lower)
-  does-stands o m arguments x rest below (Choose block) body is lower high does =
-      as-is does (body-with body (block ++ rest) (sound-append (block-sound s.objects o arguments block (out-Statement x) (sound-first body.sound) is) (sound-rest body.sound)), lower)
-  does-stands o m arguments x rest below Nothing body is lower high does = as-is does (body-rest body, lower)
+  does-stands : AreTyped p s.objects → (o m : ℕ) (arguments : List Value) (x : Statement) (rest : List Statement) (below : List Activation) (d : Doing) → BodyStands p s.objects o arguments (x ∷ rest) → doing s.objects o arguments (out-Statement x) ≡ Some d → AllByRecursion (Stands p s.objects) below → length s.stack ≡ suc (length below) → Does p s o m arguments rest below d t → AllStand p t
+  does-stands typed o m arguments x rest below (Write y q new) body is lower high does = writes-stands does (body-rest body, lower)
+  does-stands typed o m arguments x rest below (Begin y n given) body is lower high does = begins-stands does (omega (arith, high)) (body-rest body, lower)
+  does-stands typed o m arguments x rest below (Choose block) body is lower high does =
+      as-is does (body-with body (block ++ rest) (sound-append (possible sound typed body (Choose block) is) (sound-rest body.sound)), lower)
+  does-stands typed o m arguments x rest below Nothing body is lower high does = as-is does (body-rest body, lower)
 
-  body-stands : (o m : ℕ) (arguments : List Value) (below : List Activation) (left : List Statement) → BodyStands p s.objects o arguments left → AllByRecursion (Stands p s.objects) below → length s.stack ≡ suc (length below) → BodyRule p s o m arguments below t left → AllStand p t
-  body-stands o m arguments below [] body lower high r = as-is r lower
-  body-stands o m arguments below (x ∷ rest) body lower high r = does-stands o m arguments x rest below r.what body r.is lower high r.does
+  body-stands : AreTyped p s.objects → (o m : ℕ) (arguments : List Value) (below : List Activation) (left : List Statement) → BodyStands p s.objects o arguments left → AllByRecursion (Stands p s.objects) below → length s.stack ≡ suc (length below) → BodyRule p s o m arguments below t left → AllStand p t
+  body-stands typed o m arguments below [] body lower high r = as-is r lower
+  body-stands typed o m arguments below (x ∷ rest) body lower high r = does-stands typed o m arguments x rest below r.what body r.is lower high r.does
 
   emission-stands : (o g : ℕ) (arguments : List Value) (last : ℕ) (below : List Activation) (found : Option Connection) → AllByRecursion (Stands p s.objects) below → length s.stack ≡ suc (length below) → EmitRule p s o g arguments last below t found → AllStand p t
   emission-stands o g arguments last below None lower high r = as-is r lower
@@ -206,53 +143,42 @@ module _ {p : Loaded} {s t : State} (sound : IsSound p) (well : IsWell p s t) wh
   update-stands below [] there lower r = as-is r lower
   update-stands below (place ∷ places) there lower r = as-is r.gives (tt, (there.1, lower))
 
-  rule-stands : (stack : List Activation) → AllByRecursion (Stands p s.objects) stack → length s.stack ≡ length stack → RuleAt p s t stack → AllStand p t
-  rule-stands [] all high r = absurd r
-  rule-stands (Body o m arguments left ∷ below) all high r = body-stands o m arguments below left all.0 all.1 high r
-  rule-stands (Emit o g arguments used last ∷ below) all high r = emission-stands o g arguments last below (next_used s.objects s.connected.connections o g used last) all.1 high r
-  rule-stands (Update places ∷ below) all high r = update-stands below places all.0 all.1 r
+  rule-stands : AreTyped p s.objects → (stack : List Activation) → AllByRecursion (Stands p s.objects) stack → length s.stack ≡ length stack → RuleAt p s t stack → AllStand p t
+  rule-stands typed [] all high r = absurd r
+  rule-stands typed (Body o m arguments left ∷ below) all high r = body-stands typed o m arguments below left all.0 all.1 high r
+  rule-stands typed (Emit o g arguments used last ∷ below) all high r = emission-stands o g arguments last below (next_used s.objects s.connected.connections o g used last) all.1 high r
+  rule-stands typed (Update places ∷ below) all high r = update-stands below places all.0 all.1 r
 
   -- what is going on stands where the stack does
   kept-invariant : Invariant p s → Keeps p s 1 t 0 → AllStand p t → Invariant p t
   kept-invariant up kept stands = record { sound = record { typed = well.values; joined = kept.joined up.sound.joined }; stands = stands }
 
   rule-invariant : Invariant p s → Rule p s t → Invariant p t
-  rule-invariant up r = kept-invariant up (rule-kept p s t s.stack r) (rule-stands s.stack up.stands refl r)
+  rule-invariant up r = kept-invariant up (rule-kept p s t s.stack r) (rule-stands up.sound.typed s.stack up.stands refl r)
 
 -- ---- events
-
-member-more : {p : Loaded} {o m : ℕ} {x : Object} {method : MetaMethod} (objects more : List Object) → IsMember p objects o m x method → IsMember p (objects ++ more) o m x method
-member-more {o = o} {x = x} objects more is = record { is_object = get-append objects more o x is.is_object; is_method = is.is_method }
-
-joined-more : {p : Loaded} (objects more : List Object) (c : Connection) → Joined p objects c → Joined p (objects ++ more) c
-joined-more objects more c j = record {
-  sender = j.sender;
-  signal = j.signal;
-  sends = member-more objects more j.sends;
-  receiver = j.receiver;
-  method = j.method;
-  receives = member-more objects more j.receives;
-  rest = j.rest;
-  fits = j.fits;
-}
 
 -- nothing is going on
 none-stand : (p : Loaded) {s : State} (objects : List Object) → IsIdle s → AllByRecursion (Stands p objects) s.stack
 none-stand p objects idle = let Family : List Activation → Type 0 = λ l. AllByRecursion (Stands p objects) l in subst Family (sym idle.empty) tt
 
 -- an object is added
-created-invariant : {p : Loaded} {s : State} (x : Object) → IsIdle s → Invariant p s → AreTyped p (s.objects ++ x ∷ []) → Invariant p (record (accepted s) { objects = s.objects ++ x ∷ [] })
-created-invariant {p} {s} x idle up typed = record {
-  sound = record { typed = typed; joined = all-weaken (Joined p s.objects) (Joined p (s.objects ++ x ∷ [])) s.connected.connections (joined-more s.objects (x ∷ [])) up.sound.joined };
-  stands = none-stand p (s.objects ++ x ∷ []) idle;
-}
+created-stay : (objects : List Object) (x : Object) (l : Life) → x.life ≡ Some l → StayThere objects (objects ++ x ∷ [])
+created-stay objects x l alive = record { living = λ o class is. class-more objects x o class is; dead = λ o is. seen-appended objects x l o o alive ∙ is }
 
--- objects change, and none its name or class
-changed-invariant : {p : Loaded} {s : State} (objects : List Object) → IsIdle s → Invariant p s → AreTyped p objects → shapes_of objects ≡ shapes_of s.objects → Invariant p (record (accepted s) { objects = objects })
-changed-invariant {p} {s} objects idle up typed same = record {
-  sound = record { typed = typed; joined = all-joined-still p s.objects objects s.connected.connections (same-stay s.objects objects same) up.sound.joined };
+-- objects change, and the living ones stay of their classes
+changed-invariant : {p : Loaded} {s : State} (objects : List Object) → IsIdle s → Invariant p s → AreTyped p objects → StayThere s.objects objects → Invariant p (record (accepted s) { objects = objects })
+changed-invariant {p} {s} objects idle up typed stay = record {
+  sound = record { typed = typed; joined = all-joined-still p s.objects objects s.connected.connections stay up.sound.joined };
   stands = none-stand p objects idle;
 }
+
+-- .. where each of them shows the same
+same-stay : (old new : List Object) → ((o : ℕ) → shape_in (slice_get new o) ≡ shape_in (slice_get old o)) → StayThere old new
+same-stay old new same = record { living = λ o class is. class-same old new o (same o) ∙ is; dead = λ o is. seen-same old new o (same o) ∙ is }
+
+adopted-stay : {a c : ℕ} {y : Life} {old new : List Object} → IsAdopted a c y old new → StayThere old new
+adopted-stay {a} {c} {old = old} is = adopted-by (λ (l : List Object). StayThere old l) (all-stay old) (same-stay old (moved a c old) (shape-moved a c old)) is
 
 -- a connection joins what it names
 connection-joined : {p : Loaded} {objects : List Object} (e : Named (List ℕ)) (how : ConnectionType) (n : ℕ) (f : FoundEnds) → IsSound p → find_ends p objects e (Ok f) → Fits e.signal e.method →
@@ -261,13 +187,15 @@ connection-joined e how n f sound (goes_on a sender (goes_on b receiver (goes_on
     let Signal_types : Sig → Type 0 = λ t. Fits t e.method in
     let Method_types : Sig → Type 0 = λ t. Fits g.it.sig t in
     let front = kinds-fit sound signal.of.is method.is (subst Method_types (sym method.signed) (subst Signal_types (sym signal.of.signed) fits)) in
+    let from = living-object a sender in
+    let to = living-object b receiver in
     record {
-      sender = a.it;
+      sender = from.0;
       signal = front.0;
-      sends = record { is_object = (living-is sender).is.is; is_method = front.1 };
-      receiver = b.it;
+      sends = record { life = a.it; lives = from.1; is_method = front.1 };
+      receiver = to.0;
       method = m.it;
-      receives = record { is_object = (living-is receiver).is.is; is_method = method.is };
+      receives = record { life = b.it; lives = to.1; is_method = method.is };
       rest = front.2.0;
       fits = front.2.1;
     }
@@ -285,17 +213,18 @@ invoked-invariant {p} {s} a name called inputs sound up well (goes_on _ o (goes_
 
 blocked-invariant : {p : Loaded} {s t : State} (name : List ℕ) (on : Bool) → IsIdle s → Invariant p s → IsWell p s t → block s name on (Ok t) → Invariant p t
 blocked-invariant {p} {s} name on idle up well (goes_on o lives just) =
-    changed-invariant (change o.number (blocked on) s.objects) idle up well.values (map-change shape_of o.number (blocked on) s.objects (λ z. refl))
+    changed-invariant (change_life o.number (blocked on) s.objects) idle up well.values (same-stay s.objects _ (shape-change o.number (blocked on) s.objects (λ l. refl)))
 
 judged-invariant : {p : Loaded} {s t : State} (e : Event) → IsSound p → IsIdle s → Invariant p s → judged p s e (Ok t) → IsWell p s t → Invariant p t
 judged-invariant (Loop name) sound idle up x well = absurd x
 judged-invariant (Turn name) sound idle up x well = absurd x
 judged-invariant (New name class (Some home)) sound idle up x well = absurd x
-judged-invariant (New name class None) sound idle up (goes_on _ free (goes_on c is (goes_on _ room just))) well = created-invariant (fresh name c.number main (initial_values c.it)) idle up well.values
-judged-invariant {p} (Adopt parent child) sound idle up (goes_on _ a (goes_on _ c (goes_on _ owns (goes_on _ over (goes_on _ home (becomes x)))))) well =
+judged-invariant (New name class None) sound idle up (goes_on _ free (goes_on c is (goes_on _ room just))) well =
+    changed-invariant _ idle up well.values (created-stay _ (fresh name c.number main (initial_values c.it)) (begun_life c.number main (initial_values c.it)) refl)
+judged-invariant {p} {s} (Adopt parent child) sound idle up (goes_on _ a (goes_on _ c (goes_on _ owns (goes_on _ over (goes_on _ home (becomes x)))))) well =
     let Family : State → Type 0 = λ u. Invariant p u in
     let Typed : State → Type 0 = λ u. AreTyped p u.objects in
-    subst Family (sym x.gives) (changed-invariant x.objects idle up (subst Typed x.gives well.values) (map-adopted shape_of (λ z l. refl) (λ z l. refl) x.is))
+    subst Family (sym x.gives) (changed-invariant x.objects idle up (subst Typed x.gives well.values) (adopted-stay x.is))
 judged-invariant {p} {s} (Connect e how) sound idle up (goes_on f named (goes_on _ kind (goes_on _ covers (goes_on _ (so fits) (goes_on _ new given))))) well =
     let Family : State → Type 0 = λ u. Invariant p u in
     subst Family (sym (given-is given)) (record {

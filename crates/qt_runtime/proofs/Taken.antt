@@ -13,7 +13,8 @@ use Rattle.machine_state.specs.Accepting.{refused}
 use Rattle.machine_state.specs.State.{State, Activation, IsIdle}
 use Rattle.machine_state.specs.Worlds.{at, after, Refuses}
 use Rattle.machine_rules.specs.Reaches.{Ends}
-use Rattle.machine_rules.specs.Good.{AreTyped, IsGood, TopFits}
+use Rattle.object_tree.specs.Typed.{AreTyped}
+use Rattle.machine_rules.specs.Good.{IsGood, TopFits}
 use Rattle.machine_rules.specs.Runs.{Rules}
 use Rattle.machine_rules.specs.Runs as of_rules
 use Rattle.qt_runtime.specs.declared.judgement.NotAccepted.{NotAccepted}

@@ -22,12 +22,7 @@ pub record Seen : Type 0 where
 
 -- a machine that has done nothing, and may use so many rules
 abbrev pub begun : Loaded → ℕ → ℕ → Seen
-begun program depth steps = record {
-  program = program;
-  depth = depth;
-  world = untouched steps;
-  stopped = false;
-}
+begun program depth steps = record { program = program; depth = depth; world = untouched steps; stopped = false }
 
 -- the machine took these events by a whole run
 pub record Completes (before : Seen) (events : List Event) (after : Seen) : Type 0 where

@@ -3,13 +3,12 @@ use Rattle.std.specs.Prelude.{◌≡◌, ℕ, ◌+◌, ◌<◌, ◌^◌, Bool, t
 use Rattle.signatures.specs.declared.value.Value.{Value}
 use Rattle.meta_model.specs.declared.object.MetaProperty.{MetaProperty}
 use Rattle.meta_model.specs.Loaded.{Loaded}
-use Rattle.meta_model.specs.Values.{Has}
 use Rattle.object_tree.specs.declared.fault.AdoptFault.{AdoptFault}
 use Rattle.object_tree.specs.declared.fault.AdoptFault.TheVariants as adopt
 use Rattle.object_tree.specs.declared.fault.CreateFault.{CreateFault}
 use Rattle.object_tree.specs.declared.fault.CreateFault.TheVariants as create
 use Rattle.object_tree.specs.declared.object.Object.{Object}
-use Rattle.object_tree.specs.Objects.{class_of}
+use Rattle.object_tree.specs.Typed.{ReadsAs}
 use Rattle.texts.specs.declared.connection.ConnectionType.{ConnectionType}
 use Rattle.texts.specs.declared.connection.Endpoints.{Endpoints as Named}
 use Rattle.script_lang.specs.declared.event.Event.{Event}
@@ -121,7 +120,7 @@ pub record ValueFits (p : Loaded) (objects : List Object) (o q : ℕ) (v : Value
   pub object : Object
   pub property : MetaProperty
   pub is : IsField p objects o q object property
-  pub has : Has p (class_of objects) v property.kind
+  pub reads : ReadsAs p objects v property.kind
 
 -- the event that asks this of a method
 abbrev pub invoking : Invocation → List ℕ → List ℕ → List Input → Event

@@ -2,6 +2,7 @@
 use Rattle.std.proofs.Common.{◌≡◌, ◌<◌, ℕ, List, [], Result, Ok, Err, MatchResult, refl, sym, subst}
 use Rattle.meta_model.specs.Loaded.{Loaded}
 use Rattle.object_tree.specs.declared.fault.AdoptFault.{AdoptFault}
+use Rattle.object_tree.specs.declared.life.Life.{Life}
 use Rattle.object_tree.specs.declared.object.Object.{Object}
 use Rattle.object_tree.specs.Adopting.{IsAdopted, IsNotAdopted, MayAdopt, not_owned, cycle, other_loop, no_memory}
 use Rattle.script_lang.specs.declared.event.Event.TheVariants.{Adopt}
@@ -9,15 +10,15 @@ use Rattle.machine_state.specs.declared.fault.Fault.{Fault}
 use Rattle.machine_state.specs.declared.refusal.Refusal.{Refusal}
 use Rattle.machine_state.specs.declared.world.World.{World}
 use Rattle.machine_state.specs.Accepting.{accepted}
-use Rattle.machine_state.specs.Objects.{shape_of}
 use Rattle.machine_state.specs.Worlds.{at}
-use Rattle.machine_rules.specs.Good.{AreTyped}
+use Rattle.object_tree.specs.Typed.{AreTyped}
 use Rattle.qt_runtime.specs.Judgement.{Numbered, holds, fails, becomes, goes_on, ends, IsNotAccepted}
 use Rattle.qt_runtime.specs.declared.judgement.NotAccepted.{NotAccepted}
 use Rattle.qt_runtime.specs.Taking.{Halted, adoption_reason}
 use Rattle.qt_runtime.specs.events.Adopt.{adopt}
 use Rattle.qt_runtime.specs.events.Named.{IsLiving, living}
-use Rattle.qt_runtime.proofs.Changes.{map-adopted, content_of, typed-same}
+use Rattle.object_tree.proofs.TypedObjects.{typed-moved}
+use Rattle.qt_runtime.proofs.Changes.{adopted-by}
 use Rattle.qt_runtime.proofs.Judged.{then-ends, then-on}
 use Rattle.qt_runtime.proofs.Taken.{halted-short}
 use Rattle.qt_runtime.proofs.Judging.Naming.{living-ok}
@@ -26,16 +27,15 @@ use Rattle.qt_runtime.proofs.Judging.Naming.{living-ok}
 pub no-parent : (p : Loaded) (w : World) (parent child : List ℕ) {n : NotAccepted} → IsNotAccepted (living w.objects parent) n → IsNotAccepted (adopt p (at w []) parent child) n
 no-parent p w parent child x = then-ends x
 
-pub typed-adopted : {p : Loaded} {a c : ℕ} {y : Object} {old new : List Object} → AreTyped p old → IsAdopted a c y old new → AreTyped p new
-typed-adopted {p} {old = old} {new = new} typed is =
-    typed-same p old new (map-adopted content_of (λ z l. refl) (λ z l. refl) is) (map-adopted shape_of (λ z l. refl) (λ z l. refl) is) typed
+pub typed-adopted : {p : Loaded} {a c : ℕ} {y : Life} {old new : List Object} → AreTyped p old → IsAdopted a c y old new → AreTyped p new
+typed-adopted {p} {a} {c} {old = old} typed is = adopted-by (λ (l : List Object). AreTyped p l) typed (typed-moved p a c old typed) is
 
-module _ (p : Loaded) (w : World) (parent child : List ℕ) (a : Numbered Object) (above : IsLiving w.objects parent a) where
+module _ (p : Loaded) (w : World) (parent child : List ℕ) (a : Numbered Life) (above : IsLiving w.objects parent a) where
   -- .. nor the child's
   pub no-child : {n : NotAccepted} → IsNotAccepted (living w.objects child) n → IsNotAccepted (adopt p (at w []) parent child) n
   no-child x = then-on a (living-ok a above) (then-ends x)
 
-  module _ (c : Numbered Object) (below : IsLiving w.objects child c) where
+  module _ (c : Numbered Life) (below : IsLiving w.objects child c) where
     pub adopts : {new : List Object} → MayAdopt p w.objects a.number c.number a.it c.it → IsAdopted a.number c.number c.it w.objects new → adopt p (at w []) parent child (Ok (record (accepted (at w [])) { objects = new }))
     adopts {new} may is =
         goes_on a (living-ok a above) (goes_on c (living-ok c below)

@@ -3,9 +3,9 @@ use Rattle.std.proofs.Common.{ℕ, List, [], Ok, Err, subst}
 use Rattle.signatures.specs.declared.value.Value.{Value}
 use Rattle.meta_model.specs.declared.object.MetaProperty.{MetaProperty}
 use Rattle.meta_model.specs.Loaded.{Loaded}
-use Rattle.meta_model.specs.Values.{Has}
+use Rattle.object_tree.specs.declared.life.Life.{Life}
 use Rattle.object_tree.specs.declared.object.Object.{Object}
-use Rattle.object_tree.specs.Objects.{class_of}
+use Rattle.object_tree.specs.Typed.{ReadsAs}
 use Rattle.script_lang.specs.declared.event.Event.TheVariants.{Set}
 use Rattle.script_lang.specs.declared.event.Input.{Input}
 use Rattle.machine_state.specs.declared.refusal.Refusal.TheVariants.{NoMember, BadArgs}
@@ -20,15 +20,15 @@ use Rattle.qt_runtime.specs.events.Assign.{assign, IsPropertyOf}
 use Rattle.qt_runtime.specs.events.Named.{IsLiving}
 use Rattle.qt_runtime.specs.events.Values.{value}
 use Rattle.qt_runtime.proofs.Judged.{then-ends, then-on}
-use Rattle.qt_runtime.proofs.Judging.Naming.{living-ok}
+use Rattle.qt_runtime.proofs.Judging.Naming.{living-ok, living-object}
 
 -- the value is of the type of a property that is found
-pub fits-field : {p : Loaded} {objects : List Object} {o q : ℕ} {v : Value} {x : Object} {property : MetaProperty} → ValueFits p objects o q v → IsField p objects o q x property → Has p (class_of objects) v property.kind
+pub fits-field : {p : Loaded} {objects : List Object} {o q : ℕ} {v : Value} {x : Object} {property : MetaProperty} → ValueFits p objects o q v → IsField p objects o q x property → ReadsAs p objects v property.kind
 fits-field {p} {objects} {o} {q} {v} {x} {property} fits f =
-    let In : MetaProperty → Type 0 = λ k. Has p (class_of objects) v k.kind in
-    subst In (field-property fits.is f) fits.has
+    let In : MetaProperty → Type 0 = λ k. ReadsAs p objects v k.kind in
+    subst In (field-property fits.is f) fits.reads
 
-module _ (p : Loaded) (w : World) (name property : List ℕ) (i : Input) (o : Numbered Object) (lives : IsLiving w.objects name o) where
+module _ (p : Loaded) (w : World) (name property : List ℕ) (i : Input) (o : Numbered Life) (lives : IsLiving w.objects name o) where
   pub no-property : ((q : Numbered MetaProperty) → ¬ IsPropertyOf p o.it.class property q) → assign p (at w []) name property i (Err NoMember)
   no-property none = goes_on o (living-ok o lives) (ends (missing none))
 
@@ -37,16 +37,18 @@ module _ (p : Loaded) (w : World) (name property : List ℕ) (i : Input) (o : Nu
     no-value x = then-on o (living-ok o lives) (then-on q (found has) (then-ends x))
 
     module _ (v : Value) (is : value w.objects i (Ok v)) where
-      pub bad-value : (¬ Has p (class_of w.objects) v q.it.kind) → assign p (at w []) name property i (Err BadArgs)
+      pub bad-value : (¬ ReadsAs p w.objects v q.it.kind) → assign p (at w []) name property i (Err BadArgs)
       bad-value ill = goes_on o (living-ok o lives) (goes_on q (found has) (goes_on v is (ends (fails ill))))
 
-      pub writes-to : Has p (class_of w.objects) v q.it.kind → WritesTo p w o.number q.number v (Set name property i)
+      pub writes-to : ReadsAs p w.objects v q.it.kind → WritesTo p w o.number q.number v (Set name property i)
       writes-to fits = record { effect = λ t writes. goes_on o (living-ok o lives) (goes_on q (found has) (goes_on v is (goes_on tt (holds fits) (becomes writes)))) }
 
-      pub value-fits : Has p (class_of w.objects) v q.it.kind → ValueFits p w.objects o.number q.number v
-      value-fits fits = record {
-        object = o.it;
-        property = q.it;
-        is = record { is_object = lives.is.is; class = has.is.class; is_class = has.is.is_class; is_property = has.is.is };
-        has = fits;
-      }
+      pub value-fits : ReadsAs p w.objects v q.it.kind → ValueFits p w.objects o.number q.number v
+      value-fits fits =
+          let object = living-object o lives in
+          record {
+            object = object.0;
+            property = q.it;
+            is = record { life = o.it; lives = object.1; class = has.is.class; is_class = has.is.is_class; is_property = has.is.is };
+            reads = fits;
+          }

@@ -1,22 +1,22 @@
 -- `block` and `unblock`.
 use Rattle.std.proofs.Common.{ℕ, List, Bool, true, false, [], Result, Ok, refl}
 use Rattle.meta_model.specs.Loaded.{Loaded}
+use Rattle.object_tree.specs.declared.life.Life.{Life}
 use Rattle.object_tree.specs.declared.object.Object.{Object}
-use Rattle.object_tree.specs.Objects.{change, blocked}
+use Rattle.object_tree.specs.Objects.{change_life, blocked}
 use Rattle.machine_state.specs.declared.refusal.Refusal.{Refusal}
 use Rattle.machine_state.specs.declared.world.World.{World}
 use Rattle.machine_state.specs.Accepting.{accepted}
-use Rattle.machine_state.specs.Objects.{shape_of}
 use Rattle.machine_state.specs.State.{State}
 use Rattle.machine_state.specs.Worlds.{at}
-use Rattle.machine_rules.specs.Good.{AreTyped}
+use Rattle.object_tree.specs.Typed.{AreTyped}
 use Rattle.qt_runtime.specs.declared.judgement.NotAccepted.{NotAccepted}
 use Rattle.qt_runtime.specs.Judgement.{Numbered, gives, goes_on, ends, IsNotAccepted, refused, short}
 use Rattle.qt_runtime.specs.Takes.{judged}
 use Rattle.qt_runtime.specs.Taking.{blocking}
 use Rattle.qt_runtime.specs.events.Block.{block}
 use Rattle.qt_runtime.specs.events.Named.{IsLiving, living}
-use Rattle.qt_runtime.proofs.Changes.{map-change, content_of, typed-same}
+use Rattle.object_tree.proofs.TypedObjects.{typed-change}
 use Rattle.qt_runtime.proofs.Judging.Naming.{living-ok}
 
 judged-blocking : (p : Loaded) (s : State) {r : Result State Refusal} (name : List ℕ) (on : Bool) → block s name on r → judged p s (blocking on name) r
@@ -28,9 +28,8 @@ pub not-blocking : (p : Loaded) (w : World) {n : NotAccepted} (name : List ℕ) 
 not-blocking p w name on (refused x) = refused (judged-blocking p (at w []) name on (ends x))
 not-blocking p w name on short = short
 
-pub blocks : (p : Loaded) (w : World) (name : List ℕ) (on : Bool) (o : Numbered Object) → IsLiving w.objects name o → judged p (at w []) (blocking on name) (Ok (record (accepted (at w [])) { objects = change o.number (blocked on) w.objects }))
+pub blocks : (p : Loaded) (w : World) (name : List ℕ) (on : Bool) (o : Numbered Life) → IsLiving w.objects name o → judged p (at w []) (blocking on name) (Ok (record (accepted (at w [])) { objects = change_life o.number (blocked on) w.objects }))
 blocks p w name on o lives = judged-blocking p (at w []) name on (goes_on o (living-ok o lives) gives)
 
-pub typed-blocked : {p : Loaded} {objects : List Object} (o : ℕ) (on : Bool) → AreTyped p objects → AreTyped p (change o (blocked on) objects)
-typed-blocked {p} {objects} o on typed =
-    typed-same p objects (change o (blocked on) objects) (map-change content_of o (blocked on) objects (λ z. refl)) (map-change shape_of o (blocked on) objects (λ z. refl)) typed
+pub typed-blocked : {p : Loaded} {objects : List Object} (o : ℕ) (on : Bool) → AreTyped p objects → AreTyped p (change_life o (blocked on) objects)
+typed-blocked {p} {objects} o on typed = typed-change p o (blocked on) objects (λ l. refl) typed

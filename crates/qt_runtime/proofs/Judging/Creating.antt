@@ -5,9 +5,9 @@ use Rattle.meta_model.specs.Loaded.{Loaded}
 use Rattle.meta_model.specs.Members.{IsClass, IsClassNamed}
 use Rattle.object_tree.specs.declared.fault.CreateFault.{CreateFault}
 use Rattle.object_tree.specs.declared.object.Object.{Object}
-use Rattle.object_tree.specs.Creating.{IsCreated, IsNotCreated, BeginsWell, name_used, no_class, too_many, bad_type, no_memory, fresh, initial_values, most_objects}
+use Rattle.object_tree.specs.Creating.{IsCreated, IsNotCreated, BeginsWell, name_used, no_class, too_many, bad_type, no_memory, begun, fresh, initial_values, most_objects}
 use Rattle.object_tree.specs.Objects.{IsFree}
-use Rattle.object_tree.proofs.TypedObjects.{fresh-typed, typed-fresh}
+use Rattle.object_tree.proofs.TypedObjects.{typed-fresh, typed-created as typed-made, get-last}
 use Rattle.script_lang.specs.declared.event.Event.TheVariants.{New}
 use Rattle.machine_state.specs.declared.fault.Fault.{Fault}
 use Rattle.machine_state.specs.declared.fault.Fault.TheVariants.{BadType}
@@ -16,7 +16,8 @@ use Rattle.machine_state.specs.declared.world.World.{World}
 use Rattle.machine_state.specs.Accepting.{accepted}
 use Rattle.machine_state.specs.State.{State}
 use Rattle.machine_state.specs.Worlds.{at, main}
-use Rattle.machine_rules.specs.Good.{AreTyped, IsWell}
+use Rattle.object_tree.specs.Typed.{AreTyped}
+use Rattle.machine_rules.specs.Good.{IsWell}
 use Rattle.machine_rules.proofs.Fields.{class-unique}
 use Rattle.qt_runtime.specs.Judgement.{found, missing, holds, fails, gives, goes_on, ends}
 use Rattle.qt_runtime.specs.Runs.{done, by_event}
@@ -24,7 +25,6 @@ use Rattle.qt_runtime.specs.Takes.{accepts}
 use Rattle.qt_runtime.specs.Taking.{Halted, creation_reason}
 use Rattle.qt_runtime.specs.events.Create.{create, IsClassOf}
 use Rattle.qt_runtime.proofs.Taken.{idle, halted-short}
-use Rattle.qt_runtime.proofs.Typed.{typed-snoc, get-last}
 
 -- the class of a name
 class-of : {p : Loaded} {name : List ℕ} {number : ℕ} {kind : MetaObject} → IsClassNamed p name number → IsClass p number kind → IsClassOf p name (record { number = number; it = kind })
@@ -47,14 +47,14 @@ module _ (p : Loaded) (w : World) (name class : List ℕ) where
   pub typed-created : {o : ℕ} {new : List Object} → AreTyped p w.objects → IsCreated p w.objects name class main o new → AreTyped p new
   typed-created typed is =
       let Family : List Object → Type 0 = λ l. AreTyped p l in
-      subst Family (sym is.appended) (typed-snoc w.objects (made name is.number is.kind) typed (fresh-typed p w.objects name is.number main is.kind is.may.is is.may.begins))
+      subst Family (sym is.appended) (typed-made p w.objects name is.number main is.kind is.may.is is.may.begins typed)
 
   -- an initial value isn't of its property's type
   halted-ill : {d number : ℕ} {kind : MetaObject} → 0 < w.left → IsFree w.objects name → IsClassNamed p class number → IsClass p number kind → length w.objects < most_objects → (¬ BeginsWell p w.objects number kind) → Halted p d w (New name class None) w BadType
   halted-ill {number = number} {kind = kind} some free named is room ill =
       let after : State = record (accepted (at w [])) { objects = w.objects ++ made name number kind ∷ [] } in
       let not_well : IsWell p (at w []) after → ⊥ = λ well.
-      ill (typed-fresh p w.objects name number main kind is (well.values (length w.objects) (made name number kind) (get-last w.objects (made name number kind)))) in
+      ill (typed-fresh p w.objects name number main kind is (well.values (length w.objects) (made name number kind) (begun number main (initial_values kind)) (record { is = get-last w.objects (made name number kind); lives = refl }))) in
       record {
         stack = [];
         front = record { taken = []; rest = New name class None ∷ []; split = refl; runs = done };

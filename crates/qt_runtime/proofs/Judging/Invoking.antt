@@ -4,9 +4,8 @@ use Rattle.signatures.specs.declared.value.Value.{Value}
 use Rattle.meta_model.specs.declared.object.MetaMethod.{MetaMethod}
 use Rattle.meta_model.specs.Loaded.{Loaded}
 use Rattle.meta_model.specs.Members.{IsMethod, IsMethodNamed}
-use Rattle.meta_model.specs.Values.{HaveTypes}
-use Rattle.object_tree.specs.declared.object.Object.{Object}
-use Rattle.object_tree.specs.Objects.{class_of}
+use Rattle.object_tree.specs.declared.life.Life.{Life}
+use Rattle.object_tree.specs.Typed.{ReadAs}
 use Rattle.script_lang.specs.declared.event.Input.{Input}
 use Rattle.machine_state.specs.declared.refusal.Refusal.{Refusal}
 use Rattle.machine_state.specs.declared.refusal.Refusal.TheVariants.{NoMember, BadArgs}
@@ -25,7 +24,7 @@ use Rattle.qt_runtime.specs.events.Invoke.{invoke, May, IsAskedOf}
 use Rattle.qt_runtime.specs.events.Named.{IsLiving}
 use Rattle.qt_runtime.specs.events.Values.{values}
 use Rattle.qt_runtime.proofs.Judged.{then-ends, then-on}
-use Rattle.qt_runtime.proofs.Judging.Naming.{living-ok}
+use Rattle.qt_runtime.proofs.Judging.Naming.{living-ok, living-object}
 
 -- an event that asks something is judged as what it asks
 pub judged-invoking : (p : Loaded) (s : State) {r : Result State Refusal} (a : Invocation) (name called : List ℕ) (inputs : List Input) → invoke p s a name called inputs r → judged p s (invoking a name called inputs) r
@@ -43,7 +42,7 @@ none-asked {p} {class} {number} {count} {name} {it} a only at unlike m is =
     let there_too : IsMethod p class number m.it = subst (λ (k : ℕ). IsMethod p class k m.it) number_is is.is in
     unlike (subst (λ (k : MetaMethod). May a number k) (method-unique there_too at) (subst (λ (k : ℕ). May a k m.it) number_is is.may))
 
-module _ (p : Loaded) (w : World) (a : Invocation) (name called : List ℕ) (inputs : List Input) (o : Numbered Object) (lives : IsLiving w.objects name o) where
+module _ (p : Loaded) (w : World) (a : Invocation) (name called : List ℕ) (inputs : List Input) (o : Numbered Life) (lives : IsLiving w.objects name o) where
   pub no-method : ((m : Numbered MetaMethod) → ¬ IsAskedOf p o.it.class a called (length inputs) m) → invoke p (at w []) a name called inputs (Err NoMember)
   no-method none = goes_on o (living-ok o lives) (ends (missing none))
 
@@ -52,11 +51,13 @@ module _ (p : Loaded) (w : World) (a : Invocation) (name called : List ℕ) (inp
     no-values x = then-on o (living-ok o lives) (then-on m (found has) (then-ends x))
 
     module _ (vs : List Value) (are : values w.objects inputs (Ok vs)) where
-      pub bad-values : (¬ HaveTypes p (class_of w.objects) vs m.it.kinds) → invoke p (at w []) a name called inputs (Err BadArgs)
+      pub bad-values : (¬ ReadAs p w.objects vs m.it.kinds) → invoke p (at w []) a name called inputs (Err BadArgs)
       bad-values ill = goes_on o (living-ok o lives) (goes_on m (found has) (goes_on vs are (ends (fails ill))))
 
-      pub asks-for : HaveTypes p (class_of w.objects) vs m.it.kinds → AsksFor p w o.number m.number vs (invoking a name called inputs)
+      pub asks-for : ReadAs p w.objects vs m.it.kinds → AsksFor p w o.number m.number vs (invoking a name called inputs)
       asks-for fit = record { effect = λ t begins. judged-invoking p (at w []) a name called inputs (goes_on o (living-ok o lives) (goes_on m (found has) (goes_on vs are (goes_on tt (holds fit) (becomes begins))))) }
 
-      pub arguments-fit : HaveTypes p (class_of w.objects) vs m.it.kinds → ArgumentsFit p w.objects o.number m.number vs
-      arguments-fit fit = record { object = o.it; method = m.it; is = record { is_object = lives.is.is; is_method = has.is }; typed = fit }
+      pub arguments-fit : ReadAs p w.objects vs m.it.kinds → ArgumentsFit p w.objects o.number m.number vs
+      arguments-fit fit =
+          let object = living-object o lives in
+          record { object = object.0; method = m.it; is = record { life = o.it; lives = object.1; is_method = has.is }; typed = fit }

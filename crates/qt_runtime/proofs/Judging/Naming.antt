@@ -1,19 +1,25 @@
 -- Objects that events name.
-use Rattle.std.proofs.Common.{◌≡◌, ℕ, List, true, Ok, Err}
+use Rattle.std.proofs.Common.{◌≡◌, ℕ, List, None, Ok, Err}
+use Rattle.object_tree.specs.declared.life.Life.{Life}
 use Rattle.object_tree.specs.declared.object.Object.{Object}
-use Rattle.object_tree.specs.Objects.{IsFree}
+use Rattle.object_tree.specs.Objects.{Lives, IsNamed, IsFree, life_of}
+use Rattle.object_tree.proofs.Changing.{lives-of-life}
 use Rattle.machine_state.specs.declared.refusal.Refusal.TheVariants.{NoObject, Dead}
-use Rattle.qt_runtime.specs.Judgement.{Numbered, found, missing, holds, fails, gives, goes_on, ends}
-use Rattle.qt_runtime.specs.events.Named.{IsObject, IsLiving, living}
+use Rattle.qt_runtime.specs.Judgement.{Numbered, found, missing, gives, goes_on, ends}
+use Rattle.qt_runtime.specs.events.Named.{IsLiving, living}
 
-pub living-ok : {objects : List Object} {name : List ℕ} (o : Numbered Object) → IsLiving objects name o → living objects name (Ok o)
-living-ok o x = goes_on o (found x.is) (goes_on tt (holds x.alive) gives)
+pub living-ok : {objects : List Object} {name : List ℕ} (o : Numbered Life) → IsLiving objects name o → living objects name (Ok o)
+living-ok o x = goes_on o.number (found x.named) (goes_on o.it (found x.lives) gives)
 
 pub living-free : {objects : List Object} {name : List ℕ} → IsFree objects name → living objects name (Err NoObject)
-living-free free = ends (missing (λ o is. free o.number is.named.named))
+living-free free = ends (missing (λ o is. free o is.named))
 
-pub living-dead : {objects : List Object} {name : List ℕ} (o : Numbered Object) → IsObject objects name o → (o.it.alive ≡ true → ⊥) → living objects name (Err Dead)
-living-dead o is dead = goes_on o (found is) (ends (fails dead))
+pub living-dead : {objects : List Object} {name : List ℕ} (o : ℕ) → IsNamed objects name o → life_of objects o ≡ None → living objects name (Err Dead)
+living-dead o is dead = goes_on o (found is) (ends (missing (λ l lives. cc (dead, lives))))
 
-pub living-is : {objects : List Object} {name : List ℕ} {o : Numbered Object} → living objects name (Ok o) → IsLiving objects name o
-living-is (goes_on _ (found is) (goes_on _ (holds alive) gives)) = record { is = is; alive = alive }
+pub living-is : {objects : List Object} {name : List ℕ} {o : Numbered Life} → living objects name (Ok o) → IsLiving objects name o
+living-is (goes_on _ (found named) (goes_on _ (found lives) gives)) = record { named = named; lives = lives }
+
+-- an object that has the life
+pub living-object : {objects : List Object} {name : List ℕ} (o : Numbered Life) → IsLiving objects name o → (x : Object) × Lives objects o.number x o.it
+living-object {objects} o x = lives-of-life objects o.number o.it x.lives

@@ -2,6 +2,7 @@
 use Rattle.std.specs.Prelude.{◌≡◌, ℕ, List, Result}
 use Rattle.meta_model.specs.Loaded.{Loaded}
 use Rattle.meta_model.specs.Members.{Owns}
+use Rattle.object_tree.specs.declared.life.Life.{Life}
 use Rattle.object_tree.specs.declared.object.Object.{Object}
 use Rattle.object_tree.specs.Adopting.{IsAdopted}
 use Rattle.object_tree.specs.Family.{Above}
@@ -13,7 +14,7 @@ use Rattle.qt_runtime.specs.Judgement.{Numbered, Check, Becomes, ◌>>=◌}
 use Rattle.qt_runtime.specs.events.Named.{living}
 
 -- the first object becomes the second's parent
-pub record Adopts (s : State) (a c : Numbered Object) (t : State) : Type 0 where
+pub record Adopts (s : State) (a c : Numbered Life) (t : State) : Type 0 where
   pub objects : List Object
   pub is : IsAdopted a.number c.number c.it s.objects objects
   pub gives : t ≡ record s { objects = objects }

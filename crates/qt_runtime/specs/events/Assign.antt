@@ -3,8 +3,7 @@ use Rattle.std.specs.Prelude.{◌≡◌, ℕ, List, Result}
 use Rattle.meta_model.specs.declared.object.MetaProperty.{MetaProperty}
 use Rattle.meta_model.specs.Loaded.{Loaded}
 use Rattle.meta_model.specs.Members.{IsProperty}
-use Rattle.meta_model.specs.Values.{Has}
-use Rattle.object_tree.specs.Objects.{class_of}
+use Rattle.object_tree.specs.Typed.{ReadsAs}
 use Rattle.script_lang.specs.declared.event.Input.{Input}
 use Rattle.machine_state.specs.declared.refusal.Refusal.{Refusal}
 use Rattle.machine_state.specs.declared.refusal.Refusal.TheVariants.{NoMember, BadArgs}
@@ -26,5 +25,5 @@ assign p s name property i =
     living s.objects name >>= λ o.
     Find NoMember (IsPropertyOf p o.it.class property) >>= λ q.
     value s.objects i >>= λ v.
-    Check BadArgs (Has p (class_of s.objects) v q.it.kind) >>= λ _.
+    Check BadArgs (ReadsAs p s.objects v q.it.kind) >>= λ _.
     Becomes (Writes p (accepted s) s.stack o.number q.number v)

@@ -1,6 +1,6 @@
 -- `block O` and `unblock O` (docs/machine.md, "Events"; Qt 6, `QObject::blockSignals`).
 use Rattle.std.specs.Prelude.{ℕ, Bool, List, Result}
-use Rattle.object_tree.specs.Objects.{change, blocked}
+use Rattle.object_tree.specs.Objects.{change_life, blocked}
 use Rattle.machine_state.specs.declared.refusal.Refusal.{Refusal}
 use Rattle.machine_state.specs.Accepting.{accepted}
 use Rattle.machine_state.specs.State.{State}
@@ -11,4 +11,4 @@ use Rattle.qt_runtime.specs.events.Named.{living}
 abbrev pub block : State → List ℕ → Bool → Result State Refusal → Type 0
 block s name on =
     living s.objects name >>= λ o.
-    Gives (record (accepted s) { objects = change o.number (blocked on) s.objects })
+    Gives (record (accepted s) { objects = change_life o.number (blocked on) s.objects })

@@ -1,9 +1,10 @@
 -- What a connect or a disconnect names (docs/machine.md, "Events"; Qt 6, "Signals & Slots").
-use Rattle.std.specs.Prelude.{◌≡◌, ℕ, zero, suc, List, Result, Ok}
+use Rattle.std.specs.Prelude.{◌≡◌, ℕ, eqb, if◌then◌else◌, List, Result, Ok}
 use Rattle.signatures.specs.declared.sig.Sig.{Sig}
 use Rattle.texts.specs.declared.connection.Endpoints.{Endpoints as Named}
 use Rattle.meta_model.specs.declared.object.MetaMethod.{MetaMethod}
 use Rattle.meta_model.specs.declared.object.Work.TheVariants.{Signal}
+use Rattle.meta_model.specs.declared.qobject.TheConstants.{DESTROYED, DESTROYED_ALONE}
 use Rattle.meta_model.specs.Loaded.{Loaded}
 use Rattle.meta_model.specs.Members.{IsMethod}
 use Rattle.object_tree.specs.declared.object.Object.{Object}
@@ -27,10 +28,9 @@ pub record IsSignalOf (p : Loaded) (class : ℕ) (sig : Sig) (g : Numbered MetaM
 abbrev pub IsSignalNumber : Loaded → ℕ → Sig → ℕ → Type 0
 IsSignalNumber p class sig m = (method : MetaMethod) × IsSignalOf p class sig (numbered m method)
 
--- the signal that a spelling names: `destroyed()`, which has the number 1, is `destroyed(QObject*)`
+-- the signal that a spelling names: `destroyed()` is `destroyed(QObject*)`
 abbrev pub named_signal : ℕ → ℕ
-named_signal (suc zero) = 0
-named_signal g = g
+named_signal g = if eqb g DESTROYED_ALONE then DESTROYED else g
 
 -- the objects and their methods, with the classes of the objects
 abbrev pub find_ends : Loaded → List Object → Named (List ℕ) → Result FoundEnds Refusal → Type 0

@@ -5,8 +5,7 @@ use Rattle.meta_model.specs.declared.object.Work.TheVariants.{Signal}
 use Rattle.meta_model.specs.declared.qobject.TheConstants.{OBJECT_NAME_CHANGED, DELETE_LATER}
 use Rattle.meta_model.specs.Loaded.{Loaded}
 use Rattle.meta_model.specs.Members.{IsMethod}
-use Rattle.meta_model.specs.Values.{HaveTypes}
-use Rattle.object_tree.specs.Objects.{class_of}
+use Rattle.object_tree.specs.Typed.{ReadAs}
 use Rattle.script_lang.specs.declared.event.Input.{Input}
 use Rattle.machine_state.specs.declared.refusal.Refusal.{Refusal}
 use Rattle.machine_state.specs.declared.refusal.Refusal.TheVariants.{NoMember, BadArgs}
@@ -39,5 +38,5 @@ invoke p s invocation name called inputs =
     living s.objects name >>= λ o.
     Find NoMember (IsAskedOf p o.it.class invocation called (length inputs)) >>= λ m.
     values s.objects inputs >>= λ vs.
-    Check BadArgs (HaveTypes p (class_of s.objects) vs m.it.kinds) >>= λ _.
+    Check BadArgs (ReadAs p s.objects vs m.it.kinds) >>= λ _.
     Becomes (Begins p (accepted s) s.stack o.number m.number vs)

@@ -1,24 +1,20 @@
 -- The objects that events name (docs/machine.md, "Events").
-use Rattle.std.specs.Prelude.{◌≡◌, ℕ, true, List, Result, Some, slice_get}
+use Rattle.std.specs.Prelude.{◌≡◌, ℕ, List, Result, Some}
+use Rattle.object_tree.specs.declared.life.Life.{Life}
 use Rattle.object_tree.specs.declared.object.Object.{Object}
-use Rattle.object_tree.specs.Objects.{IsNamed}
+use Rattle.object_tree.specs.Objects.{IsNamed, life_of}
 use Rattle.machine_state.specs.declared.refusal.Refusal.{Refusal}
 use Rattle.machine_state.specs.declared.refusal.Refusal.TheVariants.{NoObject, Dead}
-use Rattle.qt_runtime.specs.Judgement.{Numbered, Find, Check, Gives, ◌>>=◌}
+use Rattle.qt_runtime.specs.Judgement.{Numbered, numbered, Find, Gives, ◌>>=◌}
 
--- the object that has, or had, this name
-pub record IsObject (objects : List Object) (name : List ℕ) (o : Numbered Object) : Type 0 where
-  pub is : slice_get objects o.number ≡ Some o.it
+-- the living object of this name, and its life
+pub record IsLiving (objects : List Object) (name : List ℕ) (o : Numbered Life) : Type 0 where
   pub named : IsNamed objects name o.number
+  pub lives : life_of objects o.number ≡ Some o.it
 
--- .. and it lives
-pub record IsLiving (objects : List Object) (name : List ℕ) (o : Numbered Object) : Type 0 where
-  pub is : IsObject objects name o
-  pub alive : o.it.alive ≡ true
-
--- the living object of a name
-abbrev pub living : List Object → List ℕ → Result (Numbered Object) Refusal → Type 0
+-- the object that has, or had, the name, and the life that it lives
+abbrev pub living : List Object → List ℕ → Result (Numbered Life) Refusal → Type 0
 living objects name =
-    Find NoObject (λ o. IsObject objects name o) >>= λ o.
-    Check Dead (o.it.alive ≡ true) >>= λ _.
-    Gives o
+    Find NoObject (IsNamed objects name) >>= λ o.
+    Find Dead (λ l. life_of objects o ≡ Some l) >>= λ l.
+    Gives (numbered o l)

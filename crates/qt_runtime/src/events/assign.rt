@@ -11,7 +11,7 @@ ghost use Rattle.script_lang.specs.declared.event.Event.{Event as AnEvent};
 use crate::events::named::find_living;
 use crate::events::values::read_input;
 use crate::judgement::{NotAccepted, refuse};
-use machine_rules::{Active, Setting, signal_of_change};
+use machine_rules::{Active, Setting};
 use machine_state::{Answer, Fault, Refusal, World};
 use meta_objects::{Meta, MetaProperty};
 use script_lang::Input;
@@ -66,8 +66,8 @@ fn judge(
     ensures refused { IfErr result (IsNotAccepted
         (assign setting.now.meta (at world.now []) name.now property.now input.now)) }
 {
-    let (object, found) = find_living(world, name)?;
-    let Some((property, declared)) = property_of(&setting.meta, found.class, property) else {
+    let (object, life) = find_living(world, name)?;
+    let Some((property, declared)) = property_of(&setting.meta, life.class, property) else {
         return Err(NotAccepted::Refused(Refusal::NoMember));
     };
     let value = read_input(world, input)?;
@@ -110,12 +110,9 @@ fn write(
     ensures { (e : AnEvent) → WritesTo setting.now.meta world.old object property value e →
         Answers setting.now e world.old world.new result }
 {
-    let Some((found, declared)) = setting.field(world, object, property) else {
-        unreachable!()
-    };
-    let changed = signal_of_change(declared.notify, found.values.get(property), &value);
-    let entry = setting.write_entry(world, 1, found, declared, &value)?;
-    world.accept_write([entry], object, property, value)?;
-    setting.run_update(world, &Active::nothing(), object, property, changed)?;
+    let below = Active::nothing();
+    let writing = setting.writing(world, &below, object, property, &value)?;
+    world.accept_write([writing.line], object, property, value)?;
+    setting.run_update(world, &below, object, property, writing.changed)?;
     Ok(Answer::Done)
 }

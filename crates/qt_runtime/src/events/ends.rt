@@ -80,8 +80,9 @@ pub fn is_signal(method: &MetaMethod) -> bool
 fn named_signal(signal: usize) -> usize
     ensures { result ≡ named_signal signal }
 {
-    match signal {
-        DESTROYED_ALONE => DESTROYED,
-        _ => signal,
+    if signal == DESTROYED_ALONE {
+        DESTROYED
+    } else {
+        signal
     }
 }

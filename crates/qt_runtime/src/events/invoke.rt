@@ -91,10 +91,10 @@ fn judge(
     ensures refused { IfErr result (IsNotAccepted
         (invoke setting.now.meta (at world.now []) invocation name.now called.now inputs.now)) }
 {
-    let (object, found) = find_living(world, name)?;
+    let (object, life) = find_living(world, name)?;
     let Some((method, declared)) = method_of(
         &setting.meta,
-        found.class,
+        life.class,
         invocation,
         called,
         inputs.len(),

@@ -6,19 +6,19 @@ ghost use Rattle.qt_runtime.specs.events.Named.{living, IsLiving};
 
 use crate::judgement::NotAccepted;
 use machine_state::{Refusal, World};
-use object_tree::Object;
+use object_tree::Life;
 use signatures::Name;
 
-/// The living object of this name.
-pub fn find_living<'w>(world: &'w World, name: &Name) -> Result<(usize, &'w Object), NotAccepted>
+/// The number of the living object of this name, and its life.
+pub fn find_living<'w>(world: &'w World, name: &Name) -> Result<(usize, &'w Life), NotAccepted>
     ensures found { IfOk result (λ f. IsLiving world.now.objects name.now (numbered f.0 f.1.now)) }
     ensures refused { IfErr result (IsNotAccepted (living world.now.objects name.now)) }
 {
     let Some(number) = world.find(name) else {
         return Err(NotAccepted::Refused(Refusal::NoObject));
     };
-    match world.objects.object(number) {
-        Some(object) if object.alive => Ok((number.number(), object)),
-        _ => Err(NotAccepted::Refused(Refusal::Dead)),
+    match world.objects.life(number) {
+        Some(life) => Ok((number.number(), life)),
+        None => Err(NotAccepted::Refused(Refusal::Dead)),
     }
 }

@@ -1,4 +1,4 @@
-use Rattle.std.proofs.Common.{◌≡◌, ◌+◌, ◌-◌, ◌<◌, ◌^◌, sym, ap, subst, List, arith}
+use Rattle.std.proofs.Common.{◌+◌, ◌-◌, ◌<◌, ◌^◌, sym, subst, List}
 use Rattle.event_loops.specs.Queues.{Queues, Loop}
 use Rattle.event_loops.specs.Rings.{shown}
 use Rattle.event_loops.specs.Numbers.{IsNumbered}

@@ -7,17 +7,17 @@ use Rattle.machine_rules.specs.Paths.{root_value, path_value}
 use Rattle.machine_rules.proofs.Reading.{steps-none, evaluates-left, path-none}
 use Rattle.machine_rules.proofs.paths.ScopeWorldMetaPath.value.Goals as goal
 
-pub returns-in_err-found : goal.returns-in_err-found
-returns-in_err-found c =
+pub returns-in_err-root : goal.returns-in_err-root
+returns-in_err-root c =
     let asked : Option Value = path_value c.args.self.now.objects.now c.args.self.now.this c.args.self.now.arguments.now c.args.path.now in
     let begins : Option Value = root_value c.args.self.now.this c.args.self.now.arguments.now c.args.path.now.root in
-    evaluates-left begins asked _ _ (λ none. rw none (steps-none c.args.self.now.objects.now c.args.path.now.steps)) c.in_err-found.ensures c.from_residual.ensures.1
+    evaluates-left begins asked _ _ (λ none. rw none (steps-none c.args.self.now.objects.now c.args.path.now.steps)) c.in_err-root.ensures c.from_residual.ensures.1
 
-pub returns-in_err-found-2 : goal.returns-in_err-found-2
-returns-in_err-found-2 c =
+pub returns-in_err-found : goal.returns-in_err-found
+returns-in_err-found c =
     let objects : List Object = c.args.self.now.objects.now in
     let asked : Option Value = path_value objects c.args.self.now.this c.args.self.now.arguments.now c.args.path.now in
     let items : List Step = c.as_slice-step-items.result.now in
     let i : ℕ = c.loop-step.step-index in
     let split = ap (λ (l : List Step). drop i l) (sym c.as_slice-step-items.ensures) ∙ drop_more items i _ c.loop-step-test.true in
-    evaluates-left _ asked _ _ (λ none. path-none objects _ _ _ c.loop-step.found asked c.loop-step.invariant split none) c.in_err-found-2.ensures c.from_residual-in_err-found-2.ensures.1
+    evaluates-left _ asked _ _ (λ none. path-none objects _ _ _ c.loop-step.found asked c.loop-step.invariant split none) c.in_err-found.ensures c.from_residual-in_err-found.ensures.1

@@ -1,13 +1,11 @@
 use Rattle.std.proofs.Common.{◌∙◌, ℕ, List, [], ◌∷◌, length, refl, sym, ap, subst, arith, Option, Some}
 use Rattle.signatures.specs.declared.value.Value.{Value}
 use Rattle.machine_state.specs.declared.world.World.{World}
-use Rattle.machine_rules.specs.Good.{ArgumentsFit}
-use Rattle.machine_state.proofs.Found.{set-there}
-use Rattle.machine_rules.proofs.Fields.{old-there}
 use Rattle.machine_rules.proofs.Reaching.{not-idle, reaches-same, reaches-then, stops-after, stops-as, ends-after, ends-left, ends-undue, ends-short, ends-unchanged, ends-faulted, ends-ticked}
-use Rattle.machine_rules.proofs.Keeps.{keeps-same, keeps-then, ends-keeps, ends-sound, fit-still, reaches-typed, reaches-keeps, reaches-sound, sound-used}
+use Rattle.machine_rules.specs.Good.{ArgumentsFit}
+use Rattle.machine_rules.proofs.Keeps.{keeps-same, keeps-then, ends-keeps, ends-sound, sound-written, sound-as, fit-still, reaches-typed, reaches-keeps, reaches-sound, sound-used}
 use Rattle.machine_rules.proofs.Beginning.{ends-begun, stops-barred, stops-no-member, stops-ill-typed, fit-of, next-joined, next-fits, delivered-fits, delivery-calls, begun-used, not-true}
-use Rattle.machine_rules.proofs.Writing.{ends-written, stops-write-deep, stops-write-ill, stops-no-field, announces-in, announced-member, announced-value, announced-fits, announcement-calls, sound-written}
+use Rattle.machine_rules.proofs.Writes.{ends-written, stops-unwritten, announces-written, announces-as, announced-member, announced-value, announced-fits, announcement-calls}
 use Rattle.machine_rules.proofs.Bodies.{does-call, does-call-alone, does-set, does-nothing, does-choose, lacks-read, advances-one, advances-ticked, advances-left}
 use Rattle.machine_rules.proofs.setting.Setting.+machine.Goals as goal
 
@@ -188,39 +186,22 @@ carry_out-returns-in-Nothing t c = record {
 
 -- ---- writes
 
-pub write-returns-in_default : goal.write-returns-in_default
-write-returns-in_default t c = record { ends = λ from to shown over sets. record { cases = stops-no-field sets c.in_default.ensures.value c.requires.left } }
-
-pub write-returns-then-not-has_type : goal.write-returns-then-not-has_type
-write-returns-then-not-has_type t c = record {
-  ends = λ from to shown over sets. record { cases = stops-write-ill sets c.in-Some.ensures.value c.requires.sound.typed (λ h. not-true _ c.if-not-has_type.true (c.has_type.ensures.1 h)) c.requires.left (λ old is. c.signal_of_change-changed.ensures old (c.get.ensures ∙ is)) };
+pub write-returns-in_err-writing : goal.write-returns-in_err-writing
+write-returns-in_err-writing t c = record {
+  ends = λ from to shown over sets. ends-left _ (stops-unwritten over sets c.requires.sound.typed c.requires.left c.in_err-writing.ensures.err) c.from_residual.ensures.1;
 }
-
-pub write-returns-in_err-may_nest : goal.write-returns-in_err-may_nest
-write-returns-in_err-may_nest t c = record {
-  ends = λ from to shown over sets.
-      ends-left _ (stops-as c.in_err-may_nest.ensures.1 (stops-write-deep over sets c.in-Some.ensures.value c.requires.sound.typed (c.has_type.ensures.0 c.if-not-has_type.false) c.requires.left c.in_err-may_nest.ensures.0 (λ old is. c.signal_of_change-changed.ensures old (c.get.ensures ∙ is)))) c.from_residual.ensures.1;
-}
-
-pub write-returns-in_err-entry : goal.write-returns-in_err-entry
-write-returns-in_err-entry t c = record { ends = λ from to shown over sets. ends-short _ sets.goes_on c.requires.left c.from_residual-in_err-entry.ensures.1 }
 
 pub write-returns-in_err-write : goal.write-returns-in_err-write
 write-returns-in_err-write t c = record { ends = λ from to shown over sets. ends-unchanged _ sets.goes_on c.requires.left c.in_err-write.ensures c.from_residual-in_err-write.ensures.1 }
 
 pub write-run_update-requires : goal.write-run_update-requires
-write-run_update-requires t c = let field = c.in-Some.ensures.value in
-    let went = set-there c.args.world.now (c.in_ok-entry.entry ∷ []) c.args.object c.args.property c.args.value field.is_object c.in_ok-write.ensures in
-    let has = c.has_type.ensures.0 c.if-not-has_type.false in
-    let old = old-there field c.requires.sound.typed in
-    let changes = c.signal_of_change-changed.ensures old.0 (c.get.ensures ∙ old.1) in
-    (omega (arith, ap (λ (w : World). w.left) went, c.requires.left), (c.in_ok-may_nest.ensures, (sound-written c.args.world.now (c.in_ok-entry.entry ∷ []) went field has c.requires.sound, announces-in c.args.world.now (c.in_ok-entry.entry ∷ []) _ went field c.in-Some.ensures.sound changes)))
+write-run_update-requires t c = let is = c.in_ok-writing.ensures.ok in
+    let went = c.in_ok-write.ensures in
+    (omega (arith, ap (λ (w : World). w.left) went, c.requires.left), (is.room, (sound-as went (sound-written c.args.value is.alters.is is.fits c.requires.sound), announces-as _ _ _ _ went (announces-written c.args.value _ is.alters c.requires.sound.typed))))
 
 pub write-returns : goal.write-returns
 write-returns t c = record {
-  ends = λ from to shown over sets.
-      let field = c.in-Some.ensures.value in
-      ends-written over sets field c.requires.sound.typed (c.has_type.ensures.0 c.if-not-has_type.false) c.in_ok-may_nest.ensures c.requires.left (λ old is. c.signal_of_change-changed.ensures old (c.get.ensures ∙ is)) (rw c.count.ensures at c.in_ok-entry.ensures) (set-there c.args.world.now (c.in_ok-entry.entry ∷ []) c.args.object c.args.property c.args.value field.is_object c.in_ok-write.ensures) c.run_update.ensures.ends;
+  ends = λ from to shown over sets. ends-written over sets c.requires.sound.typed c.requires.left c.in_ok-writing.ensures.ok c.in_ok-write.ensures c.run_update.ensures.ends;
 }
 
 pub run_update-returns-in-None : goal.run_update-returns-in-None
@@ -236,20 +217,20 @@ notify-returns-in_err-require_rule t c = record { ends = ends-undue _ c.in_err-r
 pub notify-unreachable-requires : goal.notify-unreachable-requires
 notify-unreachable-requires t c = c.in_default.ensures _ _ (announced-member c.requires.announces)
 
-pub notify-unreachable-requires-in_default-get : goal.notify-unreachable-requires-in_default-get
-notify-unreachable-requires-in_default-get t c = let there = announced-value c.requires.announces c.requires.sound.typed c.in-Some.ensures in
-    let none = c.in_default-get.ensures ∙ there.1 in
+pub notify-unreachable-requires-in_default-stored : goal.notify-unreachable-requires-in_default-stored
+notify-unreachable-requires-in_default-stored t c = let there = announced-value c.requires.announces c.requires.sound.typed in
+    let none = c.in_default-stored.ensures ∙ there.1 in
     absurd (cc none)
 
 pub notify-returns-in_err-copy : goal.notify-returns-in_err-copy
 notify-returns-in_err-copy t c = record { ends = ends-short _ (not-idle c.args.world.now _) c.in_ok-require_rule.ensures c.from_residual-in_err-copy.ensures.1 }
 
 pub notify-begin-requires : goal.notify-begin-requires
-notify-begin-requires t c = let present = sym c.in-Some-get.ensures ∙ ap (λ (v : Value). Some v) (sym c.in_ok-copy.ensures) in
+notify-begin-requires t c = let present = sym c.in-Some-stored.ensures ∙ ap (λ (v : Value). Some v) (sym c.in_ok-copy.ensures) in
     let cut = rw c.as_slice.ensures at c.front-taken.ensures in
     (omega arith, (c.requires.sound, (c.in_ok-require_rule.ensures, announced-fits c.requires.announces c.requires.sound.typed c.in-Some.ensures present cut c.len.ensures)))
 
 pub notify-returns : goal.notify-returns
-notify-returns t c = let present = sym c.in-Some-get.ensures ∙ ap (λ (v : Value). Some v) (sym c.in_ok-copy.ensures) in
+notify-returns t c = let present = sym c.in-Some-stored.ensures ∙ ap (λ (v : Value). Some v) (sym c.in_ok-copy.ensures) in
     let cut = rw c.as_slice.ensures at c.front-taken.ensures in
     record { ends = c.begin.ensures.ends _ _ _ c.over-over.ensures (announcement-calls c.requires.announces c.in-Some.ensures present cut c.len.ensures) }

@@ -6,11 +6,11 @@ use Rattle.machine_state.specs.declared.world.World.{World}
 use Rattle.machine_state.proofs.world.World.adopt.Goals as goal
 
 pub returns-in_default-clause-objects : goal.returns-in_default-clause-objects
-returns-in_default-clause-objects c = λ x y lives living. (no_memory, refl)
+returns-in_default-clause-objects c = λ u v x y lives living. (no_memory, refl)
 
 pub returns-in-Ok-adopt-clause-objects : goal.returns-in-Ok-adopt-clause-objects
-returns-in-Ok-adopt-clause-objects c = λ x y lives living.
-    let is = c.in-Ok-adopt.ensures.value x y lives living in
+returns-in-Ok-adopt-clause-objects c = λ u v x y lives living.
+    let is = c.in-Ok-adopt.ensures.value u v x y lives living in
     let After : List Object → Type 0 = λ l. IsAdopted c.args.parent c.args.child y c.args.self.now.objects l in
     (is.0, subst After (sym (ap (λ (w : World). w.objects) c.count_event.ensures)) is.1)
 

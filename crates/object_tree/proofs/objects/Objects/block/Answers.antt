@@ -1,16 +1,18 @@
 use Rattle.std.proofs.Common.{◌<◌, ◌≤◌, List, length, sym, ap, ◌∙◌, arith}
+use Rattle.std.specs.Prelude.{slice_set}
 use Rattle.object_tree.specs.declared.object.Object.{Object}
-use Rattle.object_tree.specs.Objects.{change, blocked}
+use Rattle.object_tree.specs.Objects.{change, with_life, blocked}
 use Rattle.object_tree.proofs.Changing.{set-changes, change-past}
 use Rattle.object_tree.proofs.objects.Objects.block.Goals as goal
 
 pub returns-then-number-len : goal.returns-then-number-len
 returns-then-number-len c =
     let within : c.number-number.result < length c.self.inside.items.items = omega (arith, ap (λ (xs : List Object). length xs) c.self.view_is) in
-    set-changes c.self.inside.items.items c.number-number.result c.args.object (blocked c.args.on) c.index_mut.result.now c.number-number.ensures c.index_mut.ensures.value within
-    ∙ ap (λ (xs : List Object). change c.args.object (blocked c.args.on) xs) c.self.view_is
+    ap (λ (x : Object). slice_set c.self.inside.items.items c.number-number.result x) c.block.ensures
+    ∙ set-changes c.self.inside.items.items c.number-number.result c.args.object (with_life (blocked c.args.on)) c.index_mut.result.now c.number-number.ensures c.index_mut.ensures.value within
+    ∙ ap (λ (xs : List Object). change c.args.object (with_life (blocked c.args.on)) xs) c.self.view_is
 
 pub returns-else-number-len : goal.returns-else-number-len
 returns-else-number-len c =
     let past : length c.args.self.now ≤ c.args.object = omega arith in
-    sym (change-past c.args.object (blocked c.args.on) c.args.self.now past)
+    sym (change-past c.args.object (with_life (blocked c.args.on)) c.args.self.now past)

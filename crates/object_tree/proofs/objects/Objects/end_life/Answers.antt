@@ -1,6 +1,5 @@
-use Rattle.std.proofs.Common.{◌<◌, ◌≤◌, false, List, length, None, sym, ap, ◌∙◌, arith}
+use Rattle.std.proofs.Common.{◌<◌, ◌≤◌, List, length, sym, ap, ◌∙◌, arith}
 use Rattle.std.specs.Prelude.{slice_set}
-use Rattle.signatures.specs.declared.value.Value.{Value}
 use Rattle.object_tree.specs.declared.object.Object.{Object}
 use Rattle.object_tree.specs.Objects.{change}
 use Rattle.object_tree.specs.Family.{dead}
@@ -10,8 +9,8 @@ use Rattle.object_tree.proofs.objects.Objects.end_life.Goals as goal
 pub returns-then-number-len : goal.returns-then-number-len
 returns-then-number-len c =
     let within : c.number-number.result < length c.self.inside.items.items = omega (arith, ap (λ (xs : List Object). length xs) c.self.view_is) in
-    ap (λ (vs : List Value). slice_set c.self.inside.items.items c.number-number.result (record c.index_mut-found.result.now { alive = false; parent = None; values = vs })) c.clear.ensures
-    ∙ set-changes c.self.inside.items.items c.number-number.result c.args.object dead c.index_mut-found.result.now c.number-number.ensures c.index_mut-found.ensures.value within
+    ap (λ (x : Object). slice_set c.self.inside.items.items c.number-number.result x) c.end_life.ensures
+    ∙ set-changes c.self.inside.items.items c.number-number.result c.args.object dead c.index_mut.result.now c.number-number.ensures c.index_mut.ensures.value within
     ∙ ap (λ (xs : List Object). change c.args.object dead xs) c.self.view_is
 
 pub returns-else-number-len : goal.returns-else-number-len

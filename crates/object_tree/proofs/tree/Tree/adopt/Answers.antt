@@ -14,20 +14,20 @@ use Rattle.object_tree.proofs.tree.Tree.adopt.Goals as goal
 pub invariant_of-self-2 : goal.invariant_of-self-2
 invariant_of-self-2 c =
     let objects : List Object = c.self.inside.objects in
-    let owner : Lives objects c.args.parent c.in-Some-Some.owner.now = subst (λ (xs : List Object). Lives xs c.args.parent c.in-Some-Some.owner.now) (sym c.self.view_is) c.in-Some-Some.ensures.value in
-    let child : Lives objects c.args.child c.in-Some-Some.owned.now = subst (λ (xs : List Object). Lives xs c.args.child c.in-Some-Some.owned.now) (sym c.self.view_is) c.in-Some-Some.ensures'.value in
+    let owner = subst (λ (xs : List Object). Lives xs c.args.parent c.in-Some-Some.field-0-0-0.now c.in-Some-Some.owner.now) (sym c.self.view_is) c.in-Some-Some.ensures.value in
+    let child = subst (λ (xs : List Object). Lives xs c.args.child c.in-Some-Some.field-0-0-1.now c.in-Some-Some.owned.now) (sym c.self.view_is) c.in-Some-Some.ensures'.value in
     subst (λ (xs : List Object). Kept c.self.inside.names xs) (sym c.in_ok-move_under.ensures.ok) (kept-moved c.self.inside.names c.args.parent c.args.child objects
-    (moves-by objects c.args.meta.now c.args.parent c.args.child c.in-Some-Some.owner.now c.in-Some-Some.owned.now c.self.invariant.forest owner child c.in_ok-may_adopt.ensures (false-not c.is_under.ensures c.if-is_under.false)) c.self.invariant)
+    (moves-by objects c.args.meta.now c.args.parent c.args.child c.in-Some-Some.field-0-0-0.now c.in-Some-Some.field-0-0-1.now c.in-Some-Some.owner.now c.in-Some-Some.owned.now c.self.invariant.forest owner child c.in_ok-may_adopt.ensures (false-not c.is_under.ensures c.if-is_under.false)) c.self.invariant)
 
 pub returns-in_err-move_under-clause-value : goal.returns-in_err-move_under-clause-value
 returns-in_err-move_under-clause-value c =
-    λ x y lx ly. adopts-short c.args.meta.now c.args.parent c.args.child x y c.args.self.now _ c.from_residual-in_err-move_under.result c.from_residual-in_err-move_under.ensures.1 (c.in_err-move_under.ensures.err ∙ c.self.view_is)
+    λ u v x y lx ly. adopts-short c.args.meta.now c.args.parent c.args.child x y c.args.self.now _ c.from_residual-in_err-move_under.result c.from_residual-in_err-move_under.ensures.1 (c.in_err-move_under.ensures.err ∙ c.self.view_is)
 
 pub returns-clause-value : goal.returns-clause-value
-returns-clause-value c = λ x y lx ly.
+returns-clause-value c = λ u v x y lx ly.
     let may : MayAdopt c.args.meta.now c.args.self.now c.args.parent c.args.child c.in-Some-Some.owner.now c.in-Some-Some.owned.now =
     subst (λ (xs : List Object). MayAdopt c.args.meta.now xs c.args.parent c.args.child c.in-Some-Some.owner.now c.in-Some-Some.owned.now) c.self.view_is c.in_ok-may_adopt.ensures in
-    adopts-moved c.args.meta.now c.args.self.now c.move_under.new.self c.args.parent c.args.child x y c.in-Some-Some.owner.now c.in-Some-Some.owned.now lx ly c.in-Some-Some.ensures.value c.in-Some-Some.ensures'.value may
+    adopts-moved c.args.meta.now c.args.self.now c.move_under.new.self c.args.parent c.args.child u v c.in-Some-Some.field-0-0-0.now c.in-Some-Some.field-0-0-1.now x y c.in-Some-Some.owner.now c.in-Some-Some.owned.now lx ly c.in-Some-Some.ensures.value c.in-Some-Some.ensures'.value may
     (false-not c.is_under.ensures c.if-is_under.false)
     (c.in_ok-move_under.ensures.ok ∙ ap (λ (xs : List Object). moved c.args.parent c.args.child xs) c.self.view_is)
 

@@ -14,12 +14,16 @@ returns-in_err-object-clause-value c = creates-short c.args.meta.now c.args.self
 pub returns-in_err-add-clause-value : goal.returns-in_err-add-clause-value
 returns-in_err-add-clause-value c = creates-short c.args.meta.now c.args.self.now _ c.args.name.now c.args.class.now c.args.home c.from_residual-in_err-add.result c.from_residual-in_err-add.ensures.1 (c.in_err-add.ensures.objects ∙ c.self.view_is)
 
+pub returns-in_err-add-clause-typed : goal.returns-in_err-add-clause-typed
+returns-in_err-add-clause-typed c = λ all.
+    subst (λ (xs : List Object). AreTyped c.args.meta.now xs) (sym (c.in_err-add.ensures.objects ∙ c.self.view_is)) all
+
 pub invariant_of-self-2 : goal.invariant_of-self-2
 invariant_of-self-2 c =
     let objects : List Object = c.self.inside.objects in
     let made : Object = fresh c.args.name.now c.in_ok-number.number c.args.home (initial_values c.in_ok-number.kind.now) in
     let appended : c.add.new.objects ≡ objects ++ made ∷ [] = c.in_ok-add.ensures.added ∙ ap (λ (z : Object). objects ++ z ∷ []) c.in_ok-object.ensures in
-    subst (λ (xs : List Object). Kept c.add.new.names xs) (sym appended) (kept-created c.self.inside.names c.add.new.names objects made refl refl refl c.in_ok-number.ensures.may.free c.in_ok-add.ensures.named c.self.invariant)
+    subst (λ (xs : List Object). Kept c.add.new.names xs) (sym appended) (kept-created c.self.inside.names c.add.new.names objects made refl refl c.in_ok-number.ensures.may.free c.in_ok-add.ensures.named c.self.invariant)
 
 pub returns-clause-value : goal.returns-clause-value
 returns-clause-value c =

@@ -1,6 +1,6 @@
 use Rattle.std.proofs.Common.{[], refl}
-use Rattle.object_tree.specs.declared.object.Object.{Object}
-use Rattle.object_tree.specs.Objects.{change, blocked}
+use Rattle.object_tree.specs.declared.life.Life.{Life}
+use Rattle.object_tree.specs.Objects.{change_life, blocked}
 use Rattle.machine_state.specs.Accepting.{accepted}
 use Rattle.machine_state.specs.Worlds.{at}
 use Rattle.qt_runtime.specs.Judgement.{Numbered}
@@ -17,6 +17,6 @@ returns-in_err-accept_block c = took-unchanged _ _ c.requires.left c.in_err-acce
 
 pub returns : goal.returns
 returns c =
-    let o : Numbered Object = record { number = c.in-Ok.number; it = c.in-Ok.field-0-1.now } in
-    took-quiet (record (accepted (at c.args.world.now [])) { objects = change c.in-Ok.number (blocked c.args.on) c.args.world.now.objects }) _ (blocks c.args.setting.now.meta c.args.world.now c.args.name.now c.args.on o c.in-Ok.ensures.found) refl
+    let o : Numbered Life = record { number = c.in-Ok.number; it = c.in-Ok.field-0-1.now } in
+    took-quiet (record (accepted (at c.args.world.now [])) { objects = change_life c.in-Ok.number (blocked c.args.on) c.args.world.now.objects }) _ (blocks c.args.setting.now.meta c.args.world.now c.args.name.now c.args.on o c.in-Ok.ensures.found) refl
     (typed-blocked c.in-Ok.number c.args.on c.requires.keeps.sound.typed) c.requires.left (rw c.new-object.ensures at c.in_ok-accept_block.ensures)

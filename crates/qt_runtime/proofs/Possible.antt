@@ -1,0 +1,86 @@
+-- What a statement of a body that stands does is possible: what it names is there.
+use Rattle.std.proofs.Common.{◌≡◌, ℕ, true, false, List, ◌∷◌, Option, Some, None, subst}
+use Rattle.std.specs.Prelude.{IfSome}
+use Rattle.std.specs.Option.{option_map}
+use Rattle.signatures.specs.declared.value.Value.{Value}
+use Rattle.signatures.specs.declared.value.Value.TheVariants as value
+use Rattle.meta_model.specs.declared.object.MetaMethod.{MetaMethod}
+use Rattle.meta_model.specs.declared.object.MetaProperty.{MetaProperty}
+use Rattle.meta_model.specs.declared.object.Statement.{Statement}
+use Rattle.meta_model.specs.declared.object.Statement.TheOpen as layer
+use Rattle.meta_model.specs.declared.object.Statement.TheViews.{out-Statement}
+use Rattle.meta_model.specs.declared.object.ValueType.{ValueType}
+use Rattle.meta_model.specs.Loaded.{Loaded}
+use Rattle.meta_model.specs.Members.{Below}
+use Rattle.meta_model.specs.Sound.{IsSound, AreSound, IsSoundStatement, next_sound, set_sound, emit_sound, call_sound, if_sound, connect_sound, disconnect_sound}
+use Rattle.object_tree.specs.declared.life.Life.{Life}
+use Rattle.object_tree.specs.declared.object.Object.{Object}
+use Rattle.object_tree.specs.Objects.{Lives}
+use Rattle.machine_rules.specs.Doings.{Doing, Write, Begin, Choose, Nothing, on_object, chosen_by, doing}
+use Rattle.object_tree.specs.Typed.{AreTyped}
+use Rattle.machine_rules.specs.Paths.{path_value, value_of, values_of}
+use Rattle.machine_rules.specs.There.{IsMember, IsField}
+use Rattle.qt_runtime.proofs.Inherited.{method-below, property-below}
+use Rattle.qt_runtime.proofs.Standing.{BodyStands}
+use Rattle.qt_runtime.proofs.TypedPaths.{Reaches, to_null, to_object, path-reaches}
+
+-- the members that are named are there, and a block that is chosen is sound for the body
+abbrev pub IsPossible : Loaded → List Object → ℕ → List ValueType → Doing → Type 0
+IsPossible p objects me kinds (Write x q new) = (object : Object) × (property : MetaProperty) × IsField p objects x q object property
+IsPossible p objects me kinds (Begin x n given) = (object : Object) × (method : MetaMethod) × IsMember p objects x n object method
+IsPossible p objects me kinds (Choose block) = AreSound p me kinds block
+IsPossible p objects me kinds Nothing = Unit {0}
+
+-- ---- what is so of all that may be found
+
+map-so : {X : Type 0} (P : Doing → Type 0) (act : X → Doing) (found : Option X) → ((v : X) → P (act v)) → IfSome (option_map act found) P
+map-so P act None all = tt
+map-so P act (Some v) all = all v
+
+-- a path leads to null, or to an object of the class
+object-so : {p : Loaded} {objects : List Object} {c : ℕ} (P : Doing → Type 0) (act : ℕ → Option Doing) (found : Option Value) → Reaches p objects c found → P Nothing → ((y : ℕ) (x : Object) (l : Life) → Lives objects y x l → Below p l.class c → IfSome (act y) P) → IfSome (on_object act found) P
+object-so P act found to_null none all = none
+object-so P act found (to_object {o = y} {x = x} {l = l} lives beneath) none all = all y x l lives beneath
+
+chosen-so : (P : Doing → Type 0) (block other : List Statement) (found : Option Value) → P (Choose block) → P (Choose other) → IfSome (chosen_by block other found) P
+chosen-so P block other None first second = tt
+chosen-so P block other (Some (value.Bool true)) first second = first
+chosen-so P block other (Some (value.Bool false)) first second = second
+chosen-so P block other (Some (value.Int n)) first second = tt
+chosen-so P block other (Some (value.Text n)) first second = tt
+chosen-so P block other (Some (value.Ref n)) first second = tt
+
+-- ---- statements
+
+module _ {p : Loaded} {objects : List Object} (sound : IsSound p) (typed : AreTyped p objects) where
+  module _ {o : ℕ} {arguments : List Value} {left : List Statement} (body : BodyStands p objects o arguments left) where
+    abbrev Possible : Doing → Type 0
+    Possible d = IsPossible p objects body.declaring body.kinds d
+
+    statement-so : (f : layer.Statement-F Statement) → IsSoundStatement p body.declaring body.kinds f → IfSome (doing objects o arguments f) Possible
+    statement-so f (set_sound {path = path} {q = q} {e = e} is) =
+        let reaches = path-reaches objects o body.declaring body.object body.life arguments body.kinds path sound typed body.lives body.below body.typed is.leads in
+        object-so Possible (λ y. option_map (λ (new : Value). Write y q new) (value_of objects o arguments e)) (path_value objects o arguments path) reaches tt
+        (λ y z l lives beneath. map-so Possible (λ (new : Value). Write y q new) (value_of objects o arguments e)
+        (λ new. let own = property-below sound beneath is.is in (z, _, record { life = l; lives = lives; class = own.class; is_class = own.is_class; is_property = own.is })))
+    statement-so f (emit_sound {m = g} {es = es} is) =
+        map-so Possible (λ (given : List Value). Begin o g given) (values_of objects o arguments es)
+        (λ given. (body.object, _, record { life = body.life; lives = body.lives; is_method = method-below sound body.below is.is }))
+    statement-so f (call_sound {path = path} {m = n} {es = es} is) =
+        let reaches = path-reaches objects o body.declaring body.object body.life arguments body.kinds path sound typed body.lives body.below body.typed is.leads in
+        object-so Possible (λ y. option_map (λ (given : List Value). Begin y n given) (values_of objects o arguments es)) (path_value objects o arguments path) reaches tt
+        (λ y z l lives beneath. map-so Possible (λ (given : List Value). Begin y n given) (values_of objects o arguments es)
+        (λ given. (z, _, record { life = l; lives = lives; is_method = method-below sound beneath is.is })))
+    statement-so f (if_sound {e = e} {chosen = block} {other = other} is first second) =
+        chosen-so Possible block other (value_of objects o arguments e) first second
+    statement-so f (connect_sound is) = tt
+    statement-so f (disconnect_sound is) = tt
+
+-- the first statement of what is left of a body
+pub possible : {p : Loaded} {objects : List Object} {o : ℕ} {arguments : List Value} {x : Statement} {rest : List Statement} → IsSound p → AreTyped p objects → (body : BodyStands p objects o arguments (x ∷ rest)) → (d : Doing) → doing objects o arguments (out-Statement x) ≡ Some d → IsPossible p objects body.declaring body.kinds d
+possible {p} {objects} {x = x} sound typed body d is =
+    let Found : Option Doing → Type 0 = λ f. IfSome f (λ e. IsPossible p objects body.declaring body.kinds e) in
+    subst Found is (statement-so sound typed body (out-Statement x) (first body.sound))
+  where
+    first : {me : ℕ} {kinds : List ValueType} {y : Statement} {more : List Statement} → AreSound p me kinds (y ∷ more) → IsSoundStatement p me kinds (out-Statement y)
+    first (next_sound one more) = one
