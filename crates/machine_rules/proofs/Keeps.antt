@@ -1,5 +1,5 @@
 -- What each rule leaves as it was.
-use Rattle.std.proofs.Common.{◌≡◌, inl, ℕ, suc, List, [], ◌∷◌, ◌++◌, Option, Some, None, slice_get, refl, sym, ap, ◌∙◌, subst, arith, Result, Ok, Err, append_assoc, append-nil}
+use Rattle.std.proofs.Common.{◌≡◌, inl, ℕ, suc, ◌+◌, List, [], ◌∷◌, ◌++◌, Option, Some, None, slice_get, refl, sym, ap, ◌∙◌, subst, arith, Result, Ok, Err, append_assoc, append-nil}
 use Rattle.signatures.specs.declared.value.Value.{Value}
 use Rattle.meta_model.specs.Loaded.{Loaded}
 use Rattle.meta_model.specs.declared.object.Statement.{Statement}
@@ -11,12 +11,12 @@ use Rattle.object_tree.specs.declared.object.Object.{Object}
 use Rattle.connections.specs.declared.connection.Connection.{Connection}
 use Rattle.machine_state.specs.declared.fault.Fault.{Fault}
 use Rattle.machine_state.specs.declared.world.World.{World}
-use Rattle.machine_state.specs.Worlds.{at, using}
-use Rattle.machine_state.proofs.Due.{last-used, all-used}
+use Rattle.machine_state.specs.Worlds.{at, noted, using}
+use Rattle.machine_state.proofs.Due.{last-used, all-used, all-removed}
 use Rattle.machine_state.specs.State.{State, Place, Activation, Body, Emit, Update}
-use Rattle.machine_rules.specs.Rules.{RuleAt, BodyRule, Does, EmitRule, UpdateRule, Begins, Writes, begun, with_used}
-use Rattle.machine_rules.specs.Doings.{Doing, Write, Begin, Choose, Nothing}
-use Rattle.machine_state.specs.Connections.{next_used}
+use Rattle.machine_rules.specs.Rules.{RuleAt, BodyRule, Does, EmitRule, UpdateRule, Begins, Writes, begun, with_used, linked, unlinked}
+use Rattle.machine_rules.specs.Doings.{Doing, Write, Begin, Choose, Connect, Disconnect, Nothing}
+use Rattle.machine_state.specs.Connections.{next_used, joins_these}
 use Rattle.meta_model.specs.declared.object.ValueType.{ValueType}
 use Rattle.object_tree.specs.Objects.{Lives, life_of, class_of, change_life, written}
 use Rattle.object_tree.proofs.Changing.{life-of-lives, lives-of-life}
@@ -25,9 +25,19 @@ use Rattle.machine_state.specs.declared.entry.Entry.{Entry}
 use Rattle.machine_rules.specs.There.{IsMember, IsField}
 use Rattle.machine_rules.proofs.Fields.{typed-written}
 use Rattle.meta_model.specs.declared.object.MetaProperty.{MetaProperty}
+use Rattle.signatures.specs.Types.{Fits}
+use Rattle.texts.specs.declared.connection.ConnectionType.{ConnectionType}
+use Rattle.texts.specs.declared.connection.Endpoints.{Endpoints as Named}
+use Rattle.meta_model.specs.Sound.{IsSound}
+use Rattle.machine_state.specs.declared.endpoints.Endpoints.{Endpoints}
+use Rattle.machine_state.specs.declared.refusal.Refusal.{Refusal}
+use Rattle.machine_rules.specs.Connecting.{AreThere, kept_ends, named_signal, names_of, found_ends, may_connect}
+use Rattle.machine_rules.specs.Judgement.{goes_on, holds}
+use Rattle.machine_rules.proofs.Fitting.{kinds-fit}
+use Rattle.machine_rules.proofs.Lists.{all-snoc}
 use Rattle.machine_rules.specs.Good.{ArgumentsFit}
 use Rattle.machine_rules.specs.Runs.{Rules, done, then}
-use Rattle.machine_rules.specs.Sound.{Sound, Joined}
+use Rattle.machine_rules.specs.Sound.{Sound, Joined, IsSoundWorld}
 use Rattle.machine_rules.specs.Active.{whose, shows}
 use Rattle.machine_rules.specs.Reaches.{Reaches, StopsIn, Ends}
 use Rattle.machine_rules.specs.Keeps.{StayThere, AllJoined, Grows, Keeps, KeepsWorld}
@@ -95,10 +105,36 @@ all-joined-still p old new [] stay all = tt
 all-joined-still p old new (c ∷ cs) stay all = (joined-still c stay all.0, all-joined-still p old new cs stay all.1)
 
 -- .. and so do those that are left when one is used
-pub sound-used : {p : Loaded} {v : World} (w : World) (entries : List Entry) (c : Connection) → v ≡ using w entries c → Sound p w.objects w.connected.connections → Sound p v.objects v.connected.connections
+pub sound-used : {p : Loaded} {v : World} (w : World) (entries : List Entry) (c : Connection) → v ≡ using w entries c → IsSoundWorld p w → IsSoundWorld p v
 sound-used {p} w entries c v_is sound =
-    let Family : World → Type 0 = λ u. Sound p u.objects u.connected.connections in
-    subst Family (sym v_is) (record { typed = sound.typed; joined = all-used (Joined p w.objects) c w.connected sound.joined })
+    let Family : World → Type 0 = λ u. IsSoundWorld p u in
+    subst Family (sym v_is) (record {
+      program = sound.program;
+      is = record { typed = sound.is.typed; joined = all-used (Joined p w.objects) c w.connected sound.is.joined };
+      numbers = omega (arith, last-used c w.connected, sound.numbers);
+    })
+
+-- .. where nothing is made or removed
+pub sound-noted : {p : Loaded} {v : World} (w : World) (entries : List Entry) → v ≡ noted w entries → IsSoundWorld p w → IsSoundWorld p v
+sound-noted {p} w entries v_is sound =
+    let Family : World → Type 0 = λ u. IsSoundWorld p u in
+    subst Family (sym v_is) (record { program = sound.program; is = record { typed = sound.is.typed; joined = sound.is.joined }; numbers = omega (arith, sound.numbers) })
+
+-- what is connected joins what is named
+pub joined-by : {p : Loaded} {objects : List Object} {ends : Endpoints} (how : ConnectionType) (n : ℕ) (spelled : AreThere p objects ends) → IsSound p → Fits spelled.signal.sig spelled.method.sig →
+    Joined p objects (record { number = n; sender = ends.sender; signal = named_signal ends.signal; receiver = ends.receiver; method = ends.method; kind = how.kind; single = how.single })
+joined-by how n spelled program fits =
+    let front = kinds-fit program spelled.sends.is_method spelled.receives.is_method fits in
+    record {
+      sender = spelled.sender;
+      signal = front.0;
+      sends = record { life = spelled.sends.life; lives = spelled.sends.lives; is_method = front.1 };
+      receiver = spelled.receiver;
+      method = spelled.method;
+      receives = spelled.receives;
+      rest = front.2.0;
+      fits = front.2.1;
+    }
 
 -- ---- what was written down
 
@@ -115,12 +151,12 @@ grows-then {a} x y =
 -- ---- from state to state
 
 pub keeps-same : {p : Loaded} {s : State} {n : ℕ} → Keeps p s n s n
-keeps-same {s = s} = record { objects = all-stay _; joined = λ all. all; connected = omega arith; paid = omega arith; events = refl; fewer = omega arith; grows = grows-same s.trace }
+keeps-same {s = s} = record { objects = all-stay _; joined = λ program all. all; connected = omega arith; paid = omega arith; events = refl; fewer = omega arith; grows = grows-same s.trace }
 
 pub keeps-then : {p : Loaded} {s m t : State} {n j k : ℕ} → Keeps p s n m j → Keeps p m j t k → Keeps p s n t k
 keeps-then x y = record {
   objects = record { living = λ o class is. y.objects.living o class (x.objects.living o class is); dead = λ o is. y.objects.dead o (x.objects.dead o is) };
-  joined = λ all. y.joined (x.joined all);
+  joined = λ program all. y.joined program (x.joined program all);
   connected = omega (arith, x.connected, y.connected);
   paid = omega (arith, x.paid, y.paid);
   events = y.events ∙ x.events;
@@ -135,13 +171,13 @@ keeps-is {p} {s} {n = n} {k = k} e x = let Family : State → Type 0 = λ u. Kee
 
 -- objects, connections and numbers are those that they were
 keeps-all : {p : Loaded} {s : State} (stack : List Activation) {trace : List Entry} → Grows s.trace trace → Keeps p s 1 (record s { stack = stack; trace = trace }) 0
-keeps-all stack grows = record { objects = all-stay _; joined = λ all. all; connected = omega arith; paid = omega arith; events = refl; fewer = omega arith; grows = grows }
+keeps-all stack grows = record { objects = all-stay _; joined = λ program all. all; connected = omega arith; paid = omega arith; events = refl; fewer = omega arith; grows = grows }
 
 -- a connection is used
 used-kept : {p : Loaded} {s : State} {n : ℕ} (c : Connection) → Keeps p s n (with_used s c) n
 used-kept {p = p} {s = s} c = record {
-  objects = λ o class is. is;
-  joined = all-used (Joined p s.objects) c s.connected;
+  objects = all-stay _;
+  joined = λ program all. all-used (Joined p s.objects) c s.connected all;
   connected = omega (arith, last-used c s.connected);
   paid = omega (arith, last-used c s.connected);
   events = refl;
@@ -161,7 +197,7 @@ writes-kept {p = p} {s = s} {o = o} {q = q} {new = new} x =
     let stay : StayThere s.objects (change_life o (written q new) s.objects) = written-stay s.objects o q new in
     keeps-is x.gives (record {
       objects = stay;
-      joined = λ all. all-joined-still p s.objects _ s.connected.connections stay all;
+      joined = λ program all. all-joined-still p s.objects _ s.connected.connections stay all;
       connected = omega arith;
       paid = omega arith;
       events = refl;
@@ -169,10 +205,40 @@ writes-kept {p = p} {s = s} {o = o} {q = q} {new = new} x =
       grows = grows-by _;
     })
 
+-- a connection is made, or refused
+linked-kept : (p : Loaded) (s : State) (stack : List Activation) (ends : Endpoints) (how : ConnectionType) (names : Named (List ℕ)) (spelled : AreThere p s.objects ends) (answer : Result (Unit {0}) Refusal) → may_connect p s.connected (found_ends spelled) spelled.signal.sig spelled.method.sig how answer → Keeps p s 1 (linked s stack (kept_ends ends) how names answer) 0
+linked-kept p s stack ends how names spelled (Ok _) (goes_on _ kind (goes_on _ covers (goes_on _ (holds fits) new))) = record {
+  objects = all-stay _;
+  joined = λ program all. all-snoc (Joined p s.objects) s.connected.connections _ all (joined-by how (s.connected.last + 1) spelled program fits);
+  connected = omega arith;
+  paid = omega arith;
+  events = refl;
+  fewer = omega arith;
+  grows = grows-by _;
+}
+linked-kept p s stack ends how names spelled (Err k) judged = keeps-all stack (grows-by _)
+
+-- .. removed, or that is refused
+unlinked-kept : (p : Loaded) (s : State) (stack : List Activation) (ends : Endpoints) (names : Named (List ℕ)) (answer : Result (Unit {0}) Refusal) → Keeps p s 1 (unlinked s stack ends names answer) 0
+unlinked-kept p s stack ends names (Ok _) = record {
+  objects = all-stay _;
+  joined = λ program all. all-removed (Joined p s.objects) (joins_these ends) s.connected all;
+  connected = omega arith;
+  paid = omega arith;
+  events = refl;
+  fewer = omega arith;
+  grows = grows-by _;
+}
+unlinked-kept p s stack ends names (Err k) = keeps-all stack (grows-by _)
+
 does-kept : (p : Loaded) (s : State) (o m : ℕ) (arguments : List Value) (rest : List Statement) (below : List Activation) (d : Doing) (t : State) → Does p s o m arguments rest below d t → Keeps p s 1 t 0
 does-kept p s o m arguments rest below (Write x q new) t does = writes-kept does
 does-kept p s o m arguments rest below (Begin x n given) t does = begins-kept does
 does-kept p s o m arguments rest below (Choose block) t does = keeps-is does (keeps-all _ (grows-same s.trace))
+does-kept p s o m arguments rest below (Connect ends how) t does =
+    keeps-is does.gives (linked-kept p s (Body o m arguments rest ∷ below) ends how (names_of does.kept) does.spelled does.answer does.judged)
+does-kept p s o m arguments rest below (Disconnect ends) t does =
+    keeps-is does.gives (unlinked-kept p s (Body o m arguments rest ∷ below) (kept_ends ends) (names_of does.kept) does.answer)
 does-kept p s o m arguments rest below Nothing t does = keeps-is does (keeps-all _ (grows-by _))
 
 body-kept : (p : Loaded) (s : State) (o m : ℕ) (arguments : List Value) (below : List Activation) (t : State) (left : List Statement) → BodyRule p s o m arguments below t left → Keeps p s 1 t 0
@@ -246,15 +312,19 @@ ends-typed {h = h} (Err f) x typed = let q = some-stack h in rules-typed ((x.cas
 
 -- ---- the world stays sound
 
-keeps-sound : {p : Loaded} {w v : World} → KeepsWorld p w v → AreTyped p v.objects → Sound p w.objects w.connected.connections → Sound p v.objects v.connected.connections
-keeps-sound keeps typed sound = record { typed = typed; joined = keeps.joined sound.joined }
+keeps-sound : {p : Loaded} {w v : World} → KeepsWorld p w v → AreTyped p v.objects → IsSoundWorld p w → IsSoundWorld p v
+keeps-sound keeps typed sound = record {
+  program = sound.program;
+  is = record { typed = typed; joined = keeps.joined sound.program sound.is.joined };
+  numbers = omega (arith, keeps.paid, sound.numbers);
+}
 
 -- whatever a call does, the machine stays sound
-pub ends-sound : {p : Loaded} {d : ℕ} {h : List (Option ℕ)} {w v : World} {a b : List Activation} (r : Result (Unit {0}) Fault) → Ends p d h w a v b r → Sound p w.objects w.connected.connections → Sound p v.objects v.connected.connections
-ends-sound r x sound = keeps-sound (ends-keeps r x) (ends-typed r x sound.typed) sound
+pub ends-sound : {p : Loaded} {d : ℕ} {h : List (Option ℕ)} {w v : World} {a b : List Activation} (r : Result (Unit {0}) Fault) → Ends p d h w a v b r → IsSoundWorld p w → IsSoundWorld p v
+ends-sound r x sound = keeps-sound (ends-keeps r x) (ends-typed r x sound.is.typed) sound
 
-pub reaches-sound : {p : Loaded} {d : ℕ} {h : List (Option ℕ)} {w v : World} {a b : List Activation} → Reaches p d h w a v b → Sound p w.objects w.connected.connections → Sound p v.objects v.connected.connections
-reaches-sound x sound = keeps-sound (reaches-keeps x) (reaches-typed x sound.typed) sound
+pub reaches-sound : {p : Loaded} {d : ℕ} {h : List (Option ℕ)} {w v : World} {a b : List Activation} → Reaches p d h w a v b → IsSoundWorld p w → IsSoundWorld p v
+reaches-sound x sound = keeps-sound (reaches-keeps x) (reaches-typed x sound.is.typed) sound
 
 -- .. also by a write
 pub sound-written : {p : Loaded} {objects : List Object} {connections : List Connection} {o q : ℕ} {x : Object} {property : MetaProperty} (new : Value) → IsField p objects o q x property → ReadsAs p objects new property.kind → Sound p objects connections → Sound p (change_life o (written q new) objects) connections
@@ -262,8 +332,8 @@ sound-written {p} {objects} {connections} {o} {q} new f reads sound =
     record { typed = typed-written new f sound.typed reads; joined = all-joined-still p objects _ connections (written-stay objects o q new) sound.joined }
 
 -- a world that is known to be another one
-pub sound-as : {p : Loaded} {w v : World} → v ≡ w → Sound p w.objects w.connected.connections → Sound p v.objects v.connected.connections
-sound-as {p} is sound = let In : World → Type 0 = λ u. Sound p u.objects u.connected.connections in subst In (sym is) sound
+pub sound-as : {p : Loaded} {w v : World} → v ≡ w → IsSoundWorld p w → IsSoundWorld p v
+sound-as {p} is sound = let In : World → Type 0 = λ u. IsSoundWorld p u in subst In (sym is) sound
 
 -- arguments fit as long as the objects stay there
 pub fit-still : {p : Loaded} {w v : World} {o m : ℕ} {arguments : List Value} → KeepsWorld p w v → ArgumentsFit p w.objects o m arguments → ArgumentsFit p v.objects o m arguments

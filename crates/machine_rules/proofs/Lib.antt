@@ -1,9 +1,13 @@
+pub mod Lists
+pub mod Fitting
+pub mod OneAnswer
 pub mod Frames
 pub mod Keeps
 pub mod Reaching
 pub mod Fields
 pub mod Beginning
 pub mod Writes
+pub mod Linking
 pub mod Bodies
 pub mod Reading
 pub mod Yielding

@@ -1,5 +1,5 @@
 -- From one state at most one follows by a rule.
-use Rattle.std.proofs.Common.{◌≡◌, ℕ, List, [], ◌∷◌, length, take, Option, Some, None, refl, sym, ap, ◌∙◌, subst}
+use Rattle.std.proofs.Common.{◌≡◌, ℕ, List, [], ◌∷◌, length, take, Option, Some, None, Result, refl, sym, ap, ◌∙◌, subst}
 use Rattle.signatures.specs.declared.value.Value.{Value}
 use Rattle.meta_model.specs.declared.object.MetaMethod.{MetaMethod}
 use Rattle.meta_model.specs.declared.object.MetaProperty.{MetaProperty}
@@ -17,8 +17,18 @@ use Rattle.machine_state.specs.declared.entry.Happening.TheVariants.{Written}
 use Rattle.machine_state.specs.Connections.{next_used}
 use Rattle.machine_state.specs.Objects.{shown}
 use Rattle.machine_state.specs.State.{State, Place, Activation, Body, Emit, Update}
-use Rattle.machine_rules.specs.Doings.{Doing, Write, Begin, Choose, Nothing}
-use Rattle.machine_rules.specs.Rules.{Rule, RuleAt, BodyRule, Does, EmitRule, Uses, UpdateRule, Notifies, Begins, Writes, Changes, places_of, changed, unchanged, silent, begun, pushed, with_used}
+use Rattle.signatures.specs.declared.sig.Sig.{Sig}
+use Rattle.texts.specs.declared.connection.ConnectionType.{ConnectionType}
+use Rattle.texts.specs.declared.connection.Endpoints.{Endpoints as Named}
+use Rattle.connections.specs.Connected.{Connected}
+use Rattle.machine_state.specs.declared.endpoints.Endpoints.{Endpoints}
+use Rattle.machine_state.specs.declared.refusal.Refusal.{Refusal}
+use Rattle.machine_rules.specs.declared.ends.FoundEnds.{FoundEnds}
+use Rattle.machine_rules.specs.Connecting.{AreThere, kept_ends, names_of, found_ends, may_connect}
+use Rattle.machine_rules.specs.Judgement.{HasOneAnswer}
+use Rattle.machine_rules.proofs.OneAnswer.{one-check, one-then}
+use Rattle.machine_rules.specs.Doings.{Doing, Write, Begin, Choose, Connect, Disconnect, Nothing}
+use Rattle.machine_rules.specs.Rules.{Rule, RuleAt, BodyRule, Does, EmitRule, Uses, UpdateRule, Notifies, Begins, Writes, Changes, places_of, changed, unchanged, silent, begun, pushed, with_used, Connects, Disconnects, linked, unlinked}
 use Rattle.machine_rules.proofs.Fields.{some-is, life-unique, method-unique, member-object, member-method, field-property}
 
 -- two methods of one number of one life's class
@@ -59,10 +69,48 @@ writes-one {s = s} {below = below} {o = o} {q = q} {new = new} a b =
     ∙ ap (λ (g : Option ℕ). state_of b.object b.property g) signal_is
     ∙ sym b.gives
 
+-- the names at two ends
+names-one : {p : Loaded} {objects : List Object} {ends : Endpoints} (a b : AreThere p objects ends) → names_of a ≡ names_of b
+names-one a b =
+    let names : Object → MetaMethod → Object → MetaMethod → Named (List ℕ) = λ x g y m. record { sender = x.name; signal = g.sig; receiver = y.name; method = m.sig } in
+    ap (λ (x : Object). names x a.signal a.receiver a.method) (member-object a.sends b.sends)
+    ∙ ap (λ (g : MetaMethod). names b.sender g a.receiver a.method) (member-method a.sends b.sends)
+    ∙ ap (λ (y : Object). names b.sender b.signal y a.method) (member-object a.receives b.receives)
+    ∙ ap (λ (m : MetaMethod). names b.sender b.signal b.receiver m) (member-method a.receives b.receives)
+
+-- .. between which a connection may be made, or not
+pub may-connect-one : (p : Loaded) (connected : Connected) (found : FoundEnds) (signal method : Sig) (how : ConnectionType) → HasOneAnswer (may_connect p connected found signal method how)
+may-connect-one p connected found signal method how = one-then one-check (λ _. one-then one-check (λ _. one-then one-check (λ _. one-check)))
+
+connects-one : {p : Loaded} {s t u : State} {stack : List Activation} {ends : Endpoints} {how : ConnectionType} → Connects p s stack ends how t → Connects p s stack ends how u → t ≡ u
+connects-one {p} {s} {stack = stack} {ends = ends} {how = how} a b =
+    let Judged : Life → Life → MetaMethod → MetaMethod → Type 0 = λ k l g m. may_connect p s.connected (record { from = k.class; to = l.class; ends = kept_ends ends }) g.sig m.sig how b.answer in
+    let from = b.spelled.sends.life in
+    let to = b.spelled.receives.life in
+    let judged : Judged a.spelled.sends.life a.spelled.receives.life a.spelled.signal a.spelled.method =
+    subst (λ (k : Life). Judged k a.spelled.receives.life a.spelled.signal a.spelled.method) (life-unique b.spelled.sends.lives a.spelled.sends.lives)
+    (subst (λ (l : Life). Judged from l a.spelled.signal a.spelled.method) (life-unique b.spelled.receives.lives a.spelled.receives.lives)
+    (subst (λ (g : MetaMethod). Judged from to g a.spelled.method) (member-method b.spelled.sends a.spelled.sends)
+    (subst (λ (m : MetaMethod). Judged from to b.spelled.signal m) (member-method b.spelled.receives a.spelled.receives) b.judged))) in
+    let answer_is : a.answer ≡ b.answer = may-connect-one p s.connected (found_ends a.spelled) a.spelled.signal.sig a.spelled.method.sig how a.answer b.answer a.judged judged in
+    a.gives
+    ∙ ap (λ (r : Result (Unit {0}) Refusal). linked s stack (kept_ends ends) how (names_of a.kept) r) answer_is
+    ∙ ap (λ (n : Named (List ℕ)). linked s stack (kept_ends ends) how n b.answer) (names-one a.kept b.kept)
+    ∙ sym b.gives
+
+disconnects-one : {p : Loaded} {s t u : State} {stack : List Activation} {ends : Endpoints} → Disconnects p s stack ends t → Disconnects p s stack ends u → t ≡ u
+disconnects-one {p} {s} {stack = stack} {ends = ends} a b =
+    a.gives
+    ∙ ap (λ (r : Result (Unit {0}) Refusal). unlinked s stack (kept_ends ends) (names_of a.kept) r) (one-check a.answer b.answer a.judged b.judged)
+    ∙ ap (λ (n : Named (List ℕ)). unlinked s stack (kept_ends ends) n b.answer) (names-one a.kept b.kept)
+    ∙ sym b.gives
+
 does-one : (p : Loaded) (s : State) (o m : ℕ) (arguments : List Value) (rest : List Statement) (below : List Activation) (d : Doing) (t u : State) → Does p s o m arguments rest below d t → Does p s o m arguments rest below d u → t ≡ u
 does-one p s o m arguments rest below (Write x q new) t u a b = writes-one a b
 does-one p s o m arguments rest below (Begin x n given) t u a b = begins-one a b
 does-one p s o m arguments rest below (Choose block) t u a b = a ∙ sym b
+does-one p s o m arguments rest below (Connect ends how) t u a b = connects-one a b
+does-one p s o m arguments rest below (Disconnect ends) t u a b = disconnects-one a b
 does-one p s o m arguments rest below Nothing t u a b = a ∙ sym b
 
 body-one : (p : Loaded) (s : State) (o m : ℕ) (arguments : List Value) (below : List Activation) (t u : State) (left : List Statement) → BodyRule p s o m arguments below t left → BodyRule p s o m arguments below u left → t ≡ u

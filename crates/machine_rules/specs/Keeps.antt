@@ -2,6 +2,7 @@
 use Rattle.std.specs.Prelude.{◌≡◌, ℕ, ◌+◌, ◌≤◌, List, [], ◌++◌, Some, None}
 use Rattle.std.specs.List.{AllByRecursion}
 use Rattle.meta_model.specs.Loaded.{Loaded}
+use Rattle.meta_model.specs.Sound.{IsSound}
 use Rattle.object_tree.specs.declared.object.Object.{Object}
 use Rattle.object_tree.specs.Objects.{class_of}
 use Rattle.object_tree.specs.Seen.{seen_reference}
@@ -26,11 +27,12 @@ pub record Grows (old new : List Entry) : Type 0 where
   pub more : List Entry
   pub is : new ≡ old ++ more
 
--- From s, with so many rules left, to t, with so many left: no object goes, connections go on to join what is there, no
--- count falls, a number of a connection is paid with a rule, no event is taken, and nothing that was written down goes.
+-- From s, with so many rules left, to t, with so many left: no object goes, in a sound program connections go on to join
+-- what is there, no count falls, a number of a connection is paid with a rule, no event is taken, and nothing that was
+-- written down goes.
 pub record Keeps (p : Loaded) (s : State) (left : ℕ) (t : State) (after : ℕ) : Type 0 where
   pub objects : StayThere s.objects t.objects
-  pub joined : AllJoined p s.objects s.connected.connections → AllJoined p t.objects t.connected.connections
+  pub joined : IsSound p → AllJoined p s.objects s.connected.connections → AllJoined p t.objects t.connected.connections
   pub connected : s.connected.last ≤ t.connected.last
   pub paid : t.connected.last + after ≤ s.connected.last + left
   pub events : t.events ≡ s.events

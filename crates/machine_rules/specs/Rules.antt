@@ -1,7 +1,9 @@
 -- What may follow a state by one rule, beside the taking of events (docs/machine.md, "Rules"). No rule is forbidden
 -- because activations would nest too deep or a value is of a wrong type: those are faults of a run, and not of a rule.
-use Rattle.std.specs.Prelude.{◌≡◌, ◌≢◌, ℕ, List, [], ◌∷◌, ◌++◌, length, take, Option, None, Some}
+use Rattle.std.specs.Prelude.{◌≡◌, ◌≢◌, ℕ, List, [], ◌∷◌, ◌++◌, length, take, Option, None, Some, Result, Ok, Err}
 use Rattle.signatures.specs.declared.value.Value.{Value}
+use Rattle.texts.specs.declared.connection.ConnectionType.{ConnectionType}
+use Rattle.texts.specs.declared.connection.Endpoints.{Endpoints as Named}
 use Rattle.meta_model.specs.declared.object.Statement.{Statement}
 use Rattle.meta_model.specs.declared.object.Statement.TheViews.{out-Statement}
 use Rattle.meta_model.specs.declared.object.Work.{Work}
@@ -16,11 +18,17 @@ use Rattle.object_tree.specs.Seen.{seen}
 use Rattle.connections.specs.declared.connection.Connection.{Connection}
 use Rattle.machine_state.specs.declared.entry.Entry.{Entry}
 use Rattle.machine_state.specs.declared.entry.Entry.TheVariants.{At}
+use Rattle.machine_state.specs.declared.entry.Happening.{Happening}
 use Rattle.machine_state.specs.declared.entry.Happening.TheVariants as happening
+use Rattle.machine_state.specs.declared.endpoints.Endpoints.{Endpoints}
+use Rattle.machine_state.specs.declared.refusal.Refusal.{Refusal}
+use Rattle.machine_state.specs.Refusals.{refusal_number}
+use Rattle.machine_state.specs.Worlds.{with_connection, without_connections}
 use Rattle.machine_state.specs.Connections.{is_silent, next_used, after_use}
 use Rattle.machine_state.specs.Objects.{stored, shown, all_shown}
 use Rattle.machine_rules.specs.There.{IsMember, IsField}
-use Rattle.machine_rules.specs.Doings.{Doing, Write, Begin, Choose, Nothing, doing}
+use Rattle.machine_rules.specs.Connecting.{AreThere, kept_ends, names_of, found_ends, may_connect, may_disconnect}
+use Rattle.machine_rules.specs.Doings.{Doing, Write, Begin, Choose, Connect, Disconnect, Nothing, doing}
 use Rattle.machine_state.specs.State.{State, Place, Activation, Body, Emit, Update}
 
 -- one more activation over a stack, and the entries that are written down, with the length of the stack
@@ -88,16 +96,44 @@ UpdateRule p s below t (place ∷ places) = Notifies p s (Update places ∷ belo
 
 -- ---- bodies
 
--- nothing is done, since a path leads to null
-abbrev pub on_null : State → List Activation → State
-on_null s stack = record s { stack = stack; trace = s.trace ++ At (length stack) happening.OnNull ∷ [] }
+-- this is written down, and nothing is pushed
+abbrev pub told : State → List Activation → Happening → State
+told s stack what = record s { stack = stack; trace = s.trace ++ At (length stack) what ∷ [] }
+
+-- a connection is made, or refused, which changes nothing else
+abbrev pub linked : State → List Activation → Endpoints → ConnectionType → Named (List ℕ) → Result (Unit {0}) Refusal → State
+linked s stack ends how names (Ok _) = told (with_connection s ends how) stack (happening.Connected names how)
+linked s stack ends how names (Err r) = told s stack (happening.Refused (refusal_number r))
+
+-- a statement connects: its signal and method are judged as they are spelled; `destroyed()` is kept and written down as
+-- `destroyed(QObject*)`
+pub record Connects (p : Loaded) (s : State) (stack : List Activation) (ends : Endpoints) (how : ConnectionType) (t : State) : Type 0 where
+  pub spelled : AreThere p s.objects ends
+  pub kept : AreThere p s.objects (kept_ends ends)
+  pub answer : Result (Unit {0}) Refusal
+  pub judged : may_connect p s.connected (found_ends spelled) spelled.signal.sig spelled.method.sig how answer
+  pub gives : t ≡ linked s stack (kept_ends ends) how (names_of kept) answer
+
+-- the connections are removed, or that is refused
+abbrev pub unlinked : State → List Activation → Endpoints → Named (List ℕ) → Result (Unit {0}) Refusal → State
+unlinked s stack ends names (Ok _) = told (without_connections s ends) stack (happening.Disconnected names)
+unlinked s stack ends names (Err r) = told s stack (happening.Refused (refusal_number r))
+
+-- a statement disconnects
+pub record Disconnects (p : Loaded) (s : State) (stack : List Activation) (ends : Endpoints) (t : State) : Type 0 where
+  pub kept : AreThere p s.objects (kept_ends ends)
+  pub answer : Result (Unit {0}) Refusal
+  pub judged : may_disconnect s.connected (kept_ends ends) answer
+  pub gives : t ≡ unlinked s stack (kept_ends ends) (names_of kept) answer
 
 -- this is done by a statement of the body of method m of object o, over what is left of the body and what is below it
 abbrev pub Does : Loaded → State → ℕ → ℕ → List Value → List Statement → List Activation → Doing → State → Type 0
 Does p s o m arguments rest below (Write x q new) t = Writes p s (Body o m arguments rest ∷ below) x q new t
 Does p s o m arguments rest below (Begin x n given) t = Begins p s (Body o m arguments rest ∷ below) x n given t
 Does p s o m arguments rest below (Choose block) t = t ≡ record s { stack = Body o m arguments (block ++ rest) ∷ below }
-Does p s o m arguments rest below Nothing t = t ≡ on_null s (Body o m arguments rest ∷ below)
+Does p s o m arguments rest below (Connect ends how) t = Connects p s (Body o m arguments rest ∷ below) ends how t
+Does p s o m arguments rest below (Disconnect ends) t = Disconnects p s (Body o m arguments rest ∷ below) ends t
+Does p s o m arguments rest below Nothing t = t ≡ told s (Body o m arguments rest ∷ below) happening.OnNull
 
 -- a statement is carried out, and `rest` follows it
 pub record StatementRule (p : Loaded) (s : State) (o m : ℕ) (arguments : List Value)

@@ -1,6 +1,6 @@
 -- What every machine keeps: properties have values of their types, no connection names something that isn't there, and
 -- what a connection calls takes the first arguments of its signal (docs/machine.md, "What every run keeps").
-use Rattle.std.specs.Prelude.{◌≡◌, ℕ, List, ◌++◌}
+use Rattle.std.specs.Prelude.{◌≡◌, ℕ, ◌+◌, ◌<◌, ◌^◌, List, ◌++◌}
 use Rattle.std.specs.List.{AllByRecursion}
 use Rattle.meta_model.specs.declared.object.MetaMethod.{MetaMethod}
 use Rattle.meta_model.specs.declared.object.MetaObject.{MetaObject}
@@ -8,7 +8,7 @@ use Rattle.meta_model.specs.declared.object.MetaProperty.{MetaProperty}
 use Rattle.meta_model.specs.declared.object.ValueType.{ValueType}
 use Rattle.meta_model.specs.Loaded.{Loaded}
 use Rattle.meta_model.specs.Members.{IsClass}
-use Rattle.meta_model.specs.Sound.{IsSoundProperty}
+use Rattle.meta_model.specs.Sound.{IsSound, IsSoundProperty}
 use Rattle.connections.specs.declared.connection.Connection.{Connection}
 use Rattle.machine_state.specs.declared.world.World.{World}
 use Rattle.object_tree.specs.declared.life.Life.{Life}
@@ -34,9 +34,11 @@ pub record Sound (p : Loaded) (objects : List Object) (connections : List Connec
   pub typed : AreTyped p objects
   pub joined : AllByRecursion (Joined p objects) connections
 
--- .. in a world
-abbrev pub IsSoundWorld : Loaded → World → Type 0
-IsSoundWorld p w = Sound p w.objects w.connected.connections
+-- .. in a world, where the program is sound, and with each rule that is left a connection may still be numbered
+pub record IsSoundWorld (p : Loaded) (w : World) : Type 0 where
+  pub program : IsSound p
+  pub is : Sound p w.objects w.connected.connections
+  pub numbers : w.connected.last + w.left < 2 ^ 63
 
 -- the arguments are those that a connection's signal declares
 abbrev pub SignalFits : Loaded → List Object → Connection → List Value → Type 0

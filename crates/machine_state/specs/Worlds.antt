@@ -3,7 +3,7 @@ use Rattle.std.specs.Prelude.{◌≡◌, ℕ, Bool, ◌+◌, ◌-◌, ◌<◌, L
 use Rattle.signatures.specs.declared.value.Value.{Value}
 use Rattle.texts.specs.declared.connection.ConnectionType.{ConnectionType}
 use Rattle.connections.specs.declared.connection.Connection.{Connection}
-use Rattle.connections.specs.Connected.{unconnected, connected_by, removed}
+use Rattle.connections.specs.Connected.{unconnected}
 use Rattle.object_tree.specs.declared.object.Object.{Object}
 use Rattle.object_tree.specs.Objects.{change_life, blocked, written}
 use Rattle.machine_state.specs.declared.entry.Entry.{Entry}
@@ -14,7 +14,7 @@ use Rattle.machine_state.specs.declared.fault.Fault.TheVariants.{Steps, Memory}
 use Rattle.machine_state.specs.declared.refusal.Refusal.{Refusal}
 use Rattle.machine_state.specs.declared.world.World.{World}
 use Rattle.machine_state.specs.Refusals.{refusal_number}
-use Rattle.machine_state.specs.Connections.{after_use, joins_these}
+use Rattle.machine_state.specs.Connections.{after_use, joined_by, parted}
 use Rattle.machine_state.specs.Accepting.{accepted, refused, with_entries}
 use Rattle.machine_state.specs.declared.endpoints.Endpoints.{Endpoints}
 use Rattle.machine_state.specs.State.{State, Activation}
@@ -51,6 +51,13 @@ having_used w c = record w { connected = after_use c w.connected }
 
 abbrev pub using : World → List Entry → Connection → World
 using w entries c = noted (having_used w c) entries
+
+-- .. that also makes a connection between these ends, and that removes those between them
+abbrev pub connecting : World → List Entry → Endpoints → ConnectionType → World
+connecting w entries ends how = record (noted w entries) { connected = joined_by ends how w.connected }
+
+abbrev pub disconnecting : World → List Entry → Endpoints → World
+disconnecting w entries ends = record (noted w entries) { connected = parted ends w.connected }
 
 -- a rule that writes nothing down was carried out, or none was left
 abbrev pub Ticks : World → World → Result (Unit {0}) Fault → Type 0
@@ -95,9 +102,7 @@ Refuses w r v (Err fault) = (fault ≡ Memory) × (v ≡ w)
 
 -- a state with a connection more, which has the next number
 abbrev pub with_connection : State → Endpoints → ConnectionType → State
-with_connection s ends how = record s {
-  connected = connected_by s.connected ends.sender ends.signal ends.receiver ends.method how.kind how.single;
-}
+with_connection s ends how = record s { connected = joined_by ends how s.connected }
 
 -- .. a connection is made
 abbrev pub accepting_connection : World → Endpoints → ConnectionType → World
@@ -105,7 +110,7 @@ accepting_connection w ends how = after w (with_connection (accepted (at w [])) 
 
 -- a state without the connections that join these ends
 abbrev pub without_connections : State → Endpoints → State
-without_connections s ends = record s { connected = removed (joins_these ends) s.connected }
+without_connections s ends = record s { connected = parted ends s.connected }
 
 -- .. they are removed
 abbrev pub accepting_disconnection : World → Endpoints → World

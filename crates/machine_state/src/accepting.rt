@@ -7,6 +7,7 @@ ghost use Rattle.object_tree.specs.Objects.{IsGone};
 ghost use Rattle.machine_state.specs.Connections.{are_joined};
 ghost use Rattle.machine_state.specs.Worlds.{main, counted, accepting_objects, accepting_block, accepting_entries, accepting_write, accepting_connection, accepting_disconnection, Becomes, Refuses};
 
+use crate::connecting::{join, part};
 use crate::endpoints::Endpoints;
 use crate::entry::Entry;
 use crate::fault::{Answer, Fault};
@@ -159,22 +160,14 @@ impl World {
         ensures { Becomes self.old (accepting_connection self.old ends how) self.new result }
     {
         self.trace.accept(self.events + 1, [])?;
-        match self.connected.connect(
-            ends.sender,
-            ends.signal,
-            ends.receiver,
-            ends.method,
-            how.kind,
-            false,
-            how.single,
-        ) {
+        match join(&mut self.connected, &ends, how) {
             Ok(()) => {
                 self.count_event();
                 Ok(())
             }
-            Err(_) => {
+            Err(fault) => {
                 self.trace.pop();
-                Err(Fault::Memory)
+                Err(fault)
             }
         }
     }
@@ -187,12 +180,7 @@ impl World {
         ensures { Becomes self.old (accepting_disconnection self.old ends) self.new result }
     {
         self.trace.accept(self.events + 1, [])?;
-        let Ok(()) = self
-            .connected
-            .disconnect(ends.sender, ends.signal, ends.receiver, ends.method)
-        else {
-            unreachable!()
-        };
+        part(&mut self.connected, &ends);
         self.count_event();
         Ok(())
     }

@@ -2,6 +2,7 @@
 #![tactic(auto)]
 
 mod accepting;
+mod connecting;
 mod endpoints;
 mod entry;
 mod fault;

@@ -3,10 +3,9 @@
 ghost use Rattle.std.specs.Prelude.{◌≡◌, ◌<◌, ◌≤◌, ◌^◌, length, IfSome, IsTrue, MatchOption};
 ghost use Rattle.std.specs.Option.{option_copied};
 ghost use Rattle.object_tree.specs.Objects.{IsFree, IsNamed, life_of};
-ghost use Rattle.machine_state.specs.Connections.{are_joined, next_used, silences, is_silent};
+ghost use Rattle.machine_state.specs.Connections.{next_used, silences, is_silent};
 ghost use Rattle.machine_state.specs.Worlds.{untouched, Ticks, IsLeft, Becomes, noted, using, set_in};
 
-use crate::endpoints::Endpoints;
 use crate::entry::{Entry, Trace};
 use crate::fault::Fault;
 use connections::{Connection, Connections};
@@ -71,14 +70,6 @@ impl World {
         } else {
             self.connected.next_due(sender, signal, used, last)
         }
-    }
-
-    /// Whether some connection joins these ends.
-    pub fn are_joined(&self, ends: &Endpoints) -> bool
-        ensures { result ≡ are_joined ends.now self.now.connected }
-    {
-        self.connected
-            .are_connected(ends.sender, ends.signal, ends.receiver, ends.method)
     }
 
     /// Whether an emission of this signal calls nothing, since the sender is blocked.

@@ -5,7 +5,8 @@ use Rattle.std.specs.Result.{IsErrAnd}
 use Rattle.machine_state.specs.declared.refusal.Refusal.{Refusal}
 use Rattle.qt_runtime.specs.declared.judgement.NotAccepted.{NotAccepted}
 use Rattle.qt_runtime.specs.declared.judgement.NotAccepted.TheVariants.{Memory}
-use Rattle.qt_runtime.specs.Judgement.{Gives, gives, Then, goes_on, ends, IsNotAccepted, refused, short}
+use Rattle.machine_rules.specs.Judgement.{Gives, gives, Then, goes_on, ends}
+use Rattle.qt_runtime.specs.Judgement.{IsNotAccepted, refused, short}
 
 -- what is given is what was to be given
 pub given-is : {X : Type 0} {x y : X} → Gives x (Ok y) → y ≡ x

@@ -17,7 +17,7 @@ use Rattle.machine_rules.specs.Keeps.{Grows, Keeps}
 use Rattle.machine_rules.proofs.Keeps.{grows-by, grows-same, grows-then, begins-kept, writes-kept, rules-kept}
 use Rattle.qt_runtime.specs.declared.events.invoke.Invocation.{Invocation}
 use Rattle.qt_runtime.specs.declared.events.invoke.Invocation.TheVariants.{Emit as EmitIt, Call as CallIt}
-use Rattle.qt_runtime.specs.Judgement.{becomes, gives, goes_on}
+use Rattle.machine_rules.specs.Judgement.{becomes, gives, goes_on}
 use Rattle.qt_runtime.proofs.Judged.{given-is}
 use Rattle.qt_runtime.specs.Runs.{Runs, done, rules, takes}
 use Rattle.qt_runtime.specs.Takes.{judged, Takes, accepts, refuses}
@@ -57,7 +57,7 @@ counts-judged p (Adopt parent child) (goes_on _ a (goes_on _ c (goes_on _ owns (
 counts-judged p {s = s} (Disconnect e) (goes_on f named (goes_on _ is given)) =
     let Family : State → Type 0 = λ u. Counts s u in
     subst Family (sym (given-is given)) (record { events = refl; connected = omega arith; grows = grows-by _ })
-counts-judged p {s = s} (Connect e how) (goes_on f named (goes_on _ kind (goes_on _ covers (goes_on _ fits (goes_on _ new given))))) =
+counts-judged p {s = s} (Connect e how) (goes_on f named (goes_on _ judged given)) =
     let Family : State → Type 0 = λ u. Counts s u in
     subst Family (sym (given-is given)) (record { events = refl; connected = omega arith; grows = grows-by _ })
 counts-judged p (Set name property i) (goes_on _ o (goes_on _ q (goes_on _ v (goes_on _ fits (becomes writes))))) = counts-kept (writes-kept writes)
@@ -97,7 +97,7 @@ keeps-run : {p : Loaded} {d : ℕ} {w v : World} {stack : List Activation} {es :
 keeps-run {w = w} sound keeps runs =
     let up = runs-invariant sound runs (invariant-at w keeps.sound) in
     let pays = runs-pay runs in
-    record { sound = record { typed = up.sound.typed; joined = up.sound.joined }; events = omega (arith, keeps.events, pays.events); connected = omega (arith, keeps.connected, pays.connected) }
+    record { program = sound; sound = record { typed = up.sound.typed; joined = up.sound.joined }; events = omega (arith, keeps.events, pays.events); connected = omega (arith, keeps.connected, pays.connected) }
 
 pub keeps-took : {p : Loaded} {d : ℕ} {w v : World} {e : Event} (r : Result Answer Fault) → IsSound p → WorldInvariant p w → Took p d w e v r → WorldInvariant p v
 keeps-took (Ok a) sound keeps took = keeps-run sound keeps took.cases.0.runs

@@ -1,6 +1,4 @@
-mod Lists
 mod Changes
-mod Fitting
 mod Running
 mod Judged
 mod Taken

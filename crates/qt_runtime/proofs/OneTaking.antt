@@ -18,8 +18,9 @@ use Rattle.machine_state.specs.State.{State}
 use Rattle.machine_rules.proofs.OneRule.{begins-one, writes-one}
 use Rattle.qt_runtime.specs.declared.events.invoke.Invocation.{Invocation}
 use Rattle.qt_runtime.specs.declared.events.invoke.Invocation.TheVariants.{Emit, Call}
-use Rattle.qt_runtime.specs.Judgement.{Numbered}
-use Rattle.qt_runtime.specs.Laws.{HasOneAnswer, OneJudgement, OneTaking}
+use Rattle.machine_rules.specs.Judgement.{Numbered}
+use Rattle.machine_rules.specs.Judgement.{HasOneAnswer}
+use Rattle.qt_runtime.specs.Laws.{OneJudgement, OneTaking}
 use Rattle.qt_runtime.specs.Takes.{accepts, refuses}
 use Rattle.qt_runtime.specs.events.Adopt.{adopt, Adopts}
 use Rattle.qt_runtime.specs.events.Assign.{assign}
@@ -29,7 +30,9 @@ use Rattle.qt_runtime.specs.events.Disconnect.{disconnect}
 use Rattle.qt_runtime.specs.events.Ends.{find_ends, IsMethodOf}
 use Rattle.qt_runtime.specs.events.Create.{create, IsClassOf}
 use Rattle.qt_runtime.specs.events.Invoke.{invoke}
-use Rattle.qt_runtime.proofs.OneAnswer.{one-find, one-check, one-gives, one-refuses, one-becomes, one-then, numbered-is, one-living, one-value, one-values, one-method, one-property, one-adopted}
+use Rattle.machine_rules.proofs.OneAnswer.{one-find, one-check, one-gives, one-refuses, one-becomes, one-then, numbered-is}
+use Rattle.machine_rules.proofs.OneRule.{may-connect-one}
+use Rattle.qt_runtime.proofs.OneAnswer.{one-living, one-value, one-values, one-method, one-property, one-adopted}
 
 one-class : {p : Loaded} {name : List ℕ} → IsSound p → (a b : Numbered MetaObject) → IsClassOf p name a → IsClassOf p name b → a ≡ b
 one-class {p} sound a b f g =
@@ -60,8 +63,7 @@ one-ends p objects e sound =
 
 one-connect : (p : Loaded) (s : State) (e : Named (List ℕ)) (how : ConnectionType) → IsSound p → HasOneAnswer (connect p s e how)
 one-connect p s e how sound =
-    one-then (one-ends p s.objects e sound) (λ f. one-then one-check (λ kind. one-then one-check (λ covers.
-    one-then one-check (λ fits. one-then one-check (λ new. one-gives _)))))
+    one-then (one-ends p s.objects e sound) (λ f. one-then (may-connect-one p s.connected f e.signal e.method how) (λ _. one-gives _))
 
 one-disconnect : (p : Loaded) (s : State) (e : Named (List ℕ)) → IsSound p → HasOneAnswer (disconnect p s e)
 one-disconnect p s e sound = one-then (one-ends p s.objects e sound) (λ f. one-then one-check (λ is. one-gives _))

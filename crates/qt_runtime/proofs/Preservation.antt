@@ -23,13 +23,16 @@ use Rattle.object_tree.specs.Family.{moved}
 use Rattle.object_tree.specs.Objects.{change_life, written, blocked}
 use Rattle.object_tree.specs.Typed.{AreTyped, ReadAs}
 use Rattle.object_tree.proofs.TypedObjects.{class-more, seen-appended, shape_in, class-same, seen-same, shape-change, shape-moved}
+use Rattle.std.specs.Prelude.{Result, Err}
 use Rattle.machine_state.specs.Worlds.{main, with_connection}
 use Rattle.machine_state.specs.declared.endpoints.Endpoints.{Endpoints}
-use Rattle.machine_rules.specs.Doings.{Doing, Write, Begin, Choose, Nothing, doing}
+use Rattle.machine_state.specs.declared.refusal.Refusal.{Refusal}
+use Rattle.machine_rules.specs.Connecting.{AreThere, kept_ends, names_of}
+use Rattle.machine_rules.specs.Doings.{Doing, Write, Begin, Choose, Connect as Link, Disconnect as Unlink, Nothing, doing}
 use Rattle.qt_runtime.proofs.Possible.{possible}
 use Rattle.qt_runtime.proofs.Standing.{BodyStands, PlaceStands, Stands, Invariant, AllStand, stands-still}
 use Rattle.machine_state.specs.State.{State, IsIdle, Place, Activation, Body, Emit, Update}
-use Rattle.machine_rules.specs.Rules.{Rule, RuleAt, BodyRule, Does, EmitRule, UpdateRule, Begins, Writes, Changes, places_of, changed, unchanged, silent, begun, with_used}
+use Rattle.machine_rules.specs.Rules.{Rule, RuleAt, BodyRule, Does, EmitRule, UpdateRule, Begins, Writes, Changes, places_of, changed, unchanged, silent, begun, with_used, linked, unlinked}
 use Rattle.machine_state.specs.Connections.{next_used}
 use Rattle.signatures.specs.declared.sig.Sig.{Sig}
 use Rattle.signatures.specs.Types.{Fits}
@@ -39,17 +42,16 @@ use Rattle.script_lang.specs.declared.event.Input.{Input}
 use Rattle.machine_state.specs.Accepting.{accepted}
 use Rattle.qt_runtime.specs.declared.events.invoke.Invocation.{Invocation}
 use Rattle.qt_runtime.specs.declared.events.invoke.Invocation.TheVariants.{Emit as EmitIt, Call as CallIt}
-use Rattle.qt_runtime.specs.Judgement.{Numbered, Gives, found as finds, holds as so, becomes, gives as just, goes_on}
+use Rattle.machine_rules.specs.Judgement.{Numbered, Gives, found as finds, holds as so, becomes, gives as just, goes_on}
 use Rattle.qt_runtime.specs.Takes.{judged, Takes, accepts, refuses}
 use Rattle.qt_runtime.specs.events.Block.{block}
-use Rattle.qt_runtime.specs.declared.events.ends.FoundEnds.{FoundEnds}
+use Rattle.machine_rules.specs.declared.ends.FoundEnds.{FoundEnds}
 use Rattle.qt_runtime.specs.events.Ends.{find_ends}
 use Rattle.machine_state.specs.Connections.{joins_these}
 use Rattle.machine_state.proofs.Due.{all-removed}
 use Rattle.qt_runtime.proofs.Judged.{given-is}
 use Rattle.qt_runtime.specs.events.Invoke.{invoke}
 use Rattle.qt_runtime.specs.events.Named.{IsLiving}
-use Rattle.qt_runtime.proofs.Fitting.{kinds-fit}
 use Rattle.qt_runtime.proofs.Judging.Naming.{living-is, living-object}
 use Rattle.machine_rules.specs.Good.{ArgumentsFit, TopFits, IsWell}
 use Rattle.qt_runtime.specs.Runs.{Runs, done, rules, takes}
@@ -60,8 +62,8 @@ use Rattle.machine_rules.specs.Keeps.{StayThere, Keeps}
 use Rattle.machine_rules.specs.There.{IsMember, IsField}
 use Rattle.machine_rules.proofs.Fields.{member-method, field-written}
 use Rattle.qt_runtime.proofs.Changes.{adopted-by}
-use Rattle.qt_runtime.proofs.Lists.{all-snoc, all-weaken}
-use Rattle.machine_rules.proofs.Keeps.{all-stay, written-stay, all-joined-still, rule-kept, begins-kept, writes-kept}
+use Rattle.machine_rules.proofs.Lists.{all-snoc, all-weaken}
+use Rattle.machine_rules.proofs.Keeps.{all-stay, written-stay, all-joined-still, rule-kept, begins-kept, writes-kept, joined-by}
 
 -- ---- statements
 
@@ -121,12 +123,25 @@ module _ {p : Loaded} {s t : State} (sound : IsSound p) (well : IsWell p s t) wh
   as-is : {u : State} → t ≡ u → AllStand p u → AllStand p t
   as-is e lower = let Family : State → Type 0 = λ v. AllStand p v in subst Family (sym e) lower
 
+  -- connections are made and removed
+  linked-stands : (stack : List Activation) (ends : Endpoints) (how : ConnectionType) (names : Named (List ℕ)) (answer : Result (Unit {0}) Refusal) → AllByRecursion (Stands p s.objects) stack → AllStand p (linked s stack ends how names answer)
+  linked-stands stack ends how names (Ok _) all = all
+  linked-stands stack ends how names (Err k) all = all
+
+  unlinked-stands : (stack : List Activation) (ends : Endpoints) (names : Named (List ℕ)) (answer : Result (Unit {0}) Refusal) → AllByRecursion (Stands p s.objects) stack → AllStand p (unlinked s stack ends names answer)
+  unlinked-stands stack ends names (Ok _) all = all
+  unlinked-stands stack ends names (Err k) all = all
+
   -- what a statement does, over what stands
   does-stands : AreTyped p s.objects → (o m : ℕ) (arguments : List Value) (x : Statement) (rest : List Statement) (below : List Activation) (d : Doing) → BodyStands p s.objects o arguments (x ∷ rest) → doing s.objects o arguments (out-Statement x) ≡ Some d → AllByRecursion (Stands p s.objects) below → length s.stack ≡ suc (length below) → Does p s o m arguments rest below d t → AllStand p t
   does-stands typed o m arguments x rest below (Write y q new) body is lower high does = writes-stands does (body-rest body, lower)
   does-stands typed o m arguments x rest below (Begin y n given) body is lower high does = begins-stands does (omega (arith, high)) (body-rest body, lower)
   does-stands typed o m arguments x rest below (Choose block) body is lower high does =
       as-is does (body-with body (block ++ rest) (sound-append (possible sound typed body (Choose block) is) (sound-rest body.sound)), lower)
+  does-stands typed o m arguments x rest below (Link ends how) body is lower high does =
+      as-is does.gives (linked-stands (Body o m arguments rest ∷ below) (kept_ends ends) how (names_of does.kept) does.answer (body-rest body, lower))
+  does-stands typed o m arguments x rest below (Unlink ends) body is lower high does =
+      as-is does.gives (unlinked-stands (Body o m arguments rest ∷ below) (kept_ends ends) (names_of does.kept) does.answer (body-rest body, lower))
   does-stands typed o m arguments x rest below Nothing body is lower high does = as-is does (body-rest body, lower)
 
   body-stands : AreTyped p s.objects → (o m : ℕ) (arguments : List Value) (below : List Activation) (left : List Statement) → BodyStands p s.objects o arguments left → AllByRecursion (Stands p s.objects) below → length s.stack ≡ suc (length below) → BodyRule p s o m arguments below t left → AllStand p t
@@ -151,7 +166,7 @@ module _ {p : Loaded} {s t : State} (sound : IsSound p) (well : IsWell p s t) wh
 
   -- what is going on stands where the stack does
   kept-invariant : Invariant p s → Keeps p s 1 t 0 → AllStand p t → Invariant p t
-  kept-invariant up kept stands = record { sound = record { typed = well.values; joined = kept.joined up.sound.joined }; stands = stands }
+  kept-invariant up kept stands = record { sound = record { typed = well.values; joined = kept.joined sound up.sound.joined }; stands = stands }
 
   rule-invariant : Invariant p s → Rule p s t → Invariant p t
   rule-invariant up r = kept-invariant up (rule-kept p s t s.stack r) (rule-stands up.sound.typed s.stack up.stands refl r)
@@ -183,22 +198,22 @@ adopted-stay {a} {c} {old = old} is = adopted-by (λ (l : List Object). StayTher
 -- a connection joins what it names
 connection-joined : {p : Loaded} {objects : List Object} (e : Named (List ℕ)) (how : ConnectionType) (n : ℕ) (f : FoundEnds) → IsSound p → find_ends p objects e (Ok f) → Fits e.signal e.method →
     Joined p objects (record { number = n; sender = f.ends.sender; signal = f.ends.signal; receiver = f.ends.receiver; method = f.ends.method; kind = how.kind; single = how.single })
-connection-joined e how n f sound (goes_on a sender (goes_on b receiver (goes_on g (finds signal) (goes_on m (finds method) just)))) fits =
+connection-joined {p} {objects} e how n f sound (goes_on a sender (goes_on b receiver (goes_on g (finds signal) (goes_on m (finds method) given)))) fits =
     let Signal_types : Sig → Type 0 = λ t. Fits t e.method in
     let Method_types : Sig → Type 0 = λ t. Fits g.it.sig t in
-    let front = kinds-fit sound signal.of.is method.is (subst Method_types (sym method.signed) (subst Signal_types (sym signal.of.signed) fits)) in
-    let from = living-object a sender in
-    let to = living-object b receiver in
-    record {
+    let from = living-object a (living-is sender) in
+    let to = living-object b (living-is receiver) in
+    let ends : Endpoints = record { sender = a.number; signal = g.number; receiver = b.number; method = m.number } in
+    let spelled : AreThere p objects ends = record {
       sender = from.0;
-      signal = front.0;
-      sends = record { life = a.it; lives = from.1; is_method = front.1 };
+      signal = g.it;
+      sends = record { life = a.it; lives = from.1; is_method = signal.of.is };
       receiver = to.0;
       method = m.it;
       receives = record { life = b.it; lives = to.1; is_method = method.is };
-      rest = front.2.0;
-      fits = front.2.1;
-    }
+    } in
+    let Joins : FoundEnds → Type 0 = λ k. Joined p objects (record { number = n; sender = k.ends.sender; signal = k.ends.signal; receiver = k.ends.receiver; method = k.ends.method; kind = how.kind; single = how.single }) in
+    subst Joins (sym (given-is given)) (joined-by how n spelled sound (subst Method_types (sym method.signed) (subst Signal_types (sym signal.of.signed) fits)))
 
 -- the state in which an event is taken
 accepted-invariant : {p : Loaded} {s : State} → Invariant p s → Invariant p (accepted s)
@@ -225,7 +240,7 @@ judged-invariant {p} {s} (Adopt parent child) sound idle up (goes_on _ a (goes_o
     let Family : State → Type 0 = λ u. Invariant p u in
     let Typed : State → Type 0 = λ u. AreTyped p u.objects in
     subst Family (sym x.gives) (changed-invariant x.objects idle up (subst Typed x.gives well.values) (adopted-stay x.is))
-judged-invariant {p} {s} (Connect e how) sound idle up (goes_on f named (goes_on _ kind (goes_on _ covers (goes_on _ (so fits) (goes_on _ new given))))) well =
+judged-invariant {p} {s} (Connect e how) sound idle up (goes_on f named (goes_on _ (goes_on _ kind (goes_on _ covers (goes_on _ (so fits) new))) given)) well =
     let Family : State → Type 0 = λ u. Invariant p u in
     subst Family (sym (given-is given)) (record {
       sound = record {

@@ -1,5 +1,5 @@
 -- What goes on in a run lacks a next rule only for want of a value.
-use Rattle.std.proofs.Common.{◌≡◌, ◌≢◌, ℕ, inl, inr, true, false, List, [], ◌∷◌, Option, Some, None, slice_get, refl, sym, subst}
+use Rattle.std.proofs.Common.{◌≡◌, ◌≢◌, ℕ, inl, inr, true, false, List, [], ◌∷◌, Option, Some, None, Result, Ok, Err, slice_get, refl, sym, subst}
 use Rattle.std.specs.List.{AllByRecursion}
 use Rattle.signatures.specs.declared.value.Value.{Value}
 use Rattle.script_lang.specs.declared.event.Event.{Event}
@@ -9,14 +9,20 @@ use Rattle.meta_model.specs.declared.object.Statement.{Statement}
 use Rattle.meta_model.specs.declared.object.Statement.TheViews.{out-Statement}
 use Rattle.meta_model.specs.Loaded.{Loaded}
 use Rattle.meta_model.specs.Members.{IsMethod}
+use Rattle.machine_state.specs.declared.endpoints.Endpoints.{Endpoints}
+use Rattle.machine_state.specs.declared.refusal.Refusal.{Refusal}
+use Rattle.texts.specs.declared.connection.ConnectionType.{ConnectionType}
+use Rattle.machine_rules.specs.Connecting.{AreThere}
+use Rattle.machine_rules.specs.Judgement.{Check, Then, holds, fails, goes_on as next_is, ends as ends_so}
+use Rattle.machine_rules.proofs.Linking.{kept-there}
 use Rattle.meta_model.specs.Sound.{IsSound}
 use Rattle.connections.specs.declared.connection.Connection.{Connection}
 use Rattle.machine_state.specs.declared.fault.Fault.{Fault}
 use Rattle.object_tree.specs.declared.object.Object.{Object}
 use Rattle.object_tree.specs.Seen.{seen}
 use Rattle.machine_state.specs.State.{State, IsIdle, Place, Activation, Body, Emit, Update}
-use Rattle.machine_rules.specs.Rules.{RuleAt, StatementRule, Does, EmitRule, UpdateRule, Begins, Writes, Changes, changed, unchanged, silent}
-use Rattle.machine_rules.specs.Doings.{Doing, Write, Begin, Choose, Nothing, doing}
+use Rattle.machine_rules.specs.Rules.{RuleAt, StatementRule, Does, EmitRule, UpdateRule, Begins, Writes, Changes, changed, unchanged, silent, Connects, Disconnects}
+use Rattle.machine_rules.specs.Doings.{Doing, Write, Begin, Choose, Connect, Disconnect, Nothing, doing}
 use Rattle.machine_state.specs.Connections.{next_used}
 use Rattle.machine_rules.specs.Runs.{IsStuck}
 use Rattle.machine_rules.proofs.Reaching.{reason-more}
@@ -36,6 +42,17 @@ notified-somehow old new (Some signal) none =
     let differs : old ≢ new = λ same. none None (unchanged same) in
     none (Some signal) (changed differs)
 
+-- a judgement has some answer
+check-somehow : {k : Refusal} {Holds : Type 0} → ((r : Result (Unit {0}) Refusal) → ¬ Check k Holds r) → ⊥
+check-somehow {k} none = none (Err k) (fails (λ h. none (Ok tt) (holds h)))
+
+then-somehow : {X Y : Type 0} {First : Result X Refusal → Type 0} {Next : X → Result Y Refusal → Type 0} → (((r : Result X Refusal) → ¬ First r) → ⊥) → ((x : X) → ((r : Result Y Refusal) → ¬ Next x r) → ⊥) → ((r : Result Y Refusal) → ¬ Then First Next r) → ⊥
+then-somehow {X} {Y} {First} {Next} first next none = first by_answer
+  where
+    by_answer : (r : Result X Refusal) → ¬ First r
+    by_answer (Ok x) f = next x (λ q n. none q (next_is x f n))
+    by_answer (Err k) f = none (Err k) (ends_so f)
+
 module _ {p : Loaded} {s : State} (sound : IsSound p) (up : Invariant p s) where
   -- a property that is there may be written
   no-write : {o q : ℕ} {x : Object} {property : MetaProperty} {new : Value} {below : List Activation} → IsField p s.objects o q x property → ((t : State) → ¬ Writes p s below o q new t) → ⊥
@@ -43,11 +60,22 @@ module _ {p : Loaded} {s : State} (sound : IsSound p) (up : Invariant p s) where
       let old = old-there field up.sound.typed in
       notified-somehow (seen s.objects old.0) (seen s.objects new) property.notify (λ signal changes. none _ (record { object = x; property = property; is = field; old = old.0; is_old = old.1; signal = signal; changes = changes; gives = refl }))
 
+  -- ends that are there may be connected, or that is refused
+  no-connect : {ends : Endpoints} {how : ConnectionType} {stack : List Activation} → AreThere p s.objects ends → ((t : State) → ¬ Connects p s stack ends how t) → ⊥
+  no-connect {how = how} spelled none =
+      then-somehow check-somehow (λ _. then-somehow check-somehow (λ _. then-somehow check-somehow (λ _. check-somehow)))
+      (λ answer judged. none _ (record { spelled = spelled; kept = kept-there spelled; answer = answer; judged = judged; gives = refl }))
+
+  no-disconnect : {ends : Endpoints} {stack : List Activation} → AreThere p s.objects ends → ((t : State) → ¬ Disconnects p s stack ends t) → ⊥
+  no-disconnect spelled none = check-somehow (λ answer judged. none _ (record { kept = kept-there spelled; answer = answer; judged = judged; gives = refl }))
+
   -- what is possible is done by some rule
   possible-goes : (o m : ℕ) (arguments : List Value) (rest : List Statement) (below : List Activation) (me : ℕ) (kinds : List ValueType) (d : Doing) → IsPossible p s.objects me kinds d → ((t : State) → ¬ Does p s o m arguments rest below d t) → ⊥
   possible-goes o m arguments rest below me kinds (Write x q new) may none = no-write {new = new} {below = Body o m arguments rest ∷ below} may.2 none
   possible-goes o m arguments rest below me kinds (Begin x n given) may none = none _ (record { object = may.0; method = may.1; is = may.2; gives = refl })
   possible-goes o m arguments rest below me kinds (Choose block) may none = none _ refl
+  possible-goes o m arguments rest below me kinds (Connect ends how) may none = no-connect may none
+  possible-goes o m arguments rest below me kinds (Disconnect ends) may none = no-disconnect may none
   possible-goes o m arguments rest below me kinds Nothing may none = none _ refl
 
   -- a statement that has no next rule lacks a value

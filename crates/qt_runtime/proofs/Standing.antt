@@ -17,7 +17,7 @@ use Rattle.machine_rules.specs.Keeps.{StayThere}
 use Rattle.machine_rules.specs.Sound.{Sound}
 use Rattle.machine_rules.specs.There.{IsField}
 use Rattle.machine_rules.proofs.Keeps.{stays, values-stay}
-use Rattle.qt_runtime.proofs.Lists.{all-weaken}
+use Rattle.machine_rules.proofs.Lists.{all-weaken}
 
 -- ---- what stands
 

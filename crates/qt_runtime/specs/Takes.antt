@@ -8,7 +8,7 @@ use Rattle.machine_state.specs.declared.refusal.Refusal.TheVariants.{LoopExists,
 use Rattle.machine_state.specs.Accepting.{refused}
 use Rattle.machine_state.specs.State.{State, IsIdle}
 use Rattle.qt_runtime.specs.declared.events.invoke.Invocation.TheVariants.{Emit, Call}
-use Rattle.qt_runtime.specs.Judgement.{Refuses}
+use Rattle.machine_rules.specs.Judgement.{Refuses}
 use Rattle.qt_runtime.specs.events.Create.{create}
 use Rattle.qt_runtime.specs.events.Adopt.{adopt}
 use Rattle.qt_runtime.specs.events.Connect.{connect}

@@ -3,6 +3,7 @@ use Rattle.std.specs.Prelude.{◌≡◌, ℕ, ◌+◌, ◌<◌, ◌^◌, Bool, t
 use Rattle.signatures.specs.declared.value.Value.{Value}
 use Rattle.meta_model.specs.declared.object.MetaProperty.{MetaProperty}
 use Rattle.meta_model.specs.Loaded.{Loaded}
+use Rattle.meta_model.specs.Sound.{IsSound}
 use Rattle.object_tree.specs.declared.fault.AdoptFault.{AdoptFault}
 use Rattle.object_tree.specs.declared.fault.AdoptFault.TheVariants as adopt
 use Rattle.object_tree.specs.declared.fault.CreateFault.{CreateFault}
@@ -39,8 +40,9 @@ use Rattle.qt_runtime.specs.Takes.{judged}
 use Rattle.qt_runtime.specs.events.Connect.{connect}
 use Rattle.qt_runtime.specs.events.Disconnect.{disconnect}
 
--- what every machine's world keeps: its parts fit together, and no count is near its limit
+-- what every machine's world keeps: the program is sound, its parts fit together, and no count is near its limit
 pub record WorldInvariant (p : Loaded) (w : World) : Type 0 where
+  pub program : IsSound p
   pub sound : Sound p w.objects w.connected.connections
   pub events : w.events + w.left < 2 ^ 63
   pub connected : w.connected.last + w.left < 2 ^ 63

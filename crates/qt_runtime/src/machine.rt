@@ -51,6 +51,8 @@ impl Machine {
         requires steps { (1 ≤ steps) × (steps < 2 ^ 63) }
         ensures { IfOk result (λ machine. machine ≡ begun meta depth steps) }
     {
+        // The contract of `classes` says that the numbers in bodies are those of members.
+        let _ = meta.classes();
         Ok(Machine {
             setting: Setting::new(alloc, meta, natives, depth),
             world: World::new(alloc, steps),

@@ -1,6 +1,6 @@
 //! The text of the output's lines.
 
-ghost use Rattle.std.specs.Prelude.{◌++◌, codes, OnOk};
+ghost use Rattle.std.specs.Prelude.{◌++◌, codes, decimal, OnOk};
 ghost use Rattle.trace_tool.specs.Lines.{newline, value_text, arguments_text, member_text, call_text, blocked_text, emitted_text, called_text, written_text, happening_text, depth_line, refused_event_line, entry_line, trace_text};
 ghost use Rattle.trace_tool.specs.Refusals.{refusal_line};
 ghost use Rattle.trace_tool.specs.Sent.{Adds};
@@ -187,6 +187,9 @@ impl Output {
                 value,
             } => self.written(w, object, property, value)?,
             Happening::OnNull => self.put(w, b"null")?,
+            Happening::Connected(ends, how) => self.connected(w, ends, *how)?,
+            Happening::Disconnected(ends) => self.disconnected(w, ends)?,
+            Happening::Refused(refusal) => self.refused_statement(w, *refusal)?,
         }
         Ok(())
     }
@@ -205,6 +208,16 @@ impl Output {
         self.put(w, b" ")?;
         self.happening(w, happening)?;
         self.put(w, b"\n")?;
+        Ok(())
+    }
+
+    /// Adds that a statement is refused.
+    fn refused_statement<W: Write>(&mut self, w: &mut W, refusal: u8) -> Result<(), WriteFault>
+        ensures { OnOk result (Adds (W.contents w.old) self.old (W.contents w.new) self.new
+            (codes "refused " ++ decimal refusal)) }
+    {
+        self.put(w, b"refused ")?;
+        self.number(w, refusal)?;
         Ok(())
     }
 

@@ -12,7 +12,8 @@ use Rattle.machine_state.specs.declared.world.World.{World}
 use Rattle.machine_state.specs.Accepting.{accepted}
 use Rattle.machine_state.specs.Worlds.{at}
 use Rattle.object_tree.specs.Typed.{AreTyped}
-use Rattle.qt_runtime.specs.Judgement.{Numbered, holds, fails, becomes, goes_on, ends, IsNotAccepted}
+use Rattle.machine_rules.specs.Judgement.{Numbered, holds, fails, becomes, goes_on, ends}
+use Rattle.qt_runtime.specs.Judgement.{IsNotAccepted}
 use Rattle.qt_runtime.specs.declared.judgement.NotAccepted.{NotAccepted}
 use Rattle.qt_runtime.specs.Taking.{Halted, adoption_reason}
 use Rattle.qt_runtime.specs.events.Adopt.{adopt}

@@ -19,7 +19,7 @@ use Rattle.machine_state.specs.Worlds.{at, main}
 use Rattle.object_tree.specs.Typed.{AreTyped}
 use Rattle.machine_rules.specs.Good.{IsWell}
 use Rattle.machine_rules.proofs.Fields.{class-unique}
-use Rattle.qt_runtime.specs.Judgement.{found, missing, holds, fails, gives, goes_on, ends}
+use Rattle.machine_rules.specs.Judgement.{found, missing, holds, fails, gives, goes_on, ends}
 use Rattle.qt_runtime.specs.Runs.{done, by_event}
 use Rattle.qt_runtime.specs.Takes.{accepts}
 use Rattle.qt_runtime.specs.Taking.{Halted, creation_reason}

@@ -6,11 +6,13 @@ use Rattle.meta_model.specs.declared.object.MetaMethod.{MetaMethod}
 use Rattle.meta_model.specs.declared.object.Work.TheVariants.{Signal}
 use Rattle.meta_model.specs.Loaded.{Loaded}
 use Rattle.meta_model.specs.Members.{IsMethod, HasSig}
+use Rattle.object_tree.specs.declared.life.Life.{Life}
 use Rattle.object_tree.specs.declared.object.Object.{Object}
 use Rattle.machine_state.specs.declared.refusal.Refusal.TheVariants.{NoMember}
 use Rattle.machine_rules.proofs.Fields.{method-unique}
-use Rattle.qt_runtime.specs.Judgement.{Numbered, found, missing, gives, goes_on, ends}
-use Rattle.qt_runtime.specs.events.Ends.{FindsEnds, find_ends, named_signal, IsSignalOf}
+use Rattle.machine_rules.specs.Judgement.{Numbered, found, missing, gives, goes_on, ends}
+use Rattle.machine_rules.specs.Connecting.{named_signal}
+use Rattle.qt_runtime.specs.events.Ends.{FindsEnds, find_ends, IsSignalOf}
 use Rattle.qt_runtime.specs.events.Named.{IsLiving}
 use Rattle.qt_runtime.proofs.Judging.Naming.{living-ok}
 
@@ -21,7 +23,7 @@ not-signal {p} {class} {number} {sig} {it} only at unlike g is =
     let there_too : IsMethod p class number g.it = subst (λ (k : ℕ). IsMethod p class k g.it) number_is is.of.is in
     unlike (subst (λ (k : MetaMethod). k.work ≡ Signal) (method-unique there_too at) is.signal)
 
-module _ (p : Loaded) (objects : List Object) (e : Named (List ℕ)) (a b : Numbered Object) (sender : IsLiving objects e.sender a) (receiver : IsLiving objects e.receiver b) where
+module _ (p : Loaded) (objects : List Object) (e : Named (List ℕ)) (a b : Numbered Life) (sender : IsLiving objects e.sender a) (receiver : IsLiving objects e.receiver b) where
   pub no-signal : ((g : Numbered MetaMethod) → ¬ IsSignalOf p a.it.class e.signal g) → find_ends p objects e (Err NoMember)
   no-signal none = goes_on a (living-ok a sender) (goes_on b (living-ok b receiver) (ends (missing none)))
 

@@ -10,7 +10,7 @@ use Rattle.machine_state.specs.declared.refusal.Refusal.TheVariants.{NameUsed, N
 use Rattle.machine_state.specs.Accepting.{accepted}
 use Rattle.machine_state.specs.State.{State}
 use Rattle.machine_state.specs.Worlds.{main}
-use Rattle.qt_runtime.specs.Judgement.{Numbered, Find, Check, Gives, ◌>>=◌}
+use Rattle.machine_rules.specs.Judgement.{Numbered, Find, Check, Gives, ◌>>=◌}
 
 -- the class of this name
 pub record IsClassOf (p : Loaded) (name : List ℕ) (c : Numbered MetaObject) : Type 0 where

@@ -1,5 +1,5 @@
 -- What a connect or a disconnect names (docs/machine.md, "Events"; Qt 6, "Signals & Slots").
-use Rattle.std.specs.Prelude.{◌≡◌, ℕ, eqb, if◌then◌else◌, List, Result, Ok}
+use Rattle.std.specs.Prelude.{◌≡◌, ℕ, List, Result, Ok}
 use Rattle.signatures.specs.declared.sig.Sig.{Sig}
 use Rattle.texts.specs.declared.connection.Endpoints.{Endpoints as Named}
 use Rattle.meta_model.specs.declared.object.MetaMethod.{MetaMethod}
@@ -10,8 +10,9 @@ use Rattle.meta_model.specs.Members.{IsMethod}
 use Rattle.object_tree.specs.declared.object.Object.{Object}
 use Rattle.machine_state.specs.declared.refusal.Refusal.{Refusal}
 use Rattle.machine_state.specs.declared.refusal.Refusal.TheVariants.{NoMember}
-use Rattle.qt_runtime.specs.declared.events.ends.FoundEnds.{FoundEnds}
-use Rattle.qt_runtime.specs.Judgement.{Numbered, numbered, Find, Gives, ◌>>=◌}
+use Rattle.machine_rules.specs.declared.ends.FoundEnds.{FoundEnds}
+use Rattle.machine_rules.specs.Connecting.{named_signal}
+use Rattle.machine_rules.specs.Judgement.{Numbered, numbered, Find, Gives, ◌>>=◌}
 use Rattle.qt_runtime.specs.events.Named.{living}
 
 -- the class's method of this signature
@@ -27,10 +28,6 @@ pub record IsSignalOf (p : Loaded) (class : ℕ) (sig : Sig) (g : Numbered MetaM
 -- the number of the class's signal of this signature
 abbrev pub IsSignalNumber : Loaded → ℕ → Sig → ℕ → Type 0
 IsSignalNumber p class sig m = (method : MetaMethod) × IsSignalOf p class sig (numbered m method)
-
--- the signal that a spelling names: `destroyed()` is `destroyed(QObject*)`
-abbrev pub named_signal : ℕ → ℕ
-named_signal g = if eqb g DESTROYED_ALONE then DESTROYED else g
 
 -- the objects and their methods, with the classes of the objects
 abbrev pub find_ends : Loaded → List Object → Named (List ℕ) → Result FoundEnds Refusal → Type 0

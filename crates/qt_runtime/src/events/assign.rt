@@ -3,7 +3,8 @@
 ghost use Rattle.std.specs.Prelude.{◌≡◌, ◌<◌, [], Ok, IfOk, IfErr, MatchOption};
 ghost use Rattle.script_lang.specs.declared.event.Event.TheVariants.{Set};
 ghost use Rattle.machine_state.specs.Worlds.{at};
-ghost use Rattle.qt_runtime.specs.Judgement.{IsNotAccepted, NothingIs, numbered};
+ghost use Rattle.machine_rules.specs.Judgement.{NothingIs, numbered};
+ghost use Rattle.qt_runtime.specs.Judgement.{IsNotAccepted};
 ghost use Rattle.qt_runtime.specs.Taking.{WorldInvariant, Answers, WritesTo, ValueFits};
 ghost use Rattle.qt_runtime.specs.events.Assign.{assign, IsPropertyOf};
 ghost use Rattle.script_lang.specs.declared.event.Event.{Event as AnEvent};

@@ -1,9 +1,7 @@
 //! `connect`: a connection is made.
 
-ghost use Rattle.std.specs.Prelude.{◌≡◌, ◌↔◌, ◌<◌, ◌&&◌, [], IfOk, IfErr, IsTrue};
+ghost use Rattle.std.specs.Prelude.{◌<◌, [], IfOk, IfErr};
 ghost use Rattle.script_lang.specs.declared.event.Event.TheVariants.{Connect};
-ghost use Rattle.signatures.specs.declared.kind.Kind.TheVariants.{Queued};
-ghost use Rattle.machine_state.specs.Connections.{are_joined};
 ghost use Rattle.machine_state.specs.Worlds.{at};
 ghost use Rattle.qt_runtime.specs.Judgement.{IsNotAccepted};
 ghost use Rattle.qt_runtime.specs.Taking.{WorldInvariant, Answers, ConnectsThese};
@@ -12,9 +10,8 @@ ghost use Rattle.qt_runtime.specs.events.Connect.{connect};
 use crate::events::ends::find_ends;
 use crate::judgement::{NotAccepted, refuse};
 use machine_rules::Setting;
-use machine_state::{Answer, Endpoints, Fault, Refusal, World};
-use meta_objects::Wired;
-use signatures::{Kind, Name};
+use machine_state::{Answer, Endpoints, Fault, World};
+use signatures::Name;
 use texts::{self, ConnectionType};
 
 /// Makes a connection.
@@ -50,31 +47,8 @@ fn judge(
         (connect setting.now.meta (at world.now []) named.now how)) }
 {
     let found = find_ends(setting, world, named)?;
-    if is_queued(how.kind) {
-        return Err(NotAccepted::Refused(Refusal::NotWired));
+    match setting.may_connect(world, &found, &named.signal, &named.method, how) {
+        Ok(()) => Ok(found.ends),
+        Err(refusal) => Err(NotAccepted::Refused(refusal)),
     }
-    match setting.meta.wired(found.from, &named.signal, found.to, &named.method, how.kind) {
-        Wired::No => Err(NotAccepted::Refused(Refusal::NotWired)),
-        Wired::Unfit => Err(NotAccepted::Refused(Refusal::Incompatible)),
-        Wired::Fit => {
-            if exists(world, &found.ends, how) {
-                return Err(NotAccepted::Refused(Refusal::Exists));
-            }
-            Ok(found.ends)
-        }
-    }
-}
-
-/// Whether a unique connection is asked for, and the two are connected.
-fn exists(world: &World, ends: &Endpoints, how: ConnectionType) -> bool
-    ensures { result ≡ (how.unique && are_joined ends.now world.now.connected) }
-{
-    how.unique && world.are_joined(ends)
-}
-
-/// Whether the connection is queued.
-fn is_queued(kind: Kind) -> bool
-    ensures { IsTrue result ↔ (kind ≡ Queued) }
-{
-    matches!(kind, Kind::Queued)
 }

@@ -2,28 +2,17 @@
 
 ghost use Rattle.std.specs.Prelude.{◌≡◌, ◌↔◌, IfOk, IfErr, IsTrue, MatchOption};
 ghost use Rattle.meta_model.specs.declared.object.Work.TheVariants.{Signal};
-ghost use Rattle.qt_runtime.specs.Judgement.{IsNotAccepted, NothingIs};
-ghost use Rattle.qt_runtime.specs.events.Ends.{FindsEnds, find_ends, named_signal, IsSignalOf, IsSignalNumber};
+ghost use Rattle.machine_rules.specs.Judgement.{NothingIs};
+ghost use Rattle.qt_runtime.specs.Judgement.{IsNotAccepted};
+ghost use Rattle.qt_runtime.specs.events.Ends.{FindsEnds, find_ends, IsSignalOf, IsSignalNumber};
 
 use crate::events::named::find_living;
 use crate::judgement::NotAccepted;
-use machine_rules::Setting;
+use machine_rules::{FoundEnds, Setting, named_signal};
 use machine_state::{Endpoints, Refusal, World};
-use meta_model::{DESTROYED, DESTROYED_ALONE};
 use meta_objects::{Meta, MetaMethod, Work};
 use signatures::{Name, ObjectId, Sig};
 use texts;
-
-/// The ends of a connection, with the classes of the sender and of the receiver.
-#[derive(Clone, Copy)]
-pub struct FoundEnds {
-    /// The number of the sender's class.
-    pub from: usize,
-    /// The number of the receiver's class.
-    pub to: usize,
-    /// The objects and their methods.
-    pub ends: Endpoints,
-}
 
 /// The objects and methods that are named, or why the event isn't accepted.
 pub fn find_ends(
@@ -74,15 +63,4 @@ pub fn is_signal(method: &MetaMethod) -> bool
     ensures { IsTrue result ↔ (method.now.work ≡ Signal) }
 {
     matches!(method.work, Work::Signal)
-}
-
-/// The signal that a spelling names: `destroyed()` is `destroyed(QObject*)`.
-fn named_signal(signal: usize) -> usize
-    ensures { result ≡ named_signal signal }
-{
-    if signal == DESTROYED_ALONE {
-        DESTROYED
-    } else {
-        signal
-    }
 }

@@ -2,7 +2,7 @@ use Rattle.std.proofs.Common.{[], refl}
 use Rattle.object_tree.specs.declared.life.Life.{Life}
 use Rattle.machine_state.specs.Accepting.{accepted}
 use Rattle.machine_state.specs.Worlds.{at}
-use Rattle.qt_runtime.specs.Judgement.{Numbered}
+use Rattle.machine_rules.specs.Judgement.{Numbered}
 use Rattle.qt_runtime.proofs.Judging.Adopting.{no-parent, no-child, adopts, typed-adopted, adoption-stops, adoption-refuses}
 use Rattle.qt_runtime.proofs.Judging.Naming.{living-object}
 use Rattle.qt_runtime.proofs.Taken.{took-quiet, took-halted, took-refused-from, took-not-accepted}

@@ -1,4 +1,4 @@
-use Rattle.std.proofs.Common.{Ok, Err}
+use Rattle.std.proofs.Common.{Ok, Err, arith}
 use Rattle.machine_rules.proofs.Keeps.{sound-as, sound-written}
 use Rattle.machine_rules.proofs.Writes.{announces-as, announces-written}
 use Rattle.qt_runtime.proofs.Pushed.{assigned, unwritten-short}
@@ -14,7 +14,8 @@ returns-in_err-accept_write c = λ e writes. took-unchanged e _ c.requires.left 
 pub run_update-requires-clause-sound : goal.run_update-requires-clause-sound
 run_update-requires-clause-sound c =
     let is = c.in_ok-writing.ensures.ok in
-    sound-as c.in_ok-accept_write.ensures (sound-written c.args.value is.alters.is is.fits c.requires.keeps.sound)
+    let keeps = c.requires.keeps in
+    sound-as c.in_ok-accept_write.ensures (record { program = keeps.program; is = sound-written c.args.value is.alters.is is.fits keeps.sound; numbers = omega (arith, keeps.connected) })
 
 pub run_update-requires-clause-announces : goal.run_update-requires-clause-announces
 run_update-requires-clause-announces c = announces-as _ _ _ _ c.in_ok-accept_write.ensures (announces-written c.args.value _ c.in_ok-writing.ensures.ok.alters c.requires.keeps.sound.typed)

@@ -3,7 +3,7 @@ use Rattle.object_tree.specs.declared.life.Life.{Life}
 use Rattle.object_tree.specs.Objects.{change_life, blocked}
 use Rattle.machine_state.specs.Accepting.{accepted}
 use Rattle.machine_state.specs.Worlds.{at}
-use Rattle.qt_runtime.specs.Judgement.{Numbered}
+use Rattle.machine_rules.specs.Judgement.{Numbered}
 use Rattle.qt_runtime.proofs.Judging.Blocking.{not-blocking, blocks, typed-blocked}
 use Rattle.qt_runtime.proofs.Taken.{took-quiet, took-unchanged, took-not-accepted}
 use Rattle.qt_runtime.proofs.events.block.block.Goals as goal

@@ -1,4 +1,5 @@
-use Rattle.std.proofs.Common.{Ok, Err}
+use Rattle.std.proofs.Common.{Ok, Err, arith}
+use Rattle.machine_rules.proofs.Keeps.{sound-as}
 use Rattle.qt_runtime.proofs.Pushed.{began, barred-short}
 use Rattle.qt_runtime.proofs.Taken.{took-unchanged, took-stopped}
 use Rattle.qt_runtime.proofs.events.invoke.begin.Goals as goal
@@ -8,6 +9,11 @@ returns-in_err-begun c = λ e asks. barred-short e _ c.requires.depth c.requires
 
 pub returns-in_err-accept_with : goal.returns-in_err-accept_with
 returns-in_err-accept_with c = λ e asks. took-unchanged e _ c.requires.left c.in_err-accept_with.ensures c.from_residual-in_err-accept_with.ensures.1
+
+pub run_begun-requires-clause-sound : goal.run_begun-requires-clause-sound
+run_begun-requires-clause-sound c =
+    let keeps = c.requires.keeps in
+    sound-as c.in_ok-accept_with.ensures (record { program = keeps.program; is = record { typed = keeps.sound.typed; joined = keeps.sound.joined }; numbers = omega (arith, keeps.connected) })
 
 pub returns-in_err-run_begun : goal.returns-in_err-run_begun
 returns-in_err-run_begun c = λ e asks.

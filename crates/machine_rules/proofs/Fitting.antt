@@ -11,7 +11,7 @@ use Rattle.meta_model.specs.declared.qobject.TheConstants.{DESTROYED, DESTROYED_
 use Rattle.meta_model.specs.Loaded.{Loaded}
 use Rattle.meta_model.specs.Members.{IsMethod}
 use Rattle.meta_model.specs.Sound.{IsKind, IsSound, AreDistinctClasses}
-use Rattle.qt_runtime.specs.events.Ends.{named_signal}
+use Rattle.machine_rules.specs.Connecting.{named_signal}
 use Rattle.meta_model.proofs.Roots.{destroyed_alone_types}
 
 -- of what `int`, `bool` and `QString` differ
@@ -99,6 +99,19 @@ destroyed-gives {p} {c} {signal = signal} {method = method} sound is has fits =
     let first = first-there is.class.methods signal is.is in
     let all : first.0.kinds ≡ method.kinds ++ first.0.kinds = sym (ap (λ (ks : List ValueType). ks ++ first.0.kinds) empty) in
     (first.0, record { class = is.class; is_class = is.is_class; is = first.1 }, (first.0.kinds, all))
+
+-- the signal that a spelling names is there
+pub named-there : {p : Loaded} {c : ℕ} (g : ℕ) {signal : MetaMethod} → IsMethod p c g signal → (kept : MetaMethod) × IsMethod p c (named_signal g) kept
+named-there {p} {c} g {signal} is =
+    let Is : ℕ → Type 0 = λ n. IsMethod p c n signal in
+    let There : ℕ → Type 0 = λ n. (kept : MetaMethod) × IsMethod p c n kept in
+    elim (cases_eq g DESTROYED_ALONE) as (λ r. There (named_signal g)) [
+      | inl same ↦
+          let alone : IsMethod p c DESTROYED_ALONE signal = subst Is same is in
+          let first = first-there alone.class.methods signal alone.is in
+          subst (λ (n : ℕ). There (named_signal n)) (sym same) (first.0, record { class = alone.class; is_class = alone.is_class; is = first.1 })
+      | inr other ↦ subst There (sym (named-other g other)) (signal, is)
+    ]
 
 -- the signal that a connection keeps gives what a method takes that fits the signal that is spelled
 pub kinds-fit : {p : Loaded} {c d g m : ℕ} {signal method : MetaMethod} → IsSound p → IsMethod p c g signal → IsMethod p d m method → Fits signal.sig method.sig → (kept : MetaMethod) × IsMethod p c (named_signal g) kept × ((rest : List ValueType) × (kept.kinds ≡ method.kinds ++ rest))
