@@ -2,6 +2,7 @@ pub mod Lists
 pub mod Fitting
 pub mod OneAnswer
 pub mod Frames
+pub mod Waiting
 pub mod Keeps
 pub mod Reaching
 pub mod Fields
@@ -12,4 +13,6 @@ pub mod Bodies
 pub mod Reading
 pub mod Yielding
 pub mod Blocks
+pub mod Soundness
+pub mod Turning
 pub mod OneRule

@@ -1,7 +1,7 @@
 -- Judgements, step by step, have at most one answer.
 use Rattle.std.proofs.Common.{◌≡◌, ℕ, Result, Ok, Err, refl, sym, ap, ◌∙◌, subst}
 use Rattle.machine_state.specs.declared.refusal.Refusal.{Refusal}
-use Rattle.machine_rules.specs.Judgement.{Numbered, Find, Check, Gives, Refuses, Becomes, Then, found, missing, holds, fails, gives, becomes, goes_on, ends, HasOneAnswer}
+use Rattle.machine_rules.specs.Judgement.{Numbered, Find, Check, Gives, Becomes, Then, found, missing, holds, fails, gives, becomes, goes_on, ends, HasOneAnswer}
 
 pub one-find : {X : Type 0} {k : Refusal} {Is : X → Type 0} → ((x y : X) → Is x → Is y → x ≡ y) → HasOneAnswer (Find k Is)
 one-find {X} only a b (found {x = x} f) (found {x = y} g) = ap (λ (z : X). Ok z) (only x y f g)
@@ -17,11 +17,6 @@ one-check a b (fails f) (fails g) = refl
 
 pub one-gives : {X : Type 0} (x : X) → HasOneAnswer (Gives x)
 one-gives x a b gives gives = refl
-
-pub one-refuses : {X : Type 0} (k : Refusal) → HasOneAnswer (Refuses {X = X} k)
-one-refuses k (Ok x) b f g = absurd f
-one-refuses k (Err i) (Ok y) f g = absurd g
-one-refuses k (Err i) (Err j) f g = ap (λ (z : Refusal). Err z) (f ∙ sym g)
 
 pub one-becomes : {X : Type 0} {Is : X → Type 0} → ((x y : X) → Is x → Is y → x ≡ y) → HasOneAnswer (Becomes Is)
 one-becomes {X} only a b (becomes {x = x} f) (becomes {x = y} g) = ap (λ (z : X). Ok z) (only x y f g)

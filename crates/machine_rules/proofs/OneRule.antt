@@ -1,5 +1,5 @@
 -- From one state at most one follows by a rule.
-use Rattle.std.proofs.Common.{◌≡◌, ℕ, List, [], ◌∷◌, length, take, Option, Some, None, Result, refl, sym, ap, ◌∙◌, subst}
+use Rattle.std.proofs.Common.{◌≡◌, ℕ, List, [], ◌∷◌, length, take, Option, Some, None, Result, refl, sym, ap, ◌∙◌, subst, Bool, true, false}
 use Rattle.signatures.specs.declared.value.Value.{Value}
 use Rattle.meta_model.specs.declared.object.MetaMethod.{MetaMethod}
 use Rattle.meta_model.specs.declared.object.MetaProperty.{MetaProperty}
@@ -8,6 +8,11 @@ use Rattle.meta_model.specs.declared.object.Work.TheVariants.{Signal}
 use Rattle.meta_model.specs.Loaded.{Loaded}
 use Rattle.meta_model.specs.Members.{IsMethod}
 use Rattle.object_tree.specs.declared.life.Life.{Life}
+use Rattle.std.specs.List.{find}
+use Rattle.event_loops.specs.declared.item.Item.{Item}
+use Rattle.event_loops.specs.declared.item.Item.TheVariants.{Call, Deletion}
+use Rattle.event_loops.specs.declared.item.Posted.{Posted}
+use Rattle.event_loops.specs.Queues.{items_at, is_before, taken_before}
 use Rattle.object_tree.specs.declared.object.Object.{Object}
 use Rattle.object_tree.specs.Objects.{change_life, written}
 use Rattle.object_tree.specs.Seen.{seen}
@@ -16,6 +21,8 @@ use Rattle.machine_state.specs.declared.entry.Entry.TheVariants.{At}
 use Rattle.machine_state.specs.declared.entry.Happening.TheVariants.{Written}
 use Rattle.machine_state.specs.Connections.{next_used}
 use Rattle.machine_state.specs.Objects.{shown}
+use Rattle.machine_state.specs.declared.turn.Turn.{Turn}
+use Rattle.machine_state.specs.Turns.{running, reaches_at_once}
 use Rattle.machine_state.specs.State.{State, Place, Activation, Body, Emit, Update}
 use Rattle.signatures.specs.declared.sig.Sig.{Sig}
 use Rattle.texts.specs.declared.connection.ConnectionType.{ConnectionType}
@@ -28,7 +35,7 @@ use Rattle.machine_rules.specs.Connecting.{AreThere, kept_ends, names_of, found_
 use Rattle.machine_rules.specs.Judgement.{HasOneAnswer}
 use Rattle.machine_rules.proofs.OneAnswer.{one-check, one-then}
 use Rattle.machine_rules.specs.Doings.{Doing, Write, Begin, Choose, Connect, Disconnect, Nothing}
-use Rattle.machine_rules.specs.Rules.{Rule, RuleAt, BodyRule, Does, EmitRule, Uses, UpdateRule, Notifies, Begins, Writes, Changes, places_of, changed, unchanged, silent, begun, pushed, with_used, Connects, Disconnects, linked, unlinked}
+use Rattle.machine_rules.specs.Rules.{Rule, RuleAt, BodyRule, Does, EmitRule, Uses, UpdateRule, Notifies, Begins, Writes, Changes, places_of, changed, unchanged, silent, begun, pushed, with_used, Connects, Disconnects, linked, unlinked, Arrives, posted, TurnRule, Serves, Delivers}
 use Rattle.machine_rules.proofs.Fields.{some-is, life-unique, method-unique, member-object, member-method, field-property}
 
 -- two methods of one number of one life's class
@@ -80,7 +87,7 @@ names-one a b =
 
 -- .. between which a connection may be made, or not
 pub may-connect-one : (p : Loaded) (connected : Connected) (found : FoundEnds) (signal method : Sig) (how : ConnectionType) → HasOneAnswer (may_connect p connected found signal method how)
-may-connect-one p connected found signal method how = one-then one-check (λ _. one-then one-check (λ _. one-then one-check (λ _. one-check)))
+may-connect-one p connected found signal method how = one-then one-check (λ _. one-then one-check (λ _. one-check))
 
 connects-one : {p : Loaded} {s t u : State} {stack : List Activation} {ends : Endpoints} {how : ConnectionType} → Connects p s stack ends how t → Connects p s stack ends how u → t ≡ u
 connects-one {p} {s} {stack = stack} {ends = ends} {how = how} a b =
@@ -121,12 +128,24 @@ body-one p s o m arguments below t u (x ∷ rest) a b =
     let Done : Doing → Type 0 = λ d. Does p s o m arguments rest below d u in
     does-one p s o m arguments rest below a.what t u a.does (subst Done (sym same) b.does)
 
+arrives-one : {t u : State} (s : State) (stack : List Activation) (home o : ℕ) (x : Object) (m : ℕ) (method : MetaMethod) (arguments : List Value) (b : Bool) → Arrives s stack home o x m method arguments t b → Arrives s stack home o x m method arguments u b → t ≡ u
+arrives-one s stack home o x m method arguments true a b = a ∙ sym b
+arrives-one s stack home o x m method arguments false a b =
+    let both : Some a.name ≡ Some b.name = sym a.is_loop ∙ b.is_loop in
+    let name_is : a.name ≡ b.name = cc both in
+    a.gives ∙ ap (λ (name : List ℕ). posted s stack name home o x m method arguments) name_is ∙ sym b.gives
+
 uses-one : {p : Loaded} {s t u : State} {below : List Activation} {c : Connection} {arguments : List Value} → Uses p s below c arguments t → Uses p s below c arguments u → t ≡ u
-uses-one {s = s} {below = below} {c = c} {arguments = arguments} a b =
+uses-one {s = s} {u = u} {below = below} {c = c} {arguments = arguments} a b =
     let receiver_is : a.receiver ≡ b.receiver = member-object a.is b.is in
     let method_is : a.method ≡ b.method = member-method a.is b.is in
-    let state_of : Object → MetaMethod → State = λ x k. begun (with_used s c) below c.receiver x c.method k (take (length k.kinds) arguments) k.work in
-    a.gives ∙ ap (λ (x : Object). state_of x a.method) receiver_is ∙ ap (λ (k : MetaMethod). state_of b.receiver k) method_is ∙ sym b.gives
+    let homes : Some a.home ≡ Some b.home = sym a.lives_in ∙ b.lives_in in
+    let home_is : a.home ≡ b.home = cc homes in
+    let Arrive : ℕ → Object → MetaMethod → Type 0 = λ home x k. Arrives (with_used s c) below home c.receiver x c.method k (take (length k.kinds) arguments) u (reaches_at_once c.kind home (running s.turn)) in
+    let with_home : Arrive a.home b.receiver b.method = subst (λ (home : ℕ). Arrive home b.receiver b.method) (sym home_is) b.arrives in
+    let with_receiver : Arrive a.home a.receiver b.method = subst (λ (x : Object). Arrive a.home x b.method) (sym receiver_is) with_home in
+    let with_all : Arrive a.home a.receiver a.method = subst (λ (k : MetaMethod). Arrive a.home a.receiver k) (sym method_is) with_receiver in
+    arrives-one (with_used s c) below a.home c.receiver a.receiver c.method a.method (take (length a.method.kinds) arguments) (reaches_at_once c.kind a.home (running s.turn)) a.arrives with_all
 
 emit-one : (p : Loaded) (s : State) (o g : ℕ) (arguments : List Value) (last : ℕ) (below : List Activation) (t u : State) (found : Option Connection) → EmitRule p s o g arguments last below t found → EmitRule p s o g arguments last below u found → t ≡ u
 emit-one p s o g arguments last below t u None a b = a ∙ sym b
@@ -152,8 +171,20 @@ update-one : (p : Loaded) (s : State) (below : List Activation) (t u : State) (p
 update-one p s below t u [] a b = a ∙ sym b
 update-one p s below t u (place ∷ places) a b = notifies-one a b
 
+delivers-one : (p : Loaded) (s t u : State) (item : Item) → Delivers p s t item → Delivers p s u item → t ≡ u
+delivers-one p s t u (Call o m arguments) a b = begins-one a b
+delivers-one p s t u (Deletion o) a b = absurd a
+
+serves-one : (p : Loaded) (s t u : State) (turn : Turn) (first : Option Posted) → Serves p s t turn first → Serves p s u turn first → t ≡ u
+serves-one p s t u turn None a b = a ∙ sym b
+serves-one p s t u turn (Some q) a b = delivers-one p (record s { queues = taken_before turn.home turn.limit s.queues }) t u q.item a b
+
+turn-one : (p : Loaded) (s t u : State) (turn : Option Turn) → TurnRule p s t turn → TurnRule p s u turn → t ≡ u
+turn-one p s t u None a b = absurd a
+turn-one p s t u (Some turn) a b = serves-one p s t u turn (find (is_before turn.limit) (items_at s.queues.loops turn.home)) a b
+
 stack-one : (p : Loaded) (s t u : State) (stack : List Activation) → RuleAt p s t stack → RuleAt p s u stack → t ≡ u
-stack-one p s t u [] a b = absurd a
+stack-one p s t u [] a b = turn-one p s t u s.turn a b
 stack-one p s t u (Body o m arguments left ∷ below) a b = body-one p s o m arguments below t u left a b
 stack-one p s t u (Emit o g arguments used last ∷ below) a b = emit-one p s o g arguments last below t u (next_used s.objects s.connected.connections o g used last) a b
 stack-one p s t u (Update places ∷ below) a b = update-one p s below t u places a b

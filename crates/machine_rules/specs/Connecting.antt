@@ -1,7 +1,6 @@
 -- Whether connections are made and removed, by events and by statements (docs/machine.md, "Connections"; Qt 6,
 -- `QObject::connect` and `QObject::disconnect`).
 use Rattle.std.specs.Prelude.{◌≢◌, ◌&&◌, ℕ, eqb, if◌then◌else◌, IsTrue, List, Result}
-use Rattle.signatures.specs.declared.kind.Kind.TheVariants.{Queued}
 use Rattle.signatures.specs.declared.sig.Sig.{Sig}
 use Rattle.signatures.specs.Types.{Fits}
 use Rattle.texts.specs.declared.connection.ConnectionType.{ConnectionType}
@@ -28,11 +27,9 @@ named_signal g = if eqb g DESTROYED_ALONE then DESTROYED else g
 abbrev pub kept_ends : Endpoints → Endpoints
 kept_ends ends = record ends { signal = named_signal ends.signal }
 
--- A connection may be made from a signal to a method, as both are spelled. One of kind queued is refused, as long as
--- nothing carries queued calls out.
+-- a connection may be made from a signal to a method, as both are spelled
 abbrev pub may_connect : Loaded → Connected → FoundEnds → Sig → Sig → ConnectionType → Result (Unit {0}) Refusal → Type 0
 may_connect p connected found signal method how =
-    Check NotWired (how.kind ≢ Queued) >>= λ _.
     Check NotWired (Covers p found.from signal found.to method how.kind) >>= λ _.
     Check Incompatible (Fits signal method) >>= λ _.
     Check Exists (¬ IsTrue (how.unique && are_joined found.ends connected))

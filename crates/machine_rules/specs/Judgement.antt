@@ -29,11 +29,6 @@ pub data Check (r : Refusal) (Holds : Type 0) : Result (Unit {0}) Refusal → Ty
 pub data Gives {X : Type 0} (x : X) : Result X Refusal → Type 0 where
   gives : Gives x (Ok x)
 
--- nothing is given, whatever is so
-abbrev pub Refuses : {X : Type 0} → Refusal → Result X Refusal → Type 0
-Refuses r (Ok x) = ⊥
-Refuses r (Err k) = k ≡ r
-
 -- one that this relation tells of is given
 pub data Becomes {X : Type 0} (Is : X → Type 0) : Result X Refusal → Type 0 where
   becomes : {x : X} → Is x → Becomes Is (Ok x)

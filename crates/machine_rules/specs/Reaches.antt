@@ -1,5 +1,5 @@
 -- What a call of the machine's code does, whatever activations are below (docs/machine.md, "Runs").
-use Rattle.std.specs.Prelude.{◌≡◌, ◌≢◌, ℕ, ◌+◌, ◌-◌, ◌<◌, ◌≤◌, ◌⊎◌, List, ◌++◌, length, Result, Ok, Err, MatchResult, Bool, Option, Some}
+use Rattle.std.specs.Prelude.{◌≡◌, ◌≢◌, ℕ, ◌+◌, ◌-◌, ◌<◌, ◌≤◌, ◌⊎◌, List, ◌++◌, length, Result, Ok, Err, MatchResult, Bool, Option, Some, ◌∷◌, []}
 use Rattle.meta_model.specs.Loaded.{Loaded}
 use Rattle.signatures.specs.declared.value.Value.{Value}
 use Rattle.signatures.specs.declared.value.Value.TheVariants as value
@@ -8,6 +8,9 @@ use Rattle.meta_model.specs.declared.object.Work.{Work}
 use Rattle.meta_model.specs.declared.object.Work.TheVariants.{Signal, Slot}
 use Rattle.expressions.specs.declared.evaluation.EvalFault.{EvalFault}
 use Rattle.expressions.specs.declared.evaluation.EvalFault.TheVariants.{BadType, Memory as NoMemory}
+use Rattle.connections.specs.declared.connection.Connection.{Connection}
+use Rattle.event_loops.specs.declared.item.Item.TheVariants.{Call}
+use Rattle.event_loops.specs.Queues.{HasName}
 use Rattle.machine_state.specs.declared.entry.Entry.{Entry}
 use Rattle.machine_state.specs.declared.entry.Entry.TheVariants.{At}
 use Rattle.machine_state.specs.declared.entry.Happening.TheVariants as happening
@@ -18,7 +21,7 @@ use Rattle.machine_state.specs.declared.fault.Fault.TheVariants.{BadType as IllT
 use Rattle.machine_state.specs.declared.world.World.{World}
 use Rattle.machine_state.specs.Connections.{is_silent}
 use Rattle.machine_state.specs.State.{State, Activation, Body, Emit, IsIdle}
-use Rattle.machine_state.specs.Objects.{all_shown}
+use Rattle.machine_state.specs.Objects.{all_shown, home_of}
 use Rattle.texts.specs.declared.connection.ConnectionType.{ConnectionType}
 use Rattle.texts.specs.declared.connection.Endpoints.{Endpoints as Named}
 use Rattle.machine_state.specs.declared.endpoints.Endpoints.{Endpoints}
@@ -28,7 +31,7 @@ use Rattle.machine_rules.specs.Rules.{Rule, Begins, Writes, Connects, Disconnect
 use Rattle.machine_rules.specs.There.{IsMember}
 use Rattle.machine_rules.specs.Active.{shows}
 use Rattle.machine_rules.specs.Runs.{Rules, RulesStop}
-use Rattle.machine_state.specs.Worlds.{at}
+use Rattle.machine_state.specs.Worlds.{at, having_used, posting, Becomes}
 
 -- ---- what a body's paths and expressions give to the code
 
@@ -114,6 +117,24 @@ begin_entry depth x m method given (Slot statements) = At depth (happening.Calle
 -- the entry of a method of an object that begins with these arguments, where so many activations are on the stack
 abbrev pub entry_of_call : World → ℕ → Object → ℕ → MetaMethod → List Value → Entry
 entry_of_call w depth x m method arguments = begin_entry depth x m method.sig.name (all_shown w.objects arguments) method.work
+
+-- .. of a call of a method of an object that is posted to the event loop of this name
+abbrev pub entry_of_post : World → ℕ → List ℕ → Object → MetaMethod → List Value → Entry
+entry_of_post w depth name x method arguments = At depth (happening.Posted name x.name method.sig.name (all_shown w.objects arguments))
+
+-- a connection was used and a call of its method posted to the event loop in which its receiver lives, where so many
+-- activations are on the stack; or memory was refused
+pub record PostsCall (p : Loaded) (w : World) (depth : ℕ) (c : Connection) (arguments : List Value)
+    (v : World) (result : Result (Unit {0}) Fault) : Type 0 where
+  pub object : Object
+  pub method : MetaMethod
+  pub is : IsMember p w.objects c.receiver c.method object method
+  pub name : List ℕ
+  pub home : ℕ
+  pub lives_in : home_of w.objects c.receiver ≡ Some home
+  pub is_loop : HasName w.queues.loops name home
+  pub becomes :
+      Becomes w (posting (having_used w c) (entry_of_post w depth name object method arguments ∷ []) home (Call c.receiver c.method arguments)) v result
 
 -- what is pushed where a method begins
 abbrev pub top_of : ℕ → ℕ → List Value → ℕ → Work → Activation

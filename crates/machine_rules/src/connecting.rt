@@ -1,7 +1,6 @@
 //! Connections that statements make and remove.
 
-ghost use Rattle.std.specs.Prelude.{◌≡◌, ◌↔◌, ◌<◌, ◌^◌, ◌-◌, IfOk, IfErr, IsTrue, MatchOption};
-ghost use Rattle.signatures.specs.declared.kind.Kind.TheVariants.{Queued};
+ghost use Rattle.std.specs.Prelude.{◌≡◌, ◌<◌, ◌^◌, ◌-◌, IfOk, IfErr, MatchOption};
 ghost use Rattle.machine_state.specs.Refusals.{refusal_number};
 ghost use Rattle.machine_state.specs.declared.entry.Entry.TheVariants.{At};
 ghost use Rattle.machine_state.specs.declared.entry.Happening.TheVariants.{Refused};
@@ -12,7 +11,7 @@ use crate::ends::{FoundEnds, kept_ends};
 use crate::setting::Setting;
 use machine_state::{Endpoints, Entry, Fault, Happening, Refusal, World};
 use meta_objects::Wired;
-use signatures::{Kind, Name, Sig};
+use signatures::{Name, Sig};
 use texts::{self, ConnectionType};
 
 impl Setting {
@@ -70,9 +69,6 @@ impl Setting {
         ensures { may_connect self.now.meta world.now.connected found.now
             signal.now method.now how result }
     {
-        if is_queued(how.kind) {
-            return Err(Refusal::NotWired);
-        }
         match self
             .meta
             .wired(found.from, signal, found.to, method, how.kind)
@@ -139,11 +135,4 @@ fn refused(depth: usize, refusal: Refusal) -> Entry
     ensures { result ≡ At depth (Refused (refusal_number refusal)) }
 {
     Entry::At(depth, Happening::Refused(refusal.number()))
-}
-
-/// Whether the connection is queued.
-fn is_queued(kind: Kind) -> bool
-    ensures { IsTrue result ↔ (kind ≡ Queued) }
-{
-    matches!(kind, Kind::Queued)
 }

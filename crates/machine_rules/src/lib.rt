@@ -1,4 +1,5 @@
-//! The rules of a run: emissions, bodies of slots, connections that these make, and writes of properties.
+//! The rules of a run: emissions, bodies of slots, connections that these make, writes of properties and turns of event
+//! loops.
 #![tactic(auto)]
 
 mod active;
@@ -9,8 +10,10 @@ mod emission;
 mod ends;
 mod laws;
 mod paths;
+mod posting;
 mod remaining;
 mod setting;
+mod turn;
 mod update;
 
 pub use active::Active;

@@ -18,7 +18,7 @@ found-passes {X} test (x ∷ xs) c e =
     ]) refl e
 
 -- .. and is one of the list
-found-among : {X : Type 0} (P : X → Type 0) (test : X → Bool) (xs : List X) (c : X) → AllByRecursion P xs → find test xs ≡ Some c → P c
+pub found-among : {X : Type 0} (P : X → Type 0) (test : X → Bool) (xs : List X) (c : X) → AllByRecursion P xs → find test xs ≡ Some c → P c
 found-among P test [] c all e = absurd (cc e)
 found-among {X} P test (x ∷ xs) c all e =
     (elim (test x) as (λ b. cond b (Some x) (find test xs) ≡ Some c → P c) [

@@ -57,6 +57,17 @@ pub enum Happening {
         /// Its new value.
         value: Shown,
     },
+    /// A call of a slot, or of a signal, is posted to an event loop.
+    Posted {
+        /// The loop.
+        event_loop: Name,
+        /// Whose method.
+        object: Name,
+        /// The method.
+        method: Name,
+        /// With these arguments.
+        arguments: Items<Shown>,
+    },
     /// A statement does nothing, since a path leads to null.
     OnNull,
     /// A statement makes a connection between the objects of these names, in this way.

@@ -22,7 +22,7 @@ pub enum Refusal {
     OtherLoop,
     /// As many objects were created as may be.
     TooManyObjects,
-    /// No wire of the program covers the connection, or its kind is queued, which isn't carried out yet.
+    /// No wire of the program covers the connection.
     NotWired,
     /// The method's types aren't the first ones of the signal's.
     Incompatible,

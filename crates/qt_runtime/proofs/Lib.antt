@@ -13,6 +13,7 @@ pub mod Inherited
 pub mod TypedPaths
 pub mod Standing
 pub mod Possible
+mod Homes
 pub mod Preservation
 pub mod Progress
 pub mod Halting

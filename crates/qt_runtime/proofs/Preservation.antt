@@ -1,6 +1,6 @@
 -- Why what is going on goes on: its objects, members and statements are there.
 use Rattle.std.proofs.Common.{◌≡◌, ℕ, suc, ◌+◌, ◌<◌, Bool, List, [], ◌∷◌, ◌++◌, length, take, true, false, Option, Some, None, slice_get, refl, sym, ◌∙◌, subst, Ok, arith}
-use Rattle.std.specs.List.{AllByRecursion}
+use Rattle.std.specs.List.{AllByRecursion, find}
 use Rattle.signatures.specs.declared.value.Value.{Value}
 use Rattle.script_lang.specs.declared.event.Event.{Event}
 use Rattle.script_lang.specs.declared.event.Event.TheVariants.{Loop, Turn, New, Adopt, Connect, Disconnect, Set, Emit as EmitEvent, Call as CallEvent, Block, Unblock}
@@ -24,7 +24,6 @@ use Rattle.object_tree.specs.Objects.{change_life, written, blocked}
 use Rattle.object_tree.specs.Typed.{AreTyped, ReadAs}
 use Rattle.object_tree.proofs.TypedObjects.{class-more, seen-appended, shape_in, class-same, seen-same, shape-change, shape-moved}
 use Rattle.std.specs.Prelude.{Result, Err}
-use Rattle.machine_state.specs.Worlds.{main, with_connection}
 use Rattle.machine_state.specs.declared.endpoints.Endpoints.{Endpoints}
 use Rattle.machine_state.specs.declared.refusal.Refusal.{Refusal}
 use Rattle.machine_rules.specs.Connecting.{AreThere, kept_ends, names_of}
@@ -32,7 +31,14 @@ use Rattle.machine_rules.specs.Doings.{Doing, Write, Begin, Choose, Connect as L
 use Rattle.qt_runtime.proofs.Possible.{possible}
 use Rattle.qt_runtime.proofs.Standing.{BodyStands, PlaceStands, Stands, Invariant, AllStand, stands-still}
 use Rattle.machine_state.specs.State.{State, IsIdle, Place, Activation, Body, Emit, Update}
-use Rattle.machine_rules.specs.Rules.{Rule, RuleAt, BodyRule, Does, EmitRule, UpdateRule, Begins, Writes, Changes, places_of, changed, unchanged, silent, begun, with_used, linked, unlinked}
+use Rattle.machine_rules.specs.Rules.{Rule, RuleAt, BodyRule, Does, EmitRule, UpdateRule, Begins, Writes, Changes, places_of, changed, unchanged, silent, begun, with_used, linked, unlinked, TurnRule, Serves, Delivers, Arrives}
+use Rattle.machine_state.specs.Objects.{home_of}
+use Rattle.event_loops.specs.declared.item.Item.{Item}
+use Rattle.event_loops.specs.declared.item.Item.TheVariants.{Call, Deletion}
+use Rattle.event_loops.specs.declared.item.Posted.{Posted}
+use Rattle.event_loops.specs.Queues.{Loop as ALoop, items_at, is_before, taken_before, with_loop}
+use Rattle.machine_state.specs.declared.turn.Turn.{Turn as ATurn}
+use Rattle.machine_state.specs.Turns.{running, reaches_at_once}
 use Rattle.machine_state.specs.Connections.{next_used}
 use Rattle.signatures.specs.declared.sig.Sig.{Sig}
 use Rattle.signatures.specs.Types.{Fits}
@@ -57,13 +63,16 @@ use Rattle.machine_rules.specs.Good.{ArgumentsFit, TopFits, IsWell}
 use Rattle.qt_runtime.specs.Runs.{Runs, done, rules, takes}
 use Rattle.machine_rules.specs.Runs.{Rules}
 use Rattle.machine_rules.specs.Runs as of_rules
-use Rattle.machine_rules.specs.Sound.{Sound, Joined}
+use Rattle.machine_rules.specs.Sound.{Joined, AreHoused}
 use Rattle.machine_rules.specs.Keeps.{StayThere, Keeps}
 use Rattle.machine_rules.specs.There.{IsMember, IsField}
 use Rattle.machine_rules.proofs.Fields.{member-method, field-written}
 use Rattle.qt_runtime.proofs.Changes.{adopted-by}
 use Rattle.machine_rules.proofs.Lists.{all-snoc, all-weaken}
 use Rattle.machine_rules.proofs.Keeps.{all-stay, written-stay, all-joined-still, rule-kept, begins-kept, writes-kept, joined-by}
+use Rattle.qt_runtime.proofs.Homes.{housed-more, housed-loop, waiting-loop, home-there, home-moved}
+use Rattle.machine_rules.proofs.Soundness.{AllFit, Fair, rule-fair, begins-fair, writes-fair, all-wait-still}
+use Rattle.machine_rules.proofs.Waiting.{housed-same, home-change}
 
 -- ---- statements
 
@@ -148,28 +157,47 @@ module _ {p : Loaded} {s t : State} (sound : IsSound p) (well : IsWell p s t) wh
   body-stands typed o m arguments below [] body lower high r = as-is r lower
   body-stands typed o m arguments below (x ∷ rest) body lower high r = does-stands typed o m arguments x rest below r.what body r.is lower high r.does
 
+  -- a method begins, or a call of it is posted
+  arrives-stands : (u : State) (stack : List Activation) (home o : ℕ) (x : Object) (m : ℕ) (method : MetaMethod) (arguments : List Value) (b : Bool) → IsWell p u t → IsMember p u.objects o m x method → length u.stack < suc (length stack) → AllByRecursion (Stands p u.objects) stack → Arrives u stack home o x m method arguments t b → AllStand p t
+  arrives-stands u stack home o x m method arguments true now is higher lower r = begun-stands p u stack o x m method arguments method.work t sound is refl r higher now lower
+  arrives-stands u stack home o x m method arguments false now is higher lower r = as-is r.gives lower
+
   emission-stands : (o g : ℕ) (arguments : List Value) (last : ℕ) (below : List Activation) (found : Option Connection) → AllByRecursion (Stands p s.objects) below → length s.stack ≡ suc (length below) → EmitRule p s o g arguments last below t found → AllStand p t
   emission-stands o g arguments last below None lower high r = as-is r lower
   emission-stands o g arguments last below (Some c) lower high r =
       let well_used : IsWell p (with_used s c) t = record { arguments = well.arguments; values = well.values } in
-      begun-stands p (with_used s c) (Emit o g arguments c.number last ∷ below) c.receiver r.receiver c.method r.method (take (length r.method.kinds) arguments) r.method.work t sound r.is refl r.gives (omega (arith, high)) well_used (tt, lower)
+      arrives-stands (with_used s c) (Emit o g arguments c.number last ∷ below) r.home c.receiver r.receiver c.method r.method (take (length r.method.kinds) arguments) (reaches_at_once c.kind r.home (running s.turn)) well_used r.is (omega (arith, high)) (tt, lower) r.arrives
 
   update-stands : (below : List Activation) (places : List Place) → AllByRecursion (PlaceStands p s.objects) places → AllByRecursion (Stands p s.objects) below → UpdateRule p s below t places → AllStand p t
   update-stands below [] there lower r = as-is r lower
   update-stands below (place ∷ places) there lower r = as-is r.gives (tt, (there.1, lower))
 
-  rule-stands : AreTyped p s.objects → (stack : List Activation) → AllByRecursion (Stands p s.objects) stack → length s.stack ≡ length stack → RuleAt p s t stack → AllStand p t
-  rule-stands typed [] all high r = absurd r
-  rule-stands typed (Body o m arguments left ∷ below) all high r = body-stands typed o m arguments below left all.0 all.1 high r
-  rule-stands typed (Emit o g arguments used last ∷ below) all high r = emission-stands o g arguments last below (next_used s.objects s.connected.connections o g used last) all.1 high r
-  rule-stands typed (Update places ∷ below) all high r = update-stands below places all.0 all.1 r
+  -- an item is delivered, or a turn ends
+  delivers-stands : (turn : ATurn) (item : Item) → length s.stack ≡ 0 → Delivers p (record s { queues = taken_before turn.home turn.limit s.queues }) t item → AllStand p t
+  delivers-stands turn (Call o m arguments) low b =
+      begun-stands p (record s { queues = taken_before turn.home turn.limit s.queues }) [] o b.object m b.method arguments b.method.work t sound b.is refl b.gives (omega (arith, low)) (record { arguments = well.arguments; values = well.values }) tt
+  delivers-stands turn (Deletion o) low b = absurd b
+
+  turn-stands : (found : Option ATurn) → length s.stack ≡ 0 → AllStand p s → TurnRule p s t found → AllStand p t
+  turn-stands None low all r = absurd r
+  turn-stands (Some turn) low all r = by_first (find (is_before turn.limit) (items_at s.queues.loops turn.home)) r
+    where
+      by_first : (first : Option Posted) → Serves p s t turn first → AllStand p t
+      by_first None e = as-is e all
+      by_first (Some q) d = delivers-stands turn q.item low d
+
+  rule-stands : AreTyped p s.objects → (stack : List Activation) → AllStand p s → AllByRecursion (Stands p s.objects) stack → length s.stack ≡ length stack → RuleAt p s t stack → AllStand p t
+  rule-stands typed [] here all high r = turn-stands s.turn high here r
+  rule-stands typed (Body o m arguments left ∷ below) here all high r = body-stands typed o m arguments below left all.0 all.1 high r
+  rule-stands typed (Emit o g arguments used last ∷ below) here all high r = emission-stands o g arguments last below (next_used s.objects s.connected.connections o g used last) all.1 high r
+  rule-stands typed (Update places ∷ below) here all high r = update-stands below places all.0 all.1 r
 
   -- what is going on stands where the stack does
-  kept-invariant : Invariant p s → Keeps p s 1 t 0 → AllStand p t → Invariant p t
-  kept-invariant up kept stands = record { sound = record { typed = well.values; joined = kept.joined sound up.sound.joined }; stands = stands }
+  kept-invariant : Invariant p s → Keeps p s 1 t 0 → AllStand p t → Fair p t → Invariant p t
+  kept-invariant up kept stands fair = record { sound = record { typed = well.values; joined = kept.joined sound up.sound.joined; housed = kept.housed up.sound.housed; waiting = fair.waiting }; stands = stands; emitted = fair.emitted }
 
   rule-invariant : Invariant p s → Rule p s t → Invariant p t
-  rule-invariant up r = kept-invariant up (rule-kept p s t s.stack r) (rule-stands up.sound.typed s.stack up.stands refl r)
+  rule-invariant up r = kept-invariant up (rule-kept p s t s.stack r) (rule-stands up.sound.typed s.stack up.stands up.stands refl r) (rule-fair well up.sound.waiting s.stack up.sound.joined up.emitted up.emitted refl r)
 
 -- ---- events
 
@@ -177,15 +205,32 @@ module _ {p : Loaded} {s t : State} (sound : IsSound p) (well : IsWell p s t) wh
 none-stand : (p : Loaded) {s : State} (objects : List Object) → IsIdle s → AllByRecursion (Stands p objects) s.stack
 none-stand p objects idle = let Family : List Activation → Type 0 = λ l. AllByRecursion (Stands p objects) l in subst Family (sym idle.empty) tt
 
+none-fit : (p : Loaded) {s : State} (objects : List Object) → IsIdle s → AllFit p objects s.stack
+none-fit p objects idle = let Family : List Activation → Type 0 = λ l. AllFit p objects l in subst Family (sym idle.empty) tt
+
+-- objects change, the living ones stay of their classes, and each lives in a loop that is there
+changed-invariant : {p : Loaded} {s : State} (objects : List Object) → IsIdle s → Invariant p s → AreTyped p objects → StayThere s.objects objects → AreHoused objects s.queues.loops → Invariant p (record (accepted s) { objects = objects })
+changed-invariant {p} {s} objects idle up typed stay housed = record {
+  sound = record {
+    typed = typed;
+    joined = all-joined-still p s.objects objects s.connected.connections stay up.sound.joined;
+    housed = housed;
+    waiting = all-wait-still p s.objects objects s.queues.loops stay up.sound.waiting;
+  };
+  stands = none-stand p objects idle;
+  emitted = none-fit p objects idle;
+}
+
 -- an object is added
 created-stay : (objects : List Object) (x : Object) (l : Life) → x.life ≡ Some l → StayThere objects (objects ++ x ∷ [])
 created-stay objects x l alive = record { living = λ o class is. class-more objects x o class is; dead = λ o is. seen-appended objects x l o o alive ∙ is }
 
--- objects change, and the living ones stay of their classes
-changed-invariant : {p : Loaded} {s : State} (objects : List Object) → IsIdle s → Invariant p s → AreTyped p objects → StayThere s.objects objects → Invariant p (record (accepted s) { objects = objects })
-changed-invariant {p} {s} objects idle up typed stay = record {
-  sound = record { typed = typed; joined = all-joined-still p s.objects objects s.connected.connections stay up.sound.joined };
-  stands = none-stand p objects idle;
+-- an event loop is added
+loop-invariant : {p : Loaded} {s : State} (name : List ℕ) → Invariant p s → Invariant p (record (accepted s) { queues = with_loop name s.queues })
+loop-invariant {p} {s} name up = record {
+  sound = record { typed = up.sound.typed; joined = up.sound.joined; housed = housed-loop s.objects s.queues.loops name up.sound.housed; waiting = waiting-loop p s.objects s.queues.loops name up.sound.waiting };
+  stands = up.stands;
+  emitted = up.emitted;
 }
 
 -- .. where each of them shows the same
@@ -194,6 +239,10 @@ same-stay old new same = record { living = λ o class is. class-same old new o (
 
 adopted-stay : {a c : ℕ} {y : Life} {old new : List Object} → IsAdopted a c y old new → StayThere old new
 adopted-stay {a} {c} {old = old} is = adopted-by (λ (l : List Object). StayThere old l) (all-stay old) (same-stay old (moved a c old) (shape-moved a c old)) is
+
+-- .. and lives where it lived
+adopted-housed : {a c : ℕ} {y : Life} {old new : List Object} (loops : List ALoop) → IsAdopted a c y old new → AreHoused old loops → AreHoused new loops
+adopted-housed {a} {c} {old = old} loops is housed = housed-same old _ loops loops (adopted-by (λ (l : List Object). (o : ℕ) → home_of l o ≡ home_of old o) (λ o. refl) (home-moved a c old) is) refl housed
 
 -- a connection joins what it names
 connection-joined : {p : Loaded} {objects : List Object} (e : Named (List ℕ)) (how : ConnectionType) (n : ℕ) (f : FoundEnds) → IsSound p → find_ends p objects e (Ok f) → Fits e.signal e.method →
@@ -217,46 +266,53 @@ connection-joined {p} {objects} e how n f sound (goes_on a sender (goes_on b rec
 
 -- the state in which an event is taken
 accepted-invariant : {p : Loaded} {s : State} → Invariant p s → Invariant p (accepted s)
-accepted-invariant up = record { sound = record { typed = up.sound.typed; joined = up.sound.joined }; stands = up.stands }
+accepted-invariant up = record { sound = record { typed = up.sound.typed; joined = up.sound.joined; housed = up.sound.housed; waiting = up.sound.waiting }; stands = up.stands; emitted = up.emitted }
 
 accepted-well : {p : Loaded} {s t : State} → IsWell p s t → IsWell p (accepted s) t
 accepted-well well = record { arguments = well.arguments; values = well.values }
 
 invoked-invariant : {p : Loaded} {s t : State} (a : Invocation) (name called : List ℕ) (inputs : List Input) → IsSound p → Invariant p s → IsWell p s t → invoke p s a name called inputs (Ok t) → Invariant p t
 invoked-invariant {p} {s} a name called inputs sound up well (goes_on _ o (goes_on _ m (goes_on _ vs (goes_on _ fit (becomes begins))))) =
-    kept-invariant sound (accepted-well well) (accepted-invariant up) (begins-kept begins) (begins-stands sound (accepted-well well) begins (omega arith) up.stands)
+    kept-invariant sound (accepted-well well) (accepted-invariant up) (begins-kept begins) (begins-stands sound (accepted-well well) begins (omega arith) up.stands) (begins-fair (accepted-well well) up.sound.waiting begins (omega arith) up.emitted)
 
 blocked-invariant : {p : Loaded} {s t : State} (name : List ℕ) (on : Bool) → IsIdle s → Invariant p s → IsWell p s t → block s name on (Ok t) → Invariant p t
 blocked-invariant {p} {s} name on idle up well (goes_on o lives just) =
     changed-invariant (change_life o.number (blocked on) s.objects) idle up well.values (same-stay s.objects _ (shape-change o.number (blocked on) s.objects (λ l. refl)))
+    (housed-same s.objects _ s.queues.loops s.queues.loops (home-change o.number (blocked on) s.objects (λ l. refl)) refl up.sound.housed)
 
 judged-invariant : {p : Loaded} {s t : State} (e : Event) → IsSound p → IsIdle s → Invariant p s → judged p s e (Ok t) → IsWell p s t → Invariant p t
-judged-invariant (Loop name) sound idle up x well = absurd x
-judged-invariant (Turn name) sound idle up x well = absurd x
-judged-invariant (New name class (Some home)) sound idle up x well = absurd x
-judged-invariant (New name class None) sound idle up (goes_on _ free (goes_on c is (goes_on _ room just))) well =
-    changed-invariant _ idle up well.values (created-stay _ (fresh name c.number main (initial_values c.it)) (begun_life c.number main (initial_values c.it)) refl)
+judged-invariant (Loop name) sound idle up (goes_on _ free just) well = loop-invariant name up
+judged-invariant (Turn name) sound idle up (goes_on home is just) well = record { sound = record { typed = up.sound.typed; joined = up.sound.joined; housed = up.sound.housed; waiting = up.sound.waiting }; stands = up.stands; emitted = up.emitted }
+judged-invariant {s = s} (New name class loop) sound idle up (goes_on _ free (goes_on c is (goes_on home (finds lives) (goes_on _ room just)))) well =
+    let x : Object = fresh name c.number home (initial_values c.it) in
+    let l : Life = begun_life c.number home (initial_values c.it) in
+    changed-invariant _ idle up well.values (created-stay _ x l refl)
+    (housed-more s.objects x l s.queues.loops refl up.sound.housed (home-there s.queues.loops home loop up.sound.housed.has_main lives))
 judged-invariant {p} {s} (Adopt parent child) sound idle up (goes_on _ a (goes_on _ c (goes_on _ owns (goes_on _ over (goes_on _ home (becomes x)))))) well =
     let Family : State → Type 0 = λ u. Invariant p u in
     let Typed : State → Type 0 = λ u. AreTyped p u.objects in
-    subst Family (sym x.gives) (changed-invariant x.objects idle up (subst Typed x.gives well.values) (adopted-stay x.is))
-judged-invariant {p} {s} (Connect e how) sound idle up (goes_on f named (goes_on _ (goes_on _ kind (goes_on _ covers (goes_on _ (so fits) new))) given)) well =
+    subst Family (sym x.gives) (changed-invariant x.objects idle up (subst Typed x.gives well.values) (adopted-stay x.is) (adopted-housed s.queues.loops x.is up.sound.housed))
+judged-invariant {p} {s} (Connect e how) sound idle up (goes_on f named (goes_on _ (goes_on _ covers (goes_on _ (so fits) new)) given)) well =
     let Family : State → Type 0 = λ u. Invariant p u in
     subst Family (sym (given-is given)) (record {
       sound = record {
         typed = up.sound.typed;
         joined = all-snoc (Joined p s.objects) s.connected.connections _ up.sound.joined (connection-joined e how (s.connected.last + 1) f sound named fits);
+        housed = up.sound.housed;
+        waiting = up.sound.waiting;
       };
       stands = up.stands;
+      emitted = up.emitted;
     })
 judged-invariant {p} {s} (Disconnect e) sound idle up (goes_on f named (goes_on _ is given)) well =
     let Family : State → Type 0 = λ u. Invariant p u in
     subst Family (sym (given-is given)) (record {
-      sound = record { typed = up.sound.typed; joined = all-removed (Joined p s.objects) (joins_these f.ends) s.connected up.sound.joined };
+      sound = record { typed = up.sound.typed; joined = all-removed (Joined p s.objects) (joins_these f.ends) s.connected up.sound.joined; housed = up.sound.housed; waiting = up.sound.waiting };
       stands = up.stands;
+      emitted = up.emitted;
     })
 judged-invariant {p} {s} (Set name property i) sound idle up (goes_on _ o (goes_on _ q (goes_on _ v (goes_on _ fits (becomes writes))))) well =
-    kept-invariant sound (accepted-well well) (accepted-invariant up) (writes-kept writes) (writes-stands sound (accepted-well well) writes up.stands)
+    kept-invariant sound (accepted-well well) (accepted-invariant up) (writes-kept writes) (writes-stands sound (accepted-well well) writes up.stands) (writes-fair (accepted-well well) up.sound.waiting writes up.emitted)
 judged-invariant (EmitEvent name signal inputs) sound idle up x well = invoked-invariant EmitIt name signal inputs sound up well x
 judged-invariant (CallEvent name slot inputs) sound idle up x well = invoked-invariant CallIt name slot inputs sound up well x
 judged-invariant (Block name) sound idle up x well = blocked-invariant name true idle up well x
@@ -264,7 +320,7 @@ judged-invariant (Unblock name) sound idle up x well = blocked-invariant name fa
 
 takes-invariant : {p : Loaded} {s t : State} {e : Event} → IsSound p → Invariant p s → Takes p e s t → IsWell p s t → Invariant p t
 takes-invariant {e = e} sound up (accepts idle x) well = judged-invariant e sound idle up x well
-takes-invariant sound up (refuses k idle x) well = record { sound = record { typed = up.sound.typed; joined = up.sound.joined }; stands = up.stands }
+takes-invariant sound up (refuses k idle x) well = record { sound = record { typed = up.sound.typed; joined = up.sound.joined; housed = up.sound.housed; waiting = up.sound.waiting }; stands = up.stands; emitted = up.emitted }
 
 -- every state that rules lead to stands
 rules-invariant : {p : Loaded} {d : ℕ} {s t : State} {n k : ℕ} → IsSound p → Rules p d s n t k → Invariant p s → Invariant p t

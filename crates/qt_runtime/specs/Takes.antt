@@ -1,14 +1,14 @@
 -- What an event comes to where nothing is going on (docs/machine.md, "Events").
-use Rattle.std.specs.Prelude.{true, false, Option, Some, None, Result, Ok, Err}
+use Rattle.std.specs.Prelude.{true, false, Result, Ok, Err}
 use Rattle.meta_model.specs.Loaded.{Loaded}
 use Rattle.script_lang.specs.declared.event.Event.{Event}
 use Rattle.script_lang.specs.declared.event.Event.TheVariants as event
 use Rattle.machine_state.specs.declared.refusal.Refusal.{Refusal}
-use Rattle.machine_state.specs.declared.refusal.Refusal.TheVariants.{LoopExists, NoLoop}
 use Rattle.machine_state.specs.Accepting.{refused}
 use Rattle.machine_state.specs.State.{State, IsIdle}
 use Rattle.qt_runtime.specs.declared.events.invoke.Invocation.TheVariants.{Emit, Call}
-use Rattle.machine_rules.specs.Judgement.{Refuses}
+use Rattle.qt_runtime.specs.events.Add.{add}
+use Rattle.qt_runtime.specs.events.Turn.{turn}
 use Rattle.qt_runtime.specs.events.Create.{create}
 use Rattle.qt_runtime.specs.events.Adopt.{adopt}
 use Rattle.qt_runtime.specs.events.Connect.{connect}
@@ -17,12 +17,11 @@ use Rattle.qt_runtime.specs.events.Assign.{assign}
 use Rattle.qt_runtime.specs.events.Invoke.{invoke}
 use Rattle.qt_runtime.specs.events.Block.{block}
 
--- What becomes of an event: a state, or a refusal. Nothing stands for the event loops yet but `main`.
+-- what becomes of an event: a state, or a refusal
 abbrev pub judged : Loaded → State → Event → Result State Refusal → Type 0
-judged p s (event.Loop name) = Refuses LoopExists
-judged p s (event.Turn name) = Refuses NoLoop
-judged p s (event.New name class None) = create p s name class
-judged p s (event.New name class (Some home)) = Refuses NoLoop
+judged p s (event.Loop name) = add s name
+judged p s (event.Turn name) = turn s name
+judged p s (event.New name class loop) = create p s name class loop
 judged p s (event.Adopt parent child) = adopt p s parent child
 judged p s (event.Connect ends how) = connect p s ends how
 judged p s (event.Disconnect ends) = disconnect p s ends

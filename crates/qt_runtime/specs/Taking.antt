@@ -1,9 +1,8 @@
 -- What the machine's code does with an event (docs/machine.md, "Events").
-use Rattle.std.specs.Prelude.{◌≡◌, ℕ, ◌+◌, ◌<◌, ◌^◌, Bool, true, false, List, [], ◌∷◌, Result, Ok, Err}
+use Rattle.std.specs.Prelude.{◌≡◌, ℕ, ◌+◌, ◌<◌, ◌^◌, Bool, true, false, List, [], ◌∷◌, Option, None, Result, Ok, Err}
 use Rattle.signatures.specs.declared.value.Value.{Value}
 use Rattle.meta_model.specs.declared.object.MetaProperty.{MetaProperty}
 use Rattle.meta_model.specs.Loaded.{Loaded}
-use Rattle.meta_model.specs.Sound.{IsSound}
 use Rattle.object_tree.specs.declared.fault.AdoptFault.{AdoptFault}
 use Rattle.object_tree.specs.declared.fault.AdoptFault.TheVariants as adopt
 use Rattle.object_tree.specs.declared.fault.CreateFault.{CreateFault}
@@ -30,7 +29,7 @@ use Rattle.machine_state.specs.Worlds.{at, after, with_connection, without_conne
 use Rattle.machine_rules.specs.declared.setting.Setting.{Setting}
 use Rattle.machine_rules.specs.There.{IsField}
 use Rattle.machine_rules.specs.Rules.{Begins, Writes}
-use Rattle.machine_rules.specs.Sound.{Sound}
+use Rattle.machine_rules.specs.Sound.{IsSoundWorld}
 use Rattle.qt_runtime.specs.declared.events.invoke.Invocation.{Invocation}
 use Rattle.qt_runtime.specs.declared.events.invoke.Invocation.TheVariants.{Emit, Call}
 use Rattle.qt_runtime.specs.declared.judgement.NotAccepted.{NotAccepted}
@@ -42,8 +41,7 @@ use Rattle.qt_runtime.specs.events.Disconnect.{disconnect}
 
 -- what every machine's world keeps: the program is sound, its parts fit together, and no count is near its limit
 pub record WorldInvariant (p : Loaded) (w : World) : Type 0 where
-  pub program : IsSound p
-  pub sound : Sound p w.objects w.connected.connections
+  pub sound : IsSoundWorld p w
   pub events : w.events + w.left < 2 ^ 63
   pub connected : w.connected.last + w.left < 2 ^ 63
 
@@ -135,6 +133,8 @@ blocking true name = event.Block name
 blocking false name = event.Unblock name
 
 -- what every machine keeps
-pub record MachineInvariant (p : Loaded) (depth : ℕ) (w : World) : Type 0 where
+pub record MachineInvariant (p : Loaded) (depth : ℕ) (w : World) (stopped : Bool) : Type 0 where
   pub room : 0 < depth
   pub keeps : WorldInvariant p w
+  -- unless it has stopped, no turn goes on
+  pub idle : stopped ≡ false → w.turn ≡ None

@@ -1,5 +1,7 @@
 -- One file an event: what it asks for, in its order, and what it does (docs/machine.md, "Events").
 pub mod Named
+pub mod Add
+pub mod Turn
 pub mod Create
 pub mod Adopt
 pub mod Ends

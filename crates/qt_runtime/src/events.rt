@@ -1,5 +1,6 @@
 //! One module an event: how it is judged, and what it does.
 
+pub mod add;
 pub mod adopt;
 pub mod assign;
 pub mod block;
@@ -9,4 +10,5 @@ pub mod disconnect;
 pub mod ends;
 pub mod invoke;
 pub mod named;
+pub mod turn;
 pub mod values;

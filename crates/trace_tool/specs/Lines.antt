@@ -13,7 +13,7 @@ use Rattle.machine_state.specs.declared.entry.Shown.TheVariants as show
 use Rattle.machine_state.specs.declared.entry.Entry.{Entry}
 use Rattle.machine_state.specs.declared.entry.Entry.TheVariants.{Accepted, Refused, At}
 use Rattle.machine_state.specs.declared.entry.Happening.{Happening}
-use Rattle.machine_state.specs.declared.entry.Happening.TheVariants.{Emitted, Called, Written, OnNull, Connected, Disconnected, Refused as RefusedStatement}
+use Rattle.machine_state.specs.declared.entry.Happening.TheVariants.{Emitted, Called, Written, OnNull, Connected, Disconnected, Refused as RefusedStatement, Posted}
 
 abbrev pub newline : List ℕ
 newline = codes "\n"
@@ -60,6 +60,10 @@ emitted_text object signal arguments blocked = codes "emit " ++ call_text object
 abbrev pub called_text : List ℕ → List ℕ → List Shown → List ℕ
 called_text object slot arguments = codes "call " ++ call_text object slot arguments
 
+-- `post L o.m(args)`
+abbrev pub posted_text : List ℕ → List ℕ → List ℕ → List Shown → List ℕ
+posted_text event_loop object method arguments = codes "post " ++ event_loop ++ codes " " ++ call_text object method arguments
+
 -- `set o.p v`
 abbrev pub written_text : List ℕ → List ℕ → Shown → List ℕ
 written_text object property value = codes "set " ++ member_text object property ++ codes " " ++ value_text value
@@ -93,6 +97,7 @@ connected_text ends how = codes "connect " ++ (ends_text ends ++ (codes " " ++ t
 abbrev pub happening_text : Happening → List ℕ
 happening_text (Emitted object signal arguments blocked) = emitted_text object signal arguments blocked
 happening_text (Called object slot arguments) = called_text object slot arguments
+happening_text (Posted event_loop object method arguments) = posted_text event_loop object method arguments
 happening_text (Written object property value) = written_text object property value
 happening_text OnNull = codes "null"
 happening_text (Connected ends how) = connected_text ends how

@@ -5,6 +5,7 @@ mod bodies;
 mod classes;
 mod connecting;
 mod events;
+mod queues;
 mod refusals;
 mod rows;
 mod trees;

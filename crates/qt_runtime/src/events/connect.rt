@@ -1,6 +1,6 @@
 //! `connect`: a connection is made.
 
-ghost use Rattle.std.specs.Prelude.{◌<◌, [], IfOk, IfErr};
+ghost use Rattle.std.specs.Prelude.{◌≡◌, ◌<◌, [], IfOk, IfErr, None};
 ghost use Rattle.script_lang.specs.declared.event.Event.TheVariants.{Connect};
 ghost use Rattle.machine_state.specs.Worlds.{at};
 ghost use Rattle.qt_runtime.specs.Judgement.{IsNotAccepted};
@@ -22,6 +22,7 @@ pub fn connect(
     how: ConnectionType,
 ) -> Result<Answer, Fault>
     requires left { 0 < world.old.left }
+    requires idle { world.old.turn ≡ None }
     requires keeps { WorldInvariant setting.now.meta world.old }
     ensures { Answers setting.now (Connect named.now how) world.old world.new result }
 {

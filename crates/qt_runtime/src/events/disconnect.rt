@@ -1,6 +1,6 @@
 //! `disconnect`: connections are removed.
 
-ghost use Rattle.std.specs.Prelude.{◌<◌, [], IfOk, IfErr, IsTrue};
+ghost use Rattle.std.specs.Prelude.{◌<◌, [], IfOk, IfErr, IsTrue, ◌≡◌, None};
 ghost use Rattle.script_lang.specs.declared.event.Event.TheVariants.{Disconnect};
 ghost use Rattle.machine_state.specs.Connections.{are_joined};
 ghost use Rattle.machine_state.specs.Worlds.{at};
@@ -22,6 +22,7 @@ pub fn disconnect(
     named: &texts::Endpoints<Name>,
 ) -> Result<Answer, Fault>
     requires left { 0 < world.old.left }
+    requires idle { world.old.turn ≡ None }
     requires keeps { WorldInvariant setting.now.meta world.old }
     ensures { Answers setting.now (Disconnect named.now) world.old world.new result }
 {

@@ -3,8 +3,9 @@ use Rattle.signatures.specs.declared.value.Value.{Value}
 use Rattle.machine_state.specs.declared.world.World.{World}
 use Rattle.machine_rules.proofs.Reaching.{not-idle, reaches-same, reaches-then, stops-after, stops-as, ends-after, ends-left, ends-undue, ends-short, ends-unchanged, ends-faulted, ends-ticked}
 use Rattle.machine_rules.specs.Good.{ArgumentsFit}
-use Rattle.machine_rules.proofs.Keeps.{keeps-same, keeps-then, ends-keeps, ends-sound, sound-written, sound-as, fit-still, reaches-typed, reaches-keeps, reaches-sound, sound-used, sound-noted}
-use Rattle.machine_rules.proofs.Beginning.{ends-begun, stops-barred, stops-no-member, stops-ill-typed, fit-of, next-joined, next-fits, delivered-fits, delivery-calls, begun-used, not-true}
+use Rattle.machine_rules.proofs.Keeps.{keeps-same, keeps-then, ends-keeps, reaches-typed, reaches-keeps}
+use Rattle.machine_rules.proofs.Soundness.{fit-still, ends-sound, reaches-sound, sound-used, sound-noted, sound-set, sound-as}
+use Rattle.machine_rules.proofs.Beginning.{ends-begun, stops-barred, stops-no-member, stops-ill-typed, fit-of, next-joined, next-fits, delivered-fits, delivery-calls, begun-used, ends-posted, no-home, not-true}
 use Rattle.machine_rules.proofs.Writes.{ends-written, stops-unwritten, announces-written, announces-as, announced-member, announced-value, announced-fits, announcement-calls}
 use Rattle.machine_rules.proofs.Bodies.{does-call, does-call-alone, does-set, does-nothing, does-connect, does-disconnect, does-choose, lacks-read, advances-one, advances-ticked, advances-left}
 use Rattle.machine_rules.proofs.setting.Setting.+machine.Goals as goal
@@ -28,7 +29,7 @@ pub run_emission-loop-connection-preserved : goal.run_emission-loop-connection-p
 run_emission-loop-connection-preserved t c =
     let went = c.in_ok-deliver.ensures.ends _ _ _ _ (sym c.in-Some.ensures.value) in
     let keeps = keeps-then c.loop-connection.invariant.keeps (ends-keeps _ went) in
-    record { reaches = reaches-then c.loop-connection.invariant.reaches went.cases; keeps = keeps; fewer = keeps.fewer; sound = ends-sound _ went c.loop-connection.invariant.sound }
+    record { reaches = reaches-then c.loop-connection.invariant.reaches went.cases; keeps = keeps; fewer = keeps.fewer; sound = ends-sound (fit-still c.loop-connection.invariant.keeps c.requires.emitted, tt) c.loop-connection.invariant.sound _ went }
 
 pub run_emission-returns-in_err-deliver-clause-ends : goal.run_emission-returns-in_err-deliver-clause-ends
 run_emission-returns-in_err-deliver-clause-ends t c =
@@ -40,7 +41,7 @@ run_emission-returns-in_err-deliver-clause-keeps t c =
 
 pub run_emission-returns-in_err-deliver-clause-sound : goal.run_emission-returns-in_err-deliver-clause-sound
 run_emission-returns-in_err-deliver-clause-sound t c =
-    ends-sound _ (c.in_err-deliver.ensures.ends _ _ _ _ (sym c.in-Some.ensures.value)) c.loop-connection.invariant.sound
+    ends-sound (fit-still c.loop-connection.invariant.keeps c.requires.emitted, tt) c.loop-connection.invariant.sound _ (c.in_err-deliver.ensures.ends _ _ _ _ (sym c.in-Some.ensures.value))
 
 pub run_emission-returns-clause-ends : goal.run_emission-returns-clause-ends
 run_emission-returns-clause-ends t c =
@@ -53,36 +54,46 @@ deliver-returns-in_err-require_rule t c = record { ends = λ o g used last found
 pub deliver-unreachable-requires : goal.deliver-unreachable-requires
 deliver-unreachable-requires t c = c.in_default.ensures _ _ c.requires.joined.receives
 
-pub deliver-begun-requires : goal.deliver-begun-requires
-deliver-begun-requires t c = record { fit = delivered-fits c.requires.joined c.requires.emitted c.in-Some.ensures c.front-taken.ensures c.len.ensures }
+pub deliver-unreachable-requires-in_default-home : goal.deliver-unreachable-requires-in_default-home
+deliver-unreachable-requires-in_default-home t c = no-home c.in-Some.ensures c.in_default-home.ensures
 
-pub deliver-returns-in_err-begun : goal.deliver-returns-in_err-begun
-deliver-returns-in_err-begun t c = record {
-  ends = λ o g used last found.
-      let calls = delivery-calls o g used last found c.in-Some.ensures c.front-taken.ensures c.len.ensures in
-      let fits = delivered-fits c.requires.joined c.requires.emitted c.in-Some.ensures c.front-taken.ensures c.len.ensures in
-      ends-left _ (stops-barred c.over-over.ensures calls fits c.requires.sound.is.typed c.in_ok-require_rule.ensures c.in_err-begun.ensures.err) c.from_residual-in_err-begun.ensures.1;
+pub deliver-begin_used-requires : goal.deliver-begin_used-requires
+deliver-begin_used-requires t c = (omega arith, (c.requires.sound, (c.in_ok-require_rule.ensures, delivered-fits c.requires.joined c.requires.emitted c.in-Some.ensures c.front-taken.ensures c.len.ensures)))
+
+pub deliver-post-requires-clause-fit : goal.deliver-post-requires-clause-fit
+deliver-post-requires-clause-fit t c = delivered-fits c.requires.joined c.requires.emitted c.in-Some.ensures c.front-taken.ensures c.len.ensures
+
+pub deliver-returns-then-reaches_at_once : goal.deliver-returns-then-reaches_at_once
+deliver-returns-then-reaches_at_once t c =
+    let now = rw c.running.ensures at c.reaches_at_once.ensures in
+    record { ends = λ o g used last found. c.begin_used.ensures.ends _ _ _ c.over-over.ensures (delivery-calls o g used last found c.in-Some.ensures c.front-taken.ensures c.len.ensures (sym c.in-Some-home.ensures) (sym now ∙ c.if-reaches_at_once.true)) }
+
+pub deliver-returns-else-reaches_at_once : goal.deliver-returns-else-reaches_at_once
+deliver-returns-else-reaches_at_once t c =
+    let later = rw c.running.ensures at c.reaches_at_once.ensures in
+    record {
+      ends = λ o g used last found.
+          ends-posted o g used last _ _ found c.in-Some.ensures c.front-taken.ensures c.len.ensures (sym c.in-Some-home.ensures) (sym later ∙ c.if-reaches_at_once.false) c.requires.room c.requires.sound.is.typed c.in_ok-require_rule.ensures (omega (arith, c.count.ensures)) c.post.ensures;
+    }
+
+pub begin_used-returns-in_err-begun : goal.begin_used-returns-in_err-begun
+begin_used-returns-in_err-begun t c = record {
+  ends = λ from to shown over calls. ends-left _ (stops-barred over calls c.requires.fit c.requires.sound.is.typed c.requires.left c.in_err-begun.ensures.err) c.from_residual.ensures.1;
 }
 
-pub deliver-returns-in_err-use_connection : goal.deliver-returns-in_err-use_connection
-deliver-returns-in_err-use_connection t c = record {
-  ends = λ o g used last found. ends-unchanged _ (not-idle c.args.world.now _) c.in_ok-require_rule.ensures c.in_err-use_connection.ensures c.from_residual-in_err-use_connection.ensures.1;
-}
+pub begin_used-returns-in_err-use_connection : goal.begin_used-returns-in_err-use_connection
+begin_used-returns-in_err-use_connection t c = record { ends = λ from to shown over calls. ends-unchanged _ calls.goes_on c.requires.left c.in_err-use_connection.ensures c.from_residual-in_err-use_connection.ensures.1 }
 
-pub deliver-run_begun-requires : goal.deliver-run_begun-requires
-deliver-run_begun-requires t c =
+pub begin_used-run_begun-requires : goal.begin_used-run_begun-requires
+begin_used-run_begun-requires t c =
     let went = c.in_ok-use_connection.ensures in
-    let fits = delivered-fits c.requires.joined c.requires.emitted c.in-Some.ensures c.front-taken.ensures c.len.ensures in
-    let Fit : World → Type 0 = λ v. ArgumentsFit c.args.self.now.meta v.objects c.args.connection.receiver c.args.connection.method c.front-taken.result.now in
-    let emitted = subst Fit (sym went) fits in
-    (omega (arith, ap (λ (w : World). w.left) went, c.in_ok-require_rule.ensures), (c.in_ok-begun.ensures.ok.room, (sound-used c.args.world.now _ c.args.connection went c.requires.sound, emitted)))
+    let Fit : World → Type 0 = λ v. ArgumentsFit c.args.self.now.meta v.objects c.args.connection.receiver c.args.connection.method c.args.arguments.now in
+    (omega (arith, ap (λ (w : World). w.left) went, c.requires.left), (c.in_ok-begun.ensures.ok.room, (sound-used c.args.world.now _ c.args.connection went c.requires.sound, subst Fit (sym went) c.requires.fit)))
 
-pub deliver-returns : goal.deliver-returns
-deliver-returns t c = record {
-  ends = λ o g used last found.
-      let calls = delivery-calls o g used last found c.in-Some.ensures c.front-taken.ensures c.len.ensures in
-      let fits = delivered-fits c.requires.joined c.requires.emitted c.in-Some.ensures c.front-taken.ensures c.len.ensures in
-      ends-begun c.over-over.ensures calls (begun-used c.args.connection c.in_ok-begun.ensures.ok) fits c.requires.sound.is.typed c.in_ok-require_rule.ensures refl c.in_ok-use_connection.ensures c.run_begun.ensures.ends;
+pub begin_used-returns : goal.begin_used-returns
+begin_used-returns t c = record {
+  ends = λ from to shown over calls.
+      ends-begun over calls (begun-used c.args.connection c.in_ok-begun.ensures.ok) c.requires.fit c.requires.sound.is.typed c.requires.left refl c.in_ok-use_connection.ensures c.run_begun.ensures.ends;
 }
 
 -- ---- the beginning of methods
@@ -152,7 +163,7 @@ run_body-loop-statement-preserved t c =
     let is = rw (c.scope.ensures.objects, c.scope.ensures.this, c.scope.ensures.arguments) at c.in_ok-doing.ensures in
     let one = (c.in_ok-carry_out.ensures.advances c.args.method c.args.arguments.now _ is).cases in
     let keeps = keeps-then c.loop-statement.invariant.keeps (reaches-keeps one.0) in
-    record { reaches = reaches-then came one.0; keeps = keeps; fewer = keeps.fewer; sound = reaches-sound one.0 c.loop-statement.invariant.sound }
+    record { reaches = reaches-then came one.0; keeps = keeps; fewer = keeps.fewer; sound = reaches-sound (tt, tt) c.loop-statement.invariant.sound one.0 }
 
 pub run_body-loop-statement-smaller : goal.run_body-loop-statement-smaller
 run_body-loop-statement-smaller t c =
@@ -220,7 +231,7 @@ write-returns-in_err-write t c = record { ends = λ from to shown over sets. end
 pub write-run_update-requires : goal.write-run_update-requires
 write-run_update-requires t c = let is = c.in_ok-writing.ensures.ok in
     let went = c.in_ok-write.ensures in
-    (omega (arith, ap (λ (w : World). w.left) went, c.requires.left), (is.room, (sound-as went (record { program = c.requires.sound.program; is = sound-written c.args.value is.alters.is is.fits c.requires.sound.is; numbers = omega (arith, c.requires.sound.numbers) }), announces-as _ _ _ _ went (announces-written c.args.value _ is.alters c.requires.sound.is.typed))))
+    (omega (arith, ap (λ (w : World). w.left) went, c.requires.left), (is.room, (sound-as went (sound-set c.args.world.now _ c.args.value is.alters.is is.fits c.requires.sound), announces-as _ _ _ _ went (announces-written c.args.value _ is.alters c.requires.sound.is.typed))))
 
 pub write-returns : goal.write-returns
 write-returns t c = record {

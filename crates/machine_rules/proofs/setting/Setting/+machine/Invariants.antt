@@ -11,6 +11,9 @@ decreases-run_emission l = 6 * l.world.now.left + 2
 abbrev pub decreases-deliver : goal.decreases-deliver
 decreases-deliver l = 6 * l.world.now.left + 1
 
+abbrev pub decreases-begin_used : goal.decreases-begin_used
+decreases-begin_used l = 6 * l.world.now.left + 0
+
 abbrev pub decreases-begin_typed : goal.decreases-begin_typed
 decreases-begin_typed l = 6 * l.world.now.left + 1
 

@@ -3,26 +3,23 @@ use Rattle.machine_rules.specs.Judgement.{holds, fails, goes_on, ends}
 use Rattle.machine_rules.proofs.Linking.{both-hold, first-fails, second-fails}
 use Rattle.machine_rules.proofs.setting.Setting.may_connect.Goals as goal
 
-pub returns-then-is_queued : goal.returns-then-is_queued
-returns-then-is_queued c = ends (fails (λ other. other (c.is_queued.ensures.0 c.if-is_queued.true)))
-
 pub returns-in-No : goal.returns-in-No
-returns-in-No c = goes_on tt (holds (λ q. absurd (cc (c.is_queued.ensures.1 q, c.if-is_queued.false)))) (ends (fails c.in-No.ensures))
+returns-in-No c = ends (fails c.in-No.ensures)
 
 pub returns-in-Unfit : goal.returns-in-Unfit
-returns-in-Unfit c = goes_on tt (holds (λ q. absurd (cc (c.is_queued.ensures.1 q, c.if-is_queued.false)))) (goes_on tt (holds c.in-Unfit.ensures.0) (ends (fails c.in-Unfit.ensures.1)))
+returns-in-Unfit c = goes_on tt (holds c.in-Unfit.ensures.0) (ends (fails c.in-Unfit.ensures.1))
 
 pub returns-in-Fit : goal.returns-in-Fit
 returns-in-Fit c =
-    goes_on tt (holds (λ q. absurd (cc (c.is_queued.ensures.1 q, c.if-is_queued.false)))) (goes_on tt (holds c.in-Fit.ensures.0) (goes_on tt (holds c.in-Fit.ensures.1)
-    (fails (λ none. none (both-hold _ _ c.if-how.true (sym c.are_joined.ensures ∙ c.if-are_joined.true))))))
+    goes_on tt (holds c.in-Fit.ensures.0) (goes_on tt (holds c.in-Fit.ensures.1)
+    (fails (λ none. none (both-hold _ _ c.if-how.true (sym c.are_joined.ensures ∙ c.if-are_joined.true)))))
 
 pub returns-in-Fit-2 : goal.returns-in-Fit-2
 returns-in-Fit-2 c =
-    goes_on tt (holds (λ q. absurd (cc (c.is_queued.ensures.1 q, c.if-is_queued.false)))) (goes_on tt (holds c.in-Fit.ensures.0) (goes_on tt (holds c.in-Fit.ensures.1)
-    (holds (second-fails _ _ (sym c.are_joined.ensures ∙ c.if-are_joined.false)))))
+    goes_on tt (holds c.in-Fit.ensures.0) (goes_on tt (holds c.in-Fit.ensures.1)
+    (holds (second-fails _ _ (sym c.are_joined.ensures ∙ c.if-are_joined.false))))
 
 pub returns-in-Fit-2-2 : goal.returns-in-Fit-2-2
 returns-in-Fit-2-2 c =
-    goes_on tt (holds (λ q. absurd (cc (c.is_queued.ensures.1 q, c.if-is_queued.false)))) (goes_on tt (holds c.in-Fit.ensures.0) (goes_on tt (holds c.in-Fit.ensures.1)
-    (holds (first-fails _ _ c.if-how.false))))
+    goes_on tt (holds c.in-Fit.ensures.0) (goes_on tt (holds c.in-Fit.ensures.1)
+    (holds (first-fails _ _ c.if-how.false)))
