@@ -9,9 +9,9 @@ use Rattle.texts.specs.Signatures.{spell_sig, tree_of_sig, spell_kind}
 use Rattle.texts.specs.declared.symbol.Symbol.TheVariants.{Semicolon, Arrow, Assign, Colon, OpenBrace}
 use Rattle.texts.specs.declared.token.Token.{Token}
 use Rattle.texts.specs.declared.token.Token.TheVariants as token
-use Rattle.texts.proofs.OneTree.{HasOneTree, one_tree_of_listed, one_tree_of_type, one_tree_of_sig, one_tree_of_kind, one_tree_of_literal}
+use Rattle.texts.proofs.OneTree.{one_tree_of_optional_name, HasOneTree, one_tree_of_listed, one_tree_of_type, one_tree_of_sig, one_tree_of_kind, one_tree_of_literal}
 use Rattle.slot_lang.proofs.Unique.{unique_block}
-use Rattle.class_lang.specs.Optional.{spell_optional, EndsWithout, spell_optional_name, EndsWithoutName}
+use Rattle.texts.specs.Optional.{spell_optional, EndsWithout, spell_optional_name}
 use Rattle.class_lang.specs.Parameters.{signal_parameter, spell_signal_parameter, tree_of_signal_parameter, slot_parameter, spell_slot_parameter, tree_of_slot_parameter, EndsSignalParameter}
 use Rattle.class_lang.specs.Members.{spell_notify, spell_initial, property, spell_property, tree_of_property, signal, spell_signal, tree_of_signal, slot, spell_slot, tree_of_slot, MemberReading, a_property, a_signal, a_slot, spell_member, tree_of_member}
 use Rattle.class_lang.specs.Declarations.{Ending, bare, semicolon, spell_ending, spell_members, class, spell_class, tree_of_class, class_of, end, spell_end, tree_of_end, wire, spell_wire, tree_of_wire, owns, spell_owns, tree_of_owns, DeclarationReading, a_class, a_wire, an_owns, spell_declaration, tree_of_declaration, tree_of_program, EndsDeclaration, IsProgram}
@@ -29,12 +29,6 @@ module _ {R A : Type 0} (first : Token) (spell : R → List Token → List Token
   one_tree_of_optional (Some a) None r s er es e = absurd (es (spell a r) (sym e))
   one_tree_of_optional (Some a) (Some b) r s er es e =
       let h : (tree a ≡ tree b) × (r ≡ s) = one a b r s tt tt cc in (ap Some h.0, h.1)
-
-one_tree_of_optional_name : HasOneTree spell_optional_name (λ name. name) EndsWithoutName
-one_tree_of_optional_name None None r s er es e = (refl, e)
-one_tree_of_optional_name None (Some y) r s er es e = absurd (er y s e)
-one_tree_of_optional_name (Some x) None r s er es e = absurd (es x r (sym e))
-one_tree_of_optional_name (Some x) (Some y) r s er es e = (cc, cc)
 
 -- ---- parameters
 

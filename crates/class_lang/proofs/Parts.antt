@@ -7,7 +7,7 @@ use Rattle.texts.specs.declared.token.Token.{Token}
 use Rattle.texts.specs.declared.token.Token.TheVariants as token
 use Rattle.texts.specs.Lists.{IsPart}
 use Rattle.texts.proofs.Signatures.{types_are_parts}
-use Rattle.class_lang.specs.Optional.{spell_optional_name}
+use Rattle.texts.specs.Optional.{spell_optional_name}
 use Rattle.class_lang.specs.Parameters.{SignalParameter, signal_parameter, spell_signal_parameter, SlotParameter, slot_parameter, spell_slot_parameter, EndsSignalParameter}
 
 -- ---- what may follow types

@@ -15,7 +15,7 @@ use Rattle.texts.specs.declared.symbol.Symbol.TheVariants.{Semicolon, Colon, Ass
 use Rattle.texts.specs.declared.syntax.Stmt.{Stmt}
 use Rattle.texts.specs.declared.token.Token.{Token}
 use Rattle.texts.specs.declared.token.Token.TheVariants as token
-use Rattle.class_lang.specs.Optional.{spell_optional, EndsWithout, spell_optional_name, EndsWithoutName}
+use Rattle.texts.specs.Optional.{spell_optional, EndsWithout, spell_optional_name, EndsWithoutName}
 use Rattle.class_lang.specs.Parameters.{SignalParameter, signal_parameter, spell_signal_parameter, tree_of_signal_parameter, SlotParameter, slot_parameter, spell_slot_parameter, tree_of_slot_parameter, EndsSignalParameter}
 use Rattle.class_lang.specs.Members.{spell_initial, spell_notify, PropertyReading, property, spell_property, tree_of_property, SignalReading, signal, spell_signal, tree_of_signal, SlotReading, slot, spell_slot, tree_of_slot, MemberReading, a_property, a_signal, a_slot, spell_member, tree_of_member}
 use Rattle.class_lang.specs.Declarations.{Ending, bare, semicolon, spell_ending, spell_members, spell_base, ClassReading, class, spell_class, tree_of_class, class_of, EndReading, end, spell_end, tree_of_end, WireReading, wire, spell_wire, tree_of_wire, OwnsReading, owns, spell_owns, tree_of_owns, DeclarationReading, a_class, a_wire, an_owns, spell_declaration, tree_of_declaration, EndsDeclaration}

@@ -12,14 +12,14 @@ use Rattle.signatures.specs.declared.kind.Kind.{Kind}
 use Rattle.signatures.specs.declared.sig.Sig.{Sig}
 use Rattle.texts.specs.Cursor.{NotAt}
 use Rattle.texts.specs.Lists.{spell_each}
-use Rattle.texts.specs.Reading.{Reads, EndsAnywhere, spell_name}
+use Rattle.texts.specs.Reading.{Reads, EndsAnywhere, IsAtEnd, spell_name}
 use Rattle.texts.specs.Signatures.{SigReading, spell_sig, tree_of_sig, spell_kind}
 use Rattle.texts.specs.declared.symbol.Symbol.TheVariants.{Semicolon, Colon, OpenBrace, CloseBrace, Arrow}
 use Rattle.texts.specs.declared.fault.ParseFault.{ParseFault}
 use Rattle.texts.specs.declared.token.Token.{Token}
 use Rattle.texts.specs.declared.token.Token.TheVariants as token
 use Rattle.signatures.specs.declared.word.Word.TheVariants as word
-use Rattle.class_lang.specs.Optional.{spell_optional}
+use Rattle.texts.specs.Optional.{spell_optional}
 use Rattle.class_lang.specs.Members.{MemberReading, spell_member, tree_of_member, properties_in, signals_in, slots_in}
 use Rattle.class_lang.specs.declared.declarations.Declaration.{Declaration}
 use Rattle.class_lang.specs.declared.declarations.Declaration.TheVariants as declaration
@@ -119,10 +119,6 @@ tree_of_declaration (an_owns o) = declaration.Owns (tree_of_owns o)
 -- no semicolon comes next, with which a class would go on
 abbrev pub EndsDeclaration : List Token → Type 0
 EndsDeclaration after = NotAt Semicolon after
-
--- no token comes next
-abbrev pub IsAtEnd : List Token → Type 0
-IsAtEnd after = after ≡ []
 
 -- ---- the declarations of each sort, in their order
 

@@ -19,7 +19,7 @@ use Rattle.texts.specs.declared.syntax.Literal.{Literal}
 use Rattle.texts.specs.declared.token.Token.{Token}
 use Rattle.texts.specs.declared.token.Token.TheVariants as token
 use Rattle.signatures.specs.declared.word.Word.TheVariants as word
-use Rattle.class_lang.specs.Optional.{spell_optional}
+use Rattle.texts.specs.Optional.{spell_optional}
 use Rattle.class_lang.specs.Parameters.{SignalParameter, spell_signal_parameter, tree_of_signal_parameter, SlotParameter, spell_slot_parameter, tree_of_slot_parameter}
 use Rattle.class_lang.specs.declared.members.Member.{Member}
 use Rattle.class_lang.specs.declared.members.Member.TheVariants as member

@@ -9,7 +9,7 @@ use Rattle.texts.specs.Signatures.{TypeReading, spell_type, tree_of_type, EndsTy
 use Rattle.texts.specs.declared.fault.ParseFault.{ParseFault}
 use Rattle.texts.specs.declared.token.Token.{Token}
 use Rattle.texts.specs.declared.token.Token.TheVariants as token
-use Rattle.class_lang.specs.Optional.{spell_optional_name, EndsWithoutName}
+use Rattle.texts.specs.Optional.{spell_optional_name, EndsWithoutName}
 use Rattle.texts.specs.declared.program.Parameter.{Parameter}
 
 pub data SignalParameter : Type 0 where

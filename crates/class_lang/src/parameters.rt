@@ -1,23 +1,10 @@
 //! The parameters of signals and slots.
 
-ghost use Rattle.std.specs.Prelude.{◌<◌, ◌≤◌, length, OnOk};
+ghost use Rattle.std.specs.Prelude.{◌<◌, length, OnOk};
 ghost use Rattle.texts.specs.Reading.{EndsAnywhere};
-ghost use Rattle.class_lang.specs.Optional.{ReadsOptionalName};
 ghost use Rattle.class_lang.specs.Parameters.{ReadsSignalParameter, ReadsSlotParameter, SignalParameter, spell_signal_parameter, tree_of_signal_parameter, EndsSignalParameter, SlotParameter, spell_slot_parameter, tree_of_slot_parameter};
 
-use signatures::Name;
-use texts::{Cursor, Parameter, ParseFault, Part, Token};
-
-/// `[Name]`
-fn optional_name(cursor: &mut Cursor) -> Result<Option<Name>, ParseFault>
-    ensures reads { ReadsOptionalName cursor.old result cursor.new }
-    ensures no_longer { OnOk result (length cursor.new ≤ length cursor.old) }
-{
-    match cursor.rest().first() {
-        Some(Token::Name(_)) => Ok(Some(cursor.name()?)),
-        _ => Ok(None),
-    }
-}
+use texts::{Cursor, Parameter, ParseFault, Part};
 
 /// `type [Name]`
 fn signal_parameter(cursor: &mut Cursor) -> Result<Parameter, ParseFault>
@@ -25,7 +12,7 @@ fn signal_parameter(cursor: &mut Cursor) -> Result<Parameter, ParseFault>
     ensures shorter { OnOk result (length cursor.new < length cursor.old) }
 {
     let kind = cursor.kind()?;
-    let name = optional_name(cursor)?;
+    let name = cursor.optional_name()?;
     Ok(Parameter { kind, name })
 }
 

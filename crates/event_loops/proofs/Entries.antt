@@ -29,6 +29,16 @@ module _ {A : Type 0} where
   items_at-ring (e ∷ es) zero old at = ap (λ (v : VecDeque Posted A). v.items) (same_Some _ _ at)
   items_at-ring (e ∷ es) (suc home) old at = items_at-ring es home old at
 
+  pub items_at-entry : (es : List (List ℕ × VecDeque Posted A)) (home : ℕ) (e : List ℕ × VecDeque Posted A) → slice_get es home ≡ Some e → items_at (loops_of es) home ≡ (e.1).items
+  items_at-entry [] home e at = grind arith
+  items_at-entry (f ∷ es) zero e at = ap (λ (g : List ℕ × VecDeque Posted A). (g.1).items) (same_Some _ _ at)
+  items_at-entry (f ∷ es) (suc home) e at = items_at-entry es home e at
+
+  pub items_at-none : (es : List (List ℕ × VecDeque Posted A)) (home : ℕ) → slice_get es home ≡ None → items_at (loops_of es) home ≡ []
+  items_at-none [] home at = refl
+  items_at-none (e ∷ es) zero at = grind arith
+  items_at-none (e ∷ es) (suc home) at = items_at-none es home at
+
   -- where no loop is, nothing is and nothing changes
   pub items_at-nowhere : (es : List (List ℕ × VecDeque Posted A)) (home : ℕ) → slice_get (values_of es) home ≡ None → items_at (loops_of es) home ≡ []
   items_at-nowhere [] home at = refl

@@ -1,12 +1,12 @@
 -- The names of the loops are the keys of the map, in their order.
-use Rattle.std.proofs.Common.{◌≡◌, ◌≢◌, ℕ, zero, suc, ◌<◌, Bool, true, false, cond, List, [], ◌∷◌, ◌++◌, length, Option, None, Some, refl, arith, ap, sym, ◌∙◌, slice_get, get_or, option_map, nat_eq, is_some}
+use Rattle.std.proofs.Common.{◌≡◌, ◌≢◌, ℕ, zero, suc, ◌<◌, ◌≤◌, Bool, true, false, cond, List, [], ◌∷◌, ◌++◌, length, Option, None, Some, refl, arith, ap, sym, ◌∙◌, slice_get, get_or, option_map, nat_eq, is_some}
 use Rattle.std.specs.declared.collections.VecDeque.{VecDeque}
 use Rattle.std.specs.List.{position}
 use Rattle.std.specs.Map.{keys_of, lookup}
 use Rattle.std.specs.Cmp.Lexicographic.{pointwise, same_text, other_text}
 use Rattle.std.proofs.lemmas.List.Quantifiers.{position-Some}
 use Rattle.std.proofs.lemmas.Bool.{false≢true}
-use Rattle.std.proofs.lemmas.Option.{same_Some}
+use Rattle.std.proofs.lemmas.Option.{same_Some, get_or_from_slice_get}
 use Rattle.indexmap.specs.IndexMap.{IndexMap, insert_entry}
 use Rattle.indexmap.proofs.CallerLemmas.{insert_entry-new}
 use Rattle.event_loops.specs.declared.item.Posted.{Posted}
@@ -40,6 +40,14 @@ module _ {A : Type 0} where
   name_at-found es name home found =
       let told = position-Some (pointwise nat_eq name) (keys_of es) home name found in
       name_at-key es home ∙ within (keys_of es) home name told.0 ∙ ap Some (sym (same_text name _ (sym told.1)))
+
+  -- .. and no loop before it has it
+  pub name_at-first : (es : List (List ℕ × VecDeque Posted A)) (name : List ℕ) (home k : ℕ) → position (pointwise nat_eq name) (keys_of es) ≡ Some home → name_at (loops_of es) k ≡ Some name → home ≤ k
+  name_at-first es name home k found named =
+      let told = position-Some (pointwise nat_eq name) (keys_of es) home name found in
+      let here : get_or (keys_of es) k name ≡ name = get_or_from_slice_get (keys_of es) k name name (sym (name_at-key es k) ∙ named) in
+      let not_before : ¬ (k < home) = λ before. other_text name (get_or (keys_of es) k name) (sym (told.2 k before)) (sym here) in
+      omega (arith, not_before)
 
   -- a name is found exactly where it is taken
   pub taken-lookup : (es : List (List ℕ × VecDeque Posted A)) (name : List ℕ) (home : ℕ) → name_at (loops_of es) home ≡ Some name → lookup (pointwise nat_eq name) es ≢ None

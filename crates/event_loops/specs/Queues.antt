@@ -1,6 +1,6 @@
 -- The event loops with the items that wait in them, as plain lists (Qt 6, "Threads and QObjects": each thread has an event
 -- loop of its own, in which the objects live that are served by it).
-use Rattle.std.specs.Prelude.{◌≡◌, ℕ, zero, suc, ◌+◌, not, nat_lt, eqb, Bool, List, [], ◌∷◌, ◌++◌, map, filter, Option, Some, slice_get, codes, if◌then◌else◌}
+use Rattle.std.specs.Prelude.{◌≡◌, ℕ, zero, suc, ◌+◌, ◌≤◌, not, nat_lt, eqb, Bool, List, [], ◌∷◌, ◌++◌, map, filter, Option, Some, slice_get, codes, if◌then◌else◌}
 use Rattle.std.specs.Option.{option_map}
 use Rattle.event_loops.specs.declared.item.Item.{Item}
 use Rattle.event_loops.specs.declared.item.Item.TheVariants.{Call, Deletion}
@@ -29,6 +29,11 @@ HasName loops name home = name_at loops home ≡ Some name
 -- some loop has the name
 abbrev pub IsTaken : List Loop → List ℕ → Type 0
 IsTaken loops name = (home : ℕ) × HasName loops name home
+
+-- the loop of a name: no loop before it has the name
+pub record IsNamed (loops : List Loop) (name : List ℕ) (home : ℕ) : Type 0 where
+  pub has : HasName loops name home
+  pub first : (k : ℕ) → HasName loops name k → home ≤ k
 
 -- the items of the loop at a place
 abbrev pub items_at : List Loop → ℕ → List Posted

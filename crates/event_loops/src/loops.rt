@@ -1,7 +1,7 @@
-ghost use Rattle.std.specs.Prelude.{◌≡◌, ◌↔◌, ◌+◌, ◌-◌, ◌^◌, ◌<◌, ◌≤◌, Err, Some, [], ◌∷◌, ◌++◌, length, IfOk, OnOk, OnErr, MatchOption, map};
+ghost use Rattle.std.specs.Prelude.{◌≡◌, ◌↔◌, ◌+◌, ◌-◌, ◌^◌, ◌<◌, ◌≤◌, Err, Some, [], ◌∷◌, ◌++◌, length, IfOk, IfSome, OnOk, OnErr, MatchOption, map};
 ghost use Rattle.std.specs.List.{find};
 ghost use Rattle.std.specs.Option.{option_copied};
-ghost use Rattle.event_loops.specs.Queues.{start, name_at, items_at, HasName, IsTaken, change, is_before, with_item, without_first_before, without_object, posted_to, taken_before, dropped, with_loop};
+ghost use Rattle.event_loops.specs.Queues.{start, name_at, items_at, HasName, IsNamed, IsTaken, change, is_before, with_item, without_first_before, without_object, posted_to, taken_before, dropped, with_loop};
 ghost use Rattle.event_loops.specs.Numbers.{AreDistinct, AreGiven, AreInOrder};
 ghost use Rattle.event_loops.specs.Rings.{shown};
 ghost use Rattle.event_loops.specs.declared.fault.AddFault.TheVariants.{Exists};
@@ -9,7 +9,7 @@ ghost use Rattle.event_loops.specs.declared.fault.PostFault.TheVariants.{NoLoop}
 
 use crate::fault::{AddFault, PostFault};
 use crate::item::{Item, Posted};
-use crate::queue::{push, remove_object, take_before};
+use crate::queue::{peek_before, push, remove_object, take_before};
 use indexmap::IndexMap;
 use signatures::{LoopId, Name, ObjectId};
 use std::alloc::{AllocError, Global};
@@ -55,9 +55,10 @@ impl Loops {
 
     /// The loop of this name.
     pub fn find(&self, name: &Name) -> Option<LoopId>
-        ensures { MatchOption result
+        ensures value { MatchOption result
             (¬ IsTaken self.now.loops name.now)
             (HasName self.now.loops name.now) }
+        ensures named { IfSome result (IsNamed self.now.loops name.now) }
     {
         match self.queues.get_index_of(name) {
             Some(place) => Some(LoopId::new(place)),
@@ -137,6 +138,16 @@ impl Loops {
         push_at(&mut self.queues, home.number(), posted)?;
         self.posted += 1;
         Ok(())
+    }
+
+    /// The first item of a loop that was posted before the one of this number.
+    pub fn first_before(&self, home: LoopId, number: u64) -> Option<&Posted>
+        ensures { option_copied result ≡ find (is_before number) (items_at self.now.loops home) }
+    {
+        let Some((_, items)) = self.queues.get_index(home.number()) else {
+            return None;
+        };
+        peek_before(items, number)
     }
 
     /// Removes the first item of a loop that was posted before the one of this number, and gives it.

@@ -2,6 +2,7 @@
 
 ghost use Rattle.std.specs.Prelude.{◌≡◌, [], ◌∷◌, ◌++◌, OnOk, OnErr};
 ghost use Rattle.std.specs.List.{find};
+ghost use Rattle.std.specs.Option.{option_copied};
 ghost use Rattle.event_loops.specs.Queues.{is_before, without_first, none_for};
 ghost use Rattle.event_loops.specs.Rings.{place_of};
 
@@ -17,6 +18,17 @@ pub fn push(items: &mut VecDeque<Posted>, posted: Posted) -> Result<(), AllocErr
 {
     items.push_back(posted)?;
     Ok(())
+}
+
+/// The first item that was posted before the one of this number.
+#[tactic(auto, using(crate::proofs::Places::by_place))]
+pub fn peek_before(items: &VecDeque<Posted>, number: u64) -> Option<&Posted>
+    ensures { option_copied result ≡ find (is_before number) items.now.items }
+{
+    match first_before(items, number) {
+        None => None,
+        Some(place) => items.get(place),
+    }
 }
 
 /// Removes the first item that was posted before the one of this number, and gives it.

@@ -1,6 +1,7 @@
 -- How methods begin.
-use Rattle.std.proofs.Common.{◌≡◌, ℕ, suc, ◌+◌, ◌<◌, ◌≤◌, inl, inr, Bool, true, false, IsTrue, List, [], ◌∷◌, ◌++◌, length, take, Result, Option, Some, refl, sym, ap, ◌∙◌, subst, arith, length-append}
+use Rattle.std.proofs.Common.{◌≡◌, ℕ, suc, ◌+◌, ◌-◌, ◌<◌, ◌≤◌, inl, inr, Bool, true, false, IsTrue, List, [], ◌∷◌, ◌++◌, length, take, Result, Option, None, Some, refl, sym, ap, ◌∙◌, subst, arith, length-append, Ok, Err}
 use Rattle.std.specs.List.{AllByRecursion}
+use Rattle.std.specs.Result.{IsErrAnd}
 use Rattle.signatures.specs.declared.value.Value.{Value}
 use Rattle.meta_model.specs.declared.object.MetaMethod.{MetaMethod}
 use Rattle.meta_model.specs.declared.object.ValueType.{ValueType}
@@ -10,23 +11,29 @@ use Rattle.meta_model.specs.Loaded.{Loaded}
 use Rattle.connections.specs.declared.connection.Connection.{Connection}
 use Rattle.machine_state.specs.declared.entry.Entry.{Entry}
 use Rattle.machine_state.specs.declared.fault.Fault.{Fault}
-use Rattle.machine_state.specs.declared.fault.Fault.TheVariants.{BadType, TooDeep}
+use Rattle.machine_state.specs.declared.fault.Fault.TheVariants.{BadType, TooDeep, Memory}
+use Rattle.event_loops.specs.declared.item.Item.TheVariants.{Call}
+use Rattle.event_loops.specs.Queues.{HasName}
+use Rattle.std.specs.Option.{option_map}
+use Rattle.object_tree.proofs.Changing.{life-of-lives}
+use Rattle.object_tree.specs.declared.life.Life.{Life}
 use Rattle.object_tree.specs.declared.object.Object.{Object}
 use Rattle.machine_state.specs.declared.world.World.{World}
-use Rattle.machine_state.specs.Objects.{all_shown}
+use Rattle.machine_state.specs.Objects.{all_shown, home_of}
 use Rattle.machine_state.specs.State.{State, Activation, Emit}
-use Rattle.machine_rules.specs.Rules.{Begins, begun, EmitRule, Uses}
+use Rattle.machine_state.specs.Turns.{running, reaches_at_once}
+use Rattle.machine_rules.specs.Rules.{Begins, begun, with_used, posted, EmitRule, Uses, Arrives}
 use Rattle.machine_state.specs.Connections.{next_used}
-use Rattle.machine_state.proofs.Due.{used-among, used-due}
+use Rattle.machine_state.proofs.Due.{used-among, used-due, last-used}
 use Rattle.object_tree.specs.Typed.{AreTyped, ReadAs}
 use Rattle.machine_rules.specs.Good.{ArgumentsFit, TopFits, IsWell}
 use Rattle.machine_rules.specs.Sound.{Joined}
-use Rattle.machine_state.specs.Worlds.{at, noted}
-use Rattle.machine_rules.specs.Reaches.{Reaches, StopsIn, Ends, Calls, OnlyCalls, begin_entry, top_of, IsBegun, IsBarred}
+use Rattle.machine_state.specs.Worlds.{at, noted, having_used, posting, Becomes}
+use Rattle.machine_rules.specs.Reaches.{Reaches, StopsIn, Ends, CallsIn, Calls, OnlyCalls, begin_entry, entry_of_post, top_of, IsBegun, IsBarred, PostsCall}
 use Rattle.machine_rules.specs.Active.{shows}
 use Rattle.machine_rules.proofs.Frames.{high, shows-over}
 use Rattle.machine_rules.specs.There.{IsMember}
-use Rattle.machine_rules.proofs.Reaching.{reaches-high, ends-after, ends-lifted, not-idle, stops-as, stops-memory, stops-deep, stops-ill, stops-stuck}
+use Rattle.machine_rules.proofs.Reaching.{reaches-high, ends-after, ends-lifted, not-idle, ends-noted, stops-as, stops-memory, stops-deep, stops-ill, stops-stuck}
 use Rattle.machine_rules.proofs.Fields.{member-method, read-front}
 
 -- the world after a method began
@@ -39,7 +46,7 @@ begun-is w stack over o x m method arguments Signal = refl
 begun-is w stack over o x m method arguments (Slot statements) = refl
 
 -- a method that is there begins
-begins-there : {p : Loaded} {n o m : ℕ} {x : Object} {method : MetaMethod} (w : World) (arguments : List Value) (stack over : List Activation) → IsMember p w.objects o m x method → n ≡ suc (length over) →
+pub begins-there : {p : Loaded} {n o m : ℕ} {x : Object} {method : MetaMethod} (w : World) (arguments : List Value) (stack over : List Activation) → IsMember p w.objects o m x method → n ≡ suc (length over) →
     Begins p (at w stack) over o m arguments (at (begun_world w n x m method arguments) (top_of o m arguments w.connected.last method.work ∷ over))
 begins-there {o = o} {m = m} {x = x} {method = method} w arguments stack over is depth_is =
     let with_depth : ℕ → State = λ n. at (begun_world w n x m method arguments) (top_of o m arguments w.connected.last method.work ∷ over) in
@@ -62,38 +69,38 @@ fits-top : {p : Loaded} {objects : List Object} {o m : ℕ} {arguments : List Va
 fits-top last Signal below fit = fit
 fits-top last (Slot statements) below fit = fit
 
-reaches-begun : {p : Loaded} {d o m : ℕ} {h active : List (Option ℕ)} {w v : World} {from to : List Activation} {arguments : List Value} {line : Entry} {work : Work} {last : ℕ} →
-    active ≡ shows to ++ h → Calls p w from to o m arguments → IsBegun p d active w o m arguments line work last → ArgumentsFit p w.objects o m arguments → AreTyped p w.objects → 0 < w.left → v ≡ noted w (line ∷ []) →
+reaches-begun : {p : Loaded} {d o m : ℕ} {h active : List (Option ℕ)} {w u v : World} {from to : List Activation} {arguments : List Value} {line : Entry} {work : Work} {last : ℕ} →
+    active ≡ shows to ++ h → CallsIn p w u from to o m arguments → IsBegun p d active u o m arguments line work last → ArgumentsFit p u.objects o m arguments → AreTyped p u.objects → 0 < w.left → u.left ≡ w.left → v ≡ noted u (line ∷ []) →
     Reaches p d h w from v (top_of o m arguments last work ∷ to)
-reaches-begun {p} {d} {o} {m} {h} {active} {w} {v} {from} {to} {arguments} {line} {work} {last} over calls is fit typed some v_is =
-    let Pushed : World → Work → ℕ → Type 0 = λ u k l. Reaches p d h w from u (top_of o m arguments l k ∷ to) in
-    let target : World = begun_world w (length active + 1) is.object m is.method arguments in
-    let target_is : v ≡ target = v_is ∙ ap (λ (y : Entry). noted w (y ∷ [])) is.is_line in
-    let went : Pushed target is.method.work w.connected.last =
-    reaches-high over (λ below e. calls.gives below _ (begins-there w arguments (from ++ below) (to ++ below) is.is (one-more to below over e))) (λ below. top-fits w.connected.last is.method.work (to ++ below) fit) is.room typed refl some in
-    subst (λ (u : World). Pushed u work last) (sym target_is) (subst (λ (k : Work). Pushed target k last) (sym is.is_work) (subst (λ (l : ℕ). Pushed target is.method.work l) (sym is.is_last) went))
+reaches-begun {p} {d} {o} {m} {h} {active} {w} {u} {v} {from} {to} {arguments} {line} {work} {last} over calls is fit typed some same v_is =
+    let Pushed : World → Work → ℕ → Type 0 = λ z k l. Reaches p d h w from z (top_of o m arguments l k ∷ to) in
+    let target : World = begun_world u (length active + 1) is.object m is.method arguments in
+    let target_is : v ≡ target = v_is ∙ ap (λ (y : Entry). noted u (y ∷ [])) is.is_line in
+    let went : Pushed target is.method.work u.connected.last =
+    reaches-high over (λ below e. calls.gives below _ (begins-there u arguments (from ++ below) (to ++ below) is.is (one-more to below over e))) (λ below. top-fits u.connected.last is.method.work (to ++ below) fit) is.room typed (ap (λ (n : ℕ). n - 1) same) some in
+    subst (λ (z : World). Pushed z work last) (sym target_is) (subst (λ (k : Work). Pushed target k last) (sym is.is_work) (subst (λ (l : ℕ). Pushed target is.method.work l) (sym is.is_last) went))
 
 -- a method begins, and what it pushed runs
-pub ends-begun : {p : Loaded} {d o m : ℕ} {h active : List (Option ℕ)} {w v u : World} {from to : List Activation} {arguments : List Value} {line : Entry} {work : Work} {last : ℕ} {r : Result (Unit {0}) Fault} →
-    active ≡ shows to ++ h → Calls p w from to o m arguments → IsBegun p d active w o m arguments line work last → ArgumentsFit p w.objects o m arguments → AreTyped p w.objects → 0 < w.left → v ≡ noted w (line ∷ []) →
-    Ends p d active v (top_of o m arguments last work ∷ []) u [] r → Ends p d h w from u to r
-ends-begun over calls is fit typed some v_is x = ends-after (reaches-begun over calls is fit typed some v_is) (ends-lifted over x)
+pub ends-begun : {p : Loaded} {d o m : ℕ} {h active : List (Option ℕ)} {w u v z : World} {from to : List Activation} {arguments : List Value} {line : Entry} {work : Work} {last : ℕ} {r : Result (Unit {0}) Fault} →
+    active ≡ shows to ++ h → CallsIn p w u from to o m arguments → IsBegun p d active u o m arguments line work last → ArgumentsFit p u.objects o m arguments → AreTyped p u.objects → 0 < w.left → u.left ≡ w.left → v ≡ noted u (line ∷ []) →
+    Ends p d active v (top_of o m arguments last work ∷ []) z [] r → Ends p d h w from z to r
+ends-begun over calls is fit typed some same v_is x = ends-after (reaches-begun over calls is fit typed some same v_is) (ends-lifted over x)
 
 -- activations would nest too deep
-stops-begin : {p : Loaded} {d o m : ℕ} {h active : List (Option ℕ)} {w : World} {from to : List Activation} {arguments : List Value} →
-    active ≡ shows to ++ h → Calls p w from to o m arguments → ArgumentsFit p w.objects o m arguments → AreTyped p w.objects → 0 < w.left → d ≤ length active → StopsIn p d h w from w TooDeep
-stops-begin {o = o} {m = m} {active = active} {w = w} {from = from} {to = to} {arguments = arguments} over calls fit typed some deep =
-    let target : World = begun_world w (length active + 1) fit.object m fit.method arguments in
+stops-begin : {p : Loaded} {d o m : ℕ} {h active : List (Option ℕ)} {w u : World} {from to : List Activation} {arguments : List Value} →
+    active ≡ shows to ++ h → CallsIn p w u from to o m arguments → ArgumentsFit p u.objects o m arguments → AreTyped p u.objects → 0 < w.left → d ≤ length active → StopsIn p d h w from w TooDeep
+stops-begin {o = o} {m = m} {active = active} {w = w} {u = u} {from = from} {to = to} {arguments = arguments} over calls fit typed some deep =
+    let target : World = begun_world u (length active + 1) fit.object m fit.method arguments in
     stops-deep some (λ below e. (
-      at target (top_of o m arguments w.connected.last fit.method.work ∷ to ++ below),
-      calls.gives below _ (begins-there w arguments (from ++ below) (to ++ below) fit.is (one-more to below over e)),
-      record { arguments = λ higher. top-fits w.connected.last fit.method.work (to ++ below) fit; values = typed },
+      at target (top_of o m arguments u.connected.last fit.method.work ∷ to ++ below),
+      calls.gives below _ (begins-there u arguments (from ++ below) (to ++ below) fit.is (one-more to below over e)),
+      record { arguments = λ higher. top-fits u.connected.last fit.method.work (to ++ below) fit; values = typed },
       omega (arith, one-more to below over e, deep),
     ))
 
 -- a method that fits doesn't begin
-pub stops-barred : {p : Loaded} {d o m : ℕ} {h active : List (Option ℕ)} {w : World} {from to : List Activation} {arguments : List Value} {f : Fault} →
-    active ≡ shows to ++ h → Calls p w from to o m arguments → ArgumentsFit p w.objects o m arguments → AreTyped p w.objects → 0 < w.left → IsBarred d active f → StopsIn p d h w from w f
+pub stops-barred : {p : Loaded} {d o m : ℕ} {h active : List (Option ℕ)} {w u : World} {from to : List Activation} {arguments : List Value} {f : Fault} →
+    active ≡ shows to ++ h → CallsIn p w u from to o m arguments → ArgumentsFit p u.objects o m arguments → AreTyped p u.objects → 0 < w.left → IsBarred d active f → StopsIn p d h w from w f
 stops-barred over calls fit typed some why = elim why [
   | inl deep ↦ stops-as deep.1 (stops-begin over calls fit typed some deep.0)
   | inr short ↦ stops-as short (stops-memory calls.goes_on some)
@@ -147,9 +154,27 @@ delivered-fits {p} {objects} {c} {x} {method} {arguments} {taken} j fit is cut c
     let taken_is : taken ≡ take (length j.method.kinds) arguments = long ∙ ap (λ (k : MetaMethod). take (length k.kinds) arguments) (sym same) in
     subst (λ (l : List Value). ArgumentsFit p objects c.receiver c.method l) (sym taken_is) has
 
--- a connection that comes next begins its method
-pub delivery-calls : {p : Loaded} {w : World} {c : Connection} {x : Object} {method : MetaMethod} {arguments taken : List Value} {count : ℕ} (o g used last : ℕ) → next_used w.objects w.connected.connections o g used last ≡ Some c → IsMember p w.objects c.receiver c.method x method → taken ≡ take count arguments → count ≡ length method.kinds → Calls p w (Emit o g arguments used last ∷ []) (Emit o g arguments c.number last ∷ []) c.receiver c.method taken
-delivery-calls {p} {w} {c} {x} {method} {arguments} {taken} {count} o g used last found is cut count_is = record {
+-- ---- a connection is used
+
+-- what is found of a method before the connection is used holds after it
+pub begun-used : {p : Loaded} {d o m : ℕ} {active : List (Option ℕ)} {w : World} {arguments : List Value} {line : Entry} {work : Work} {last : ℕ} (c : Connection) → IsBegun p d active w o m arguments line work last → IsBegun p d active (having_used w c) o m arguments line work last
+begun-used {w = w} c x = record { room = x.room; object = x.object; method = x.method; is = x.is; is_line = x.is_line; is_work = x.is_work; is_last = x.is_last ∙ sym (last-used c w.connected) }
+
+-- memory was refused, behind a `?`
+pub becomes-short : (w target : World) (r : Result (Unit {0}) Fault) → IsErrAnd r (λ y. y ≡ Memory) → Becomes w target w r
+becomes-short w target (Ok _) is = absurd is
+becomes-short w target (Err f) is = (is, refl)
+
+-- an object with a method lives in a loop
+pub no-home : {p : Loaded} {objects : List Object} {o m : ℕ} {x : Object} {method : MetaMethod} → IsMember p objects o m x method → None ≡ home_of objects o → ⊥
+no-home {objects = objects} {o = o} is none =
+    let lives : home_of objects o ≡ Some is.life.home = ap (λ (there : Option Life). option_map (λ (l : Life). l.home) there) (life-of-lives is.lives) in
+    let no : None ≡ Some is.life.home = none ∙ lives in
+    absurd (cc no)
+
+-- a connection that comes next begins its method, where it reaches its receiver at once
+pub delivery-calls : {p : Loaded} {w : World} {c : Connection} {x : Object} {method : MetaMethod} {arguments taken : List Value} {count : ℕ} (o g used last : ℕ) → next_used w.objects w.connected.connections o g used last ≡ Some c → IsMember p w.objects c.receiver c.method x method → taken ≡ take count arguments → count ≡ length method.kinds → {home : ℕ} → home_of w.objects c.receiver ≡ Some home → reaches_at_once c.kind home (running w.turn) ≡ true → CallsIn p w (having_used w c) (Emit o g arguments used last ∷ []) (Emit o g arguments c.number last ∷ []) c.receiver c.method taken
+delivery-calls {p} {w} {c} {x} {method} {arguments} {taken} {count} o g used last found is cut count_is {home} lives at_once = record {
   no_lower = omega arith;
   goes_on = λ below. not-idle w _ below;
   gives = λ below t b.
@@ -157,15 +182,49 @@ delivery-calls {p} {w} {c} {x} {method} {arguments} {taken} {count} o g used las
       let over : List Activation = Emit o g arguments c.number last ∷ below in
       let same : method ≡ b.method = member-method is b.is in
       let taken_is : taken ≡ take (length b.method.kinds) arguments = cut ∙ ap (λ (n : ℕ). take n arguments) count_is ∙ ap (λ (k : MetaMethod). take (length k.kinds) arguments) same in
+      let begins : t ≡ begun (with_used s c) over c.receiver b.object c.method b.method (take (length b.method.kinds) arguments) b.method.work = b.gives ∙ ap (λ (l : List Value). begun (with_used s c) over c.receiver b.object c.method b.method l b.method.work) taken_is in
+      let Arrive : Bool → Type 0 = λ n. Arrives (with_used s c) over home c.receiver b.object c.method b.method (take (length b.method.kinds) arguments) t n in
       let uses : Uses p s over c arguments t = record {
         receiver = b.object;
         method = b.method;
         is = b.is;
-        gives = b.gives ∙ ap (λ (l : List Value). begun s over c.receiver b.object c.method b.method l b.method.work) taken_is;
+        home = home;
+        lives_in = lives;
+        arrives = subst Arrive (sym at_once) begins;
       } in
       let Next : Option Connection → Type 0 = λ n. EmitRule p s o g arguments last below t n in
       subst Next (sym found) uses;
 }
+
+-- .. and else posts a call of it
+pub ends-posted : {p : Loaded} {d : ℕ} {h : List (Option ℕ)} {w v : World} {c : Connection} {x : Object} {method : MetaMethod} {arguments taken : List Value} {count : ℕ} (o g used last n : ℕ) (r : Result (Unit {0}) Fault) → next_used w.objects w.connected.connections o g used last ≡ Some c → IsMember p w.objects c.receiver c.method x method → taken ≡ take count arguments → count ≡ length method.kinds → {home : ℕ} → home_of w.objects c.receiver ≡ Some home → reaches_at_once c.kind home (running w.turn) ≡ false → length h < d → AreTyped p w.objects → 0 < w.left → n ≡ length h + 1 → PostsCall p w n c taken v r → Ends p d h w (Emit o g arguments used last ∷ []) v (Emit o g arguments c.number last ∷ []) r
+ends-posted {p} {w = w} {v = v} {c = c} {x = x} {method = method} {arguments = arguments} {taken = taken} o g used last n r found is cut count_is {home} lives later room typed some n_is posts =
+    let target : World = posting (having_used w c) (entry_of_post w n posts.name posts.object posts.method taken ∷ []) posts.home (Call c.receiver c.method taken) in
+    ends-noted target r
+    (λ below k.
+    let s : State = at w (Emit o g arguments used last ∷ below) in
+    let over : List Activation = Emit o g arguments c.number last ∷ below in
+    let same : method ≡ posts.method = member-method is posts.is in
+    let taken_is : taken ≡ take (length posts.method.kinds) arguments = cut ∙ ap (λ (i : ℕ). take i arguments) count_is ∙ ap (λ (y : MetaMethod). take (length y.kinds) arguments) same in
+    let depth_is : n ≡ suc (length below) = omega (arith, n_is, high below k) in
+    let to : State = at target over in
+    let with_depth : ℕ → State = λ i. at (posting (having_used w c) (entry_of_post w i posts.name posts.object posts.method taken ∷ []) posts.home (Call c.receiver c.method taken)) over in
+    let put : to ≡ posted (with_used s c) over posts.name posts.home c.receiver posts.object c.method posts.method (take (length posts.method.kinds) arguments) = ap with_depth depth_is ∙ ap (λ (l : List Value). posted (with_used s c) over posts.name posts.home c.receiver posts.object c.method posts.method l) taken_is in
+    let both : Some home ≡ Some posts.home = sym lives ∙ posts.lives_in in
+    let home_is : home ≡ posts.home = cc both in
+    let not_now : reaches_at_once c.kind posts.home (running w.turn) ≡ false = ap (λ (i : ℕ). reaches_at_once c.kind i (running w.turn)) (sym home_is) ∙ later in
+    let Arrive : Bool → Type 0 = λ b. Arrives (with_used s c) over posts.home c.receiver posts.object c.method posts.method (take (length posts.method.kinds) arguments) to b in
+    let uses : Uses p s over c arguments to = record {
+      receiver = posts.object;
+      method = posts.method;
+      is = posts.is;
+      home = posts.home;
+      lives_in = posts.lives_in;
+      arrives = subst Arrive (sym not_now) (record { name = posts.name; is_loop = posts.is_loop; gives = put });
+    } in
+    let Next : Option Connection → Type 0 = λ y. EmitRule p s o g arguments last below to y in
+    subst Next (sym found) uses)
+    room typed refl some posts.becomes
 
 -- ---- tests
 

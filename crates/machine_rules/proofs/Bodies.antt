@@ -1,5 +1,5 @@
 -- What a body's statements do.
-use Rattle.std.proofs.Common.{◌≡◌, ◌≢◌, ℕ, suc, ◌+◌, ◌-◌, ◌<◌, List, [], ◌∷◌, ◌++◌, length, Result, Ok, Err, Option, Some, None, refl, sym, ap, ◌∙◌, subst, arith}
+use Rattle.std.proofs.Common.{◌≡◌, ◌≢◌, ℕ, suc, ◌+◌, ◌-◌, ◌<◌, List, [], ◌∷◌, ◌++◌, length, Result, Ok, Err, MatchResult, inl, inr, Option, Some, None, refl, sym, ap, ◌∙◌, subst, arith}
 use Rattle.std.specs.Result.{IsErrAnd}
 use Rattle.signatures.specs.declared.value.Value.{Value}
 use Rattle.meta_model.specs.declared.object.Statement.{Statement}
@@ -14,15 +14,17 @@ use Rattle.machine_state.specs.declared.fault.Fault.TheVariants.{BadType}
 use Rattle.object_tree.specs.declared.object.Object.{Object}
 use Rattle.machine_state.specs.declared.world.World.{World}
 use Rattle.machine_state.specs.State.{State, Activation, Body}
-use Rattle.machine_rules.specs.Doings.{Doing, Write, Begin, Choose, Nothing, doing}
+use Rattle.texts.specs.declared.connection.ConnectionType.{ConnectionType}
+use Rattle.machine_state.specs.declared.endpoints.Endpoints.{Endpoints}
+use Rattle.machine_rules.specs.Doings.{Doing, Write, Begin, Choose, Connect, Disconnect, Nothing, doing}
 use Rattle.machine_rules.specs.Coded.{Yields}
-use Rattle.machine_rules.specs.Rules.{Rule, StatementRule, Does, on_null}
+use Rattle.machine_rules.specs.Rules.{Rule, StatementRule, Does, told, Connects, Disconnects}
 use Rattle.object_tree.specs.Typed.{AreTyped}
 use Rattle.machine_rules.specs.Good.{}
 use Rattle.machine_rules.specs.Runs.{Rules, done, then}
 use Rattle.machine_state.specs.Worlds.{at, noted, Ticks, Becomes}
-use Rattle.machine_rules.specs.Reaches.{StopsIn, Ends, Advances, Calls, OnlyCalls, Sets}
-use Rattle.machine_rules.proofs.Reaching.{not-idle, stops-stuck, ends-noted, ends-ticked}
+use Rattle.machine_rules.specs.Reaches.{StopsIn, Ends, Advances, Calls, OnlyCalls, Sets, Went, Stays, ConnectsIn, DisconnectsIn}
+use Rattle.machine_rules.proofs.Reaching.{not-idle, reaches-low, stops-as, stops-memory, stops-stuck, ends-noted, ends-ticked}
 use Rattle.machine_rules.proofs.Frames.{high}
 use Rattle.machine_rules.proofs.Keeps.{some-stack, rules-kept}
 
@@ -67,9 +69,38 @@ does-nothing {p} {w} {o} {arguments} {x} m rest {d} {h} {v} n r is room typed so
     (λ below k.
     let t : State = at (noted w (At n OnNull ∷ [])) (Body o m arguments rest ∷ below) in
     let depth_is : n ≡ suc (length below) = omega (arith, n_is, high below k) in
-    let null_is : t ≡ on_null (next w o m arguments x rest below) (Body o m arguments rest ∷ below) = ap (λ (i : ℕ). at (noted w (At i OnNull ∷ [])) (Body o m arguments rest ∷ below)) depth_is in
+    let null_is : t ≡ told (next w o m arguments x rest below) (Body o m arguments rest ∷ below) OnNull = ap (λ (i : ℕ). at (noted w (At i OnNull ∷ [])) (Body o m arguments rest ∷ below)) depth_is in
     does-rule p w o m arguments x rest Nothing below t is null_is)
     room typed refl some notes
+
+-- what this relation tells of is done, and nothing is pushed
+does-told : {p : Loaded} {w v : World} {o : ℕ} {arguments : List Value} {x : Statement} (m : ℕ) (rest : List Statement) {d : ℕ} {h : List (Option ℕ)} (what : Doing) (What : State → List Activation → State → Type 0) (n : ℕ) (r : Result (Unit {0}) Fault) → doing w.objects o arguments (out-Statement x) ≡ Some what →
+    ((below : List Activation) (t : State) → What (next w o m arguments x rest below) (Body o m arguments rest ∷ below) t → Does p (next w o m arguments x rest below) o m arguments rest below what t) →
+    ((below : List Activation) (t : State) → Does p (next w o m arguments x rest below) o m arguments rest below what t → What (next w o m arguments x rest below) (Body o m arguments rest ∷ below) t) →
+    length h < d → AreTyped p w.objects → 0 < w.left → n ≡ length h + 1 → MatchResult r (λ _. Went What w n v) (Stays What w v) → Ends p d h w (Body o m arguments (x ∷ rest) ∷ []) v (Body o m arguments rest ∷ []) r
+does-told {p} {w} {v} {o} {arguments} {x} m rest {d} {h} what What n (Ok _) is does told_by room typed some n_is went =
+    let Typed : List Object → Type 0 = λ l. AreTyped p l in
+    record {
+      cases = reaches-low {b = Body o m arguments rest ∷ []} (λ below k. does-rule p w o m arguments x rest what below _ is (does below _ (went.tells (Body o m arguments (x ∷ rest) ∷ below) (Body o m arguments rest ∷ below) (omega (arith, n_is, high below k)))))
+          (omega arith) (omega (arith, room)) (subst Typed (sym went.objects) typed) went.left some;
+    }
+does-told {p} {w} {v} {o} {arguments} {x} m rest {d} {h} what What n (Err f) is does told_by room typed some n_is stays =
+    let At : World → Type 0 = λ u. StopsIn p d h w (Body o m arguments (x ∷ rest) ∷ []) u f in
+    let stops : StopsIn p d h w (Body o m arguments (x ∷ rest) ∷ []) w f = elim stays.why [
+      | inl none ↦ stops-as none.1 (stops-stuck (not-idle w (Body o m arguments (x ∷ rest))) some (λ below t rule. none.0 (Body o m arguments (x ∷ rest) ∷ below) (Body o m arguments rest ∷ below) t (told_by below t (rule-does p w o m arguments x rest what below t is rule))))
+      | inr short ↦ stops-as short (stops-memory (not-idle w (Body o m arguments (x ∷ rest))) some)
+    ] in
+    record { cases = subst At (sym stays.same) stops }
+
+-- a connection is made
+pub does-connect : {p : Loaded} {w v : World} {o : ℕ} {arguments : List Value} {x : Statement} (m : ℕ) (rest : List Statement) {d : ℕ} {h : List (Option ℕ)} (ends : Endpoints) (how : ConnectionType) (n : ℕ) (r : Result (Unit {0}) Fault) → doing w.objects o arguments (out-Statement x) ≡ Some (Connect ends how) → length h < d → AreTyped p w.objects → 0 < w.left → n ≡ length h + 1 → ConnectsIn p w n ends how v r → Ends p d h w (Body o m arguments (x ∷ rest) ∷ []) v (Body o m arguments rest ∷ []) r
+does-connect {p} m rest ends how n r is room typed some n_is went =
+    does-told m rest (Connect ends how) (λ s stack t. Connects p s stack ends how t) n r is (λ below t does. does) (λ below t does. does) room typed some n_is went
+
+-- .. or removed
+pub does-disconnect : {p : Loaded} {w v : World} {o : ℕ} {arguments : List Value} {x : Statement} (m : ℕ) (rest : List Statement) {d : ℕ} {h : List (Option ℕ)} (ends : Endpoints) (n : ℕ) (r : Result (Unit {0}) Fault) → doing w.objects o arguments (out-Statement x) ≡ Some (Disconnect ends) → length h < d → AreTyped p w.objects → 0 < w.left → n ≡ length h + 1 → DisconnectsIn p w n ends v r → Ends p d h w (Body o m arguments (x ∷ rest) ∷ []) v (Body o m arguments rest ∷ []) r
+does-disconnect {p} m rest ends n r is room typed some n_is went =
+    does-told m rest (Disconnect ends) (λ s stack t. Disconnects p s stack ends t) n r is (λ below t does. does) (λ below t does. does) room typed some n_is went
 
 -- a block comes next
 pub does-choose : {p : Loaded} {w : World} {o : ℕ} {arguments : List Value} {x : Statement} (m : ℕ) (rest : List Statement) {d : ℕ} {h : List (Option ℕ)} {v : World} (r : Result (Unit {0}) Fault) (block : List Statement) → doing w.objects o arguments (out-Statement x) ≡ Some (Choose block) → length h < d → AreTyped p w.objects → Ticks w v r → Ends p d h w (Body o m arguments (x ∷ rest) ∷ []) v (Body o m arguments (block ++ rest) ∷ []) r

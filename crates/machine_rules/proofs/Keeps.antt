@@ -1,32 +1,51 @@
 -- What each rule leaves as it was.
-use Rattle.std.proofs.Common.{◌≡◌, inl, ℕ, suc, List, [], ◌∷◌, ◌++◌, Option, Some, None, slice_get, refl, sym, ap, ◌∙◌, subst, arith, Result, Ok, Err, append_assoc, append-nil}
+use Rattle.std.proofs.Common.{◌≡◌, inl, ℕ, suc, ◌+◌, List, [], ◌∷◌, ◌++◌, Option, Some, None, slice_get, refl, sym, ap, ◌∙◌, subst, arith, Result, Ok, Err, append_assoc, append-nil, ◌≤◌, Bool, true, false, length}
 use Rattle.signatures.specs.declared.value.Value.{Value}
 use Rattle.meta_model.specs.Loaded.{Loaded}
 use Rattle.meta_model.specs.declared.object.Statement.{Statement}
 use Rattle.meta_model.specs.declared.object.Work.{Work}
 use Rattle.meta_model.specs.declared.object.Work.TheVariants.{Signal, Slot}
 use Rattle.meta_model.specs.declared.object.MetaMethod.{MetaMethod}
+use Rattle.std.specs.List.{AllByRecursion, find}
+use Rattle.event_loops.specs.declared.item.Item.{Item}
+use Rattle.event_loops.specs.declared.item.Item.TheVariants.{Call, Deletion}
+use Rattle.event_loops.specs.declared.item.Posted.{Posted}
+use Rattle.event_loops.specs.Queues.{Queues, items_at, is_before, posted_to, taken_before}
 use Rattle.object_tree.specs.declared.life.Life.{Life}
 use Rattle.object_tree.specs.declared.object.Object.{Object}
 use Rattle.connections.specs.declared.connection.Connection.{Connection}
 use Rattle.machine_state.specs.declared.fault.Fault.{Fault}
 use Rattle.machine_state.specs.declared.world.World.{World}
-use Rattle.machine_state.specs.Worlds.{at}
+use Rattle.machine_state.specs.Worlds.{at, noted, using}
+use Rattle.machine_state.proofs.Due.{last-used, all-used, all-removed}
 use Rattle.machine_state.specs.State.{State, Place, Activation, Body, Emit, Update}
-use Rattle.machine_rules.specs.Rules.{RuleAt, BodyRule, Does, EmitRule, UpdateRule, Begins, Writes, begun}
-use Rattle.machine_rules.specs.Doings.{Doing, Write, Begin, Choose, Nothing}
-use Rattle.machine_state.specs.Connections.{next_used}
+use Rattle.machine_rules.specs.Rules.{RuleAt, BodyRule, Does, EmitRule, UpdateRule, Begins, Writes, begun, with_used, linked, unlinked, TurnRule, Serves, Delivers, Arrives}
+use Rattle.machine_rules.specs.Doings.{Doing, Write, Begin, Choose, Connect, Disconnect, Nothing}
+use Rattle.machine_state.specs.Connections.{next_used, joins_these}
+use Rattle.machine_state.specs.declared.turn.Turn.{Turn}
+use Rattle.machine_state.specs.Turns.{running, reaches_at_once}
+use Rattle.machine_rules.proofs.Waiting.{length-change, housed-same, home-change}
 use Rattle.meta_model.specs.declared.object.ValueType.{ValueType}
 use Rattle.object_tree.specs.Objects.{Lives, life_of, class_of, change_life, written}
 use Rattle.object_tree.proofs.Changing.{life-of-lives, lives-of-life}
-use Rattle.object_tree.specs.Typed.{AreTyped, ReadsAs, ReadAs}
+use Rattle.object_tree.specs.Typed.{AreTyped, ReadAs}
 use Rattle.machine_state.specs.declared.entry.Entry.{Entry}
 use Rattle.machine_rules.specs.There.{IsMember, IsField}
 use Rattle.machine_rules.proofs.Fields.{typed-written}
 use Rattle.meta_model.specs.declared.object.MetaProperty.{MetaProperty}
+use Rattle.signatures.specs.Types.{Fits}
+use Rattle.texts.specs.declared.connection.ConnectionType.{ConnectionType}
+use Rattle.texts.specs.declared.connection.Endpoints.{Endpoints as Named}
+use Rattle.meta_model.specs.Sound.{IsSound}
+use Rattle.machine_state.specs.declared.endpoints.Endpoints.{Endpoints}
+use Rattle.machine_state.specs.declared.refusal.Refusal.{Refusal}
+use Rattle.machine_rules.specs.Connecting.{AreThere, kept_ends, named_signal, names_of, found_ends, may_connect}
+use Rattle.machine_rules.specs.Judgement.{goes_on, holds}
+use Rattle.machine_rules.proofs.Fitting.{kinds-fit}
+use Rattle.machine_rules.proofs.Lists.{all-snoc}
 use Rattle.machine_rules.specs.Good.{ArgumentsFit}
 use Rattle.machine_rules.specs.Runs.{Rules, done, then}
-use Rattle.machine_rules.specs.Sound.{Sound, Joined}
+use Rattle.machine_rules.specs.Sound.{Sound, Joined, IsSoundWorld}
 use Rattle.machine_rules.specs.Active.{whose, shows}
 use Rattle.machine_rules.specs.Reaches.{Reaches, StopsIn, Ends}
 use Rattle.machine_rules.specs.Keeps.{StayThere, AllJoined, Grows, Keeps, KeepsWorld}
@@ -93,6 +112,22 @@ pub all-joined-still : (p : Loaded) (old new : List Object) (connections : List 
 all-joined-still p old new [] stay all = tt
 all-joined-still p old new (c ∷ cs) stay all = (joined-still c stay all.0, all-joined-still p old new cs stay all.1)
 
+-- what is connected joins what is named
+pub joined-by : {p : Loaded} {objects : List Object} {ends : Endpoints} (how : ConnectionType) (n : ℕ) (spelled : AreThere p objects ends) → IsSound p → Fits spelled.signal.sig spelled.method.sig →
+    Joined p objects (record { number = n; sender = ends.sender; signal = named_signal ends.signal; receiver = ends.receiver; method = ends.method; kind = how.kind; single = how.single })
+joined-by how n spelled program fits =
+    let front = kinds-fit program spelled.sends.is_method spelled.receives.is_method fits in
+    record {
+      sender = spelled.sender;
+      signal = front.0;
+      sends = record { life = spelled.sends.life; lives = spelled.sends.lives; is_method = front.1 };
+      receiver = spelled.receiver;
+      method = spelled.method;
+      receives = spelled.receives;
+      rest = front.2.0;
+      fits = front.2.1;
+    }
+
 -- ---- what was written down
 
 pub grows-by : {old : List Entry} (more : List Entry) → Grows old (old ++ more)
@@ -108,14 +143,17 @@ grows-then {a} x y =
 -- ---- from state to state
 
 pub keeps-same : {p : Loaded} {s : State} {n : ℕ} → Keeps p s n s n
-keeps-same {s = s} = record { objects = all-stay _; joined = λ all. all; connected = omega arith; paid = omega arith; events = refl; fewer = omega arith; grows = grows-same s.trace }
+keeps-same {s = s} = record { objects = all-stay _; joined = λ program all. all; connected = omega arith; paid = omega arith; housed = λ all. all; posted = omega arith; no_turn = λ e. e; events = refl; fewer = omega arith; grows = grows-same s.trace }
 
 pub keeps-then : {p : Loaded} {s m t : State} {n j k : ℕ} → Keeps p s n m j → Keeps p m j t k → Keeps p s n t k
 keeps-then x y = record {
   objects = record { living = λ o class is. y.objects.living o class (x.objects.living o class is); dead = λ o is. y.objects.dead o (x.objects.dead o is) };
-  joined = λ all. y.joined (x.joined all);
+  joined = λ program all. y.joined program (x.joined program all);
   connected = omega (arith, x.connected, y.connected);
   paid = omega (arith, x.paid, y.paid);
+  housed = λ all. y.housed (x.housed all);
+  posted = omega (arith, x.posted, y.posted);
+  no_turn = λ e. y.no_turn (x.no_turn e);
   events = y.events ∙ x.events;
   fewer = omega (arith, x.fewer, y.fewer);
   grows = grows-then x.grows y.grows;
@@ -128,7 +166,22 @@ keeps-is {p} {s} {n = n} {k = k} e x = let Family : State → Type 0 = λ u. Kee
 
 -- objects, connections and numbers are those that they were
 keeps-all : {p : Loaded} {s : State} (stack : List Activation) {trace : List Entry} → Grows s.trace trace → Keeps p s 1 (record s { stack = stack; trace = trace }) 0
-keeps-all stack grows = record { objects = all-stay _; joined = λ all. all; connected = omega arith; paid = omega arith; events = refl; fewer = omega arith; grows = grows }
+keeps-all stack grows = record { objects = all-stay _; joined = λ program all. all; connected = omega arith; paid = omega arith; housed = λ all. all; posted = omega arith; no_turn = λ e. e; events = refl; fewer = omega arith; grows = grows }
+
+-- a connection is used
+used-kept : {p : Loaded} {s : State} {n : ℕ} (c : Connection) → Keeps p s n (with_used s c) n
+used-kept {p = p} {s = s} c = record {
+  objects = all-stay _;
+  joined = λ program all. all-used (Joined p s.objects) c s.connected all;
+  connected = omega (arith, last-used c s.connected);
+  paid = omega (arith, last-used c s.connected);
+  housed = λ all. all;
+  posted = omega arith;
+  no_turn = λ e. e;
+  events = refl;
+  fewer = omega arith;
+  grows = grows-same s.trace;
+}
 
 begun-kept : (p : Loaded) (s : State) (below : List Activation) (o : ℕ) (x : Object) (m : ℕ) (method : MetaMethod) (arguments : List Value) (work : Work) (t : State) → t ≡ begun s below o x m method arguments work → Keeps p s 1 t 0
 begun-kept p s below o x m method arguments Signal t e = keeps-is e (keeps-all _ (grows-by _))
@@ -142,41 +195,127 @@ writes-kept {p = p} {s = s} {o = o} {q = q} {new = new} x =
     let stay : StayThere s.objects (change_life o (written q new) s.objects) = written-stay s.objects o q new in
     keeps-is x.gives (record {
       objects = stay;
-      joined = λ all. all-joined-still p s.objects _ s.connected.connections stay all;
+      joined = λ program all. all-joined-still p s.objects _ s.connected.connections stay all;
       connected = omega arith;
       paid = omega arith;
+      housed = housed-same s.objects _ s.queues.loops s.queues.loops (home-change o (written q new) s.objects (λ l. refl)) refl;
+      posted = omega arith;
+      no_turn = λ e. e;
       events = refl;
       fewer = omega arith;
       grows = grows-by _;
     })
 
+-- a connection is made, or refused
+linked-kept : (p : Loaded) (s : State) (stack : List Activation) (ends : Endpoints) (how : ConnectionType) (names : Named (List ℕ)) (spelled : AreThere p s.objects ends) (answer : Result (Unit {0}) Refusal) → may_connect p s.connected (found_ends spelled) spelled.signal.sig spelled.method.sig how answer → Keeps p s 1 (linked s stack (kept_ends ends) how names answer) 0
+linked-kept p s stack ends how names spelled (Ok _) (goes_on _ covers (goes_on _ (holds fits) new)) = record {
+  objects = all-stay _;
+  joined = λ program all. all-snoc (Joined p s.objects) s.connected.connections _ all (joined-by how (s.connected.last + 1) spelled program fits);
+  connected = omega arith;
+  paid = omega arith;
+  housed = λ all. all;
+  posted = omega arith;
+  no_turn = λ e. e;
+  events = refl;
+  fewer = omega arith;
+  grows = grows-by _;
+}
+linked-kept p s stack ends how names spelled (Err k) judged = keeps-all stack (grows-by _)
+
+-- .. removed, or that is refused
+unlinked-kept : (p : Loaded) (s : State) (stack : List Activation) (ends : Endpoints) (names : Named (List ℕ)) (answer : Result (Unit {0}) Refusal) → Keeps p s 1 (unlinked s stack ends names answer) 0
+unlinked-kept p s stack ends names (Ok _) = record {
+  objects = all-stay _;
+  joined = λ program all. all-removed (Joined p s.objects) (joins_these ends) s.connected all;
+  connected = omega arith;
+  paid = omega arith;
+  housed = λ all. all;
+  posted = omega arith;
+  no_turn = λ e. e;
+  events = refl;
+  fewer = omega arith;
+  grows = grows-by _;
+}
+unlinked-kept p s stack ends names (Err k) = keeps-all stack (grows-by _)
+
 does-kept : (p : Loaded) (s : State) (o m : ℕ) (arguments : List Value) (rest : List Statement) (below : List Activation) (d : Doing) (t : State) → Does p s o m arguments rest below d t → Keeps p s 1 t 0
 does-kept p s o m arguments rest below (Write x q new) t does = writes-kept does
 does-kept p s o m arguments rest below (Begin x n given) t does = begins-kept does
 does-kept p s o m arguments rest below (Choose block) t does = keeps-is does (keeps-all _ (grows-same s.trace))
+does-kept p s o m arguments rest below (Connect ends how) t does =
+    keeps-is does.gives (linked-kept p s (Body o m arguments rest ∷ below) ends how (names_of does.kept) does.spelled does.answer does.judged)
+does-kept p s o m arguments rest below (Disconnect ends) t does =
+    keeps-is does.gives (unlinked-kept p s (Body o m arguments rest ∷ below) (kept_ends ends) (names_of does.kept) does.answer)
 does-kept p s o m arguments rest below Nothing t does = keeps-is does (keeps-all _ (grows-by _))
 
 body-kept : (p : Loaded) (s : State) (o m : ℕ) (arguments : List Value) (below : List Activation) (t : State) (left : List Statement) → BodyRule p s o m arguments below t left → Keeps p s 1 t 0
 body-kept p s o m arguments below t [] r = keeps-is r (keeps-all _ (grows-same s.trace))
 body-kept p s o m arguments below t (x ∷ rest) r = does-kept p s o m arguments rest below r.what t r.does
 
+-- objects and connections are those that they were, and other items wait in the loops
+queues-kept : {p : Loaded} {s : State} {n : ℕ} (queues : Queues) (stack : List Activation) {trace : List Entry} → length queues.loops ≡ length s.queues.loops → queues.posted ≤ s.queues.posted + 1 → Grows s.trace trace → Keeps p s (suc n) (record s { queues = queues; stack = stack; trace = trace }) n
+queues-kept {s = s} queues stack long few grows = record {
+  objects = all-stay _;
+  joined = λ program all. all;
+  connected = omega arith;
+  paid = omega arith;
+  housed = housed-same s.objects s.objects s.queues.loops queues.loops (λ o. refl) long;
+  posted = omega (arith, few);
+  no_turn = λ e. e;
+  events = refl;
+  fewer = omega arith;
+  grows = grows;
+}
+
+-- a method begins at once, or a call of it is posted
+arrives-kept : (p : Loaded) (s : State) (stack : List Activation) (home o : ℕ) (x : Object) (m : ℕ) (method : MetaMethod) (arguments : List Value) (t : State) (b : Bool) → Arrives s stack home o x m method arguments t b → Keeps p s 1 t 0
+arrives-kept p s stack home o x m method arguments t true r = begun-kept p s stack o x m method arguments method.work t r
+arrives-kept p s stack home o x m method arguments t false r =
+    keeps-is r.gives (queues-kept (posted_to home (Call o m arguments) s.queues) stack (length-change home _ s.queues.loops) (omega arith) (grows-by _))
+
 emit-kept : (p : Loaded) (s : State) (o g : ℕ) (arguments : List Value) (last : ℕ) (below : List Activation) (t : State) (found : Option Connection) → EmitRule p s o g arguments last below t found → Keeps p s 1 t 0
 emit-kept p s o g arguments last below t None r = keeps-is r (keeps-all _ (grows-same s.trace))
-emit-kept p s o g arguments last below t (Some c) r = begun-kept p s _ c.receiver r.receiver c.method r.method _ r.method.work t r.gives
+emit-kept p s o g arguments last below t (Some c) r = keeps-then (used-kept c) (arrives-kept p (with_used s c) _ r.home c.receiver r.receiver c.method r.method _ t (reaches_at_once c.kind r.home (running s.turn)) r.arrives)
 
 update-kept : (p : Loaded) (s : State) (below : List Activation) (t : State) (places : List Place) → UpdateRule p s below t places → Keeps p s 1 t 0
 update-kept p s below t [] r = keeps-is r (keeps-all _ (grows-same s.trace))
 update-kept p s below t (place ∷ places) r = begun-kept p s _ place.object r.object r.signal r.method _ Signal t r.gives
 
+delivers-kept : (p : Loaded) (s t : State) (item : Item) → Delivers p s t item → Keeps p s 1 t 0
+delivers-kept p s t (Call o m arguments) r = begins-kept r
+delivers-kept p s t (Deletion o) r = absurd r
+
+serves-kept : (p : Loaded) (s t : State) (turn : Turn) (first : Option Posted) → Serves p s t turn first → Keeps p s 1 t 0
+serves-kept p s t turn None r = keeps-is r (record { objects = all-stay _; joined = λ program all. all; connected = omega arith; paid = omega arith; housed = λ all. all; posted = omega arith; no_turn = λ e. refl; events = refl; fewer = omega arith; grows = grows-same s.trace })
+serves-kept p s t turn (Some q) r =
+    let taken : State = record s { queues = taken_before turn.home turn.limit s.queues } in
+    let took : Keeps p s 1 taken 1 = record {
+      objects = all-stay _;
+      joined = λ program all. all;
+      connected = omega arith;
+      paid = omega arith;
+      housed = housed-same s.objects s.objects s.queues.loops taken.queues.loops (λ o. refl) (length-change turn.home _ s.queues.loops);
+      posted = omega arith;
+      no_turn = λ e. e;
+      events = refl;
+      fewer = omega arith;
+      grows = grows-same s.trace;
+    } in
+    keeps-then took (delivers-kept p taken t q.item r)
+
+turn-kept : (p : Loaded) (s t : State) (turn : Option Turn) → TurnRule p s t turn → Keeps p s 1 t 0
+turn-kept p s t None r = absurd r
+turn-kept p s t (Some turn) r = serves-kept p s t turn (find (is_before turn.limit) (items_at s.queues.loops turn.home)) r
+
 pub rule-kept : (p : Loaded) (s t : State) (stack : List Activation) → RuleAt p s t stack → Keeps p s 1 t 0
-rule-kept p s t [] r = absurd r
+rule-kept p s t [] r = turn-kept p s t s.turn r
 rule-kept p s t (Body o m arguments left ∷ below) r = body-kept p s o m arguments below t left r
 rule-kept p s t (Emit o g arguments used last ∷ below) r = emit-kept p s o g arguments last below t (next_used s.objects s.connected.connections o g used last) r
 rule-kept p s t (Update places ∷ below) r = update-kept p s below t places r
 
 -- a rule, whatever is left after it
 one-kept : {p : Loaded} {s t : State} (n : ℕ) → Keeps p s 1 t 0 → Keeps p s (suc n) t n
-one-kept n x = record { objects = x.objects; joined = x.joined; connected = x.connected; paid = omega (arith, x.paid); events = x.events; fewer = omega arith; grows = x.grows }
+one-kept n x = record { objects = x.objects; joined = x.joined; connected = x.connected; paid = omega (arith, x.paid); housed = x.housed; posted = omega (arith, x.posted); no_turn = x.no_turn; events = x.events; fewer = omega arith; grows = x.grows }
 
 -- so do runs of rules
 pub rules-kept : {p : Loaded} {d : ℕ} {s t : State} {n k : ℕ} → Rules p d s n t k → Keeps p s n t k
@@ -189,7 +328,7 @@ rules-typed done typed = typed
 rules-typed (then r good rest) typed = rules-typed rest good.well.values
 
 -- a stack that shows this
-abbrev some-top : Option ℕ → Activation
+abbrev pub some-top : Option ℕ → Activation
 some-top None = Update []
 some-top (Some o) = Body o 0 [] []
 
@@ -203,9 +342,15 @@ some-stack (body ∷ shown) =
     let q = some-stack shown in
     (some-top body ∷ q.0, ap (λ (x : Option ℕ). x ∷ shows q.0) (some-whose body) ∙ ap (λ (l : List (Option ℕ)). body ∷ l) q.1)
 
+-- what holds of whatever shows something holds of all of it
+pub some-all : (P : Activation → Type 0) → ((body : Option ℕ) → P (some-top body)) → (shown : List (Option ℕ)) → AllByRecursion P ((some-stack shown).0)
+unfolding some-stack
+some-all P each [] = tt
+some-all P each (body ∷ shown) = (each body, some-all P each shown)
+
 -- whatever the stacks are
 keeps-world : {p : Loaded} {w v : World} {a b : List Activation} → Keeps p (at w a) w.left (at v b) v.left → KeepsWorld p w v
-keeps-world x = record { objects = x.objects; joined = x.joined; connected = x.connected; paid = x.paid; events = x.events; fewer = x.fewer; grows = x.grows }
+keeps-world x = record { objects = x.objects; joined = x.joined; connected = x.connected; paid = x.paid; housed = x.housed; posted = x.posted; no_turn = x.no_turn; events = x.events; fewer = x.fewer; grows = x.grows }
 
 pub reaches-keeps : {p : Loaded} {d : ℕ} {h : List (Option ℕ)} {w v : World} {a b : List Activation} → Reaches p d h w a v b → KeepsWorld p w v
 reaches-keeps {h = h} x = let q = some-stack h in keeps-world (rules-kept (x.runs q.0 q.1))
@@ -224,35 +369,3 @@ reaches-typed {h = h} x typed = let q = some-stack h in rules-typed (x.runs q.0 
 pub ends-typed : {p : Loaded} {d : ℕ} {h : List (Option ℕ)} {w v : World} {a b : List Activation} (r : Result (Unit {0}) Fault) → Ends p d h w a v b r → AreTyped p w.objects → AreTyped p v.objects
 ends-typed (Ok _) x typed = reaches-typed x.cases typed
 ends-typed {h = h} (Err f) x typed = let q = some-stack h in rules-typed ((x.cases.stops q.0 q.1).1) typed
-
--- ---- the world stays sound
-
-keeps-sound : {p : Loaded} {w v : World} → KeepsWorld p w v → AreTyped p v.objects → Sound p w.objects w.connected.connections → Sound p v.objects v.connected.connections
-keeps-sound keeps typed sound = record { typed = typed; joined = keeps.joined sound.joined }
-
--- whatever a call does, the machine stays sound
-pub ends-sound : {p : Loaded} {d : ℕ} {h : List (Option ℕ)} {w v : World} {a b : List Activation} (r : Result (Unit {0}) Fault) → Ends p d h w a v b r → Sound p w.objects w.connected.connections → Sound p v.objects v.connected.connections
-ends-sound r x sound = keeps-sound (ends-keeps r x) (ends-typed r x sound.typed) sound
-
-pub reaches-sound : {p : Loaded} {d : ℕ} {h : List (Option ℕ)} {w v : World} {a b : List Activation} → Reaches p d h w a v b → Sound p w.objects w.connected.connections → Sound p v.objects v.connected.connections
-reaches-sound x sound = keeps-sound (reaches-keeps x) (reaches-typed x sound.typed) sound
-
--- .. also by a write
-pub sound-written : {p : Loaded} {objects : List Object} {connections : List Connection} {o q : ℕ} {x : Object} {property : MetaProperty} (new : Value) → IsField p objects o q x property → ReadsAs p objects new property.kind → Sound p objects connections → Sound p (change_life o (written q new) objects) connections
-sound-written {p} {objects} {connections} {o} {q} new f reads sound =
-    record { typed = typed-written new f sound.typed reads; joined = all-joined-still p objects _ connections (written-stay objects o q new) sound.joined }
-
--- a world that is known to be another one
-pub sound-as : {p : Loaded} {w v : World} → v ≡ w → Sound p w.objects w.connected.connections → Sound p v.objects v.connected.connections
-sound-as {p} is sound = let In : World → Type 0 = λ u. Sound p u.objects u.connected.connections in subst In (sym is) sound
-
--- arguments fit as long as the objects stay there
-pub fit-still : {p : Loaded} {w v : World} {o m : ℕ} {arguments : List Value} → KeepsWorld p w v → ArgumentsFit p w.objects o m arguments → ArgumentsFit p v.objects o m arguments
-fit-still {p} {w} {v} {o} {m} {arguments} keeps fit =
-    let there = member-still keeps.objects fit.is in
-    record {
-      object = there.0;
-      method = fit.method;
-      is = there.1;
-      typed = values-stay p keeps.objects arguments fit.method.kinds fit.typed;
-    }

@@ -1,5 +1,5 @@
 -- From one state at most one follows by a rule.
-use Rattle.std.proofs.Common.{◌≡◌, ℕ, List, [], ◌∷◌, length, take, Option, Some, None, refl, sym, ap, ◌∙◌, subst}
+use Rattle.std.proofs.Common.{◌≡◌, ℕ, List, [], ◌∷◌, length, take, Option, Some, None, Result, refl, sym, ap, ◌∙◌, subst, Bool, true, false}
 use Rattle.signatures.specs.declared.value.Value.{Value}
 use Rattle.meta_model.specs.declared.object.MetaMethod.{MetaMethod}
 use Rattle.meta_model.specs.declared.object.MetaProperty.{MetaProperty}
@@ -8,6 +8,11 @@ use Rattle.meta_model.specs.declared.object.Work.TheVariants.{Signal}
 use Rattle.meta_model.specs.Loaded.{Loaded}
 use Rattle.meta_model.specs.Members.{IsMethod}
 use Rattle.object_tree.specs.declared.life.Life.{Life}
+use Rattle.std.specs.List.{find}
+use Rattle.event_loops.specs.declared.item.Item.{Item}
+use Rattle.event_loops.specs.declared.item.Item.TheVariants.{Call, Deletion}
+use Rattle.event_loops.specs.declared.item.Posted.{Posted}
+use Rattle.event_loops.specs.Queues.{items_at, is_before, taken_before}
 use Rattle.object_tree.specs.declared.object.Object.{Object}
 use Rattle.object_tree.specs.Objects.{change_life, written}
 use Rattle.object_tree.specs.Seen.{seen}
@@ -16,9 +21,21 @@ use Rattle.machine_state.specs.declared.entry.Entry.TheVariants.{At}
 use Rattle.machine_state.specs.declared.entry.Happening.TheVariants.{Written}
 use Rattle.machine_state.specs.Connections.{next_used}
 use Rattle.machine_state.specs.Objects.{shown}
+use Rattle.machine_state.specs.declared.turn.Turn.{Turn}
+use Rattle.machine_state.specs.Turns.{running, reaches_at_once}
 use Rattle.machine_state.specs.State.{State, Place, Activation, Body, Emit, Update}
-use Rattle.machine_rules.specs.Doings.{Doing, Write, Begin, Choose, Nothing}
-use Rattle.machine_rules.specs.Rules.{Rule, RuleAt, BodyRule, Does, EmitRule, Uses, UpdateRule, Notifies, Begins, Writes, Changes, places_of, changed, unchanged, silent, begun, pushed}
+use Rattle.signatures.specs.declared.sig.Sig.{Sig}
+use Rattle.texts.specs.declared.connection.ConnectionType.{ConnectionType}
+use Rattle.texts.specs.declared.connection.Endpoints.{Endpoints as Named}
+use Rattle.connections.specs.Connected.{Connected}
+use Rattle.machine_state.specs.declared.endpoints.Endpoints.{Endpoints}
+use Rattle.machine_state.specs.declared.refusal.Refusal.{Refusal}
+use Rattle.machine_rules.specs.declared.ends.FoundEnds.{FoundEnds}
+use Rattle.machine_rules.specs.Connecting.{AreThere, kept_ends, names_of, found_ends, may_connect}
+use Rattle.machine_rules.specs.Judgement.{HasOneAnswer}
+use Rattle.machine_rules.proofs.OneAnswer.{one-check, one-then}
+use Rattle.machine_rules.specs.Doings.{Doing, Write, Begin, Choose, Connect, Disconnect, Nothing}
+use Rattle.machine_rules.specs.Rules.{Rule, RuleAt, BodyRule, Does, EmitRule, Uses, UpdateRule, Notifies, Begins, Writes, Changes, places_of, changed, unchanged, silent, begun, pushed, with_used, Connects, Disconnects, linked, unlinked, Arrives, posted, TurnRule, Serves, Delivers}
 use Rattle.machine_rules.proofs.Fields.{some-is, life-unique, method-unique, member-object, member-method, field-property}
 
 -- two methods of one number of one life's class
@@ -59,10 +76,48 @@ writes-one {s = s} {below = below} {o = o} {q = q} {new = new} a b =
     ∙ ap (λ (g : Option ℕ). state_of b.object b.property g) signal_is
     ∙ sym b.gives
 
+-- the names at two ends
+names-one : {p : Loaded} {objects : List Object} {ends : Endpoints} (a b : AreThere p objects ends) → names_of a ≡ names_of b
+names-one a b =
+    let names : Object → MetaMethod → Object → MetaMethod → Named (List ℕ) = λ x g y m. record { sender = x.name; signal = g.sig; receiver = y.name; method = m.sig } in
+    ap (λ (x : Object). names x a.signal a.receiver a.method) (member-object a.sends b.sends)
+    ∙ ap (λ (g : MetaMethod). names b.sender g a.receiver a.method) (member-method a.sends b.sends)
+    ∙ ap (λ (y : Object). names b.sender b.signal y a.method) (member-object a.receives b.receives)
+    ∙ ap (λ (m : MetaMethod). names b.sender b.signal b.receiver m) (member-method a.receives b.receives)
+
+-- .. between which a connection may be made, or not
+pub may-connect-one : (p : Loaded) (connected : Connected) (found : FoundEnds) (signal method : Sig) (how : ConnectionType) → HasOneAnswer (may_connect p connected found signal method how)
+may-connect-one p connected found signal method how = one-then one-check (λ _. one-then one-check (λ _. one-check))
+
+connects-one : {p : Loaded} {s t u : State} {stack : List Activation} {ends : Endpoints} {how : ConnectionType} → Connects p s stack ends how t → Connects p s stack ends how u → t ≡ u
+connects-one {p} {s} {stack = stack} {ends = ends} {how = how} a b =
+    let Judged : Life → Life → MetaMethod → MetaMethod → Type 0 = λ k l g m. may_connect p s.connected (record { from = k.class; to = l.class; ends = kept_ends ends }) g.sig m.sig how b.answer in
+    let from = b.spelled.sends.life in
+    let to = b.spelled.receives.life in
+    let judged : Judged a.spelled.sends.life a.spelled.receives.life a.spelled.signal a.spelled.method =
+    subst (λ (k : Life). Judged k a.spelled.receives.life a.spelled.signal a.spelled.method) (life-unique b.spelled.sends.lives a.spelled.sends.lives)
+    (subst (λ (l : Life). Judged from l a.spelled.signal a.spelled.method) (life-unique b.spelled.receives.lives a.spelled.receives.lives)
+    (subst (λ (g : MetaMethod). Judged from to g a.spelled.method) (member-method b.spelled.sends a.spelled.sends)
+    (subst (λ (m : MetaMethod). Judged from to b.spelled.signal m) (member-method b.spelled.receives a.spelled.receives) b.judged))) in
+    let answer_is : a.answer ≡ b.answer = may-connect-one p s.connected (found_ends a.spelled) a.spelled.signal.sig a.spelled.method.sig how a.answer b.answer a.judged judged in
+    a.gives
+    ∙ ap (λ (r : Result (Unit {0}) Refusal). linked s stack (kept_ends ends) how (names_of a.kept) r) answer_is
+    ∙ ap (λ (n : Named (List ℕ)). linked s stack (kept_ends ends) how n b.answer) (names-one a.kept b.kept)
+    ∙ sym b.gives
+
+disconnects-one : {p : Loaded} {s t u : State} {stack : List Activation} {ends : Endpoints} → Disconnects p s stack ends t → Disconnects p s stack ends u → t ≡ u
+disconnects-one {p} {s} {stack = stack} {ends = ends} a b =
+    a.gives
+    ∙ ap (λ (r : Result (Unit {0}) Refusal). unlinked s stack (kept_ends ends) (names_of a.kept) r) (one-check a.answer b.answer a.judged b.judged)
+    ∙ ap (λ (n : Named (List ℕ)). unlinked s stack (kept_ends ends) n b.answer) (names-one a.kept b.kept)
+    ∙ sym b.gives
+
 does-one : (p : Loaded) (s : State) (o m : ℕ) (arguments : List Value) (rest : List Statement) (below : List Activation) (d : Doing) (t u : State) → Does p s o m arguments rest below d t → Does p s o m arguments rest below d u → t ≡ u
 does-one p s o m arguments rest below (Write x q new) t u a b = writes-one a b
 does-one p s o m arguments rest below (Begin x n given) t u a b = begins-one a b
 does-one p s o m arguments rest below (Choose block) t u a b = a ∙ sym b
+does-one p s o m arguments rest below (Connect ends how) t u a b = connects-one a b
+does-one p s o m arguments rest below (Disconnect ends) t u a b = disconnects-one a b
 does-one p s o m arguments rest below Nothing t u a b = a ∙ sym b
 
 body-one : (p : Loaded) (s : State) (o m : ℕ) (arguments : List Value) (below : List Activation) (t u : State) (left : List Statement) → BodyRule p s o m arguments below t left → BodyRule p s o m arguments below u left → t ≡ u
@@ -73,12 +128,24 @@ body-one p s o m arguments below t u (x ∷ rest) a b =
     let Done : Doing → Type 0 = λ d. Does p s o m arguments rest below d u in
     does-one p s o m arguments rest below a.what t u a.does (subst Done (sym same) b.does)
 
+arrives-one : {t u : State} (s : State) (stack : List Activation) (home o : ℕ) (x : Object) (m : ℕ) (method : MetaMethod) (arguments : List Value) (b : Bool) → Arrives s stack home o x m method arguments t b → Arrives s stack home o x m method arguments u b → t ≡ u
+arrives-one s stack home o x m method arguments true a b = a ∙ sym b
+arrives-one s stack home o x m method arguments false a b =
+    let both : Some a.name ≡ Some b.name = sym a.is_loop ∙ b.is_loop in
+    let name_is : a.name ≡ b.name = cc both in
+    a.gives ∙ ap (λ (name : List ℕ). posted s stack name home o x m method arguments) name_is ∙ sym b.gives
+
 uses-one : {p : Loaded} {s t u : State} {below : List Activation} {c : Connection} {arguments : List Value} → Uses p s below c arguments t → Uses p s below c arguments u → t ≡ u
-uses-one {s = s} {below = below} {c = c} {arguments = arguments} a b =
+uses-one {s = s} {u = u} {below = below} {c = c} {arguments = arguments} a b =
     let receiver_is : a.receiver ≡ b.receiver = member-object a.is b.is in
     let method_is : a.method ≡ b.method = member-method a.is b.is in
-    let state_of : Object → MetaMethod → State = λ x k. begun s below c.receiver x c.method k (take (length k.kinds) arguments) k.work in
-    a.gives ∙ ap (λ (x : Object). state_of x a.method) receiver_is ∙ ap (λ (k : MetaMethod). state_of b.receiver k) method_is ∙ sym b.gives
+    let homes : Some a.home ≡ Some b.home = sym a.lives_in ∙ b.lives_in in
+    let home_is : a.home ≡ b.home = cc homes in
+    let Arrive : ℕ → Object → MetaMethod → Type 0 = λ home x k. Arrives (with_used s c) below home c.receiver x c.method k (take (length k.kinds) arguments) u (reaches_at_once c.kind home (running s.turn)) in
+    let with_home : Arrive a.home b.receiver b.method = subst (λ (home : ℕ). Arrive home b.receiver b.method) (sym home_is) b.arrives in
+    let with_receiver : Arrive a.home a.receiver b.method = subst (λ (x : Object). Arrive a.home x b.method) (sym receiver_is) with_home in
+    let with_all : Arrive a.home a.receiver a.method = subst (λ (k : MetaMethod). Arrive a.home a.receiver k) (sym method_is) with_receiver in
+    arrives-one (with_used s c) below a.home c.receiver a.receiver c.method a.method (take (length a.method.kinds) arguments) (reaches_at_once c.kind a.home (running s.turn)) a.arrives with_all
 
 emit-one : (p : Loaded) (s : State) (o g : ℕ) (arguments : List Value) (last : ℕ) (below : List Activation) (t u : State) (found : Option Connection) → EmitRule p s o g arguments last below t found → EmitRule p s o g arguments last below u found → t ≡ u
 emit-one p s o g arguments last below t u None a b = a ∙ sym b
@@ -104,8 +171,20 @@ update-one : (p : Loaded) (s : State) (below : List Activation) (t u : State) (p
 update-one p s below t u [] a b = a ∙ sym b
 update-one p s below t u (place ∷ places) a b = notifies-one a b
 
+delivers-one : (p : Loaded) (s t u : State) (item : Item) → Delivers p s t item → Delivers p s u item → t ≡ u
+delivers-one p s t u (Call o m arguments) a b = begins-one a b
+delivers-one p s t u (Deletion o) a b = absurd a
+
+serves-one : (p : Loaded) (s t u : State) (turn : Turn) (first : Option Posted) → Serves p s t turn first → Serves p s u turn first → t ≡ u
+serves-one p s t u turn None a b = a ∙ sym b
+serves-one p s t u turn (Some q) a b = delivers-one p (record s { queues = taken_before turn.home turn.limit s.queues }) t u q.item a b
+
+turn-one : (p : Loaded) (s t u : State) (turn : Option Turn) → TurnRule p s t turn → TurnRule p s u turn → t ≡ u
+turn-one p s t u None a b = absurd a
+turn-one p s t u (Some turn) a b = serves-one p s t u turn (find (is_before turn.limit) (items_at s.queues.loops turn.home)) a b
+
 stack-one : (p : Loaded) (s t u : State) (stack : List Activation) → RuleAt p s t stack → RuleAt p s u stack → t ≡ u
-stack-one p s t u [] a b = absurd a
+stack-one p s t u [] a b = turn-one p s t u s.turn a b
 stack-one p s t u (Body o m arguments left ∷ below) a b = body-one p s o m arguments below t u left a b
 stack-one p s t u (Emit o g arguments used last ∷ below) a b = emit-one p s o g arguments last below t u (next_used s.objects s.connected.connections o g used last) a b
 stack-one p s t u (Update places ∷ below) a b = update-one p s below t u places a b

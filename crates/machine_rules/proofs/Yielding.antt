@@ -14,9 +14,13 @@ use Rattle.meta_model.specs.declared.object.Statement.TheOpen as layer
 use Rattle.meta_model.specs.declared.object.Statement.TheViews.{out-Statement}
 use Rattle.object_tree.specs.declared.object.Object.{Object}
 use Rattle.machine_rules.specs.declared.doing.Doing.{Doing as Coded}
-use Rattle.machine_rules.specs.Doings.{Doing, Write, Begin, Choose, Nothing, on_object, chosen_by, doing}
+use Rattle.meta_model.specs.declared.object.MetaEndpoints.{MetaEndpoints}
+use Rattle.machine_state.specs.declared.endpoints.Endpoints.{Endpoints}
+use Rattle.machine_rules.specs.declared.paths.Scope.{Scope}
+use Rattle.machine_rules.specs.Doings.{Doing, Write, Begin, Choose, Nothing, on_object, on_ends, chosen_by, doing}
 use Rattle.machine_rules.specs.Paths.{path_value, value_of, values_of}
-use Rattle.machine_rules.specs.Coded.{Yields, chosen_of}
+use Rattle.machine_rules.specs.Coded.{Yields, FindsEnds, chosen_of}
+use Rattle.machine_rules.specs.Scope.{ends_in}
 use Rattle.machine_rules.specs.Reaches.{Finds, Judges}
 
 -- a path that leads to no object
@@ -41,6 +45,18 @@ yields-left found e (Ok d) lacks is = absurd is
 yields-left found e (Err BadType) lacks is = lacks (sym is)
 yields-left found e (Err Memory) lacks is = tt
 
+-- .. where two ends are looked for
+pub ends-left : (scope : Scope) (ends : MetaEndpoints) (e : EvalFault) (r : Result (Option Endpoints) EvalFault) → (e ≡ BadType → (act : Endpoints → Doing) → ends_in scope act ends ≡ None) → IsErrAnd r (λ y. y ≡ e) → FindsEnds scope ends r
+ends-left scope ends e (Ok d) lacks is = absurd is
+ends-left scope ends e (Err BadType) lacks is = lacks (sym is)
+ends-left scope ends e (Err Memory) lacks is = tt
+
+-- a statement of which nothing is found at its ends
+pub ends-lack : (scope : Scope) (ends : MetaEndpoints) (act : Endpoints → Doing) (e : EvalFault) (r : Result Coded EvalFault) → FindsEnds scope ends (Err e) → IsErrAnd r (λ y. y ≡ e) → Yields (ends_in scope act ends) r
+ends-lack scope ends act e r finds is =
+    let At : EvalFault → Type 0 = λ g. FindsEnds scope ends (Err g) in
+    yields-left (ends_in scope act ends) e r (λ bad. let none = subst At bad finds in none act) is
+
 -- no value of an expression, or of expressions
 no-value : {X : Type 0} (act : X → Doing) (found : Option X) → found ≡ None → option_map act found ≡ None
 no-value act found none = ap (option_map act) none
@@ -63,7 +79,27 @@ module _ (objects : List Object) (o : ℕ) (arguments : List Value) where
     pub at-object : {x : ℕ} {d : Option Doing} → path_value objects o arguments path ≡ Some (value.Ref (Some x)) → act x ≡ d → on_object act (path_value objects o arguments path) ≡ d
     at-object is does = ap (on_object act) is ∙ does
 
-  -- ---- the four statements
+  -- ---- the objects at two ends
+
+  -- no object at the sender's end, and none at the receiver's
+  pub no-sender : (act : Endpoints → Doing) (ends : MetaEndpoints) → ((r : Option ℕ) → path_value objects o arguments ends.sender ≢ Some (value.Ref r)) → on_ends act ends (path_value objects o arguments ends.sender) (path_value objects o arguments ends.receiver) ≡ None
+  no-sender act ends none = no-object _ (path_value objects o arguments ends.sender) none
+
+  pub no-receiver : (act : Endpoints → Doing) (ends : MetaEndpoints) {x : ℕ} → path_value objects o arguments ends.sender ≡ Some (value.Ref (Some x)) → ((r : Option ℕ) → path_value objects o arguments ends.receiver ≢ Some (value.Ref r)) → on_ends act ends (path_value objects o arguments ends.sender) (path_value objects o arguments ends.receiver) ≡ None
+  no-receiver act ends there none = at-object _ ends.sender there (no-object _ (path_value objects o arguments ends.receiver) none)
+
+  -- .. null
+  pub null-sender : (act : Endpoints → Doing) (ends : MetaEndpoints) → path_value objects o arguments ends.sender ≡ Some (value.Ref None) → on_ends act ends (path_value objects o arguments ends.sender) (path_value objects o arguments ends.receiver) ≡ Some Nothing
+  null-sender act ends is = at-null _ ends.sender is
+
+  pub null-receiver : (act : Endpoints → Doing) (ends : MetaEndpoints) {x : ℕ} → path_value objects o arguments ends.sender ≡ Some (value.Ref (Some x)) → path_value objects o arguments ends.receiver ≡ Some (value.Ref None) → on_ends act ends (path_value objects o arguments ends.sender) (path_value objects o arguments ends.receiver) ≡ Some Nothing
+  null-receiver act ends there is = at-object _ ends.sender there (at-null _ ends.receiver is)
+
+  -- .. objects
+  pub at-ends : (act : Endpoints → Doing) (ends : MetaEndpoints) {x y : ℕ} → path_value objects o arguments ends.sender ≡ Some (value.Ref (Some x)) → path_value objects o arguments ends.receiver ≡ Some (value.Ref (Some y)) → on_ends act ends (path_value objects o arguments ends.sender) (path_value objects o arguments ends.receiver) ≡ Some (act (record { sender = x; signal = ends.signal; receiver = y; method = ends.method }))
+  at-ends act ends there is = at-object _ ends.sender there (at-object _ ends.receiver is refl)
+
+  -- ---- statements
 
   abbrev set-act : ℕ → Expr MetaPath → ℕ → Option Doing
   set-act q e x = option_map (λ (new : Value). Write x q new) (value_of objects o arguments e)

@@ -8,10 +8,11 @@ use Rattle.connections.specs.declared.connection.Connection.{Connection}
 use Rattle.machine_state.specs.declared.fault.Fault.{Fault}
 use Rattle.machine_state.specs.declared.world.World.{World}
 use Rattle.machine_state.specs.Connections.{next_used}
+use Rattle.machine_state.specs.Worlds.{having_used}
 use Rattle.machine_state.specs.State.{Activation, Body, Emit}
 use Rattle.machine_rules.specs.Active.{shows}
 use Rattle.machine_rules.specs.Doings.{Doing, doing}
-use Rattle.machine_rules.specs.Reaches.{Ends, Advances, Calls, OnlyCalls, Sets}
+use Rattle.machine_rules.specs.Reaches.{Ends, Advances, CallsIn, Calls, OnlyCalls, Sets}
 use Rattle.machine_rules.specs.declared.setting.Setting.{Setting}
 
 -- one activation on top of the stack leads to another
@@ -55,4 +56,12 @@ abbrev pub EndsOnlyCall : Setting → List (Option ℕ) → ℕ → ℕ → List
 EndsOnlyCall setting active o m arguments w v result =
     (from to : List Activation) (shown : List (Option ℕ)) → active ≡ shows to ++ shown →
     Calls setting.meta w from to o m arguments → OnlyCalls setting.meta w from to o m arguments →
+    Ends setting.meta setting.depth shown w from v to result
+
+-- a connection is used, and its method begins and is carried out: from every top of the stack from which it may, once the
+-- connection is used
+abbrev pub EndsUse : Setting → List (Option ℕ) → Connection → List Value → World → World → Result (Unit {0}) Fault → Type 0
+EndsUse setting active c arguments w v result =
+    (from to : List Activation) (shown : List (Option ℕ)) → active ≡ shows to ++ shown →
+    CallsIn setting.meta w (having_used w c) from to c.receiver c.method arguments →
     Ends setting.meta setting.depth shown w from v to result

@@ -3,7 +3,11 @@ use Rattle.std.specs.Prelude.{◌≡◌, List, Option, None, Some, Result, Ok, E
 use Rattle.expressions.specs.declared.evaluation.EvalFault.{EvalFault}
 use Rattle.expressions.specs.declared.evaluation.EvalFault.TheVariants.{BadType, Memory as NoMemory}
 use Rattle.meta_model.specs.declared.object.Statement.{Statement}
-use Rattle.machine_rules.specs.Doings.{Doing, Write, Begin, Choose, Nothing}
+use Rattle.machine_rules.specs.Doings.{Doing, Write, Begin, Choose, Connect, Disconnect, Nothing}
+use Rattle.meta_model.specs.declared.object.MetaEndpoints.{MetaEndpoints}
+use Rattle.machine_state.specs.declared.endpoints.Endpoints.{Endpoints}
+use Rattle.machine_rules.specs.Scope.{ends_in}
+use Rattle.machine_rules.specs.declared.paths.Scope.{Scope}
 use Rattle.machine_rules.specs.declared.doing.Doing.{Doing as Coded}
 use Rattle.machine_rules.specs.declared.doing.Doing.TheVariants as coded
 
@@ -11,6 +15,8 @@ abbrev pub meant : Coded → Doing
 meant (coded.Write x q new) = Write x q new
 meant (coded.Begin x m given) = Begin x m given
 meant (coded.Choose block) = Choose block.now
+meant (coded.Connect ends how) = Connect ends how
+meant (coded.Disconnect ends) = Disconnect ends
 meant coded.Nothing = Nothing
 
 -- what a statement does was found out, or it lacks a value, or memory was refused
@@ -18,6 +24,13 @@ abbrev pub Yields : Option Doing → Result Coded EvalFault → Type 0
 Yields found (Ok d) = found ≡ Some (meant d)
 Yields found (Err BadType) = found ≡ None
 Yields found (Err NoMemory) = Unit {0}
+
+-- the paths of two ends lead to objects, or one of them to null, or to neither
+abbrev pub FindsEnds : Scope → MetaEndpoints → Result (Option Endpoints) EvalFault → Type 0
+FindsEnds scope ends (Ok (Some between)) = (act : Endpoints → Doing) → ends_in scope act ends ≡ Some (act between)
+FindsEnds scope ends (Ok None) = (act : Endpoints → Doing) → ends_in scope act ends ≡ Some Nothing
+FindsEnds scope ends (Err BadType) = (act : Endpoints → Doing) → ends_in scope act ends ≡ None
+FindsEnds scope ends (Err NoMemory) = Unit {0}
 
 -- the block that a condition chooses
 abbrev pub chosen_of : Bool → List Statement → List Statement → List Statement

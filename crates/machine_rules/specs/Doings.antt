@@ -3,9 +3,12 @@ use Rattle.std.specs.Prelude.{ℕ, true, false, List, Option, None, Some}
 use Rattle.std.specs.Option.{option_map}
 use Rattle.signatures.specs.declared.value.Value.{Value}
 use Rattle.signatures.specs.declared.value.Value.TheVariants as value
+use Rattle.texts.specs.declared.connection.ConnectionType.{ConnectionType}
 use Rattle.meta_model.specs.declared.object.Statement.{Statement}
 use Rattle.meta_model.specs.declared.object.Statement.TheOpen as layer
+use Rattle.meta_model.specs.declared.object.MetaEndpoints.{MetaEndpoints}
 use Rattle.object_tree.specs.declared.object.Object.{Object}
+use Rattle.machine_state.specs.declared.endpoints.Endpoints.{Endpoints}
 use Rattle.machine_rules.specs.Paths.{path_value, value_of, values_of}
 
 -- what one statement does
@@ -16,6 +19,10 @@ pub data Doing : Type 0 where
   Begin : (object method : ℕ) (arguments : List Value) → Doing
   -- these statements come next
   Choose : (block : List Statement) → Doing
+  -- a signal is connected to a method, in this way; `destroyed()` has its own number
+  Connect : (ends : Endpoints) (how : ConnectionType) → Doing
+  -- the connections between a signal and a method are removed
+  Disconnect : (ends : Endpoints) → Doing
   -- nothing, since a path leads to null
   Nothing : Doing
 
@@ -27,6 +34,11 @@ on_object act (Some (value.Ref (Some x))) = act x
 on_object act (Some (value.Int n)) = None
 on_object act (Some (value.Bool b)) = None
 on_object act (Some (value.Text t)) = None
+
+-- what is done with the objects that the two paths of a connection lead to
+abbrev pub on_ends : (Endpoints → Doing) → MetaEndpoints → Option Value → Option Value → Option Doing
+on_ends act ends sender receiver =
+    on_object (λ x. on_object (λ y. Some (act (record { sender = x; signal = ends.signal; receiver = y; method = ends.method }))) receiver) sender
 
 -- the block that a condition chooses
 abbrev pub chosen_by : List Statement → List Statement → Option Value → Option Doing
@@ -46,3 +58,7 @@ doing objects o arguments (layer.Emit g es) = option_map (λ given. Begin o g gi
 doing objects o arguments (layer.Call path n es) =
     on_object (λ x. option_map (λ given. Begin x n given) (values_of objects o arguments es)) (path_value objects o arguments path)
 doing objects o arguments (layer.If e block other) = chosen_by block other (value_of objects o arguments e)
+doing objects o arguments (layer.Connect ends how) =
+    on_ends (λ between. Connect between how) ends (path_value objects o arguments ends.sender) (path_value objects o arguments ends.receiver)
+doing objects o arguments (layer.Disconnect ends) =
+    on_ends Disconnect ends (path_value objects o arguments ends.sender) (path_value objects o arguments ends.receiver)

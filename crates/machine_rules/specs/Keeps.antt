@@ -2,6 +2,7 @@
 use Rattle.std.specs.Prelude.{◌≡◌, ℕ, ◌+◌, ◌≤◌, List, [], ◌++◌, Some, None}
 use Rattle.std.specs.List.{AllByRecursion}
 use Rattle.meta_model.specs.Loaded.{Loaded}
+use Rattle.meta_model.specs.Sound.{IsSound}
 use Rattle.object_tree.specs.declared.object.Object.{Object}
 use Rattle.object_tree.specs.Objects.{class_of}
 use Rattle.object_tree.specs.Seen.{seen_reference}
@@ -10,7 +11,7 @@ use Rattle.machine_state.specs.declared.entry.Entry.{Entry}
 use Rattle.machine_state.specs.declared.world.World.{World}
 use Rattle.machine_state.specs.State.{State}
 use Rattle.machine_state.specs.Worlds.{at}
-use Rattle.machine_rules.specs.Sound.{Joined}
+use Rattle.machine_rules.specs.Sound.{Joined, AreHoused}
 
 -- living objects stay alive, each of its class, and dead ones stay dead; others may come
 pub record StayThere (old new : List Object) : Type 0 where
@@ -26,13 +27,17 @@ pub record Grows (old new : List Entry) : Type 0 where
   pub more : List Entry
   pub is : new ≡ old ++ more
 
--- From s, with so many rules left, to t, with so many left: no object goes, connections go on to join what is there, no
--- count falls, a number of a connection is paid with a rule, no event is taken, and nothing that was written down goes.
+-- From s, with so many rules left, to t, with so many left: no object goes, in a sound program connections go on to join
+-- what is there, and objects to live in loops that are there; no count falls, a number of a connection or of an item is
+-- paid with a rule, no event is taken, no turn begins, and nothing that was written down goes.
 pub record Keeps (p : Loaded) (s : State) (left : ℕ) (t : State) (after : ℕ) : Type 0 where
   pub objects : StayThere s.objects t.objects
-  pub joined : AllJoined p s.objects s.connected.connections → AllJoined p t.objects t.connected.connections
+  pub joined : IsSound p → AllJoined p s.objects s.connected.connections → AllJoined p t.objects t.connected.connections
   pub connected : s.connected.last ≤ t.connected.last
   pub paid : t.connected.last + after ≤ s.connected.last + left
+  pub housed : AreHoused s.objects s.queues.loops → AreHoused t.objects t.queues.loops
+  pub posted : t.queues.posted + after ≤ s.queues.posted + left
+  pub no_turn : s.turn ≡ None → t.turn ≡ None
   pub events : t.events ≡ s.events
   pub fewer : after ≤ left
   pub grows : Grows s.trace t.trace

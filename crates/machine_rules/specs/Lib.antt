@@ -2,6 +2,8 @@ pub mod Paths
 pub mod Doings
 pub mod Scope
 pub mod There
+pub mod Judgement
+pub mod Connecting
 pub mod Rules
 pub mod Good
 pub mod Runs

@@ -1,5 +1,5 @@
 -- What a call of the machine's code does, whatever activations are below (docs/machine.md, "Runs").
-use Rattle.std.specs.Prelude.{◌≡◌, ◌≢◌, ℕ, ◌+◌, ◌<◌, ◌≤◌, ◌⊎◌, List, ◌++◌, length, Result, Ok, Err, MatchResult, Bool, Option, Some}
+use Rattle.std.specs.Prelude.{◌≡◌, ◌≢◌, ℕ, ◌+◌, ◌-◌, ◌<◌, ◌≤◌, ◌⊎◌, List, ◌++◌, length, Result, Ok, Err, MatchResult, Bool, Option, Some, ◌∷◌, []}
 use Rattle.meta_model.specs.Loaded.{Loaded}
 use Rattle.signatures.specs.declared.value.Value.{Value}
 use Rattle.signatures.specs.declared.value.Value.TheVariants as value
@@ -8,22 +8,30 @@ use Rattle.meta_model.specs.declared.object.Work.{Work}
 use Rattle.meta_model.specs.declared.object.Work.TheVariants.{Signal, Slot}
 use Rattle.expressions.specs.declared.evaluation.EvalFault.{EvalFault}
 use Rattle.expressions.specs.declared.evaluation.EvalFault.TheVariants.{BadType, Memory as NoMemory}
+use Rattle.connections.specs.declared.connection.Connection.{Connection}
+use Rattle.event_loops.specs.declared.item.Item.TheVariants.{Call}
+use Rattle.event_loops.specs.Queues.{HasName}
 use Rattle.machine_state.specs.declared.entry.Entry.{Entry}
 use Rattle.machine_state.specs.declared.entry.Entry.TheVariants.{At}
 use Rattle.machine_state.specs.declared.entry.Happening.TheVariants as happening
 use Rattle.machine_state.specs.declared.entry.Shown.{Shown}
 use Rattle.object_tree.specs.declared.object.Object.{Object}
 use Rattle.machine_state.specs.declared.fault.Fault.{Fault}
-use Rattle.machine_state.specs.declared.fault.Fault.TheVariants.{TooDeep, Memory}
+use Rattle.machine_state.specs.declared.fault.Fault.TheVariants.{BadType as IllTyped, TooDeep, Memory}
 use Rattle.machine_state.specs.declared.world.World.{World}
 use Rattle.machine_state.specs.Connections.{is_silent}
 use Rattle.machine_state.specs.State.{State, Activation, Body, Emit, IsIdle}
-use Rattle.machine_state.specs.Objects.{all_shown}
-use Rattle.machine_rules.specs.Rules.{Rule, Begins, Writes}
+use Rattle.machine_state.specs.Objects.{all_shown, home_of}
+use Rattle.texts.specs.declared.connection.ConnectionType.{ConnectionType}
+use Rattle.texts.specs.declared.connection.Endpoints.{Endpoints as Named}
+use Rattle.machine_state.specs.declared.endpoints.Endpoints.{Endpoints}
+use Rattle.machine_state.specs.declared.refusal.Refusal.{Refusal}
+use Rattle.machine_rules.specs.Connecting.{AreThere, may_connect, found_ends, names_of}
+use Rattle.machine_rules.specs.Rules.{Rule, Begins, Writes, Connects, Disconnects}
 use Rattle.machine_rules.specs.There.{IsMember}
 use Rattle.machine_rules.specs.Active.{shows}
 use Rattle.machine_rules.specs.Runs.{Rules, RulesStop}
-use Rattle.machine_state.specs.Worlds.{at}
+use Rattle.machine_state.specs.Worlds.{at, having_used, posting, Becomes}
 
 -- ---- what a body's paths and expressions give to the code
 
@@ -73,13 +81,17 @@ MayNest depth shown (Err fault) = (depth ≤ length shown) × (fault ≡ TooDeep
 
 -- ---- what begins and what is written, from any top of the stack, over what is left of it
 
--- a method of an object may begin by the next rule
-pub record Calls (p : Loaded) (w : World) (from to : List Activation) (o m : ℕ) (arguments : List Value) : Type 0 where
+-- by the next rule of a world a method of an object may begin, in what the rule makes of the world before that
+pub record CallsIn (p : Loaded) (w u : World) (from to : List Activation) (o m : ℕ) (arguments : List Value) : Type 0 where
   pub no_lower : length from ≤ length to
   pub goes_on : (below : List Activation) → ¬ IsIdle (at w (from ++ below))
   pub gives :
       (below : List Activation) (t : State) →
-      Begins p (at w (from ++ below)) (to ++ below) o m arguments t → Rule p (at w (from ++ below)) t
+      Begins p (at u (from ++ below)) (to ++ below) o m arguments t → Rule p (at w (from ++ below)) t
+
+-- .. in the world as it is
+abbrev pub Calls : Loaded → World → List Activation → List Activation → ℕ → ℕ → List Value → Type 0
+Calls p w from to o m arguments = CallsIn p w w from to o m arguments
 
 -- .. and nothing else may
 pub record OnlyCalls (p : Loaded) (w : World) (from to : List Activation) (o m : ℕ) (arguments : List Value) : Type 0 where
@@ -106,6 +118,24 @@ begin_entry depth x m method given (Slot statements) = At depth (happening.Calle
 abbrev pub entry_of_call : World → ℕ → Object → ℕ → MetaMethod → List Value → Entry
 entry_of_call w depth x m method arguments = begin_entry depth x m method.sig.name (all_shown w.objects arguments) method.work
 
+-- .. of a call of a method of an object that is posted to the event loop of this name
+abbrev pub entry_of_post : World → ℕ → List ℕ → Object → MetaMethod → List Value → Entry
+entry_of_post w depth name x method arguments = At depth (happening.Posted name x.name method.sig.name (all_shown w.objects arguments))
+
+-- a connection was used and a call of its method posted to the event loop in which its receiver lives, where so many
+-- activations are on the stack; or memory was refused
+pub record PostsCall (p : Loaded) (w : World) (depth : ℕ) (c : Connection) (arguments : List Value)
+    (v : World) (result : Result (Unit {0}) Fault) : Type 0 where
+  pub object : Object
+  pub method : MetaMethod
+  pub is : IsMember p w.objects c.receiver c.method object method
+  pub name : List ℕ
+  pub home : ℕ
+  pub lives_in : home_of w.objects c.receiver ≡ Some home
+  pub is_loop : HasName w.queues.loops name home
+  pub becomes :
+      Becomes w (posting (having_used w c) (entry_of_post w depth name object method arguments ∷ []) home (Call c.receiver c.method arguments)) v result
+
 -- what is pushed where a method begins
 abbrev pub top_of : ℕ → ℕ → List Value → ℕ → Work → Activation
 top_of o m arguments last Signal = Emit o m arguments 0 last
@@ -126,3 +156,44 @@ pub record IsBegun (p : Loaded) (depth : ℕ) (active : List (Option ℕ)) (w : 
 -- why a method that fits doesn't begin: activations would nest too deep, or memory was refused
 abbrev pub IsBarred : ℕ → List (Option ℕ) → Fault → Type 0
 IsBarred depth shown fault = (depth ≤ length shown) × (fault ≡ TooDeep) ⊎ (fault ≡ Memory)
+
+-- ---- connections that statements make and remove
+
+-- an object or its method isn't there
+abbrev pub LacksEnds : Loaded → List Object → Endpoints → Type 0
+LacksEnds p objects ends = ¬ AreThere p objects ends
+
+-- this is the answer to a statement that connects
+pub record IsJudged (p : Loaded) (w : World) (ends : Endpoints) (how : ConnectionType) (answer : Result (Unit {0}) Refusal) : Type 0 where
+  pub spelled : AreThere p w.objects ends
+  pub is : may_connect p w.connected (found_ends spelled) spelled.signal.sig spelled.method.sig how answer
+
+-- these are the names at two ends
+pub record NamesEnds (p : Loaded) (objects : List Object) (ends : Endpoints) (names : Named (List ℕ)) : Type 0 where
+  pub there : AreThere p objects ends
+  pub is : names ≡ names_of there
+
+-- why there are none
+abbrev pub LacksNames : Loaded → List Object → Endpoints → Fault → Type 0
+LacksNames p objects ends fault = LacksEnds p objects ends × (fault ≡ IllTyped) ⊎ (fault ≡ Memory)
+
+-- a rule that pushes nothing was carried out, as this relation tells, where so many activations are on the stack
+pub record Went (What : State → List Activation → State → Type 0) (w : World) (depth : ℕ) (v : World) : Type 0 where
+  pub tells : (old stack : List Activation) → length stack ≡ depth → What (at w old) stack (at v stack)
+  pub objects : v.objects ≡ w.objects
+  pub left : v.left ≡ w.left - 1
+
+-- .. or there is none of which it tells, or memory was refused; then nothing changed
+pub record Stays (What : State → List Activation → State → Type 0) (w : World) (v : World) (fault : Fault) : Type 0 where
+  pub same : v ≡ w
+  pub why : ((old stack : List Activation) (t : State) → ¬ What (at w old) stack t) × (fault ≡ IllTyped) ⊎ (fault ≡ Memory)
+
+abbrev pub ConnectsIn : Loaded → World → ℕ → Endpoints → ConnectionType → World → Result (Unit {0}) Fault → Type 0
+ConnectsIn p w depth ends how v result =
+    let What : State → List Activation → State → Type 0 = λ s stack t. Connects p s stack ends how t in
+    MatchResult result (λ _. Went What w depth v) (Stays What w v)
+
+abbrev pub DisconnectsIn : Loaded → World → ℕ → Endpoints → World → Result (Unit {0}) Fault → Type 0
+DisconnectsIn p w depth ends v result =
+    let What : State → List Activation → State → Type 0 = λ s stack t. Disconnects p s stack ends t in
+    MatchResult result (λ _. Went What w depth v) (Stays What w v)

@@ -1,7 +1,10 @@
 -- What may follow a state by one rule, beside the taking of events (docs/machine.md, "Rules"). No rule is forbidden
 -- because activations would nest too deep or a value is of a wrong type: those are faults of a run, and not of a rule.
-use Rattle.std.specs.Prelude.{◌≡◌, ◌≢◌, ℕ, List, [], ◌∷◌, ◌++◌, length, take, Option, None, Some}
+use Rattle.std.specs.Prelude.{◌≡◌, ◌≢◌, ℕ, List, [], ◌∷◌, ◌++◌, length, take, Option, None, Some, Result, Ok, Err, Bool, true, false}
+use Rattle.std.specs.List.{find}
 use Rattle.signatures.specs.declared.value.Value.{Value}
+use Rattle.texts.specs.declared.connection.ConnectionType.{ConnectionType}
+use Rattle.texts.specs.declared.connection.Endpoints.{Endpoints as Named}
 use Rattle.meta_model.specs.declared.object.Statement.{Statement}
 use Rattle.meta_model.specs.declared.object.Statement.TheViews.{out-Statement}
 use Rattle.meta_model.specs.declared.object.Work.{Work}
@@ -10,18 +13,30 @@ use Rattle.meta_model.specs.declared.object.MetaMethod.{MetaMethod}
 use Rattle.meta_model.specs.declared.object.MetaProperty.{MetaProperty}
 use Rattle.meta_model.specs.Loaded.{Loaded}
 use Rattle.meta_model.specs.Members.{IsMethod}
+use Rattle.event_loops.specs.declared.item.Item.{Item}
+use Rattle.event_loops.specs.declared.item.Item.TheVariants.{Call, Deletion}
+use Rattle.event_loops.specs.declared.item.Posted.{Posted}
+use Rattle.event_loops.specs.Queues.{HasName, items_at, is_before, posted_to, taken_before}
 use Rattle.object_tree.specs.declared.object.Object.{Object}
 use Rattle.object_tree.specs.Objects.{change_life, written}
 use Rattle.object_tree.specs.Seen.{seen}
 use Rattle.connections.specs.declared.connection.Connection.{Connection}
 use Rattle.machine_state.specs.declared.entry.Entry.{Entry}
 use Rattle.machine_state.specs.declared.entry.Entry.TheVariants.{At}
+use Rattle.machine_state.specs.declared.entry.Happening.{Happening}
 use Rattle.machine_state.specs.declared.entry.Happening.TheVariants as happening
-use Rattle.machine_state.specs.Connections.{is_silent, next_used}
-use Rattle.machine_state.specs.Objects.{stored, shown, all_shown}
+use Rattle.machine_state.specs.declared.endpoints.Endpoints.{Endpoints}
+use Rattle.machine_state.specs.declared.refusal.Refusal.{Refusal}
+use Rattle.machine_state.specs.Refusals.{refusal_number}
+use Rattle.machine_state.specs.Worlds.{with_connection, without_connections}
+use Rattle.machine_state.specs.Connections.{is_silent, next_used, after_use}
+use Rattle.machine_state.specs.Objects.{stored, shown, all_shown, home_of}
 use Rattle.machine_rules.specs.There.{IsMember, IsField}
-use Rattle.machine_rules.specs.Doings.{Doing, Write, Begin, Choose, Nothing, doing}
+use Rattle.machine_rules.specs.Connecting.{AreThere, kept_ends, names_of, found_ends, may_connect, may_disconnect}
+use Rattle.machine_rules.specs.Doings.{Doing, Write, Begin, Choose, Connect, Disconnect, Nothing, doing}
 use Rattle.machine_state.specs.State.{State, Place, Activation, Body, Emit, Update}
+use Rattle.machine_state.specs.Turns.{running, reaches_at_once}
+use Rattle.machine_state.specs.declared.turn.Turn.{Turn}
 
 -- one more activation over a stack, and the entries that are written down, with the length of the stack
 abbrev pub pushed : State → Activation → List Activation → (ℕ → List Entry) → State
@@ -88,16 +103,44 @@ UpdateRule p s below t (place ∷ places) = Notifies p s (Update places ∷ belo
 
 -- ---- bodies
 
--- nothing is done, since a path leads to null
-abbrev pub on_null : State → List Activation → State
-on_null s stack = record s { stack = stack; trace = s.trace ++ At (length stack) happening.OnNull ∷ [] }
+-- this is written down, and nothing is pushed
+abbrev pub told : State → List Activation → Happening → State
+told s stack what = record s { stack = stack; trace = s.trace ++ At (length stack) what ∷ [] }
+
+-- a connection is made, or refused, which changes nothing else
+abbrev pub linked : State → List Activation → Endpoints → ConnectionType → Named (List ℕ) → Result (Unit {0}) Refusal → State
+linked s stack ends how names (Ok _) = told (with_connection s ends how) stack (happening.Connected names how)
+linked s stack ends how names (Err r) = told s stack (happening.Refused (refusal_number r))
+
+-- a statement connects: its signal and method are judged as they are spelled; `destroyed()` is kept and written down as
+-- `destroyed(QObject*)`
+pub record Connects (p : Loaded) (s : State) (stack : List Activation) (ends : Endpoints) (how : ConnectionType) (t : State) : Type 0 where
+  pub spelled : AreThere p s.objects ends
+  pub kept : AreThere p s.objects (kept_ends ends)
+  pub answer : Result (Unit {0}) Refusal
+  pub judged : may_connect p s.connected (found_ends spelled) spelled.signal.sig spelled.method.sig how answer
+  pub gives : t ≡ linked s stack (kept_ends ends) how (names_of kept) answer
+
+-- the connections are removed, or that is refused
+abbrev pub unlinked : State → List Activation → Endpoints → Named (List ℕ) → Result (Unit {0}) Refusal → State
+unlinked s stack ends names (Ok _) = told (without_connections s ends) stack (happening.Disconnected names)
+unlinked s stack ends names (Err r) = told s stack (happening.Refused (refusal_number r))
+
+-- a statement disconnects
+pub record Disconnects (p : Loaded) (s : State) (stack : List Activation) (ends : Endpoints) (t : State) : Type 0 where
+  pub kept : AreThere p s.objects (kept_ends ends)
+  pub answer : Result (Unit {0}) Refusal
+  pub judged : may_disconnect s.connected (kept_ends ends) answer
+  pub gives : t ≡ unlinked s stack (kept_ends ends) (names_of kept) answer
 
 -- this is done by a statement of the body of method m of object o, over what is left of the body and what is below it
 abbrev pub Does : Loaded → State → ℕ → ℕ → List Value → List Statement → List Activation → Doing → State → Type 0
 Does p s o m arguments rest below (Write x q new) t = Writes p s (Body o m arguments rest ∷ below) x q new t
 Does p s o m arguments rest below (Begin x n given) t = Begins p s (Body o m arguments rest ∷ below) x n given t
 Does p s o m arguments rest below (Choose block) t = t ≡ record s { stack = Body o m arguments (block ++ rest) ∷ below }
-Does p s o m arguments rest below Nothing t = t ≡ on_null s (Body o m arguments rest ∷ below)
+Does p s o m arguments rest below (Connect ends how) t = Connects p s (Body o m arguments rest ∷ below) ends how t
+Does p s o m arguments rest below (Disconnect ends) t = Disconnects p s (Body o m arguments rest ∷ below) ends t
+Does p s o m arguments rest below Nothing t = t ≡ told s (Body o m arguments rest ∷ below) happening.OnNull
 
 -- a statement is carried out, and `rest` follows it
 pub record StatementRule (p : Loaded) (s : State) (o m : ℕ) (arguments : List Value)
@@ -113,27 +156,73 @@ BodyRule p s o m arguments below t (statement ∷ rest) = StatementRule p s o m 
 
 -- ---- emissions
 
--- a connection is used: its method begins at the receiver, with as many arguments as it declares
+-- a call of a method is appended to the items of an event loop; the stack stays as it is
+abbrev pub posted : State → List Activation → List ℕ → ℕ → ℕ → Object → ℕ → MetaMethod → List Value → State
+posted s stack name home o x m method arguments = record s {
+  queues = posted_to home (Call o m arguments) s.queues;
+  stack = stack;
+  trace = s.trace ++ At (length stack) (happening.Posted name x.name method.sig.name (all_shown s.objects arguments)) ∷ [];
+}
+
+-- .. of this loop
+pub record Posts (s : State) (stack : List Activation) (home o : ℕ) (x : Object) (m : ℕ) (method : MetaMethod) (arguments : List Value) (t : State) : Type 0 where
+  pub name : List ℕ
+  pub is_loop : HasName s.queues.loops name home
+  pub gives : t ≡ posted s stack name home o x m method arguments
+
+-- a method begins at once, or a call of it is posted to a loop
+abbrev pub Arrives : State → List Activation → ℕ → ℕ → Object → ℕ → MetaMethod → List Value → State → Bool → Type 0
+Arrives s stack home o x m method arguments t true = t ≡ begun s stack o x m method arguments method.work
+Arrives s stack home o x m method arguments t false = Posts s stack home o x m method arguments t
+
+-- a connection is used: a single-shot one is removed
+abbrev pub with_used : State → Connection → State
+with_used s c = record s { connected = after_use c s.connected }
+
+-- .. and its method is called at the receiver, with as many arguments as it declares
 pub record Uses (p : Loaded) (s : State) (below : List Activation) (c : Connection) (arguments : List Value) (t : State) : Type 0 where
   pub receiver : Object
   pub method : MetaMethod
   pub is : IsMember p s.objects c.receiver c.method receiver method
-  pub gives : t ≡ begun s below c.receiver receiver c.method method (take (length method.kinds) arguments) method.work
+  pub home : ℕ
+  pub lives_in : home_of s.objects c.receiver ≡ Some home
+  pub arrives :
+      Arrives (with_used s c) below home c.receiver receiver c.method method (take (length method.kinds) arguments) t
+      (reaches_at_once c.kind home (running s.turn))
 
 -- the next connection is used; with none left, and where the object is blocked, the emission ends
 abbrev pub EmitRule : Loaded → State → ℕ → ℕ → List Value → ℕ → List Activation → State → Option Connection → Type 0
 EmitRule p s o g arguments last below t None = t ≡ record s { stack = below }
 EmitRule p s o g arguments last below t (Some c) = Uses p s (Emit o g arguments c.number last ∷ below) c arguments t
 
+-- ---- turns of event loops
+
+-- an item is delivered: the call begins
+abbrev pub Delivers : Loaded → State → State → Item → Type 0
+Delivers p s t (Call o m arguments) = Begins p s [] o m arguments t
+Delivers p s t (Deletion o) = ⊥
+
+-- the first item that was posted before the turn began is taken and delivered; with none left the turn ends
+abbrev pub Serves : Loaded → State → State → Turn → Option Posted → Type 0
+Serves p s t turn None = t ≡ record s { turn = None }
+Serves p s t turn (Some first) =
+    Delivers p (record s { queues = taken_before turn.home turn.limit s.queues }) t first.item
+
+-- outside a turn nothing follows
+abbrev pub TurnRule : Loaded → State → State → Option Turn → Type 0
+TurnRule p s t None = ⊥
+TurnRule p s t (Some turn) = Serves p s t turn (find (is_before turn.limit) (items_at s.queues.loops turn.home))
+
 -- ---- one rule
 
+-- what the activation on top does next; where there is none, what the turn does
 abbrev pub RuleAt : Loaded → State → State → List Activation → Type 0
-RuleAt p s t [] = ⊥
+RuleAt p s t [] = TurnRule p s t s.turn
 RuleAt p s t (Body o m arguments left ∷ below) = BodyRule p s o m arguments below t left
 RuleAt p s t (Emit o g arguments used last ∷ below) =
     EmitRule p s o g arguments last below t (next_used s.objects s.connected.connections o g used last)
 RuleAt p s t (Update places ∷ below) = UpdateRule p s below t places
 
--- t follows s by the rule of the activation on top
+-- t follows s by one rule
 abbrev pub Rule : Loaded → State → State → Type 0
 Rule p s t = RuleAt p s t s.stack

@@ -67,6 +67,8 @@ impl Setting {
                 left.put(block)?;
                 world.tick()
             }
+            Doing::Connect(ends, how) => self.connect(world, over.count(), ends, how),
+            Doing::Disconnect(ends) => self.disconnect(world, over.count(), ends),
             Doing::Nothing => world.note([Entry::At(over.count(), Happening::OnNull)]),
         }
     }

@@ -1,16 +1,17 @@
 //! What the statements of a body do.
 
 ghost use Rattle.std.specs.Prelude.{◌≡◌};
-ghost use Rattle.meta_model.specs.declared.object.Statement.TheOpen.{Set, Emit, Call, If};
+ghost use Rattle.meta_model.specs.declared.object.Statement.TheOpen.{Set, Emit, Call, If, Connect, Disconnect};
 ghost use Rattle.meta_model.specs.declared.object.Statement.TheViews.{out-Statement};
 ghost use Rattle.machine_rules.specs.Scope.{doing_in};
-ghost use Rattle.machine_rules.specs.Coded.{Yields, chosen_of};
+ghost use Rattle.machine_rules.specs.Coded.{Yields, FindsEnds, chosen_of};
 
 use crate::paths::Scope;
 use expressions::EvalFault;
-use meta_objects::{MetaPath, Statement};
+use machine_state::Endpoints;
+use meta_objects::{MetaEndpoints, MetaPath, Statement};
 use signatures::{Arguments, ObjectId, Value};
-use texts::Expr;
+use texts::{ConnectionType, Expr};
 
 /// What one statement does.
 #[derive(Drop)]
@@ -21,6 +22,10 @@ pub enum Doing<'p> {
     Begin(ObjectId, usize, Arguments),
     /// These statements come next.
     Choose(&'p [Statement]),
+    /// A signal is connected to a method, in this way; `destroyed()` has its own number.
+    Connect(Endpoints, ConnectionType),
+    /// The connections between a signal and a method are removed.
+    Disconnect(Endpoints),
     /// Nothing, since a path leads to null.
     Nothing,
 }
@@ -37,6 +42,8 @@ impl<'w> Scope<'w> {
             Statement::If(condition, block, other) => {
                 self.choice(condition, block.as_slice(), other.as_slice())
             }
+            Statement::Connect(ends, how) => self.connection(ends, *how),
+            Statement::Disconnect(ends) => self.disconnection(ends),
         }
     }
 
@@ -78,6 +85,48 @@ impl<'w> Scope<'w> {
         };
         let values = self.values_of(given)?;
         Ok(Doing::Begin(target, method, values))
+    }
+
+    /// A signal is connected to a method.
+    fn connection<'p>(
+        &self,
+        ends: &MetaEndpoints,
+        how: ConnectionType,
+    ) -> Result<Doing<'p>, EvalFault>
+        ensures { Yields (doing_in self.now (Connect ends.now how)) result }
+    {
+        let Some(between) = self.ends_at(ends)? else {
+            return Ok(Doing::Nothing);
+        };
+        Ok(Doing::Connect(between, how))
+    }
+
+    /// A signal is no longer connected to a method.
+    fn disconnection<'p>(&self, ends: &MetaEndpoints) -> Result<Doing<'p>, EvalFault>
+        ensures { Yields (doing_in self.now (Disconnect ends.now)) result }
+    {
+        let Some(between) = self.ends_at(ends)? else {
+            return Ok(Doing::Nothing);
+        };
+        Ok(Doing::Disconnect(between))
+    }
+
+    /// The ends whose objects two paths lead to, or `None` where one leads to null.
+    fn ends_at(&self, ends: &MetaEndpoints) -> Result<Option<Endpoints>, EvalFault>
+        ensures { FindsEnds self.now ends.now result }
+    {
+        let Some(sender) = self.object_at(&ends.sender)? else {
+            return Ok(None);
+        };
+        let Some(receiver) = self.object_at(&ends.receiver)? else {
+            return Ok(None);
+        };
+        Ok(Some(Endpoints {
+            sender,
+            signal: ends.signal,
+            receiver,
+            method: ends.method,
+        }))
     }
 
     /// The block that a condition chooses.

@@ -4,14 +4,14 @@ ghost use Rattle.std.specs.Prelude.{◌<◌, length};
 ghost use Rattle.machine_rules.specs.Good.{ArgumentsFit};
 ghost use Rattle.machine_rules.specs.Sound.{IsSoundWorld, Joined, SignalFits};
 ghost use Rattle.machine_state.specs.State.{Emit};
-ghost use Rattle.machine_rules.specs.Calls.{Finishes, Delivers, EndsCall, EndsOnlyCall};
+ghost use Rattle.machine_rules.specs.Calls.{Finishes, Delivers, EndsCall, EndsUse, EndsOnlyCall};
 ghost use Rattle.machine_rules.specs.Reaches.{top_of};
 ghost use Rattle.machine_rules.specs.Keeps.{KeepsWorld};
 
 use crate::active::Active;
 use crate::setting::{Setting, front};
 use connections::Connection;
-use machine_state::{Fault, World};
+use machine_state::{Fault, World, reaches_at_once};
 use meta_objects::Work;
 use signatures::{ObjectId, Value};
 
@@ -44,7 +44,7 @@ impl Setting {
         world.tick()
     }
 
-    /// Begins the method that a connection leads to, with as many arguments as it declares.
+    /// Uses a connection: begins the method that it leads to, or posts a call of it, with as many arguments as it declares.
     #[cycle(machine)]
     fn deliver(
         &self,
@@ -61,12 +61,44 @@ impl Setting {
             connection arguments.now world.old world.new result }
     {
         world.require_rule()?;
-        let Some((_, method)) = self.member(world, connection.receiver, connection.method) else {
+        let (to, number) = (connection.receiver, connection.method);
+        let Some((_, method)) = self.member(world, to, number) else {
+            unreachable!()
+        };
+        let Some(home) = world.home(to) else {
             unreachable!()
         };
         let taken = front(arguments, method.kinds.len());
-        let over = (&*active).over(None);
-        self.begin(world, &over, connection.receiver, connection.method, taken)
+        if reaches_at_once(connection.kind, home, world.running()) {
+            let over = (&*active).over(None);
+            self.begin_used(world, &over, connection, taken)
+        } else {
+            self.post(world, active.count() + 1, connection, taken)
+        }
+    }
+
+    /// Uses a connection and begins its method, over what is left of the top of the stack.
+    #[cycle(machine)]
+    fn begin_used(
+        &self,
+        world: &mut World,
+        active: &Active<'_>,
+        connection: Connection,
+        arguments: &[Value],
+    ) -> Result<(), Fault>
+        requires sound { IsSoundWorld self.now.meta world.old }
+        requires left { 0 < world.old.left }
+        requires fit { ArgumentsFit self.now.meta world.old.objects
+            connection.receiver connection.method arguments.now }
+        ensures ends { EndsUse self.now active.now
+            connection arguments.now world.old world.new result }
+    {
+        let (object, method) = (connection.receiver, connection.method);
+        let begun = self.begun(world, active, object, method, arguments)?;
+        world.use_connection([begun.line], &connection)?;
+        self.run_begun(
+            world, active, object, method, arguments, begun.work, begun.last,
+        )
     }
 
     /// Begins a method whose arguments an expression gave, over what is left of the top of the stack; `BadType` where the

@@ -1,17 +1,23 @@
-//! The rules of a run: emissions, bodies of slots and writes of properties.
+//! The rules of a run: emissions, bodies of slots, connections that these make, writes of properties and turns of event
+//! loops.
 #![tactic(auto)]
 
 mod active;
 mod body;
+mod connecting;
 mod doing;
 mod emission;
+mod ends;
 mod laws;
 mod paths;
+mod posting;
 mod remaining;
 mod setting;
+mod turn;
 mod update;
 
 pub use active::Active;
+pub use ends::{FoundEnds, named_signal};
 pub use laws::one_rule;
 pub use setting::{Begun, Setting};
 pub use update::Writing;

@@ -1,12 +1,33 @@
--- The connections that an emission uses (docs/machine.md, "Rules").
+-- The connections that are made and removed, and those that an emission uses (docs/machine.md, "Rules").
 use Rattle.std.specs.Prelude.{ℕ, ◌&&◌, not, eqb, if◌then◌else◌, Bool, false, List, Option, None, Some}
 use Rattle.std.specs.List.{find}
 use Rattle.meta_model.specs.declared.qobject.TheConstants.{DESTROYED}
 use Rattle.object_tree.specs.declared.life.Life.{Life}
 use Rattle.object_tree.specs.declared.object.Object.{Object}
 use Rattle.object_tree.specs.Objects.{life_of}
+use Rattle.texts.specs.declared.connection.ConnectionType.{ConnectionType}
+use Rattle.machine_state.specs.declared.endpoints.Endpoints.{Endpoints}
 use Rattle.connections.specs.declared.connection.Connection.{Connection}
-use Rattle.connections.specs.Connected.{is_due}
+use Rattle.connections.specs.Connected.{Connected, joins, are_connected, connected_by, is_due, is_numbered, removed}
+
+-- what is left of the connections when one is used: a single-shot one is removed (Qt 6, `Qt::SingleShotConnection`)
+abbrev pub after_use : Connection → Connected → Connected
+after_use c connected = if c.single then removed (is_numbered c.number) connected else connected
+
+-- some connection joins these ends, and those that do
+abbrev pub are_joined : Endpoints → Connected → Bool
+are_joined ends connected = are_connected ends.sender ends.signal ends.receiver ends.method connected
+
+abbrev pub joins_these : Endpoints → Connection → Bool
+joins_these ends c = joins ends.sender ends.signal ends.receiver ends.method c
+
+-- a connection more that joins these ends, which has the next number
+abbrev pub joined_by : Endpoints → ConnectionType → Connected → Connected
+joined_by ends how connected = connected_by connected ends.sender ends.signal ends.receiver ends.method how.kind how.single
+
+-- all but those that join these ends
+abbrev pub parted : Endpoints → Connected → Connected
+parted ends connected = removed (joins_these ends) connected
 
 -- the emission of an object that lives this life calls nothing: it is blocked, unless the signal is `destroyed`
 -- (Qt 6, `QObject::blockSignals`); a dead object isn't blocked

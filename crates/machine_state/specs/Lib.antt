@@ -1,6 +1,7 @@
 pub mod Faults
 pub mod Refusals
 pub mod State
+pub mod Turns
 pub mod Objects
 pub mod Connections
 pub mod Accepting

@@ -14,6 +14,10 @@ use Rattle.machine_state.specs.declared.entry.Shown.TheVariants as show
 abbrev pub stored : List Object → ℕ → ℕ → Option Value
 stored objects o q = option_and_then (λ (l : Life). slice_get l.values q) (life_of objects o)
 
+-- the event loop in which a living object lives
+abbrev pub home_of : List Object → ℕ → Option ℕ
+home_of objects o = option_map (λ (l : Life). l.home) (life_of objects o)
+
 -- a name, or null where there is none
 abbrev pub shown_name : Option (List ℕ) → Shown
 shown_name None = show.Null

@@ -1,10 +1,12 @@
 -- The machine's state (docs/machine.md, "The state").
-use Rattle.std.specs.Prelude.{◌≡◌, ℕ, List, []}
+use Rattle.std.specs.Prelude.{◌≡◌, ℕ, List, [], Option, None}
 use Rattle.signatures.specs.declared.value.Value.{Value}
 use Rattle.meta_model.specs.declared.object.Statement.{Statement}
 use Rattle.object_tree.specs.declared.object.Object.{Object}
 use Rattle.connections.specs.Connected.{Connected, unconnected}
+use Rattle.event_loops.specs.Queues.{Queues, start as only_main}
 use Rattle.machine_state.specs.declared.entry.Entry.{Entry}
+use Rattle.machine_state.specs.declared.turn.Turn.{Turn}
 
 -- a property of an object, both by number
 pub record Place : Type 0 where
@@ -25,6 +27,11 @@ pub record State : Type 0 where
   pub objects : List Object
   -- the connections in the order in which they were made, and how many were ever numbered
   pub connected : Connected
+  -- the event loops in the order in which they were added, with the items that wait in them, and how many items were ever
+  -- numbered
+  pub queues : Queues
+  -- the turn of an event loop that goes on, if one does
+  pub turn : Option Turn
   -- the latest first
   pub stack : List Activation
   pub trace : List Entry
@@ -34,7 +41,8 @@ pub record State : Type 0 where
 -- nothing is going on: only then an event is taken
 pub record IsIdle (s : State) : Type 0 where
   pub empty : s.stack ≡ []
+  pub no_turn : s.turn ≡ None
 
 -- nothing has happened
 abbrev pub start : State
-start = record { objects = []; connected = unconnected; stack = []; trace = []; events = 0 }
+start = record { objects = []; connected = unconnected; queues = only_main; turn = None; stack = []; trace = []; events = 0 }

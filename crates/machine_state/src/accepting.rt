@@ -1,22 +1,24 @@
 //! What the world becomes where an event is refused or accepted.
 
-ghost use Rattle.std.specs.Prelude.{◌≡◌, ◌<◌, ◌^◌, ◌-◌, OnOk, OnErr, IsErrAnd};
+ghost use Rattle.std.specs.Prelude.{◌≡◌, ◌<◌, ◌^◌, ◌-◌, OnOk, OnErr, IsErrAnd, IsTrue};
+ghost use Rattle.event_loops.specs.Queues.{IsTaken};
 ghost use Rattle.object_tree.specs.Adopting.{AdoptsLiving, MayBeGone};
 ghost use Rattle.object_tree.specs.Creating.{Creates};
 ghost use Rattle.object_tree.specs.Objects.{IsGone};
-ghost use Rattle.machine_state.specs.Worlds.{main, counted, accepting_objects, accepting_block, accepting_entries, accepting_write, accepting_connection, Becomes, Refuses};
+ghost use Rattle.machine_state.specs.Connections.{are_joined};
+ghost use Rattle.machine_state.specs.Worlds.{counted, accepting_objects, accepting_block, accepting_entries, accepting_write, accepting_connection, accepting_disconnection, accepting_loop, accepting_turn, Becomes, Refuses};
 
+use crate::connecting::{join, part};
 use crate::endpoints::Endpoints;
 use crate::entry::Entry;
 use crate::fault::{Answer, Fault};
 use crate::refusal::Refusal;
+use crate::turn::Turn;
 use crate::world::World;
 use meta_objects::Meta;
 use object_tree::{AdoptFault, CreateFault};
 use signatures::{LoopId, Name, ObjectId, Value};
-
-/// The number of the loop `main`.
-const MAIN: usize = 0;
+use texts::ConnectionType;
 
 impl World {
     /// Writes down that the event is refused; without memory nothing changes.
@@ -42,17 +44,18 @@ impl World {
         self.left -= 1;
     }
 
-    /// Creates an object of the class of this name in the loop `main` for an accepted event, or answers the first of
+    /// Creates an object of the class of this name in an event loop for an accepted event, or answers the first of
     /// `NameUsed`, `NoClass`, `TooMany` and `BadType` that holds, or `Memory`; then nothing changes.
     pub fn create(
         &mut self,
         meta: &Meta,
         name: &Name,
         class: &Name,
+        home: LoopId,
     ) -> Result<ObjectId, CreateFault>
         requires left { 0 < self.old.left }
         requires few { self.old.events < 2 ^ 63 }
-        ensures objects { Creates meta.now self.old.objects name.now class.now main result
+        ensures objects { Creates meta.now self.old.objects name.now class.now home result
             self.new.objects }
         ensures ok { OnOk result (self.new ≡ accepting_objects self.old self.new.objects) }
         ensures err { OnErr result (self.new ≡ self.old) }
@@ -60,7 +63,7 @@ impl World {
         let Ok(()) = self.trace.accept(self.events + 1, []) else {
             return Err(CreateFault::Memory);
         };
-        match self.objects.create(meta, name, class, LoopId::new(MAIN)) {
+        match self.objects.create(meta, name, class, home) {
             Ok(object) => {
                 self.count_event();
                 Ok(object)
@@ -103,6 +106,39 @@ impl World {
                 Err(fault)
             }
         }
+    }
+
+    /// Adds an event loop for an accepted event; without memory nothing changes.
+    pub fn accept_loop(&mut self, name: &Name) -> Result<(), Fault>
+        requires left { 0 < self.old.left }
+        requires few { self.old.events < 2 ^ 63 }
+        requires free { ¬ IsTaken self.old.queues.loops name.now }
+        ensures { Becomes self.old (accepting_loop self.old name.now) self.new result }
+    {
+        self.trace.accept(self.events + 1, [])?;
+        match self.queues.add(name) {
+            Ok(()) => {
+                self.count_event();
+                Ok(())
+            }
+            Err(_) => {
+                self.trace.pop();
+                Err(Fault::Memory)
+            }
+        }
+    }
+
+    /// Begins a turn of an event loop for an accepted event; without memory nothing changes.
+    pub fn accept_turn(&mut self, home: LoopId) -> Result<(), Fault>
+        requires left { 0 < self.old.left }
+        requires few { self.old.events < 2 ^ 63 }
+        ensures { Becomes self.old (accepting_turn self.old home) self.new result }
+    {
+        self.trace.accept(self.events + 1, [])?;
+        let limit = self.queues.next_number();
+        self.turn = Some(Turn { home, limit });
+        self.count_event();
+        Ok(())
     }
 
     /// Blocks a living object for an accepted event, or lets it emit again; without memory nothing changes.
@@ -149,31 +185,36 @@ impl World {
         Ok(())
     }
 
-    /// Adds the connection of an accepted event; without memory nothing changes.
-    pub fn accept_connection(&mut self, ends: Endpoints) -> Result<(), Fault>
+    /// Adds the connection of an accepted event; without memory nothing changes. Whether a unique one exists isn't asked.
+    pub fn accept_connection(&mut self, ends: Endpoints, how: ConnectionType) -> Result<(), Fault>
         requires left { 0 < self.old.left }
         requires few { self.old.events < 2 ^ 63 }
         requires few_connected { self.old.connected.last < 2 ^ 63 - 1 }
-        ensures { Becomes self.old (accepting_connection self.old ends) self.new result }
+        ensures { Becomes self.old (accepting_connection self.old ends how) self.new result }
     {
         self.trace.accept(self.events + 1, [])?;
-        match self.connected.connect(
-            ends.sender,
-            ends.signal,
-            ends.receiver,
-            ends.method,
-            ends.kind,
-            false,
-            false,
-        ) {
+        match join(&mut self.connected, &ends, how) {
             Ok(()) => {
                 self.count_event();
                 Ok(())
             }
-            Err(_) => {
+            Err(fault) => {
                 self.trace.pop();
-                Err(Fault::Memory)
+                Err(fault)
             }
         }
+    }
+
+    /// Removes the connections that join these ends for an accepted event; without memory nothing changes.
+    pub fn accept_disconnection(&mut self, ends: Endpoints) -> Result<(), Fault>
+        requires left { 0 < self.old.left }
+        requires few { self.old.events < 2 ^ 63 }
+        requires joined { IsTrue (are_joined ends self.old.connected) }
+        ensures { Becomes self.old (accepting_disconnection self.old ends) self.new result }
+    {
+        self.trace.accept(self.events + 1, [])?;
+        part(&mut self.connected, &ends);
+        self.count_event();
+        Ok(())
     }
 }

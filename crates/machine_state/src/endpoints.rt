@@ -1,6 +1,6 @@
-use signatures::{Kind, ObjectId};
+use signatures::ObjectId;
 
-/// The numbers of a connection's objects and methods, and its kind.
+/// What a connection joins: a signal of its sender to a method of its receiver.
 #[derive(Clone, Copy)]
 pub struct Endpoints {
     /// The object whose signal is connected.
@@ -11,6 +11,4 @@ pub struct Endpoints {
     pub receiver: ObjectId,
     /// The method's number in the receiver's class.
     pub method: usize,
-    /// How the connection reaches its receiver.
-    pub kind: Kind,
 }

@@ -8,6 +8,7 @@ use signatures::{Name, Text};
 use sqlite_items::Items;
 use std::alloc::{AllocError, Global};
 use std::marker::Model;
+use texts::{ConnectionType, Endpoints};
 
 /// A value as it is written down.
 #[derive(Drop)]
@@ -56,8 +57,25 @@ pub enum Happening {
         /// Its new value.
         value: Shown,
     },
+    /// A call of a slot, or of a signal, is posted to an event loop.
+    Posted {
+        /// The loop.
+        event_loop: Name,
+        /// Whose method.
+        object: Name,
+        /// The method.
+        method: Name,
+        /// With these arguments.
+        arguments: Items<Shown>,
+    },
     /// A statement does nothing, since a path leads to null.
     OnNull,
+    /// A statement makes a connection between the objects of these names, in this way.
+    Connected(Endpoints<Name>, ConnectionType),
+    /// A statement removes the connections between the objects of these names.
+    Disconnected(Endpoints<Name>),
+    /// A statement is refused for the reason of this number.
+    Refused(u8),
 }
 
 /// An entry of the trace.

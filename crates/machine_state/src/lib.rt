@@ -1,13 +1,15 @@
-//! The machine's state but the stack: objects, connections and the trace.
+//! The machine's state but the stack: objects, connections, event loops and the trace.
 #![tactic(auto)]
 
 mod accepting;
+mod connecting;
 mod endpoints;
 mod entry;
 mod fault;
 mod natives;
 mod refusal;
 mod showing;
+mod turn;
 mod world;
 
 pub use endpoints::Endpoints;
@@ -16,4 +18,5 @@ pub use fault::{Answer, Fault};
 pub use natives::Natives;
 pub use refusal::Refusal;
 pub use showing::{show, show_all, stored};
+pub use turn::{MAIN, Turn, reaches_at_once};
 pub use world::{World, is_silent};

@@ -22,10 +22,18 @@ pub enum Refusal {
     OtherLoop,
     /// As many objects were created as may be.
     TooManyObjects,
-    /// No wire of the program covers the connection, or its kind is queued, which isn't carried out yet.
+    /// No wire of the program covers the connection.
     NotWired,
     /// The method's types aren't the first ones of the signal's.
     Incompatible,
+    /// A unique connection is asked for, and the same signal of the sender is connected to the same method of the receiver.
+    Exists,
+    /// There is no such connection.
+    NoConnection,
+    /// There is no such event loop.
+    NoLoop,
+    /// The event loop is there.
+    LoopExists,
     /// A value isn't of the type of the property or the parameter that it is for.
     BadArgs,
     /// The object's class has no such signal, slot or property.
@@ -48,6 +56,10 @@ impl Refusal {
             Refusal::TooManyObjects => 37,
             Refusal::NotWired => 38,
             Refusal::Incompatible => 39,
+            Refusal::Exists => 40,
+            Refusal::NoConnection => 41,
+            Refusal::NoLoop => 42,
+            Refusal::LoopExists => 43,
             Refusal::BadArgs => 45,
             Refusal::NoMember => 46,
         }

@@ -1,18 +1,20 @@
 //! All of the machine's state but the stack.
 
-ghost use Rattle.std.specs.Prelude.{◌≡◌, ◌<◌, ◌≤◌, ◌^◌, length, IfSome, IsTrue, MatchOption};
+ghost use Rattle.std.specs.Prelude.{◌≡◌, ◌<◌, ◌≤◌, ◌^◌, length, IfOk, IfSome, IsTrue, MatchOption};
 ghost use Rattle.std.specs.Option.{option_copied};
 ghost use Rattle.object_tree.specs.Objects.{IsFree, IsNamed, life_of};
 ghost use Rattle.machine_state.specs.Connections.{next_used, silences, is_silent};
-ghost use Rattle.machine_state.specs.Worlds.{untouched, Ticks, IsLeft, Becomes, noted, set_in};
+ghost use Rattle.machine_state.specs.Worlds.{untouched, Ticks, IsLeft, Becomes, noted, using, set_in};
 
 use crate::entry::{Entry, Trace};
 use crate::fault::Fault;
+use crate::turn::Turn;
 use connections::{Connection, Connections};
+use event_loops::Loops;
 use meta_model::DESTROYED;
 use object_tree::{Life, Object, Tree};
 use signatures::{Name, ObjectId, Value};
-use std::alloc::Global;
+use std::alloc::{AllocError, Global};
 
 /// All of a machine's state but the stack, and how many rules are left.
 #[derive(Drop)]
@@ -21,6 +23,10 @@ pub struct World {
     pub objects: Tree,
     /// The connections in the order in which they were made, and how many were ever numbered.
     pub connected: Connections,
+    /// The event loops with the items that wait in them, and how many items were ever numbered.
+    pub queues: Loops,
+    /// The turn that goes on, if one does.
+    pub turn: Option<Turn>,
     /// What was written down so far.
     pub trace: Trace,
     /// How many events were taken.
@@ -31,16 +37,19 @@ pub struct World {
 
 impl World {
     /// The world before anything has happened, with so many rules to use.
-    pub fn new(alloc: Global, steps: u64) -> World
-        ensures { result ≡ untouched steps }
+    pub fn new(alloc: Global, steps: u64) -> Result<World, AllocError>
+        ensures { IfOk result (λ world. world ≡ untouched steps) }
     {
-        World {
+        let queues = Loops::new(alloc)?;
+        Ok(World {
             objects: Tree::new(alloc),
             connected: Connections::new(alloc),
+            queues,
+            turn: None,
             trace: Trace::new(alloc),
             events: 0,
             left: steps,
-        }
+        })
     }
 
     /// The number of the object that has or had this name.
@@ -109,6 +118,24 @@ impl World {
     {
         self.trace.append(entries)?;
         self.left -= 1;
+        Ok(())
+    }
+
+    /// A rule that uses a connection, so that a single-shot one is removed, and writes these entries down; without memory
+    /// nothing changes.
+    pub fn use_connection<const N: usize>(
+        &mut self,
+        entries: [Entry; N],
+        connection: &Connection,
+    ) -> Result<(), Fault>
+        requires left { 0 < self.old.left }
+        requires few { N < 2 ^ 32 }
+        ensures { Becomes self.old (using self.old entries.entry connection.now) self.new result }
+    {
+        self.note(entries)?;
+        if connection.single {
+            self.connected.cut(connection.number);
+        }
         Ok(())
     }
 

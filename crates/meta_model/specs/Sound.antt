@@ -11,12 +11,14 @@ use Rattle.texts.specs.declared.syntax.Binary.{Binary}
 use Rattle.texts.specs.declared.syntax.Expr.{Expr}
 use Rattle.texts.specs.declared.syntax.Expr.TheOpen as expr
 use Rattle.texts.specs.declared.syntax.Expr.TheViews.{out-Expr}
+use Rattle.texts.specs.declared.connection.ConnectionType.{ConnectionType}
 use Rattle.meta_model.specs.declared.object.ValueType.{ValueType}
 use Rattle.meta_model.specs.declared.object.ValueType.TheVariants as type
 use Rattle.meta_model.specs.declared.object.MetaRoot.{MetaRoot}
 use Rattle.meta_model.specs.declared.object.MetaRoot.TheVariants.{This, Parameter}
 use Rattle.meta_model.specs.declared.object.Step.{Step}
 use Rattle.meta_model.specs.declared.object.MetaPath.{MetaPath}
+use Rattle.meta_model.specs.declared.object.MetaEndpoints.{MetaEndpoints}
 use Rattle.meta_model.specs.declared.object.Statement.{Statement}
 use Rattle.meta_model.specs.declared.object.Statement.TheOpen as statement
 use Rattle.meta_model.specs.declared.object.Statement.TheViews.{out-Statement}
@@ -104,6 +106,23 @@ pub record IsSoundCall (p : Loaded) (me : ℕ) (kinds : List ValueType) (path : 
   pub counted : length slot.kinds ≡ length es
   pub values : AreSoundExprs p me kinds es
 
+-- signal g of class c may be connected to method m of class d, which isn't one of `QObject`'s own
+pub record MayConnect (p : Loaded) (c g d m : ℕ) : Type 0 where
+  pub signal : MetaMethod
+  pub from : IsMethod p c g signal
+  pub signals : signal.work ≡ Signal
+  pub method : MetaMethod
+  pub to : IsMethod p d m method
+  pub called : DELETE_LATER < m
+
+-- `connect` and `disconnect`: the sender's class has the signal, the receiver's the method
+pub record AreSoundEnds (p : Loaded) (me : ℕ) (kinds : List ValueType) (ends : MetaEndpoints) : Type 0 where
+  pub from_class : ℕ
+  pub sender : LeadsToClass p me kinds ends.sender from_class
+  pub to_class : ℕ
+  pub receiver : LeadsToClass p me kinds ends.receiver to_class
+  pub connects : MayConnect p from_class ends.signal to_class ends.method
+
 mutual
   -- the members and paths of one statement, by its parts, are there
   pub data IsSoundStatement (p : Loaded) (me : ℕ) (kinds : List ValueType) : statement.Statement-F Statement → Type 0 where
@@ -116,6 +135,10 @@ mutual
     if_sound : {e : Expr MetaPath} {chosen other : List Statement}
         → IsSoundExpr p me kinds e → AreSound p me kinds chosen → AreSound p me kinds other
         → IsSoundStatement p me kinds (statement.If e chosen other)
+    connect_sound : {ends : MetaEndpoints} {type : ConnectionType}
+        → AreSoundEnds p me kinds ends → IsSoundStatement p me kinds (statement.Connect ends type)
+    disconnect_sound : {ends : MetaEndpoints}
+        → AreSoundEnds p me kinds ends → IsSoundStatement p me kinds (statement.Disconnect ends)
 
   -- .. of the statements of a block
   pub data AreSound (p : Loaded) (me : ℕ) (kinds : List ValueType) : List Statement → Type 0 where
@@ -184,13 +207,8 @@ pub record IsSoundClass (p : Loaded) (c : ℕ) (class : MetaObject) : Type 0 whe
 
 -- ---- the program
 -- a wire leads from a signal to a method that isn't one of `QObject`'s own
-pub record IsSoundWire (p : Loaded) (wire : MetaWire) : Type 0 where
-  pub signal : MetaMethod
-  pub from : IsMethod p wire.sender wire.signal signal
-  pub signals : signal.work ≡ Signal
-  pub method : MetaMethod
-  pub to : IsMethod p wire.receiver wire.method method
-  pub called : DELETE_LATER < wire.method
+abbrev pub IsSoundWire : Loaded → MetaWire → Type 0
+IsSoundWire p wire = MayConnect p wire.sender wire.signal wire.receiver wire.method
 
 pub record IsSoundOwns (p : Loaded) (owns : MetaOwns) : Type 0 where
   pub parent : owns.parent < length p.classes

@@ -24,8 +24,8 @@ pub use kinds::{has_no_type, kind_of, read_kind, read_kinds};
 pub use name_index::NameIndex;
 pub use notify::has_bad_notify;
 pub use object::{
-    MetaMethod, MetaObject, MetaOwns, MetaPath, MetaProperty, MetaRoot, MetaWire, Statement, Step,
-    ValueType, Work,
+    MetaEndpoints, MetaMethod, MetaObject, MetaOwns, MetaPath, MetaProperty, MetaRoot, MetaWire,
+    Statement, Step, ValueType, Work,
 };
 pub use outline::{Heading, Outline, Sort};
 pub use outlining::outline_classes;

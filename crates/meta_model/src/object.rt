@@ -5,7 +5,7 @@ use crate::slot_body::SlotBody;
 use signatures::{Kind, Name, QType, Sig, Text, Value};
 use sqlite_items::Items;
 use std::alloc::{AllocError, Global};
-use texts::Expr;
+use texts::{ConnectionType, Expr};
 
 /// The type of a property or a parameter, its class replaced by its number.
 #[derive(Clone, Copy, Debug, PartialEq, Eq)]
@@ -63,6 +63,19 @@ pub struct MetaPath {
     pub steps: Items<Step>,
 }
 
+/// The two ends of a connection, their names resolved; `destroyed()` has the number 1 here.
+#[derive(Drop)]
+pub struct MetaEndpoints {
+    /// The sender's path.
+    pub sender: MetaPath,
+    /// The signal, in the class that the sender's path is declared to lead to and in every class below that.
+    pub signal: usize,
+    /// The receiver's path.
+    pub receiver: MetaPath,
+    /// The slot or signal, in the class that the receiver's path is declared to lead to and in every class below that.
+    pub method: usize,
+}
+
 /// A statement whose names are resolved.
 #[derive(Drop)]
 pub enum Statement {
@@ -74,6 +87,10 @@ pub enum Statement {
     Call(MetaPath, usize, Items<Expr<MetaPath>>),
     /// `if (e) { .. } else { .. }`
     If(Expr<MetaPath>, Items<Statement>, Items<Statement>),
+    /// `connect path, s(T, ..), path, m(T, ..), kind, unique, single;`: what is connected, and how.
+    Connect(MetaEndpoints, ConnectionType),
+    /// `disconnect path, s(T, ..), path, m(T, ..);`: what is no longer connected.
+    Disconnect(MetaEndpoints),
 }
 
 /// What a method does.

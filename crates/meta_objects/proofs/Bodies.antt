@@ -7,6 +7,7 @@ use Rattle.texts.specs.declared.syntax.Expr.TheOpen as expr
 use Rattle.texts.specs.declared.syntax.Expr.TheViews.{out-Expr, roll-Expr, roll-out-Expr}
 use Rattle.texts.specs.declared.syntax.Root.{Root}
 use Rattle.texts.specs.declared.syntax.Path.{Path}
+use Rattle.texts.specs.declared.connection.Endpoints.{Endpoints}
 use Rattle.texts.specs.declared.syntax.Stmt.{Stmt}
 use Rattle.texts.specs.declared.syntax.Stmt.TheOpen as stmt
 use Rattle.texts.specs.declared.syntax.Stmt.TheViews.{out-Stmt}
@@ -16,6 +17,7 @@ use Rattle.meta_model.specs.declared.object.MetaRoot.{MetaRoot}
 use Rattle.meta_model.specs.declared.object.MetaRoot.TheVariants as resolved
 use Rattle.meta_model.specs.declared.object.Step.{Step}
 use Rattle.meta_model.specs.declared.object.MetaPath.{MetaPath}
+use Rattle.meta_model.specs.declared.object.MetaEndpoints.{MetaEndpoints}
 use Rattle.meta_model.specs.declared.object.ValueType.{ValueType}
 use Rattle.meta_model.specs.declared.object.Statement.{Statement}
 use Rattle.meta_model.specs.declared.object.Statement.TheOpen as statement
@@ -24,8 +26,10 @@ use Rattle.meta_model.specs.declared.outline.Outline.{Outline}
 use Rattle.meta_model.specs.Places.{StandsFirst}
 use Rattle.meta_model.specs.Outlines.{IsOutlineNamed}
 use Rattle.meta_model.specs.Kinds.{IsReadAs}
+use Rattle.meta_model.specs.Conditions.{IsSignalOf}
+use Rattle.meta_model.specs.Ends.{IsSigned}
 use Rattle.meta_model.specs.Literals.{literal}
-use Rattle.meta_objects.specs.Bodies.{Scope, IsRoot, this_root, parameter_root, PointsTo, HasMember, IsStep, AreSteps, IsPath, IsExpr, literal_is, path_is, unary_is, binary_is, AreExprs, IsObjectPath, IsPropertyOfName, IsCallOf, IsSet, IsEmit, IsCall, IsStatement, set_is, emit_is, call_is, if_is, AreStatements, none_are, next_is, IsStatementOf}
+use Rattle.meta_objects.specs.Bodies.{Scope, IsRoot, this_root, parameter_root, PointsTo, HasMember, IsStep, AreSteps, IsPath, IsExpr, literal_is, path_is, unary_is, binary_is, AreExprs, IsObjectPath, IsPropertyOfName, IsCallOf, IsSet, IsEmit, IsCall, AreEnds, IsStatement, set_is, emit_is, call_is, if_is, connect_is, disconnect_is, AreStatements, none_are, next_is, IsStatementOf}
 use Rattle.meta_model.proofs.Searches.{same_first}
 use Rattle.meta_model.proofs.Firsts.{first_item}
 use Rattle.meta_model.proofs.ReadTypes.{same_read}
@@ -43,6 +47,9 @@ step_of q k = record { property = q; kind = k }
 
 abbrev path_of : MetaRoot → List Step → MetaPath
 path_of r ss = record { root = r; steps = ss }
+
+abbrev ends_of : MetaPath → ℕ → MetaPath → ℕ → MetaEndpoints
+ends_of sender signal receiver method = record { sender = sender; signal = signal; receiver = receiver; method = method }
 
 -- the first in one outline's list is that in an equal outline's
 module _ {X : Type 0} (list : Outline → List X) (P : X → Type 0) where
@@ -160,6 +167,17 @@ module _ (s : Scope) where
       let at = same_in (λ (o : Outline). o.methods) (IsCallOf name (length es)) h.class k.class object.1 m n h.method k.method in
       (object.0, at.0, same_all_exprs es fs gs h.values k.values)
 
+  pub same_ends : (ends : Endpoints Path) (f g : MetaEndpoints) → AreEnds s ends f → AreEnds s ends g → f ≡ g
+  same_ends ends f g h k =
+      let sender = same_object ends.sender f.sender g.sender h.from_class k.from_class h.sender k.sender in
+      let receiver = same_object ends.receiver f.receiver g.receiver h.to_class k.to_class h.receiver k.receiver in
+      let signal = same_in (λ (o : Outline). o.methods) (IsSignalOf ends.signal) h.from_class k.from_class sender.1 f.signal g.signal h.signal k.signal in
+      let method = same_in (λ (o : Outline). o.methods) (IsSigned ends.method) h.to_class k.to_class receiver.1 f.method g.method h.method k.method in
+      ap (λ x. ends_of x f.signal f.receiver f.method) sender.0
+      ∙ ap (λ x. ends_of g.sender x f.receiver f.method) signal.0
+      ∙ ap (λ x. ends_of g.sender g.signal x f.method) receiver.0
+      ∙ ap (λ x. ends_of g.sender g.signal g.receiver x) method.0
+
   mutual
     same_parts : (x : stmt.Stmt-F Stmt) (y z : statement.Statement-F Statement) → IsStatement s x y → IsStatement s x z → y ≡ z
     same_parts x y z (set_is {path = p} {name = n} {e = e} {found = o} {q = q} {f = f} h) (set_is {found = u} {q = r} {f = g} k) =
@@ -184,6 +202,8 @@ module _ (s : Scope) where
         let same_1 : b1 ≡ c1 = same_statements a1 b1 c1 h1 k1 in
         let same_2 : b2 ≡ c2 = same_statements a2 b2 c2 h2 k2 in
         cc
+    same_parts x y z (connect_is {ends = ends} {type = type} {found = f} h) (connect_is {found = g} k) = ap (λ found. statement.Connect found type) (same_ends ends f g h k)
+    same_parts x y z (disconnect_is {ends = ends} {found = f} h) (disconnect_is {found = g} k) = ap (λ found. statement.Disconnect found) (same_ends ends f g h k)
 
     pub same_statements : (xs : List Stmt) (ys zs : List Statement) → AreStatements s xs ys → AreStatements s xs zs → ys ≡ zs
     same_statements xs ys zs none_are none_are = refl

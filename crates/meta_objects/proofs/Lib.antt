@@ -1,6 +1,7 @@
 pub mod Bodies
 pub mod BodyPieces
 pub mod BodyCalls
+pub mod BodyEnds
 pub mod LookUps
 pub mod Ends
 pub mod Unique

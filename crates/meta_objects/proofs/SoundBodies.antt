@@ -1,10 +1,12 @@
 -- A body as it is loaded is sound: its names' numbers are those of members.
 use Rattle.std.proofs.Common.{◌≡◌, ℕ, List, [], ◌∷◌, length, sym, ◌∙◌}
+use Rattle.signatures.specs.declared.sig.Sig.{Sig}
 use Rattle.signatures.specs.declared.value.Value.{Value}
 use Rattle.signatures.specs.declared.value.Value.TheVariants as value
 use Rattle.texts.specs.declared.syntax.Expr.{Expr}
 use Rattle.texts.specs.declared.syntax.Root.{Root}
 use Rattle.texts.specs.declared.syntax.Path.{Path}
+use Rattle.texts.specs.declared.connection.Endpoints.{Endpoints}
 use Rattle.texts.specs.declared.syntax.Stmt.{Stmt}
 use Rattle.texts.specs.declared.syntax.Stmt.TheOpen as stmt
 use Rattle.texts.specs.declared.syntax.Stmt.TheViews.{out-Stmt}
@@ -12,14 +14,17 @@ use Rattle.meta_model.specs.declared.object.ValueType.{ValueType}
 use Rattle.meta_model.specs.declared.object.MetaRoot.{MetaRoot}
 use Rattle.meta_model.specs.declared.object.Step.{Step}
 use Rattle.meta_model.specs.declared.object.MetaPath.{MetaPath}
+use Rattle.meta_model.specs.declared.object.MetaEndpoints.{MetaEndpoints}
 use Rattle.meta_model.specs.declared.object.Statement.{Statement}
 use Rattle.meta_model.specs.declared.object.Statement.TheOpen as statement
 use Rattle.meta_model.specs.declared.object.Statement.TheViews.{out-Statement}
 use Rattle.meta_model.specs.declared.object.MetaMethod.{MetaMethod}
+use Rattle.meta_model.specs.Loaded.{Loaded}
 use Rattle.meta_model.specs.Members.{IsMethod}
-use Rattle.meta_model.specs.Sound.{HasRoot, this_has, parameter_has, Leads, here, on, LeadsTo, LeadsToClass, IsSoundExpr, literal_sound, path_sound, unary_sound, binary_sound, AreSoundExprs, IsSoundStatement, set_sound, emit_sound, call_sound, if_sound, AreSound, none_sound, next_sound}
+use Rattle.meta_model.specs.Sound.{HasRoot, this_has, parameter_has, Leads, here, on, LeadsTo, LeadsToClass, IsSoundExpr, literal_sound, path_sound, unary_sound, binary_sound, AreSoundExprs, MayConnect, AreSoundEnds, IsSoundStatement, set_sound, emit_sound, call_sound, if_sound, connect_sound, disconnect_sound, AreSound, none_sound, next_sound}
 use Rattle.meta_model.specs.Literals.{literal, HoldsNoObject}
-use Rattle.meta_objects.specs.LoadedBodies.{Site, IsLoadedRoot, this_loaded, parameter_loaded, AreLoadedSteps, no_steps, step_on, IsLoadedPath, IsLoadedObject, IsLoadedExpr, literal_loaded, path_loaded, unary_loaded, binary_loaded, AreLoadedExprs, IsLoadedStatement, set_loaded, emit_loaded, call_loaded, if_loaded, AreLoadedStatements, none_loaded, next_loaded}
+use Rattle.meta_objects.specs.LoadedBodies.{Site, IsLoadedRoot, this_loaded, parameter_loaded, AreLoadedSteps, no_steps, step_on, IsLoadedPath, IsLoadedObject, IsLoadedExpr, literal_loaded, path_loaded, unary_loaded, binary_loaded, AreLoadedExprs, AreLoadedEnds, IsLoadedStatement, set_loaded, emit_loaded, call_loaded, if_loaded, connect_loaded, disconnect_loaded, AreLoadedStatements, none_loaded, next_loaded}
+use Rattle.meta_objects.specs.LoadedEnds.{Connects}
 use Rattle.meta_objects.proofs.Soundness.{zip_length}
 
 -- a literal holds no object
@@ -28,6 +33,16 @@ no_object (value.Int n) o e = absurd (cc)
 no_object (value.Bool b) o e = absurd (cc)
 no_object (value.Text t) o e = absurd (cc)
 no_object (value.Ref r) o e = absurd (cc)
+
+pub connects_sound : {p : Loaded} {c : ℕ} {from : Sig} {g d : ℕ} {to : Sig} {m : ℕ} → Connects p c from g d to m → MayConnect p c g d m
+connects_sound h = record {
+  signal = h.signal.method;
+  from = h.signal.is;
+  signals = h.signals;
+  method = h.method.method;
+  to = h.method.is;
+  called = h.called;
+}
 
 module _ (s : Site) (counted : (c m : ℕ) (method : MetaMethod) → IsMethod s.program c m method → length method.sig.types ≡ length method.kinds) where
   root_sound : (r : Root) (f : MetaRoot) (T : ValueType) → IsLoadedRoot s r f T → HasRoot s.me s.kinds f T
@@ -60,6 +75,15 @@ module _ (s : Site) (counted : (c m : ℕ) (method : MetaMethod) → IsMethod s.
   exprs_sound (e ∷ es) [] h = absurd h
   exprs_sound (e ∷ es) (f ∷ fs) h = (expr_sound e f h.0, exprs_sound es fs h.1)
 
+  ends_sound : (ends : Endpoints Path) (found : MetaEndpoints) → AreLoadedEnds s ends found → AreSoundEnds s.program s.me s.kinds found
+  ends_sound ends found h = record {
+    from_class = h.from_class;
+    sender = object_sound ends.sender found.sender h.from_class h.sender;
+    to_class = h.to_class;
+    receiver = object_sound ends.receiver found.receiver h.to_class h.receiver;
+    connects = connects_sound h.connects;
+  }
+
   mutual
     statement_sound : (x : stmt.Stmt-F Stmt) (y : statement.Statement-F Statement) → IsLoadedStatement s x y → IsSoundStatement s.program s.me s.kinds y
     statement_sound x y (set_loaded {path = path} {e = e} {found = found} {f = f} h) =
@@ -86,6 +110,8 @@ module _ (s : Site) (counted : (c m : ℕ) (method : MetaMethod) → IsMethod s.
         })
     statement_sound x y (if_loaded {e = e} {then_x = x1} {else_x = x2} {f = f} {then_y = y1} {else_y = y2} h h1 h2) =
         if_sound (expr_sound e f h) (statements_sound x1 y1 h1) (statements_sound x2 y2 h2)
+    statement_sound x y (connect_loaded {ends = ends} {found = found} h) = connect_sound (ends_sound ends found h)
+    statement_sound x y (disconnect_loaded {ends = ends} {found = found} h) = disconnect_sound (ends_sound ends found h)
 
     pub statements_sound : (xs : List Stmt) (ys : List Statement) → AreLoadedStatements s xs ys → AreSound s.program s.me s.kinds ys
     statements_sound xs ys none_loaded = none_sound

@@ -1,5 +1,5 @@
 -- Bodies that are resolved in outlines, as they are loaded: by the numbers of the members with their names.
-use Rattle.std.proofs.Common.{◌≡◌, ℕ, zero, suc, false, List, [], ◌∷◌, map, length, slice_get, Some, inl, refl, sym, ap, ◌∙◌, subst}
+use Rattle.std.proofs.Common.{◌≡◌, ℕ, zero, suc, ◌<◌, false, List, [], ◌∷◌, map, length, slice_get, Some, inl, refl, sym, ap, ◌∙◌, subst}
 use Rattle.std.specs.List.{AllZip}
 use Rattle.std.proofs.lemmas.Option.{none-some, same_Some}
 use Rattle.signatures.specs.declared.qtype.QType.{QType}
@@ -7,6 +7,7 @@ use Rattle.signatures.specs.declared.sig.Sig.{Sig}
 use Rattle.texts.specs.declared.syntax.Expr.{Expr}
 use Rattle.texts.specs.declared.syntax.Root.{Root}
 use Rattle.texts.specs.declared.syntax.Path.{Path}
+use Rattle.texts.specs.declared.connection.Endpoints.{Endpoints}
 use Rattle.texts.specs.declared.syntax.Stmt.{Stmt}
 use Rattle.texts.specs.declared.syntax.Stmt.TheOpen as stmt
 use Rattle.texts.specs.declared.syntax.Stmt.TheViews.{out-Stmt}
@@ -17,6 +18,7 @@ use Rattle.meta_model.specs.declared.object.ValueType.TheVariants as type
 use Rattle.meta_model.specs.declared.object.MetaRoot.{MetaRoot}
 use Rattle.meta_model.specs.declared.object.Step.{Step}
 use Rattle.meta_model.specs.declared.object.MetaPath.{MetaPath}
+use Rattle.meta_model.specs.declared.object.MetaEndpoints.{MetaEndpoints}
 use Rattle.meta_model.specs.declared.object.Statement.{Statement}
 use Rattle.meta_model.specs.declared.object.Statement.TheOpen as statement
 use Rattle.meta_model.specs.declared.object.Statement.TheViews.{out-Statement}
@@ -32,9 +34,14 @@ use Rattle.meta_model.specs.Loaded.{Loaded}
 use Rattle.meta_model.specs.Members.{IsClassNamed, IsMethod, IsMethodNamed, IsProperty}
 use Rattle.meta_model.specs.Sound.{IsKind}
 use Rattle.meta_model.specs.Outlines.{IsOutlineNamed, MayBeCalled, kinds_of}
+use Rattle.meta_model.specs.declared.qobject.TheConstants.{DELETE_LATER}
+use Rattle.meta_model.specs.Places.{StandsFirst}
 use Rattle.meta_model.specs.Kinds.{IsKindIn, IsReadAs}
-use Rattle.meta_objects.specs.Bodies.{Scope, IsRoot, this_root, parameter_root, PointsTo, HasMember, AreSteps, IsPath, IsExpr, literal_is, path_is, unary_is, binary_is, AreExprs, IsObjectPath, IsCallOf, IsSet, IsEmit, IsCall, IsStatement, set_is, emit_is, call_is, if_is, AreStatements, none_are, next_is}
-use Rattle.meta_objects.specs.LoadedBodies.{Site, site, IsLoadedRoot, this_loaded, parameter_loaded, HasProperty, AreLoadedSteps, no_steps, step_on, IsLoadedPath, IsLoadedObject, IsLoadedExpr, literal_loaded, path_loaded, unary_loaded, binary_loaded, AreLoadedExprs, IsLoadedSet, IsLoadedEmit, IsLoadedCall, IsLoadedStatement, set_loaded, emit_loaded, call_loaded, if_loaded, AreLoadedStatements, none_loaded, next_loaded}
+use Rattle.meta_model.specs.Conditions.{IsSignalOf}
+use Rattle.meta_model.specs.Ends.{IsSigned}
+use Rattle.meta_objects.specs.LoadedEnds.{Connects}
+use Rattle.meta_objects.specs.Bodies.{Scope, IsRoot, this_root, parameter_root, PointsTo, HasMember, AreSteps, IsPath, IsExpr, literal_is, path_is, unary_is, binary_is, AreExprs, IsObjectPath, IsCallOf, IsSet, IsEmit, IsCall, AreEnds, IsStatement, set_is, emit_is, call_is, if_is, connect_is, disconnect_is, AreStatements, none_are, next_is}
+use Rattle.meta_objects.specs.LoadedBodies.{Site, site, IsLoadedRoot, this_loaded, parameter_loaded, HasProperty, AreLoadedSteps, no_steps, step_on, IsLoadedPath, IsLoadedObject, IsLoadedExpr, literal_loaded, path_loaded, unary_loaded, binary_loaded, AreLoadedExprs, IsLoadedSet, IsLoadedEmit, IsLoadedCall, AreLoadedEnds, IsLoadedStatement, set_loaded, emit_loaded, call_loaded, if_loaded, connect_loaded, disconnect_loaded, AreLoadedStatements, none_loaded, next_loaded}
 use Rattle.meta_objects.specs.Loading.{body_at, found_body, work_of, IsMethodOf, IsPropertyOf, IsObject}
 use Rattle.meta_model.proofs.Zips.{zip_left, zip_right}
 use Rattle.meta_model.proofs.Searches.{same_first}
@@ -91,6 +98,20 @@ module _ (outlines : List Outline) (bodies : List (List (List Statement))) (p : 
       let x = object_at c o e in
       let y = zip_left (IsMethodOf outlines bodies) o.methods x.0.methods x.2.methods m h at in
       record { loaded = y.0; is = record { class = x.0; is_class = record { is = x.1 }; is = y.1 }; by = y.2 }
+
+  -- a signal and a method that are found, as they are loaded
+  pub connects : (c : ℕ) (o : Outline) → slice_get outlines c ≡ Some o → (from : Sig) (g : ℕ) → StandsFirst (IsSignalOf from) o.methods g
+      → (d : ℕ) (u : Outline) → slice_get outlines d ≡ Some u → (to : Sig) (m : ℕ) → StandsFirst (IsSigned to) u.methods m → DELETE_LATER < m
+      → Connects p c from g d to m
+  connects c o at_c from g first d u at_d to m second called =
+      let signal = method_at c o at_c g first.at.item first.at.is in
+      let method = method_at d u at_d m second.at.item second.at.is in
+      record {
+        signal = record { method = signal.loaded; is = signal.is; signed = signal.by.signed ∙ first.at.has.0 };
+        signals = signal.by.work ∙ ap (λ s. work_of bodies s) first.at.has.1;
+        method = record { method = method.loaded; is = method.is; signed = method.by.signed ∙ second.at.has };
+        called = called;
+      }
 
   -- as many types as parameters
   pub kinds_counted : (c m : ℕ) (method : MetaMethod) → IsMethod p c m method → length method.sig.types ≡ length method.kinds
@@ -216,6 +237,17 @@ module _ (outlines : List Outline) (bodies : List (List (List Statement))) (p : 
           values = exprs_load es fs h.values;
         }
 
+    ends_load : (ends : Endpoints Path) (found : MetaEndpoints) → AreEnds scope ends found → AreLoadedEnds loaded_site ends found
+    ends_load ends found h = record {
+      from_class = h.sender.number;
+      sender = object_loads ends.sender found.sender h.from_class h.sender;
+      to_class = h.receiver.number;
+      receiver = object_loads ends.receiver found.receiver h.to_class h.receiver;
+      connects =
+          connects h.sender.number h.from_class (target_at ends.sender found.sender h.from_class h.sender) ends.signal found.signal h.signal
+          h.receiver.number h.to_class (target_at ends.receiver found.receiver h.to_class h.receiver) ends.method found.method h.method h.called;
+    }
+
     mutual
       statement_loads : (x : stmt.Stmt-F Stmt) (y : statement.Statement-F Statement) → IsStatement scope x y → IsLoadedStatement loaded_site x y
       statement_loads x y (set_is {path = path} {name = n} {e = e} {found = found} {q = q} {f = f} h) = set_loaded (set_loads path n e found q f h)
@@ -223,6 +255,8 @@ module _ (outlines : List Outline) (bodies : List (List (List Statement))) (p : 
       statement_loads x y (call_is {path = path} {name = n} {es = es} {found = found} {m = m} {fs = fs} h) = call_loaded (call_loads path n es found m fs h)
       statement_loads x y (if_is {e = e} {then_x = x1} {else_x = x2} {f = f} {then_y = y1} {else_y = y2} h h1 h2) =
           if_loaded (expr_loads e f h) (statements_load x1 y1 h1) (statements_load x2 y2 h2)
+      statement_loads x y (connect_is {ends = ends} {found = found} h) = connect_loaded (ends_load ends found h)
+      statement_loads x y (disconnect_is {ends = ends} {found = found} h) = disconnect_loaded (ends_load ends found h)
 
       pub statements_load : (xs : List Stmt) (ys : List Statement) → AreStatements scope xs ys → AreLoadedStatements loaded_site xs ys
       statements_load xs ys none_are = none_loaded

@@ -40,6 +40,7 @@ use Rattle.meta_objects.specs.Bodies.{IsBody, AreBodies}
 use Rattle.meta_objects.specs.Loading.{body_at, found_body, work_of, initial_of, IsMethodOf, IsNotify, IsPropertyOf, IsObject, IsWire, IsOwns, HasUses, IsLoaded}
 use Rattle.meta_objects.specs.Builds.{HasOutlines, IsClean, IsLoadedForm}
 use Rattle.meta_objects.specs.LoadedBodies.{site, AreLoadedStatements}
+use Rattle.meta_objects.specs.LoadedEnds.{Connects}
 use Rattle.meta_objects.specs.Classes.{IsLoadedSignal, IsLoadedSlot, HasNotifier, IsLoadedProperty, IsLoadedClass, HasLoadedClass, IsLoadedWire, IsLoadedOwns, IsLoadedProgram}
 use Rattle.meta_model.proofs.Zips.{zip_left, zip_right, get_front, get_back}
 use Rattle.meta_model.proofs.Searches.{place_in}
@@ -48,8 +49,8 @@ use Rattle.meta_model.proofs.ReadTypes.{same_read}
 use Rattle.meta_objects.proofs.Deciding.{carries}
 use Rattle.meta_objects.proofs.Unique.{same_zip, same_method, same_property_by, same_place, same_object}
 use Rattle.meta_model.proofs.Outlined.{Declared, Reaches, here, up, HasSlot, outline_of, slot_of, outlines_count, root_at, reaches_root, delete_later_in_root, distinct_outlines}
-use Rattle.meta_objects.proofs.Soundness.{zip_length, object_at, named, kind_in, method_at, kinds_counted, statements_load}
-use Rattle.meta_objects.proofs.SoundBodies.{statements_sound}
+use Rattle.meta_objects.proofs.Soundness.{zip_length, object_at, named, kind_in, connects, kinds_counted, statements_load}
+use Rattle.meta_objects.proofs.SoundBodies.{connects_sound, statements_sound}
 
 module _ {A B : Type 0} (R : A → B → Type 0) where
   -- a list that relates to two lists in a row
@@ -515,22 +516,17 @@ module _ (program : Program) (o : List Outline) (outlined : HasOutlines program 
       }
 
   -- ---- wires and owns
+  wire_connects : (wire : Wire) (found : MetaWire) → IsWire o wire found → Connects p found.sender wire.signal found.signal found.receiver wire.method found.method
+  wire_connects wire found is =
+      let from = is.from.class.at in
+      let to = is.to.class.at in
+      connects o loaded.bodies p loaded.objects found.sender from.item from.is wire.signal found.signal is.from.method found.receiver to.item to.is wire.method found.method is.to.method is.called
+
   wire_sound : (wire : MetaWire) → IsIn wire p.wires → IsSoundWire p wire
   wire_sound wire in_it =
       let at = place_in p.wires wire in_it in
       let w = zip_right (IsWire o) program.wires p.wires loaded.uses.wired at.0 wire at.1 in
-      let from = w.2.from in
-      let to = w.2.to in
-      let signal = method_at o loaded.bodies p loaded.objects wire.sender from.class.at.item from.class.at.is wire.signal from.method.at.item from.method.at.is in
-      let method = method_at o loaded.bodies p loaded.objects wire.receiver to.class.at.item to.class.at.is wire.method to.method.at.item to.method.at.is in
-      record {
-        signal = signal.loaded;
-        from = signal.is;
-        signals = signal.by.work ∙ ap (λ s. work_of loaded.bodies s) from.method.at.has.1;
-        method = method.loaded;
-        to = method.is;
-        called = w.2.called;
-      }
+      connects_sound (wire_connects w.0 wire w.2)
 
   class_there : (name : List ℕ) (c : ℕ) → IsOutlineNamed o name c → c < length p.classes
   class_there name c h =
@@ -574,18 +570,12 @@ module _ (program : Program) (o : List Outline) (outlined : HasOutlines program 
       ]
 
   wire_loaded : (wire : Wire) (found : MetaWire) → IsWire o wire found → IsLoadedWire p wire found
-  wire_loaded wire found is =
-      let from = is.from in
-      let to = is.to in
-      let signal = method_at o loaded.bodies p loaded.objects found.sender from.class.at.item from.class.at.is found.signal from.method.at.item from.method.at.is in
-      let method = method_at o loaded.bodies p loaded.objects found.receiver to.class.at.item to.class.at.is found.method to.method.at.item to.method.at.is in
-      record {
-        sender = named o loaded.bodies p loaded.objects wire.sender found.sender from.class;
-        signal = record { method = signal.loaded; is = signal.is; signed = signal.by.signed ∙ from.method.at.has.0 };
-        receiver = named o loaded.bodies p loaded.objects wire.receiver found.receiver to.class;
-        method = record { method = method.loaded; is = method.is; signed = method.by.signed ∙ to.method.at.has };
-        same_kind = is.same_kind;
-      }
+  wire_loaded wire found is = record {
+    sender = named o loaded.bodies p loaded.objects wire.sender found.sender is.from.class;
+    receiver = named o loaded.bodies p loaded.objects wire.receiver found.receiver is.to.class;
+    connects = wire_connects wire found is;
+    same_kind = is.same_kind;
+  }
 
   owns_loaded : (owns : Owns) (found : MetaOwns) → IsOwns o owns found → IsLoadedOwns p owns found
   owns_loaded owns found is = record {

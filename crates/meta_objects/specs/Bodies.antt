@@ -12,6 +12,8 @@ use Rattle.texts.specs.declared.syntax.Expr.TheViews.{out-Expr}
 use Rattle.texts.specs.declared.syntax.Root.{Root}
 use Rattle.texts.specs.declared.syntax.Root.TheVariants as root
 use Rattle.texts.specs.declared.syntax.Path.{Path}
+use Rattle.texts.specs.declared.connection.ConnectionType.{ConnectionType}
+use Rattle.texts.specs.declared.connection.Endpoints.{Endpoints}
 use Rattle.texts.specs.declared.syntax.Stmt.{Stmt}
 use Rattle.texts.specs.declared.syntax.Stmt.TheOpen as stmt
 use Rattle.texts.specs.declared.syntax.Stmt.TheViews.{out-Stmt}
@@ -23,6 +25,7 @@ use Rattle.meta_model.specs.declared.object.MetaRoot.{MetaRoot}
 use Rattle.meta_model.specs.declared.object.MetaRoot.TheVariants as resolved
 use Rattle.meta_model.specs.declared.object.Step.{Step}
 use Rattle.meta_model.specs.declared.object.MetaPath.{MetaPath}
+use Rattle.meta_model.specs.declared.object.MetaEndpoints.{MetaEndpoints}
 use Rattle.meta_model.specs.declared.object.Statement.{Statement}
 use Rattle.meta_model.specs.declared.object.Statement.TheOpen as statement
 use Rattle.meta_model.specs.declared.object.Statement.TheViews.{out-Statement}
@@ -31,9 +34,11 @@ use Rattle.meta_model.specs.declared.outline.Sort.TheVariants as sort
 use Rattle.meta_model.specs.Places.{StandsFirst}
 pub use Rattle.meta_model.specs.Indexed.{IsCallOf, IsPropertyOfName}
 use Rattle.meta_model.specs.Outlines.{IsOutlineNamed, MayBeCalled, reference_to}
-use Rattle.meta_model.specs.declared.qobject.TheConstants.{OBJECT_NAME_CHANGED}
+use Rattle.meta_model.specs.declared.qobject.TheConstants.{OBJECT_NAME_CHANGED, DELETE_LATER}
 use Rattle.meta_model.specs.Literals.{literal}
 use Rattle.meta_model.specs.Kinds.{IsReadAs}
+use Rattle.meta_model.specs.Conditions.{IsSignalOf}
+use Rattle.meta_model.specs.Ends.{IsSigned}
 
 -- where a body stands: the classes, the name of its own, and its slot's parameters
 pub record Scope : Type 0 where
@@ -135,6 +140,16 @@ pub record IsCall (s : Scope) (path : Path) (name : List ℕ) (es : List (Expr P
   pub callable : MayBeCalled method.at.item.sort
   pub values : AreExprs s es fs
 
+-- `connect` and `disconnect`: the sender's class has the signal, the receiver's the method, which isn't one of `QObject`'s
+pub record AreEnds (s : Scope) (ends : Endpoints Path) (found : MetaEndpoints) : Type 0 where
+  pub from_class : Outline
+  pub sender : IsObjectPath s ends.sender found.sender from_class
+  pub signal : StandsFirst (IsSignalOf ends.signal) from_class.methods found.signal
+  pub to_class : Outline
+  pub receiver : IsObjectPath s ends.receiver found.receiver to_class
+  pub method : StandsFirst (IsSigned ends.method) to_class.methods found.method
+  pub called : DELETE_LATER < found.method
+
 mutual
   -- one statement, by its parts
   pub data IsStatement (s : Scope) : stmt.Stmt-F Stmt → statement.Statement-F Statement → Type 0 where
@@ -148,6 +163,10 @@ mutual
     if_is : {e : Expr Path} {then_x else_x : List Stmt} {f : Expr MetaPath} {then_y else_y : List Statement}
         → IsExpr s e f → AreStatements s then_x then_y → AreStatements s else_x else_y
         → IsStatement s (stmt.If e then_x else_x) (statement.If f then_y else_y)
+    connect_is : {ends : Endpoints Path} {type : ConnectionType} {found : MetaEndpoints}
+        → AreEnds s ends found → IsStatement s (stmt.Connect ends type) (statement.Connect found type)
+    disconnect_is : {ends : Endpoints Path} {found : MetaEndpoints}
+        → AreEnds s ends found → IsStatement s (stmt.Disconnect ends) (statement.Disconnect found)
 
   -- the statements of a block, in their order
   pub data AreStatements (s : Scope) : List Stmt → List Statement → Type 0 where

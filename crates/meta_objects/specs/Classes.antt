@@ -19,12 +19,13 @@ use Rattle.meta_model.specs.declared.object.MetaWire.{MetaWire}
 use Rattle.meta_model.specs.declared.object.MetaOwns.{MetaOwns}
 use Rattle.meta_model.specs.declared.qobject.TheConstants.{QOBJECT}
 use Rattle.meta_model.specs.Loaded.{Loaded}
-use Rattle.meta_model.specs.Members.{IsClass, IsClassNamed, HasSig}
+use Rattle.meta_model.specs.Members.{IsClass, IsClassNamed}
 use Rattle.meta_model.specs.Outlines.{sig_of, kinds_of, base_name}
 use Rattle.meta_model.specs.Root.{root_class}
 use Rattle.meta_model.specs.Sound.{IsKind}
 use Rattle.meta_objects.specs.Loading.{initial_of}
 use Rattle.meta_objects.specs.LoadedBodies.{site, AreLoadedStatements}
+use Rattle.meta_objects.specs.LoadedEnds.{Connects}
 
 -- ---- members
 -- a signal: its name, and its parameters' types, each resolved
@@ -89,9 +90,8 @@ pub record HasLoadedClass (p : Loaded) (c : ℕ) (declared : Class) : Type 0 whe
 -- ---- wires and owns, by the numbers of their classes and methods
 pub record IsLoadedWire (p : Loaded) (declared : Wire) (wire : MetaWire) : Type 0 where
   pub sender : IsClassNamed p declared.sender wire.sender
-  pub signal : HasSig p wire.sender declared.signal wire.signal
   pub receiver : IsClassNamed p declared.receiver wire.receiver
-  pub method : HasSig p wire.receiver declared.method wire.method
+  pub connects : Connects p wire.sender declared.signal wire.signal wire.receiver declared.method wire.method
   pub same_kind : wire.kind ≡ declared.kind
 
 pub record IsLoadedOwns (p : Loaded) (declared : Owns) (owns : MetaOwns) : Type 0 where

@@ -11,6 +11,8 @@ use Rattle.texts.specs.declared.syntax.Expr.TheViews.{out-Expr}
 use Rattle.texts.specs.declared.syntax.Root.{Root}
 use Rattle.texts.specs.declared.syntax.Root.TheVariants as root
 use Rattle.texts.specs.declared.syntax.Path.{Path}
+use Rattle.texts.specs.declared.connection.ConnectionType.{ConnectionType}
+use Rattle.texts.specs.declared.connection.Endpoints.{Endpoints}
 use Rattle.texts.specs.declared.syntax.Stmt.{Stmt}
 use Rattle.texts.specs.declared.syntax.Stmt.TheOpen as stmt
 use Rattle.texts.specs.declared.syntax.Stmt.TheViews.{out-Stmt}
@@ -21,6 +23,7 @@ use Rattle.meta_model.specs.declared.object.MetaRoot.{MetaRoot}
 use Rattle.meta_model.specs.declared.object.MetaRoot.TheVariants.{This, Parameter as AParameter}
 use Rattle.meta_model.specs.declared.object.Step.{Step}
 use Rattle.meta_model.specs.declared.object.MetaPath.{MetaPath}
+use Rattle.meta_model.specs.declared.object.MetaEndpoints.{MetaEndpoints}
 use Rattle.meta_model.specs.declared.object.MetaProperty.{MetaProperty}
 use Rattle.meta_model.specs.declared.object.Statement.{Statement}
 use Rattle.meta_model.specs.declared.object.Statement.TheOpen as statement
@@ -31,6 +34,7 @@ use Rattle.meta_model.specs.Loaded.{Loaded}
 use Rattle.meta_model.specs.Places.{StandsFirst}
 use Rattle.meta_model.specs.Members.{IsProperty, IsMethodNamed}
 use Rattle.meta_model.specs.Literals.{literal}
+use Rattle.meta_objects.specs.LoadedEnds.{Connects}
 
 -- where a body stands: the loaded program, the number of the class that declares the slot, and the slot's parameters with
 -- their types
@@ -121,6 +125,14 @@ pub record IsLoadedCall (s : Site) (path : Path) (name : List ℕ) (es : List (E
   pub slots : slot.method.work ≡ Slot body
   pub values : AreLoadedExprs s es fs
 
+-- `connect` and `disconnect`: the sender's class has the signal, the receiver's the method
+pub record AreLoadedEnds (s : Site) (ends : Endpoints Path) (found : MetaEndpoints) : Type 0 where
+  pub from_class : ℕ
+  pub sender : IsLoadedObject s ends.sender found.sender from_class
+  pub to_class : ℕ
+  pub receiver : IsLoadedObject s ends.receiver found.receiver to_class
+  pub connects : Connects s.program from_class ends.signal found.signal to_class ends.method found.method
+
 mutual
   -- one statement, by its parts
   pub data IsLoadedStatement (s : Site) : stmt.Stmt-F Stmt → statement.Statement-F Statement → Type 0 where
@@ -135,6 +147,10 @@ mutual
     if_loaded : {e : Expr Path} {then_x else_x : List Stmt} {f : Expr MetaPath} {then_y else_y : List Statement}
         → IsLoadedExpr s e f → AreLoadedStatements s then_x then_y → AreLoadedStatements s else_x else_y
         → IsLoadedStatement s (stmt.If e then_x else_x) (statement.If f then_y else_y)
+    connect_loaded : {ends : Endpoints Path} {type : ConnectionType} {found : MetaEndpoints}
+        → AreLoadedEnds s ends found → IsLoadedStatement s (stmt.Connect ends type) (statement.Connect found type)
+    disconnect_loaded : {ends : Endpoints Path} {found : MetaEndpoints}
+        → AreLoadedEnds s ends found → IsLoadedStatement s (stmt.Disconnect ends) (statement.Disconnect found)
 
   -- the statements of a block, in their order
   pub data AreLoadedStatements (s : Site) : List Stmt → List Statement → Type 0 where

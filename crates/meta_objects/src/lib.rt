@@ -13,6 +13,6 @@ mod resolve_wire;
 pub use laws::{loaded_as_declared, one_answer, one_loading};
 pub use meta::{Meta, Wired};
 pub use meta_model::{
-    MetaFault, MetaMethod, MetaObject, MetaOwns, MetaPath, MetaProperty, MetaRoot, MetaWire,
-    SlotBody, Statement, Step, ValueType, Work,
+    MetaEndpoints, MetaFault, MetaMethod, MetaObject, MetaOwns, MetaPath, MetaProperty, MetaRoot,
+    MetaWire, SlotBody, Statement, Step, ValueType, Work,
 };

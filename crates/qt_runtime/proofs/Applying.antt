@@ -1,5 +1,5 @@
 -- Events that are applied one after the other.
-use Rattle.std.proofs.Common.{◌≡◌, ℕ, ◌⊎◌, true, false, List, [], ◌∷◌, ◌++◌, Result, Ok, Err, refl, sym, ap, ◌∙◌, subst, inl, inr, append_assoc}
+use Rattle.std.proofs.Common.{◌≡◌, ℕ, ◌⊎◌, true, false, List, [], ◌∷◌, ◌++◌, Option, None, Result, Ok, Err, refl, sym, ap, ◌∙◌, subst, inl, inr, append_assoc}
 use Rattle.std.specs.Result.{IsErrAnd}
 use Rattle.script_lang.specs.declared.event.Event.{Event}
 use Rattle.meta_model.specs.Loaded.{Loaded}
@@ -13,8 +13,8 @@ use Rattle.machine_state.specs.Worlds.{at}
 use Rattle.qt_runtime.proofs.Running.{runs-trans}
 use Rattle.qt_runtime.proofs.Taken.{idle}
 
-pub completes-none : {a : Seen} → a.stopped ≡ false → Completes a [] a
-completes-none {a} went = record { went = went; same = refl; whole = record { runs = done; ends = idle a.world } }
+pub completes-none : {a : Seen} → a.stopped ≡ false → a.world.turn ≡ None → Completes a [] a
+completes-none went none = record { went = went; same = refl; whole = record { runs = done; ends = record { empty = refl; no_turn = none } } }
 
 -- a run goes on where another came
 pub completes-then : {a b c : Seen} {es fs : List Event} → Completes a es b → Completes b fs c → Completes a (es ++ fs) c

@@ -9,7 +9,7 @@ use Rattle.machine_state.specs.declared.fault.Answer.{Answer}
 use Rattle.machine_state.specs.declared.fault.Answer.TheVariants as answer
 use Rattle.machine_state.specs.declared.fault.Fault.{Fault}
 use Rattle.machine_state.specs.declared.world.World.{World}
-use Rattle.machine_rules.specs.Sound.{Sound}
+use Rattle.machine_rules.specs.Sound.{IsSoundWorld}
 use Rattle.qt_runtime.specs.Seen.{Seen, Completes, Accepts, Refuses, OnDone, OnRefused, Halts, Stays}
 use Rattle.qt_runtime.specs.Taking.{Took}
 use Rattle.qt_runtime.proofs.Keeping.{invariant-at}
@@ -32,7 +32,7 @@ module _ {p : Loaded} {depth : ℕ} {w v : World} {e : Event} {went stopped : Bo
   applied-refused (Ok (answer.Refused n)) took goes is = record { completes = record { went = goes; same = ap (λ (b : Bool). seen p depth v b) (is ∙ sym goes); whole = took.cases.0 }; refused = took.cases.1 }
   applied-refused (Err f) took goes is = tt
 
-  pub applied-stopped : (r : Result Answer Fault) → IsSound p → Sound p w.objects w.connected.connections → Took p depth w e v r → went ≡ false → stopped ≡ is_err r → IfErr r (λ f. Halts (seen p depth w went) (e ∷ []) f (seen p depth v stopped) ⊎ Stays (seen p depth w went) f (seen p depth v stopped))
+  pub applied-stopped : (r : Result Answer Fault) → IsSound p → IsSoundWorld p w → Took p depth w e v r → went ≡ false → stopped ≡ is_err r → IfErr r (λ f. Halts (seen p depth w went) (e ∷ []) f (seen p depth v stopped) ⊎ Stays (seen p depth w went) f (seen p depth v stopped))
   applied-stopped (Ok x) sound whole took goes is = tt
   applied-stopped (Err f) sound whole took goes is =
       let halted = took.cases in

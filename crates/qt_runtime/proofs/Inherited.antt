@@ -8,7 +8,7 @@ use Rattle.meta_model.specs.Loaded.{Loaded}
 use Rattle.meta_model.specs.Members.{IsClass, IsMethod, IsProperty, Below, same, under}
 use Rattle.meta_model.specs.Sound.{IsSound}
 use Rattle.machine_rules.proofs.Fields.{class-unique}
-use Rattle.qt_runtime.proofs.Lists.{get-append}
+use Rattle.machine_rules.proofs.Lists.{get-append}
 
 -- a class whose base is known is there
 based : (found : Option MetaObject) (b : ℕ) → option_and_then (λ (class : MetaObject). class.base) found ≡ Some b → (class : MetaObject) × (found ≡ Some class) × (class.base ≡ Some b)

@@ -1,11 +1,16 @@
 -- Judgements, step by step.
-use Rattle.std.proofs.Common.{◌≡◌, Result, Ok, Err, sym, subst}
+use Rattle.std.proofs.Common.{◌≡◌, Result, Ok, Err, refl, sym, subst}
 use Rattle.std.specs.Prelude.{IfErr}
 use Rattle.std.specs.Result.{IsErrAnd}
 use Rattle.machine_state.specs.declared.refusal.Refusal.{Refusal}
 use Rattle.qt_runtime.specs.declared.judgement.NotAccepted.{NotAccepted}
 use Rattle.qt_runtime.specs.declared.judgement.NotAccepted.TheVariants.{Memory}
-use Rattle.qt_runtime.specs.Judgement.{Then, goes_on, ends, IsNotAccepted, refused, short}
+use Rattle.machine_rules.specs.Judgement.{Gives, gives, Then, goes_on, ends}
+use Rattle.qt_runtime.specs.Judgement.{IsNotAccepted, refused, short}
+
+-- what is given is what was to be given
+pub given-is : {X : Type 0} {x y : X} → Gives x (Ok y) → y ≡ x
+given-is gives = refl
 
 -- where the first step ends, all ends
 pub then-ends : {X Y : Type 0} {First : Result X Refusal → Type 0} {Next : X → Result Y Refusal → Type 0} {n : NotAccepted} → IsNotAccepted First n → IsNotAccepted (Then First Next) n

@@ -1,6 +1,4 @@
-mod Lists
 mod Changes
-mod Fitting
 mod Running
 mod Judged
 mod Taken
@@ -15,6 +13,7 @@ pub mod Inherited
 pub mod TypedPaths
 pub mod Standing
 pub mod Possible
+mod Homes
 pub mod Preservation
 pub mod Progress
 pub mod Halting

@@ -1,10 +1,11 @@
 -- For one list of events there is one run: of two of them one goes on where the other ends.
-use Rattle.std.proofs.Common.{◌≡◌, ◌⊎◌, inl, inr, ℕ, suc, List, [], ◌∷◌, ◌++◌, refl, sym, ap, ◌∙◌, subst}
+use Rattle.std.proofs.Common.{◌≡◌, ◌⊎◌, inl, inr, ℕ, suc, List, [], ◌∷◌, ◌++◌, Option, refl, sym, ap, ◌∙◌, subst}
 use Rattle.script_lang.specs.declared.event.Event.{Event}
 use Rattle.meta_model.specs.Loaded.{Loaded}
 use Rattle.meta_model.specs.Sound.{IsSound}
 use Rattle.machine_state.specs.State.{State, IsIdle, Activation}
-use Rattle.machine_rules.specs.Rules.{Rule, RuleAt}
+use Rattle.machine_rules.specs.Rules.{Rule, RuleAt, TurnRule}
+use Rattle.machine_state.specs.declared.turn.Turn.{Turn}
 use Rattle.machine_rules.specs.Runs as of_rules
 use Rattle.machine_rules.proofs.OneRule.{rule-one}
 use Rattle.machine_rules.specs.Good.{IsGood}
@@ -36,7 +37,10 @@ runs-of (take x ok rest) = takes x ok (runs-of rest)
 
 -- nothing follows by a rule where nothing is going on
 no-rule : (p : Loaded) (s t : State) → IsIdle s → Rule p s t → ⊥
-no-rule p s t idle x = let At : List Activation → Type 0 = λ stack. RuleAt p s t stack in subst At idle.empty x
+no-rule p s t idle x =
+    let At : List Activation → Type 0 = λ stack. RuleAt p s t stack in
+    let Next : Option Turn → Type 0 = λ turn. TurnRule p s t turn in
+    subst Next idle.no_turn (subst At idle.empty x)
 
 -- .. and an event is taken only there
 taken-idle : {p : Loaded} {e : Event} {s t : State} → Takes p e s t → IsIdle s

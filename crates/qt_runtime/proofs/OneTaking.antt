@@ -1,5 +1,5 @@
 -- An event has one answer.
-use Rattle.std.proofs.Common.{◌≡◌, ℕ, List, Some, slice_get, length, Ok, Err, true, false, sym, ap, ◌∙◌}
+use Rattle.std.proofs.Common.{◌≡◌, ℕ, List, Option, None, Some, slice_get, length, arith, Ok, Err, true, false, sym, ap, ◌∙◌}
 use Rattle.signatures.specs.declared.sig.Sig.{Sig}
 use Rattle.meta_model.specs.declared.object.MetaMethod.{MetaMethod}
 use Rattle.meta_model.specs.declared.object.MetaObject.{MetaObject}
@@ -7,7 +7,8 @@ use Rattle.meta_model.specs.Loaded.{Loaded}
 use Rattle.meta_model.specs.Sound.{IsSound}
 use Rattle.object_tree.specs.declared.life.Life.{Life}
 use Rattle.object_tree.specs.declared.object.Object.{Object}
-use Rattle.script_lang.specs.declared.event.Connect.{Connect as Connecting}
+use Rattle.texts.specs.declared.connection.ConnectionType.{ConnectionType}
+use Rattle.texts.specs.declared.connection.Endpoints.{Endpoints as Named}
 use Rattle.script_lang.specs.declared.event.Event.TheVariants as event
 use Rattle.script_lang.specs.declared.event.Input.{Input}
 use Rattle.machine_state.specs.declared.refusal.Refusal.{Refusal}
@@ -16,16 +17,24 @@ use Rattle.machine_state.specs.State.{State}
 use Rattle.machine_rules.proofs.OneRule.{begins-one, writes-one}
 use Rattle.qt_runtime.specs.declared.events.invoke.Invocation.{Invocation}
 use Rattle.qt_runtime.specs.declared.events.invoke.Invocation.TheVariants.{Emit, Call}
-use Rattle.qt_runtime.specs.Judgement.{Numbered}
-use Rattle.qt_runtime.specs.Laws.{HasOneAnswer, OneJudgement, OneTaking}
+use Rattle.machine_rules.specs.Judgement.{Numbered}
+use Rattle.machine_rules.specs.Judgement.{HasOneAnswer}
+use Rattle.qt_runtime.specs.Laws.{OneJudgement, OneTaking}
 use Rattle.qt_runtime.specs.Takes.{accepts, refuses}
 use Rattle.qt_runtime.specs.events.Adopt.{adopt, Adopts}
 use Rattle.qt_runtime.specs.events.Assign.{assign}
 use Rattle.qt_runtime.specs.events.Block.{block}
-use Rattle.qt_runtime.specs.events.Connect.{connect, IsMethodOf}
-use Rattle.qt_runtime.specs.events.Create.{create, IsClassOf}
+use Rattle.qt_runtime.specs.events.Connect.{connect}
+use Rattle.qt_runtime.specs.events.Disconnect.{disconnect}
+use Rattle.qt_runtime.specs.events.Ends.{find_ends, IsMethodOf}
+use Rattle.qt_runtime.specs.events.Add.{add}
+use Rattle.qt_runtime.specs.events.Turn.{turn}
+use Rattle.event_loops.specs.Queues.{Loop, IsNamed}
+use Rattle.qt_runtime.specs.events.Create.{create, IsClassOf, IsHome}
 use Rattle.qt_runtime.specs.events.Invoke.{invoke}
-use Rattle.qt_runtime.proofs.OneAnswer.{one-find, one-check, one-gives, one-becomes, one-then, numbered-is, one-living, one-value, one-values, one-method, one-property, one-adopted}
+use Rattle.machine_rules.proofs.OneAnswer.{one-find, one-check, one-gives, one-becomes, one-then, numbered-is}
+use Rattle.machine_rules.proofs.OneRule.{may-connect-one}
+use Rattle.qt_runtime.proofs.OneAnswer.{one-living, one-value, one-values, one-method, one-property, one-adopted}
 
 one-class : {p : Loaded} {name : List ℕ} → IsSound p → (a b : Numbered MetaObject) → IsClassOf p name a → IsClassOf p name b → a ≡ b
 one-class {p} sound a b f g =
@@ -38,8 +47,22 @@ one-sig sound a b f g =
     let signed : a.it.sig ≡ b.it.sig = f.signed ∙ sym g.signed in
     one-method sound a b f.is g.is (ap (λ (s : Sig). s.name) signed) (ap (λ (s : Sig). length s.types) signed)
 
-one-create : (p : Loaded) (s : State) (name class : List ℕ) → IsSound p → HasOneAnswer (create p s name class)
-one-create p s name class sound = one-then one-check (λ free. one-then (one-find (one-class sound)) (λ c. one-then one-check (λ room. one-gives _)))
+-- two loops, each the first of one name
+one-loop : {loops : List Loop} {name : List ℕ} → (a b : ℕ) → IsNamed loops name a → IsNamed loops name b → a ≡ b
+one-loop a b f g = let to = f.first b g.has in let from = g.first a f.has in omega (arith, to, from)
+
+one-home : (loops : List Loop) (loop : Option (List ℕ)) → (a b : ℕ) → IsHome loops loop a → IsHome loops loop b → a ≡ b
+one-home loops None a b f g = f ∙ sym g
+one-home loops (Some name) a b f g = one-loop a b f g
+
+one-create : (p : Loaded) (s : State) (name class : List ℕ) (loop : Option (List ℕ)) → IsSound p → HasOneAnswer (create p s name class loop)
+one-create p s name class loop sound = one-then one-check (λ free. one-then (one-find (one-class sound)) (λ c. one-then (one-find (one-home s.queues.loops loop)) (λ home. one-then one-check (λ room. one-gives _))))
+
+one-add : (s : State) (name : List ℕ) → HasOneAnswer (add s name)
+one-add s name = one-then one-check (λ free. one-gives _)
+
+one-turn : (s : State) (name : List ℕ) → HasOneAnswer (turn s name)
+one-turn s name = one-then (one-find one-loop) (λ home. one-gives _)
 
 one-adopts : (s : State) (a c : Numbered Life) (t u : State) → Adopts s a c t → Adopts s a c u → t ≡ u
 one-adopts s a c t u f g = f.gives ∙ ap (λ (l : List Object). record s { objects = l }) (one-adopted f.is g.is) ∙ sym g.gives
@@ -49,11 +72,17 @@ one-adopt p s parent child =
     one-then (one-living s.objects parent) (λ a. one-then (one-living s.objects child) (λ c.
     one-then one-check (λ owns. one-then one-check (λ over. one-then one-check (λ home. one-becomes (one-adopts (accepted s) a c))))))
 
-one-connect : (p : Loaded) (s : State) (e : Connecting) → IsSound p → HasOneAnswer (connect p s e)
-one-connect p s e sound =
-    one-then (one-living s.objects e.sender) (λ a. one-then (one-living s.objects e.receiver) (λ b.
-    one-then (one-find (λ g h f k. one-sig sound g h f.of k.of)) (λ g. one-then (one-find (one-sig sound)) (λ m.
-    one-then one-check (λ kind. one-then one-check (λ covers. one-then one-check (λ fits. one-gives _)))))))
+one-ends : (p : Loaded) (objects : List Object) (e : Named (List ℕ)) → IsSound p → HasOneAnswer (find_ends p objects e)
+one-ends p objects e sound =
+    one-then (one-living objects e.sender) (λ a. one-then (one-living objects e.receiver) (λ b.
+    one-then (one-find (λ g h f k. one-sig sound g h f.of k.of)) (λ g. one-then (one-find (one-sig sound)) (λ m. one-gives _))))
+
+one-connect : (p : Loaded) (s : State) (e : Named (List ℕ)) (how : ConnectionType) → IsSound p → HasOneAnswer (connect p s e how)
+one-connect p s e how sound =
+    one-then (one-ends p s.objects e sound) (λ f. one-then (may-connect-one p s.connected f e.signal e.method how) (λ _. one-gives _))
+
+one-disconnect : (p : Loaded) (s : State) (e : Named (List ℕ)) → IsSound p → HasOneAnswer (disconnect p s e)
+one-disconnect p s e sound = one-then (one-ends p s.objects e sound) (λ f. one-then one-check (λ is. one-gives _))
 
 one-block : (s : State) (name : List ℕ) (on : _) → HasOneAnswer (block s name on)
 one-block s name on = one-then (one-living s.objects name) (λ o. one-gives _)
@@ -71,9 +100,12 @@ one-invoke p s a name called inputs sound =
     one-then (one-values s.objects inputs) (λ vs. one-then one-check (λ fits. one-becomes (λ t u f g. begins-one f g)))))
 
 pub one_judgement : OneJudgement
-one_judgement p s (event.New name class) sound = one-create p s name class sound
+one_judgement p s (event.Loop name) sound = one-add s name
+one_judgement p s (event.Turn name) sound = one-turn s name
+one_judgement p s (event.New name class loop) sound = one-create p s name class loop sound
 one_judgement p s (event.Adopt parent child) sound = one-adopt p s parent child
-one_judgement p s (event.Connect e) sound = one-connect p s e sound
+one_judgement p s (event.Connect e how) sound = one-connect p s e how sound
+one_judgement p s (event.Disconnect e) sound = one-disconnect p s e sound
 one_judgement p s (event.Set name property i) sound = one-assign p s name property i sound
 one_judgement p s (event.Emit name signal inputs) sound = one-invoke p s Emit name signal inputs sound
 one_judgement p s (event.Call name slot inputs) sound = one-invoke p s Call name slot inputs sound

@@ -12,11 +12,14 @@ use Rattle.meta_model.specs.declared.object.Statement.TheViews.{out-Statement}
 use Rattle.meta_model.specs.declared.object.ValueType.{ValueType}
 use Rattle.meta_model.specs.Loaded.{Loaded}
 use Rattle.meta_model.specs.Members.{Below}
-use Rattle.meta_model.specs.Sound.{IsSound, AreSound, IsSoundStatement, next_sound, set_sound, emit_sound, call_sound, if_sound}
+use Rattle.meta_model.specs.Sound.{IsSound, AreSound, AreSoundEnds, IsSoundStatement, next_sound, set_sound, emit_sound, call_sound, if_sound, connect_sound, disconnect_sound}
 use Rattle.object_tree.specs.declared.life.Life.{Life}
 use Rattle.object_tree.specs.declared.object.Object.{Object}
 use Rattle.object_tree.specs.Objects.{Lives}
-use Rattle.machine_rules.specs.Doings.{Doing, Write, Begin, Choose, Nothing, on_object, chosen_by, doing}
+use Rattle.meta_model.specs.declared.object.MetaEndpoints.{MetaEndpoints}
+use Rattle.machine_state.specs.declared.endpoints.Endpoints.{Endpoints}
+use Rattle.machine_rules.specs.Connecting.{AreThere}
+use Rattle.machine_rules.specs.Doings.{Doing, Write, Begin, Choose, Connect, Disconnect, Nothing, on_object, on_ends, chosen_by, doing}
 use Rattle.object_tree.specs.Typed.{AreTyped}
 use Rattle.machine_rules.specs.Paths.{path_value, value_of, values_of}
 use Rattle.machine_rules.specs.There.{IsMember, IsField}
@@ -29,6 +32,8 @@ abbrev pub IsPossible : Loaded → List Object → ℕ → List ValueType → Do
 IsPossible p objects me kinds (Write x q new) = (object : Object) × (property : MetaProperty) × IsField p objects x q object property
 IsPossible p objects me kinds (Begin x n given) = (object : Object) × (method : MetaMethod) × IsMember p objects x n object method
 IsPossible p objects me kinds (Choose block) = AreSound p me kinds block
+IsPossible p objects me kinds (Connect ends how) = AreThere p objects ends
+IsPossible p objects me kinds (Disconnect ends) = AreThere p objects ends
 IsPossible p objects me kinds Nothing = Unit {0}
 
 -- ---- what is so of all that may be found
@@ -57,6 +62,24 @@ module _ {p : Loaded} {objects : List Object} (sound : IsSound p) (typed : AreTy
     abbrev Possible : Doing → Type 0
     Possible d = IsPossible p objects body.declaring body.kinds d
 
+    -- the objects at two ends have the signal and the method
+    ends-so : (act : Endpoints → Doing) (ends : MetaEndpoints) → AreSoundEnds p body.declaring body.kinds ends → ((between : Endpoints) → AreThere p objects between → Possible (act between)) →
+        IfSome (on_ends act ends (path_value objects o arguments ends.sender) (path_value objects o arguments ends.receiver)) Possible
+    ends-so act ends is so =
+        let between : ℕ → ℕ → Endpoints = λ x y. record { sender = x; signal = ends.signal; receiver = y; method = ends.method } in
+        let from = path-reaches objects o body.declaring body.object body.life arguments body.kinds ends.sender sound typed body.lives body.below body.typed is.sender in
+        let to = path-reaches objects o body.declaring body.object body.life arguments body.kinds ends.receiver sound typed body.lives body.below body.typed is.receiver in
+        object-so Possible (λ x. on_object (λ y. Some (act (between x y))) (path_value objects o arguments ends.receiver)) (path_value objects o arguments ends.sender) from tt
+        (λ x a k sends beneath. object-so Possible (λ y. Some (act (between x y))) (path_value objects o arguments ends.receiver) to tt
+        (λ y b l receives under. so (between x y) (record {
+          sender = a;
+          signal = is.connects.signal;
+          sends = record { life = k; lives = sends; is_method = method-below sound beneath is.connects.from };
+          receiver = b;
+          method = is.connects.method;
+          receives = record { life = l; lives = receives; is_method = method-below sound under is.connects.to };
+        })))
+
     statement-so : (f : layer.Statement-F Statement) → IsSoundStatement p body.declaring body.kinds f → IfSome (doing objects o arguments f) Possible
     statement-so f (set_sound {path = path} {q = q} {e = e} is) =
         let reaches = path-reaches objects o body.declaring body.object body.life arguments body.kinds path sound typed body.lives body.below body.typed is.leads in
@@ -73,6 +96,8 @@ module _ {p : Loaded} {objects : List Object} (sound : IsSound p) (typed : AreTy
         (λ given. (z, _, record { life = l; lives = lives; is_method = method-below sound beneath is.is })))
     statement-so f (if_sound {e = e} {chosen = block} {other = other} is first second) =
         chosen-so Possible block other (value_of objects o arguments e) first second
+    statement-so f (connect_sound {ends = ends} {type = how} is) = ends-so (λ between. Connect between how) ends is (λ between there. there)
+    statement-so f (disconnect_sound {ends = ends} is) = ends-so Disconnect ends is (λ between there. there)
 
 -- the first statement of what is left of a body
 pub possible : {p : Loaded} {objects : List Object} {o : ℕ} {arguments : List Value} {x : Statement} {rest : List Statement} → IsSound p → AreTyped p objects → (body : BodyStands p objects o arguments (x ∷ rest)) → (d : Doing) → doing objects o arguments (out-Statement x) ≡ Some d → IsPossible p objects body.declaring body.kinds d

@@ -1,9 +1,9 @@
 -- Why what is going on goes on: its objects, members and statements are there.
 use Rattle.std.proofs.Common.{◌≡◌, ℕ, suc, ◌+◌, ◌<◌, Bool, List, [], ◌∷◌, ◌++◌, length, take, true, false, Option, Some, None, slice_get, refl, sym, ◌∙◌, subst, Ok, arith}
-use Rattle.std.specs.List.{AllByRecursion}
+use Rattle.std.specs.List.{AllByRecursion, find}
 use Rattle.signatures.specs.declared.value.Value.{Value}
 use Rattle.script_lang.specs.declared.event.Event.{Event}
-use Rattle.script_lang.specs.declared.event.Event.TheVariants.{New, Adopt, Connect, Set, Emit as EmitEvent, Call as CallEvent, Block, Unblock}
+use Rattle.script_lang.specs.declared.event.Event.TheVariants.{Loop, Turn, New, Adopt, Connect, Disconnect, Set, Emit as EmitEvent, Call as CallEvent, Block, Unblock}
 use Rattle.meta_model.specs.declared.object.MetaMethod.{MetaMethod}
 use Rattle.meta_model.specs.declared.object.MetaProperty.{MetaProperty}
 use Rattle.meta_model.specs.declared.object.Statement.{Statement}
@@ -23,40 +23,56 @@ use Rattle.object_tree.specs.Family.{moved}
 use Rattle.object_tree.specs.Objects.{change_life, written, blocked}
 use Rattle.object_tree.specs.Typed.{AreTyped, ReadAs}
 use Rattle.object_tree.proofs.TypedObjects.{class-more, seen-appended, shape_in, class-same, seen-same, shape-change, shape-moved}
-use Rattle.machine_state.specs.Worlds.{main, with_connection}
+use Rattle.std.specs.Prelude.{Result, Err}
 use Rattle.machine_state.specs.declared.endpoints.Endpoints.{Endpoints}
-use Rattle.machine_rules.specs.Doings.{Doing, Write, Begin, Choose, Nothing, doing}
+use Rattle.machine_state.specs.declared.refusal.Refusal.{Refusal}
+use Rattle.machine_rules.specs.Connecting.{AreThere, kept_ends, names_of}
+use Rattle.machine_rules.specs.Doings.{Doing, Write, Begin, Choose, Connect as Link, Disconnect as Unlink, Nothing, doing}
 use Rattle.qt_runtime.proofs.Possible.{possible}
 use Rattle.qt_runtime.proofs.Standing.{BodyStands, PlaceStands, Stands, Invariant, AllStand, stands-still}
 use Rattle.machine_state.specs.State.{State, IsIdle, Place, Activation, Body, Emit, Update}
-use Rattle.machine_rules.specs.Rules.{Rule, RuleAt, BodyRule, Does, EmitRule, UpdateRule, Begins, Writes, Changes, places_of, changed, unchanged, silent, begun}
+use Rattle.machine_rules.specs.Rules.{Rule, RuleAt, BodyRule, Does, EmitRule, UpdateRule, Begins, Writes, Changes, places_of, changed, unchanged, silent, begun, with_used, linked, unlinked, TurnRule, Serves, Delivers, Arrives}
+use Rattle.machine_state.specs.Objects.{home_of}
+use Rattle.event_loops.specs.declared.item.Item.{Item}
+use Rattle.event_loops.specs.declared.item.Item.TheVariants.{Call, Deletion}
+use Rattle.event_loops.specs.declared.item.Posted.{Posted}
+use Rattle.event_loops.specs.Queues.{Loop as ALoop, items_at, is_before, taken_before, with_loop}
+use Rattle.machine_state.specs.declared.turn.Turn.{Turn as ATurn}
+use Rattle.machine_state.specs.Turns.{running, reaches_at_once}
 use Rattle.machine_state.specs.Connections.{next_used}
 use Rattle.signatures.specs.declared.sig.Sig.{Sig}
 use Rattle.signatures.specs.Types.{Fits}
-use Rattle.script_lang.specs.declared.event.Connect.{Connect as Connecting}
+use Rattle.texts.specs.declared.connection.ConnectionType.{ConnectionType}
+use Rattle.texts.specs.declared.connection.Endpoints.{Endpoints as Named}
 use Rattle.script_lang.specs.declared.event.Input.{Input}
 use Rattle.machine_state.specs.Accepting.{accepted}
 use Rattle.qt_runtime.specs.declared.events.invoke.Invocation.{Invocation}
 use Rattle.qt_runtime.specs.declared.events.invoke.Invocation.TheVariants.{Emit as EmitIt, Call as CallIt}
-use Rattle.qt_runtime.specs.Judgement.{Numbered, Gives, found as finds, holds as so, becomes, gives as just, goes_on}
+use Rattle.machine_rules.specs.Judgement.{Numbered, Gives, found as finds, holds as so, becomes, gives as just, goes_on}
 use Rattle.qt_runtime.specs.Takes.{judged, Takes, accepts, refuses}
 use Rattle.qt_runtime.specs.events.Block.{block}
-use Rattle.qt_runtime.specs.events.Connect.{named_signal, IsMethodOf, IsSignalOf}
+use Rattle.machine_rules.specs.declared.ends.FoundEnds.{FoundEnds}
+use Rattle.qt_runtime.specs.events.Ends.{find_ends}
+use Rattle.machine_state.specs.Connections.{joins_these}
+use Rattle.machine_state.proofs.Due.{all-removed}
+use Rattle.qt_runtime.proofs.Judged.{given-is}
 use Rattle.qt_runtime.specs.events.Invoke.{invoke}
 use Rattle.qt_runtime.specs.events.Named.{IsLiving}
-use Rattle.qt_runtime.proofs.Fitting.{kinds-fit}
 use Rattle.qt_runtime.proofs.Judging.Naming.{living-is, living-object}
 use Rattle.machine_rules.specs.Good.{ArgumentsFit, TopFits, IsWell}
 use Rattle.qt_runtime.specs.Runs.{Runs, done, rules, takes}
 use Rattle.machine_rules.specs.Runs.{Rules}
 use Rattle.machine_rules.specs.Runs as of_rules
-use Rattle.machine_rules.specs.Sound.{Sound, Joined}
+use Rattle.machine_rules.specs.Sound.{Joined, AreHoused}
 use Rattle.machine_rules.specs.Keeps.{StayThere, Keeps}
 use Rattle.machine_rules.specs.There.{IsMember, IsField}
 use Rattle.machine_rules.proofs.Fields.{member-method, field-written}
 use Rattle.qt_runtime.proofs.Changes.{adopted-by}
-use Rattle.qt_runtime.proofs.Lists.{all-snoc, all-weaken}
-use Rattle.machine_rules.proofs.Keeps.{all-stay, written-stay, all-joined-still, rule-kept, begins-kept, writes-kept}
+use Rattle.machine_rules.proofs.Lists.{all-snoc, all-weaken}
+use Rattle.machine_rules.proofs.Keeps.{all-stay, written-stay, all-joined-still, rule-kept, begins-kept, writes-kept, joined-by}
+use Rattle.qt_runtime.proofs.Homes.{housed-more, housed-loop, waiting-loop, home-there, home-moved}
+use Rattle.machine_rules.proofs.Soundness.{AllFit, Fair, rule-fair, begins-fair, writes-fair, all-wait-still}
+use Rattle.machine_rules.proofs.Waiting.{housed-same, home-change}
 
 -- ---- statements
 
@@ -116,39 +132,72 @@ module _ {p : Loaded} {s t : State} (sound : IsSound p) (well : IsWell p s t) wh
   as-is : {u : State} → t ≡ u → AllStand p u → AllStand p t
   as-is e lower = let Family : State → Type 0 = λ v. AllStand p v in subst Family (sym e) lower
 
+  -- connections are made and removed
+  linked-stands : (stack : List Activation) (ends : Endpoints) (how : ConnectionType) (names : Named (List ℕ)) (answer : Result (Unit {0}) Refusal) → AllByRecursion (Stands p s.objects) stack → AllStand p (linked s stack ends how names answer)
+  linked-stands stack ends how names (Ok _) all = all
+  linked-stands stack ends how names (Err k) all = all
+
+  unlinked-stands : (stack : List Activation) (ends : Endpoints) (names : Named (List ℕ)) (answer : Result (Unit {0}) Refusal) → AllByRecursion (Stands p s.objects) stack → AllStand p (unlinked s stack ends names answer)
+  unlinked-stands stack ends names (Ok _) all = all
+  unlinked-stands stack ends names (Err k) all = all
+
   -- what a statement does, over what stands
   does-stands : AreTyped p s.objects → (o m : ℕ) (arguments : List Value) (x : Statement) (rest : List Statement) (below : List Activation) (d : Doing) → BodyStands p s.objects o arguments (x ∷ rest) → doing s.objects o arguments (out-Statement x) ≡ Some d → AllByRecursion (Stands p s.objects) below → length s.stack ≡ suc (length below) → Does p s o m arguments rest below d t → AllStand p t
   does-stands typed o m arguments x rest below (Write y q new) body is lower high does = writes-stands does (body-rest body, lower)
   does-stands typed o m arguments x rest below (Begin y n given) body is lower high does = begins-stands does (omega (arith, high)) (body-rest body, lower)
   does-stands typed o m arguments x rest below (Choose block) body is lower high does =
       as-is does (body-with body (block ++ rest) (sound-append (possible sound typed body (Choose block) is) (sound-rest body.sound)), lower)
+  does-stands typed o m arguments x rest below (Link ends how) body is lower high does =
+      as-is does.gives (linked-stands (Body o m arguments rest ∷ below) (kept_ends ends) how (names_of does.kept) does.answer (body-rest body, lower))
+  does-stands typed o m arguments x rest below (Unlink ends) body is lower high does =
+      as-is does.gives (unlinked-stands (Body o m arguments rest ∷ below) (kept_ends ends) (names_of does.kept) does.answer (body-rest body, lower))
   does-stands typed o m arguments x rest below Nothing body is lower high does = as-is does (body-rest body, lower)
 
   body-stands : AreTyped p s.objects → (o m : ℕ) (arguments : List Value) (below : List Activation) (left : List Statement) → BodyStands p s.objects o arguments left → AllByRecursion (Stands p s.objects) below → length s.stack ≡ suc (length below) → BodyRule p s o m arguments below t left → AllStand p t
   body-stands typed o m arguments below [] body lower high r = as-is r lower
   body-stands typed o m arguments below (x ∷ rest) body lower high r = does-stands typed o m arguments x rest below r.what body r.is lower high r.does
 
+  -- a method begins, or a call of it is posted
+  arrives-stands : (u : State) (stack : List Activation) (home o : ℕ) (x : Object) (m : ℕ) (method : MetaMethod) (arguments : List Value) (b : Bool) → IsWell p u t → IsMember p u.objects o m x method → length u.stack < suc (length stack) → AllByRecursion (Stands p u.objects) stack → Arrives u stack home o x m method arguments t b → AllStand p t
+  arrives-stands u stack home o x m method arguments true now is higher lower r = begun-stands p u stack o x m method arguments method.work t sound is refl r higher now lower
+  arrives-stands u stack home o x m method arguments false now is higher lower r = as-is r.gives lower
+
   emission-stands : (o g : ℕ) (arguments : List Value) (last : ℕ) (below : List Activation) (found : Option Connection) → AllByRecursion (Stands p s.objects) below → length s.stack ≡ suc (length below) → EmitRule p s o g arguments last below t found → AllStand p t
   emission-stands o g arguments last below None lower high r = as-is r lower
   emission-stands o g arguments last below (Some c) lower high r =
-      begun-stands p s (Emit o g arguments c.number last ∷ below) c.receiver r.receiver c.method r.method (take (length r.method.kinds) arguments) r.method.work t sound r.is refl r.gives (omega (arith, high)) well (tt, lower)
+      let well_used : IsWell p (with_used s c) t = record { arguments = well.arguments; values = well.values } in
+      arrives-stands (with_used s c) (Emit o g arguments c.number last ∷ below) r.home c.receiver r.receiver c.method r.method (take (length r.method.kinds) arguments) (reaches_at_once c.kind r.home (running s.turn)) well_used r.is (omega (arith, high)) (tt, lower) r.arrives
 
   update-stands : (below : List Activation) (places : List Place) → AllByRecursion (PlaceStands p s.objects) places → AllByRecursion (Stands p s.objects) below → UpdateRule p s below t places → AllStand p t
   update-stands below [] there lower r = as-is r lower
   update-stands below (place ∷ places) there lower r = as-is r.gives (tt, (there.1, lower))
 
-  rule-stands : AreTyped p s.objects → (stack : List Activation) → AllByRecursion (Stands p s.objects) stack → length s.stack ≡ length stack → RuleAt p s t stack → AllStand p t
-  rule-stands typed [] all high r = absurd r
-  rule-stands typed (Body o m arguments left ∷ below) all high r = body-stands typed o m arguments below left all.0 all.1 high r
-  rule-stands typed (Emit o g arguments used last ∷ below) all high r = emission-stands o g arguments last below (next_used s.objects s.connected.connections o g used last) all.1 high r
-  rule-stands typed (Update places ∷ below) all high r = update-stands below places all.0 all.1 r
+  -- an item is delivered, or a turn ends
+  delivers-stands : (turn : ATurn) (item : Item) → length s.stack ≡ 0 → Delivers p (record s { queues = taken_before turn.home turn.limit s.queues }) t item → AllStand p t
+  delivers-stands turn (Call o m arguments) low b =
+      begun-stands p (record s { queues = taken_before turn.home turn.limit s.queues }) [] o b.object m b.method arguments b.method.work t sound b.is refl b.gives (omega (arith, low)) (record { arguments = well.arguments; values = well.values }) tt
+  delivers-stands turn (Deletion o) low b = absurd b
+
+  turn-stands : (found : Option ATurn) → length s.stack ≡ 0 → AllStand p s → TurnRule p s t found → AllStand p t
+  turn-stands None low all r = absurd r
+  turn-stands (Some turn) low all r = by_first (find (is_before turn.limit) (items_at s.queues.loops turn.home)) r
+    where
+      by_first : (first : Option Posted) → Serves p s t turn first → AllStand p t
+      by_first None e = as-is e all
+      by_first (Some q) d = delivers-stands turn q.item low d
+
+  rule-stands : AreTyped p s.objects → (stack : List Activation) → AllStand p s → AllByRecursion (Stands p s.objects) stack → length s.stack ≡ length stack → RuleAt p s t stack → AllStand p t
+  rule-stands typed [] here all high r = turn-stands s.turn high here r
+  rule-stands typed (Body o m arguments left ∷ below) here all high r = body-stands typed o m arguments below left all.0 all.1 high r
+  rule-stands typed (Emit o g arguments used last ∷ below) here all high r = emission-stands o g arguments last below (next_used s.objects s.connected.connections o g used last) all.1 high r
+  rule-stands typed (Update places ∷ below) here all high r = update-stands below places all.0 all.1 r
 
   -- what is going on stands where the stack does
-  kept-invariant : Invariant p s → Keeps p s 1 t 0 → AllStand p t → Invariant p t
-  kept-invariant up kept stands = record { sound = record { typed = well.values; joined = kept.joined up.sound.joined }; stands = stands }
+  kept-invariant : Invariant p s → Keeps p s 1 t 0 → AllStand p t → Fair p t → Invariant p t
+  kept-invariant up kept stands fair = record { sound = record { typed = well.values; joined = kept.joined sound up.sound.joined; housed = kept.housed up.sound.housed; waiting = fair.waiting }; stands = stands; emitted = fair.emitted }
 
   rule-invariant : Invariant p s → Rule p s t → Invariant p t
-  rule-invariant up r = kept-invariant up (rule-kept p s t s.stack r) (rule-stands up.sound.typed s.stack up.stands refl r)
+  rule-invariant up r = kept-invariant up (rule-kept p s t s.stack r) (rule-stands up.sound.typed s.stack up.stands up.stands refl r) (rule-fair well up.sound.waiting s.stack up.sound.joined up.emitted up.emitted refl r)
 
 -- ---- events
 
@@ -156,15 +205,32 @@ module _ {p : Loaded} {s t : State} (sound : IsSound p) (well : IsWell p s t) wh
 none-stand : (p : Loaded) {s : State} (objects : List Object) → IsIdle s → AllByRecursion (Stands p objects) s.stack
 none-stand p objects idle = let Family : List Activation → Type 0 = λ l. AllByRecursion (Stands p objects) l in subst Family (sym idle.empty) tt
 
+none-fit : (p : Loaded) {s : State} (objects : List Object) → IsIdle s → AllFit p objects s.stack
+none-fit p objects idle = let Family : List Activation → Type 0 = λ l. AllFit p objects l in subst Family (sym idle.empty) tt
+
+-- objects change, the living ones stay of their classes, and each lives in a loop that is there
+changed-invariant : {p : Loaded} {s : State} (objects : List Object) → IsIdle s → Invariant p s → AreTyped p objects → StayThere s.objects objects → AreHoused objects s.queues.loops → Invariant p (record (accepted s) { objects = objects })
+changed-invariant {p} {s} objects idle up typed stay housed = record {
+  sound = record {
+    typed = typed;
+    joined = all-joined-still p s.objects objects s.connected.connections stay up.sound.joined;
+    housed = housed;
+    waiting = all-wait-still p s.objects objects s.queues.loops stay up.sound.waiting;
+  };
+  stands = none-stand p objects idle;
+  emitted = none-fit p objects idle;
+}
+
 -- an object is added
 created-stay : (objects : List Object) (x : Object) (l : Life) → x.life ≡ Some l → StayThere objects (objects ++ x ∷ [])
 created-stay objects x l alive = record { living = λ o class is. class-more objects x o class is; dead = λ o is. seen-appended objects x l o o alive ∙ is }
 
--- objects change, and the living ones stay of their classes
-changed-invariant : {p : Loaded} {s : State} (objects : List Object) → IsIdle s → Invariant p s → AreTyped p objects → StayThere s.objects objects → Invariant p (record (accepted s) { objects = objects })
-changed-invariant {p} {s} objects idle up typed stay = record {
-  sound = record { typed = typed; joined = all-joined-still p s.objects objects s.connected.connections stay up.sound.joined };
-  stands = none-stand p objects idle;
+-- an event loop is added
+loop-invariant : {p : Loaded} {s : State} (name : List ℕ) → Invariant p s → Invariant p (record (accepted s) { queues = with_loop name s.queues })
+loop-invariant {p} {s} name up = record {
+  sound = record { typed = up.sound.typed; joined = up.sound.joined; housed = housed-loop s.objects s.queues.loops name up.sound.housed; waiting = waiting-loop p s.objects s.queues.loops name up.sound.waiting };
+  stands = up.stands;
+  emitted = up.emitted;
 }
 
 -- .. where each of them shows the same
@@ -174,59 +240,79 @@ same-stay old new same = record { living = λ o class is. class-same old new o (
 adopted-stay : {a c : ℕ} {y : Life} {old new : List Object} → IsAdopted a c y old new → StayThere old new
 adopted-stay {a} {c} {old = old} is = adopted-by (λ (l : List Object). StayThere old l) (all-stay old) (same-stay old (moved a c old) (shape-moved a c old)) is
 
+-- .. and lives where it lived
+adopted-housed : {a c : ℕ} {y : Life} {old new : List Object} (loops : List ALoop) → IsAdopted a c y old new → AreHoused old loops → AreHoused new loops
+adopted-housed {a} {c} {old = old} loops is housed = housed-same old _ loops loops (adopted-by (λ (l : List Object). (o : ℕ) → home_of l o ≡ home_of old o) (λ o. refl) (home-moved a c old) is) refl housed
+
 -- a connection joins what it names
-connection-joined : {p : Loaded} {objects : List Object} (e : Connecting) (n : ℕ) (a b : Numbered Life) (g m : Numbered MetaMethod) → IsSound p → IsLiving objects e.sender a → IsLiving objects e.receiver b → IsSignalOf p a.it.class e.signal g → IsMethodOf p b.it.class e.method m → Fits e.signal e.method →
-    Joined p objects (record { number = n; sender = a.number; signal = named_signal g.number; receiver = b.number; method = m.number; kind = e.kind; single = false })
-connection-joined e n a b g m sound sender receiver signal method fits =
+connection-joined : {p : Loaded} {objects : List Object} (e : Named (List ℕ)) (how : ConnectionType) (n : ℕ) (f : FoundEnds) → IsSound p → find_ends p objects e (Ok f) → Fits e.signal e.method →
+    Joined p objects (record { number = n; sender = f.ends.sender; signal = f.ends.signal; receiver = f.ends.receiver; method = f.ends.method; kind = how.kind; single = how.single })
+connection-joined {p} {objects} e how n f sound (goes_on a sender (goes_on b receiver (goes_on g (finds signal) (goes_on m (finds method) given)))) fits =
     let Signal_types : Sig → Type 0 = λ t. Fits t e.method in
     let Method_types : Sig → Type 0 = λ t. Fits g.it.sig t in
-    let front = kinds-fit sound signal.of.is method.is (subst Method_types (sym method.signed) (subst Signal_types (sym signal.of.signed) fits)) in
-    let from = living-object a sender in
-    let to = living-object b receiver in
-    record {
+    let from = living-object a (living-is sender) in
+    let to = living-object b (living-is receiver) in
+    let ends : Endpoints = record { sender = a.number; signal = g.number; receiver = b.number; method = m.number } in
+    let spelled : AreThere p objects ends = record {
       sender = from.0;
-      signal = front.0;
-      sends = record { life = a.it; lives = from.1; is_method = front.1 };
+      signal = g.it;
+      sends = record { life = a.it; lives = from.1; is_method = signal.of.is };
       receiver = to.0;
       method = m.it;
       receives = record { life = b.it; lives = to.1; is_method = method.is };
-      rest = front.2.0;
-      fits = front.2.1;
-    }
-
--- a connection is made
-connected-invariant : {p : Loaded} {s t : State} {ends : Endpoints} → Gives (with_connection (accepted s) ends) (Ok t) → Invariant p s → IsWell p s t → Joined p s.objects (record { number = s.connected.last + 1; sender = ends.sender; signal = ends.signal; receiver = ends.receiver; method = ends.method; kind = ends.kind; single = false }) → Invariant p t
-connected-invariant {p} {s} just up well joined = record {
-  sound = record { typed = well.values; joined = all-snoc (Joined p s.objects) s.connected.connections _ up.sound.joined joined };
-  stands = up.stands;
-}
+    } in
+    let Joins : FoundEnds → Type 0 = λ k. Joined p objects (record { number = n; sender = k.ends.sender; signal = k.ends.signal; receiver = k.ends.receiver; method = k.ends.method; kind = how.kind; single = how.single }) in
+    subst Joins (sym (given-is given)) (joined-by how n spelled sound (subst Method_types (sym method.signed) (subst Signal_types (sym signal.of.signed) fits)))
 
 -- the state in which an event is taken
 accepted-invariant : {p : Loaded} {s : State} → Invariant p s → Invariant p (accepted s)
-accepted-invariant up = record { sound = record { typed = up.sound.typed; joined = up.sound.joined }; stands = up.stands }
+accepted-invariant up = record { sound = record { typed = up.sound.typed; joined = up.sound.joined; housed = up.sound.housed; waiting = up.sound.waiting }; stands = up.stands; emitted = up.emitted }
 
 accepted-well : {p : Loaded} {s t : State} → IsWell p s t → IsWell p (accepted s) t
 accepted-well well = record { arguments = well.arguments; values = well.values }
 
 invoked-invariant : {p : Loaded} {s t : State} (a : Invocation) (name called : List ℕ) (inputs : List Input) → IsSound p → Invariant p s → IsWell p s t → invoke p s a name called inputs (Ok t) → Invariant p t
 invoked-invariant {p} {s} a name called inputs sound up well (goes_on _ o (goes_on _ m (goes_on _ vs (goes_on _ fit (becomes begins))))) =
-    kept-invariant sound (accepted-well well) (accepted-invariant up) (begins-kept begins) (begins-stands sound (accepted-well well) begins (omega arith) up.stands)
+    kept-invariant sound (accepted-well well) (accepted-invariant up) (begins-kept begins) (begins-stands sound (accepted-well well) begins (omega arith) up.stands) (begins-fair (accepted-well well) up.sound.waiting begins (omega arith) up.emitted)
 
 blocked-invariant : {p : Loaded} {s t : State} (name : List ℕ) (on : Bool) → IsIdle s → Invariant p s → IsWell p s t → block s name on (Ok t) → Invariant p t
 blocked-invariant {p} {s} name on idle up well (goes_on o lives just) =
     changed-invariant (change_life o.number (blocked on) s.objects) idle up well.values (same-stay s.objects _ (shape-change o.number (blocked on) s.objects (λ l. refl)))
+    (housed-same s.objects _ s.queues.loops s.queues.loops (home-change o.number (blocked on) s.objects (λ l. refl)) refl up.sound.housed)
 
 judged-invariant : {p : Loaded} {s t : State} (e : Event) → IsSound p → IsIdle s → Invariant p s → judged p s e (Ok t) → IsWell p s t → Invariant p t
-judged-invariant (New name class) sound idle up (goes_on _ free (goes_on c is (goes_on _ room just))) well =
-    changed-invariant _ idle up well.values (created-stay _ (fresh name c.number main (initial_values c.it)) (begun_life c.number main (initial_values c.it)) refl)
+judged-invariant (Loop name) sound idle up (goes_on _ free just) well = loop-invariant name up
+judged-invariant (Turn name) sound idle up (goes_on home is just) well = record { sound = record { typed = up.sound.typed; joined = up.sound.joined; housed = up.sound.housed; waiting = up.sound.waiting }; stands = up.stands; emitted = up.emitted }
+judged-invariant {s = s} (New name class loop) sound idle up (goes_on _ free (goes_on c is (goes_on home (finds lives) (goes_on _ room just)))) well =
+    let x : Object = fresh name c.number home (initial_values c.it) in
+    let l : Life = begun_life c.number home (initial_values c.it) in
+    changed-invariant _ idle up well.values (created-stay _ x l refl)
+    (housed-more s.objects x l s.queues.loops refl up.sound.housed (home-there s.queues.loops home loop up.sound.housed.has_main lives))
 judged-invariant {p} {s} (Adopt parent child) sound idle up (goes_on _ a (goes_on _ c (goes_on _ owns (goes_on _ over (goes_on _ home (becomes x)))))) well =
     let Family : State → Type 0 = λ u. Invariant p u in
     let Typed : State → Type 0 = λ u. AreTyped p u.objects in
-    subst Family (sym x.gives) (changed-invariant x.objects idle up (subst Typed x.gives well.values) (adopted-stay x.is))
-judged-invariant {p} {s} (Connect e) sound idle up (goes_on a sender (goes_on b receiver (goes_on g (finds signal) (goes_on m (finds method) (goes_on _ kind (goes_on _ covers (goes_on _ (so fits) given))))))) well =
-    connected-invariant given up well (connection-joined e (s.connected.last + 1) a b g m sound (living-is sender) (living-is receiver) signal method fits)
+    subst Family (sym x.gives) (changed-invariant x.objects idle up (subst Typed x.gives well.values) (adopted-stay x.is) (adopted-housed s.queues.loops x.is up.sound.housed))
+judged-invariant {p} {s} (Connect e how) sound idle up (goes_on f named (goes_on _ (goes_on _ covers (goes_on _ (so fits) new)) given)) well =
+    let Family : State → Type 0 = λ u. Invariant p u in
+    subst Family (sym (given-is given)) (record {
+      sound = record {
+        typed = up.sound.typed;
+        joined = all-snoc (Joined p s.objects) s.connected.connections _ up.sound.joined (connection-joined e how (s.connected.last + 1) f sound named fits);
+        housed = up.sound.housed;
+        waiting = up.sound.waiting;
+      };
+      stands = up.stands;
+      emitted = up.emitted;
+    })
+judged-invariant {p} {s} (Disconnect e) sound idle up (goes_on f named (goes_on _ is given)) well =
+    let Family : State → Type 0 = λ u. Invariant p u in
+    subst Family (sym (given-is given)) (record {
+      sound = record { typed = up.sound.typed; joined = all-removed (Joined p s.objects) (joins_these f.ends) s.connected up.sound.joined; housed = up.sound.housed; waiting = up.sound.waiting };
+      stands = up.stands;
+      emitted = up.emitted;
+    })
 judged-invariant {p} {s} (Set name property i) sound idle up (goes_on _ o (goes_on _ q (goes_on _ v (goes_on _ fits (becomes writes))))) well =
-    kept-invariant sound (accepted-well well) (accepted-invariant up) (writes-kept writes) (writes-stands sound (accepted-well well) writes up.stands)
+    kept-invariant sound (accepted-well well) (accepted-invariant up) (writes-kept writes) (writes-stands sound (accepted-well well) writes up.stands) (writes-fair (accepted-well well) up.sound.waiting writes up.emitted)
 judged-invariant (EmitEvent name signal inputs) sound idle up x well = invoked-invariant EmitIt name signal inputs sound up well x
 judged-invariant (CallEvent name slot inputs) sound idle up x well = invoked-invariant CallIt name slot inputs sound up well x
 judged-invariant (Block name) sound idle up x well = blocked-invariant name true idle up well x
@@ -234,7 +320,7 @@ judged-invariant (Unblock name) sound idle up x well = blocked-invariant name fa
 
 takes-invariant : {p : Loaded} {s t : State} {e : Event} → IsSound p → Invariant p s → Takes p e s t → IsWell p s t → Invariant p t
 takes-invariant {e = e} sound up (accepts idle x) well = judged-invariant e sound idle up x well
-takes-invariant sound up (refuses k idle x) well = record { sound = record { typed = up.sound.typed; joined = up.sound.joined }; stands = up.stands }
+takes-invariant sound up (refuses k idle x) well = record { sound = record { typed = up.sound.typed; joined = up.sound.joined; housed = up.sound.housed; waiting = up.sound.waiting }; stands = up.stands; emitted = up.emitted }
 
 -- every state that rules lead to stands
 rules-invariant : {p : Loaded} {d : ℕ} {s t : State} {n k : ℕ} → IsSound p → Rules p d s n t k → Invariant p s → Invariant p t

@@ -1,22 +1,40 @@
 -- What goes on in a run lacks a next rule only for want of a value.
-use Rattle.std.proofs.Common.{◌≡◌, ◌≢◌, ℕ, inl, inr, true, false, List, [], ◌∷◌, Option, Some, None, slice_get, refl, sym, subst}
+use Rattle.std.proofs.Common.{◌≡◌, ◌≢◌, ℕ, inl, inr, true, false, List, [], ◌∷◌, Option, Some, None, Result, Ok, Err, slice_get, refl, sym, subst, Bool, length, take, ap}
 use Rattle.std.specs.List.{AllByRecursion}
 use Rattle.signatures.specs.declared.value.Value.{Value}
 use Rattle.script_lang.specs.declared.event.Event.{Event}
 use Rattle.meta_model.specs.declared.object.ValueType.{ValueType}
+use Rattle.meta_model.specs.declared.object.MetaMethod.{MetaMethod}
 use Rattle.meta_model.specs.declared.object.MetaProperty.{MetaProperty}
 use Rattle.meta_model.specs.declared.object.Statement.{Statement}
 use Rattle.meta_model.specs.declared.object.Statement.TheViews.{out-Statement}
 use Rattle.meta_model.specs.Loaded.{Loaded}
 use Rattle.meta_model.specs.Members.{IsMethod}
+use Rattle.machine_state.specs.declared.endpoints.Endpoints.{Endpoints}
+use Rattle.machine_state.specs.declared.refusal.Refusal.{Refusal}
+use Rattle.texts.specs.declared.connection.ConnectionType.{ConnectionType}
+use Rattle.machine_rules.specs.Connecting.{AreThere}
+use Rattle.machine_rules.specs.Judgement.{Check, Then, holds, fails, goes_on as next_is, ends as ends_so}
+use Rattle.machine_rules.proofs.Linking.{kept-there}
 use Rattle.meta_model.specs.Sound.{IsSound}
 use Rattle.connections.specs.declared.connection.Connection.{Connection}
 use Rattle.machine_state.specs.declared.fault.Fault.{Fault}
 use Rattle.object_tree.specs.declared.object.Object.{Object}
 use Rattle.object_tree.specs.Seen.{seen}
 use Rattle.machine_state.specs.State.{State, IsIdle, Place, Activation, Body, Emit, Update}
-use Rattle.machine_rules.specs.Rules.{RuleAt, StatementRule, Does, EmitRule, UpdateRule, Begins, Writes, Changes, changed, unchanged, silent}
-use Rattle.machine_rules.specs.Doings.{Doing, Write, Begin, Choose, Nothing, doing}
+use Rattle.machine_rules.specs.Rules.{RuleAt, StatementRule, Does, EmitRule, UpdateRule, Begins, Writes, Changes, changed, unchanged, silent, Connects, Disconnects, TurnRule, Serves, Delivers, Arrives, with_used}
+use Rattle.machine_rules.specs.Doings.{Doing, Write, Begin, Choose, Connect, Disconnect, Nothing, doing}
+use Rattle.std.specs.List.{find}
+use Rattle.std.specs.Option.{option_map}
+use Rattle.event_loops.specs.declared.item.Item.{Item}
+use Rattle.event_loops.specs.declared.item.Item.TheVariants.{Call, Deletion}
+use Rattle.event_loops.specs.declared.item.Posted.{Posted}
+use Rattle.event_loops.specs.Queues.{HasName, items_at, is_before, taken_before}
+use Rattle.object_tree.specs.declared.life.Life.{Life}
+use Rattle.object_tree.proofs.Changing.{life-of-lives}
+use Rattle.machine_state.specs.Objects.{home_of}
+use Rattle.machine_state.specs.declared.turn.Turn.{Turn}
+use Rattle.machine_state.specs.Turns.{running, reaches_at_once}
 use Rattle.machine_state.specs.Connections.{next_used}
 use Rattle.machine_rules.specs.Runs.{IsStuck}
 use Rattle.machine_rules.proofs.Reaching.{reason-more}
@@ -27,7 +45,8 @@ use Rattle.machine_rules.proofs.Beginning.{next-joined}
 use Rattle.machine_rules.proofs.Fields.{old-there}
 use Rattle.qt_runtime.proofs.Possible.{IsPossible, possible}
 use Rattle.qt_runtime.proofs.Standing.{BodyStands, PlaceStands, Stands, Invariant}
-use Rattle.machine_rules.specs.Sound.{Joined}
+use Rattle.machine_rules.specs.Sound.{Joined, Waits}
+use Rattle.machine_rules.proofs.Waiting.{loop-named, first-waits}
 
 -- whether the value has changed or not, something may be notified
 notified-somehow : (old new : Value) (notify : Option ℕ) → ((signal : Option ℕ) → ¬ Changes old new notify signal) → ⊥
@@ -36,6 +55,22 @@ notified-somehow old new (Some signal) none =
     let differs : old ≢ new = λ same. none None (unchanged same) in
     none (Some signal) (changed differs)
 
+-- a judgement has some answer
+check-somehow : {k : Refusal} {Holds : Type 0} → ((r : Result (Unit {0}) Refusal) → ¬ Check k Holds r) → ⊥
+check-somehow {k} none = none (Err k) (fails (λ h. none (Ok tt) (holds h)))
+
+then-somehow : {X Y : Type 0} {First : Result X Refusal → Type 0} {Next : X → Result Y Refusal → Type 0} → (((r : Result X Refusal) → ¬ First r) → ⊥) → ((x : X) → ((r : Result Y Refusal) → ¬ Next x r) → ⊥) → ((r : Result Y Refusal) → ¬ Then First Next r) → ⊥
+then-somehow {X} {Y} {First} {Next} first next none = first by_answer
+  where
+    by_answer : (r : Result X Refusal) → ¬ First r
+    by_answer (Ok x) f = next x (λ q n. none q (next_is x f n))
+    by_answer (Err k) f = none (Err k) (ends_so f)
+
+-- a call begins, or is posted to a loop that is there
+arrives-somehow : (s : State) (stack : List Activation) (home o : ℕ) (x : Object) (m : ℕ) (method : MetaMethod) (given : List Value) (b : Bool) → (name : List ℕ) × HasName s.queues.loops name home → ((t : State) → ¬ Arrives s stack home o x m method given t b) → ⊥
+arrives-somehow s stack home o x m method given true named none = none _ refl
+arrives-somehow s stack home o x m method given false named none = none _ (record { name = named.0; is_loop = named.1; gives = refl })
+
 module _ {p : Loaded} {s : State} (sound : IsSound p) (up : Invariant p s) where
   -- a property that is there may be written
   no-write : {o q : ℕ} {x : Object} {property : MetaProperty} {new : Value} {below : List Activation} → IsField p s.objects o q x property → ((t : State) → ¬ Writes p s below o q new t) → ⊥
@@ -43,11 +78,22 @@ module _ {p : Loaded} {s : State} (sound : IsSound p) (up : Invariant p s) where
       let old = old-there field up.sound.typed in
       notified-somehow (seen s.objects old.0) (seen s.objects new) property.notify (λ signal changes. none _ (record { object = x; property = property; is = field; old = old.0; is_old = old.1; signal = signal; changes = changes; gives = refl }))
 
+  -- ends that are there may be connected, or that is refused
+  no-connect : {ends : Endpoints} {how : ConnectionType} {stack : List Activation} → AreThere p s.objects ends → ((t : State) → ¬ Connects p s stack ends how t) → ⊥
+  no-connect {how = how} spelled none =
+      then-somehow check-somehow (λ _. then-somehow check-somehow (λ _. check-somehow))
+      (λ answer judged. none _ (record { spelled = spelled; kept = kept-there spelled; answer = answer; judged = judged; gives = refl }))
+
+  no-disconnect : {ends : Endpoints} {stack : List Activation} → AreThere p s.objects ends → ((t : State) → ¬ Disconnects p s stack ends t) → ⊥
+  no-disconnect spelled none = check-somehow (λ answer judged. none _ (record { kept = kept-there spelled; answer = answer; judged = judged; gives = refl }))
+
   -- what is possible is done by some rule
   possible-goes : (o m : ℕ) (arguments : List Value) (rest : List Statement) (below : List Activation) (me : ℕ) (kinds : List ValueType) (d : Doing) → IsPossible p s.objects me kinds d → ((t : State) → ¬ Does p s o m arguments rest below d t) → ⊥
   possible-goes o m arguments rest below me kinds (Write x q new) may none = no-write {new = new} {below = Body o m arguments rest ∷ below} may.2 none
   possible-goes o m arguments rest below me kinds (Begin x n given) may none = none _ (record { object = may.0; method = may.1; is = may.2; gives = refl })
   possible-goes o m arguments rest below me kinds (Choose block) may none = none _ refl
+  possible-goes o m arguments rest below me kinds (Connect ends how) may none = no-connect may none
+  possible-goes o m arguments rest below me kinds (Disconnect ends) may none = no-disconnect may none
   possible-goes o m arguments rest below me kinds Nothing may none = none _ refl
 
   -- a statement that has no next rule lacks a value
@@ -63,7 +109,20 @@ module _ {p : Loaded} {s : State} (sound : IsSound p) (up : Invariant p s) where
   emission-goes o g arguments last below None delivers stuck = stuck _ refl
   emission-goes o g arguments last below (Some c) delivers stuck =
       let d = delivers c refl in
-      stuck _ (record { receiver = d.receiver; method = d.method; is = d.receives; gives = refl })
+      let home : ℕ = d.receives.life.home in
+      let lives : home_of s.objects c.receiver ≡ Some home = ap (λ (there : Option Life). option_map (λ (l : Life). l.home) there) (life-of-lives d.receives.lives) in
+      let named = loop-named s.queues.loops home (up.sound.housed.each c.receiver home lives) in
+      arrives-somehow (with_used s c) (Emit o g arguments c.number last ∷ below) home c.receiver d.receiver c.method d.method (take (length d.method.kinds) arguments) (reaches_at_once c.kind home (running s.turn)) named
+      (λ t r. stuck t (record { receiver = d.receiver; method = d.method; is = d.receives; home = home; lives_in = lives; arrives = r }))
+
+  -- .. and so has a turn
+  turn-goes : (turn : Turn) (first : Option Posted) → ((q : Posted) → first ≡ Some q → Waits p s.objects q.item) → ((t : State) → ¬ Serves p s t turn first) → ⊥
+  turn-goes turn None waits stuck = stuck _ refl
+  turn-goes turn (Some q) waits stuck = delivers q.item (waits q refl) stuck
+    where
+      delivers : (item : Item) → Waits p s.objects item → ((t : State) → ¬ Delivers p (record s { queues = taken_before turn.home turn.limit s.queues }) t item) → ⊥
+      delivers (Call o m arguments) fit none = none _ (record { object = fit.object; method = fit.method; is = fit.is; gives = refl })
+      delivers (Deletion o) fit none = fit
 
   -- .. and so has an update
   update-goes : (below : List Activation) (places : List Place) → AllByRecursion (PlaceStands p s.objects) places → ((t : State) → ¬ UpdateRule p s below t places) → ⊥
@@ -86,7 +145,11 @@ module _ {p : Loaded} {s : State} (sound : IsSound p) (up : Invariant p s) where
       })
 
   stack-lacks : (stack : List Activation) → s.stack ≡ stack → (¬ IsIdle s) → AllByRecursion (Stands p s.objects) stack → ((t : State) → ¬ RuleAt p s t stack) → LacksValue s
-  stack-lacks [] e goes_on all stuck = absurd (goes_on (record { empty = e }))
+  stack-lacks [] e goes_on all stuck = by_turn s.turn refl stuck
+    where
+      by_turn : (found : Option Turn) → s.turn ≡ found → ((t : State) → ¬ TurnRule p s t found) → LacksValue s
+      by_turn None none stays = absurd (goes_on (record { empty = e; no_turn = none }))
+      by_turn (Some turn) is stays = absurd (turn-goes turn (find (is_before turn.limit) (items_at s.queues.loops turn.home)) (λ q found. first-waits p s.objects s.queues.loops turn.home turn.limit q up.sound.waiting found) stays)
   stack-lacks (Body o m arguments [] ∷ below) e goes_on all stuck = absurd (stuck _ refl)
   stack-lacks (Body o m arguments (x ∷ rest) ∷ below) e goes_on all stuck =
       record { object = o; method = m; arguments = arguments; statement = x; rest = rest; below = below; is_next = e; lacks = statement-lacks o m arguments x rest below all.0 stuck }

@@ -14,10 +14,11 @@ use Rattle.object_tree.specs.Objects.{Lives}
 use Rattle.object_tree.specs.Typed.{ReadAs}
 use Rattle.machine_state.specs.State.{State, Place, Activation, Body, Emit, Update}
 use Rattle.machine_rules.specs.Keeps.{StayThere}
+use Rattle.machine_rules.proofs.Soundness.{AllFit}
 use Rattle.machine_rules.specs.Sound.{Sound}
 use Rattle.machine_rules.specs.There.{IsField}
 use Rattle.machine_rules.proofs.Keeps.{stays, values-stay}
-use Rattle.qt_runtime.proofs.Lists.{all-weaken}
+use Rattle.machine_rules.proofs.Lists.{all-weaken}
 
 -- ---- what stands
 
@@ -45,10 +46,11 @@ Stands p objects (Body o m arguments left) = BodyStands p objects o arguments le
 Stands p objects (Emit o g arguments used last) = Unit {0}
 Stands p objects (Update places) = AllByRecursion (PlaceStands p objects) places
 
--- the world is sound, and what is going on stands
+-- the world is sound, what is going on stands, and emissions have the arguments of their signals
 pub record Invariant (p : Loaded) (s : State) : Type 0 where
-  pub sound : Sound p s.objects s.connected.connections
+  pub sound : Sound p s.objects s.connected.connections s.queues.loops
   pub stands : AllByRecursion (Stands p s.objects) s.stack
+  pub emitted : AllFit p s.objects s.stack
 
 -- ---- it stands as long as the objects are those that they were
 

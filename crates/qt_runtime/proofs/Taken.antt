@@ -1,5 +1,5 @@
 -- What the taking of an event comes to.
-use Rattle.std.proofs.Common.{◌≡◌, ℕ, suc, ◌-◌, ◌<◌, ◌≤◌, [], ◌∷◌, Result, Ok, Err, MatchResult, refl, sym, ◌∙◌, subst, arith}
+use Rattle.std.proofs.Common.{◌≡◌, ℕ, suc, ◌-◌, ◌<◌, ◌≤◌, [], ◌∷◌, Option, None, Result, Ok, Err, OnOk, MatchResult, refl, sym, ◌∙◌, subst, arith}
 use Rattle.std.specs.Result.{IsErrAnd}
 use Rattle.script_lang.specs.declared.event.Event.{Event}
 use Rattle.meta_model.specs.Loaded.{Loaded}
@@ -23,6 +23,7 @@ use Rattle.qt_runtime.specs.Judgement as not_accepted
 use Rattle.qt_runtime.specs.Runs.{Runs, RunsWhole, done, rules, takes, is_next}
 use Rattle.qt_runtime.specs.Takes.{judged, Takes, accepts, refuses}
 use Rattle.qt_runtime.specs.Taking.{Halted, IsAccepted, Answered, Took, IsRefused}
+use Rattle.machine_rules.proofs.Keeps.{rules-kept}
 use Rattle.qt_runtime.proofs.Running.{reason-of}
 
 -- an event is taken, and rules follow
@@ -40,26 +41,34 @@ good-quiet w v typed = record { well = record { arguments = λ more. absurd (ome
 pub good-pushed : {p : Loaded} {d : ℕ} {top : Activation} (w v : World) → AreTyped p v.objects → TopFits p v.objects (top ∷ []) → 1 ≤ d → IsGood p d (at w []) (at v (top ∷ []))
 good-pushed w v typed fit room = record { well = record { arguments = λ more. fit; values = typed }; shallow = omega (arith, room) }
 
--- nothing is going on where no activation is
-pub idle : (w : World) → IsIdle (at w [])
-idle w = record { empty = refl }
+-- nothing is going on where no activation is and no turn goes on
+pub idle : (w : World) → w.turn ≡ None → IsIdle (at w [])
+idle w none = record { empty = refl; no_turn = none }
+
+-- a rule is left, and no turn goes on
+pub record Ready (w : World) : Type 0 where
+  pub some : 0 < w.left
+  pub no_turn : w.turn ≡ None
+
+pub ready : {w : World} → 0 < w.left → w.turn ≡ None → Ready w
+ready some none = record { some = some; no_turn = none }
 
 -- memory was refused before anything changed
-pub halted-short : {p : Loaded} {d : ℕ} {w : World} (e : Event) → 0 < w.left → Halted p d w e w Memory
-halted-short {w = w} e some = record { stack = []; front = record { taken = []; rest = e ∷ []; split = refl; runs = done }; reason = (some, is_next (idle w)) }
+pub halted-short : {p : Loaded} {d : ℕ} {w : World} (e : Event) → Ready w → Halted p d w e w Memory
+halted-short {w = w} e some = record { stack = []; front = record { taken = []; rest = e ∷ []; split = refl; runs = done }; reason = (some.some, is_next (idle w some.no_turn)) }
 
 -- no rule is left for the event
-pub halted-spent : {p : Loaded} {d : ℕ} {w : World} (e : Event) → w.left ≡ 0 → Halted p d w e w Steps
-halted-spent {w = w} e none = record { stack = []; front = record { taken = []; rest = e ∷ []; split = refl; runs = done }; reason = (none, is_next (idle w)) }
+pub halted-spent : {p : Loaded} {d : ℕ} {w : World} (e : Event) → w.left ≡ 0 → w.turn ≡ None → Halted p d w e w Steps
+halted-spent {w = w} e none no_turn = record { stack = []; front = record { taken = []; rest = e ∷ []; split = refl; runs = done }; reason = (none, is_next (idle w no_turn)) }
 
-pub took-unchanged : {p : Loaded} {d : ℕ} {w v : World} {f : Fault} (e : Event) (r : Result Answer Fault) → 0 < w.left → (f ≡ Memory) × (v ≡ w) → IsErrAnd r (λ y. y ≡ f) → Took p d w e v r
+pub took-unchanged : {p : Loaded} {d : ℕ} {w v : World} {f : Fault} (e : Event) (r : Result Answer Fault) → Ready w → (f ≡ Memory) × (v ≡ w) → IsErrAnd r (λ y. y ≡ f) → Took p d w e v r
 took-unchanged e (Ok a) some same is = absurd is
 took-unchanged {p} {d} {w} {v} {f} e (Err y) some same is =
     let Family : World → Type 0 = λ u. Halted p d w e u y in
     let Named : Fault → Type 0 = λ g. Halted p d w e w g in
     record { cases = subst Family (sym same.1) (subst Named (sym (is ∙ same.0)) (halted-short e some)) }
 
-pub took-short : {p : Loaded} {d : ℕ} {w : World} (e : Event) (r : Result Answer Fault) → 0 < w.left → IsErrAnd r (λ y. y ≡ Memory) → Took p d w e w r
+pub took-short : {p : Loaded} {d : ℕ} {w : World} (e : Event) (r : Result Answer Fault) → Ready w → IsErrAnd r (λ y. y ≡ Memory) → Took p d w e w r
 took-short e r some is = took-unchanged e r some (refl, refl) is
 
 -- the run stopped, behind a `?`
@@ -72,23 +81,23 @@ pub took-halted : {p : Loaded} {d : ℕ} {w v : World} {f : Fault} (e : Event) (
 took-halted {p} {d} {w} {v} e r halted same is = subst (λ (u : World). Took p d w e u r) (sym same) (took-stopped e r halted is)
 
 -- the event is refused
-pub took-refused : {p : Loaded} {d : ℕ} {w v : World} (k : Refusal) (e : Event) (r : Result Answer Fault) → AreTyped p w.objects → judged p (at w []) e (Err k) → 0 < w.left → Refuses w k v r → Took p d w e v r
+pub took-refused : {p : Loaded} {d : ℕ} {w v : World} (k : Refusal) (e : Event) (r : Result Answer Fault) → AreTyped p w.objects → judged p (at w []) e (Err k) → Ready w → Refuses w k v r → Took p d w e v r
 took-refused {p} {d} {w} {v} k e (Ok a) typed judged some x =
     let target : World = after w (refused (at w []) k) in
     let Family : World → Type 0 = λ u. RunsWhole p d (at w []) w.left (e ∷ []) (at u []) u.left in
     let Answer_is : Answer → Type 0 = λ b. Answered p w e v b in
-    let taken : RunsWhole p d (at w []) w.left (e ∷ []) (at target []) target.left = record { runs = runs-taken e (refuses k (idle w) judged) (good-quiet w target typed) some (omega arith) of_rules.done; ends = idle target } in
+    let taken : RunsWhole p d (at w []) w.left (e ∷ []) (at target []) target.left = record { runs = runs-taken e (refuses k (idle w some.no_turn) judged) (good-quiet w target typed) some.some (omega arith) of_rules.done; ends = idle target some.no_turn } in
     record { cases = (subst Family (sym x.1) taken, subst Answer_is (sym x.0) (record { refusal = k; numbered = refl; why = judged; line = x.1 })) }
 took-refused k e (Err f) typed judged some x = took-unchanged e (Err f) some x refl
 
 -- .. from a world in which nothing had changed
-pub took-refused-from : {p : Loaded} {d : ℕ} {w u v : World} (k : Refusal) (e : Event) (r : Result Answer Fault) → AreTyped p w.objects → judged p (at w []) e (Err k) → 0 < w.left → u ≡ w → Refuses u k v r → Took p d w e v r
+pub took-refused-from : {p : Loaded} {d : ℕ} {w u v : World} (k : Refusal) (e : Event) (r : Result Answer Fault) → AreTyped p w.objects → judged p (at w []) e (Err k) → Ready w → u ≡ w → Refuses u k v r → Took p d w e v r
 took-refused-from {v = v} k e r typed judged some same x =
     let From : World → Type 0 = λ z. Refuses z k v r in
     took-refused k e r typed judged some (subst From same x)
 
 -- the event isn't accepted
-pub took-not-accepted : {p : Loaded} {d : ℕ} {w v : World} {n : NotAccepted} (e : Event) (r : Result Answer Fault) → AreTyped p w.objects → IsNotAccepted (judged p (at w []) e) n → 0 < w.left → IsRefused w n v r → Took p d w e v r
+pub took-not-accepted : {p : Loaded} {d : ℕ} {w v : World} {n : NotAccepted} (e : Event) (r : Result Answer Fault) → AreTyped p w.objects → IsNotAccepted (judged p (at w []) e) n → Ready w → IsRefused w n v r → Took p d w e v r
 took-not-accepted e r typed (not_accepted.refused {k = k} not) some x = took-refused k e r typed not some x
 took-not-accepted {p} {d} {w} e r typed not_accepted.short some x =
     let Answers : Result Answer Fault → Type 0 = λ a. Took p d w e w a in
@@ -96,18 +105,25 @@ took-not-accepted {p} {d} {w} e r typed not_accepted.short some x =
     subst In (sym x.1) (subst Answers (sym x.0) (record { cases = halted-short e some }))
 
 -- the event is accepted, and nothing is going on after it
-pub took-quiet : {p : Loaded} {d : ℕ} {w v : World} (t : State) (e : Event) → judged p (at w []) e (Ok t) → at (after w t) [] ≡ t → AreTyped p t.objects → 0 < w.left → v ≡ after w t → Took p d w e v (Ok answer.Done)
-took-quiet {p} {d} {w} {v} t e judged empty typed some is =
+pub took-quiet : {p : Loaded} {d : ℕ} {w v : World} (t : State) (e : Event) → judged p (at w []) e (Ok t) → at (after w t) [] ≡ t → AreTyped p t.objects → Ready w → t.turn ≡ None → v ≡ after w t → Took p d w e v (Ok answer.Done)
+took-quiet {p} {d} {w} {v} t e judged empty typed some no_turn is =
     let Family : World → Type 0 = λ u. RunsWhole p d (at w []) w.left (e ∷ []) (at u []) u.left in
     let Leads : State → Type 0 = λ u. Takes p e (at w []) u in
     let quiet : World = after w t in
-    let taken : RunsWhole p d (at w []) w.left (e ∷ []) (at quiet []) quiet.left = record { ends = idle quiet; runs = runs-taken e (subst Leads (sym empty) (accepts (idle w) judged)) (good-quiet w (after w t) typed) some (omega arith) of_rules.done } in
+    let taken : RunsWhole p d (at w []) w.left (e ∷ []) (at quiet []) quiet.left = record { ends = idle quiet no_turn; runs = runs-taken e (subst Leads (sym empty) (accepts (idle w some.no_turn) judged)) (good-quiet w (after w t) typed) some.some (omega arith) of_rules.done } in
     record { cases = (subst Family (sym is) taken, record { effect = t; why = judged }) }
 
 -- ---- what an event pushes runs to its end, or stops on the way
 
-pub took-run : {p : Loaded} {d : ℕ} {w m v : World} {top : Activation} {r : Result (Unit {0}) Fault} (e : Event) → Takes p e (at w []) (at m (top ∷ [])) → IsGood p d (at w []) (at m (top ∷ [])) → IsAccepted p w e → 0 < w.left → m.left ≡ w.left - 1 → Ends p d [] m (top ∷ []) v [] r → MatchResult r (λ _. Took p d w e v (Ok answer.Done)) (λ f. Halted p d w e v f)
-took-run {v = v} {r = Ok _} e x good pass some less ends = record { cases = (record { runs = runs-taken e x good some less (ends.cases.runs [] refl); ends = idle v }, pass) }
-took-run {p = p} {d = d} {v = v} {r = Err f} e x good pass some less ends =
+pub took-run : {p : Loaded} {d : ℕ} {w m v : World} {top : Activation} {r : Result (Unit {0}) Fault} (e : Event) → Takes p e (at w []) (at m (top ∷ [])) → IsGood p d (at w []) (at m (top ∷ [])) → IsAccepted p w e → 0 < w.left → m.left ≡ w.left - 1 → m.turn ≡ None → Ends p d [] m (top ∷ []) v [] r → MatchResult r (λ _. Took p d w e v (Ok answer.Done)) (λ f. Halted p d w e v f)
+took-run {v = v} {r = Ok _} e x good pass some less none ends = record { cases = (record { runs = runs-taken e x good some less (ends.cases.runs [] refl); ends = idle v ((rules-kept (ends.cases.runs [] refl)).no_turn none) }, pass) }
+took-run {p = p} {d = d} {v = v} {r = Err f} e x good pass some less none ends =
+    let q = ends.cases.stops [] refl in
+    record { stack = q.0; front = record { taken = e ∷ []; rest = []; split = refl; runs = runs-taken e x good some less q.1 }; reason = reason-of p d (at v q.0) v.left [] f q.2 }
+
+-- a turn runs to its end, or stops on the way
+pub took-turn : {p : Loaded} {d : ℕ} {w m v : World} {r : Result (Unit {0}) Fault} (e : Event) → Takes p e (at w []) (at m []) → IsGood p d (at w []) (at m []) → IsAccepted p w e → 0 < w.left → m.left ≡ w.left - 1 → Ends p d [] m [] v [] r → OnOk r (v.turn ≡ None) → MatchResult r (λ _. Took p d w e v (Ok answer.Done)) (λ f. Halted p d w e v f)
+took-turn {v = v} {r = Ok _} e x good pass some less ends over = record { cases = (record { runs = runs-taken e x good some less (ends.cases.runs [] refl); ends = idle v over }, pass) }
+took-turn {p = p} {d = d} {v = v} {r = Err f} e x good pass some less ends over =
     let q = ends.cases.stops [] refl in
     record { stack = q.0; front = record { taken = e ∷ []; rest = []; split = refl; runs = runs-taken e x good some less q.1 }; reason = reason-of p d (at v q.0) v.left [] f q.2 }

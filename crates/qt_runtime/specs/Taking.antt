@@ -1,5 +1,5 @@
 -- What the machine's code does with an event (docs/machine.md, "Events").
-use Rattle.std.specs.Prelude.{◌≡◌, ℕ, ◌+◌, ◌<◌, ◌^◌, Bool, true, false, List, [], ◌∷◌, Result, Ok, Err}
+use Rattle.std.specs.Prelude.{◌≡◌, ℕ, ◌+◌, ◌<◌, ◌^◌, Bool, true, false, List, [], ◌∷◌, Option, None, Result, Ok, Err}
 use Rattle.signatures.specs.declared.value.Value.{Value}
 use Rattle.meta_model.specs.declared.object.MetaProperty.{MetaProperty}
 use Rattle.meta_model.specs.Loaded.{Loaded}
@@ -9,7 +9,8 @@ use Rattle.object_tree.specs.declared.fault.CreateFault.{CreateFault}
 use Rattle.object_tree.specs.declared.fault.CreateFault.TheVariants as create
 use Rattle.object_tree.specs.declared.object.Object.{Object}
 use Rattle.object_tree.specs.Typed.{ReadsAs}
-use Rattle.script_lang.specs.declared.event.Connect.{Connect as Connecting}
+use Rattle.texts.specs.declared.connection.ConnectionType.{ConnectionType}
+use Rattle.texts.specs.declared.connection.Endpoints.{Endpoints as Named}
 use Rattle.script_lang.specs.declared.event.Event.{Event}
 use Rattle.script_lang.specs.declared.event.Event.TheVariants as event
 use Rattle.script_lang.specs.declared.event.Input.{Input}
@@ -24,11 +25,11 @@ use Rattle.machine_state.specs.declared.world.World.{World}
 use Rattle.machine_state.specs.Accepting.{accepted, refused}
 use Rattle.machine_state.specs.Refusals.{refusal_number}
 use Rattle.machine_state.specs.State.{State, Activation}
-use Rattle.machine_state.specs.Worlds.{at, after, with_connection, Refuses}
+use Rattle.machine_state.specs.Worlds.{at, after, with_connection, without_connections, Refuses}
 use Rattle.machine_rules.specs.declared.setting.Setting.{Setting}
 use Rattle.machine_rules.specs.There.{IsField}
 use Rattle.machine_rules.specs.Rules.{Begins, Writes}
-use Rattle.machine_rules.specs.Sound.{Sound}
+use Rattle.machine_rules.specs.Sound.{IsSoundWorld}
 use Rattle.qt_runtime.specs.declared.events.invoke.Invocation.{Invocation}
 use Rattle.qt_runtime.specs.declared.events.invoke.Invocation.TheVariants.{Emit, Call}
 use Rattle.qt_runtime.specs.declared.judgement.NotAccepted.{NotAccepted}
@@ -36,10 +37,11 @@ use Rattle.qt_runtime.specs.declared.judgement.NotAccepted.TheVariants as reason
 use Rattle.qt_runtime.specs.Runs.{RunsWhole, RunsFront, RunStops}
 use Rattle.qt_runtime.specs.Takes.{judged}
 use Rattle.qt_runtime.specs.events.Connect.{connect}
+use Rattle.qt_runtime.specs.events.Disconnect.{disconnect}
 
--- what every machine's world keeps: its parts fit together, and no count is near its limit
+-- what every machine's world keeps: the program is sound, its parts fit together, and no count is near its limit
 pub record WorldInvariant (p : Loaded) (w : World) : Type 0 where
-  pub sound : Sound p w.objects w.connected.connections
+  pub sound : IsSoundWorld p w
   pub events : w.events + w.left < 2 ^ 63
   pub connected : w.connected.last + w.left < 2 ^ 63
 
@@ -106,8 +108,12 @@ pub record WritesTo (p : Loaded) (w : World) (o q : ℕ) (value : Value) (e : Ev
   pub effect : (t : State) → Writes p (accepted (at w [])) [] o q value t → judged p (at w []) e (Ok t)
 
 -- .. that the objects and methods of these numbers are connected
-abbrev pub ConnectsThese : Loaded → World → Connecting → Endpoints → Type 0
-ConnectsThese p w c ends = connect p (at w []) c (Ok (with_connection (accepted (at w [])) ends))
+abbrev pub ConnectsThese : Loaded → World → Named (List ℕ) → ConnectionType → Endpoints → Type 0
+ConnectsThese p w e how ends = connect p (at w []) e how (Ok (with_connection (accepted (at w [])) ends how))
+
+-- .. that they aren't connected any more
+abbrev pub DisconnectsThese : Loaded → World → Named (List ℕ) → Endpoints → Type 0
+DisconnectsThese p w e ends = disconnect p (at w []) e (Ok (without_connections (accepted (at w [])) ends))
 
 -- the value is of the type of an object's property
 pub record ValueFits (p : Loaded) (objects : List Object) (o q : ℕ) (v : Value) : Type 0 where
@@ -127,6 +133,8 @@ blocking true name = event.Block name
 blocking false name = event.Unblock name
 
 -- what every machine keeps
-pub record MachineInvariant (p : Loaded) (depth : ℕ) (w : World) : Type 0 where
+pub record MachineInvariant (p : Loaded) (depth : ℕ) (w : World) (stopped : Bool) : Type 0 where
   pub room : 0 < depth
   pub keeps : WorldInvariant p w
+  -- unless it has stopped, no turn goes on
+  pub idle : stopped ≡ false → w.turn ≡ None

@@ -1,8 +1,12 @@
 -- One file an event: what it asks for, in its order, and what it does (docs/machine.md, "Events").
 pub mod Named
+pub mod Add
+pub mod Turn
 pub mod Create
 pub mod Adopt
+pub mod Ends
 pub mod Connect
+pub mod Disconnect
 pub mod Values
 pub mod Assign
 pub mod Invoke

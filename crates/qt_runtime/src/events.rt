@@ -1,10 +1,14 @@
 //! One module an event: how it is judged, and what it does.
 
+pub mod add;
 pub mod adopt;
 pub mod assign;
 pub mod block;
 pub mod connect;
 pub mod create;
+pub mod disconnect;
+pub mod ends;
 pub mod invoke;
 pub mod named;
+pub mod turn;
 pub mod values;

@@ -1,4 +1,4 @@
-ghost use Rattle.std.specs.Prelude.{◌≡◌, ◌<◌, ◌≤◌, ◌^◌, ◌∷◌, [], IfOk, IfErr};
+ghost use Rattle.std.specs.Prelude.{◌≡◌, ◌<◌, ◌≤◌, ◌^◌, ◌∷◌, [], IfOk, IfErr, false, None};
 ghost use Rattle.qt_runtime.specs.Seen.{OnDone, OnRefused, Accepts, Refuses, Stops, RunsAll, begun};
 
 use crate::taking::take_event;
@@ -34,7 +34,7 @@ impl Model for Machine {
       stopped = m.stopped;
     } };
 
-    ghost invariant = { λ m. MachineInvariant m.setting.meta m.setting.depth m.world };
+    ghost invariant = { λ m. MachineInvariant m.setting.meta m.setting.depth m.world m.stopped };
 }
 
 impl Machine {
@@ -51,9 +51,12 @@ impl Machine {
         requires steps { (1 ≤ steps) × (steps < 2 ^ 63) }
         ensures { IfOk result (λ machine. machine ≡ begun meta depth steps) }
     {
+        // The contract of `classes` says that the numbers in bodies are those of members.
+        let _ = meta.classes();
+        let world = World::new(alloc, steps)?;
         Ok(Machine {
             setting: Setting::new(alloc, meta, natives, depth),
-            world: World::new(alloc, steps),
+            world,
             stopped: false,
         })
     }
@@ -92,9 +95,10 @@ impl Machine {
         Ok(())
     }
 
-    /// Whether a fault has stopped the machine.
+    /// Whether a fault has stopped the machine. Unless one has, no turn goes on.
     fn is_stopped(&self) -> bool
-        ensures { result ≡ self.now.stopped }
+        ensures value { result ≡ self.now.stopped }
+        ensures idle { result ≡ false → self.now.world.turn ≡ None }
     {
         self.stopped
     }

@@ -1,14 +1,17 @@
 //! The taking of events.
 
-ghost use Rattle.std.specs.Prelude.{◌<◌};
+ghost use Rattle.std.specs.Prelude.{◌<◌, ◌≡◌, None};
 ghost use Rattle.qt_runtime.specs.Taking.{WorldInvariant, Answers};
 
+use crate::events::add::add;
 use crate::events::adopt::adopt;
 use crate::events::assign::assign;
 use crate::events::block::block;
 use crate::events::connect::connect;
 use crate::events::create::create;
+use crate::events::disconnect::disconnect;
 use crate::events::invoke::{Invocation, invoke};
+use crate::events::turn::turn;
 use machine_rules::Setting;
 use machine_state::{Answer, Fault, World};
 use script_lang::Event;
@@ -16,6 +19,7 @@ use script_lang::Event;
 /// Takes an event, and runs until nothing is going on.
 pub fn take_event(setting: &Setting, world: &mut World, event: &Event) -> Result<Answer, Fault>
     requires depth { 0 < setting.now.depth }
+    requires idle { world.old.turn ≡ None }
     requires keeps { WorldInvariant setting.now.meta world.old }
     ensures { Answers setting.now event.now world.old world.new result }
 {
@@ -23,9 +27,12 @@ pub fn take_event(setting: &Setting, world: &mut World, event: &Event) -> Result
         return Err(Fault::Steps);
     }
     match event {
-        Event::New(name, class) => create(setting, world, name, class),
+        Event::Loop(name) => add(setting, world, name),
+        Event::Turn(name) => turn(setting, world, name),
+        Event::New(name, class, home) => create(setting, world, name, class, home),
         Event::Adopt(parent, child) => adopt(setting, world, parent, child),
-        Event::Connect(c) => connect(setting, world, c),
+        Event::Connect(named, how) => connect(setting, world, named, *how),
+        Event::Disconnect(named) => disconnect(setting, world, named),
         Event::Set(name, property, input) => assign(setting, world, name, property, input),
         Event::Emit(name, signal, inputs) => {
             let inputs = inputs.as_slice();

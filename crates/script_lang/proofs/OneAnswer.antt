@@ -5,7 +5,7 @@ use Rattle.texts.specs.declared.token.Token.{Token}
 use Rattle.script_lang.specs.declared.event.Event.{Event}
 use Rattle.script_lang.specs.declared.fault.ScriptFault.{ScriptFault}
 use Rattle.script_lang.specs.declared.fault.ScriptFault.TheVariants.{TooLarge, BadLine, Memory}
-use Rattle.script_lang.specs.Grammar.{Reading, new, adopt, connect, set, emit, call, block, unblock, spell_event, IsEvent}
+use Rattle.script_lang.specs.Grammar.{IsEvent}
 use Rattle.texts.specs.Lines.{IsFrontLine, AreFrontLines, AreLines}
 use Rattle.script_lang.specs.Reads.{Holds, AreEvents, IsScript, IsBadLine, ReadsScript}
 use Rattle.texts.proofs.FrontLines.{one_front_line, no_line_at_end}
@@ -15,17 +15,8 @@ use Rattle.script_lang.proofs.OneTree.{one_event}
 -- ---- one line
 
 no_tokens_no_event : (tokens : List Token) (event : Event) → tokens ≡ [] → IsEvent tokens event → ⊥
-no_tokens_no_event tokens event e h = spelled_some h.reading (sym e ∙ h.spelled)
-  where
-    spelled_some : (r : Reading) → [] ≡ spell_event r [] → ⊥
-    spelled_some (new e) k = cc
-    spelled_some (adopt e) k = cc
-    spelled_some (connect e) k = cc
-    spelled_some (set e) k = cc
-    spelled_some (emit i) k = cc
-    spelled_some (call i) k = cc
-    spelled_some (block object) k = cc
-    spelled_some (unblock object) k = cc
+no_tokens_no_event tokens event e h =
+    let spelled = h.spelled in cc
 
 pub one_content : (line : List ℕ) (a b : Option Event) → Holds line a → Holds line b → a ≡ b
 one_content line None None h k = refl

@@ -1,16 +1,22 @@
 -- No two readings with the same tokens stand for different events.
-use Rattle.std.proofs.Common.{◌≡◌, ℕ, true, false, List, [], ◌∷◌, map, codes, sym, ◌∙◌, ap, arith}
+use Rattle.std.proofs.Common.{◌≡◌, ℕ, true, false, List, [], ◌∷◌, map, Option, Some, None, cond, nat_eq, sum, refl, sym, ◌∙◌, ap, subst}
+use Rattle.signatures.specs.Words.{word_spelling}
+use Rattle.texts.specs.Connections.{spell_connection_type, EndsConnectionType}
 use Rattle.texts.specs.Literals.{UnsignedReading, plain, truth, quoted, null, token_of_unsigned, LiteralReading, unsigned, negative, spell_literal}
-use Rattle.texts.specs.Reading.{EndsAnywhere}
-use Rattle.texts.specs.Signatures.{spell_sig, tree_of_sig, spell_kind}
+use Rattle.texts.specs.Optional.{EndsWithoutName}
+use Rattle.texts.specs.Reading.{EndsAnywhere, IsAtEnd, spell_name}
 use Rattle.texts.specs.declared.symbol.Symbol.TheVariants.{Close}
 use Rattle.texts.specs.declared.token.Token.{Token}
 use Rattle.texts.specs.declared.token.Token.TheVariants as token
 use Rattle.texts.specs.Lists.{IsPart}
-use Rattle.texts.proofs.OneTree.{HasOneTree, one_tree_of_listed, one_tree_of_sig, one_tree_of_kind, one_tree_of_literal}
+use Rattle.texts.proofs.Both.{one_tree_of_both}
+use Rattle.texts.proofs.Connections.{one_tree_of_ends, one_tree_of_connection_type}
+use Rattle.texts.proofs.OneTree.{HasOneTree, one_tree_of_listed, one_tree_of_literal, one_tree_of_optional_name}
 use Rattle.script_lang.specs.declared.event.Event.TheVariants as tree
 use Rattle.script_lang.specs.declared.event.Input.TheVariants as input
-use Rattle.script_lang.specs.Grammar.{InputReading, literal, named, spell_input, tree_of_input, spell_invocation, tree_of_invocation, spell_connect, tree_of_connect, spell_assignment, tree_of_assignment, Reading, new, adopt, connect, set, emit, call, block, unblock, spell_event, tree_of_event}
+use Rattle.script_lang.specs.declared.verb.Verb.{Verb}
+use Rattle.script_lang.specs.declared.verb.Verb.TheVariants as verb
+use Rattle.script_lang.specs.Grammar.{InputReading, literal, named, spell_input, tree_of_input, verb_token, spell_invocation, tree_of_invocation, spell_new, tree_of_new, spell_name_ends, tree_of_name_ends, spell_connect, tree_of_connect, tree_of_disconnect, spell_assignment, tree_of_assignment, Follow, spell_follow, tree_of_follow, Reading, spell_event, tree_of_event}
 
 -- ---- values
 
@@ -49,47 +55,99 @@ one_tree_of_input (literal a) (named y) r s er es e = absurd (literal_unnamed a 
 one_tree_of_input (named x) (literal b) r s er es e = absurd (literal_unnamed b x s r (sym e))
 one_tree_of_input (named x) (named y) r s er es e = (cc, cc)
 
--- ---- events
+-- ---- where an event ends
 
-one_tree_of_connect : HasOneTree spell_connect tree_of_connect EndsAnywhere
+pub no_name_at_end : (rest : List Token) → IsAtEnd rest → EndsWithoutName rest
+no_name_at_end rest end name after e = cc
+
+pub how_at_end : (rest : List Token) → IsAtEnd rest → EndsConnectionType None rest
+how_at_end rest end = record { not_unique = λ after e. cc; not_single = λ after e. cc }
+
+-- ---- verbs
+
+abbrev letters_of : Token → List ℕ
+letters_of (token.Name letters) = letters
+letters_of (token.Word w) = word_spelling w
+letters_of _ = []
+
+abbrev verbs : List Verb
+verbs =
+    verb.Loop ∷ verb.Turn ∷ verb.New ∷ verb.Adopt ∷ verb.Connect ∷ verb.Disconnect ∷ verb.Set ∷ verb.Emit ∷ verb.Call ∷ verb.Block ∷ verb.Unblock ∷ []
+
+-- the verb whose letters have this sum
+abbrev verb_with : ℕ → List Verb → Option Verb
+verb_with n [] = None
+verb_with n (v ∷ more) = cond (nat_eq n (sum (letters_of (verb_token v)))) (Some v) (verb_with n more)
+
+-- the sums of the verbs' letters differ
+found_again : (v : Verb) → verb_with (sum (letters_of (verb_token v))) verbs ≡ Some v
+found_again verb.Loop = refl
+found_again _ = refl
+
+pub one_verb : (v w : Verb) → verb_token v ≡ verb_token w → v ≡ w
+one_verb v w e =
+    let same = ap (λ t. verb_with (sum (letters_of t)) verbs) e in
+    let p = found_again v in
+    let q = found_again w in
+    cc
+
+-- ---- what follows a verb
+
+one_tree_of_new : HasOneTree spell_new tree_of_new IsAtEnd
+one_tree_of_new a b r s er es e =
+    let h : (a.home ≡ b.home) × (r ≡ s) = one_tree_of_optional_name a.home b.home r s (no_name_at_end r er) (no_name_at_end s es) cc in
+    (cc, h.1)
+
+one_tree_of_name : HasOneTree spell_name (λ name. name) EndsAnywhere
+one_tree_of_name a b r s er es e = (cc, cc)
+
+one_tree_of_name_ends : HasOneTree spell_name_ends tree_of_name_ends EndsAnywhere
+one_tree_of_name_ends = one_tree_of_ends spell_name (λ name. name) EndsAnywhere None (λ s rest. tt) one_tree_of_name
+
+one_tree_of_connect : HasOneTree spell_connect tree_of_connect IsAtEnd
 one_tree_of_connect a b r s er es e =
-    let a_method : List Token = spell_sig a.method (spell_kind a.kind r) in
-    let b_method : List Token = spell_sig b.method (spell_kind b.kind s) in
-    let h : (tree_of_sig a.signal ≡ tree_of_sig b.signal) × (token.Name a.receiver ∷ a_method ≡ token.Name b.receiver ∷ b_method) = one_tree_of_sig a.signal b.signal (token.Name a.receiver ∷ a_method) (token.Name b.receiver ∷ b_method) tt tt cc in
-    let k : (tree_of_sig a.method ≡ tree_of_sig b.method) × (spell_kind a.kind r ≡ spell_kind b.kind s) = one_tree_of_sig a.method b.method (spell_kind a.kind r) (spell_kind b.kind s) tt tt cc in
-    let l = one_tree_of_kind a.kind b.kind r s tt tt k.1 in
-    (cc, l.1)
+    one_tree_of_both spell_name_ends tree_of_name_ends EndsAnywhere (spell_connection_type None) (λ how. how) (EndsConnectionType None) (λ ends how. tree.Connect ends how) (λ how rest ends. tt) one_tree_of_name_ends (one_tree_of_connection_type None) a b r s (how_at_end r er) (how_at_end s es) e
 
-one_tree_of_assignment : HasOneTree spell_assignment tree_of_assignment EndsAnywhere
+one_tree_of_disconnect : HasOneTree spell_name_ends tree_of_disconnect IsAtEnd
+one_tree_of_disconnect a b r s er es e =
+    let h = one_tree_of_name_ends a b r s tt tt e in
+    (ap (λ ends. tree.Disconnect ends) h.0, h.1)
+
+one_tree_of_assignment : HasOneTree spell_assignment tree_of_assignment IsAtEnd
 one_tree_of_assignment a b r s er es e =
     let h : (tree_of_input a.value ≡ tree_of_input b.value) × (r ≡ s) = one_tree_of_input a.value b.value r s tt tt cc in
     (cc, h.1)
 
-one_tree_of_invocation : HasOneTree spell_invocation tree_of_invocation EndsAnywhere
+one_tree_of_invocation : HasOneTree spell_invocation tree_of_invocation IsAtEnd
 one_tree_of_invocation a b r s er es e =
     let h : (map tree_of_input a.arguments ≡ map tree_of_input b.arguments) × (r ≡ s) = one_tree_of_listed spell_input tree_of_input EndsAnywhere inputs_are_parts one_tree_of_input a.arguments b.arguments r s tt tt cc in
     (cc, h.1)
 
--- the two verbs of five letters begin with different ones
-pub adopt_or_block : codes "adopt" ≡ codes "block" → ⊥
-adopt_or_block e = let first : ◌≡◌ {A = ℕ} 97 98 = cc in omega arith
-
-one_tree_of_event : HasOneTree spell_event tree_of_event EndsAnywhere
-one_tree_of_event (new a) (new b) r s er es e = (cc, cc)
-one_tree_of_event (adopt a) (adopt b) r s er es e = (cc, cc)
-one_tree_of_event (connect a) (connect b) r s er es e = one_tree_of_connect a b r s tt tt cc
-one_tree_of_event (set a) (set b) r s er es e = one_tree_of_assignment a b r s tt tt cc
-one_tree_of_event (emit a) (emit b) r s er es e =
-    let h = one_tree_of_invocation a b r s tt tt cc in
+one_tree_of_follow : (v : Verb) → HasOneTree (spell_follow v) (tree_of_follow v) IsAtEnd
+one_tree_of_follow verb.Loop a b r s er es e = (cc, cc)
+one_tree_of_follow verb.Turn a b r s er es e = (cc, cc)
+one_tree_of_follow verb.New a b r s er es e = one_tree_of_new a b r s er es e
+one_tree_of_follow verb.Adopt a b r s er es e = (cc, cc)
+one_tree_of_follow verb.Connect a b r s er es e = one_tree_of_connect a b r s er es e
+one_tree_of_follow verb.Disconnect a b r s er es e = one_tree_of_disconnect a b r s er es e
+one_tree_of_follow verb.Set a b r s er es e = one_tree_of_assignment a b r s er es e
+one_tree_of_follow verb.Emit a b r s er es e =
+    let h = one_tree_of_invocation a b r s er es e in
     (ap (λ i. tree.Emit i.0 i.1 i.2) h.0, h.1)
-one_tree_of_event (call a) (call b) r s er es e =
-    let h = one_tree_of_invocation a b r s tt tt cc in
+one_tree_of_follow verb.Call a b r s er es e =
+    let h = one_tree_of_invocation a b r s er es e in
     (ap (λ i. tree.Call i.0 i.1 i.2) h.0, h.1)
-one_tree_of_event (block x) (block y) r s er es e = (cc, cc)
-one_tree_of_event (unblock x) (unblock y) r s er es e = (cc, cc)
-one_tree_of_event (adopt a) (block y) r s er es e = absurd (adopt_or_block cc)
-one_tree_of_event (block x) (adopt b) r s er es e = absurd (adopt_or_block cc)
-one_tree_of_event _ _ r s er es e = cc
+one_tree_of_follow verb.Block a b r s er es e = (cc, cc)
+one_tree_of_follow verb.Unblock a b r s er es e = (cc, cc)
+
+-- ---- events
+
+same_verb : (v w : Verb) → v ≡ w → (a : Follow v) (b : Follow w) (r s : List Token) → IsAtEnd r → IsAtEnd s → spell_follow v a r ≡ spell_follow w b s → (tree_of_follow v a ≡ tree_of_follow w b) × (r ≡ s)
+same_verb v w same =
+    subst (λ (u : Verb). (a : Follow v) (b : Follow u) (r s : List Token) → IsAtEnd r → IsAtEnd s → spell_follow v a r ≡ spell_follow u b s → (tree_of_follow v a ≡ tree_of_follow u b) × (r ≡ s)) same (one_tree_of_follow v)
+
+one_tree_of_event : HasOneTree spell_event tree_of_event IsAtEnd
+one_tree_of_event a b r s er es e = same_verb a.verb b.verb (one_verb a.verb b.verb cc) a.follow b.follow r s er es cc
 
 pub one_event : (tokens : List Token) (a b : Reading) → tokens ≡ spell_event a [] → tokens ≡ spell_event b [] → tree_of_event a ≡ tree_of_event b
-one_event tokens a b h k = let same = one_tree_of_event a b [] [] tt tt (sym h ∙ k) in same.0
+one_event tokens a b h k = let same = one_tree_of_event a b [] [] refl refl (sym h ∙ k) in same.0

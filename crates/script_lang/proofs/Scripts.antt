@@ -1,10 +1,10 @@
 -- The events of lines, and of a script.
-use Rattle.std.proofs.Common.{◌≡◌, ℕ, ◌≤◌, ◌+◌, List, [], ◌∷◌, ◌++◌, length, refl, sym, ◌∙◌, ap, Option, Some, None, Bool, true, false, IsTrue, ◌↔◌, arith}
+use Rattle.std.proofs.Common.{◌≡◌, ℕ, ◌≤◌, ◌+◌, List, [], ◌∷◌, ◌++◌, length, refl, sym, ◌∙◌, ap, Option, Some, None, Bool, true, false, IsTrue, ◌↔◌, All, arith}
 use Rattle.std.proofs.lemmas.List.{append-nil, length-append}
 use Rattle.texts.proofs.Cut.{same_tokens}
 use Rattle.texts.specs.Pieces.{AreTokens}
-use Rattle.texts.specs.Reading.{Found, EndsAnywhere}
-use Rattle.texts.specs.Signatures.{HasPlainReference}
+use Rattle.texts.specs.Reading.{Found, IsAtEnd}
+use Rattle.texts.specs.Signatures.{HasFewTypes, HasPlainReference}
 use Rattle.texts.specs.declared.fault.ParseFault.{ParseFault}
 use Rattle.texts.specs.declared.fault.ParseFault.TheVariants as parse
 use Rattle.texts.specs.declared.lexer.LexFault.{LexFault}
@@ -12,7 +12,7 @@ use Rattle.texts.specs.declared.lexer.LexFault.TheVariants as lex
 use Rattle.texts.specs.declared.token.Token.{Token}
 use Rattle.script_lang.specs.declared.fault.LineFault.TheVariants.{NoEvent}
 use Rattle.script_lang.specs.declared.event.Event.{Event}
-use Rattle.script_lang.specs.Grammar.{Reading, spell_event, tree_of_event, IsWithinLimits}
+use Rattle.script_lang.specs.Grammar.{Reading, signatures_in, spell_event, tree_of_event}
 use Rattle.texts.specs.Lines.{IsFrontLine, AreFrontLines}
 use Rattle.script_lang.specs.Reads.{fault_of_cutting, fault_of_parsing, IsEmptyLine, IsEventLine, Holds, before, AreEvents, most_bytes, IsScript, IsBadLine}
 use Rattle.texts.proofs.FrontLines.{one_more_line}
@@ -44,32 +44,32 @@ no_tokens none None h = none [] h
 no_tokens none (Some event) h = none h.tokens h.cut
 
 module _ {line : List ℕ} {tokens : List Token} (cut : AreTokens line tokens) (some : tokens ≡ [] → ⊥) where
-  pub no_event : ((r : Reading) (rest : List Token) → EndsAnywhere rest → tokens ≡ spell_event r rest → ⊥) → IsRefused line
+  pub no_event : ((r : Reading) (rest : List Token) → IsAtEnd rest → tokens ≡ spell_event r rest → ⊥) → IsRefused line
   no_event none None h = some (same_tokens line tokens [] cut h)
-  no_event none (Some event) h = none h.is_event.reading [] tt (same_tokens line tokens h.tokens cut h.cut ∙ h.is_event.spelled)
+  no_event none (Some event) h = none h.is_event.reading [] refl (same_tokens line tokens h.tokens cut h.cut ∙ h.is_event.spelled)
 
   pub no_normal_form : HasPlainReference tokens → IsRefused line
   no_normal_form plain None h = some (same_tokens line tokens [] cut h)
   no_normal_form plain (Some event) h = h.is_event.normal (rw (same_tokens line tokens h.tokens cut h.cut) at plain)
 
-  pub more_than_event : {event : Event} {after : List Token} → Found spell_event tree_of_event EndsAnywhere tokens event after → (after ≡ [] → ⊥) → IsRefused line
+  pub more_than_event : {event : Event} {after : List Token} → Found spell_event tree_of_event IsAtEnd tokens event after → (after ≡ [] → ⊥) → IsRefused line
   more_than_event f more None h = some (same_tokens line tokens [] cut h)
-  more_than_event f more (Some event) h = more (f.only h.is_event.reading [] tt (same_tokens line tokens h.tokens cut h.cut ∙ h.is_event.spelled))
+  more_than_event f more (Some event) h = more (f.only h.is_event.reading [] refl (same_tokens line tokens h.tokens cut h.cut ∙ h.is_event.spelled))
 
-module _ {line : List ℕ} {tokens after : List Token} {event : Event} (cut : AreTokens line tokens) (f : Found spell_event tree_of_event EndsAnywhere tokens event after) (end : after ≡ []) where
-  pub event_line : IsWithinLimits event → ¬ HasPlainReference tokens → IsEventLine line event
-  event_line within normal = record {
+module _ {line : List ℕ} {tokens after : List Token} {event : Event} (cut : AreTokens line tokens) (f : Found spell_event tree_of_event IsAtEnd tokens event after) (end : after ≡ []) where
+  pub event_line : All HasFewTypes (signatures_in event) → ¬ HasPlainReference tokens → IsEventLine line event
+  event_line few normal = record {
     tokens = tokens;
     cut = cut;
-    is_event = record { reading = f.reading; spelled = f.spelled ∙ ap (spell_event f.reading) end; tree = f.tree_is; within = within; normal = normal };
+    is_event = record { reading = f.reading; spelled = f.spelled ∙ ap (spell_event f.reading) end; tree = f.tree_is; few_types = few; normal = normal };
   }
 
-  pub beyond_limits : (tokens ≡ [] → ⊥) → ¬ IsWithinLimits event → IsRefused line
-  beyond_limits some beyond None h = some (same_tokens line tokens [] cut h)
-  beyond_limits some beyond (Some other) h =
+  pub many_types : (tokens ≡ [] → ⊥) → ¬ All HasFewTypes (signatures_in event) → IsRefused line
+  many_types some many None h = some (same_tokens line tokens [] cut h)
+  many_types some many (Some other) h =
       let same = same_tokens line tokens h.tokens cut h.cut in
       let one = one_event tokens f.reading h.is_event.reading (f.spelled ∙ ap (spell_event f.reading) end) (same ∙ h.is_event.spelled) in
-      beyond (rw (← (sym f.tree_is ∙ (one ∙ h.is_event.tree))) at h.is_event.within)
+      many (rw (← (sym f.tree_is ∙ (one ∙ h.is_event.tree))) at h.is_event.few_types)
 
 -- ---- the lines so far
 

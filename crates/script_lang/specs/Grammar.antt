@@ -1,27 +1,34 @@
 -- The grammar of the events of a script. A value of a type below is a way to read tokens by its rule
 -- (docs/language.md, "Scripts").
 --
---   event = "new" Name Name
+--   event = "loop" Name
+--         | "turn" Name
+--         | "new" Name Name [Name]
 --         | "adopt" Name Name
---         | "connect" Name sig Name sig kind
+--         | "connect" ends how
+--         | "disconnect" ends
 --         | "set" Name "." Name value
 --         | "emit" Name "." Name "(" [value {"," value}] ")"
 --         | "call" Name "." Name "(" [value {"," value}] ")"
 --         | "block" Name
 --         | "unblock" Name
+--   ends  = Name sig Name sig
+--   how   = kind ["unique"] ["single"]
 --   value = literal | Name
 --
--- `connect`, `set`, `emit` and `call` are reserved words; `new`, `adopt`, `block` and `unblock` are names.
-use Rattle.std.specs.Prelude.{ℕ, ◌≡◌, ◌≢◌, List, [], ◌∷◌, map, codes, Option, Some, None}
-use Rattle.std.specs.List.{AllByRecursion}
-use Rattle.signatures.specs.declared.kind.Kind.{Kind}
-use Rattle.signatures.specs.declared.kind.Kind.TheVariants.{Queued}
+-- `connect`, `disconnect`, `set`, `emit` and `call` are reserved words; the other verbs are names.
+use Rattle.std.specs.Prelude.{ℕ, ◌≡◌, ◌≢◌, List, [], ◌∷◌, map, codes, Option, Some, None, Result, All}
 use Rattle.signatures.specs.declared.sig.Sig.{Sig}
 use Rattle.signatures.specs.declared.word.Word.TheVariants as word
+use Rattle.texts.specs.Connections.{BothEnds, spell_ends, tree_of_ends, spell_connection_type, signatures_at}
 use Rattle.texts.specs.Lists.{spell_listed}
 use Rattle.texts.specs.Literals.{LiteralReading, spell_literal, tree_of_literal}
-use Rattle.texts.specs.Reading.{spell_name}
-use Rattle.texts.specs.Signatures.{SigReading, spell_sig, tree_of_sig, spell_kind, HasFewTypes, HasPlainReference}
+use Rattle.texts.specs.Optional.{spell_optional_name}
+use Rattle.texts.specs.Reading.{Reads, IsAtEnd, spell_name}
+use Rattle.texts.specs.Signatures.{HasFewTypes, HasPlainReference}
+use Rattle.texts.specs.declared.connection.ConnectionType.{ConnectionType}
+use Rattle.texts.specs.declared.connection.Endpoints.{Endpoints}
+use Rattle.texts.specs.declared.fault.ParseFault.{ParseFault}
 use Rattle.texts.specs.declared.symbol.Symbol.TheVariants.{Dot}
 use Rattle.texts.specs.declared.token.Token.{Token}
 use Rattle.texts.specs.declared.token.Token.TheVariants as token
@@ -49,20 +56,27 @@ tree_of_input (named name) = input.Object name
 
 -- ---- verbs and members
 
--- the letters of a verb
-abbrev pub verb_spelling : Verb → List ℕ
-verb_spelling verb.New = codes "new"
-verb_spelling verb.Adopt = codes "adopt"
-verb_spelling verb.Block = codes "block"
-verb_spelling verb.Unblock = codes "unblock"
+-- the token of a verb
+abbrev pub verb_token : Verb → Token
+verb_token verb.Loop = token.Name (codes "loop")
+verb_token verb.Turn = token.Name (codes "turn")
+verb_token verb.New = token.Name (codes "new")
+verb_token verb.Adopt = token.Name (codes "adopt")
+verb_token verb.Connect = token.Word word.Connect
+verb_token verb.Disconnect = token.Word word.Disconnect
+verb_token verb.Set = token.Word word.Set
+verb_token verb.Emit = token.Word word.Emit
+verb_token verb.Call = token.Word word.Call
+verb_token verb.Block = token.Name (codes "block")
+verb_token verb.Unblock = token.Name (codes "unblock")
 
--- the verb that is written so, if there is one
-abbrev pub IsVerbOf : List ℕ → Option Verb → Type 0
-IsVerbOf letters (Some verb) = letters ≡ verb_spelling verb
-IsVerbOf letters None = (verb : Verb) → letters ≢ verb_spelling verb
+-- the verb that the token is, if it is one
+abbrev pub IsVerbOf : Token → Option Verb → Type 0
+IsVerbOf t (Some verb) = t ≡ verb_token verb
+IsVerbOf t None = (verb : Verb) → t ≢ verb_token verb
 
 abbrev pub spell_verb : Verb → List Token → List Token
-spell_verb v after = token.Name (verb_spelling v) ∷ after
+spell_verb v after = verb_token v ∷ after
 
 -- `O.M`: an object's name, and the name of its property or method
 abbrev pub Member : Type 0
@@ -82,18 +96,27 @@ spell_invocation i after = spell_member i.member (spell_listed spell_input i.arg
 abbrev pub tree_of_invocation : Invocation → List ℕ × List ℕ × List Input
 tree_of_invocation i = (i.member.0, i.member.1, map tree_of_input i.arguments)
 
--- ---- what follows the first word of an event
+-- ---- what follows the verb of an event
 
--- `O C`, after `new`
+-- `L`, after `loop`
+abbrev pub tree_of_loop : List ℕ → Event
+tree_of_loop home = tree.Loop home
+
+-- `L`, after `turn`
+abbrev pub tree_of_turn : List ℕ → Event
+tree_of_turn home = tree.Turn home
+
+-- `O C [L]`, after `new`
 pub record New : Type 0 where
   pub object : List ℕ
   pub class : List ℕ
+  pub home : Option (List ℕ)
 
 abbrev pub spell_new : New → List Token → List Token
-spell_new e after = token.Name e.object ∷ token.Name e.class ∷ after
+spell_new e after = token.Name e.object ∷ token.Name e.class ∷ spell_optional_name e.home after
 
 abbrev pub tree_of_new : New → Event
-tree_of_new e = tree.New e.object e.class
+tree_of_new e = tree.New e.object e.class e.home
 
 -- `P O`, after `adopt`
 pub record Adopt : Type 0 where
@@ -106,27 +129,29 @@ spell_adopt e after = token.Name e.parent ∷ token.Name e.child ∷ after
 abbrev pub tree_of_adopt : Adopt → Event
 tree_of_adopt e = tree.Adopt e.parent e.child
 
--- `A S B M kind`, after `connect`
-pub record Connect : Type 0 where
-  pub sender : List ℕ
-  pub signal : SigReading
-  pub receiver : List ℕ
-  pub method : SigReading
-  pub kind : Kind
+-- `A S B M`
+abbrev pub NameEnds : Type 0
+NameEnds = BothEnds (List ℕ)
+
+abbrev pub spell_name_ends : NameEnds → List Token → List Token
+spell_name_ends ends after = spell_ends spell_name None ends after
+
+abbrev pub tree_of_name_ends : NameEnds → Endpoints (List ℕ)
+tree_of_name_ends ends = tree_of_ends (λ name. name) ends
+
+-- `A S B M kind [unique] [single]`, after `connect`
+abbrev pub Connect : Type 0
+Connect = NameEnds × ConnectionType
 
 abbrev pub spell_connect : Connect → List Token → List Token
-spell_connect e after =
-    token.Name e.sender
-    ∷ spell_sig e.signal (token.Name e.receiver ∷ spell_sig e.method (spell_kind e.kind after))
+spell_connect c after = spell_name_ends c.0 (spell_connection_type None c.1 after)
 
 abbrev pub tree_of_connect : Connect → Event
-tree_of_connect e = tree.Connect record {
-  sender = e.sender;
-  signal = tree_of_sig e.signal;
-  receiver = e.receiver;
-  method = tree_of_sig e.method;
-  kind = e.kind;
-}
+tree_of_connect c = tree.Connect (tree_of_name_ends c.0) c.1
+
+-- `A S B M`, after `disconnect`
+abbrev pub tree_of_disconnect : NameEnds → Event
+tree_of_disconnect ends = tree.Disconnect (tree_of_name_ends ends)
 
 -- `O.P V`, after `set`
 pub record Assignment : Type 0 where
@@ -157,70 +182,85 @@ tree_of_unblock object = tree.Unblock object
 
 -- ---- events
 
-pub data Reading : Type 0 where
-  new : New → Reading
-  adopt : Adopt → Reading
-  connect : Connect → Reading
-  set : Assignment → Reading
-  emit : Invocation → Reading
-  call : Invocation → Reading
-  block : List ℕ → Reading
-  unblock : List ℕ → Reading
+-- what follows each verb
+abbrev pub Follow : Verb → Type 0
+Follow verb.Loop = List ℕ
+Follow verb.Turn = List ℕ
+Follow verb.New = New
+Follow verb.Adopt = Adopt
+Follow verb.Connect = Connect
+Follow verb.Disconnect = NameEnds
+Follow verb.Set = Assignment
+Follow verb.Emit = Invocation
+Follow verb.Call = Invocation
+Follow verb.Block = List ℕ
+Follow verb.Unblock = List ℕ
+
+abbrev pub spell_follow : (v : Verb) → Follow v → List Token → List Token
+spell_follow verb.Loop = spell_name
+spell_follow verb.Turn = spell_name
+spell_follow verb.New = spell_new
+spell_follow verb.Adopt = spell_adopt
+spell_follow verb.Connect = spell_connect
+spell_follow verb.Disconnect = spell_name_ends
+spell_follow verb.Set = spell_assignment
+spell_follow verb.Emit = spell_invocation
+spell_follow verb.Call = spell_invocation
+spell_follow verb.Block = spell_name
+spell_follow verb.Unblock = spell_name
+
+abbrev pub tree_of_follow : (v : Verb) → Follow v → Event
+tree_of_follow verb.Loop = tree_of_loop
+tree_of_follow verb.Turn = tree_of_turn
+tree_of_follow verb.New = tree_of_new
+tree_of_follow verb.Adopt = tree_of_adopt
+tree_of_follow verb.Connect = tree_of_connect
+tree_of_follow verb.Disconnect = tree_of_disconnect
+tree_of_follow verb.Set = tree_of_assignment
+tree_of_follow verb.Emit = tree_of_emit
+tree_of_follow verb.Call = tree_of_call
+tree_of_follow verb.Block = tree_of_block
+tree_of_follow verb.Unblock = tree_of_unblock
+
+pub record Reading : Type 0 where
+  pub verb : Verb
+  pub follow : Follow verb
 
 abbrev pub spell_event : Reading → List Token → List Token
-spell_event (new e) after = spell_verb verb.New (spell_new e after)
-spell_event (adopt e) after = spell_verb verb.Adopt (spell_adopt e after)
-spell_event (connect e) after = token.Word word.Connect ∷ spell_connect e after
-spell_event (set e) after = token.Word word.Set ∷ spell_assignment e after
-spell_event (emit i) after = token.Word word.Emit ∷ spell_invocation i after
-spell_event (call i) after = token.Word word.Call ∷ spell_invocation i after
-spell_event (block object) after = spell_verb verb.Block (spell_name object after)
-spell_event (unblock object) after = spell_verb verb.Unblock (spell_name object after)
+spell_event e after = spell_verb e.verb (spell_follow e.verb e.follow after)
 
 abbrev pub tree_of_event : Reading → Event
-tree_of_event (new e) = tree_of_new e
-tree_of_event (adopt e) = tree_of_adopt e
-tree_of_event (connect e) = tree_of_connect e
-tree_of_event (set e) = tree_of_assignment e
-tree_of_event (emit i) = tree_of_emit i
-tree_of_event (call i) = tree_of_call i
-tree_of_event (block object) = tree_of_block object
-tree_of_event (unblock object) = tree_of_unblock object
+tree_of_event e = tree_of_follow e.verb e.follow
 
 -- ---- limits
 
 -- the signatures in an event
 abbrev pub signatures_in : Event → List Sig
-signatures_in (tree.New object class) = []
+signatures_in (tree.Loop l) = []
+signatures_in (tree.Turn l) = []
+signatures_in (tree.New object class l) = []
 signatures_in (tree.Adopt parent child) = []
-signatures_in (tree.Connect c) = c.signal ∷ c.method ∷ []
+signatures_in (tree.Connect ends how) = signatures_at ends
+signatures_in (tree.Disconnect ends) = signatures_at ends
 signatures_in (tree.Set object property value) = []
 signatures_in (tree.Emit object signal arguments) = []
 signatures_in (tree.Call object method arguments) = []
 signatures_in (tree.Block object) = []
 signatures_in (tree.Unblock object) = []
 
--- the kinds of connections in it
-abbrev pub kinds_in : Event → List Kind
-kinds_in (tree.New object class) = []
-kinds_in (tree.Adopt parent child) = []
-kinds_in (tree.Connect c) = c.kind ∷ []
-kinds_in (tree.Set object property value) = []
-kinds_in (tree.Emit object signal arguments) = []
-kinds_in (tree.Call object method arguments) = []
-kinds_in (tree.Block object) = []
-kinds_in (tree.Unblock object) = []
-
--- The signatures have at most 8 types. No connection is queued, as there is one event loop.
-pub record IsWithinLimits (event : Event) : Type 0 where
-  pub few_types : AllByRecursion HasFewTypes (signatures_in event)
-  pub not_queued : AllByRecursion (λ kind. kind ≢ Queued) (kinds_in event)
-
 -- the tokens are this event
 pub record IsEvent (tokens : List Token) (event : Event) : Type 0 where
   pub reading : Reading
   pub spelled : tokens ≡ spell_event reading []
   pub tree : tree_of_event reading ≡ event
-  pub within : IsWithinLimits event
+  pub few_types : All HasFewTypes (signatures_in event)
   -- signatures have a normal form
   pub normal : ¬ HasPlainReference tokens
+
+-- ---- what the readers answer, for all tokens of a line
+
+abbrev pub ReadsFollow : Verb → List Token → Result Event ParseFault → List Token → Type 0
+ReadsFollow v before result after = Reads (spell_follow v) (tree_of_follow v) IsAtEnd before result after
+
+abbrev pub ReadsEvent : List Token → Result Event ParseFault → List Token → Type 0
+ReadsEvent before result after = Reads spell_event tree_of_event IsAtEnd before result after

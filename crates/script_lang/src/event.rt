@@ -1,8 +1,8 @@
 //! The events of a script.
 
-use signatures::{Kind, Name, Sig};
+use signatures::Name;
 use sqlite_items::Items;
-use texts::Literal;
+use texts::{ConnectionType, Endpoints, Literal};
 
 /// A value as a script writes it.
 #[derive(Drop)]
@@ -13,31 +13,22 @@ pub enum Input {
     Object(Name),
 }
 
-/// `connect A S B M kind`: the sender, its signal, the receiver, its method. Each signature has at most 8 types, and the
-/// kind isn't `Queued`.
-#[derive(Drop)]
-pub struct Connect {
-    /// The name of the object whose signal is connected.
-    pub sender: Name,
-    /// The sender's signal.
-    pub signal: Sig,
-    /// The name of the object whose method is called.
-    pub receiver: Name,
-    /// The receiver's slot or signal.
-    pub method: Sig,
-    /// When the method is called.
-    pub kind: Kind,
-}
-
-/// An event of a script; objects and classes are named.
+/// An event of a script; objects, classes and event loops are named.
 #[derive(Drop)]
 pub enum Event {
-    /// `new O C`: the object's name, and its class's.
-    New(Name, Name),
+    /// `loop L`: the event loop.
+    Loop(Name),
+    /// `turn L`: the event loop.
+    Turn(Name),
+    /// `new O C L`: the object's name, its class's, and the event loop that it lives in, which is `main` where none is
+    /// given.
+    New(Name, Name, Option<Name>),
     /// `adopt P O`: the parent's name, and the child's.
     Adopt(Name, Name),
-    /// `connect A S B M kind`
-    Connect(Connect),
+    /// `connect A S B M kind unique single`: what is connected, and how.
+    Connect(Endpoints<Name>, ConnectionType),
+    /// `disconnect A S B M`: what is no longer connected.
+    Disconnect(Endpoints<Name>),
     /// `set O.P V`: the object, the property's name, its new value.
     Set(Name, Name, Input),
     /// `emit O.M(V,..)`: the object, the signal's name, the arguments.

@@ -8,6 +8,6 @@ mod reader;
 mod syntax;
 mod verb;
 
-pub use event::{Connect, Event, Input};
+pub use event::{Event, Input};
 pub use fault::ScriptFault;
 pub use reader::{one_answer, one_reading, read_script};

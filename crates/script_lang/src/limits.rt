@@ -1,23 +1,20 @@
-//! What an event's form leaves open.
+//! How many types the signatures in events have.
 
-ghost use Rattle.std.specs.Prelude.{◌↔◌, IsTrue};
-ghost use Rattle.script_lang.specs.Grammar.{IsWithinLimits};
+ghost use Rattle.std.specs.Prelude.{◌↔◌, IsTrue, All};
+ghost use Rattle.script_lang.specs.Grammar.{signatures_in};
+ghost use Rattle.texts.specs.Signatures.{HasFewTypes};
 
 use crate::event::Event;
-use signatures::Kind;
-use texts::has_few_types;
 
-/// Whether the signatures have at most 8 types, and no connection is queued.
-pub fn is_within_limits(event: &Event) -> bool
-    ensures { IsTrue result ↔ IsWithinLimits event.now }
+/// Whether no signature in the event has more than 8 types.
+pub fn event_has_few_types(event: &Event) -> bool
+    ensures { IsTrue result ↔ All HasFewTypes (signatures_in event.now) }
 {
     match event {
-        Event::Connect(connect) => {
-            has_few_types(&connect.signal)
-                && has_few_types(&connect.method)
-                && connect.kind != Kind::Queued
-        }
-        Event::New(_, _) | Event::Adopt(_, _) => true,
+        Event::Connect(ends, _) => ends.have_few_types(),
+        Event::Disconnect(ends) => ends.have_few_types(),
+        Event::Loop(_) | Event::Turn(_) => true,
+        Event::New(_, _, _) | Event::Adopt(_, _) => true,
         Event::Set(_, _, _) | Event::Emit(_, _, _) | Event::Call(_, _, _) => true,
         Event::Block(_) | Event::Unblock(_) => true,
     }

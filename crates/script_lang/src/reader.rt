@@ -5,7 +5,7 @@ ghost use Rattle.script_lang.specs.Reads.{ReadsScript, ReadsLine, HasOneContent,
 
 use crate::event::Event;
 use crate::fault::{LineFault, ScriptFault};
-use crate::limits::is_within_limits;
+use crate::limits::event_has_few_types;
 use crate::syntax::event;
 use sqlite_items::Items;
 use std::alloc::Global;
@@ -71,7 +71,7 @@ fn read_line(alloc: Global, line: &[u8]) -> Result<Option<Event>, LineFault>
     if !cursor.is_empty() {
         return Err(LineFault::NoEvent);
     }
-    if is_within_limits(&event) {
+    if event_has_few_types(&event) {
         Ok(Some(event))
     } else {
         Err(LineFault::NoEvent)

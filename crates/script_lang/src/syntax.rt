@@ -1,87 +1,109 @@
 //! The grammar of events, one function a rule.
 
-ghost use Rattle.std.specs.Prelude.{◌<◌, length, OnOk};
-ghost use Rattle.script_lang.specs.Grammar.{InputReading, spell_input, tree_of_input, spell_verb, spell_member, spell_invocation, tree_of_invocation, spell_event, tree_of_event, spell_new, tree_of_new, spell_adopt, tree_of_adopt, spell_connect, tree_of_connect, spell_assignment, tree_of_assignment, tree_of_emit, tree_of_call, tree_of_block, tree_of_unblock};
+ghost use Rattle.std.specs.Prelude.{ℕ, List, ◌<◌, length, OnOk};
+ghost use Rattle.script_lang.specs.Grammar.{InputReading, spell_input, tree_of_input, spell_verb, spell_member, spell_invocation, tree_of_invocation, ReadsFollow, ReadsEvent};
+ghost use Rattle.script_lang.specs.declared.verb.Verb.TheVariants.{Loop, Turn, New, Adopt, Connect, Disconnect, Set, Emit, Call, Block, Unblock};
 ghost use Rattle.texts.specs.Reading.{Reads, EndsAnywhere, spell_name};
 
-use crate::event::{Connect, Event, Input};
+use crate::event::{Event, Input};
 use crate::verb::Verb;
-use signatures::{Name, Word};
+use signatures::Name;
 use sqlite_items::Items;
-use texts::{Cursor, ParseFault, Part, Symbol, Token, list};
+use texts::{Cursor, ParseFault, Part, Symbol, Token, both_ends, list};
 
-/// Takes the event that has to come next.
+/// Takes the event that the tokens are to be: what is left behind it has to be judged by the caller.
 pub fn event(cursor: &mut Cursor) -> Result<Event, ParseFault>
-    ensures { Reads spell_event tree_of_event EndsAnywhere cursor.old result cursor.new }
+    ensures { ReadsEvent cursor.old result cursor.new }
 {
-    if cursor.eat_word(Word::Connect) {
-        connect(cursor)
-    } else if cursor.eat_word(Word::Set) {
-        set(cursor)
-    } else if cursor.eat_word(Word::Emit) {
-        emit(cursor)
-    } else if cursor.eat_word(Word::Call) {
-        call(cursor)
-    } else {
-        match verb(cursor)? {
-            Verb::New => new(cursor),
-            Verb::Adopt => adopt(cursor),
-            Verb::Block => block(cursor),
-            Verb::Unblock => unblock(cursor),
-        }
-    }
+    let verb = verb(cursor)?;
+    follow(cursor, verb)
 }
 
-/// `new`, `adopt`, `block` or `unblock`
+/// The first word of an event.
 fn verb(cursor: &mut Cursor) -> Result<Verb, ParseFault>
     ensures { Reads spell_verb (λ verb. verb) EndsAnywhere cursor.old result cursor.new }
 {
-    let name = cursor.name()?;
-    match Verb::of(&name) {
+    let token = cursor.next()?;
+    match Verb::of(token) {
         Some(verb) => Ok(verb),
         None => Err(ParseFault::Syntax),
     }
 }
 
-/// `O C`, after `new`.
+/// What follows the verb.
+fn follow(cursor: &mut Cursor, verb: Verb) -> Result<Event, ParseFault>
+    ensures { ReadsFollow verb cursor.old result cursor.new }
+{
+    match verb {
+        Verb::Loop => add_loop(cursor),
+        Verb::Turn => turn(cursor),
+        Verb::New => new(cursor),
+        Verb::Adopt => adopt(cursor),
+        Verb::Connect => connect(cursor),
+        Verb::Disconnect => disconnect(cursor),
+        Verb::Set => set(cursor),
+        Verb::Emit => emit(cursor),
+        Verb::Call => call(cursor),
+        Verb::Block => block(cursor),
+        Verb::Unblock => unblock(cursor),
+    }
+}
+
+/// `L`, after `loop`.
+fn add_loop(cursor: &mut Cursor) -> Result<Event, ParseFault>
+    ensures { ReadsFollow Loop cursor.old result cursor.new }
+{
+    let home = cursor.name()?;
+    Ok(Event::Loop(home))
+}
+
+/// `L`, after `turn`.
+fn turn(cursor: &mut Cursor) -> Result<Event, ParseFault>
+    ensures { ReadsFollow Turn cursor.old result cursor.new }
+{
+    let home = cursor.name()?;
+    Ok(Event::Turn(home))
+}
+
+/// `O C [L]`, after `new`.
 fn new(cursor: &mut Cursor) -> Result<Event, ParseFault>
-    ensures { Reads spell_new tree_of_new EndsAnywhere cursor.old result cursor.new }
+    ensures { ReadsFollow New cursor.old result cursor.new }
 {
     let object = cursor.name()?;
     let class = cursor.name()?;
-    Ok(Event::New(object, class))
+    let home = cursor.optional_name()?;
+    Ok(Event::New(object, class, home))
 }
 
 /// `P O`, after `adopt`.
 fn adopt(cursor: &mut Cursor) -> Result<Event, ParseFault>
-    ensures { Reads spell_adopt tree_of_adopt EndsAnywhere cursor.old result cursor.new }
+    ensures { ReadsFollow Adopt cursor.old result cursor.new }
 {
     let parent = cursor.name()?;
     let child = cursor.name()?;
     Ok(Event::Adopt(parent, child))
 }
 
-/// `A S B M kind`, after `connect`.
+/// `A S B M kind [unique] [single]`, after `connect`.
 fn connect(cursor: &mut Cursor) -> Result<Event, ParseFault>
-    ensures { Reads spell_connect tree_of_connect EndsAnywhere cursor.old result cursor.new }
+    ensures { ReadsFollow Connect cursor.old result cursor.new }
 {
-    let sender = cursor.name()?;
-    let signal = cursor.sig()?;
-    let receiver = cursor.name()?;
-    let method = cursor.sig()?;
-    let kind = cursor.connection_kind()?;
-    Ok(Event::Connect(Connect {
-        sender,
-        signal,
-        receiver,
-        method,
-        kind,
-    }))
+    let ends = both_ends::<NamePart>(cursor, None)?;
+    let how = cursor.connection_type(None)?;
+    Ok(Event::Connect(ends, how))
+}
+
+/// `A S B M`, after `disconnect`.
+fn disconnect(cursor: &mut Cursor) -> Result<Event, ParseFault>
+    ensures { ReadsFollow Disconnect cursor.old result cursor.new }
+{
+    let ends = both_ends::<NamePart>(cursor, None)?;
+    Ok(Event::Disconnect(ends))
 }
 
 /// `O.P V`, after `set`.
 fn set(cursor: &mut Cursor) -> Result<Event, ParseFault>
-    ensures { Reads spell_assignment tree_of_assignment EndsAnywhere cursor.old result cursor.new }
+    ensures { ReadsFollow Set cursor.old result cursor.new }
 {
     let (object, property) = member(cursor)?;
     let value = input(cursor)?;
@@ -90,7 +112,7 @@ fn set(cursor: &mut Cursor) -> Result<Event, ParseFault>
 
 /// `O.M(V,..)`, after `emit`.
 fn emit(cursor: &mut Cursor) -> Result<Event, ParseFault>
-    ensures { Reads spell_invocation tree_of_emit EndsAnywhere cursor.old result cursor.new }
+    ensures { ReadsFollow Emit cursor.old result cursor.new }
 {
     let (object, signal, arguments) = invocation(cursor)?;
     Ok(Event::Emit(object, signal, arguments))
@@ -98,7 +120,7 @@ fn emit(cursor: &mut Cursor) -> Result<Event, ParseFault>
 
 /// `O.M(V,..)`, after `call`.
 fn call(cursor: &mut Cursor) -> Result<Event, ParseFault>
-    ensures { Reads spell_invocation tree_of_call EndsAnywhere cursor.old result cursor.new }
+    ensures { ReadsFollow Call cursor.old result cursor.new }
 {
     let (object, method, arguments) = invocation(cursor)?;
     Ok(Event::Call(object, method, arguments))
@@ -106,7 +128,7 @@ fn call(cursor: &mut Cursor) -> Result<Event, ParseFault>
 
 /// `O`, after `block`.
 fn block(cursor: &mut Cursor) -> Result<Event, ParseFault>
-    ensures { Reads spell_name tree_of_block EndsAnywhere cursor.old result cursor.new }
+    ensures { ReadsFollow Block cursor.old result cursor.new }
 {
     let object = cursor.name()?;
     Ok(Event::Block(object))
@@ -114,7 +136,7 @@ fn block(cursor: &mut Cursor) -> Result<Event, ParseFault>
 
 /// `O`, after `unblock`.
 fn unblock(cursor: &mut Cursor) -> Result<Event, ParseFault>
-    ensures { Reads spell_name tree_of_unblock EndsAnywhere cursor.old result cursor.new }
+    ensures { ReadsFollow Unblock cursor.old result cursor.new }
 {
     let object = cursor.name()?;
     Ok(Event::Unblock(object))
@@ -167,5 +189,24 @@ impl Part for InputPart {
 
     fn read(cursor: &mut Cursor) -> Result<Input, ParseFault> {
         input(cursor)
+    }
+}
+
+/// An object's name, as an end of a connection.
+struct NamePart;
+
+impl Part for NamePart {
+    type Tree = Name;
+
+    ghost Reading = { List ℕ };
+
+    ghost spell = { spell_name };
+
+    ghost tree = { λ name. name };
+
+    ghost Ends = { EndsAnywhere };
+
+    fn read(cursor: &mut Cursor) -> Result<Name, ParseFault> {
+        cursor.name()
     }
 }

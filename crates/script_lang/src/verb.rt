@@ -1,16 +1,32 @@
-//! What an event begins with that begins with a plain name.
+//! What events begin with.
 
 ghost use Rattle.script_lang.specs.Grammar.{IsVerbOf};
+ghost use Rattle.texts.specs.declared.token.Token.TheVariants as token;
 
-use signatures::Name;
+use signatures::{Name, Word};
+use texts::Token;
 
-/// The first name of an event. It is no reserved word, so objects and classes may have it too.
+/// The first word of an event: a reserved word, or a name, which objects, classes and event loops may have too.
 #[derive(Clone, Copy, Debug, PartialEq, Eq)]
 pub enum Verb {
+    /// `loop`
+    Loop,
+    /// `turn`
+    Turn,
     /// `new`
     New,
     /// `adopt`
     Adopt,
+    /// `connect`
+    Connect,
+    /// `disconnect`
+    Disconnect,
+    /// `set`
+    Set,
+    /// `emit`
+    Emit,
+    /// `call`
+    Call,
     /// `block`
     Block,
     /// `unblock`
@@ -18,12 +34,41 @@ pub enum Verb {
 }
 
 impl Verb {
-    /// The verb that is written so, or `None` where the name is no verb.
-    pub fn of(name: &Name) -> Option<Verb>
-        ensures { IsVerbOf name.now result }
+    /// The verb that the token is, or `None` where it is no verb.
+    pub fn of(token: &Token) -> Option<Verb>
+        ensures { IsVerbOf token.now result }
+    {
+        match token {
+            Token::Word(word) => Verb::reserved(*word),
+            Token::Name(name) => Verb::named(name),
+            _ => None,
+        }
+    }
+
+    /// .. that the reserved word is.
+    fn reserved(word: Word) -> Option<Verb>
+        ensures { IsVerbOf (token.Word word) result }
+    {
+        match word {
+            Word::Connect => Some(Verb::Connect),
+            Word::Disconnect => Some(Verb::Disconnect),
+            Word::Set => Some(Verb::Set),
+            Word::Emit => Some(Verb::Emit),
+            Word::Call => Some(Verb::Call),
+            _ => None,
+        }
+    }
+
+    /// .. that the name is.
+    fn named(name: &Name) -> Option<Verb>
+        ensures { IsVerbOf (token.Name name.now) result }
     {
         let letters = name.bytes();
-        if letters == b"new".as_slice() {
+        if letters == b"loop".as_slice() {
+            Some(Verb::Loop)
+        } else if letters == b"turn".as_slice() {
+            Some(Verb::Turn)
+        } else if letters == b"new".as_slice() {
             Some(Verb::New)
         } else if letters == b"adopt".as_slice() {
             Some(Verb::Adopt)

@@ -1,12 +1,14 @@
 -- Statements and blocks.
 use Rattle.std.proofs.Common.{◌≡◌, ◌∙◌, List, [], ◌∷◌, ◌++◌, Result, Ok, Err, refl, sym, ap, append_assoc}
 use Rattle.std.proofs.lemmas.List.{append-nil}
+use Rattle.signatures.specs.declared.word.Word.{Word}
 use Rattle.signatures.specs.declared.word.Word.TheVariants as word
 use Rattle.texts.specs.Cursor.{NotAt, NotAtWord}
 use Rattle.slot_lang.specs.Expressions.{Expression, tree_of_expression, EndsFactor}
-use Rattle.slot_lang.specs.Grammar.{spell_value, spell_arguments, spell_condition, Assignment, spell_assignment, tree_of_assignment, Emission, spell_emission, tree_of_emission, Call, spell_call, tree_of_call, Choice, spell_choice, tree_of_choice, Body, no_more, more, Statement, set, emit, call, choice, Else, no_else, else_block, spell_statements, spell_statement, spell_else, spell_block, tree_of_block, tree_of_statement, tree_of_else, EndsStatement}
-use Rattle.texts.specs.Reading.{EndsAnywhere, Found, Reads}
+use Rattle.slot_lang.specs.Grammar.{spell_value, spell_arguments, spell_condition, Assignment, spell_assignment, tree_of_assignment, Emission, spell_emission, tree_of_emission, Call, spell_call, tree_of_call, Choice, spell_choice, tree_of_choice, PathEnds, Connection, spell_connection, tree_of_connection, spell_disconnection, tree_of_disconnection, Body, no_more, more, Statement, set, emit, call, choice, connect, disconnect, Else, no_else, else_block, spell_statements, spell_statement, spell_else, spell_block, tree_of_block, tree_of_statement, tree_of_else, EndsStatement, ReadsStatement}
+use Rattle.texts.specs.Reading.{EndsAnywhere, Found, Reads, spell_word}
 use Rattle.texts.specs.declared.fault.ParseFault.{ParseFault}
+use Rattle.texts.specs.declared.symbol.Symbol.{Symbol}
 use Rattle.texts.specs.declared.symbol.Symbol.TheVariants.{OpenBrace, CloseBrace}
 use Rattle.texts.specs.declared.syntax.Expr.{Expr}
 use Rattle.texts.specs.declared.syntax.Path.{Path}
@@ -16,15 +18,7 @@ use Rattle.texts.specs.declared.token.Token.{Token}
 use Rattle.texts.specs.declared.token.Token.TheVariants as token
 use Rattle.texts.proofs.Underway.{None, Underway}
 
--- ---- one rule after another: the first may end where the second begins
-
-pub both_found : {R S A B C : Type 0} (spell_r : R → List Token → List Token) (tree_r : R → A) (Ends_r : List Token → Type 0) (spell_s : S → List Token → List Token) (tree_s : S → B) (Ends_s : List Token → Type 0) (tree : A → B → C) → ((s : S) (rest : List Token) → Ends_s rest → Ends_r (spell_s s rest)) → {before between after : List Token} {a : A} {b : B} → Found spell_r tree_r Ends_r before a between → Found spell_s tree_s Ends_s between b after → Found (λ (p : R × S) (rest : List Token). spell_r p.0 (spell_s p.1 rest)) (λ (p : R × S). tree (tree_r p.0) (tree_s p.1)) Ends_s before (tree a b) after
-both_found spell_r tree_r Ends_r spell_s tree_s Ends_s tree meet {a = a} f h = record {
-  reading = (f.reading, h.reading);
-  spelled = f.spelled ∙ ap (spell_r f.reading) h.spelled;
-  tree_is = ap (λ x. tree x (tree_s h.reading)) f.tree_is ∙ ap (tree a) h.tree_is;
-  only = λ p rest ends g. h.only p.1 rest ends (f.only p.0 (spell_s p.1 rest) (meet p.1 rest ends) g);
-}
+-- ---- where one rule ends and the next begins
 
 pub value_meets : (e : Expression) (rest : List Token) → EndsAnywhere rest → EndsFactor (spell_value e rest)
 value_meets e rest ends after g = cc
@@ -79,71 +73,99 @@ nothing_found {before} none = record { reading = no_else; spelled = refl; tree_i
 
 -- ---- a statement by its first word
 
+-- the statements that begin with the word; R are the readings of what follows it
+pub record IsForm {R : Type 0} (first : Word) (spell : R → List Token → List Token) (tree : R → Stmt) (Ends : List Token → Type 0) : Type 0 where
+  pub statement : R → Statement
+  pub spelled : (r : R) (rest : List Token) → spell_statement (statement r) rest ≡ token.Word first ∷ spell r rest
+  pub tree_is : (r : R) → tree_of_statement (statement r) ≡ tree r
+  pub ends : (rest : List Token) → EndsStatement rest → Ends rest
+  pub only : (s : Statement) (between rest : List Token) → token.Word first ∷ between ≡ spell_statement s rest → (r : R) × (between ≡ spell r rest)
+
+-- an answer, which is returned as it is
+pub form_reads : {R : Type 0} {first : Word} {spell : R → List Token → List Token} {tree : R → Stmt} {Ends : List Token → Type 0} → IsForm first spell tree Ends → {before between : List Token} (after : List Token) (result : Result Stmt ParseFault) → before ≡ token.Word first ∷ between → Reads spell tree Ends between result after → ReadsStatement before result after
+form_reads {first = first} form {between = between} after (Ok s) at h = record {
+  reading = form.statement h.reading;
+  spelled = at ∙ (ap (λ ts. token.Word first ∷ ts) h.spelled ∙ sym (form.spelled h.reading after));
+  tree_is = form.tree_is h.reading ∙ h.tree_is;
+  only = λ s rest ends g. let w = form.only s between rest (sym at ∙ g) in h.only w.0 rest (form.ends rest ends) w.1;
+}
+form_reads form {between = between} after (Err fault) at h = λ k s rest ends g. let w = form.only s between rest (sym at ∙ g) in h k w.0 rest (form.ends rest ends) w.1
+
 after_set : (s : Statement) (between rest : List Token) → token.Word word.Set ∷ between ≡ spell_statement s rest → (a : Assignment) × (between ≡ spell_assignment a rest)
 after_set (set a) between rest g = (a, cc)
-after_set (emit e) between rest g = cc
-after_set (call c) between rest g = cc
-after_set (choice e b o) between rest g = cc
+after_set _ between rest g = cc
+
+pub set_form : IsForm word.Set spell_assignment tree_of_assignment EndsAnywhere
+set_form = record { statement = λ a. set a; spelled = λ a rest. refl; tree_is = λ a. refl; ends = λ rest e. tt; only = after_set }
 
 after_emit : (s : Statement) (between rest : List Token) → token.Word word.Emit ∷ between ≡ spell_statement s rest → (e : Emission) × (between ≡ spell_emission e rest)
-after_emit (set a) between rest g = cc
 after_emit (emit e) between rest g = (e, cc)
-after_emit (call c) between rest g = cc
-after_emit (choice e b o) between rest g = cc
+after_emit _ between rest g = cc
+
+pub emit_form : IsForm word.Emit spell_emission tree_of_emission EndsAnywhere
+emit_form = record { statement = λ e. emit e; spelled = λ e rest. refl; tree_is = λ e. refl; ends = λ rest e. tt; only = after_emit }
 
 after_call : (s : Statement) (between rest : List Token) → token.Word word.Call ∷ between ≡ spell_statement s rest → (c : Call) × (between ≡ spell_call c rest)
-after_call (set a) between rest g = cc
-after_call (emit e) between rest g = cc
 after_call (call c) between rest g = (c, cc)
-after_call (choice e b o) between rest g = cc
+after_call _ between rest g = cc
+
+pub call_form : IsForm word.Call spell_call tree_of_call EndsAnywhere
+call_form = record { statement = λ c. call c; spelled = λ c rest. refl; tree_is = λ c. refl; ends = λ rest e. tt; only = after_call }
 
 after_if : (s : Statement) (between rest : List Token) → token.Word word.If ∷ between ≡ spell_statement s rest → (c : Choice) × (between ≡ spell_choice c rest)
-after_if (set a) between rest g = cc
-after_if (emit e) between rest g = cc
-after_if (call c) between rest g = cc
 after_if (choice e b o) between rest g = ((e, b, o), cc)
+after_if _ between rest g = cc
 
-pub set_reads : {before between : List Token} (after : List Token) (result : Result Stmt ParseFault) → before ≡ token.Word word.Set ∷ between → Reads spell_assignment tree_of_assignment EndsAnywhere between result after → Reads spell_statement tree_of_statement EndsStatement before result after
-set_reads {before} {between} after (Ok s) at h = record {
-  reading = set h.reading;
-  spelled = at ∙ ap (λ ts. token.Word word.Set ∷ ts) h.spelled;
-  tree_is = h.tree_is;
-  only = λ r rest ends g. let w = after_set r between rest (sym at ∙ g) in h.only w.0 rest tt w.1;
-}
-set_reads {before} {between} after (Err fault) at h = λ q r rest ends g. let w = after_set r between rest (sym at ∙ g) in h q w.0 rest tt w.1
+pub if_form : IsForm word.If spell_choice tree_of_choice EndsStatement
+if_form = record { statement = λ c. choice c.0 c.1 c.2; spelled = λ c rest. refl; tree_is = λ c. refl; ends = λ rest e. e; only = after_if }
 
-pub emit_reads : {before between : List Token} (after : List Token) (result : Result Stmt ParseFault) → before ≡ token.Word word.Emit ∷ between → Reads spell_emission tree_of_emission EndsAnywhere between result after → Reads spell_statement tree_of_statement EndsStatement before result after
-emit_reads {before} {between} after (Ok s) at h = record {
-  reading = emit h.reading;
-  spelled = at ∙ ap (λ ts. token.Word word.Emit ∷ ts) h.spelled;
-  tree_is = h.tree_is;
-  only = λ r rest ends g. let w = after_emit r between rest (sym at ∙ g) in h.only w.0 rest tt w.1;
-}
-emit_reads {before} {between} after (Err fault) at h = λ q r rest ends g. let w = after_emit r between rest (sym at ∙ g) in h q w.0 rest tt w.1
+after_connect : (s : Statement) (between rest : List Token) → token.Word word.Connect ∷ between ≡ spell_statement s rest → (c : Connection) × (between ≡ spell_connection c rest)
+after_connect (connect c) between rest g = (c, cc)
+after_connect _ between rest g = cc
 
-pub call_reads : {before between : List Token} (after : List Token) (result : Result Stmt ParseFault) → before ≡ token.Word word.Call ∷ between → Reads spell_call tree_of_call EndsAnywhere between result after → Reads spell_statement tree_of_statement EndsStatement before result after
-call_reads {before} {between} after (Ok s) at h = record {
-  reading = call h.reading;
-  spelled = at ∙ ap (λ ts. token.Word word.Call ∷ ts) h.spelled;
-  tree_is = h.tree_is;
-  only = λ r rest ends g. let w = after_call r between rest (sym at ∙ g) in h.only w.0 rest tt w.1;
-}
-call_reads {before} {between} after (Err fault) at h = λ q r rest ends g. let w = after_call r between rest (sym at ∙ g) in h q w.0 rest tt w.1
+pub connect_form : IsForm word.Connect spell_connection tree_of_connection EndsAnywhere
+connect_form = record { statement = λ c. connect c; spelled = λ c rest. refl; tree_is = λ c. refl; ends = λ rest e. tt; only = after_connect }
 
-pub choice_reads : {before between : List Token} (after : List Token) (result : Result Stmt ParseFault) → before ≡ token.Word word.If ∷ between → Reads spell_choice tree_of_choice EndsStatement between result after → Reads spell_statement tree_of_statement EndsStatement before result after
-choice_reads {before} {between} after (Ok s) at h = record {
-  reading = choice h.reading.0 h.reading.1 h.reading.2;
-  spelled = at ∙ ap (λ ts. token.Word word.If ∷ ts) h.spelled;
-  tree_is = h.tree_is;
-  only = λ r rest ends g. let w = after_if r between rest (sym at ∙ g) in h.only w.0 rest ends w.1;
-}
-choice_reads {before} {between} after (Err fault) at h = λ q r rest ends g. let w = after_if r between rest (sym at ∙ g) in h q w.0 rest ends w.1
+after_disconnect : (s : Statement) (between rest : List Token) → token.Word word.Disconnect ∷ between ≡ spell_statement s rest → (ends : PathEnds) × (between ≡ spell_disconnection ends rest)
+after_disconnect (disconnect ends) between rest g = (ends, cc)
+after_disconnect _ between rest g = cc
 
-pub no_statement_at : {before : List Token} → NotAtWord word.Set before → NotAtWord word.Emit before → NotAtWord word.Call before → NotAtWord word.If before → None spell_statement EndsStatement before
-no_statement_at s e c i (set a) rest ends g = s _ g
-no_statement_at s e c i (emit a) rest ends g = e _ g
-no_statement_at s e c i (call a) rest ends g = c _ g
-no_statement_at s e c i (choice t b o) rest ends g = i _ g
+pub disconnect_form : IsForm word.Disconnect spell_disconnection tree_of_disconnection EndsAnywhere
+disconnect_form = record { statement = λ ends. disconnect ends; spelled = λ ends rest. refl; tree_is = λ ends. refl; ends = λ rest e. tt; only = after_disconnect }
+
+-- the word that comes next
+pub word_at : {before after : List Token} {found : Word} → Found spell_word (λ word. word) EndsAnywhere before found after → (first : Word) → found ≡ first → before ≡ token.Word first ∷ after
+word_at {after = after} f first is = f.spelled ∙ ap (λ w. spell_word w after) (f.tree_is ∙ is)
+
+-- .. and one that doesn't
+pub not_at_word : {before after : List Token} {found : Word} → Found spell_word (λ word. word) EndsAnywhere before found after → (other : Word) → (found ≡ other → ⊥) → NotAtWord other before
+not_at_word f other differs rest e =
+    let at = f.spelled in
+    let is = f.tree_is in
+    differs cc
+
+-- where another word comes next, or none
+pub no_statement_at : {before : List Token} → NotAtWord word.Set before → NotAtWord word.Emit before → NotAtWord word.Call before → NotAtWord word.If before → NotAtWord word.Connect before → NotAtWord word.Disconnect before → None spell_statement EndsStatement before
+no_statement_at s e c i n d (set a) rest ends g = s _ g
+no_statement_at s e c i n d (emit a) rest ends g = e _ g
+no_statement_at s e c i n d (call a) rest ends g = c _ g
+no_statement_at s e c i n d (choice t b o) rest ends g = i _ g
+no_statement_at s e c i n d (connect a) rest ends g = n _ g
+no_statement_at s e c i n d (disconnect a) rest ends g = d _ g
+
+pub no_statement_without_word : {before : List Token} → None spell_word EndsAnywhere before → None spell_statement EndsStatement before
+no_statement_without_word none =
+    no_statement_at (λ rest e. none word.Set rest tt e) (λ rest e. none word.Emit rest tt e) (λ rest e. none word.Call rest tt e) (λ rest e. none word.If rest tt e) (λ rest e. none word.Connect rest tt e) (λ rest e. none word.Disconnect rest tt e)
+
+-- a statement begins with a word ..
+pub begins_with_word : (s : Statement) (symbol : Symbol) (after rest : List Token) → spell_statement s after ≡ token.Symbol symbol ∷ rest → ⊥
+begins_with_word (set a) symbol after rest e = cc
+begins_with_word _ symbol after rest e = cc
+
+-- .. which isn't `else`
+not_with_else : (s : Statement) (after rest : List Token) → spell_statement s after ≡ token.Word word.Else ∷ rest → ⊥
+not_with_else (set a) after rest e = cc
+not_with_else _ after rest e = cc
 
 -- ---- blocks
 
@@ -160,10 +182,7 @@ body_start {before} {now} e = record { goes_on = λ m rest g. (m, cc, refl); all
 -- a statement may end within a body
 pub ends_in_body : (body : Body) (after : List Token) → EndsStatement (spell_rest body after)
 ends_in_body no_more after rest e = cc
-ends_in_body (more (set a) body) after rest e = cc
-ends_in_body (more (emit a) body) after rest e = cc
-ends_in_body (more (call a) body) after rest e = cc
-ends_in_body (more (choice t b o) body) after rest e = cc
+ends_in_body (more s body) after rest e = not_with_else s (spell_rest body after) rest e
 
 after_statement : (m : Body) (now after rest : List Token) {s : Stmt} → NotAt CloseBrace now → Found spell_statement tree_of_statement EndsStatement now s after → now ≡ spell_rest m rest → (b : Body) × (after ≡ spell_rest b rest)
 after_statement no_more now after rest unclosed h g = absurd (unclosed rest g)
@@ -175,10 +194,7 @@ no_statement_left (more s body) now rest unclosed none g = none s (spell_rest bo
 
 closed : (m : Body) (now after rest : List Token) → now ≡ token.Symbol CloseBrace ∷ after → now ≡ spell_rest m rest → after ≡ rest
 closed no_more now after rest e g = cc
-closed (more (set a) body) now after rest e g = cc
-closed (more (emit a) body) now after rest e g = cc
-closed (more (call a) body) now after rest e g = cc
-closed (more (choice t b o) body) now after rest e g = cc
+closed (more s body) now after rest e g = absurd (begins_with_word s CloseBrace (spell_rest body rest) after (sym g ∙ e))
 
 module _ {before : List Token} {found : List Stmt} {now : List Token} (h : BodySoFar before found now) where
   pub body_step : {s : Stmt} {after : List Token} → NotAt CloseBrace now → Found spell_statement tree_of_statement EndsStatement now s after → BodySoFar before (found ++ s ∷ []) after

@@ -1,18 +1,22 @@
 -- No two readings of a block with the same tokens stand for different trees.
-use Rattle.std.proofs.Common.{◌≡◌, ◌∙◌, ℕ, List, [], ◌∷◌, ◌++◌, map, refl, sym, ap}
-use Rattle.slot_lang.specs.Expressions.{Expression, spell_expression, tree_of_expression, EndsFactor}
-use Rattle.slot_lang.specs.Grammar.{Target, spell_target, spell_value, spell_arguments, Assignment, spell_assignment, tree_of_assignment, Emission, spell_emission, tree_of_emission, Call, spell_call, tree_of_call, spell_condition, Body, no_more, more, Statement, set, emit, call, choice, Else, no_else, else_block, spell_statements, spell_statement, spell_else, spell_block, tree_of_block, tree_of_statement, tree_of_else, EndsStatement, IsBody}
-use Rattle.texts.specs.declared.symbol.Symbol.TheVariants.{Semicolon, CloseBrace}
+use Rattle.std.proofs.Common.{◌≡◌, ◌∙◌, ℕ, List, [], ◌∷◌, ◌++◌, map, Some, refl, sym, ap}
+use Rattle.slot_lang.specs.Expressions.{Expression, spell_expression, spell_path, tree_of_expression, EndsFactor}
+use Rattle.slot_lang.specs.Grammar.{Target, spell_target, spell_value, spell_arguments, Assignment, spell_assignment, tree_of_assignment, Emission, spell_emission, tree_of_emission, Call, spell_call, tree_of_call, spell_condition, spell_path_ends, tree_of_path_ends, spell_how, spell_connection, tree_of_connection, spell_disconnection, tree_of_disconnection, Body, no_more, more, Statement, set, emit, call, choice, connect, disconnect, Else, no_else, else_block, spell_statements, spell_statement, spell_else, spell_block, tree_of_block, tree_of_statement, tree_of_else, EndsStatement, IsBody}
+use Rattle.texts.specs.Connections.{EndsAtSig, EndsConnectionType}
+use Rattle.texts.specs.Reading.{EndsAnywhere}
+use Rattle.texts.specs.declared.symbol.Symbol.TheVariants.{Comma, Semicolon, CloseBrace}
 use Rattle.texts.specs.declared.syntax.Path.{Path}
 use Rattle.texts.specs.declared.syntax.Stmt.{Stmt}
 use Rattle.texts.specs.declared.syntax.Stmt.TheVariants as stmt
 use Rattle.texts.specs.declared.token.Token.{Token}
 use Rattle.texts.specs.declared.token.Token.TheVariants as token
 use Rattle.slot_lang.proofs.Arguments.{expressions_are_parts}
-use Rattle.slot_lang.proofs.Bodies.{ends_in_body, value_meets, arguments_meet}
+use Rattle.texts.proofs.Both.{one_tree_of_both}
+use Rattle.texts.proofs.Connections.{one_tree_of_ends, one_tree_of_connection_type}
+use Rattle.slot_lang.proofs.Bodies.{begins_with_word, ends_in_body, value_meets, arguments_meet}
 use Rattle.slot_lang.proofs.Factors.{ends_at_close}
 use Rattle.slot_lang.proofs.OneExpression.{one_path, one_tree_of_expression}
-use Rattle.texts.proofs.OneTree.{one_tree_of_listed}
+use Rattle.texts.proofs.OneTree.{HasOneTree, one_tree_of_listed}
 use Rattle.slot_lang.proofs.Paths.{whole_path, spelled_whole}
 use Rattle.slot_lang.proofs.Precedences.{expression_ends}
 
@@ -69,19 +73,38 @@ one_call a b r s e =
     let k = one_arguments a.1 b.1 r s h.1 in
     (ap (λ (t : Target). stmt.Call t.0 t.1 (map tree_of_expression a.1)) h.0 ∙ ap (λ es. stmt.Call b.0.0 b.0.1 es) k.0, k.1)
 
+paths_end_at_comma : EndsAtSig EndsFactor (Some Comma)
+paths_end_at_comma s rest after e = cc
+
+one_path_ends : HasOneTree spell_path_ends tree_of_path_ends EndsAnywhere
+one_path_ends = one_tree_of_ends spell_path (λ path. path) EndsFactor (Some Comma) paths_end_at_comma one_path
+
+how_ends : (rest : List Token) → EndsConnectionType (Some Comma) (token.Symbol Semicolon ∷ rest)
+how_ends rest = record { not_unique = λ after e. cc; not_single = λ after e. cc }
+
+one_how : HasOneTree spell_how (λ how. how) EndsAnywhere
+one_how a b r s er es e =
+    let h = one_tree_of_connection_type (Some Comma) a b (token.Symbol Semicolon ∷ r) (token.Symbol Semicolon ∷ s) (how_ends r) (how_ends s) cc in
+    let rests = h.1 in
+    (h.0, cc)
+
+one_connection : HasOneTree spell_connection tree_of_connection EndsAnywhere
+one_connection =
+    one_tree_of_both spell_path_ends tree_of_path_ends EndsAnywhere spell_how (λ how. how) EndsAnywhere (λ ends how. stmt.Connect ends how) (λ how rest ends. tt) one_path_ends one_how
+
+one_disconnection : HasOneTree spell_disconnection tree_of_disconnection EndsAnywhere
+one_disconnection a b r s er es e =
+    let h = one_path_ends a b (token.Symbol Semicolon ∷ r) (token.Symbol Semicolon ∷ s) tt tt e in
+    let rests = h.1 in
+    (ap (λ ends. stmt.Disconnect ends) h.0, cc)
+
 -- ---- statements and blocks
 
 mutual
   unique_statements : (c d : Body) (r s : List Token) → spell_statements c (token.Symbol CloseBrace ∷ r) ≡ spell_statements d (token.Symbol CloseBrace ∷ s) → (tree_of_block c ≡ tree_of_block d) × (r ≡ s)
   unique_statements no_more no_more r s e = (refl, cc)
-  unique_statements no_more (more (set a) d) r s e = cc
-  unique_statements no_more (more (emit a) d) r s e = cc
-  unique_statements no_more (more (call a) d) r s e = cc
-  unique_statements no_more (more (choice t b o) d) r s e = cc
-  unique_statements (more (set a) c) no_more r s e = cc
-  unique_statements (more (emit a) c) no_more r s e = cc
-  unique_statements (more (call a) c) no_more r s e = cc
-  unique_statements (more (choice t b o) c) no_more r s e = cc
+  unique_statements no_more (more b d) r s e = absurd (begins_with_word b CloseBrace _ r (sym e))
+  unique_statements (more a c) no_more r s e = absurd (begins_with_word a CloseBrace _ s e)
   unique_statements (more a c) (more b d) r s e =
       let h : (tree_of_statement a ≡ tree_of_statement b) × (spell_statements c (token.Symbol CloseBrace ∷ r) ≡ spell_statements d (token.Symbol CloseBrace ∷ s)) = unique_statement a b (spell_statements c (token.Symbol CloseBrace ∷ r)) (spell_statements d (token.Symbol CloseBrace ∷ s)) (ends_in_body c r) (ends_in_body d s) e in
       let k = unique_statements c d r s h.1 in
@@ -97,6 +120,8 @@ mutual
       let k : (tree_of_block b ≡ tree_of_block c) × (spell_else o r ≡ spell_else p s) = unique_statements b c (spell_else o r) (spell_else p s) cc in
       let m = unique_else o p r s er es k.1 in
       (ap (λ x. stmt.If x (tree_of_block b) (tree_of_else o)) h.0 ∙ (ap (λ x. stmt.If (tree_of_expression u) x (tree_of_else o)) k.0 ∙ ap (λ x. stmt.If (tree_of_expression u) (tree_of_block c) x) m.0), m.1)
+  unique_statement (connect a) (connect b) r s er es e = one_connection a b r s tt tt cc
+  unique_statement (disconnect a) (disconnect b) r s er es e = one_disconnection a b r s tt tt cc
   unique_statement _ _ r s er es e = cc
 
   unique_else : (o p : Else) (r s : List Token) → EndsStatement r → EndsStatement s → spell_else o r ≡ spell_else p s → (tree_of_else o ≡ tree_of_else p) × (r ≡ s)

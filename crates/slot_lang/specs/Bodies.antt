@@ -1,6 +1,7 @@
 -- The signatures in slot bodies (docs/language.md, "Limits").
 use Rattle.std.specs.Prelude.{List, [], ◌++◌, flat_map}
 use Rattle.signatures.specs.declared.sig.Sig.{Sig}
+use Rattle.texts.specs.Connections.{signatures_at}
 use Rattle.texts.specs.declared.syntax.Stmt.{Stmt}
 use Rattle.texts.specs.declared.syntax.Stmt.TheOpen as layer
 use Rattle.texts.specs.declared.syntax.Stmt.TheFolds.{fold-Stmt}
@@ -11,6 +12,8 @@ signatures_step (layer.Set path property value) = []
 signatures_step (layer.Emit signal arguments) = []
 signatures_step (layer.Call path method arguments) = []
 signatures_step (layer.If condition body other) = flat_map (λ sigs. sigs) body ++ flat_map (λ sigs. sigs) other
+signatures_step (layer.Connect ends how) = signatures_at ends
+signatures_step (layer.Disconnect ends) = signatures_at ends
 
 abbrev pub signatures_of : Stmt → List Sig
 signatures_of = fold-Stmt (List Sig) signatures_step

@@ -6,15 +6,22 @@
 --         | "emit" Name "(" [expr {"," expr}] ")" ";"
 --         | "call" path "." Name "(" [expr {"," expr}] ")" ";"
 --         | "if" "(" expr ")" block ["else" block]
-use Rattle.std.specs.Prelude.{ℕ, ◌≡◌, List, [], ◌∷◌, map, Result}
+--         | "connect" ends "," how ";"
+--         | "disconnect" ends ";"
+--   ends  = path "," sig "," path "," sig
+--   how   = kind ["," "unique"] ["," "single"]
+use Rattle.std.specs.Prelude.{ℕ, ◌≡◌, List, [], ◌∷◌, map, Some, Result}
 use Rattle.signatures.specs.declared.word.Word.TheVariants as word
+use Rattle.texts.specs.Connections.{BothEnds, spell_ends, tree_of_ends, spell_connection_type}
 use Rattle.texts.specs.Cursor.{NotAtWord}
 use Rattle.slot_lang.specs.Expressions.{Expression, spell_expression, spell_group, spell_path, tree_of_expression}
 use Rattle.texts.specs.Lists.{spell_listed}
 use Rattle.texts.specs.Reading.{Reads, EndsAnywhere}
+use Rattle.texts.specs.declared.connection.ConnectionType.{ConnectionType}
+use Rattle.texts.specs.declared.connection.Endpoints.{Endpoints}
 use Rattle.texts.specs.declared.fault.ParseFault.{ParseFault}
 use Rattle.texts.specs.declared.syntax.Expr.{Expr}
-use Rattle.texts.specs.declared.symbol.Symbol.TheVariants.{Dot, Assign, Semicolon, Open, OpenBrace, CloseBrace}
+use Rattle.texts.specs.declared.symbol.Symbol.TheVariants.{Dot, Comma, Assign, Semicolon, Open, OpenBrace, CloseBrace}
 use Rattle.texts.specs.declared.syntax.Path.{Path}
 use Rattle.texts.specs.declared.syntax.Stmt.{Stmt}
 use Rattle.texts.specs.declared.syntax.Stmt.TheVariants as stmt
@@ -72,6 +79,37 @@ spell_call c after = spell_target c.0 (spell_arguments c.1 after)
 abbrev pub tree_of_call : Call → Stmt
 tree_of_call c = stmt.Call c.0.0 c.0.1 (map tree_of_expression c.1)
 
+-- the ends of a connection
+abbrev pub PathEnds : Type 0
+PathEnds = BothEnds Path
+
+abbrev pub spell_path_ends : PathEnds → List Token → List Token
+spell_path_ends ends after = spell_ends spell_path (Some Comma) ends after
+
+abbrev pub tree_of_path_ends : PathEnds → Endpoints Path
+tree_of_path_ends ends = tree_of_ends (λ path. path) ends
+
+-- "," how ";"
+abbrev pub spell_how : ConnectionType → List Token → List Token
+spell_how how after = token.Symbol Comma ∷ spell_connection_type (Some Comma) how (token.Symbol Semicolon ∷ after)
+
+-- what follows "connect"
+abbrev pub Connection : Type 0
+Connection = PathEnds × ConnectionType
+
+abbrev pub spell_connection : Connection → List Token → List Token
+spell_connection c after = spell_path_ends c.0 (spell_how c.1 after)
+
+abbrev pub tree_of_connection : Connection → Stmt
+tree_of_connection c = stmt.Connect (tree_of_path_ends c.0) c.1
+
+-- what follows "disconnect"
+abbrev pub spell_disconnection : PathEnds → List Token → List Token
+spell_disconnection ends after = spell_path_ends ends (token.Symbol Semicolon ∷ after)
+
+abbrev pub tree_of_disconnection : PathEnds → Stmt
+tree_of_disconnection ends = stmt.Disconnect (tree_of_path_ends ends)
+
 -- ---- statements and blocks
 
 mutual
@@ -85,6 +123,8 @@ mutual
     emit : Emission → Statement
     call : Call → Statement
     choice : Expression → Body → Else → Statement
+    connect : Connection → Statement
+    disconnect : PathEnds → Statement
 
   -- ["else" block]
   pub data Else : Type 0 where
@@ -102,6 +142,8 @@ abbrev mutual
   spell_statement (call c) after = token.Word word.Call ∷ spell_call c after
   spell_statement (choice e body other) after =
       token.Word word.If ∷ spell_condition e (token.Symbol OpenBrace ∷ spell_statements body (token.Symbol CloseBrace ∷ spell_else other after))
+  spell_statement (connect c) after = token.Word word.Connect ∷ spell_connection c after
+  spell_statement (disconnect ends) after = token.Word word.Disconnect ∷ spell_disconnection ends after
 
   pub spell_else : Else → List Token → List Token
   spell_else no_else after = after
@@ -127,6 +169,8 @@ abbrev mutual
   tree_of_statement (emit e) = tree_of_emission e
   tree_of_statement (call c) = tree_of_call c
   tree_of_statement (choice e body other) = stmt.If (tree_of_expression e) (tree_of_block body) (tree_of_else other)
+  tree_of_statement (connect c) = tree_of_connection c
+  tree_of_statement (disconnect ends) = tree_of_disconnection ends
 
   -- a missing `else` is an empty one
   pub tree_of_else : Else → List Stmt
@@ -170,3 +214,9 @@ ReadsCondition before result after = Reads spell_condition tree_of_expression En
 
 abbrev pub ReadsArguments : List Token → Result (List (Expr Path)) ParseFault → List Token → Type 0
 ReadsArguments before result after = Reads spell_arguments (map tree_of_expression) EndsAnywhere before result after
+
+abbrev pub ReadsConnection : List Token → Result Stmt ParseFault → List Token → Type 0
+ReadsConnection before result after = Reads spell_connection tree_of_connection EndsAnywhere before result after
+
+abbrev pub ReadsDisconnection : List Token → Result Stmt ParseFault → List Token → Type 0
+ReadsDisconnection before result after = Reads spell_disconnection tree_of_disconnection EndsAnywhere before result after

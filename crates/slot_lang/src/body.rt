@@ -7,6 +7,7 @@ ghost use Rattle.slot_lang.specs.Reads.{ReadsBody, OneAnswer};
 ghost use Rattle.texts.specs.Reading.{Reads, EndsAnywhere};
 ghost use Rattle.texts.specs.declared.fault.ParseFault.TheVariants.{Syntax};
 
+use crate::connection::{connection, disconnection};
 use crate::expression::{Argument, expression, group};
 use crate::fault::BodyFault;
 use crate::limits::body_has_few_parameters;
@@ -83,16 +84,14 @@ fn statement(cursor: &mut Cursor) -> Result<Stmt, ParseFault>
     ensures reads { ReadsStatement cursor.old result cursor.new }
     ensures shorter { OnOk result (length cursor.new < length cursor.old) }
 {
-    if cursor.eat_word(Word::Set) {
-        assignment(cursor)
-    } else if cursor.eat_word(Word::Emit) {
-        emission(cursor)
-    } else if cursor.eat_word(Word::Call) {
-        call(cursor)
-    } else if cursor.eat_word(Word::If) {
-        choice(cursor)
-    } else {
-        Err(ParseFault::Syntax)
+    match cursor.word()? {
+        Word::Set => assignment(cursor),
+        Word::Emit => emission(cursor),
+        Word::Call => call(cursor),
+        Word::If => choice(cursor),
+        Word::Connect => connection(cursor),
+        Word::Disconnect => disconnection(cursor),
+        _ => Err(ParseFault::Syntax),
     }
 }
 

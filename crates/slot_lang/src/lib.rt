@@ -2,6 +2,7 @@
 #![tactic(auto)]
 
 mod body;
+mod connection;
 mod expression;
 mod fault;
 mod limits;
@@ -13,4 +14,4 @@ pub use expression::{one_expression, parse_expr};
 pub use fault::BodyFault;
 pub use limits::body_has_few_parameters;
 pub use precedence::Precedence;
-pub use texts::{Binary, Body, Expr, Path, Root, Stmt, Unary};
+pub use texts::{Binary, Body, ConnectionType, Endpoints, Expr, Path, Root, Stmt, Unary};

@@ -31,5 +31,7 @@ fn statement_has_few_parameters(statement: &Stmt) -> bool
         Stmt::If(_, body, other) => {
             body_has_few_parameters(body.as_slice()) && body_has_few_parameters(other.as_slice())
         }
+        Stmt::Connect(ends, _) => ends.have_few_types(),
+        Stmt::Disconnect(ends) => ends.have_few_types(),
     }
 }

@@ -4,10 +4,11 @@ ghost use Rattle.std.specs.Prelude.{◌≡◌, ◌<◌, ◌≤◌, length, OnOk}
 ghost use Rattle.slot_lang.specs.Expressions.{spell_root, spell_names, spell_path, EndsFactor};
 ghost use Rattle.slot_lang.specs.Grammar.{spell_target};
 ghost use Rattle.texts.specs.Reading.{Reads, EndsAnywhere};
+ghost use Rattle.texts.specs.declared.syntax.Path.{Path};
 
 use signatures::{Name, Word};
 use sqlite_items::Items;
-use texts::{Cursor, ParseFault, Path, Root, Symbol};
+use texts::{Cursor, ParseFault, Part, Path, Root, Symbol};
 
 /// `("this" | Name) {"." Name}`
 ///
@@ -59,5 +60,24 @@ pub fn target(cursor: &mut Cursor) -> Result<(Path, Name), ParseFault>
     match properties.pop() {
         Some(member) => Ok((Path { root, properties }, member)),
         None => Err(ParseFault::Syntax),
+    }
+}
+
+/// A path, as a part of a list or an end of a connection.
+pub struct PathPart;
+
+impl Part for PathPart {
+    type Tree = Path;
+
+    ghost Reading = { Path };
+
+    ghost spell = { spell_path };
+
+    ghost tree = { λ path. path };
+
+    ghost Ends = { EndsFactor };
+
+    fn read(cursor: &mut Cursor) -> Result<Path, ParseFault> {
+        path(cursor)
     }
 }

@@ -1,4 +1,6 @@
 pub mod OneTree
+pub mod Both
+pub mod Connections
 pub mod Underway
 pub mod Listed
 pub mod Signatures

@@ -1,5 +1,5 @@
 -- No two readings with the same tokens stand for different trees: lists, types, signatures, kinds and literals.
-use Rattle.std.proofs.Common.{◌≡◌, ℕ, List, [], ◌∷◌, true, false, pos, ◌-ℤ◌, map, refl, sym, ap}
+use Rattle.std.proofs.Common.{◌≡◌, ℕ, List, [], ◌∷◌, true, false, Some, None, pos, ◌-ℤ◌, map, refl, sym, ap}
 use Rattle.signatures.specs.declared.kind.Kind.TheVariants.{Auto, Direct, Queued}
 use Rattle.signatures.specs.declared.normal.ConstPlace.{ConstPlace}
 use Rattle.signatures.specs.declared.normal.ConstPlace.TheVariants.{Nowhere, Before, After}
@@ -9,6 +9,7 @@ use Rattle.texts.specs.declared.syntax.Literal.TheVariants as literal
 use Rattle.texts.specs.Lists.{IsPart, spell_others, spell_listed}
 use Rattle.texts.specs.Literals.{UnsignedReading, plain, truth, quoted, null, token_of_unsigned, tree_of_unsigned, unsigned, negative, spell_literal, tree_of_literal}
 use Rattle.texts.specs.Numerals.{value_of}
+use Rattle.texts.specs.Optional.{spell_optional_name, EndsWithoutName}
 use Rattle.texts.specs.Reading.{EndsAnywhere}
 use Rattle.texts.specs.Signatures.{spelled_type, spell_ending, Named, spell_place, EndsNamed, spell_type, tree_of_type, EndsType, sig, spell_sig, tree_of_sig, spell_kind}
 use Rattle.texts.specs.declared.symbol.Symbol.TheVariants.{Minus}
@@ -41,6 +42,14 @@ module _ {R A : Type 0} (spell : R → List Token → List Token) (tree : R → 
       let h : (tree a ≡ tree b) × (spell_others spell as_ r ≡ spell_others spell bs s) = one a b (spell_others spell as_ r) (spell_others spell bs s) (ends_others spell tree Ends part as_ r) (ends_others spell tree Ends part bs s) cc in
       let k = one_tree_of_others as_ bs r s h.1 in
       (cc, k.1)
+
+-- ---- a name that may be missing
+
+pub one_tree_of_optional_name : HasOneTree spell_optional_name (λ name. name) EndsWithoutName
+one_tree_of_optional_name None None r s er es e = (refl, e)
+one_tree_of_optional_name None (Some y) r s er es e = absurd (er y s e)
+one_tree_of_optional_name (Some x) None r s er es e = absurd (es x r (sym e))
+one_tree_of_optional_name (Some x) (Some y) r s er es e = (cc, cc)
 
 -- ---- types, signatures and kinds
 

@@ -7,8 +7,10 @@ pub mod Splitting
 pub mod Cursor
 pub mod Reading
 pub mod Lists
+pub mod Optional
 pub mod Numerals
 pub mod Literals
 pub mod Signatures
 pub mod SignatureTexts
+pub mod Connections
 pub mod Trees

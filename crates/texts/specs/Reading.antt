@@ -1,6 +1,7 @@
 -- What a reader does for a rule of a grammar. A reading is a way to read tokens by the rule, `spell` gives its
 -- tokens and what follows them, and `tree` the tree that it stands for.
-use Rattle.std.specs.Prelude.{List, ℕ, ◌≡◌, Result, Ok, Err, ◌∷◌}
+use Rattle.std.specs.Prelude.{List, [], ℕ, ◌≡◌, Result, Ok, Err, ◌∷◌}
+use Rattle.signatures.specs.declared.word.Word.{Word}
 use Rattle.texts.specs.declared.token.Token.{Token}
 use Rattle.texts.specs.declared.token.Token.TheVariants as token
 use Rattle.texts.specs.declared.fault.ParseFault.{ParseFault}
@@ -9,6 +10,10 @@ use Rattle.texts.specs.declared.fault.ParseFault.TheVariants.{Syntax}
 -- a rule that ends with a token of its own may be followed by anything
 abbrev pub EndsAnywhere : List Token → Type 0
 EndsAnywhere after = Unit {0}
+
+-- no token comes next
+abbrev pub IsAtEnd : List Token → Type 0
+IsAtEnd after = after ≡ []
 
 -- A reading of the tokens in front of `after`. `only`: no other reading that the rest lets end goes less far, or farther.
 pub record Found {R A : Type 0} (spell : R → List Token → List Token) (tree : R → A) (Ends : List Token → Type 0) (before : List Token) (a : A) (after : List Token) : Type 0 where
@@ -25,3 +30,7 @@ Reads {R} spell tree Ends before (Err fault) after = fault ≡ Syntax → (r : R
 -- a name
 abbrev pub spell_name : List ℕ → List Token → List Token
 spell_name name after = token.Name name ∷ after
+
+-- a reserved word
+abbrev pub spell_word : Word → List Token → List Token
+spell_word word after = token.Word word ∷ after

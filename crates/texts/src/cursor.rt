@@ -1,9 +1,10 @@
 //! A place in a list of tokens, and what every reader takes there.
 
-ghost use Rattle.std.specs.Prelude.{◌≡◌, ◌↔◌, ◌<◌, [], length, IsTrue, OnOk};
+ghost use Rattle.std.specs.Prelude.{◌≡◌, ◌↔◌, ◌<◌, ◌≤◌, [], length, IsTrue, OnOk};
 ghost use Rattle.std.specs.Bool.{OnTrue};
 ghost use Rattle.texts.specs.Cursor.{TakesNext, Eats, Expects};
-ghost use Rattle.texts.specs.Reading.{Reads, EndsAnywhere, spell_name};
+ghost use Rattle.texts.specs.Optional.{ReadsOptionalName};
+ghost use Rattle.texts.specs.Reading.{Reads, EndsAnywhere, spell_name, spell_word};
 ghost use Rattle.texts.specs.declared.token.Token.TheVariants as token;
 
 use crate::fault::ParseFault;
@@ -122,6 +123,20 @@ impl<'a> Cursor<'a> {
         }
     }
 
+    /// Takes the reserved word that has to come next; where none does, that is a fault of syntax.
+    pub fn word(&mut self) -> Result<Word, ParseFault>
+        ensures reads { Reads spell_word (λ word. word) EndsAnywhere self.old result self.new }
+        ensures shorter { OnOk result (length self.new < length self.old) }
+    {
+        match self.tokens.split_first() {
+            Some((Token::Word(word), rest)) => {
+                self.tokens = rest;
+                Ok(*word)
+            }
+            _ => Err(ParseFault::Syntax),
+        }
+    }
+
     /// Takes the name that has to come next; where none does, that is a fault of syntax.
     pub fn name(&mut self) -> Result<Name, ParseFault>
         ensures reads { Reads spell_name (λ name. name) EndsAnywhere self.old result self.new }
@@ -133,6 +148,17 @@ impl<'a> Cursor<'a> {
                 Ok(name.copy()?)
             }
             _ => Err(ParseFault::Syntax),
+        }
+    }
+
+    /// Takes the name, if one comes next.
+    pub fn optional_name(&mut self) -> Result<Option<Name>, ParseFault>
+        ensures reads { ReadsOptionalName self.old result self.new }
+        ensures no_longer { OnOk result (length self.new ≤ length self.old) }
+    {
+        match self.tokens.first() {
+            Some(Token::Name(_)) => Ok(Some(self.name()?)),
+            _ => Ok(None),
         }
     }
 }

@@ -2,6 +2,7 @@
 #![tactic(auto)]
 
 mod bytes;
+mod connection;
 mod cursor;
 mod depth;
 mod fault;
@@ -15,6 +16,7 @@ mod symbol;
 mod syntax;
 mod token;
 
+pub use connection::{ConnectionType, Endpoints, both_ends};
 pub use cursor::Cursor;
 pub use depth::nesting;
 pub use fault::ParseFault;

@@ -10,7 +10,7 @@ use crate::fault::ParseFault;
 use crate::symbol::Symbol;
 use sqlite_items::Items;
 
-/// A rule of a grammar by which the parts of a list are read.
+/// A rule of a grammar by which the parts of a list, or the objects at the ends of a connection, are read.
 pub trait Part {
     /// What a part stands for.
     type Tree: Drop;

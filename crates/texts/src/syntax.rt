@@ -3,6 +3,7 @@
 ghost use Rattle.std.specs.Prelude.{◌≡◌, IfOk};
 ghost use Rattle.texts.specs.Literals.{literal_value};
 
+use crate::connection::{ConnectionType, Endpoints};
 use signatures::{Name, Text, Value};
 use sqlite_items::{Boxed, Items};
 use std::alloc::AllocError;
@@ -132,6 +133,10 @@ pub enum Stmt {
     Call(Path, Name, Items<Expr<Path>>),
     /// `if (e) { .. } else { .. }`: the condition, what is done where it holds, and what where it doesn't.
     If(Expr<Path>, Items<Stmt>, Items<Stmt>),
+    /// `connect path, s(T, ..), path, m(T, ..), kind, unique, single;`: what is connected, and how.
+    Connect(Endpoints<Path>, ConnectionType),
+    /// `disconnect path, s(T, ..), path, m(T, ..);`: what is no longer connected.
+    Disconnect(Endpoints<Path>),
 }
 
 /// The statements of a block, in their order.

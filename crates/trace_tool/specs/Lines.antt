@@ -2,12 +2,18 @@
 use Rattle.std.specs.Prelude.{ℕ, Bool, true, false, List, [], ◌∷◌, ◌++◌, codes, decimal}
 use Rattle.std.specs.Fmt.{signed_decimal}
 use Rattle.std.specs.List.{flat_map}
+use Rattle.signatures.specs.declared.kind.Kind.{Kind}
+use Rattle.signatures.specs.declared.kind.Kind.TheVariants.{Auto, Direct, Queued}
+use Rattle.signatures.specs.declared.sig.Sig.{Sig}
+use Rattle.signatures.specs.Spelling.{text_of_sig}
+use Rattle.texts.specs.declared.connection.ConnectionType.{ConnectionType}
+use Rattle.texts.specs.declared.connection.Endpoints.{Endpoints}
 use Rattle.machine_state.specs.declared.entry.Shown.{Shown}
 use Rattle.machine_state.specs.declared.entry.Shown.TheVariants as show
 use Rattle.machine_state.specs.declared.entry.Entry.{Entry}
 use Rattle.machine_state.specs.declared.entry.Entry.TheVariants.{Accepted, Refused, At}
 use Rattle.machine_state.specs.declared.entry.Happening.{Happening}
-use Rattle.machine_state.specs.declared.entry.Happening.TheVariants.{Emitted, Called, Written, OnNull}
+use Rattle.machine_state.specs.declared.entry.Happening.TheVariants.{Emitted, Called, Written, OnNull, Connected, Disconnected, Refused as RefusedStatement, Posted}
 
 abbrev pub newline : List ℕ
 newline = codes "\n"
@@ -54,15 +60,49 @@ emitted_text object signal arguments blocked = codes "emit " ++ call_text object
 abbrev pub called_text : List ℕ → List ℕ → List Shown → List ℕ
 called_text object slot arguments = codes "call " ++ call_text object slot arguments
 
+-- `post L o.m(args)`
+abbrev pub posted_text : List ℕ → List ℕ → List ℕ → List Shown → List ℕ
+posted_text event_loop object method arguments = codes "post " ++ event_loop ++ codes " " ++ call_text object method arguments
+
 -- `set o.p v`
 abbrev pub written_text : List ℕ → List ℕ → Shown → List ℕ
 written_text object property value = codes "set " ++ member_text object property ++ codes " " ++ value_text value
 
+abbrev pub kind_text : Kind → List ℕ
+kind_text Auto = codes "auto"
+kind_text Direct = codes "direct"
+kind_text Queued = codes "queued"
+
+-- a word after a blank, where it is given
+abbrev pub given_text : Bool → List ℕ → List ℕ
+given_text true word = codes " " ++ word
+given_text false word = []
+
+-- the kind, and ` unique` and ` single` where they are given
+abbrev pub type_text : ConnectionType → List ℕ
+type_text how = kind_text how.kind ++ (given_text how.unique (codes "unique") ++ given_text how.single (codes "single"))
+
+-- `a S`
+abbrev pub end_text : List ℕ → Sig → List ℕ
+end_text object sig = object ++ (codes " " ++ text_of_sig sig)
+
+-- `a S b M`
+abbrev pub ends_text : Endpoints (List ℕ) → List ℕ
+ends_text ends = end_text ends.sender ends.signal ++ (codes " " ++ end_text ends.receiver ends.method)
+
+-- `connect a S b M kind`, and ` unique` and ` single` where they are given
+abbrev pub connected_text : Endpoints (List ℕ) → ConnectionType → List ℕ
+connected_text ends how = codes "connect " ++ (ends_text ends ++ (codes " " ++ type_text how))
+
 abbrev pub happening_text : Happening → List ℕ
 happening_text (Emitted object signal arguments blocked) = emitted_text object signal arguments blocked
 happening_text (Called object slot arguments) = called_text object slot arguments
+happening_text (Posted event_loop object method arguments) = posted_text event_loop object method arguments
 happening_text (Written object property value) = written_text object property value
 happening_text OnNull = codes "null"
+happening_text (Connected ends how) = connected_text ends how
+happening_text (Disconnected ends) = codes "disconnect " ++ ends_text ends
+happening_text (RefusedStatement refusal) = codes "refused " ++ decimal refusal
 
 -- `d`, and what happens at this depth
 abbrev pub depth_line : ℕ → Happening → List ℕ

@@ -2,6 +2,7 @@
 #![tactic(auto)]
 
 mod commands;
+mod connection_line;
 mod cut;
 mod description;
 mod fault;

@@ -1,7 +1,7 @@
 //! The text of the output's lines.
 
-ghost use Rattle.std.specs.Prelude.{◌++◌, codes, OnOk};
-ghost use Rattle.trace_tool.specs.Lines.{newline, value_text, arguments_text, member_text, call_text, blocked_text, emitted_text, called_text, written_text, happening_text, depth_line, refused_event_line, entry_line, trace_text};
+ghost use Rattle.std.specs.Prelude.{◌++◌, codes, decimal, OnOk};
+ghost use Rattle.trace_tool.specs.Lines.{newline, value_text, arguments_text, member_text, call_text, blocked_text, emitted_text, called_text, written_text, happening_text, depth_line, refused_event_line, entry_line, trace_text, posted_text};
 ghost use Rattle.trace_tool.specs.Refusals.{refusal_line};
 ghost use Rattle.trace_tool.specs.Sent.{Adds};
 
@@ -146,6 +146,25 @@ impl Output {
         Ok(())
     }
 
+    /// Adds a call that is posted to an event loop.
+    fn posted<W: Write>(
+        &mut self,
+        w: &mut W,
+        event_loop: &Name,
+        object: &Name,
+        method: &Name,
+        arguments: &[Shown],
+    ) -> Result<(), WriteFault>
+        ensures { OnOk result (Adds (W.contents w.old) self.old (W.contents w.new) self.new
+            (posted_text event_loop.now object.now method.now arguments.now)) }
+    {
+        self.put(w, b"post ")?;
+        self.put(w, event_loop.bytes())?;
+        self.put(w, b" ")?;
+        self.call(w, object, method, arguments)?;
+        Ok(())
+    }
+
     /// Adds a write of a property.
     fn written<W: Write>(
         &mut self,
@@ -181,12 +200,21 @@ impl Output {
                 slot,
                 arguments,
             } => self.called(w, object, slot, arguments.as_slice())?,
+            Happening::Posted {
+                event_loop,
+                object,
+                method,
+                arguments,
+            } => self.posted(w, event_loop, object, method, arguments.as_slice())?,
             Happening::Written {
                 object,
                 property,
                 value,
             } => self.written(w, object, property, value)?,
             Happening::OnNull => self.put(w, b"null")?,
+            Happening::Connected(ends, how) => self.connected(w, ends, *how)?,
+            Happening::Disconnected(ends) => self.disconnected(w, ends)?,
+            Happening::Refused(refusal) => self.refused_statement(w, *refusal)?,
         }
         Ok(())
     }
@@ -205,6 +233,16 @@ impl Output {
         self.put(w, b" ")?;
         self.happening(w, happening)?;
         self.put(w, b"\n")?;
+        Ok(())
+    }
+
+    /// Adds that a statement is refused.
+    fn refused_statement<W: Write>(&mut self, w: &mut W, refusal: u8) -> Result<(), WriteFault>
+        ensures { OnOk result (Adds (W.contents w.old) self.old (W.contents w.new) self.new
+            (codes "refused " ++ decimal refusal)) }
+    {
+        self.put(w, b"refused ")?;
+        self.number(w, refusal)?;
         Ok(())
     }
 

@@ -59,7 +59,7 @@ impl Output {
     }
 
     /// Adds a signature.
-    fn sig<W: Write>(&mut self, w: &mut W, sig: &Sig) -> Result<(), WriteFault>
+    pub fn sig<W: Write>(&mut self, w: &mut W, sig: &Sig) -> Result<(), WriteFault>
         ensures { OnOk result (Adds (W.contents w.old) self.old (W.contents w.new) self.new
             (text_of_sig sig.now)) }
     {

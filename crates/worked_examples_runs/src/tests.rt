@@ -3,7 +3,9 @@
 mod blocking;
 mod bodies;
 mod classes;
+mod connecting;
 mod events;
+mod queues;
 mod refusals;
 mod rows;
 mod trees;

@@ -40,6 +40,14 @@ impl<'a> Scope<'a> {
                 let other = self.resolve_block(other.as_slice())?;
                 Ok(Statement::If(test, chosen, other))
             }
+            Stmt::Connect(ends, how) => {
+                let ends = self.resolve_ends(ends)?;
+                Ok(Statement::Connect(ends, *how))
+            }
+            Stmt::Disconnect(ends) => {
+                let ends = self.resolve_ends(ends)?;
+                Ok(Statement::Disconnect(ends))
+            }
         }
     }
 

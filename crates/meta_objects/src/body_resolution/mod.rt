@@ -2,6 +2,7 @@
 
 mod block;
 mod body;
+mod ends;
 mod expr;
 mod path;
 mod scope;

@@ -14,7 +14,8 @@ use Rattle.machine_state.specs.Worlds.{at}
 use Rattle.machine_rules.specs.There.{IsField}
 use Rattle.machine_rules.proofs.Fields.{field-property}
 use Rattle.qt_runtime.specs.declared.judgement.NotAccepted.{NotAccepted}
-use Rattle.qt_runtime.specs.Judgement.{Numbered, found, missing, holds, fails, becomes, goes_on, ends, IsNotAccepted}
+use Rattle.machine_rules.specs.Judgement.{Numbered, found, missing, holds, fails, becomes, goes_on, ends}
+use Rattle.qt_runtime.specs.Judgement.{IsNotAccepted}
 use Rattle.qt_runtime.specs.Taking.{WritesTo, ValueFits}
 use Rattle.qt_runtime.specs.events.Assign.{assign, IsPropertyOf}
 use Rattle.qt_runtime.specs.events.Named.{IsLiving}

@@ -11,7 +11,8 @@ use Rattle.machine_state.specs.State.{State}
 use Rattle.machine_state.specs.Worlds.{at}
 use Rattle.object_tree.specs.Typed.{AreTyped}
 use Rattle.qt_runtime.specs.declared.judgement.NotAccepted.{NotAccepted}
-use Rattle.qt_runtime.specs.Judgement.{Numbered, gives, goes_on, ends, IsNotAccepted, refused, short}
+use Rattle.machine_rules.specs.Judgement.{Numbered, gives, goes_on, ends}
+use Rattle.qt_runtime.specs.Judgement.{IsNotAccepted, refused, short}
 use Rattle.qt_runtime.specs.Takes.{judged}
 use Rattle.qt_runtime.specs.Taking.{blocking}
 use Rattle.qt_runtime.specs.events.Block.{block}

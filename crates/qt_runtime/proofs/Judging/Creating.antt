@@ -1,81 +1,92 @@
 -- `new`.
-use Rattle.std.proofs.Common.{◌≡◌, ℕ, ◌<◌, List, [], ◌∷◌, ◌++◌, length, Result, Ok, Err, MatchResult, refl, sym, ap, ◌∙◌, subst, inr, arith}
+use Rattle.std.proofs.Common.{◌≡◌, ℕ, None, ◌<◌, List, [], ◌∷◌, ◌++◌, length, Option, Result, Ok, Err, MatchResult, refl, sym, ap, ◌∙◌, subst, inr, arith}
 use Rattle.meta_model.specs.declared.object.MetaObject.{MetaObject}
 use Rattle.meta_model.specs.Loaded.{Loaded}
 use Rattle.meta_model.specs.Members.{IsClass, IsClassNamed}
 use Rattle.object_tree.specs.declared.fault.CreateFault.{CreateFault}
 use Rattle.object_tree.specs.declared.object.Object.{Object}
 use Rattle.object_tree.specs.Creating.{IsCreated, IsNotCreated, BeginsWell, name_used, no_class, too_many, bad_type, no_memory, begun, fresh, initial_values, most_objects}
-use Rattle.object_tree.specs.Objects.{IsFree}
+use Rattle.object_tree.specs.Objects.{IsFree, IsNamed}
 use Rattle.object_tree.proofs.TypedObjects.{typed-fresh, typed-created as typed-made, get-last}
 use Rattle.script_lang.specs.declared.event.Event.TheVariants.{New}
 use Rattle.machine_state.specs.declared.fault.Fault.{Fault}
 use Rattle.machine_state.specs.declared.fault.Fault.TheVariants.{BadType}
 use Rattle.machine_state.specs.declared.refusal.Refusal.{Refusal}
+use Rattle.machine_state.specs.declared.refusal.Refusal.TheVariants.{NameUsed, NoClass, NoLoop}
 use Rattle.machine_state.specs.declared.world.World.{World}
 use Rattle.machine_state.specs.Accepting.{accepted}
 use Rattle.machine_state.specs.State.{State}
-use Rattle.machine_state.specs.Worlds.{at, main}
+use Rattle.machine_state.specs.Worlds.{at}
 use Rattle.object_tree.specs.Typed.{AreTyped}
 use Rattle.machine_rules.specs.Good.{IsWell}
 use Rattle.machine_rules.proofs.Fields.{class-unique}
-use Rattle.qt_runtime.specs.Judgement.{found, missing, holds, fails, gives, goes_on, ends}
+use Rattle.machine_rules.specs.Judgement.{NothingIs, found, missing, holds, fails, gives, goes_on, ends}
 use Rattle.qt_runtime.specs.Runs.{done, by_event}
 use Rattle.qt_runtime.specs.Takes.{accepts}
 use Rattle.qt_runtime.specs.Taking.{Halted, creation_reason}
-use Rattle.qt_runtime.specs.events.Create.{create, IsClassOf}
-use Rattle.qt_runtime.proofs.Taken.{idle, halted-short}
+use Rattle.qt_runtime.specs.events.Create.{create, IsClassOf, IsHome}
+use Rattle.qt_runtime.proofs.Taken.{idle, Ready, halted-short}
 
 -- the class of a name
 class-of : {p : Loaded} {name : List ℕ} {number : ℕ} {kind : MetaObject} → IsClassNamed p name number → IsClass p number kind → IsClassOf p name (record { number = number; it = kind })
 class-of named is = record { is = is; named = ap (λ (k : MetaObject). k.name) (class-unique is named.is) ∙ named.named }
 
 -- the object that an event creates
-abbrev pub made : List ℕ → ℕ → MetaObject → Object
-made name number kind = fresh name number main (initial_values kind)
+abbrev pub made : List ℕ → ℕ → ℕ → MetaObject → Object
+made name home number kind = fresh name number home (initial_values kind)
 
-module _ (p : Loaded) (w : World) (name class : List ℕ) where
-  creates : {number : ℕ} {kind : MetaObject} → IsFree w.objects name → IsClassNamed p class number → IsClass p number kind → length w.objects < most_objects → create p (at w []) name class (Ok (record (accepted (at w [])) { objects = w.objects ++ made name number kind ∷ [] }))
+module _ (p : Loaded) (w : World) (name class : List ℕ) (loop : Option (List ℕ)) (home : ℕ) (lives : IsHome w.queues.loops loop home) where
+  creates : {number : ℕ} {kind : MetaObject} → IsFree w.objects name → IsClassNamed p class number → IsClass p number kind → length w.objects < most_objects → create p (at w []) name class loop (Ok (record (accepted (at w [])) { objects = w.objects ++ made name home number kind ∷ [] }))
   creates {number} {kind} free named is room =
-      goes_on tt (holds free) (goes_on (record { number = number; it = kind }) (found (class-of named is)) (goes_on tt (holds room) gives))
+      goes_on tt (holds free) (goes_on (record { number = number; it = kind }) (found (class-of named is)) (goes_on home (found lives) (goes_on tt (holds room) gives)))
 
-  pub created : {o : ℕ} {new : List Object} → IsCreated p w.objects name class main o new → create p (at w []) name class (Ok (record (accepted (at w [])) { objects = new }))
+  pub created : {o : ℕ} {new : List Object} → IsCreated p w.objects name class home o new → create p (at w []) name class loop (Ok (record (accepted (at w [])) { objects = new }))
   created is =
-      let Family : List Object → Type 0 = λ l. create p (at w []) name class (Ok (record (accepted (at w [])) { objects = l })) in
+      let Family : List Object → Type 0 = λ l. create p (at w []) name class loop (Ok (record (accepted (at w [])) { objects = l })) in
       subst Family (sym is.appended) (creates is.may.free is.may.named is.may.is is.may.room)
 
-  pub typed-created : {o : ℕ} {new : List Object} → AreTyped p w.objects → IsCreated p w.objects name class main o new → AreTyped p new
+  pub typed-created : {o : ℕ} {new : List Object} → AreTyped p w.objects → IsCreated p w.objects name class home o new → AreTyped p new
   typed-created typed is =
       let Family : List Object → Type 0 = λ l. AreTyped p l in
-      subst Family (sym is.appended) (typed-made p w.objects name is.number main is.kind is.may.is is.may.begins typed)
+      subst Family (sym is.appended) (typed-made p w.objects name is.number home is.kind is.may.is is.may.begins typed)
 
   -- an initial value isn't of its property's type
-  halted-ill : {d number : ℕ} {kind : MetaObject} → 0 < w.left → IsFree w.objects name → IsClassNamed p class number → IsClass p number kind → length w.objects < most_objects → (¬ BeginsWell p w.objects number kind) → Halted p d w (New name class) w BadType
+  halted-ill : {d number : ℕ} {kind : MetaObject} → Ready w → IsFree w.objects name → IsClassNamed p class number → IsClass p number kind → length w.objects < most_objects → (¬ BeginsWell p w.objects number kind) → Halted p d w (New name class loop) w BadType
   halted-ill {number = number} {kind = kind} some free named is room ill =
-      let after : State = record (accepted (at w [])) { objects = w.objects ++ made name number kind ∷ [] } in
+      let after : State = record (accepted (at w [])) { objects = w.objects ++ made name home number kind ∷ [] } in
       let not_well : IsWell p (at w []) after → ⊥ = λ well.
-      ill (typed-fresh p w.objects name number main kind is (well.values (length w.objects) (made name number kind) (begun number main (initial_values kind)) (record { is = get-last w.objects (made name number kind); lives = refl }))) in
+      ill (typed-fresh p w.objects name number home kind is (well.values (length w.objects) (made name home number kind) (begun number home (initial_values kind)) (record { is = get-last w.objects (made name home number kind); lives = refl }))) in
       record {
         stack = [];
-        front = record { taken = []; rest = New name class ∷ []; split = refl; runs = done };
-        reason = (some, inr (record { t = after; follows = by_event (accepts (idle w) (creates free named is room)); ill = not_well }));
+        front = record { taken = []; rest = New name class loop ∷ []; split = refl; runs = done };
+        reason = (some.some, inr (record { t = after; follows = by_event (accepts (idle w some.no_turn) (creates free named is room)); ill = not_well }));
       }
 
   -- no object is created
-  pub not-created : (d : ℕ) {f : CreateFault} → 0 < w.left → IsNotCreated p w.objects name class f → MatchResult (creation_reason f) (λ k. create p (at w []) name class (Err k)) (λ g. Halted p d w (New name class) w g)
+  pub not-created : (d : ℕ) {f : CreateFault} → Ready w → IsNotCreated p w.objects name class f → MatchResult (creation_reason f) (λ k. create p (at w []) name class loop (Err k)) (λ g. Halted p d w (New name class loop) w g)
   not-created d some (name_used is) = ends (fails (λ free. free _ is.named))
   not-created d some (no_class free none) = goes_on tt (holds free) (ends (missing (λ c is. none c.number (record { class = c.it; is = is.is; named = is.named }))))
   not-created d some (too_many {c = c} free named many) =
-      goes_on tt (holds free) (goes_on (record { number = c; it = named.class }) (found (record { is = named.is; named = named.named })) (ends (fails (λ few. absurd (omega (arith, few, many))))))
+      goes_on tt (holds free) (goes_on (record { number = c; it = named.class }) (found (record { is = named.is; named = named.named })) (goes_on home (found lives) (ends (fails (λ few. absurd (omega (arith, few, many)))))))
   not-created d some (bad_type free named is room ill) = halted-ill some free named is room ill
-  not-created d some no_memory = halted-short (New name class) some
+  not-created d some no_memory = halted-short (New name class loop) some
 
-  pub creation-stops : (d : ℕ) {f : CreateFault} {g : Fault} → 0 < w.left → IsNotCreated p w.objects name class f → Err g ≡ creation_reason f → Halted p d w (New name class) w g
+  pub creation-stops : (d : ℕ) {f : CreateFault} {g : Fault} → Ready w → IsNotCreated p w.objects name class f → Err g ≡ creation_reason f → Halted p d w (New name class loop) w g
   creation-stops d some is e =
-      let Decides : Result Refusal Fault → Type 0 = λ r. MatchResult r (λ k. create p (at w []) name class (Err k)) (λ h. Halted p d w (New name class) w h) in
+      let Decides : Result Refusal Fault → Type 0 = λ r. MatchResult r (λ k. create p (at w []) name class loop (Err k)) (λ h. Halted p d w (New name class loop) w h) in
       subst Decides (sym e) (not-created d some is)
 
-  pub creation-refuses : {f : CreateFault} {k : Refusal} → 0 < w.left → IsNotCreated p w.objects name class f → Ok k ≡ creation_reason f → create p (at w []) name class (Err k)
+  pub creation-refuses : {f : CreateFault} {k : Refusal} → Ready w → IsNotCreated p w.objects name class f → Ok k ≡ creation_reason f → create p (at w []) name class loop (Err k)
   creation-refuses some is e =
-      let Decides : Result Refusal Fault → Type 0 = λ r. MatchResult r (λ k. create p (at w []) name class (Err k)) (λ h. Halted p 0 w (New name class) w h) in
+      let Decides : Result Refusal Fault → Type 0 = λ r. MatchResult r (λ k. create p (at w []) name class loop (Err k)) (λ h. Halted p 0 w (New name class loop) w h) in
       subst Decides (sym e) (not-created 0 some is)
+
+-- there is no such loop
+pub no-home : (p : Loaded) (w : World) (name class : List ℕ) (loop : Option (List ℕ)) {number : ℕ} → IsFree w.objects name → IsClassNamed p class number → NothingIs (IsHome w.queues.loops loop) → create p (at w []) name class loop (Err NoLoop)
+no-home p w name class loop free named none = goes_on tt (holds free) (goes_on (record { number = _; it = named.class }) (found (record { is = named.is; named = named.named })) (ends (missing none)))
+
+pub name-taken : (p : Loaded) (w : World) (name class : List ℕ) (loop : Option (List ℕ)) {o : ℕ} → IsNamed w.objects name o → create p (at w []) name class loop (Err NameUsed)
+name-taken p w name class loop is = ends (fails (λ free. free _ is.named))
+
+pub no-such-class : (p : Loaded) (w : World) (name class : List ℕ) (loop : Option (List ℕ)) → IsFree w.objects name → ((number : ℕ) → ¬ IsClassNamed p class number) → create p (at w []) name class loop (Err NoClass)
+no-such-class p w name class loop free none = goes_on tt (holds free) (ends (missing (λ c is. none c.number (record { class = c.it; is = is.is; named = is.named }))))

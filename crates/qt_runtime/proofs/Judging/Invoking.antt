@@ -17,7 +17,8 @@ use Rattle.machine_rules.proofs.Fields.{method-unique}
 use Rattle.qt_runtime.specs.declared.events.invoke.Invocation.{Invocation}
 use Rattle.qt_runtime.specs.declared.events.invoke.Invocation.TheVariants.{Emit, Call}
 use Rattle.qt_runtime.specs.declared.judgement.NotAccepted.{NotAccepted}
-use Rattle.qt_runtime.specs.Judgement.{Numbered, found, missing, holds, fails, becomes, goes_on, ends, IsNotAccepted, refused, short}
+use Rattle.machine_rules.specs.Judgement.{Numbered, found, missing, holds, fails, becomes, goes_on, ends}
+use Rattle.qt_runtime.specs.Judgement.{IsNotAccepted, refused, short}
 use Rattle.qt_runtime.specs.Takes.{judged}
 use Rattle.qt_runtime.specs.Taking.{AsksFor, invoking}
 use Rattle.qt_runtime.specs.events.Invoke.{invoke, May, IsAskedOf}

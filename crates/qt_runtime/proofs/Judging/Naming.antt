@@ -5,7 +5,7 @@ use Rattle.object_tree.specs.declared.object.Object.{Object}
 use Rattle.object_tree.specs.Objects.{Lives, IsNamed, IsFree, life_of}
 use Rattle.object_tree.proofs.Changing.{lives-of-life}
 use Rattle.machine_state.specs.declared.refusal.Refusal.TheVariants.{NoObject, Dead}
-use Rattle.qt_runtime.specs.Judgement.{Numbered, found, missing, gives, goes_on, ends}
+use Rattle.machine_rules.specs.Judgement.{Numbered, found, missing, gives, goes_on, ends}
 use Rattle.qt_runtime.specs.events.Named.{IsLiving, living}
 
 pub living-ok : {objects : List Object} {name : List ℕ} (o : Numbered Life) → IsLiving objects name o → living objects name (Ok o)

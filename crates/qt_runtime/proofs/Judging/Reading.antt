@@ -4,7 +4,8 @@ use Rattle.signatures.specs.declared.value.Value.{Value}
 use Rattle.script_lang.specs.declared.event.Input.{Input}
 use Rattle.object_tree.specs.declared.object.Object.{Object}
 use Rattle.qt_runtime.specs.declared.judgement.NotAccepted.{NotAccepted}
-use Rattle.qt_runtime.specs.Judgement.{gives, goes_on, IsNotAccepted}
+use Rattle.machine_rules.specs.Judgement.{gives, goes_on}
+use Rattle.qt_runtime.specs.Judgement.{IsNotAccepted}
 use Rattle.qt_runtime.specs.events.Values.{value, values}
 use Rattle.qt_runtime.proofs.Judged.{then-ends, then-on}
 

@@ -10,7 +10,7 @@ use Rattle.machine_state.specs.declared.refusal.Refusal.{Refusal}
 use Rattle.machine_state.specs.declared.refusal.Refusal.TheVariants.{NotOwned, Cycle, OtherLoop}
 use Rattle.machine_state.specs.Accepting.{accepted}
 use Rattle.machine_state.specs.State.{State}
-use Rattle.qt_runtime.specs.Judgement.{Numbered, Check, Becomes, ◌>>=◌}
+use Rattle.machine_rules.specs.Judgement.{Numbered, Check, Becomes, ◌>>=◌}
 use Rattle.qt_runtime.specs.events.Named.{living}
 
 -- the first object becomes the second's parent

@@ -10,7 +10,7 @@ use Rattle.machine_state.specs.declared.refusal.Refusal.TheVariants.{NoMember, B
 use Rattle.machine_state.specs.Accepting.{accepted}
 use Rattle.machine_state.specs.State.{State}
 use Rattle.machine_rules.specs.Rules.{Writes}
-use Rattle.qt_runtime.specs.Judgement.{Numbered, Find, Check, Becomes, ◌>>=◌}
+use Rattle.machine_rules.specs.Judgement.{Numbered, Find, Check, Becomes, ◌>>=◌}
 use Rattle.qt_runtime.specs.events.Named.{living}
 use Rattle.qt_runtime.specs.events.Values.{value}
 

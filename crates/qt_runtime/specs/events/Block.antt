@@ -4,7 +4,7 @@ use Rattle.object_tree.specs.Objects.{change_life, blocked}
 use Rattle.machine_state.specs.declared.refusal.Refusal.{Refusal}
 use Rattle.machine_state.specs.Accepting.{accepted}
 use Rattle.machine_state.specs.State.{State}
-use Rattle.qt_runtime.specs.Judgement.{Gives, ◌>>=◌}
+use Rattle.machine_rules.specs.Judgement.{Gives, ◌>>=◌}
 use Rattle.qt_runtime.specs.events.Named.{living}
 
 -- the object's emissions call nothing, or call again

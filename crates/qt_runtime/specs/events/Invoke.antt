@@ -14,7 +14,7 @@ use Rattle.machine_state.specs.State.{State}
 use Rattle.machine_rules.specs.Rules.{Begins}
 use Rattle.qt_runtime.specs.declared.events.invoke.Invocation.{Invocation}
 use Rattle.qt_runtime.specs.declared.events.invoke.Invocation.TheVariants.{Emit, Call}
-use Rattle.qt_runtime.specs.Judgement.{Numbered, Find, Check, Becomes, ◌>>=◌}
+use Rattle.machine_rules.specs.Judgement.{Numbered, Find, Check, Becomes, ◌>>=◌}
 use Rattle.qt_runtime.specs.events.Named.{living}
 use Rattle.qt_runtime.specs.events.Values.{values}
 

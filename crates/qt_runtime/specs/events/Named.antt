@@ -5,7 +5,7 @@ use Rattle.object_tree.specs.declared.object.Object.{Object}
 use Rattle.object_tree.specs.Objects.{IsNamed, life_of}
 use Rattle.machine_state.specs.declared.refusal.Refusal.{Refusal}
 use Rattle.machine_state.specs.declared.refusal.Refusal.TheVariants.{NoObject, Dead}
-use Rattle.qt_runtime.specs.Judgement.{Numbered, numbered, Find, Gives, ◌>>=◌}
+use Rattle.machine_rules.specs.Judgement.{Numbered, numbered, Find, Gives, ◌>>=◌}
 
 -- the living object of this name, and its life
 pub record IsLiving (objects : List Object) (name : List ℕ) (o : Numbered Life) : Type 0 where

@@ -7,7 +7,7 @@ use Rattle.script_lang.specs.declared.event.Input.{Input}
 use Rattle.script_lang.specs.declared.event.Input.TheVariants as input
 use Rattle.machine_state.specs.declared.refusal.Refusal.{Refusal}
 use Rattle.object_tree.specs.declared.object.Object.{Object}
-use Rattle.qt_runtime.specs.Judgement.{Gives, ◌>>=◌}
+use Rattle.machine_rules.specs.Judgement.{Gives, ◌>>=◌}
 use Rattle.qt_runtime.specs.events.Named.{living}
 
 abbrev pub value : List Object → Input → Result Value Refusal → Type 0

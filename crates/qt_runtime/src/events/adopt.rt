@@ -1,6 +1,6 @@
 //! `adopt`: an object gets a parent.
 
-ghost use Rattle.std.specs.Prelude.{◌≡◌, ◌<◌, [], IfOk, IfErr};
+ghost use Rattle.std.specs.Prelude.{◌≡◌, ◌<◌, [], IfOk, IfErr, None};
 ghost use Rattle.script_lang.specs.declared.event.Event.TheVariants.{Adopt};
 ghost use Rattle.qt_runtime.specs.Taking.{WorldInvariant, Answers};
 ghost use Rattle.qt_runtime.specs.Taking.{adoption_reason};
@@ -20,6 +20,7 @@ pub fn adopt(
     child: &Name,
 ) -> Result<Answer, Fault>
     requires left { 0 < world.old.left }
+    requires idle { world.old.turn ≡ None }
     requires keeps { WorldInvariant setting.now.meta world.old }
     ensures { Answers setting.now (Adopt parent.now child.now) world.old world.new result }
 {

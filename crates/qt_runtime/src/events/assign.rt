@@ -1,9 +1,10 @@
 //! `set`: a property is written.
 
-ghost use Rattle.std.specs.Prelude.{◌≡◌, ◌<◌, [], Ok, IfOk, IfErr, MatchOption};
+ghost use Rattle.std.specs.Prelude.{◌≡◌, ◌<◌, [], Ok, IfOk, IfErr, MatchOption, None};
 ghost use Rattle.script_lang.specs.declared.event.Event.TheVariants.{Set};
 ghost use Rattle.machine_state.specs.Worlds.{at};
-ghost use Rattle.qt_runtime.specs.Judgement.{IsNotAccepted, NothingIs, numbered};
+ghost use Rattle.machine_rules.specs.Judgement.{NothingIs, numbered};
+ghost use Rattle.qt_runtime.specs.Judgement.{IsNotAccepted};
 ghost use Rattle.qt_runtime.specs.Taking.{WorldInvariant, Answers, WritesTo, ValueFits};
 ghost use Rattle.qt_runtime.specs.events.Assign.{assign, IsPropertyOf};
 ghost use Rattle.script_lang.specs.declared.event.Event.{Event as AnEvent};
@@ -35,6 +36,7 @@ pub fn assign(
 ) -> Result<Answer, Fault>
     requires depth { 0 < setting.now.depth }
     requires left { 0 < world.old.left }
+    requires idle { world.old.turn ≡ None }
     requires keeps { WorldInvariant setting.now.meta world.old }
     ensures { Answers setting.now (Set name.now property.now input.now)
         world.old world.new result }
@@ -105,6 +107,7 @@ fn write(
 ) -> Result<Answer, Fault>
     requires depth { 0 < setting.now.depth }
     requires left { 0 < world.old.left }
+    requires idle { world.old.turn ≡ None }
     requires keeps { WorldInvariant setting.now.meta world.old }
     requires fits { ValueFits setting.now.meta world.old.objects object property value }
     ensures { (e : AnEvent) → WritesTo setting.now.meta world.old object property value e →

@@ -1,6 +1,6 @@
 //! `block` and `unblock`: an object's emissions call nothing, or call again.
 
-ghost use Rattle.std.specs.Prelude.{◌<◌};
+ghost use Rattle.std.specs.Prelude.{◌<◌, ◌≡◌, None};
 ghost use Rattle.qt_runtime.specs.Taking.{WorldInvariant, Answers, blocking};
 
 use crate::events::named::find_living;
@@ -12,6 +12,7 @@ use signatures::{Name, ObjectId};
 /// Blocks an object, or lets it emit again.
 pub fn block(setting: &Setting, world: &mut World, name: &Name, on: bool) -> Result<Answer, Fault>
     requires left { 0 < world.old.left }
+    requires idle { world.old.turn ≡ None }
     requires keeps { WorldInvariant setting.now.meta world.old }
     ensures { Answers setting.now (blocking on name.now) world.old world.new result }
 {

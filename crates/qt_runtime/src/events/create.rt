@@ -1,32 +1,66 @@
 //! `new`: an object is created.
 
-ghost use Rattle.std.specs.Prelude.{◌≡◌, ◌<◌};
+ghost use Rattle.std.specs.Prelude.{◌≡◌, ◌<◌, None, ℕ, List, [], Option, Err, MatchOption};
 ghost use Rattle.script_lang.specs.declared.event.Event.TheVariants.{New};
 ghost use Rattle.qt_runtime.specs.Taking.{WorldInvariant, Answers};
+ghost use Rattle.machine_state.specs.Worlds.{at};
+ghost use Rattle.machine_rules.specs.Judgement.{NothingIs};
 ghost use Rattle.qt_runtime.specs.Taking.{creation_reason};
+ghost use Rattle.qt_runtime.specs.events.Create.{create, IsHome};
 
 use machine_rules::Setting;
-use machine_state::{Answer, Fault, Refusal, World};
+use machine_state::{Answer, Fault, MAIN, Refusal, World};
 use object_tree::CreateFault;
-use signatures::Name;
+use signatures::{LoopId, Name};
 
-/// Creates an object.
+/// Creates an object in the event loop of a name, or in `main` where none is named.
 pub fn create(
     setting: &Setting,
     world: &mut World,
     name: &Name,
     class: &Name,
+    home: &Option<Name>,
 ) -> Result<Answer, Fault>
     requires left { 0 < world.old.left }
+    requires idle { world.old.turn ≡ None }
     requires keeps { WorldInvariant setting.now.meta world.old }
-    ensures { Answers setting.now (New name.now class.now) world.old world.new result }
+    ensures { Answers setting.now (New name.now class.now home.now) world.old world.new result }
 {
-    match world.create(&setting.meta, name, class) {
+    let Some(home) = home_of(world, home) else {
+        let refusal = refusal_without_loop(setting, world, name, class);
+        return world.refuse(refusal);
+    };
+    match world.create(&setting.meta, name, class, home) {
         Ok(_object) => Ok(Answer::Done),
         Err(fault) => {
             let refusal = reason(fault)?;
             world.refuse(refusal)
         }
+    }
+}
+
+/// The event loop of this name; where none is named, `main`.
+fn home_of(world: &World, name: &Option<Name>) -> Option<LoopId>
+    ensures { MatchOption result (NothingIs (IsHome world.now.queues.loops name.now))
+        (IsHome world.now.queues.loops name.now) }
+{
+    match name {
+        None => Some(LoopId::new(MAIN)),
+        Some(name) => world.queues.find(name),
+    }
+}
+
+/// Why the event is refused where there is no such event loop.
+fn refusal_without_loop(setting: &Setting, world: &World, name: &Name, class: &Name) -> Refusal
+    ensures { (home : Option (List ℕ)) → NothingIs (IsHome world.now.queues.loops home) →
+        create setting.now.meta (at world.now []) name.now class.now home (Err result) }
+{
+    match world.find(name) {
+        Some(_) => Refusal::NameUsed,
+        None => match setting.meta.class(class) {
+            Some(_) => Refusal::NoLoop,
+            None => Refusal::NoClass,
+        },
     }
 }
 

@@ -1,14 +1,15 @@
 //! `emit` and `call`: a method begins.
 
-ghost use Rattle.std.specs.Prelude.{◌≡◌, ◌↔◌, ◌<◌, [], Ok, length, IfOk, IfErr, IsTrue, MatchOption};
+ghost use Rattle.std.specs.Prelude.{◌≡◌, ◌↔◌, ◌<◌, [], Ok, length, IfOk, IfErr, IsTrue, MatchOption, None};
 ghost use Rattle.machine_state.specs.Worlds.{at};
 ghost use Rattle.machine_rules.specs.Good.{ArgumentsFit};
-ghost use Rattle.qt_runtime.specs.Judgement.{IsNotAccepted, NothingIs, numbered};
+ghost use Rattle.machine_rules.specs.Judgement.{NothingIs, numbered};
+ghost use Rattle.qt_runtime.specs.Judgement.{IsNotAccepted};
 ghost use Rattle.qt_runtime.specs.Taking.{WorldInvariant, Answers, AsksFor, invoking};
 ghost use Rattle.qt_runtime.specs.events.Invoke.{invoke, May, IsAskedOf};
 ghost use Rattle.script_lang.specs.declared.event.Event.{Event as AnEvent};
 
-use crate::events::connect::is_signal;
+use crate::events::ends::is_signal;
 use crate::events::named::find_living;
 use crate::events::values::read_inputs;
 use crate::judgement::{NotAccepted, refuse};
@@ -59,6 +60,7 @@ pub fn invoke(
 ) -> Result<Answer, Fault>
     requires depth { 0 < setting.now.depth }
     requires left { 0 < world.old.left }
+    requires idle { world.old.turn ≡ None }
     requires keeps { WorldInvariant setting.now.meta world.old }
     ensures { Answers setting.now (invoking invocation name.now called.now inputs.now)
         world.old world.new result }
@@ -148,6 +150,7 @@ fn begin(
 ) -> Result<Answer, Fault>
     requires depth { 0 < setting.now.depth }
     requires left { 0 < world.old.left }
+    requires idle { world.old.turn ≡ None }
     requires keeps { WorldInvariant setting.now.meta world.old }
     requires fit { ArgumentsFit setting.now.meta world.old.objects object method values.now }
     ensures { (e : AnEvent) → AsksFor setting.now.meta world.old object method values.now e →

@@ -1,7 +1,8 @@
 //! The objects that events name.
 
 ghost use Rattle.std.specs.Prelude.{IfOk, IfErr};
-ghost use Rattle.qt_runtime.specs.Judgement.{IsNotAccepted, numbered};
+ghost use Rattle.machine_rules.specs.Judgement.{numbered};
+ghost use Rattle.qt_runtime.specs.Judgement.{IsNotAccepted};
 ghost use Rattle.qt_runtime.specs.events.Named.{living, IsLiving};
 
 use crate::judgement::NotAccepted;

@@ -1,6 +1,6 @@
 use Rattle.std.proofs.Common.{◌∙◌, ap, sym, Err}
 use Rattle.std.proofs.lemmas.Result.{err_from_is_err_and}
-use Rattle.script_lang.proofs.Scripts.{only_bad_byte, only_syntax, no_tokens, no_event, no_normal_form, more_than_event, beyond_limits, is_so, is_not_so}
+use Rattle.script_lang.proofs.Scripts.{only_bad_byte, only_syntax, no_tokens, no_event, no_normal_form, more_than_event, many_types, event_line, is_so, is_not_so}
 use Rattle.script_lang.proofs.reader.read_line.Goals as goal
 
 pub returns-in_err-tokens : goal.returns-in_err-tokens
@@ -34,5 +34,13 @@ returns c =
     let same = c.new-cursor.ensures ∙ c.as_slice.ensures in
     let some = is_not_so c.is_empty.result c.if-is_empty.false c.is_empty.ensures in
     let end = is_so c.is_empty-2.result c.if-not-is_empty.false c.is_empty-2.ensures in
-    let beyond = is_not_so c.is_within_limits.result c.if-is_within_limits.false c.is_within_limits.ensures in
-    λ k. beyond_limits c.in_ok-tokens.ensures.cut (rw same at c.in_ok-event.ensures) end (rw same at some) beyond
+    let many = is_not_so c.event_has_few_types.result c.if-event_has_few_types.false c.event_has_few_types.ensures in
+    λ k. many_types c.in_ok-tokens.ensures.cut (rw same at c.in_ok-event.ensures) end (rw same at some) many
+
+pub returns-then-event_has_few_types : goal.returns-then-event_has_few_types
+returns-then-event_has_few_types c =
+    let same = c.new-cursor.ensures ∙ c.as_slice.ensures in
+    let end = is_so c.is_empty-2.result c.if-not-is_empty.false c.is_empty-2.ensures in
+    let few = is_so c.event_has_few_types.result c.if-event_has_few_types.true c.event_has_few_types.ensures in
+    let normal = is_not_so c.has_plain_reference.result c.if-has_plain_reference.false c.has_plain_reference.ensures in
+    event_line c.in_ok-tokens.ensures.cut (rw same at c.in_ok-event.ensures) end few (rw c.as_slice-2.ensures at normal)

@@ -1,6 +1,7 @@
-use Rattle.std.proofs.Common.{length, arith, ap, sym, ◌∙◌}
+use Rattle.std.proofs.Common.{length, arith, ap}
 use Rattle.std.proofs.lemmas.Result.{err_from_is_err_and}
-use Rattle.slot_lang.proofs.Bodies.{body_step, body_done, body_stuck, else_found, no_else_block, nothing_found, choice_found, set_reads, emit_reads, call_reads, choice_reads, no_statement_at}
+use Rattle.signatures.specs.declared.word.Word.TheVariants as word
+use Rattle.slot_lang.proofs.Bodies.{body_step, body_done, body_stuck, else_found, no_else_block, nothing_found, choice_found, form_reads, set_form, emit_form, call_form, if_form, connect_form, disconnect_form, word_at, not_at_word, no_statement_at, no_statement_without_word}
 use Rattle.slot_lang.proofs.body.+block.Goals as goal
 
 -- ---- block
@@ -42,21 +43,33 @@ choice-returns-clause-reads t c = choice_found c.in_ok-condition.ensures.reads c
 
 -- ---- a statement by its first word
 
-pub statement-returns-then-eat_word-clause-reads : goal.statement-returns-then-eat_word-clause-reads
-statement-returns-then-eat_word-clause-reads t c = set_reads c.assignment.new.cursor c.assignment.result c.if-eat_word.ensures.found c.assignment.ensures.reads
+pub statement-returns-in_err-word-clause-reads : goal.statement-returns-in_err-word-clause-reads
+statement-returns-in_err-word-clause-reads t c =
+    let p = err_from_is_err_and c.from_residual.result c.from_residual.ensures.1 in
+    rw (p.1, p.2) (λ k. no_statement_without_word (c.in_err-word.ensures.reads k))
 
-pub statement-returns-then-eat_word-2-clause-reads : goal.statement-returns-then-eat_word-2-clause-reads
-statement-returns-then-eat_word-2-clause-reads t c = emit_reads c.emission.new.cursor c.emission.result (sym c.if-eat_word.ensures.found.0 ∙ c.if-eat_word-2.ensures.found) c.emission.ensures.reads
+pub statement-returns-in-Set-clause-reads : goal.statement-returns-in-Set-clause-reads
+statement-returns-in-Set-clause-reads t c = form_reads set_form c.assignment.new.cursor c.assignment.result (word_at c.in_ok-word.ensures.reads word.Set c.in-Set.is) c.assignment.ensures.reads
 
-pub statement-returns-then-eat_word-3-clause-reads : goal.statement-returns-then-eat_word-3-clause-reads
-statement-returns-then-eat_word-3-clause-reads t c = call_reads c.call.new.cursor c.call.result (sym c.if-eat_word.ensures.found.0 ∙ (sym c.if-eat_word-2.ensures.found.0 ∙ c.if-eat_word-3.ensures.found)) c.call.ensures.reads
+pub statement-returns-in-Emit-clause-reads : goal.statement-returns-in-Emit-clause-reads
+statement-returns-in-Emit-clause-reads t c = form_reads emit_form c.emission.new.cursor c.emission.result (word_at c.in_ok-word.ensures.reads word.Emit c.in-Emit.is) c.emission.ensures.reads
 
-pub statement-returns-then-eat_word-4-clause-reads : goal.statement-returns-then-eat_word-4-clause-reads
-statement-returns-then-eat_word-4-clause-reads t c = choice_reads c.choice.new.cursor c.choice.result (sym c.if-eat_word.ensures.found.0 ∙ (sym c.if-eat_word-2.ensures.found.0 ∙ (sym c.if-eat_word-3.ensures.found.0 ∙ c.if-eat_word-4.ensures.found))) c.choice.ensures.reads
+pub statement-returns-in-Call-clause-reads : goal.statement-returns-in-Call-clause-reads
+statement-returns-in-Call-clause-reads t c = form_reads call_form c.call.new.cursor c.call.result (word_at c.in_ok-word.ensures.reads word.Call c.in-Call.is) c.call.ensures.reads
 
-pub statement-returns-else-eat_word-4-clause-reads : goal.statement-returns-else-eat_word-4-clause-reads
-statement-returns-else-eat_word-4-clause-reads t c =
-    let one = c.if-eat_word.ensures.found.0 in
-    let two = c.if-eat_word-2.ensures.found.0 in
-    let three = c.if-eat_word-3.ensures.found.0 in
-    λ k. no_statement_at c.if-eat_word.ensures.found.1 (rw one at c.if-eat_word-2.ensures.found.1) (rw (two, one) at c.if-eat_word-3.ensures.found.1) (rw (three, two, one) at c.if-eat_word-4.ensures.found.1)
+pub statement-returns-in-If-clause-reads : goal.statement-returns-in-If-clause-reads
+statement-returns-in-If-clause-reads t c = form_reads if_form c.choice.new.cursor c.choice.result (word_at c.in_ok-word.ensures.reads word.If c.in-If.is) c.choice.ensures.reads
+
+pub statement-returns-in-Connect-clause-reads : goal.statement-returns-in-Connect-clause-reads
+statement-returns-in-Connect-clause-reads t c = form_reads connect_form c.connection.new.cursor c.connection.result (word_at c.in_ok-word.ensures.reads word.Connect c.in-Connect.is) c.connection.ensures.reads
+
+pub statement-returns-in-Disconnect-clause-reads : goal.statement-returns-in-Disconnect-clause-reads
+statement-returns-in-Disconnect-clause-reads t c = form_reads disconnect_form c.disconnection.new.cursor c.disconnection.result (word_at c.in_ok-word.ensures.reads word.Disconnect c.in-Disconnect.is) c.disconnection.ensures.reads
+
+pub statement-returns-in_default : goal.statement-returns-in_default
+statement-returns-in_default t c =
+    let other = not_at_word c.in_ok-word.ensures.reads in
+    record {
+      reads = λ k. no_statement_at (other word.Set c.in_default.not-Set) (other word.Emit c.in_default.not-Emit) (other word.Call c.in_default.not-Call) (other word.If c.in_default.not-If) (other word.Connect c.in_default.not-Connect) (other word.Disconnect c.in_default.not-Disconnect);
+      shorter = tt;
+    }

@@ -2,7 +2,8 @@ use Rattle.slot_lang.specs.Expressions.{tree_of_expression, EndsFactor}
 use Rattle.slot_lang.specs.Grammar.{Target, spell_target, spell_value}
 use Rattle.texts.specs.Reading.{EndsAnywhere}
 use Rattle.texts.specs.declared.syntax.Stmt.TheVariants as stmt
-use Rattle.slot_lang.proofs.Bodies.{both_found, value_meets}
+use Rattle.texts.proofs.Both.{both_found}
+use Rattle.slot_lang.proofs.Bodies.{value_meets}
 use Rattle.slot_lang.proofs.body.assignment.Goals as goal
 
 pub returns-clause-reads : goal.returns-clause-reads

@@ -3,7 +3,8 @@ use Rattle.slot_lang.specs.Expressions.{tree_of_expression, EndsFactor}
 use Rattle.slot_lang.specs.Grammar.{Target, spell_target, spell_arguments}
 use Rattle.texts.specs.Reading.{EndsAnywhere}
 use Rattle.texts.specs.declared.syntax.Stmt.TheVariants as stmt
-use Rattle.slot_lang.proofs.Bodies.{both_found, arguments_meet}
+use Rattle.texts.proofs.Both.{both_found}
+use Rattle.slot_lang.proofs.Bodies.{arguments_meet}
 use Rattle.slot_lang.proofs.body.call.Goals as goal
 
 pub returns-clause-reads : goal.returns-clause-reads

@@ -3,7 +3,7 @@ use Rattle.slot_lang.specs.Expressions.{tree_of_expression}
 use Rattle.slot_lang.specs.Grammar.{spell_arguments}
 use Rattle.texts.specs.Reading.{EndsAnywhere, spell_name}
 use Rattle.texts.specs.declared.syntax.Stmt.TheVariants as stmt
-use Rattle.slot_lang.proofs.Bodies.{both_found}
+use Rattle.texts.proofs.Both.{both_found}
 use Rattle.slot_lang.proofs.body.emission.Goals as goal
 
 pub returns-clause-reads : goal.returns-clause-reads

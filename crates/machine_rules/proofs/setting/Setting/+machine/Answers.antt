@@ -1,11 +1,13 @@
-use Rattle.std.proofs.Common.{◌∙◌, ℕ, List, [], ◌∷◌, length, refl, sym, ap, arith, Option, Some}
+use Rattle.std.proofs.Common.{◌∙◌, ℕ, List, [], ◌∷◌, length, refl, sym, ap, subst, arith, Option, Some}
 use Rattle.signatures.specs.declared.value.Value.{Value}
 use Rattle.machine_state.specs.declared.world.World.{World}
 use Rattle.machine_rules.proofs.Reaching.{not-idle, reaches-same, reaches-then, stops-after, stops-as, ends-after, ends-left, ends-undue, ends-short, ends-unchanged, ends-faulted, ends-ticked}
-use Rattle.machine_rules.proofs.Keeps.{keeps-same, keeps-then, ends-keeps, ends-sound, sound-written, sound-as, fit-still, reaches-typed, reaches-keeps, reaches-sound}
-use Rattle.machine_rules.proofs.Beginning.{ends-begun, stops-barred, stops-no-member, stops-ill-typed, fit-of, next-joined, next-fits, delivered-fits, delivery-calls, not-true}
+use Rattle.machine_rules.specs.Good.{ArgumentsFit}
+use Rattle.machine_rules.proofs.Keeps.{keeps-same, keeps-then, ends-keeps, reaches-typed, reaches-keeps}
+use Rattle.machine_rules.proofs.Soundness.{fit-still, ends-sound, reaches-sound, sound-used, sound-noted, sound-set, sound-as}
+use Rattle.machine_rules.proofs.Beginning.{ends-begun, stops-barred, stops-no-member, stops-ill-typed, fit-of, next-joined, next-fits, delivered-fits, delivery-calls, begun-used, ends-posted, no-home, not-true}
 use Rattle.machine_rules.proofs.Writes.{ends-written, stops-unwritten, announces-written, announces-as, announced-member, announced-value, announced-fits, announcement-calls}
-use Rattle.machine_rules.proofs.Bodies.{does-call, does-call-alone, does-set, does-nothing, does-choose, lacks-read, advances-one, advances-ticked, advances-left}
+use Rattle.machine_rules.proofs.Bodies.{does-call, does-call-alone, does-set, does-nothing, does-connect, does-disconnect, does-choose, lacks-read, advances-one, advances-ticked, advances-left}
 use Rattle.machine_rules.proofs.setting.Setting.+machine.Goals as goal
 
 -- ---- emissions
@@ -19,7 +21,7 @@ run_emission-deliver-requires t c =
     let found = sym c.in-Some.ensures.value in
     let sound = c.loop-connection.invariant.sound in
     let emitted = fit-still c.loop-connection.invariant.keeps c.requires.emitted in
-    let joined = next-joined now.objects now.connected.connections c.args.object c.args.signal c.loop-connection.used c.args.last _ sound.joined found in
+    let joined = next-joined now.objects now.connected.connections c.args.object c.args.signal c.loop-connection.used c.args.last _ sound.is.joined found in
     let fits = next-fits now.objects now.connected.connections c.args.object c.args.signal c.loop-connection.used c.args.last _ found emitted in
     (omega (arith, c.loop-connection.invariant.fewer), (c.requires.room, (sound, (joined, fits))))
 
@@ -27,7 +29,7 @@ pub run_emission-loop-connection-preserved : goal.run_emission-loop-connection-p
 run_emission-loop-connection-preserved t c =
     let went = c.in_ok-deliver.ensures.ends _ _ _ _ (sym c.in-Some.ensures.value) in
     let keeps = keeps-then c.loop-connection.invariant.keeps (ends-keeps _ went) in
-    record { reaches = reaches-then c.loop-connection.invariant.reaches went.cases; keeps = keeps; fewer = keeps.fewer; sound = ends-sound _ went c.loop-connection.invariant.sound }
+    record { reaches = reaches-then c.loop-connection.invariant.reaches went.cases; keeps = keeps; fewer = keeps.fewer; sound = ends-sound (fit-still c.loop-connection.invariant.keeps c.requires.emitted, tt) c.loop-connection.invariant.sound _ went }
 
 pub run_emission-returns-in_err-deliver-clause-ends : goal.run_emission-returns-in_err-deliver-clause-ends
 run_emission-returns-in_err-deliver-clause-ends t c =
@@ -39,12 +41,12 @@ run_emission-returns-in_err-deliver-clause-keeps t c =
 
 pub run_emission-returns-in_err-deliver-clause-sound : goal.run_emission-returns-in_err-deliver-clause-sound
 run_emission-returns-in_err-deliver-clause-sound t c =
-    ends-sound _ (c.in_err-deliver.ensures.ends _ _ _ _ (sym c.in-Some.ensures.value)) c.loop-connection.invariant.sound
+    ends-sound (fit-still c.loop-connection.invariant.keeps c.requires.emitted, tt) c.loop-connection.invariant.sound _ (c.in_err-deliver.ensures.ends _ _ _ _ (sym c.in-Some.ensures.value))
 
 pub run_emission-returns-clause-ends : goal.run_emission-returns-clause-ends
 run_emission-returns-clause-ends t c =
     let none = sym c.next_used.ensures.value ∙ c.in_default.is in
-    ends-after c.loop-connection.invariant.reaches (ends-ticked {b = []} _ (λ below e. rw none refl) (omega arith) c.requires.room c.loop-connection.invariant.sound.typed c.tick.ensures)
+    ends-after c.loop-connection.invariant.reaches (ends-ticked {b = []} _ (λ below e. rw none refl) (omega arith) c.requires.room c.loop-connection.invariant.sound.is.typed c.tick.ensures)
 
 pub deliver-returns-in_err-require_rule : goal.deliver-returns-in_err-require_rule
 deliver-returns-in_err-require_rule t c = record { ends = λ o g used last found. ends-undue _ c.in_err-require_rule.ensures c.from_residual.ensures.1 }
@@ -52,11 +54,47 @@ deliver-returns-in_err-require_rule t c = record { ends = λ o g used last found
 pub deliver-unreachable-requires : goal.deliver-unreachable-requires
 deliver-unreachable-requires t c = c.in_default.ensures _ _ c.requires.joined.receives
 
-pub deliver-begin-requires : goal.deliver-begin-requires
-deliver-begin-requires t c = (omega arith, (c.requires.sound, (c.in_ok-require_rule.ensures, delivered-fits c.requires.joined c.requires.emitted c.in-Some.ensures c.front-taken.ensures c.len.ensures)))
+pub deliver-unreachable-requires-in_default-home : goal.deliver-unreachable-requires-in_default-home
+deliver-unreachable-requires-in_default-home t c = no-home c.in-Some.ensures c.in_default-home.ensures
 
-pub deliver-returns : goal.deliver-returns
-deliver-returns t c = record { ends = λ o g used last found. c.begin.ensures.ends _ _ _ c.over-over.ensures (delivery-calls o g used last found c.in-Some.ensures c.front-taken.ensures c.len.ensures) }
+pub deliver-begin_used-requires : goal.deliver-begin_used-requires
+deliver-begin_used-requires t c = (omega arith, (c.requires.sound, (c.in_ok-require_rule.ensures, delivered-fits c.requires.joined c.requires.emitted c.in-Some.ensures c.front-taken.ensures c.len.ensures)))
+
+pub deliver-post-requires-clause-fit : goal.deliver-post-requires-clause-fit
+deliver-post-requires-clause-fit t c = delivered-fits c.requires.joined c.requires.emitted c.in-Some.ensures c.front-taken.ensures c.len.ensures
+
+pub deliver-returns-then-reaches_at_once : goal.deliver-returns-then-reaches_at_once
+deliver-returns-then-reaches_at_once t c =
+    let now = rw c.running.ensures at c.reaches_at_once.ensures in
+    record { ends = λ o g used last found. c.begin_used.ensures.ends _ _ _ c.over-over.ensures (delivery-calls o g used last found c.in-Some.ensures c.front-taken.ensures c.len.ensures (sym c.in-Some-home.ensures) (sym now ∙ c.if-reaches_at_once.true)) }
+
+pub deliver-returns-else-reaches_at_once : goal.deliver-returns-else-reaches_at_once
+deliver-returns-else-reaches_at_once t c =
+    let later = rw c.running.ensures at c.reaches_at_once.ensures in
+    record {
+      ends = λ o g used last found.
+          ends-posted o g used last _ _ found c.in-Some.ensures c.front-taken.ensures c.len.ensures (sym c.in-Some-home.ensures) (sym later ∙ c.if-reaches_at_once.false) c.requires.room c.requires.sound.is.typed c.in_ok-require_rule.ensures (omega (arith, c.count.ensures)) c.post.ensures;
+    }
+
+pub begin_used-returns-in_err-begun : goal.begin_used-returns-in_err-begun
+begin_used-returns-in_err-begun t c = record {
+  ends = λ from to shown over calls. ends-left _ (stops-barred over calls c.requires.fit c.requires.sound.is.typed c.requires.left c.in_err-begun.ensures.err) c.from_residual.ensures.1;
+}
+
+pub begin_used-returns-in_err-use_connection : goal.begin_used-returns-in_err-use_connection
+begin_used-returns-in_err-use_connection t c = record { ends = λ from to shown over calls. ends-unchanged _ calls.goes_on c.requires.left c.in_err-use_connection.ensures c.from_residual-in_err-use_connection.ensures.1 }
+
+pub begin_used-run_begun-requires : goal.begin_used-run_begun-requires
+begin_used-run_begun-requires t c =
+    let went = c.in_ok-use_connection.ensures in
+    let Fit : World → Type 0 = λ v. ArgumentsFit c.args.self.now.meta v.objects c.args.connection.receiver c.args.connection.method c.args.arguments.now in
+    (omega (arith, ap (λ (w : World). w.left) went, c.requires.left), (c.in_ok-begun.ensures.ok.room, (sound-used c.args.world.now _ c.args.connection went c.requires.sound, subst Fit (sym went) c.requires.fit)))
+
+pub begin_used-returns : goal.begin_used-returns
+begin_used-returns t c = record {
+  ends = λ from to shown over calls.
+      ends-begun over calls (begun-used c.args.connection c.in_ok-begun.ensures.ok) c.requires.fit c.requires.sound.is.typed c.requires.left refl c.in_ok-use_connection.ensures c.run_begun.ensures.ends;
+}
 
 -- ---- the beginning of methods
 
@@ -79,16 +117,22 @@ begin_typed-returns t c = record { ends = λ from to shown over calls only. c.be
 
 pub begin-returns-in_err-begun : goal.begin-returns-in_err-begun
 begin-returns-in_err-begun t c = record {
-  ends = λ from to shown over calls. ends-left _ (stops-barred over calls c.requires.fit c.requires.sound.typed c.requires.left c.in_err-begun.ensures.err) c.from_residual.ensures.1;
+  ends = λ from to shown over calls. ends-left _ (stops-barred over calls c.requires.fit c.requires.sound.is.typed c.requires.left c.in_err-begun.ensures.err) c.from_residual.ensures.1;
 }
 
 pub begin-returns-in_err-note : goal.begin-returns-in_err-note
 begin-returns-in_err-note t c = record { ends = λ from to shown over calls. ends-unchanged _ calls.goes_on c.requires.left c.in_err-note.ensures c.from_residual-in_err-note.ensures.1 }
 
+pub begin-run_begun-requires : goal.begin-run_begun-requires
+begin-run_begun-requires t c =
+    let went = c.in_ok-note.ensures in
+    let Fit : World → Type 0 = λ v. ArgumentsFit c.args.self.now.meta v.objects c.args.object c.args.method c.args.arguments.now in
+    (omega (arith, ap (λ (w : World). w.left) went, c.requires.left), (c.in_ok-begun.ensures.ok.room, (sound-noted c.args.world.now _ went c.requires.sound, subst Fit (sym went) c.requires.fit)))
+
 pub begin-returns : goal.begin-returns
 begin-returns t c = record {
   ends = λ from to shown over calls.
-      ends-begun over calls c.in_ok-begun.ensures.ok c.requires.fit c.requires.sound.typed c.requires.left c.in_ok-note.ensures c.run_begun.ensures.ends;
+      ends-begun over calls c.in_ok-begun.ensures.ok c.requires.fit c.requires.sound.is.typed c.requires.left refl c.in_ok-note.ensures c.run_begun.ensures.ends;
 }
 
 -- ---- bodies
@@ -119,7 +163,7 @@ run_body-loop-statement-preserved t c =
     let is = rw (c.scope.ensures.objects, c.scope.ensures.this, c.scope.ensures.arguments) at c.in_ok-doing.ensures in
     let one = (c.in_ok-carry_out.ensures.advances c.args.method c.args.arguments.now _ is).cases in
     let keeps = keeps-then c.loop-statement.invariant.keeps (reaches-keeps one.0) in
-    record { reaches = reaches-then came one.0; keeps = keeps; fewer = keeps.fewer; sound = reaches-sound one.0 c.loop-statement.invariant.sound }
+    record { reaches = reaches-then came one.0; keeps = keeps; fewer = keeps.fewer; sound = reaches-sound (tt, tt) c.loop-statement.invariant.sound one.0 }
 
 pub run_body-loop-statement-smaller : goal.run_body-loop-statement-smaller
 run_body-loop-statement-smaller t c =
@@ -129,7 +173,7 @@ run_body-loop-statement-smaller t c =
 pub run_body-returns : goal.run_body-returns
 run_body-returns t c =
     let came = rw c.in_default.ensures.0 at c.loop-statement.invariant.reaches in
-    record { ends = ends-after came (ends-ticked {b = []} _ (λ below e. refl) (omega arith) c.requires.room c.loop-statement.invariant.sound.typed c.tick.ensures) }
+    record { ends = ends-after came (ends-ticked {b = []} _ (λ below e. refl) (omega arith) c.requires.room c.loop-statement.invariant.sound.is.typed c.tick.ensures) }
 
 pub carry_out-returns-in-Write : goal.carry_out-returns-in-Write
 carry_out-returns-in-Write t c = record { advances = λ m arguments x is. advances-one _ (c.write.ensures.ends _ _ _ c.over-over.ensures (does-set m c.args.left.now (rw c.in-Write.is at is))) }
@@ -147,21 +191,38 @@ carry_out-returns-in_err-put-in-Choose t c = record { advances = λ m arguments 
 pub carry_out-returns-in_ok-put-in-Choose : goal.carry_out-returns-in_ok-put-in-Choose
 carry_out-returns-in_ok-put-in-Choose t c = record {
   advances = λ m arguments x is.
-      rw c.in_ok-put-in-Choose.ensures.ok (advances-ticked _ c.tick.ensures (does-choose m c.args.left.now _ _ (rw c.in-Choose.is at is) c.requires.room c.requires.sound.typed c.tick.ensures));
+      rw c.in_ok-put-in-Choose.ensures.ok (advances-ticked _ c.tick.ensures (does-choose m c.args.left.now _ _ (rw c.in-Choose.is at is) c.requires.room c.requires.sound.is.typed c.tick.ensures));
 }
 
 pub carry_out-returns-in-Nothing : goal.carry_out-returns-in-Nothing
 carry_out-returns-in-Nothing t c = record {
   advances = λ m arguments x is.
       let higher = ap (λ (l : List (Option ℕ)). length l) c.over-over.ensures in
-      advances-one _ (does-nothing m c.args.left.now _ _ (rw c.in-Nothing.is at is) c.requires.room c.requires.sound.typed c.requires.due (omega (arith, c.count.ensures, higher)) c.note.ensures);
+      advances-one _ (does-nothing m c.args.left.now _ _ (rw c.in-Nothing.is at is) c.requires.room c.requires.sound.is.typed c.requires.due (omega (arith, c.count-in-Nothing.ensures, higher)) c.note.ensures);
+}
+
+pub carry_out-connect-requires : goal.carry_out-connect-requires
+carry_out-connect-requires t c = record { left = c.requires.due; few = omega (arith, c.requires.sound.numbers, c.requires.due) }
+
+pub carry_out-returns-in-Connect : goal.carry_out-returns-in-Connect
+carry_out-returns-in-Connect t c = record {
+  advances = λ m arguments x is.
+      let higher = ap (λ (l : List (Option ℕ)). length l) c.over-over.ensures in
+      advances-one _ (does-connect m c.args.left.now _ _ _ _ (rw c.in-Connect.is at is) c.requires.room c.requires.sound.is.typed c.requires.due (omega (arith, c.count.ensures, higher)) c.connect.ensures);
+}
+
+pub carry_out-returns-in-Disconnect : goal.carry_out-returns-in-Disconnect
+carry_out-returns-in-Disconnect t c = record {
+  advances = λ m arguments x is.
+      let higher = ap (λ (l : List (Option ℕ)). length l) c.over-over.ensures in
+      advances-one _ (does-disconnect m c.args.left.now _ _ _ (rw c.in-Disconnect.is at is) c.requires.room c.requires.sound.is.typed c.requires.due (omega (arith, c.count-in-Disconnect.ensures, higher)) c.disconnect.ensures);
 }
 
 -- ---- writes
 
 pub write-returns-in_err-writing : goal.write-returns-in_err-writing
 write-returns-in_err-writing t c = record {
-  ends = λ from to shown over sets. ends-left _ (stops-unwritten over sets c.requires.sound.typed c.requires.left c.in_err-writing.ensures.err) c.from_residual.ensures.1;
+  ends = λ from to shown over sets. ends-left _ (stops-unwritten over sets c.requires.sound.is.typed c.requires.left c.in_err-writing.ensures.err) c.from_residual.ensures.1;
 }
 
 pub write-returns-in_err-write : goal.write-returns-in_err-write
@@ -170,19 +231,19 @@ write-returns-in_err-write t c = record { ends = λ from to shown over sets. end
 pub write-run_update-requires : goal.write-run_update-requires
 write-run_update-requires t c = let is = c.in_ok-writing.ensures.ok in
     let went = c.in_ok-write.ensures in
-    (omega (arith, ap (λ (w : World). w.left) went, c.requires.left), (is.room, (sound-as went (sound-written c.args.value is.alters.is is.fits c.requires.sound), announces-as _ _ _ _ went (announces-written c.args.value _ is.alters c.requires.sound.typed))))
+    (omega (arith, ap (λ (w : World). w.left) went, c.requires.left), (is.room, (sound-as went (sound-set c.args.world.now _ c.args.value is.alters.is is.fits c.requires.sound), announces-as _ _ _ _ went (announces-written c.args.value _ is.alters c.requires.sound.is.typed))))
 
 pub write-returns : goal.write-returns
 write-returns t c = record {
-  ends = λ from to shown over sets. ends-written over sets c.requires.sound.typed c.requires.left c.in_ok-writing.ensures.ok c.in_ok-write.ensures c.run_update.ensures.ends;
+  ends = λ from to shown over sets. ends-written over sets c.requires.sound.is.typed c.requires.left c.in_ok-writing.ensures.ok c.in_ok-write.ensures c.run_update.ensures.ends;
 }
 
 pub run_update-returns-in-None : goal.run_update-returns-in-None
-run_update-returns-in-None t c = record { ends = rw c.in-None.is (ends-ticked {b = []} _ (λ below e. refl) (omega arith) c.requires.room c.requires.sound.typed c.tick-in-None.ensures) }
+run_update-returns-in-None t c = record { ends = rw c.in-None.is (ends-ticked {b = []} _ (λ below e. refl) (omega arith) c.requires.room c.requires.sound.is.typed c.tick-in-None.ensures) }
 
 pub run_update-returns-in_ok-notify-in-Some : goal.run_update-returns-in_ok-notify-in-Some
 run_update-returns-in_ok-notify-in-Some t c = let went = c.in_ok-notify-in-Some.ensures.ends.cases in
-    record { ends = rw c.in-Some.is (ends-after went (ends-ticked {b = []} _ (λ below e. refl) (omega arith) c.requires.room (reaches-typed went c.requires.sound.typed) c.tick.ensures)) }
+    record { ends = rw c.in-Some.is (ends-after went (ends-ticked {b = []} _ (λ below e. refl) (omega arith) c.requires.room (reaches-typed went c.requires.sound.is.typed) c.tick.ensures)) }
 
 pub notify-returns-in_err-require_rule : goal.notify-returns-in_err-require_rule
 notify-returns-in_err-require_rule t c = record { ends = ends-undue _ c.in_err-require_rule.ensures c.from_residual.ensures.1 }
@@ -191,7 +252,7 @@ pub notify-unreachable-requires : goal.notify-unreachable-requires
 notify-unreachable-requires t c = c.in_default.ensures _ _ (announced-member c.requires.announces)
 
 pub notify-unreachable-requires-in_default-stored : goal.notify-unreachable-requires-in_default-stored
-notify-unreachable-requires-in_default-stored t c = let there = announced-value c.requires.announces c.requires.sound.typed in
+notify-unreachable-requires-in_default-stored t c = let there = announced-value c.requires.announces c.requires.sound.is.typed in
     let none = c.in_default-stored.ensures ∙ there.1 in
     absurd (cc none)
 
@@ -201,7 +262,7 @@ notify-returns-in_err-copy t c = record { ends = ends-short _ (not-idle c.args.w
 pub notify-begin-requires : goal.notify-begin-requires
 notify-begin-requires t c = let present = sym c.in-Some-stored.ensures ∙ ap (λ (v : Value). Some v) (sym c.in_ok-copy.ensures) in
     let cut = rw c.as_slice.ensures at c.front-taken.ensures in
-    (omega arith, (c.requires.sound, (c.in_ok-require_rule.ensures, announced-fits c.requires.announces c.requires.sound.typed c.in-Some.ensures present cut c.len.ensures)))
+    (omega arith, (c.requires.sound, (c.in_ok-require_rule.ensures, announced-fits c.requires.announces c.requires.sound.is.typed c.in-Some.ensures present cut c.len.ensures)))
 
 pub notify-returns : goal.notify-returns
 notify-returns t c = let present = sym c.in-Some-stored.ensures ∙ ap (λ (v : Value). Some v) (sym c.in_ok-copy.ensures) in

@@ -1,6 +1,6 @@
 use Rattle.std.proofs.Common.{◌≤◌, ◌+◌, ◌-◌, ◌*◌, [], ◌∷◌}
 use Rattle.machine_state.specs.State.{Body, Emit}
-use Rattle.machine_rules.specs.Sound.{Sound}
+use Rattle.machine_rules.specs.Sound.{IsSoundWorld}
 use Rattle.machine_rules.specs.Reaches.{Reaches}
 use Rattle.machine_rules.specs.Keeps.{KeepsWorld}
 use Rattle.machine_rules.proofs.setting.Setting.+machine.Given as goal
@@ -10,6 +10,9 @@ decreases-run_emission l = 6 * l.world.now.left + 2
 
 abbrev pub decreases-deliver : goal.decreases-deliver
 decreases-deliver l = 6 * l.world.now.left + 1
+
+abbrev pub decreases-begin_used : goal.decreases-begin_used
+decreases-begin_used l = 6 * l.world.now.left + 0
 
 abbrev pub decreases-begin_typed : goal.decreases-begin_typed
 decreases-begin_typed l = 6 * l.world.now.left + 1
@@ -41,7 +44,7 @@ invariant-run_body-loop-statement l =
       reaches : Reaches l.self.meta l.self.depth l.active l.fn.world (Body l.object l.method l.arguments l.statements ∷ []) l.world (Body l.object l.method l.arguments l.left ∷ []);
       keeps : KeepsWorld l.self.meta l.fn.world l.world;
       fewer : l.world.left ≤ l.fn.world.left;
-      sound : Sound l.self.meta l.world.objects l.world.connected.connections;
+      sound : IsSoundWorld l.self.meta l.world;
     }
 
 abbrev pub decreases-run_body-loop-statement : goal.decreases-run_body-loop-statement
@@ -53,7 +56,7 @@ invariant-run_emission-loop-connection l =
       reaches : Reaches l.self.meta l.self.depth l.active l.fn.world (Emit l.object l.signal l.arguments 0 l.last ∷ []) l.world (Emit l.object l.signal l.arguments l.used l.last ∷ []);
       keeps : KeepsWorld l.self.meta l.fn.world l.world;
       fewer : l.world.left ≤ l.fn.world.left;
-      sound : Sound l.self.meta l.world.objects l.world.connected.connections;
+      sound : IsSoundWorld l.self.meta l.world;
     }
 
 abbrev pub decreases-run_emission-loop-connection : goal.decreases-run_emission-loop-connection

@@ -1,24 +1,27 @@
 use Rattle.std.proofs.Common.{Ok, Err}
-use Rattle.qt_runtime.proofs.Pushed.{began, barred-short}
-use Rattle.qt_runtime.proofs.Taken.{took-unchanged, took-stopped}
+use Rattle.qt_runtime.proofs.Pushed.{began, barred-short, sound-begun}
+use Rattle.qt_runtime.proofs.Taken.{took-unchanged, took-stopped, ready}
 use Rattle.qt_runtime.proofs.events.invoke.begin.Goals as goal
 
 pub returns-in_err-begun : goal.returns-in_err-begun
-returns-in_err-begun c = λ e asks. barred-short e _ c.requires.depth c.requires.left (rw c.nothing-below.ensures at c.in_err-begun.ensures.err) c.from_residual.ensures.1
+returns-in_err-begun c = λ e asks. barred-short e _ c.requires.depth (ready c.requires.left c.requires.idle) (rw c.nothing-below.ensures at c.in_err-begun.ensures.err) c.from_residual.ensures.1
 
 pub returns-in_err-accept_with : goal.returns-in_err-accept_with
-returns-in_err-accept_with c = λ e asks. took-unchanged e _ c.requires.left c.in_err-accept_with.ensures c.from_residual-in_err-accept_with.ensures.1
+returns-in_err-accept_with c = λ e asks. took-unchanged e _ (ready c.requires.left c.requires.idle) c.in_err-accept_with.ensures c.from_residual-in_err-accept_with.ensures.1
+
+pub run_begun-requires-clause-sound : goal.run_begun-requires-clause-sound
+run_begun-requires-clause-sound c = sound-begun c.args.world.now _ c.requires.keeps.sound c.in_ok-accept_with.ensures
 
 pub returns-in_err-run_begun : goal.returns-in_err-run_begun
 returns-in_err-run_begun c = λ e asks.
     let is = rw c.nothing-below.ensures at c.in_ok-begun.ensures.ok in
     let ends = rw c.nothing-below.ensures at c.in_err-run_begun.ensures.ends in
     took-stopped e _
-    (began {r = Err c.in_err-run_begun.field-0.0} e c.requires.keeps.sound.typed c.requires.fit c.requires.left asks is c.in_ok-accept_with.ensures ends)
+    (began {r = Err c.in_err-run_begun.field-0.0} e c.requires.keeps.sound.is.typed c.requires.fit (ready c.requires.left c.requires.idle) asks is c.in_ok-accept_with.ensures ends)
     c.from_residual-in_err-run_begun.ensures.1
 
 pub returns : goal.returns
 returns c = λ e asks.
     let is = rw c.nothing-below.ensures at c.in_ok-begun.ensures.ok in
     let ends = rw c.nothing-below.ensures at c.in_ok-run_begun.ensures.ends in
-    began {r = Ok tt} e c.requires.keeps.sound.typed c.requires.fit c.requires.left asks is c.in_ok-accept_with.ensures ends
+    began {r = Ok tt} e c.requires.keeps.sound.is.typed c.requires.fit (ready c.requires.left c.requires.idle) asks is c.in_ok-accept_with.ensures ends

@@ -1,5 +1,5 @@
 use Rattle.script_lang.specs.declared.event.Input.TheVariants as input
-use Rattle.qt_runtime.specs.Judgement.{gives, goes_on}
+use Rattle.machine_rules.specs.Judgement.{gives, goes_on}
 use Rattle.qt_runtime.specs.events.Values.{value}
 use Rattle.qt_runtime.proofs.Judged.{then-ends, err-is, short-is}
 use Rattle.qt_runtime.proofs.Judging.Naming.{living-ok}

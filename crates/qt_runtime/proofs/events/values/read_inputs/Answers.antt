@@ -2,7 +2,8 @@ use Rattle.std.proofs.Common.{◌≡◌, [], ◌∷◌, ◌++◌, ◌+◌, Ok, L
 use Rattle.std.proofs.lemmas.List.{take_more, drop_more}
 use Rattle.script_lang.specs.declared.event.Input.{Input}
 use Rattle.signatures.specs.declared.value.Value.{Value}
-use Rattle.qt_runtime.specs.Judgement.{gives, IsNotAccepted}
+use Rattle.machine_rules.specs.Judgement.{gives}
+use Rattle.qt_runtime.specs.Judgement.{IsNotAccepted}
 use Rattle.qt_runtime.specs.events.Values.{values}
 use Rattle.qt_runtime.proofs.Judged.{err-is, short-is}
 use Rattle.qt_runtime.proofs.Judging.Reading.{values-snoc, values-end}

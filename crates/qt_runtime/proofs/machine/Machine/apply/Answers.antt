@@ -1,12 +1,12 @@
-use Rattle.std.proofs.Common.{subst, ◌⊎◌, ◌∷◌, []}
+use Rattle.std.proofs.Common.{subst, sym, ◌∙◌, ◌⊎◌, ◌∷◌, []}
 use Rattle.std.specs.Prelude.{IfErr}
 use Rattle.qt_runtime.specs.Seen.{Seen, OnDone, OnRefused, Accepts, Refuses, Halts, Stays}
 use Rattle.qt_runtime.proofs.Halting.{seen, applied-done, applied-refused, applied-stopped}
-use Rattle.qt_runtime.proofs.Keeping.{keeps-took}
+use Rattle.qt_runtime.proofs.Keeping.{keeps-took, idle-took}
 use Rattle.qt_runtime.proofs.machine.Machine.apply.Goals as goal
 
 pub invariant_of-self : goal.invariant_of-self
-invariant_of-self c = record { room = c.self.invariant.room; keeps = keeps-took c.take_event-result.result c.classes.ensures.sound c.self.invariant.keeps c.take_event-result.ensures }
+invariant_of-self c = record { room = c.self.invariant.room; keeps = keeps-took c.take_event-result.result c.classes.ensures.sound c.self.invariant.keeps c.take_event-result.ensures; idle = λ goes. idle-took c.take_event-result.result c.take_event-result.ensures (sym c.is_err-self-inside.ensures.value ∙ goes) }
 
 pub returns-clause-done : goal.returns-clause-done
 returns-clause-done c =

@@ -7,7 +7,7 @@ use Rattle.qt_runtime.proofs.Applying.{completes-none, completes-then, run-stops
 use Rattle.qt_runtime.proofs.machine.Machine.run.Goals as goal
 
 pub loop-event-init : goal.loop-event-init
-loop-event-init c = completes-none (sym c.is_stopped.ensures ∙ c.if-is_stopped.false)
+loop-event-init c = completes-none (sym c.is_stopped.ensures.value ∙ c.if-is_stopped.false) (c.is_stopped.ensures.idle c.if-is_stopped.false)
 
 pub loop-event-preserved : goal.loop-event-preserved
 loop-event-preserved c =

@@ -1,11 +1,13 @@
 use Rattle.std.proofs.Common.{refl}
 use Rattle.std.proofs.lemmas.Option.{slice_get_read}
+use Rattle.meta_model.specs.declared.object.MetaEndpoints.{MetaEndpoints}
 use Rattle.meta_model.specs.declared.object.Statement.{Statement}
 use Rattle.meta_model.specs.declared.fault.MetaFault.TheVariants as fault
-use Rattle.meta_objects.specs.Bodies.{IsStatementOf, AreStatements, LacksInBody}
+use Rattle.meta_objects.specs.Bodies.{AreEnds, IsStatementOf, AreStatements, LacksInBody}
 use Rattle.meta_objects.specs.Resolving.{scope}
 use Rattle.meta_model.proofs.OutlineSteps.{failed}
 use Rattle.meta_objects.proofs.BodyPieces.{block_left, block_only, block_stuck, block_end, if_piece, no_other}
+use Rattle.meta_objects.proofs.BodyEnds.{no_connect, connect_piece, no_disconnect, disconnect_piece}
 use Rattle.meta_objects.proofs.body_resolution.scope.Scope.+blocks.Goals as goal
 
 pub resolve_block-loop-statement-preserved : goal.resolve_block-loop-statement-preserved
@@ -38,3 +40,23 @@ pub resolve_statement-returns-in_ok-other-in-If : goal.resolve_statement-returns
 resolve_statement-returns-in_ok-other-in-If t c =
     rw c.in-If.is
     (if_piece _ _ _ _ _ _ _ c.in_ok-test-in-If.ensures (rw c.as_slice-in-If.ensures at c.in_ok-chosen-in-If.ensures) (rw c.as_slice-in-If-2.ensures at c.in_ok-other-in-If.ensures))
+
+pub resolve_statement-returns-in_err-ends-in-Connect : goal.resolve_statement-returns-in_err-ends-in-Connect
+resolve_statement-returns-in_err-ends-in-Connect t c =
+    let s = scope c.args.self.now in
+    failed fault.NoMember ((found : MetaEndpoints) → ¬ AreEnds s c.in-Connect.ends found) ((y : Statement) → ¬ IsStatementOf s c.args.statement.now y)
+    (λ found. AreEnds s c.in-Connect.ends found) (λ y. IsStatementOf s c.args.statement.now y) _ c.in_err-ends-in-Connect.ensures
+    (λ lacks. rw c.in-Connect.is (no_connect s _ _ lacks)) _ c.from_residual-in_err-ends-in-Connect.ensures.0 c.from_residual-in_err-ends-in-Connect.ensures.1
+
+pub resolve_statement-returns-in_ok-ends-in-Connect : goal.resolve_statement-returns-in_ok-ends-in-Connect
+resolve_statement-returns-in_ok-ends-in-Connect t c = rw c.in-Connect.is (connect_piece _ _ _ _ c.in_ok-ends-in-Connect.ensures)
+
+pub resolve_statement-returns-in_err-ends-in-Disconnect : goal.resolve_statement-returns-in_err-ends-in-Disconnect
+resolve_statement-returns-in_err-ends-in-Disconnect t c =
+    let s = scope c.args.self.now in
+    failed fault.NoMember ((found : MetaEndpoints) → ¬ AreEnds s c.in-Disconnect.ends found) ((y : Statement) → ¬ IsStatementOf s c.args.statement.now y)
+    (λ found. AreEnds s c.in-Disconnect.ends found) (λ y. IsStatementOf s c.args.statement.now y) _ c.in_err-ends-in-Disconnect.ensures
+    (λ lacks. rw c.in-Disconnect.is (no_disconnect s _ lacks)) _ c.from_residual-in_err-ends-in-Disconnect.ensures.0 c.from_residual-in_err-ends-in-Disconnect.ensures.1
+
+pub resolve_statement-returns-in_ok-ends-in-Disconnect : goal.resolve_statement-returns-in_ok-ends-in-Disconnect
+resolve_statement-returns-in_ok-ends-in-Disconnect t c = rw c.in-Disconnect.is (disconnect_piece _ _ _ c.in_ok-ends-in-Disconnect.ensures)

@@ -1,0 +1,105 @@
+-- Connections that statements make and remove.
+use Rattle.std.proofs.Common.{◌≡◌, ◌&&◌, Bool, true, false, IsTrue, ℕ, ◌-◌, List, [], ◌∷◌, length, Result, Ok, Err, MatchResult, refl, sym, ap, ◌∙◌, subst, inr}
+use Rattle.texts.specs.declared.connection.ConnectionType.{ConnectionType}
+use Rattle.texts.specs.declared.connection.Endpoints.{Endpoints as Named}
+use Rattle.meta_model.specs.Loaded.{Loaded}
+use Rattle.meta_model.specs.declared.object.MetaMethod.{MetaMethod}
+use Rattle.meta_model.specs.Members.{IsMethod}
+use Rattle.object_tree.specs.declared.life.Life.{Life}
+use Rattle.object_tree.specs.declared.object.Object.{Object}
+use Rattle.object_tree.specs.Objects.{Lives}
+use Rattle.machine_state.specs.declared.endpoints.Endpoints.{Endpoints}
+use Rattle.machine_state.specs.declared.entry.Entry.TheVariants.{At}
+use Rattle.machine_state.specs.declared.entry.Happening.TheVariants.{Connected, Disconnected, Refused}
+use Rattle.machine_state.specs.declared.fault.Fault.{Fault}
+use Rattle.machine_state.specs.declared.refusal.Refusal.{Refusal}
+use Rattle.machine_state.specs.declared.refusal.Refusal.TheVariants.{NoConnection}
+use Rattle.machine_state.specs.declared.world.World.{World}
+use Rattle.machine_state.specs.Refusals.{refusal_number}
+use Rattle.machine_state.specs.State.{State, Activation}
+use Rattle.machine_state.specs.Worlds.{at, noted, connecting, disconnecting, Becomes}
+use Rattle.machine_rules.specs.Connecting.{AreThere, kept_ends, names_of, may_disconnect}
+use Rattle.machine_rules.specs.Reaches.{IsJudged, LacksEnds, NamesEnds, Went, Stays, ConnectsIn, DisconnectsIn}
+use Rattle.machine_rules.specs.Rules.{Connects, Disconnects}
+use Rattle.machine_rules.proofs.Fields.{member-at}
+use Rattle.machine_rules.proofs.Fitting.{named-there}
+
+-- where the ends that are spelled are there, those are that a connection keeps
+pub kept-there : {p : Loaded} {objects : List Object} {ends : Endpoints} → AreThere p objects ends → AreThere p objects (kept_ends ends)
+kept-there {ends = ends} spelled =
+    let kept = named-there ends.signal spelled.sends.is_method in
+    record {
+      sender = spelled.sender;
+      signal = kept.0;
+      sends = record { life = spelled.sends.life; lives = spelled.sends.lives; is_method = kept.1 };
+      receiver = spelled.receiver;
+      method = spelled.method;
+      receives = spelled.receives;
+    }
+
+-- a class that lacks the signal, or the method
+pub lacks-signal : {p : Loaded} {objects : List Object} {ends : Endpoints} {x : Object} {l : Life} → Lives objects ends.sender x l → ((m : MetaMethod) → ¬ IsMethod p l.class ends.signal m) → LacksEnds p objects ends
+lacks-signal lives none there = none there.signal (member-at lives there.sends)
+
+pub lacks-method : {p : Loaded} {objects : List Object} {ends : Endpoints} {x : Object} {l : Life} → Lives objects ends.receiver x l → ((m : MetaMethod) → ¬ IsMethod p l.class ends.method m) → LacksEnds p objects ends
+lacks-method lives none there = none there.method (member-at lives there.receives)
+
+-- two tests, of which both hold, or one fails
+pub both-hold : (a b : Bool) → a ≡ true → b ≡ true → IsTrue (a && b)
+both-hold true true e f = refl
+both-hold true false e f = absurd (cc f)
+both-hold false b e f = absurd (cc e)
+
+pub first-fails : (a b : Bool) → a ≡ false → ¬ IsTrue (a && b)
+first-fails true b e h = absurd (cc e)
+first-fails false b e h = absurd (cc h)
+
+pub second-fails : (a b : Bool) → b ≡ false → ¬ IsTrue (a && b)
+second-fails true true e h = absurd (cc e)
+second-fails true false e h = absurd (cc h)
+second-fails false b e h = absurd (cc h)
+
+-- ---- what the code's calls come to
+
+module _ (What : State → List Activation → State → Type 0) (w v : World) (depth : ℕ) where
+  -- one rule was carried out, to this world where so many activations are on the stack, or memory was refused
+  came : (target : ℕ → World) (r : Result (Unit {0}) Fault) → ((old stack : List Activation) → What (at w old) stack (at (target (length stack)) stack)) → ((n : ℕ) → (target n).objects ≡ w.objects) → ((n : ℕ) → (target n).left ≡ w.left - 1) →
+      Becomes w (target depth) v r → MatchResult r (λ _. Went What w depth v) (Stays What w v)
+  came target (Ok _) tells objects left v_is = record {
+    tells = λ old stack e.
+        let In : World → Type 0 = λ u. What (at w old) stack (at u stack) in
+        let High : ℕ → Type 0 = λ n. What (at w old) stack (at (target n) stack) in
+        subst In (sym v_is) (subst High e (tells old stack));
+    objects = ap (λ (u : World). u.objects) v_is ∙ objects depth;
+    left = ap (λ (u : World). u.left) v_is ∙ left depth;
+  }
+  came target (Err f) tells objects left short = record { same = short.1; why = inr short.0 }
+
+module _ (p : Loaded) (w v : World) (depth : ℕ) (ends : Endpoints) where
+  -- the connect is refused
+  pub connect-refused : {how : ConnectionType} {k : Refusal} (r : Result (Unit {0}) Fault) → IsJudged p w ends how (Err k) → Becomes w (noted w (At depth (Refused (refusal_number k)) ∷ [])) v r → ConnectsIn p w depth ends how v r
+  connect-refused {how = how} {k = k} r j becomes =
+      came (λ s stack t. Connects p s stack ends how t) w v depth (λ n. noted w (At n (Refused (refusal_number k)) ∷ [])) r
+      (λ old stack. record { spelled = j.spelled; kept = kept-there j.spelled; answer = Err k; judged = j.is; gives = refl })
+      (λ n. refl) (λ n. refl) becomes
+
+  -- .. made
+  pub connect-made : {how : ConnectionType} {done : Unit {0}} {names : Named (List ℕ)} (r : Result (Unit {0}) Fault) → IsJudged p w ends how (Ok done) → NamesEnds p w.objects (kept_ends ends) names → Becomes w (connecting w (At depth (Connected names how) ∷ []) (kept_ends ends) how) v r → ConnectsIn p w depth ends how v r
+  connect-made {how = how} {done = done} {names = names} r j named becomes =
+      came (λ s stack t. Connects p s stack ends how t) w v depth (λ n. connecting w (At n (Connected names how) ∷ []) (kept_ends ends) how) r
+      (λ old stack. record { spelled = j.spelled; kept = named.there; answer = Ok done; judged = j.is; gives = ap (λ (l : Named (List ℕ)). at (connecting w (At (length stack) (Connected l how) ∷ []) (kept_ends ends) how) stack) named.is })
+      (λ n. refl) (λ n. refl) becomes
+
+  -- there is nothing to be removed
+  pub disconnect-refused : {names : Named (List ℕ)} (r : Result (Unit {0}) Fault) → NamesEnds p w.objects (kept_ends ends) names → may_disconnect w.connected (kept_ends ends) (Err NoConnection) → Becomes w (noted w (At depth (Refused (refusal_number NoConnection)) ∷ [])) v r → DisconnectsIn p w depth ends v r
+  disconnect-refused r named judged becomes =
+      came (λ s stack t. Disconnects p s stack ends t) w v depth (λ n. noted w (At n (Refused (refusal_number NoConnection)) ∷ [])) r
+      (λ old stack. record { kept = named.there; answer = Err NoConnection; judged = judged; gives = refl })
+      (λ n. refl) (λ n. refl) becomes
+
+  -- .. it is removed
+  pub disconnect-made : {names : Named (List ℕ)} (r : Result (Unit {0}) Fault) → NamesEnds p w.objects (kept_ends ends) names → may_disconnect w.connected (kept_ends ends) (Ok tt) → Becomes w (disconnecting w (At depth (Disconnected names) ∷ []) (kept_ends ends)) v r → DisconnectsIn p w depth ends v r
+  disconnect-made {names = names} r named judged becomes =
+      came (λ s stack t. Disconnects p s stack ends t) w v depth (λ n. disconnecting w (At n (Disconnected names) ∷ []) (kept_ends ends)) r
+      (λ old stack. record { kept = named.there; answer = Ok tt; judged = judged; gives = ap (λ (l : Named (List ℕ)). at (disconnecting w (At (length stack) (Disconnected l) ∷ []) (kept_ends ends)) stack) named.is })
+      (λ n. refl) (λ n. refl) becomes

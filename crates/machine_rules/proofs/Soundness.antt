@@ -1,0 +1,272 @@
+-- What stays sound: items that wait and emissions have arguments that fit.
+use Rattle.std.proofs.Common.{◌≡◌, ℕ, suc, ◌+◌, ◌-◌, ◌<◌, Bool, true, false, List, [], ◌∷◌, ◌++◌, length, take, Result, Ok, Err, Option, Some, None, refl, sym, ap, subst, arith}
+use Rattle.std.specs.List.{AllByRecursion, find}
+use Rattle.signatures.specs.declared.value.Value.{Value}
+use Rattle.meta_model.specs.declared.object.MetaMethod.{MetaMethod}
+use Rattle.meta_model.specs.declared.object.Statement.{Statement}
+use Rattle.meta_model.specs.declared.object.Work.{Work}
+use Rattle.meta_model.specs.declared.object.Work.TheVariants.{Signal, Slot}
+use Rattle.meta_model.specs.Loaded.{Loaded}
+use Rattle.connections.specs.declared.connection.Connection.{Connection}
+use Rattle.event_loops.specs.declared.item.Item.{Item}
+use Rattle.event_loops.specs.declared.item.Item.TheVariants.{Call, Deletion}
+use Rattle.event_loops.specs.declared.item.Posted.{Posted}
+use Rattle.event_loops.specs.Queues.{Loop, items_at, is_before, taken_before}
+use Rattle.object_tree.specs.declared.object.Object.{Object}
+use Rattle.object_tree.specs.Objects.{change_life, written}
+use Rattle.object_tree.specs.Typed.{AreTyped, ReadsAs}
+use Rattle.machine_state.specs.declared.entry.Entry.{Entry}
+use Rattle.machine_state.specs.declared.fault.Fault.{Fault}
+use Rattle.machine_state.specs.declared.turn.Turn.{Turn}
+use Rattle.machine_state.specs.declared.world.World.{World}
+use Rattle.machine_state.specs.Connections.{next_used}
+use Rattle.machine_state.specs.State.{State, Place, Activation, Body, Emit, Update}
+use Rattle.machine_state.specs.Turns.{running, reaches_at_once}
+use Rattle.machine_state.specs.Worlds.{using, set_in, noted}
+use Rattle.machine_state.proofs.Due.{all-used, last-used}
+use Rattle.machine_rules.specs.Doings.{Doing, Write, Begin, Choose, Nothing, Connect, Disconnect}
+use Rattle.machine_rules.specs.Good.{ArgumentsFit, TopFits, IsWell}
+use Rattle.machine_rules.specs.Keeps.{StayThere, AllJoined, KeepsWorld}
+use Rattle.machine_rules.specs.Reaches.{Reaches, StopsIn, Ends}
+use Rattle.machine_rules.specs.Rules.{RuleAt, BodyRule, Does, EmitRule, UpdateRule, TurnRule, Serves, Delivers, Arrives, Posts, Begins, Writes, begun, with_used, linked, unlinked}
+use Rattle.machine_rules.specs.Runs.{Rules, done, then}
+use Rattle.machine_rules.specs.Sound.{Joined, Waits, AllWait, Sound, IsSoundWorld}
+use Rattle.machine_rules.proofs.Beginning.{next-joined, next-fits, delivered-fits}
+use Rattle.machine_rules.proofs.Keeps.{member-still, values-stay, written-stay, all-joined-still, rule-kept, some-top, some-stack, some-all, reaches-keeps, stops-keeps, ends-keeps, reaches-typed, ends-typed}
+use Rattle.machine_rules.proofs.Fields.{typed-written}
+use Rattle.machine_rules.specs.There.{IsField}
+use Rattle.meta_model.specs.declared.object.MetaProperty.{MetaProperty}
+use Rattle.machine_rules.proofs.Waiting.{all-posted, all-taken, housed-same, home-change}
+use Rattle.machine_rules.proofs.Lists.{all-append, all-weaken}
+use Rattle.machine_rules.specs.Connecting.{kept_ends, names_of}
+use Rattle.machine_state.specs.declared.endpoints.Endpoints.{Endpoints}
+use Rattle.machine_state.specs.declared.refusal.Refusal.{Refusal}
+use Rattle.texts.specs.declared.connection.ConnectionType.{ConnectionType}
+use Rattle.texts.specs.declared.connection.Endpoints.{Endpoints as Named}
+use Rattle.meta_model.specs.Sound.{IsSound}
+
+-- ---- as long as the objects stay there
+
+pub fit-stays : {p : Loaded} {old new : List Object} {o m : ℕ} {arguments : List Value} → StayThere old new → ArgumentsFit p old o m arguments → ArgumentsFit p new o m arguments
+fit-stays {p} {old} {new} {o} {m} {arguments} stay fit =
+    let there = member-still stay fit.is in
+    record {
+      object = there.0;
+      method = fit.method;
+      is = there.1;
+      typed = values-stay p stay arguments fit.method.kinds fit.typed;
+    }
+
+pub fit-still : {p : Loaded} {w v : World} {o m : ℕ} {arguments : List Value} → KeepsWorld p w v → ArgumentsFit p w.objects o m arguments → ArgumentsFit p v.objects o m arguments
+fit-still keeps fit = fit-stays keeps.objects fit
+
+waits-still : (p : Loaded) (old new : List Object) (item : Item) → StayThere old new → Waits p old item → Waits p new item
+waits-still p old new (Call o m arguments) stay fit = fit-stays stay fit
+waits-still p old new (Deletion o) stay none = absurd none
+
+pub all-wait-still : (p : Loaded) (old new : List Object) (loops : List Loop) → StayThere old new → AllWait p old loops → AllWait p new loops
+all-wait-still p old new loops stay all =
+    all-weaken (λ (l : Loop). AllByRecursion (λ (q : Posted). Waits p old q.item) l.items) (λ (l : Loop). AllByRecursion (λ (q : Posted). Waits p new q.item) l.items) loops
+    (λ l waiting. all-weaken (λ (q : Posted). Waits p old q.item) (λ (q : Posted). Waits p new q.item) l.items (λ q waits. waits-still p old new q.item stay waits) waiting) all
+
+-- ---- emissions
+
+-- an emission has the arguments that its signal declares
+abbrev pub Fits : Loaded → List Object → Activation → Type 0
+Fits p objects (Body o m arguments left) = Unit {0}
+Fits p objects (Emit o g arguments used last) = ArgumentsFit p objects o g arguments
+Fits p objects (Update places) = Unit {0}
+
+abbrev pub AllFit : Loaded → List Object → List Activation → Type 0
+AllFit p objects stack = AllByRecursion (Fits p objects) stack
+
+fits-still : (p : Loaded) (old new : List Object) → StayThere old new → (a : Activation) → Fits p old a → Fits p new a
+fits-still p old new stay (Body o m arguments left) fits = tt
+fits-still p old new stay (Emit o g arguments used last) fits = fit-stays stay fits
+fits-still p old new stay (Update places) fits = tt
+
+all-fit-still : (p : Loaded) (old new : List Object) (stack : List Activation) → StayThere old new → AllFit p old stack → AllFit p new stack
+all-fit-still p old new stack stay all = all-weaken (Fits p old) (Fits p new) stack (fits-still p old new stay) all
+
+-- what waits fits, and so does what is emitted
+pub record Fair (p : Loaded) (s : State) : Type 0 where
+  pub waiting : AllWait p s.objects s.queues.loops
+  pub emitted : AllFit p s.objects s.stack
+
+-- ---- rules
+
+-- a method that begins, over what is fair
+begun-fair : (p : Loaded) (u t : State) (n : ℕ) (below : List Activation) (o : ℕ) (x : Object) (m : ℕ) (method : MetaMethod) (arguments : List Value) (work : Work) → t ≡ begun u below o x m method arguments work → n < suc (length below) → (n < length t.stack → TopFits p t.objects t.stack) → AllWait p u.objects u.queues.loops → AllFit p u.objects below → Fair p t
+begun-fair p u t n below o x m method arguments Signal e higher fits waiting lower =
+    let Family : State → Type 0 = λ v. (n < length v.stack → TopFits p v.objects v.stack) → Fair p v in
+    subst Family (sym e) (λ top. record { waiting = waiting; emitted = (top higher, lower) }) fits
+begun-fair p u t n below o x m method arguments (Slot statements) e higher fits waiting lower =
+    let Family : State → Type 0 = λ v. Fair p v in
+    subst Family (sym e) (record { waiting = waiting; emitted = (tt, lower) })
+
+-- a call begins, or is posted
+arrives-fair : (p : Loaded) (u t : State) (n : ℕ) (stack : List Activation) (home o : ℕ) (x : Object) (m : ℕ) (method : MetaMethod) (arguments : List Value) (b : Bool) → ArgumentsFit p u.objects o m arguments → AllWait p u.objects u.queues.loops → AllFit p u.objects stack → n < suc (length stack) → (n < length t.stack → TopFits p t.objects t.stack) → Arrives u stack home o x m method arguments t b → Fair p t
+arrives-fair p u t n stack home o x m method arguments true fit waiting lower higher top r = begun-fair p u t n stack o x m method arguments method.work r higher top waiting lower
+arrives-fair p u t n stack home o x m method arguments false fit waiting lower higher top r =
+    let Family : State → Type 0 = λ v. Fair p v in
+    let item : Posted = record { number = u.queues.posted + 1; item = Call o m arguments } in
+    subst Family (sym r.gives) (record { waiting = all-posted p u.objects home item u.queues.loops fit waiting; emitted = lower })
+
+module _ {p : Loaded} {s t : State} (well : IsWell p s t) (waiting : AllWait p s.objects s.queues.loops) where
+  pub begins-fair : {below : List Activation} {o m : ℕ} {arguments : List Value} → Begins p s below o m arguments t → length s.stack < suc (length below) → AllFit p s.objects below → Fair p t
+  begins-fair {below} {o} {m} {arguments} b higher lower = begun-fair p s t (length s.stack) below o b.object m b.method arguments b.method.work b.gives higher well.arguments waiting lower
+
+  pub writes-fair : {below : List Activation} {o q : ℕ} {new : Value} → Writes p s below o q new t → AllFit p s.objects below → Fair p t
+  writes-fair {below} {o} {q} {new} w lower =
+      let after : List Object = change_life o (written q new) s.objects in
+      let stay : StayThere s.objects after = written-stay s.objects o q new in
+      let Family : State → Type 0 = λ v. Fair p v in
+      subst Family (sym w.gives) (record { waiting = all-wait-still p s.objects after s.queues.loops stay waiting; emitted = (tt, all-fit-still p s.objects after below stay lower) })
+
+  -- the stack is another one, and all else that matters is the same
+  quiet-fair : {stack : List Activation} {trace : List Entry} → t ≡ record s { stack = stack; trace = trace } → AllFit p s.objects stack → Fair p t
+  quiet-fair e lower =
+      let Family : State → Type 0 = λ v. Fair p v in
+      subst Family (sym e) (record { waiting = waiting; emitted = lower })
+
+  -- a connection is made or removed, or that is refused
+  linked-fair : (stack : List Activation) (ends : Endpoints) (how : ConnectionType) (names : Named (List ℕ)) (answer : Result (Unit {0}) Refusal) → t ≡ linked s stack ends how names answer → AllFit p s.objects stack → Fair p t
+  linked-fair stack ends how names (Ok _) e lower = let Family : State → Type 0 = λ v. Fair p v in subst Family (sym e) (record { waiting = waiting; emitted = lower })
+  linked-fair stack ends how names (Err k) e lower = quiet-fair e lower
+
+  unlinked-fair : (stack : List Activation) (ends : Endpoints) (names : Named (List ℕ)) (answer : Result (Unit {0}) Refusal) → t ≡ unlinked s stack ends names answer → AllFit p s.objects stack → Fair p t
+  unlinked-fair stack ends names (Ok _) e lower = let Family : State → Type 0 = λ v. Fair p v in subst Family (sym e) (record { waiting = waiting; emitted = lower })
+  unlinked-fair stack ends names (Err k) e lower = quiet-fair e lower
+
+  does-fair : (o m : ℕ) (arguments : List Value) (rest : List Statement) (below : List Activation) (d : Doing) → AllFit p s.objects below → length s.stack ≡ suc (length below) → Does p s o m arguments rest below d t → Fair p t
+  does-fair o m arguments rest below (Write y q new) lower high does = writes-fair does (tt, lower)
+  does-fair o m arguments rest below (Begin y n given) lower high does = begins-fair does (omega (arith, high)) (tt, lower)
+  does-fair o m arguments rest below (Choose block) lower high does = quiet-fair does (tt, lower)
+  does-fair o m arguments rest below (Connect ends how) lower high does =
+      linked-fair (Body o m arguments rest ∷ below) (kept_ends ends) how (names_of does.kept) does.answer does.gives (tt, lower)
+  does-fair o m arguments rest below (Disconnect ends) lower high does =
+      unlinked-fair (Body o m arguments rest ∷ below) (kept_ends ends) (names_of does.kept) does.answer does.gives (tt, lower)
+  does-fair o m arguments rest below Nothing lower high does = quiet-fair does (tt, lower)
+
+  body-fair : (o m : ℕ) (arguments : List Value) (below : List Activation) (left : List Statement) → AllFit p s.objects below → length s.stack ≡ suc (length below) → BodyRule p s o m arguments below t left → Fair p t
+  body-fair o m arguments below [] lower high r = quiet-fair r lower
+  body-fair o m arguments below (x ∷ rest) lower high r = does-fair o m arguments rest below r.what lower high r.does
+
+  emission-fair : (o g : ℕ) (arguments : List Value) (used last : ℕ) (below : List Activation) (found : Option Connection) → AllJoined p s.objects s.connected.connections → next_used s.objects s.connected.connections o g used last ≡ found → ArgumentsFit p s.objects o g arguments → AllFit p s.objects below → length s.stack ≡ suc (length below) → EmitRule p s o g arguments last below t found → Fair p t
+  emission-fair o g arguments used last below None joined is fit lower high r = quiet-fair r lower
+  emission-fair o g arguments used last below (Some c) joined is fit lower high r =
+      let of_signal = next-fits s.objects s.connected.connections o g used last c is fit in
+      let j = next-joined s.objects s.connected.connections o g used last c joined is in
+      let given : ArgumentsFit p s.objects c.receiver c.method (take (length r.method.kinds) arguments) = delivered-fits j of_signal r.is refl refl in
+      arrives-fair p (with_used s c) t (length s.stack) (Emit o g arguments c.number last ∷ below) r.home c.receiver r.receiver c.method r.method (take (length r.method.kinds) arguments) (reaches_at_once c.kind r.home (running s.turn)) given waiting (fit, lower) (omega (arith, high)) well.arguments r.arrives
+
+  update-fair : (below : List Activation) (places : List Place) → AllFit p s.objects below → length s.stack ≡ suc (length below) → UpdateRule p s below t places → Fair p t
+  update-fair below [] lower high r = quiet-fair r lower
+  update-fair below (place ∷ places) lower high r =
+      begun-fair p s t (length s.stack) (Update places ∷ below) place.object r.object r.signal r.method (take (length r.method.kinds) (r.present ∷ [])) Signal r.gives (omega (arith, high)) well.arguments waiting (tt, lower)
+
+  -- an item is delivered, or the turn ends
+  delivers-fair : (turn : Turn) (item : Item) → length s.stack ≡ 0 → Delivers p (record s { queues = taken_before turn.home turn.limit s.queues }) t item → Fair p t
+  delivers-fair turn (Call o m arguments) low b =
+      let taken : State = record s { queues = taken_before turn.home turn.limit s.queues } in
+      begun-fair p taken t (length s.stack) [] o b.object m b.method arguments b.method.work b.gives (omega (arith, low)) well.arguments (all-taken p s.objects turn.home turn.limit s.queues.loops waiting) tt
+  delivers-fair turn (Deletion o) low b = absurd b
+
+  turn-fair : (found : Option Turn) → length s.stack ≡ 0 → AllFit p s.objects s.stack → TurnRule p s t found → Fair p t
+  turn-fair None low all r = absurd r
+  turn-fair (Some turn) low all r = by_first (find (is_before turn.limit) (items_at s.queues.loops turn.home)) r
+    where
+      by_first : (first : Option Posted) → Serves p s t turn first → Fair p t
+      by_first None e =
+          let Family : State → Type 0 = λ v. Fair p v in
+          subst Family (sym e) (record { waiting = waiting; emitted = all })
+      by_first (Some q) d = delivers-fair turn q.item low d
+
+  pub rule-fair : (stack : List Activation) → AllJoined p s.objects s.connected.connections → AllFit p s.objects s.stack → AllFit p s.objects stack → length s.stack ≡ length stack → RuleAt p s t stack → Fair p t
+  rule-fair [] joined here all high r = turn-fair s.turn high here r
+  rule-fair (Body o m arguments left ∷ below) joined here all high r = body-fair o m arguments below left all.1 high r
+  rule-fair (Emit o g arguments used last ∷ below) joined here all high r = emission-fair o g arguments used last below (next_used s.objects s.connected.connections o g used last) joined refl all.0 all.1 high r
+  rule-fair (Update places ∷ below) joined here all high r = update-fair below places all.1 high r
+
+-- .. and so after runs of rules
+pub rules-fair : {p : Loaded} {d : ℕ} {s t : State} {n k : ℕ} → IsSound p → Rules p d s n t k → AllJoined p s.objects s.connected.connections → Fair p s → Fair p t
+rules-fair program done joined fair = fair
+rules-fair {p} program (then {s = s} {m = m} r good rest) joined fair =
+    rules-fair program rest ((rule-kept p s m s.stack r).joined program joined) (rule-fair good.well fair.waiting s.stack joined fair.emitted fair.emitted refl r)
+
+-- ---- the world stays sound
+
+some-fits : (p : Loaded) (objects : List Object) (body : Option ℕ) → Fits p objects (some-top body)
+some-fits p objects None = tt
+some-fits p objects (Some o) = tt
+
+-- what fits, over some stack that shows this
+fit-over : (p : Loaded) (objects : List Object) (a : List Activation) (shown : List (Option ℕ)) → AllFit p objects a → AllFit p objects (a ++ (some-stack shown).0)
+fit-over p objects a shown fits = all-append (Fits p objects) a ((some-stack shown).0) fits (some-all (Fits p objects) (some-fits p objects) shown)
+
+keeps-sound : {p : Loaded} {w v : World} → IsSoundWorld p w → KeepsWorld p w v → AreTyped p v.objects → AllWait p v.objects v.queues.loops → IsSoundWorld p v
+keeps-sound sound keeps typed waiting = record {
+  program = sound.program;
+  is = record { typed = typed; joined = keeps.joined sound.program sound.is.joined; housed = keeps.housed sound.is.housed; waiting = waiting };
+  numbers = omega (arith, keeps.paid, sound.numbers);
+  room = omega (arith, keeps.posted, sound.room);
+}
+
+module _ {p : Loaded} {d : ℕ} {h : List (Option ℕ)} {w v : World} {a : List Activation} (fits : AllFit p w.objects a) (sound : IsSoundWorld p w) where
+  reaches-waiting : {b : List Activation} → Reaches p d h w a v b → AllWait p v.objects v.queues.loops
+  reaches-waiting x = let q = some-stack h in (rules-fair sound.program (x.runs q.0 q.1) sound.is.joined (record { waiting = sound.is.waiting; emitted = fit-over p w.objects a h fits })).waiting
+
+  stops-waiting : {f : Fault} → StopsIn p d h w a v f → AllWait p v.objects v.queues.loops
+  stops-waiting x = let q = some-stack h in (rules-fair sound.program ((x.stops q.0 q.1).1) sound.is.joined (record { waiting = sound.is.waiting; emitted = fit-over p w.objects a h fits })).waiting
+
+  ends-waiting : {b : List Activation} (r : Result (Unit {0}) Fault) → Ends p d h w a v b r → AllWait p v.objects v.queues.loops
+  ends-waiting (Ok _) x = reaches-waiting x.cases
+  ends-waiting (Err f) x = stops-waiting x.cases
+
+  -- whatever a call does, the machine stays sound
+  pub ends-sound : {b : List Activation} (r : Result (Unit {0}) Fault) → Ends p d h w a v b r → IsSoundWorld p v
+  ends-sound r x = keeps-sound sound (ends-keeps r x) (ends-typed r x sound.is.typed) (ends-waiting r x)
+
+  pub reaches-sound : {b : List Activation} → Reaches p d h w a v b → IsSoundWorld p v
+  reaches-sound x = keeps-sound sound (reaches-keeps x) (reaches-typed x sound.is.typed) (reaches-waiting x)
+
+-- .. after a rule that uses a connection
+pub sound-used : {p : Loaded} {v : World} (w : World) (entries : List Entry) (c : Connection) → v ≡ using w entries c → IsSoundWorld p w → IsSoundWorld p v
+sound-used {p} w entries c e sound =
+    let Family : World → Type 0 = λ u. IsSoundWorld p u in
+    subst Family (sym e) (record {
+      program = sound.program;
+      is = record { typed = sound.is.typed; joined = all-used (Joined p w.objects) c w.connected sound.is.joined; housed = sound.is.housed; waiting = sound.is.waiting };
+      numbers = omega (arith, last-used c w.connected, sound.numbers);
+      room = omega (arith, sound.room);
+    })
+
+-- .. where nothing is made, removed or posted
+pub sound-noted : {p : Loaded} {v : World} (w : World) (entries : List Entry) → v ≡ noted w entries → IsSoundWorld p w → IsSoundWorld p v
+sound-noted {p} w entries e sound =
+    let Family : World → Type 0 = λ u. IsSoundWorld p u in
+    subst Family (sym e) (record {
+      program = sound.program;
+      is = record { typed = sound.is.typed; joined = sound.is.joined; housed = sound.is.housed; waiting = sound.is.waiting };
+      numbers = omega (arith, sound.numbers);
+      room = omega (arith, sound.room);
+    })
+
+-- .. after a write
+pub sound-written : {p : Loaded} {objects : List Object} {connections : List Connection} {loops : List Loop} {o q : ℕ} {x : Object} {property : MetaProperty} (new : Value) → IsField p objects o q x property → ReadsAs p objects new property.kind → Sound p objects connections loops → Sound p (change_life o (written q new) objects) connections loops
+sound-written {p} {objects} {connections} {loops} {o} {q} new f reads sound =
+    let stay = written-stay objects o q new in
+    record {
+      typed = typed-written new f sound.typed reads;
+      joined = all-joined-still p objects _ connections stay sound.joined;
+      housed = housed-same objects _ loops loops (home-change o (written q new) objects (λ l. refl)) refl sound.housed;
+      waiting = all-wait-still p objects _ loops stay sound.waiting;
+    }
+
+-- .. in a world
+pub sound-set : {p : Loaded} {o q : ℕ} {x : Object} {property : MetaProperty} (w : World) (entries : List Entry) (new : Value) → IsField p w.objects o q x property → ReadsAs p w.objects new property.kind → IsSoundWorld p w → IsSoundWorld p (set_in w entries o q new)
+sound-set w entries new f reads sound = record { program = sound.program; is = sound-written new f reads sound.is; numbers = omega (arith, sound.numbers); room = omega (arith, sound.room) }
+
+-- a world that is known to be another one
+pub sound-as : {p : Loaded} {w v : World} → v ≡ w → IsSoundWorld p w → IsSoundWorld p v
+sound-as {p} is sound = let In : World → Type 0 = λ u. IsSoundWorld p u in subst In (sym is) sound

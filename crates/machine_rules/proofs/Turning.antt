@@ -1,0 +1,134 @@
+-- How turns of event loops are carried out.
+use Rattle.std.proofs.Common.{◌≡◌, ℕ, suc, ◌+◌, ◌-◌, ◌<◌, List, [], ◌∷◌, ◌++◌, length, Result, Ok, Err, Option, Some, None, inl, inr, refl, sym, ap, ◌∙◌, subst, arith}
+use Rattle.std.specs.List.{find}
+use Rattle.std.specs.Result.{IsErrAnd}
+use Rattle.signatures.specs.declared.value.Value.{Value}
+use Rattle.meta_model.specs.declared.object.Work.{Work}
+use Rattle.meta_model.specs.Loaded.{Loaded}
+use Rattle.event_loops.specs.declared.item.Item.{Item}
+use Rattle.event_loops.specs.declared.item.Item.TheVariants.{Call}
+use Rattle.event_loops.specs.declared.item.Posted.{Posted}
+use Rattle.event_loops.specs.Queues.{items_at, is_before, taken_before}
+use Rattle.machine_state.specs.declared.entry.Entry.{Entry}
+use Rattle.machine_state.specs.declared.fault.Fault.{Fault}
+use Rattle.machine_state.specs.declared.fault.Fault.TheVariants.{Steps, Memory}
+use Rattle.machine_state.specs.declared.turn.Turn.{Turn}
+use Rattle.machine_state.specs.declared.world.World.{World}
+use Rattle.machine_state.specs.State.{State, Activation, IsIdle}
+use Rattle.machine_state.specs.Worlds.{at, taking, turn_ended}
+use Rattle.machine_rules.specs.Active.{shows}
+use Rattle.machine_rules.specs.Good.{ArgumentsFit}
+use Rattle.object_tree.specs.Typed.{AreTyped}
+use Rattle.machine_rules.specs.Reaches.{Reaches, StopsIn, Ends, Advances, IsBegun, IsBarred, top_of}
+use Rattle.machine_rules.specs.Rules.{Rule, TurnRule, Serves, Delivers, Begins}
+use Rattle.machine_rules.specs.Runs.{done}
+use Rattle.machine_rules.specs.Sound.{Waits, IsSoundWorld}
+use Rattle.machine_rules.proofs.Beginning.{begun_world, begins-there, top-fits}
+use Rattle.machine_rules.proofs.Keeps.{reaches-keeps}
+use Rattle.machine_rules.proofs.Reaching.{reaches-low, reaches-high, reaches-then, stops-after, ends-unchanged}
+use Rattle.machine_rules.proofs.Bodies.{advances-left}
+use Rattle.machine_rules.proofs.Waiting.{length-change, housed-same, all-taken, first-waits}
+
+-- ---- while a turn goes on
+
+-- .. something is going on
+pub turn-goes-on : {turn : Turn} (w : World) → w.turn ≡ Some turn → (below : List Activation) → ¬ IsIdle (at w below)
+turn-goes-on {turn} w is below idle = let both : Some turn ≡ None = sym is ∙ idle.no_turn in absurd (cc both)
+
+-- .. and no rule is left
+pub stops-turn : {p : Loaded} {d : ℕ} {w : World} {turn : Turn} → w.turn ≡ Some turn → w.left ≡ 0 → StopsIn p d [] w [] w Steps
+stops-turn {w = w} is none = record { stops = λ below e. (below, done, (none, turn-goes-on w is below)) }
+
+-- .. or its next call doesn't begin
+pub advances-barred : {p : Loaded} {d : ℕ} {active : List (Option ℕ)} {w : World} {turn : Turn} {f : Fault} (r : Result (Unit {0}) Fault) → w.turn ≡ Some turn → active ≡ [] → 0 < d → 0 < w.left → IsBarred d active f → IsErrAnd r (λ y. y ≡ f) → Advances p d [] w [] w [] r
+advances-barred {p} {d} {w = w} {f = f} r is none room some why barred = elim why [
+  | inl deep ↦ let none_active = ap (λ (l : List (Option ℕ)). length l) none in absurd (omega (arith, deep.0, none_active, room))
+  | inr short ↦ advances-left f r (ends-unchanged r (turn-goes-on w is) some (short, refl) barred) barred
+]
+
+-- .. or it isn't taken
+pub advances-unchanged : {p : Loaded} {d : ℕ} {w v : World} {turn : Turn} {f : Fault} (r : Result (Unit {0}) Fault) → w.turn ≡ Some turn → 0 < w.left → (f ≡ Memory) × (v ≡ w) → IsErrAnd r (λ y. y ≡ f) → Advances p d [] w [] v [] r
+advances-unchanged {w = w} {f = f} r is some same failed = advances-left f r (ends-unchanged r (turn-goes-on w is) some same failed) failed
+
+-- a stack that shows nothing is empty
+none-below : (below : List Activation) → shows below ≡ [] → below ≡ []
+none-below [] e = refl
+none-below (a ∷ below) e = absurd (cc e)
+
+-- what the turn does is the rule of an empty stack
+turn-rule : (p : Loaded) (w : World) (t : State) {turn : Turn} (first : Option Posted) → w.turn ≡ Some turn → first ≡ find (is_before turn.limit) (items_at w.queues.loops turn.home) → Serves p (at w []) t turn first → Rule p (at w []) t
+turn-rule p w t {turn} first is found serves =
+    let Next : Option Turn → Type 0 = λ x. TurnRule p (at w []) t x in
+    let First : Option Posted → Type 0 = λ f. Serves p (at w []) t turn f in
+    subst Next (sym is) (subst First found serves)
+
+-- ---- its rules
+
+-- with nothing left the turn ends
+pub reaches-ended : {p : Loaded} {d : ℕ} {w v : World} {turn : Turn} → w.turn ≡ Some turn → None ≡ find (is_before turn.limit) (items_at w.queues.loops turn.home) → AreTyped p w.objects → 0 < w.left → v ≡ turn_ended w → Reaches p d [] w [] v []
+reaches-ended {p} {d} {w} {v} is none typed some v_is =
+    let target : World = turn_ended w in
+    let Over : List Activation → Type 0 = λ l. Rule p (at w l) (at target l) in
+    let Family : World → Type 0 = λ u. Reaches p d [] w [] u [] in
+    let ends : Rule p (at w []) (at target []) = turn-rule p w (at target []) None is none refl in
+    subst Family (sym v_is) (reaches-low {a = []} {b = []} (λ below e. subst Over (sym (none-below below e)) ends) (omega arith) (omega arith) typed refl some)
+
+-- the first item that the turn may deliver is taken, and its call begins
+pub reaches-served : {p : Loaded} {d o m : ℕ} {active : List (Option ℕ)} {w v : World} {turn : Turn} {q : Posted} {arguments : List Value} {line : Entry} {work : Work} {last : ℕ} →
+    w.turn ≡ Some turn → Some q ≡ find (is_before turn.limit) (items_at w.queues.loops turn.home) → q.item ≡ Call o m arguments → active ≡ [] → IsBegun p d active w o m arguments line work last → ArgumentsFit p w.objects o m arguments → AreTyped p w.objects → 0 < w.left → v ≡ taking w (line ∷ []) turn.home turn.limit →
+    Reaches p d [] w [] v (top_of o m arguments last work ∷ [])
+reaches-served {p} {d} {o} {m} {active} {w} {v} {turn} {q} {arguments} {line} {work} {last} is found item_is none begun fit typed some v_is =
+    let none_active : length active ≡ 0 = ap (λ (l : List (Option ℕ)). length l) none in
+    let took : World = record w { queues = taken_before turn.home turn.limit w.queues } in
+    let target : World = begun_world took (length active + 1) begun.object m begun.method arguments in
+    let stack : List Activation = top_of o m arguments w.connected.last begun.method.work ∷ [] in
+    let begins : Begins p (at took []) [] o m arguments (at target stack) = begins-there took arguments [] [] begun.is (omega (arith, none_active)) in
+    let Of : Item → Type 0 = λ i. Delivers p (at took []) (at target stack) i in
+    let rule : Rule p (at w []) (at target stack) = turn-rule p w (at target stack) (Some q) is found (subst Of (sym item_is) begins) in
+    let Over : List Activation → Type 0 = λ l. Rule p (at w l) (at target (top_of o m arguments w.connected.last begun.method.work ∷ l)) in
+    let room : 0 < d = omega (arith, none_active, begun.room) in
+    let went : Reaches p d [] w [] target stack = reaches-high {active = []} {from = []} {to = []} refl (λ below e. subst Over (sym (none-below below e)) rule) (λ below. top-fits w.connected.last begun.method.work below fit) room typed refl some in
+    let Pushed : World → Work → ℕ → Type 0 = λ u k l. Reaches p d [] w [] u (top_of o m arguments l k ∷ []) in
+    let target_is : v ≡ target = v_is ∙ ap (λ (y : Entry). taking w (y ∷ []) turn.home turn.limit) begun.is_line in
+    subst (λ (u : World). Pushed u work last) (sym target_is) (subst (λ (k : Work). Pushed target k last) (sym begun.is_work) (subst (λ (l : ℕ). Pushed target begun.method.work l) (sym begun.is_last) went))
+
+-- .. and is carried out
+pub advances-served : {p : Loaded} {d : ℕ} {active : List (Option ℕ)} {w v u : World} {from : List Activation} (r : Result (Unit {0}) Fault) → active ≡ [] → Reaches p d [] w [] v from → v.left ≡ w.left - 1 → 0 < w.left → Ends p d active v from u [] r → Advances p d [] w [] u [] r
+advances-served {p} {d} {v = v} {u = u} {from = from} (Ok _) none went less some ends =
+    let Shown : List (Option ℕ) → Type 0 = λ l. Reaches p d l v from u [] in
+    let more : Reaches p d [] v from u [] = subst Shown none ends.cases in
+    record { cases = (reaches-then went more, omega (arith, (reaches-keeps more).fewer, less, some)) }
+advances-served {p} {d} {v = v} {u = u} {from = from} (Err f) none went less some ends =
+    let Shown : List (Option ℕ) → Type 0 = λ l. StopsIn p d l v from u f in
+    record { cases = stops-after went (subst Shown none ends.cases) }
+
+-- ---- what is delivered
+
+-- what waits first fits
+pub first-fits : {p : Loaded} {w : World} {q : Posted} (home number : ℕ) (item : Item) → IsSoundWorld p w → Some q ≡ find (is_before number) (items_at w.queues.loops home) → q.item ≡ item → Waits p w.objects item
+first-fits {p} {w} {q} home number item sound found item_is =
+    let Fit : Item → Type 0 = λ i. Waits p w.objects i in
+    subst Fit item_is (first-waits p w.objects w.queues.loops home number q sound.is.waiting (sym found))
+
+-- the world without the first item stays sound
+pub taken-sound : {p : Loaded} {v : World} (w : World) (entries : List Entry) (home number : ℕ) → v ≡ taking w entries home number → IsSoundWorld p w → IsSoundWorld p v
+taken-sound {p} w entries home number e sound =
+    let target : World = taking w entries home number in
+    let Family : World → Type 0 = λ u. IsSoundWorld p u in
+    subst Family (sym e) (record {
+      program = sound.program;
+      is = record {
+        typed = sound.is.typed;
+        joined = sound.is.joined;
+        housed = housed-same w.objects w.objects w.queues.loops target.queues.loops (λ o. refl) (length-change home _ w.queues.loops) sound.is.housed;
+        waiting = all-taken p w.objects home number w.queues.loops sound.is.waiting;
+      };
+      numbers = omega (arith, sound.numbers);
+      room = omega (arith, sound.room);
+    })
+
+-- .. and its objects stay there
+pub taken-fits : {p : Loaded} {v : World} {o m : ℕ} {arguments : List Value} (w : World) (entries : List Entry) (home number : ℕ) → v ≡ taking w entries home number → ArgumentsFit p w.objects o m arguments → ArgumentsFit p v.objects o m arguments
+taken-fits {p} {o = o} {m = m} {arguments = arguments} w entries home number e fit =
+    let Family : World → Type 0 = λ u. ArgumentsFit p u.objects o m arguments in
+    subst Family (sym e) fit

@@ -1,0 +1,14 @@
+use Rattle.std.proofs.Common.{[]}
+use Rattle.machine_rules.specs.Sound.{IsSoundWorld}
+use Rattle.machine_rules.specs.Reaches.{Reaches}
+use Rattle.machine_rules.proofs.setting.Setting.run_turn.Given as goal
+
+abbrev pub invariant-loop-world : goal.invariant-loop-world
+invariant-loop-world l =
+    record {
+      reaches : Reaches l.self.meta l.self.depth [] l.fn.world [] l.world [];
+      sound : IsSoundWorld l.self.meta l.world;
+    }
+
+abbrev pub decreases-loop-world : goal.decreases-loop-world
+decreases-loop-world l = l.world.left

@@ -1,0 +1,75 @@
+//! Calls that are posted to event loops.
+
+ghost use Rattle.std.specs.Prelude.{◌≡◌, ◌<◌, IfOk};
+ghost use Rattle.machine_rules.specs.Good.{ArgumentsFit};
+ghost use Rattle.machine_rules.specs.Sound.{IsSoundWorld};
+ghost use Rattle.machine_rules.specs.Reaches.{PostsCall, entry_of_post};
+
+use crate::setting::Setting;
+use connections::Connection;
+use event_loops::Item;
+use machine_state::{Entry, Fault, Happening, World, show_all};
+use meta_objects::MetaMethod;
+use object_tree::Object;
+use signatures::{Arguments, Name, Value};
+use std::alloc::AllocError;
+
+impl Setting {
+    /// Uses a connection and posts a call of its method to the event loop in which its receiver lives, where `depth`
+    /// activations are on the stack; without memory nothing changes.
+    pub fn post(
+        &self,
+        world: &mut World,
+        depth: usize,
+        connection: Connection,
+        arguments: &[Value],
+    ) -> Result<(), Fault>
+        requires sound { IsSoundWorld self.now.meta world.old }
+        requires left { 0 < world.old.left }
+        requires fit { ArgumentsFit self.now.meta world.old.objects
+            connection.receiver connection.method arguments.now }
+        ensures { PostsCall self.now.meta world.old depth
+            connection arguments.now world.new result }
+    {
+        let (object, method) = (connection.receiver, connection.method);
+        let Some((receiver, declared)) = self.member(world, object, method) else {
+            unreachable!()
+        };
+        let Some(home) = world.home(object) else {
+            unreachable!()
+        };
+        let Some(event_loop) = world.queues.name(home) else {
+            unreachable!()
+        };
+        let entry = self.post_entry(world, depth, event_loop, receiver, declared, arguments)?;
+        let arguments = Arguments::copy_of(self.alloc, arguments)?;
+        let item = Item::Call {
+            object,
+            method,
+            arguments,
+        };
+        world.post(entry, &connection, home, item)
+    }
+
+    /// The entry of a call that is posted to the event loop of this name.
+    fn post_entry(
+        &self,
+        world: &World,
+        depth: usize,
+        event_loop: &Name,
+        object: &Object,
+        method: &MetaMethod,
+        arguments: &[Value],
+    ) -> Result<Entry, AllocError>
+        ensures { IfOk result (λ entry. entry ≡
+            entry_of_post world.now depth event_loop.now object.now method.now arguments.now) }
+    {
+        let posted = Happening::Posted {
+            event_loop: event_loop.copy()?,
+            object: object.name.copy()?,
+            method: method.sig.name.copy()?,
+            arguments: show_all(self.alloc, &world.objects, arguments)?,
+        };
+        Ok(Entry::At(depth, posted))
+    }
+}

@@ -1,0 +1,65 @@
+//! Turns of event loops.
+
+ghost use Rattle.std.specs.Prelude.{◌≡◌, ◌<◌, [], Some, None, OnOk};
+ghost use Rattle.machine_rules.specs.Sound.{IsSoundWorld};
+ghost use Rattle.machine_rules.specs.Reaches.{Ends, Advances};
+
+use crate::active::Active;
+use crate::setting::Setting;
+use event_loops::{Item, Posted};
+use machine_state::{Fault, Turn, World};
+
+impl Setting {
+    /// Carries the turn that goes on to its end, if one does.
+    pub fn run_turn(&self, world: &mut World) -> Result<(), Fault>
+        requires room { 0 < self.now.depth }
+        requires sound { IsSoundWorld self.now.meta world.old }
+        ensures ends { Ends self.now.meta self.now.depth [] world.old [] world.new [] result }
+        ensures over { OnOk result (world.new.turn ≡ None) }
+    {
+        while let Some(turn) = world.turn {
+            world.require_rule()?;
+            self.serve(world, turn)?;
+        }
+        Ok(())
+    }
+
+    /// Delivers the first item that the turn may deliver, and runs the call to its end; with none left the turn ends.
+    fn serve(&self, world: &mut World, turn: Turn) -> Result<(), Fault>
+        requires room { 0 < self.now.depth }
+        requires sound { IsSoundWorld self.now.meta world.old }
+        requires goes_on { world.old.turn ≡ Some turn }
+        requires left { 0 < world.old.left }
+        ensures { Advances self.now.meta self.now.depth [] world.old [] world.new [] result }
+    {
+        let Some(first) = world.queues.first_before(turn.home, turn.limit) else {
+            world.end_turn();
+            return Ok(());
+        };
+        let Item::Call {
+            object,
+            method,
+            arguments,
+        } = &first.item
+        else {
+            unreachable!()
+        };
+        let (object, method) = (*object, *method);
+        let below = Active::nothing();
+        let begun = self.begun(world, &below, object, method, arguments.as_slice())?;
+        let taken = world.take_before(begun.line, turn.home, turn.limit)?;
+        let Some(
+            Posted {
+                item: Item::Call { arguments, .. },
+                ..
+            },
+        ) = taken
+        else {
+            unreachable!()
+        };
+        let arguments = arguments.as_slice();
+        self.run_begun(
+            world, &below, object, method, arguments, begun.work, begun.last,
+        )
+    }
+}

@@ -1,0 +1,92 @@
+//! Connections that are made and removed.
+
+ghost use Rattle.std.specs.Prelude.{◌≡◌, ◌∷◌, [], ◌<◌, ◌^◌, ◌-◌, OnOk, IfErr, IsTrue};
+ghost use Rattle.machine_state.specs.Connections.{are_joined, joined_by, parted};
+ghost use Rattle.machine_state.specs.Worlds.{connecting, disconnecting, Becomes};
+ghost use Rattle.machine_state.specs.declared.fault.Fault.TheVariants.{Memory};
+
+use crate::endpoints::Endpoints;
+use crate::entry::Entry;
+use crate::fault::Fault;
+use crate::world::World;
+use connections::Connections;
+use texts::ConnectionType;
+
+impl World {
+    /// Whether some connection joins these ends.
+    pub fn are_joined(&self, ends: &Endpoints) -> bool
+        ensures { result ≡ are_joined ends.now self.now.connected }
+    {
+        self.connected
+            .are_connected(ends.sender, ends.signal, ends.receiver, ends.method)
+    }
+
+    /// A rule that makes a connection, and writes this entry down; without memory nothing changes. Whether a unique one
+    /// exists isn't asked.
+    pub fn connect(
+        &mut self,
+        entry: Entry,
+        ends: &Endpoints,
+        how: ConnectionType,
+    ) -> Result<(), Fault>
+        requires left { 0 < self.old.left }
+        requires few { self.old.connected.last < 2 ^ 63 - 1 }
+        ensures { let target = connecting self.old (entry ∷ []) ends.now how in
+            Becomes self.old target self.new result }
+    {
+        self.trace.append([entry])?;
+        match join(&mut self.connected, ends, how) {
+            Ok(()) => {
+                self.left -= 1;
+                Ok(())
+            }
+            Err(fault) => {
+                self.trace.pop();
+                Err(fault)
+            }
+        }
+    }
+
+    /// A rule that removes the connections that join these ends, and writes this entry down; without memory nothing
+    /// changes.
+    pub fn disconnect(&mut self, entry: Entry, ends: &Endpoints) -> Result<(), Fault>
+        requires left { 0 < self.old.left }
+        requires joined { IsTrue (are_joined ends.now self.old.connected) }
+        ensures { let target = disconnecting self.old (entry ∷ []) ends.now in
+            Becomes self.old target self.new result }
+    {
+        self.note([entry])?;
+        part(&mut self.connected, ends);
+        Ok(())
+    }
+}
+
+/// Adds a connection with the next number; without memory nothing changes. Whether a unique one exists isn't asked.
+pub fn join(connected: &mut Connections, ends: &Endpoints, how: ConnectionType) -> Result<(), Fault>
+    requires few { connected.old.last < 2 ^ 63 - 1 }
+    ensures ok { OnOk result (connected.new ≡ joined_by ends.now how connected.old) }
+    ensures err { IfErr result (λ fault. (fault ≡ Memory) × (connected.new ≡ connected.old)) }
+{
+    let Ok(()) = connected.connect(
+        ends.sender,
+        ends.signal,
+        ends.receiver,
+        ends.method,
+        how.kind,
+        false,
+        how.single,
+    ) else {
+        return Err(Fault::Memory);
+    };
+    Ok(())
+}
+
+/// Removes the connections that join these ends.
+pub fn part(connected: &mut Connections, ends: &Endpoints)
+    requires joined { IsTrue (are_joined ends.now connected.old) }
+    ensures { connected.new ≡ parted ends.now connected.old }
+{
+    let Ok(()) = connected.disconnect(ends.sender, ends.signal, ends.receiver, ends.method) else {
+        unreachable!()
+    };
+}

@@ -1,0 +1,40 @@
+use Rattle.std.proofs.Common.{inr, refl}
+use Rattle.meta_model.specs.declared.object.MetaPath.{MetaPath}
+use Rattle.meta_model.specs.declared.object.MetaEndpoints.{MetaEndpoints}
+use Rattle.meta_model.specs.declared.outline.Outline.{Outline}
+use Rattle.meta_model.specs.declared.fault.MetaFault.TheVariants as fault
+use Rattle.meta_objects.specs.declared.body_resolution.path.Target.{Target}
+use Rattle.meta_objects.specs.Bodies.{IsObjectPath, AreEnds}
+use Rattle.meta_objects.specs.Resolving.{scope}
+use Rattle.meta_model.proofs.OutlineSteps.{failed}
+use Rattle.meta_objects.proofs.BodyEnds.{no_sender, no_signal, no_receiver, no_method, no_called}
+use Rattle.meta_objects.proofs.body_resolution.scope.Scope.resolve_ends.Goals as goal
+
+pub returns-in_err-sender : goal.returns-in_err-sender
+returns-in_err-sender c =
+    let s = scope c.args.self.now in
+    failed fault.NoMember ((found : MetaPath) (class : Outline) → ¬ IsObjectPath s c.args.ends.now.sender found class) ((y : MetaEndpoints) → ¬ AreEnds s c.args.ends.now y)
+    (λ (target : Target). IsObjectPath s c.args.ends.now.sender target.path target.class.now) (λ y. AreEnds s c.args.ends.now y) _ c.in_err-sender.ensures
+    (no_sender s _) _ c.from_residual.ensures.0 c.from_residual.ensures.1
+
+pub returns-in_default : goal.returns-in_default
+returns-in_default c = inr (refl, no_signal (scope c.args.self.now) _ _ _ c.in_ok-sender.ensures c.in_default.ensures)
+
+pub returns-in_err-receiver : goal.returns-in_err-receiver
+returns-in_err-receiver c =
+    let s = scope c.args.self.now in
+    failed fault.NoMember ((found : MetaPath) (class : Outline) → ¬ IsObjectPath s c.args.ends.now.receiver found class) ((y : MetaEndpoints) → ¬ AreEnds s c.args.ends.now y)
+    (λ (target : Target). IsObjectPath s c.args.ends.now.receiver target.path target.class.now) (λ y. AreEnds s c.args.ends.now y) _ c.in_err-receiver.ensures
+    (no_receiver s _) _ c.from_residual-in_err-receiver.ensures.0 c.from_residual-in_err-receiver.ensures.1
+
+pub returns-in_default-place_of_signed : goal.returns-in_default-place_of_signed
+returns-in_default-place_of_signed c =
+    inr (refl, no_method (scope c.args.self.now) _ _ _ c.in_ok-receiver.ensures c.in_default-place_of_signed.ensures)
+
+pub returns-then-method-le-DELETE_LATER : goal.returns-then-method-le-DELETE_LATER
+returns-then-method-le-DELETE_LATER c =
+    inr (
+      refl,
+      no_called (scope c.args.self.now) _ _ _ c.in_ok-receiver.ensures _ c.in-Some-place_of_signed.ensures
+          c.if-method-le-DELETE_LATER.true,
+    )

@@ -1,0 +1,10 @@
+use Rattle.std.proofs.Common.{◌≡◌, refl, sym, subst, arith}
+use Rattle.machine_state.specs.declared.world.World.{World}
+use Rattle.machine_state.specs.Worlds.{untouched}
+use Rattle.qt_runtime.specs.Taking.{MachineInvariant}
+use Rattle.qt_runtime.proofs.Keeping.{untouched-sound}
+use Rattle.qt_runtime.proofs.machine.Machine.unchecked.Goals as goal
+
+pub invariant_of-result : goal.invariant_of-result
+invariant_of-result c =
+    rw (c.in_ok-world.ensures, c.new-2.ensures.meta, c.new-2.ensures.depth) (record { room = omega (arith, c.requires.depth.0); keeps = untouched-sound c.args.meta c.args.steps c.classes.ensures.sound c.requires.steps.1; idle = λ e. refl })

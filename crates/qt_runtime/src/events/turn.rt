@@ -1,0 +1,25 @@
+//! `turn`: an event loop delivers what waits in it.
+
+ghost use Rattle.std.specs.Prelude.{◌≡◌, ◌<◌, None};
+ghost use Rattle.script_lang.specs.declared.event.Event.TheVariants.{Turn};
+ghost use Rattle.qt_runtime.specs.Taking.{WorldInvariant, Answers};
+
+use machine_rules::Setting;
+use machine_state::{Answer, Fault, Refusal, World};
+use signatures::Name;
+
+/// Begins a turn of an event loop, and carries it to its end.
+pub fn turn(setting: &Setting, world: &mut World, name: &Name) -> Result<Answer, Fault>
+    requires depth { 0 < setting.now.depth }
+    requires left { 0 < world.old.left }
+    requires idle { world.old.turn ≡ None }
+    requires keeps { WorldInvariant setting.now.meta world.old }
+    ensures { Answers setting.now (Turn name.now) world.old world.new result }
+{
+    let Some(home) = world.queues.find(name) else {
+        return world.refuse(Refusal::NoLoop);
+    };
+    world.accept_turn(home)?;
+    setting.run_turn(world)?;
+    Ok(Answer::Done)
+}

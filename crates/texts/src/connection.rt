@@ -1,0 +1,132 @@
+//! Connections, as bodies and scripts name them.
+
+ghost use Rattle.std.specs.Prelude.{◌<◌, ◌≤◌, ◌↔◌, length, IsTrue, All, OnOk};
+ghost use Rattle.texts.specs.Connections.{EndsAtSig, TakesSeparator, EatsFlag, ReadsEnd, ReadsEnds, ReadsConnectionType, signatures_at};
+ghost use Rattle.texts.specs.Signatures.{HasFewTypes};
+
+use crate::cursor::Cursor;
+use crate::fault::ParseFault;
+use crate::lists::Part;
+use crate::signature::has_few_types;
+use crate::symbol::Symbol;
+use signatures::{Kind, Sig, Word};
+
+/// The two ends of a connection: a signal of the sender and a method of the receiver. An O names an object: a path in a
+/// slot's body, a name in a script.
+#[derive(Drop)]
+pub struct Endpoints<O: Drop> {
+    /// The object whose signal is connected.
+    pub sender: O,
+    /// The sender's signal, with at most 8 types.
+    pub signal: Sig,
+    /// The object whose method is called.
+    pub receiver: O,
+    /// The receiver's slot or signal, with at most 8 types.
+    pub method: Sig,
+}
+
+/// How a connection is to be made (Qt 6, `Qt::ConnectionType`).
+#[derive(Clone, Copy, Debug, PartialEq, Eq)]
+pub struct ConnectionType {
+    /// How the signal reaches the receiver.
+    pub kind: Kind,
+    /// Whether it is refused where the same signal and method are connected already.
+    pub unique: bool,
+    /// Whether it is removed when it is first used.
+    pub single: bool,
+}
+
+impl<O: Drop> Endpoints<O> {
+    /// Whether both signatures have at most 8 types.
+    pub fn have_few_types(&self) -> bool
+        ensures { IsTrue result ↔ All HasFewTypes (signatures_at self.now) }
+    {
+        has_few_types(&self.signal) && has_few_types(&self.method)
+    }
+}
+
+/// `object separator sig separator object separator sig`: the two ends of a connection, whose objects are read as parts
+/// of type P.
+///
+/// `Syntax` where the tokens begin with nothing like it, and only there; `Memory` where a growth of memory was refused.
+///
+/// An object may end in front of the separator and a signature: that is to be shown.
+pub fn both_ends<P: Part>(
+    cursor: &mut Cursor,
+    separator: Option<Symbol>,
+) -> Result<Endpoints<P::Tree>, ParseFault>
+    requires { EndsAtSig P.Ends separator }
+    ensures reads { ReadsEnds P.spell P.tree separator cursor.old result cursor.new }
+    ensures shorter { OnOk result (length cursor.new < length cursor.old) }
+{
+    let (sender, signal) = end::<P>(cursor, separator)?;
+    cursor.separator(separator)?;
+    let (receiver, method) = end::<P>(cursor, separator)?;
+    Ok(Endpoints {
+        sender,
+        signal,
+        receiver,
+        method,
+    })
+}
+
+/// `object separator sig`
+fn end<P: Part>(
+    cursor: &mut Cursor,
+    separator: Option<Symbol>,
+) -> Result<(P::Tree, Sig), ParseFault>
+    requires { EndsAtSig P.Ends separator }
+    ensures reads { ReadsEnd P.spell P.tree separator cursor.old result cursor.new }
+    ensures shorter { OnOk result (length cursor.new < length cursor.old) }
+{
+    let object = P::read(cursor)?;
+    cursor.separator(separator)?;
+    let sig = cursor.sig()?;
+    Ok((object, sig))
+}
+
+impl<'a> Cursor<'a> {
+    /// `kind [separator "unique"] [separator "single"]`
+    ///
+    /// `Syntax` where the tokens begin with no kind, and only there.
+    pub fn connection_type(
+        &mut self,
+        separator: Option<Symbol>,
+    ) -> Result<ConnectionType, ParseFault>
+        ensures reads { ReadsConnectionType separator self.old result self.new }
+        ensures shorter { OnOk result (length self.new < length self.old) }
+    {
+        let kind = self.connection_kind()?;
+        let unique = self.eat_flag(separator, Word::Unique);
+        let single = self.eat_flag(separator, Word::Single);
+        Ok(ConnectionType {
+            kind,
+            unique,
+            single,
+        })
+    }
+
+    /// Takes the separator and the word, if they come next, and says whether it did.
+    fn eat_flag(&mut self, separator: Option<Symbol>, word: Word) -> bool
+        ensures found { EatsFlag separator word self.old result self.new }
+        ensures no_longer { length self.new ≤ length self.old }
+    {
+        let mut ahead = Cursor::new(self.alloc(), self.rest());
+        let found = ahead.separator(separator).is_ok() && ahead.eat_word(word);
+        if found {
+            *self = ahead;
+        }
+        found
+    }
+
+    /// Takes the separator, if there is one.
+    fn separator(&mut self, separator: Option<Symbol>) -> Result<(), ParseFault>
+        ensures found { TakesSeparator separator self.old result self.new }
+        ensures no_longer { OnOk result (length self.new ≤ length self.old) }
+    {
+        match separator {
+            Some(symbol) => self.expect(symbol),
+            None => Ok(()),
+        }
+    }
+}
