@@ -4,6 +4,10 @@ mod blocking;
 mod bodies;
 mod classes;
 mod connecting;
+mod dead_objects;
+mod deleting;
+mod deleting_later;
+mod destroyed;
 mod events;
 mod queues;
 mod refusals;
@@ -33,6 +37,9 @@ pub const PRESSED: &str =
 /// A source whose value is shown by a label.
 pub const SOURCE: &str =
     "class Source { property int value = 0 notify valueChanged(int); signal valueChanged(int); slot setValue(int v) { set this.value = v; } } class Label { property int shown; slot show(int v) { set this.shown = v; } } wire Source valueChanged(int) -> Label show(int) auto;";
+
+/// Nodes own nodes, and nothing owns leaves.
+pub const NODES: &str = "class Node { } class Leaf { } owns Node Node;";
 
 /// A command line with its texts, and what it has to answer.
 #[derive(Clone, Copy)]
