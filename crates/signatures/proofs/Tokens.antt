@@ -3,20 +3,20 @@ use Rattle.std.proofs.Common.{◌≡◌, ℕ, zero, suc, ◌<◌, ◌≤◌, Boo
 use Rattle.std.proofs.lemmas.List.{append-nil}
 use Rattle.std.specs.List.{AllByRecursion}
 use Rattle.signatures.specs.Name.{is_name_byte}
-use Rattle.signatures.specs.Tokens.{Token, word, mark, is_blank, mark_of, ended, tokens_from, tokens_of, EndsWord, IsRun}
+use Rattle.signatures.specs.Tokens.{Token, word, mark, is_blank, mark_of, ended, tokens_from, tokens_of, StopsBy, EndsWord, IsRunBy}
 
--- ---- runs of letters and digits
+-- ---- runs
 
-stops_here : (bytes : List ℕ) → (0 < length bytes → is_name_byte (get_or bytes 0 0) ≡ false) → EndsWord bytes
-stops_here [] h = tt
-stops_here (b ∷ bs) h = h (omega arith)
+stops_here : (test : ℕ → Bool) (bytes : List ℕ) → (0 < length bytes → test (get_or bytes 0 0) ≡ false) → StopsBy test bytes
+stops_here test [] h = tt
+stops_here test (b ∷ bs) h = h (omega arith)
 
 -- a run by its length
-pub run_of_length : (bytes : List ℕ) (n : ℕ) → n ≤ length bytes → ((k : ℕ) → k < n → is_name_byte (get_or bytes k 0) ≡ true) → (n < length bytes → is_name_byte (get_or bytes n 0) ≡ false) → IsRun bytes (take n bytes) (drop n bytes)
-run_of_length bytes zero le each stop = record { split = refl; each = tt; stops = stops_here bytes stop }
-run_of_length [] (suc n) le each stop = absurd (omega arith)
-run_of_length (b ∷ bs) (suc n) le each stop =
-    let r = run_of_length bs n (omega arith) (λ k h. each (suc k) (omega arith)) (λ h. stop (omega arith)) in
+pub run_of_length : (test : ℕ → Bool) (bytes : List ℕ) (n : ℕ) → n ≤ length bytes → ((k : ℕ) → k < n → test (get_or bytes k 0) ≡ true) → (n < length bytes → test (get_or bytes n 0) ≡ false) → IsRunBy test bytes (take n bytes) (drop n bytes)
+run_of_length test bytes zero le each stop = record { split = refl; each = tt; stops = stops_here test bytes stop }
+run_of_length test [] (suc n) le each stop = absurd (omega arith)
+run_of_length test (b ∷ bs) (suc n) le each stop =
+    let r = run_of_length test bs n (omega arith) (λ k h. each (suc k) (omega arith)) (λ h. stop (omega arith)) in
     record { split = ap (λ xs. b ∷ xs) r.split; each = (each 0 (omega arith), r.each); stops = r.stops }
 
 -- ---- words and marks
@@ -35,7 +35,7 @@ pub stopped : (so_far rest : List ℕ) → EndsWord rest → tokens_from so_far 
 stopped so_far [] h = refl
 stopped so_far (b ∷ rest) h = rw h (choose (is_blank b) so_far (tokens_of rest) (mark (mark_of b) ∷ tokens_of rest))
 
-pub word_next : (bytes w rest : List ℕ) (b : ℕ) (after : List ℕ) → bytes ≡ b ∷ after → is_name_byte b ≡ true → IsRun bytes w rest → tokens_of bytes ≡ word w ∷ tokens_of rest
+pub word_next : (bytes w rest : List ℕ) (b : ℕ) (after : List ℕ) → bytes ≡ b ∷ after → is_name_byte b ≡ true → IsRunBy is_name_byte bytes w rest → tokens_of bytes ≡ word w ∷ tokens_of rest
 word_next bytes [] [] b after e h r = let d = r.split in cc
 word_next bytes [] (x ∷ rest) b after e h r = let d = r.split in let k : x ≡ b = cc in let m = rw (k, h) at r.stops in cc
 word_next bytes (x ∷ w) rest b after e h r = ap tokens_of r.split ∙ (taken (x ∷ w) [] rest r.each ∙ stopped (x ∷ w) rest r.stops)

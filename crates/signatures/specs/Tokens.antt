@@ -50,13 +50,17 @@ abbrev pub TakesNext : List Token → Option Scanned → List Token → Type 0
 TakesNext before None after = (before ≡ []) × (after ≡ [])
 TakesNext before (Some next) after = before ≡ token_of next ∷ after
 
+-- a run of bytes that pass the test doesn't go on there
+abbrev pub StopsBy : (ℕ → Bool) → List ℕ → Type 0
+StopsBy test [] = Unit {0}
+StopsBy test (b ∷ rest) = test b ≡ false
+
+-- `taken` is the longest run of bytes that pass the test at the front of the bytes, and `rest` is what follows it
+pub record IsRunBy (test : ℕ → Bool) (bytes taken rest : List ℕ) : Type 0 where
+  pub split : bytes ≡ taken ++ rest
+  pub each : AllByRecursion (λ b. test b ≡ true) taken
+  pub stops : StopsBy test rest
+
 -- no word goes on there
 abbrev pub EndsWord : List ℕ → Type 0
-EndsWord [] = Unit {0}
-EndsWord (b ∷ rest) = is_name_byte b ≡ false
-
--- the letters and digits at the front of the bytes, and what follows them
-pub record IsRun (bytes taken rest : List ℕ) : Type 0 where
-  pub split : bytes ≡ taken ++ rest
-  pub each : AllByRecursion (λ b. is_name_byte b ≡ true) taken
-  pub stops : EndsWord rest
+EndsWord rest = StopsBy is_name_byte rest

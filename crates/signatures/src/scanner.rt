@@ -1,8 +1,9 @@
 //! A cursor over a signature's bytes, which contracts see as the words and marks that are left.
 
 ghost use Rattle.std.specs.Prelude.{◌≡◌, ◌↔◌, IsTrue};
+ghost use Rattle.signatures.specs.Name.{is_name_byte};
 ghost use Rattle.signatures.specs.Signatures.{IsPart};
-ghost use Rattle.signatures.specs.Tokens.{is_blank, mark as mark_token, mark_of, token_of, tokens_of, IsRun, TakesNext};
+ghost use Rattle.signatures.specs.Tokens.{is_blank, mark as mark_token, mark_of, token_of, tokens_of, IsRunBy, TakesNext};
 
 use crate::name::is_name_byte;
 use std::marker::Model;
@@ -133,7 +134,7 @@ fn mark_of(byte: u8) -> Mark
 
 /// The letters and digits at the front of the bytes, and what follows them.
 fn split_word(bytes: &[u8]) -> (&[u8], &[u8])
-    ensures { IsRun bytes.now result.0.now result.1.now }
+    ensures { IsRunBy is_name_byte bytes.now result.0.now result.1.now }
 {
     let mut len = 0;
     while len < bytes.len() && is_name_byte(bytes[len]) {

@@ -5,7 +5,7 @@ use Rattle.std.specs.List.{AllByRecursion, AllZip}
 use Rattle.signatures.specs.Name.{is_name_byte}
 use Rattle.signatures.specs.Signatures.{IsFreeName, IsTypeOf, Normal}
 use Rattle.signatures.specs.Signatures as scanned
-use Rattle.signatures.specs.Tokens.{is_blank, EndsWord}
+use Rattle.signatures.specs.Tokens.{is_blank}
 use Rattle.signatures.specs.Tokens as scanner
 use Rattle.signatures.specs.Words.{word_spelling}
 use Rattle.signatures.specs.declared.normal.ConstPlace.{ConstPlace}
@@ -17,7 +17,7 @@ use Rattle.signatures.specs.declared.scanner.Mark.TheVariants as mark
 use Rattle.signatures.specs.declared.word.Word.{Word}
 use Rattle.signatures.specs.declared.word.Word.TheVariants as reserved_word
 use Rattle.signatures.proofs.Tokens.{taken, stopped}
-use Rattle.texts.specs.Bytes.{IsRun, StopsAt}
+use Rattle.texts.specs.Bytes.{IsRun}
 use Rattle.texts.specs.Lists.{spell_others, spell_listed}
 use Rattle.texts.specs.Pieces.{AreTokens, Piece, IsNotEmpty, IsCut, tokens_of}
 use Rattle.texts.specs.Pieces as piece
@@ -87,13 +87,9 @@ no_slash (inl e) = cc
 no_slash (inr (inl e)) = cc
 no_slash (inr (inr other)) = other refl
 
-ends_word : (rest : List ℕ) → StopsAt run.Name rest → EndsWord rest
-ends_word [] h = tt
-ends_word (b ∷ rest) h = h
-
 pub word_next : (bytes letters rest : List ℕ) → IsNotEmpty letters → IsRun run.Name bytes letters rest → scanner.tokens_of bytes ≡ scanner.word letters ∷ scanner.tokens_of rest
 word_next bytes [] rest some r = absurd some
-word_next bytes (b ∷ letters) rest some r = ap scanner.tokens_of r.split ∙ (taken (b ∷ letters) [] rest r.each ∙ stopped (b ∷ letters) rest (ends_word rest r.stops))
+word_next bytes (b ∷ letters) rest some r = ap scanner.tokens_of r.split ∙ (taken (b ∷ letters) [] rest r.each ∙ stopped (b ∷ letters) rest r.stops)
 
 spelled_by_letters : (w : Word) → IsNotEmpty (word_spelling w)
 spelled_by_letters reserved_word.Class = tt

@@ -1,8 +1,7 @@
 -- Bytes by what they may begin, and runs of bytes (docs/language.md, "Tokens").
-use Rattle.std.specs.Prelude.{ℕ, ◌≡◌, Bool, true, false, not, ◌&&◌, nat_le, nat_eq, List, [], ◌∷◌, ◌++◌}
-use Rattle.std.specs.List.{AllByRecursion}
+use Rattle.std.specs.Prelude.{ℕ, ◌≡◌, Bool, true, false, not, ◌&&◌, nat_le, nat_eq, List}
 use Rattle.signatures.specs.Name.{is_letter, is_digit, is_name_byte}
-use Rattle.signatures.specs.Tokens.{is_blank}
+use Rattle.signatures.specs.Tokens.{is_blank, IsRunBy}
 use Rattle.texts.specs.declared.bytes.Class.{Class}
 use Rattle.texts.specs.declared.bytes.Class.TheVariants.{Blank, Slash, Letter, Digit, Quote, Other}
 use Rattle.texts.specs.declared.bytes.Run.{Run}
@@ -28,13 +27,6 @@ belongs Number b = is_digit b
 belongs Text b = nat_le 32 b && nat_le b 126 && not (nat_eq b 34)
 belongs Line b = not (nat_eq b 10)
 
--- the run doesn't go on there
-abbrev pub StopsAt : Run → List ℕ → Type 0
-StopsAt run [] = Unit {0}
-StopsAt run (b ∷ rest) = belongs run b ≡ false
-
 -- `taken` is the longest run at the front of the bytes, and `rest` is what follows it
-pub record IsRun (run : Run) (bytes taken rest : List ℕ) : Type 0 where
-  pub split : bytes ≡ taken ++ rest
-  pub each : AllByRecursion (λ b. belongs run b ≡ true) taken
-  pub stops : StopsAt run rest
+abbrev pub IsRun : Run → List ℕ → List ℕ → List ℕ → Type 0
+IsRun run bytes taken rest = IsRunBy (belongs run) bytes taken rest

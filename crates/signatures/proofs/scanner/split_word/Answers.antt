@@ -11,4 +11,4 @@ returns c =
       | then-loop-len-test+else-is_name_byte w ↦ λ h. sym w.is_name_byte.ensures ∙ w.if-is_name_byte.false
       | else-loop-len-test w ↦ λ h. absurd (omega arith)
     ] in
-    rw (c.split_at.ensures.front, c.split_at.ensures.back) (run_of_length c.args.bytes.now c.loop-len.len c.loop-len.invariant.within c.loop-len.invariant.each stop)
+    rw (c.split_at.ensures.front, c.split_at.ensures.back) (run_of_length is_name_byte c.args.bytes.now c.loop-len.len c.loop-len.invariant.within c.loop-len.invariant.each stop)
