@@ -23,19 +23,19 @@ impl Setting {
         &self,
         world: &mut World,
         active: &Active<'_>,
-        call: MethodCall<'_>,
+        call: &MethodCall<'_>,
         statements: &[Statement],
     ) -> Result<(), Fault>
         requires room { length active.now < self.now.depth }
         requires sound { IsSoundWorld self.now.meta world.old }
         ensures ends { Finishes self.now active.now
-            (Body call.object call.method call.arguments.now statements.now)
+            (Body call.now.object call.now.method call.now.arguments.now statements.now)
             world.old world.new result }
     {
         let mut left = Remaining::all(self.alloc, statements);
         while let Some(statement) = left.next() {
             world.require_rule()?;
-            let doing = self.scope(world, call).doing_of(statement)?;
+            let doing = self.scope(world, &*call).doing_of(statement)?;
             self.carry_out(world, active, call.object, doing, &mut left)?;
         }
         world.tick()
@@ -59,14 +59,14 @@ impl Setting {
     {
         let over = (&*active).over(Some(object));
         match done {
-            Doing::Write(place, new) => self.write(world, &over, place, new),
+            Doing::Write(place, new) => self.write(world, &over, &place, new),
             Doing::Begin(target, method, given) => {
                 let call = MethodCall {
                     object: target,
                     method,
                     arguments: given.as_slice(),
                 };
-                self.begin_typed(world, &over, call)
+                self.begin_typed(world, &over, &call)
             }
             Doing::Choose(block) => {
                 left.put(block)?;
@@ -79,10 +79,10 @@ impl Setting {
     }
 
     /// What the body of a call reads.
-    fn scope<'w>(&self, world: &'w World, call: MethodCall<'w>) -> Scope<'w>
+    fn scope<'w>(&self, world: &'w World, call: &'w MethodCall<'_>) -> Scope<'w>
         ensures objects { result.objects.now ≡ world.now.objects }
-        ensures this { result.this ≡ call.object }
-        ensures arguments { result.arguments.now ≡ call.arguments.now }
+        ensures this { result.this ≡ call.now.object }
+        ensures arguments { result.arguments.now ≡ call.now.arguments.now }
     {
         Scope {
             alloc: self.alloc,

@@ -23,15 +23,15 @@ impl Setting {
         &self,
         world: &mut World,
         active: &Active<'_>,
-        call: MethodCall<'_>,
+        call: &MethodCall<'_>,
         last: u64,
     ) -> Result<(), Fault>
         requires room { length active.now < self.now.depth }
         requires sound { IsSoundWorld self.now.meta world.old }
         requires emitted { ArgumentsFit self.now.meta world.old.objects
-            call.object call.method call.arguments.now }
+            call.now.object call.now.method call.now.arguments.now }
         ensures ends { Finishes self.now active.now
-            (Emit call.object call.method call.arguments.now 0 last) world.old world.new result }
+            (Emit call.now.object call.now.method call.now.arguments.now 0 last) world.old world.new result }
         ensures keeps { KeepsWorld self.now.meta world.old world.new }
         ensures sound { IsSoundWorld self.now.meta world.new }
     {
@@ -75,9 +75,9 @@ impl Setting {
         };
         if reaches_at_once(connection.kind, home, world.running()) {
             let over = (&*active).over(None);
-            self.begin_used(world, &over, &connection, call)
+            self.begin_used(world, &over, &connection, &call)
         } else {
-            self.post(world, active.count() + 1, &connection, call)
+            self.post(world, active.count() + 1, &connection, &call)
         }
     }
 
@@ -88,18 +88,18 @@ impl Setting {
         world: &mut World,
         active: &Active<'_>,
         connection: &Connection,
-        call: MethodCall<'_>,
+        call: &MethodCall<'_>,
     ) -> Result<(), Fault>
         requires sound { IsSoundWorld self.now.meta world.old }
         requires left { 0 < world.old.left }
         requires fit { ArgumentsFit self.now.meta world.old.objects
-            call.object call.method call.arguments.now }
+            call.now.object call.now.method call.now.arguments.now }
         ensures ends { EndsUse self.now active.now
-            connection.now call world.old world.new result }
+            connection.now call.now world.old world.new result }
     {
         let (line, begun) = self.begun(world, active, call)?;
         world.use_connection([line], connection)?;
-        self.run_begun(world, active, call, begun)
+        self.run_begun(world, active, call, &begun)
     }
 
     /// Begins a method whose arguments an expression gave, over what is left of the top of the stack; `BadType` where the
@@ -109,11 +109,11 @@ impl Setting {
         &self,
         world: &mut World,
         active: &Active<'_>,
-        call: MethodCall<'_>,
+        call: &MethodCall<'_>,
     ) -> Result<(), Fault>
         requires sound { IsSoundWorld self.now.meta world.old }
         requires left { 0 < world.old.left }
-        ensures ends { EndsOnlyCall self.now active.now call world.old world.new result }
+        ensures ends { EndsOnlyCall self.now active.now call.now world.old world.new result }
     {
         let Some((_, declared)) = self.member(world, call.object, call.method) else {
             return Err(Fault::BadType);
@@ -133,17 +133,17 @@ impl Setting {
         &self,
         world: &mut World,
         active: &Active<'_>,
-        call: MethodCall<'_>,
+        call: &MethodCall<'_>,
     ) -> Result<(), Fault>
         requires sound { IsSoundWorld self.now.meta world.old }
         requires left { 0 < world.old.left }
         requires fit { ArgumentsFit self.now.meta world.old.objects
-            call.object call.method call.arguments.now }
-        ensures ends { EndsCall self.now active.now call world.old world.new result }
+            call.now.object call.now.method call.now.arguments.now }
+        ensures ends { EndsCall self.now active.now call.now world.old world.new result }
     {
         let (line, begun) = self.begun(world, active, call)?;
         world.note([line])?;
-        self.run_begun(world, active, call, begun)
+        self.run_begun(world, active, call, &begun)
     }
 
     /// Runs a method that has begun to its end.
@@ -152,15 +152,15 @@ impl Setting {
         &self,
         world: &mut World,
         active: &Active<'_>,
-        call: MethodCall<'_>,
-        begun: Begun<'_>,
+        call: &MethodCall<'_>,
+        begun: &Begun<'_>,
     ) -> Result<(), Fault>
         requires room { length active.now < self.now.depth }
         requires sound { IsSoundWorld self.now.meta world.old }
         requires fit { ArgumentsFit self.now.meta world.old.objects
-            call.object call.method call.arguments.now }
+            call.now.object call.now.method call.now.arguments.now }
         ensures ends { Finishes self.now active.now
-            (top_of call.object call.method call.arguments.now begun.last begun.work.now)
+            (top_of call.now.object call.now.method call.now.arguments.now begun.now.last begun.now.work.now)
             world.old world.new result }
     {
         match begun.work {

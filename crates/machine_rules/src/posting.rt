@@ -23,14 +23,14 @@ impl Setting {
         world: &mut World,
         depth: usize,
         connection: &Connection,
-        call: MethodCall<'_>,
+        call: &MethodCall<'_>,
     ) -> Result<(), Fault>
         requires sound { IsSoundWorld self.now.meta world.old }
         requires left { 0 < world.old.left }
         requires fit { ArgumentsFit self.now.meta world.old.objects
-            call.object call.method call.arguments.now }
+            call.now.object call.now.method call.now.arguments.now }
         ensures { PostsCall self.now.meta world.old depth connection.now
-            call.object call.method call.arguments.now world.new result }
+            call.now.object call.now.method call.now.arguments.now world.new result }
     {
         let Some((receiver, declared)) = self.member(world, call.object, call.method) else {
             unreachable!()
@@ -41,14 +41,7 @@ impl Setting {
         let Some(event_loop) = world.queues.name(home) else {
             unreachable!()
         };
-        let entry = self.post_entry(
-            world,
-            depth,
-            event_loop,
-            receiver,
-            declared,
-            call.arguments,
-        )?;
+        let entry = self.post_entry(world, depth, event_loop, receiver, declared, call.arguments)?;
         let arguments = Arguments::copy_of(self.alloc, call.arguments)?;
         let item = Item::Call {
             object: call.object,

@@ -112,12 +112,12 @@ impl Setting {
         &'s self,
         world: &World,
         active: &Active<'_>,
-        call: MethodCall<'_>,
+        call: &MethodCall<'_>,
     ) -> Result<(Entry, Begun<'s>), Fault>
         requires fit { ArgumentsFit self.now.meta world.now.objects
-            call.object call.method call.arguments.now }
+            call.now.object call.now.method call.now.arguments.now }
         ensures ok { IfOk result (λ b. IsBegun self.now.meta self.now.depth active.now world.now
-            call.object call.method call.arguments.now b.0 b.1.work.now b.1.last) }
+            call.now.object call.now.method call.now.arguments.now b.0 b.1.work.now b.1.last) }
         ensures err { IfErr result (IsBarred self.now.depth active.now) }
     {
         let Some((found, declared)) = self.member(world, call.object, call.method) else {
@@ -139,10 +139,10 @@ impl Setting {
         depth: usize,
         object: &Object,
         method: &MetaMethod,
-        call: MethodCall<'_>,
+        call: &MethodCall<'_>,
     ) -> Result<Entry, AllocError>
         ensures { IfOk result (λ entry. entry ≡
-            entry_of_call world.now depth object.now call.method method.now call.arguments.now) }
+            entry_of_call world.now depth object.now call.now.method method.now call.now.arguments.now) }
     {
         let name = object.name.copy()?;
         let called = method.sig.name.copy()?;

@@ -52,7 +52,7 @@ impl Setting {
             method,
             arguments: arguments.as_slice(),
         };
-        let (line, begun) = self.begun(world, &below, call)?;
+        let (line, begun) = self.begun(world, &below, &call)?;
         let taken = world.take_before(line, turn.home, turn.limit)?;
         let Some(
             Posted {
@@ -68,6 +68,6 @@ impl Setting {
             method,
             arguments: arguments.as_slice(),
         };
-        self.run_begun(world, &below, call, begun)
+        self.run_begun(world, &below, &call, &begun)
     }
 }

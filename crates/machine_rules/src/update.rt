@@ -34,16 +34,16 @@ impl Setting {
         &self,
         world: &mut World,
         active: &Active<'_>,
-        place: Place,
+        place: &Place,
         value: Value,
     ) -> Result<(), Fault>
         requires sound { IsSoundWorld self.now.meta world.old }
         requires left { 0 < world.old.left }
-        ensures ends { EndsWrite self.now active.now place value world.old world.new result }
+        ensures ends { EndsWrite self.now active.now place.now value world.old world.new result }
     {
-        let writing = self.writing(world, active, place, &value)?;
-        world.write([writing.line], place.object, place.property, value)?;
-        self.run_update(world, active, place, writing.changed)
+        let Writing { line, changed } = self.writing(world, active, place, &value)?;
+        world.write([line], place.object, place.property, value)?;
+        self.run_update(world, active, place, changed)
     }
 
     /// What is found of a property before a value is written to it over these activations, or why it isn't: `BadType`
@@ -53,13 +53,13 @@ impl Setting {
         &self,
         world: &World,
         active: &Active<'_>,
-        place: Place,
+        place: &Place,
         value: &Value,
     ) -> Result<Writing, Fault>
         ensures ok { IfOk result (λ x. IsWriting self.now.meta self.now.depth active.now world.now
-            place.object place.property value.now x.line x.changed) }
+            place.now.object place.now.property value.now x.line x.changed) }
         ensures err { IfErr result (IsUnwritten self.now.meta self.now.depth active.now world.now
-            place.object place.property value.now) }
+            place.now.object place.now.property value.now) }
     {
         let Some((found, declared)) = self.field(world, place.object, place.property) else {
             return Err(Fault::BadType);
@@ -99,15 +99,15 @@ impl Setting {
         &self,
         world: &mut World,
         active: &Active<'_>,
-        place: Place,
+        place: &Place,
         changed: Option<usize>,
     ) -> Result<(), Fault>
         requires room { length active.now < self.now.depth }
         requires sound { IsSoundWorld self.now.meta world.old }
         requires announces { MayAnnounce self.now.meta world.old.objects
-            place.object place.property changed }
+            place.now.object place.now.property changed }
         ensures ends { Finishes self.now active.now
-            (Update (places_of place.object place.property changed)) world.old world.new result }
+            (Update (places_of place.now.object place.now.property changed)) world.old world.new result }
     {
         match changed {
             Some(signal) => {
@@ -124,15 +124,15 @@ impl Setting {
         &self,
         world: &mut World,
         active: &Active<'_>,
-        place: Place,
+        place: &Place,
         signal: usize,
     ) -> Result<(), Fault>
         requires room { length active.now < self.now.depth }
         requires sound { IsSoundWorld self.now.meta world.old }
         requires announces { Announces self.now.meta world.old.objects
-            place.object place.property signal }
+            place.now.object place.now.property signal }
         ensures ends { Leads self.now active.now
-            (Update (places_of place.object place.property (Some signal))) (Update [])
+            (Update (places_of place.now.object place.now.property (Some signal))) (Update [])
             world.old world.new result }
     {
         world.require_rule()?;
@@ -150,18 +150,18 @@ impl Setting {
             method: signal,
             arguments: taken,
         };
-        self.begin(world, &over, call)
+        self.begin(world, &over, &call)
     }
 }
 
 /// The notify signal of a property that is written, where there is one and the new value doesn't read as the old one.
 fn signal_of_change(
     objects: &Tree,
-    place: Place,
+    place: &Place,
     notify: Option<usize>,
     new: &Value,
 ) -> Option<usize>
-    ensures { TellsChange objects.now place.object place.property notify new.now result }
+    ensures { TellsChange objects.now place.now.object place.now.property notify new.now result }
 {
     let Some(old) = stored(objects, place.object, place.property) else {
         return notify;

@@ -12,7 +12,7 @@ ghost use Rattle.script_lang.specs.declared.event.Event.{Event as AnEvent};
 use crate::events::named::find_living;
 use crate::events::values::read_input;
 use crate::judgement::{NotAccepted, refuse};
-use machine_rules::{Active, Place, Setting};
+use machine_rules::{Active, Place, Setting, Writing};
 use machine_state::{Answer, Fault, Refusal, World};
 use meta_objects::{Meta, MetaProperty};
 use script_lang::Input;
@@ -42,7 +42,7 @@ pub fn assign(
 {
     match judge(setting, world, name, property, input) {
         Err(reason) => refuse(world, reason),
-        Ok(Assignment { place, value }) => write(setting, world, place, value),
+        Ok(Assignment { place, value }) => write(setting, world, &place, value),
     }
 }
 
@@ -94,7 +94,7 @@ fn property_of<'m>(meta: &'m Meta, class: usize, name: &Name) -> Option<(usize, 
 fn write(
     setting: &Setting,
     world: &mut World,
-    place: Place,
+    place: &Place,
     value: Value,
 ) -> Result<Answer, Fault>
     requires depth { 0 < setting.now.depth }
@@ -102,14 +102,14 @@ fn write(
     requires idle { world.old.turn ≡ None }
     requires keeps { WorldInvariant setting.now.meta world.old }
     requires fits { ValueFits setting.now.meta world.old.objects
-        place.object place.property value }
+        place.now.object place.now.property value }
     ensures { (e : AnEvent) →
-        WritesTo setting.now.meta world.old place.object place.property value e →
+        WritesTo setting.now.meta world.old place.now.object place.now.property value e →
         Answers setting.now e world.old world.new result }
 {
     let below = Active::nothing();
-    let writing = setting.writing(world, &below, place, &value)?;
-    world.accept_write([writing.line], place.object, place.property, value)?;
-    setting.run_update(world, &below, place, writing.changed)?;
+    let Writing { line, changed } = setting.writing(world, &below, place, &value)?;
+    world.accept_write([line], place.object, place.property, value)?;
+    setting.run_update(world, &below, place, changed)?;
     Ok(Answer::Done)
 }

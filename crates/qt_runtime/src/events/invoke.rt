@@ -79,7 +79,7 @@ pub fn invoke(
                 method,
                 arguments: values.as_slice(),
             };
-            begin(setting, world, call)
+            begin(setting, world, &call)
         }
     }
 }
@@ -151,21 +151,21 @@ fn method_of<'m>(
 fn begin(
     setting: &Setting,
     world: &mut World,
-    call: MethodCall<'_>,
+    call: &MethodCall<'_>,
 ) -> Result<Answer, Fault>
     requires depth { 0 < setting.now.depth }
     requires left { 0 < world.old.left }
     requires idle { world.old.turn ≡ None }
     requires keeps { WorldInvariant setting.now.meta world.old }
     requires fit { ArgumentsFit setting.now.meta world.old.objects
-        call.object call.method call.arguments.now }
+        call.now.object call.now.method call.now.arguments.now }
     ensures { (e : AnEvent) →
-        AsksFor setting.now.meta world.old call.object call.method call.arguments.now e →
+        AsksFor setting.now.meta world.old call.now.object call.now.method call.now.arguments.now e →
         Answers setting.now e world.old world.new result }
 {
     let below = Active::nothing();
     let (line, begun) = setting.begun(world, &below, call)?;
     world.accept_with([line])?;
-    setting.run_begun(world, &below, call, begun)?;
+    setting.run_begun(world, &below, call, &begun)?;
     Ok(Answer::Done)
 }

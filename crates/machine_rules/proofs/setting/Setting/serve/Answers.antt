@@ -30,14 +30,14 @@ pub run_begun-requires-clause-fit : goal.run_begun-requires-clause-fit
 run_begun-requires-clause-fit c =
     let fit = first-fits c.args.turn.home c.args.turn.limit (Call c.in-Call.object c.in-Call.method c.in-Call.arguments) c.requires.sound c.in-Some.ensures c.in-Call.is in
     let same : c.in-Some-Call.arguments ≡ c.in-Call.arguments = cc (c.in-Some-Call.is, c.in_ok-taken.ensures.0, c.in-Some.ensures, c.in-Call.is) in
-    let given : c.as_slice-arguments.result.now ≡ c.in-Call.arguments = c.as_slice-arguments.ensures ∙ same in
+    let given : c.as_slice-2.result.now ≡ c.in-Call.arguments = c.as_slice-2.ensures ∙ same in
     rw given (taken-fits c.args.world.now _ _ _ c.in_ok-taken.ensures.1 fit)
 
 pub returns : goal.returns
 returns c =
     let fit = first-fits c.args.turn.home c.args.turn.limit (Call c.in-Call.object c.in-Call.method c.in-Call.arguments) c.requires.sound c.in-Some.ensures c.in-Call.is in
     let same : c.in-Some-Call.arguments ≡ c.in-Call.arguments = cc (c.in-Some-Call.is, c.in_ok-taken.ensures.0, c.in-Some.ensures, c.in-Call.is) in
-    let given : c.as_slice-arguments.result.now ≡ c.in-Call.arguments = c.as_slice-arguments.ensures ∙ same in
+    let given : c.as_slice-2.result.now ≡ c.in-Call.arguments = c.as_slice-2.ensures ∙ same in
     let begun = rw c.as_slice.ensures at c.in_ok-line.ensures.ok in
     let ends = rw given at c.run_begun.ensures.ends in
     let less = ap (λ (u : World). u.left) c.in_ok-taken.ensures.1 in
