@@ -27,6 +27,8 @@ use Rattle.texts.specs.declared.connection.Endpoints.{Endpoints as Named}
 use Rattle.machine_state.specs.declared.endpoints.Endpoints.{Endpoints}
 use Rattle.machine_state.specs.declared.refusal.Refusal.{Refusal}
 use Rattle.machine_rules.specs.Connecting.{AreThere, may_connect, found_ends, names_of}
+use Rattle.machine_rules.specs.declared.method_call.MethodCall.{MethodCall}
+use Rattle.machine_rules.specs.Good.{ArgumentsFit}
 use Rattle.machine_rules.specs.Rules.{Rule, Begins, Writes, Connects, Disconnects}
 use Rattle.machine_rules.specs.There.{IsMember}
 use Rattle.machine_rules.specs.Active.{shows}
@@ -108,6 +110,10 @@ pub record Sets (p : Loaded) (w : World) (from to : List Activation) (o q : ℕ)
   pub only :
       (below : List Activation) (t : State) →
       Rule p (at w (from ++ below)) t → Writes p (at w (from ++ below)) (to ++ below) o q new t
+
+-- the arguments of a call are those that its method declares
+abbrev pub CallFits : Loaded → List Object → MethodCall → Type 0
+CallFits p objects call = ArgumentsFit p objects call.object call.method call.arguments.now
 
 -- the entry of a method that begins
 abbrev pub begin_entry : ℕ → Object → ℕ → List ℕ → List Shown → Work → Entry
