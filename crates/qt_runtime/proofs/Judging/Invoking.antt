@@ -57,8 +57,3 @@ module _ (p : Loaded) (w : World) (a : Invocation) (name called : List ℕ) (inp
 
       pub asks-for : ReadAs p w.objects vs m.it.kinds → AsksFor p w o.number m.number vs (invoking a name called inputs)
       asks-for fit = record { effect = λ t begins. judged-invoking p (at w []) a name called inputs (goes_on o (living-ok o lives) (goes_on m (found has) (goes_on vs are (goes_on tt (holds fit) (becomes begins))))) }
-
-      pub arguments-fit : ReadAs p w.objects vs m.it.kinds → ArgumentsFit p w.objects o.number m.number vs
-      arguments-fit fit =
-          let object = living-object o lives in
-          record { object = object.0; method = m.it; is = record { life = o.it; lives = object.1; is_method = has.is }; typed = fit }

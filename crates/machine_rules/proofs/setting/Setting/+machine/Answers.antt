@@ -1,7 +1,7 @@
-use Rattle.std.proofs.Common.{◌∙◌, ℕ, List, [], ◌∷◌, length, refl, sym, ap, subst, arith, Option, Some}
+use Rattle.std.proofs.Common.{◌∙◌, ℕ, List, [], length, refl, sym, ap, subst, arith, Option, Some}
 use Rattle.signatures.specs.declared.value.Value.{Value}
 use Rattle.machine_state.specs.declared.world.World.{World}
-use Rattle.machine_rules.proofs.Reaching.{not-idle, reaches-same, reaches-then, stops-after, stops-as, ends-after, ends-left, ends-undue, ends-short, ends-unchanged, ends-faulted, ends-ticked}
+use Rattle.machine_rules.proofs.Reaching.{not-idle, reaches-same, reaches-then, stops-after, ends-after, ends-left, ends-undue, ends-short, ends-unchanged, ends-faulted, ends-ticked}
 use Rattle.machine_rules.specs.Good.{ArgumentsFit}
 use Rattle.machine_rules.proofs.Keeps.{keeps-same, keeps-then, ends-keeps, reaches-typed, reaches-keeps}
 use Rattle.machine_rules.proofs.Soundness.{fit-still, ends-sound, reaches-sound, sound-used, sound-noted, sound-set, sound-as}

@@ -1,5 +1,4 @@
-use Rattle.std.proofs.Common.{◌≡◌, List, ◌∙◌, ap, arith}
-use Rattle.signatures.specs.declared.value.Value.{Value}
+use Rattle.std.proofs.Common.{◌≡◌, ◌∙◌, ap, arith}
 use Rattle.event_loops.specs.declared.item.Item.TheVariants.{Call, Deletion}
 use Rattle.machine_state.specs.declared.world.World.{World}
 use Rattle.machine_rules.proofs.Turning.{reaches-ended, reaches-served, advances-served, advances-barred, advances-unchanged, first-fits, taken-sound, taken-fits}
