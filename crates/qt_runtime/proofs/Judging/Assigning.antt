@@ -21,7 +21,7 @@ use Rattle.qt_runtime.specs.events.Assign.{assign, IsPropertyOf}
 use Rattle.qt_runtime.specs.events.Named.{IsLiving}
 use Rattle.qt_runtime.specs.events.Values.{value}
 use Rattle.qt_runtime.proofs.Judged.{then-ends, then-on}
-use Rattle.qt_runtime.proofs.Judging.Naming.{living-ok, living-object}
+use Rattle.qt_runtime.proofs.Judging.Naming.{living-ok}
 
 -- the value is of the type of a property that is found
 pub fits-field : {p : Loaded} {objects : List Object} {o q : ℕ} {v : Value} {x : Object} {property : MetaProperty} → ValueFits p objects o q v → IsField p objects o q x property → ReadsAs p objects v property.kind
