@@ -20,7 +20,6 @@ use Rattle.machine_rules.specs.Doings.{Doing, Write, Begin, Choose, Connect, Dis
 use Rattle.machine_rules.specs.Coded.{Yields}
 use Rattle.machine_rules.specs.Rules.{Rule, StatementRule, Does, told, Connects, Disconnects}
 use Rattle.object_tree.specs.Typed.{AreTyped}
-use Rattle.machine_rules.specs.Good.{}
 use Rattle.machine_rules.specs.Runs.{Rules, done, then}
 use Rattle.machine_state.specs.Worlds.{at, noted, Ticks, Becomes}
 use Rattle.machine_rules.specs.Reaches.{StopsIn, Ends, Advances, Calls, OnlyCalls, Sets, Went, Stays, ConnectsIn, DisconnectsIn}

@@ -1,5 +1,5 @@
 -- What each rule leaves as it was.
-use Rattle.std.proofs.Common.{◌≡◌, inl, ℕ, suc, ◌+◌, List, [], ◌∷◌, ◌++◌, Option, Some, None, slice_get, refl, sym, ap, ◌∙◌, subst, arith, Result, Ok, Err, append_assoc, append-nil, ◌≤◌, Bool, true, false, length}
+use Rattle.std.proofs.Common.{◌≡◌, inl, ℕ, suc, ◌+◌, List, [], ◌∷◌, ◌++◌, Option, Some, None, refl, sym, ap, ◌∙◌, subst, arith, Result, Ok, Err, append_assoc, append-nil, ◌≤◌, Bool, true, false, length}
 use Rattle.signatures.specs.declared.value.Value.{Value}
 use Rattle.meta_model.specs.Loaded.{Loaded}
 use Rattle.meta_model.specs.declared.object.Statement.{Statement}
@@ -16,7 +16,7 @@ use Rattle.object_tree.specs.declared.object.Object.{Object}
 use Rattle.connections.specs.declared.connection.Connection.{Connection}
 use Rattle.machine_state.specs.declared.fault.Fault.{Fault}
 use Rattle.machine_state.specs.declared.world.World.{World}
-use Rattle.machine_state.specs.Worlds.{at, noted, using}
+use Rattle.machine_state.specs.Worlds.{at}
 use Rattle.machine_state.proofs.Due.{last-used, all-used, all-removed}
 use Rattle.machine_state.specs.State.{State, Place, Activation, Body, Emit, Update}
 use Rattle.machine_rules.specs.Rules.{RuleAt, BodyRule, Does, EmitRule, UpdateRule, Begins, Writes, begun, with_used, linked, unlinked, TurnRule, Serves, Delivers, Arrives}
@@ -30,9 +30,7 @@ use Rattle.object_tree.specs.Objects.{Lives, life_of, class_of, change_life, wri
 use Rattle.object_tree.proofs.Changing.{life-of-lives, lives-of-life}
 use Rattle.object_tree.specs.Typed.{AreTyped, ReadAs}
 use Rattle.machine_state.specs.declared.entry.Entry.{Entry}
-use Rattle.machine_rules.specs.There.{IsMember, IsField}
-use Rattle.machine_rules.proofs.Fields.{typed-written}
-use Rattle.meta_model.specs.declared.object.MetaProperty.{MetaProperty}
+use Rattle.machine_rules.specs.There.{IsMember}
 use Rattle.signatures.specs.Types.{Fits}
 use Rattle.texts.specs.declared.connection.ConnectionType.{ConnectionType}
 use Rattle.texts.specs.declared.connection.Endpoints.{Endpoints as Named}
@@ -43,9 +41,8 @@ use Rattle.machine_rules.specs.Connecting.{AreThere, kept_ends, named_signal, na
 use Rattle.machine_rules.specs.Judgement.{goes_on, holds}
 use Rattle.machine_rules.proofs.Fitting.{kinds-fit}
 use Rattle.machine_rules.proofs.Lists.{all-snoc}
-use Rattle.machine_rules.specs.Good.{ArgumentsFit}
 use Rattle.machine_rules.specs.Runs.{Rules, done, then}
-use Rattle.machine_rules.specs.Sound.{Sound, Joined, IsSoundWorld}
+use Rattle.machine_rules.specs.Sound.{Joined}
 use Rattle.machine_rules.specs.Active.{whose, shows}
 use Rattle.machine_rules.specs.Reaches.{Reaches, StopsIn, Ends}
 use Rattle.machine_rules.specs.Keeps.{StayThere, AllJoined, Grows, Keeps, KeepsWorld}

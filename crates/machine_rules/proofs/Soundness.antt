@@ -1,5 +1,5 @@
 -- What stays sound: items that wait and emissions have arguments that fit.
-use Rattle.std.proofs.Common.{◌≡◌, ℕ, suc, ◌+◌, ◌-◌, ◌<◌, Bool, true, false, List, [], ◌∷◌, ◌++◌, length, take, Result, Ok, Err, Option, Some, None, refl, sym, ap, subst, arith}
+use Rattle.std.proofs.Common.{◌≡◌, ℕ, suc, ◌+◌, ◌<◌, Bool, true, false, List, [], ◌∷◌, ◌++◌, length, take, Result, Ok, Err, Option, Some, None, refl, sym, subst, arith}
 use Rattle.std.specs.List.{AllByRecursion, find}
 use Rattle.signatures.specs.declared.value.Value.{Value}
 use Rattle.meta_model.specs.declared.object.MetaMethod.{MetaMethod}
@@ -28,11 +28,11 @@ use Rattle.machine_rules.specs.Doings.{Doing, Write, Begin, Choose, Nothing, Con
 use Rattle.machine_rules.specs.Good.{ArgumentsFit, TopFits, IsWell}
 use Rattle.machine_rules.specs.Keeps.{StayThere, AllJoined, KeepsWorld}
 use Rattle.machine_rules.specs.Reaches.{Reaches, StopsIn, Ends}
-use Rattle.machine_rules.specs.Rules.{RuleAt, BodyRule, Does, EmitRule, UpdateRule, TurnRule, Serves, Delivers, Arrives, Posts, Begins, Writes, begun, with_used, linked, unlinked}
+use Rattle.machine_rules.specs.Rules.{RuleAt, BodyRule, Does, EmitRule, UpdateRule, TurnRule, Serves, Delivers, Arrives, Begins, Writes, begun, with_used, linked, unlinked}
 use Rattle.machine_rules.specs.Runs.{Rules, done, then}
 use Rattle.machine_rules.specs.Sound.{Joined, Waits, AllWait, Sound, IsSoundWorld}
 use Rattle.machine_rules.proofs.Beginning.{next-joined, next-fits, delivered-fits}
-use Rattle.machine_rules.proofs.Keeps.{member-still, values-stay, written-stay, all-joined-still, rule-kept, some-top, some-stack, some-all, reaches-keeps, stops-keeps, ends-keeps, reaches-typed, ends-typed}
+use Rattle.machine_rules.proofs.Keeps.{member-still, values-stay, written-stay, all-joined-still, rule-kept, some-top, some-stack, some-all, reaches-keeps, ends-keeps, reaches-typed, ends-typed}
 use Rattle.machine_rules.proofs.Fields.{typed-written}
 use Rattle.machine_rules.specs.There.{IsField}
 use Rattle.meta_model.specs.declared.object.MetaProperty.{MetaProperty}

@@ -27,6 +27,8 @@ use Rattle.texts.specs.declared.connection.Endpoints.{Endpoints as Named}
 use Rattle.machine_state.specs.declared.endpoints.Endpoints.{Endpoints}
 use Rattle.machine_state.specs.declared.refusal.Refusal.{Refusal}
 use Rattle.machine_rules.specs.Connecting.{AreThere, may_connect, found_ends, names_of}
+use Rattle.machine_rules.specs.declared.method_call.MethodCall.{MethodCall}
+use Rattle.machine_rules.specs.Good.{ArgumentsFit}
 use Rattle.machine_rules.specs.Rules.{Rule, Begins, Writes, Connects, Disconnects}
 use Rattle.machine_rules.specs.There.{IsMember}
 use Rattle.machine_rules.specs.Active.{shows}
@@ -109,6 +111,10 @@ pub record Sets (p : Loaded) (w : World) (from to : List Activation) (o q : ℕ)
       (below : List Activation) (t : State) →
       Rule p (at w (from ++ below)) t → Writes p (at w (from ++ below)) (to ++ below) o q new t
 
+-- the arguments of a call are those that its method declares
+abbrev pub CallFits : Loaded → List Object → MethodCall → Type 0
+CallFits p objects call = ArgumentsFit p objects call.object call.method call.arguments.now
+
 -- the entry of a method that begins
 abbrev pub begin_entry : ℕ → Object → ℕ → List ℕ → List Shown → Work → Entry
 begin_entry depth x m method given Signal = At depth (happening.Emitted x.name method given (is_silent x m))
@@ -122,19 +128,19 @@ entry_of_call w depth x m method arguments = begin_entry depth x m method.sig.na
 abbrev pub entry_of_post : World → ℕ → List ℕ → Object → MetaMethod → List Value → Entry
 entry_of_post w depth name x method arguments = At depth (happening.Posted name x.name method.sig.name (all_shown w.objects arguments))
 
--- a connection was used and a call of its method posted to the event loop in which its receiver lives, where so many
+-- a connection was used and a call of a method posted to the event loop in which its object lives, where so many
 -- activations are on the stack; or memory was refused
-pub record PostsCall (p : Loaded) (w : World) (depth : ℕ) (c : Connection) (arguments : List Value)
+pub record PostsCall (p : Loaded) (w : World) (depth : ℕ) (c : Connection) (o m : ℕ) (arguments : List Value)
     (v : World) (result : Result (Unit {0}) Fault) : Type 0 where
   pub object : Object
   pub method : MetaMethod
-  pub is : IsMember p w.objects c.receiver c.method object method
+  pub is : IsMember p w.objects o m object method
   pub name : List ℕ
   pub home : ℕ
-  pub lives_in : home_of w.objects c.receiver ≡ Some home
+  pub lives_in : home_of w.objects o ≡ Some home
   pub is_loop : HasName w.queues.loops name home
   pub becomes :
-      Becomes w (posting (having_used w c) (entry_of_post w depth name object method arguments ∷ []) home (Call c.receiver c.method arguments)) v result
+      Becomes w (posting (having_used w c) (entry_of_post w depth name object method arguments ∷ []) home (Call o m arguments)) v result
 
 -- what is pushed where a method begins
 abbrev pub top_of : ℕ → ℕ → List Value → ℕ → Work → Activation
