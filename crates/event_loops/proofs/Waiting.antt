@@ -1,8 +1,6 @@
 -- What waits after a ring or the marks have changed.
-use Rattle.std.proofs.Common.{◌≡◌, ℕ, zero, suc, ◌+◌, ◌<◌, ◌≤◌, Bool, true, false, not, ◌&&◌, cond, List, [], ◌∷◌, ◌++◌, length, map, filter, Option, None, Some, refl, arith, ap, sym, ◌∙◌, if◌then◌else◌, unwrap_or, eqb, ◌≢◌, ⊎_elim}
-use Rattle.std.specs.Prelude.{nat_lt, nat_le, slice_get}
+use Rattle.std.proofs.Common.{◌≡◌, ℕ, zero, suc, ◌+◌, ◌≤◌, Bool, true, false, not, ◌&&◌, List, [], ◌∷◌, ◌++◌, length, map, Option, None, Some, refl, arith, ap, sym, ◌∙◌, if◌then◌else◌, unwrap_or, eqb, ◌≢◌, ⊎_elim}
 use Rattle.std.specs.List.{find, list_all}
-use Rattle.std.specs.Option.{option_map}
 use Rattle.std.proofs.lemmas.List.Elements.{filter-append}
 use Rattle.std.proofs.lemmas.Bool.{cases_eq, eq-eqb, ne_eqb, and_from, and_parts, le-leb, le-ltb, lt-ltb, leb-true}
 use Rattle.std.proofs.lemmas.Option.{same_Some}

@@ -1,4 +1,4 @@
-use Rattle.std.proofs.Common.{◌≡◌, ◌∷◌, [], ◌++◌, sym, ◌∙◌, ap, subst, List, ℕ}
+use Rattle.std.proofs.Common.{◌≡◌, ◌∷◌, [], ◌++◌, sym, ◌∙◌, ap, subst, List}
 use Rattle.event_loops.specs.Queues.{Queues, Loop, IsTaken, with_loop}
 use Rattle.event_loops.specs.Rings.{shown, loops_of}
 use Rattle.event_loops.specs.Marks.{since_of, visible, AreUpto}

@@ -1,4 +1,4 @@
-use Rattle.std.proofs.Common.{sym, ◌∙◌, ap, option_map, List, ℕ}
+use Rattle.std.proofs.Common.{sym, ◌∙◌, ap, option_map}
 use Rattle.event_loops.specs.Queues.{Queues, name_at}
 use Rattle.event_loops.specs.Rings.{shown}
 use Rattle.event_loops.specs.Marks.{since_of}
