@@ -1,5 +1,5 @@
 -- A write of one ring changes the loop at its place.
-use Rattle.std.proofs.Common.{◌≡◌, ℕ, zero, suc, List, [], ◌∷◌, ◌++◌, length, None, Some, refl, arith, ap, sym, ◌∙◌, slice_get, Result, Ok, Err, OnErr}
+use Rattle.std.proofs.Common.{◌≡◌, ℕ, zero, suc, List, [], ◌∷◌, ◌++◌, None, Some, refl, arith, ap, sym, ◌∙◌, slice_get, Result, Ok, Err, OnErr}
 use Rattle.std.specs.declared.collections.VecDeque.{VecDeque}
 use Rattle.std.specs.Map.{values_of}
 use Rattle.std.proofs.lemmas.Option.{same_Some}
@@ -49,10 +49,6 @@ module _ {A : Type 0} where
   change-nowhere f [] home at = refl
   change-nowhere f (e ∷ es) zero at = grind arith
   change-nowhere f (e ∷ es) (suc home) at = ap (λ loops. loop_of e ∷ loops) (change-nowhere f es home at)
-
-  pub length-loops_of : (es : List (List ℕ × VecDeque Posted A)) → length (loops_of es) ≡ length es
-  length-loops_of [] = refl
-  length-loops_of (e ∷ es) = ap suc (length-loops_of es)
 
   pub loops_of-append : (es fs : List (List ℕ × VecDeque Posted A)) → loops_of (es ++ fs) ≡ loops_of es ++ loops_of fs
   loops_of-append [] fs = refl

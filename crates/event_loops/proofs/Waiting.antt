@@ -1,5 +1,5 @@
 -- What waits after a ring or the marks have changed.
-use Rattle.std.proofs.Common.{◌≡◌, ℕ, zero, suc, ◌+◌, ◌≤◌, Bool, true, false, not, ◌&&◌, List, [], ◌∷◌, ◌++◌, length, map, Option, None, Some, refl, arith, ap, sym, ◌∙◌, if◌then◌else◌, unwrap_or, eqb, ◌≢◌, ⊎_elim}
+use Rattle.std.proofs.Common.{◌≡◌, ℕ, zero, suc, ◌+◌, ◌≤◌, Bool, true, false, not, ◌&&◌, List, [], ◌∷◌, ◌++◌, map, Option, None, Some, refl, arith, ap, sym, ◌∙◌, if◌then◌else◌, unwrap_or, eqb, ◌≢◌, ⊎_elim}
 use Rattle.std.specs.List.{find, list_all}
 use Rattle.std.proofs.lemmas.List.Elements.{filter-append}
 use Rattle.std.proofs.lemmas.Bool.{cases_eq, eq-eqb, ne_eqb, and_from, and_parts, le-leb, le-ltb, lt-ltb, leb-true}
@@ -7,7 +7,7 @@ use Rattle.std.proofs.lemmas.Option.{same_Some}
 use Rattle.std.proofs.lemmas.List.Folds.{list_all-append}
 use Rattle.event_loops.specs.declared.item.Posted.{Posted}
 use Rattle.event_loops.specs.Queues.{Loop, receiver_of, is_for, is_before, none_for, name_at, items_at, with_items, with_item, without_first, without_first_before, without_object, change}
-use Rattle.event_loops.specs.Marks.{waits, is_above, is_due, waiting, visible, trimmed, taken_due, Agree, Notes, Forgets, is_upto, AreUpto, MarkedUpto}
+use Rattle.event_loops.specs.Marks.{waits, is_above, is_due, waiting, visible, trimmed, taken_due, Notes, Forgets, is_upto, AreUpto, MarkedUpto}
 
 same_cons : {A : Type 0} (xs ys : List A) {x y : A} → x ≡ y → xs ≡ ys → x ∷ xs ≡ y ∷ ys
 same_cons {A} xs ys {x} {y} head rest = ap (λ (z : A). z ∷ xs) head ∙ ap (λ zs. y ∷ zs) rest
@@ -52,7 +52,7 @@ module _ (since : ℕ → Option ℕ) where
   waiting-push : (p : Posted) (items : List Posted) → waits since p ≡ true → waiting since (items ++ p ∷ []) ≡ waiting since items ++ p ∷ []
   waiting-push p items told = filter-append (waits since) items (p ∷ []) ∙ ap (λ b. waiting since items ++ (if b then p ∷ [] else [])) told
 
--- .. after an object's mark was taken off, after one was made, and where the marks say the same
+-- .. after an object's mark was taken off, and after one was made
 module _ (old new : ℕ → Option ℕ) where
   -- one item, which an object's mark lets wait or not
   waiting-cons : (f : List Posted → List Posted) (p : Posted) (items : List Posted) → waits new p ≡ waits old p → ((rest : List Posted) → f (p ∷ rest) ≡ p ∷ f rest) → waiting new items ≡ f (waiting old items) → waiting new (p ∷ items) ≡ f (waiting old (p ∷ items))
@@ -108,10 +108,6 @@ module _ (old new : ℕ → Option ℕ) where
           ap (λ m. is_above m p.number) (f receiver ∙ ap (λ b. if b then Some (unwrap_or (old object) last) else old receiver) (ne_eqb object receiver n)))
           (cases_eq object receiver)
 
-  waiting-same : Agree old new → (items : List Posted) → waiting new items ≡ waiting old items
-  waiting-same a [] = refl
-  waiting-same a (p ∷ items) = waiting-cons (λ ps. ps) p items (ap (λ m. is_above m p.number) (a (receiver_of p.item))) (λ ps. refl) (waiting-same a items)
-
   -- ---- all loops
 
   pub visible-forgotten : (object : ℕ) → Forgets object old new → (loops : List Loop) → visible new loops ≡ map (without_object object) (visible old loops)
@@ -121,10 +117,6 @@ module _ (old new : ℕ → Option ℕ) where
   pub visible-noted : (object last : ℕ) → Notes object last old new → (loops : List Loop) → AreUpto last loops → visible new loops ≡ visible old loops
   visible-noted object last f [] h = refl
   visible-noted object last f (l ∷ loops) h = same_cons _ _ (ap (λ items. record l { items = items }) (waiting-noted object last f l.items (h zero))) (visible-noted object last f loops (λ home. h (suc home)))
-
-  pub visible-same : Agree old new → (loops : List Loop) → visible new loops ≡ visible old loops
-  visible-same a [] = refl
-  visible-same a (l ∷ loops) = same_cons _ _ (ap (λ items. record l { items = items }) (waiting-same a l.items)) (visible-same a loops)
 
 module _ (since : ℕ → Option ℕ) where
   -- a change of one ring is seen as a change of what waits in it
@@ -157,10 +149,6 @@ module _ (since : ℕ → Option ℕ) where
   name_at-visible [] home = refl
   name_at-visible (l ∷ loops) zero = refl
   name_at-visible (l ∷ loops) (suc home) = name_at-visible loops home
-
-  pub length-visible : (loops : List Loop) → length (visible since loops) ≡ length loops
-  length-visible [] = refl
-  length-visible (l ∷ loops) = ap suc (length-visible loops)
 
 -- ---- the numbers of all items, waiting or not, and of the marks
 
@@ -222,9 +210,6 @@ upto-with_loop name (l ∷ loops) last h zero = h zero
 upto-with_loop name (l ∷ loops) last h (suc k) = upto-with_loop name loops last (λ j. h (suc j)) k
 
 module _ (old new : ℕ → Option ℕ) where
-  pub marked-same : (last : ℕ) → Agree old new → MarkedUpto last old → MarkedUpto last new
-  marked-same last a m q n is = m q n (sym (a q) ∙ is)
-
   pub marked-forgotten : (object last : ℕ) → Forgets object old new → MarkedUpto last old → MarkedUpto last new
   marked-forgotten object last f m q n is = by_test (eqb object q) (sym (f q) ∙ is)
     where
