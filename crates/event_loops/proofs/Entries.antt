@@ -1,5 +1,5 @@
 -- A write of one ring changes the loop at its place.
-use Rattle.std.proofs.Common.{◌≡◌, ℕ, zero, suc, ◌+◌, ◌≤◌, List, [], ◌∷◌, ◌++◌, length, map, None, Some, refl, arith, ap, sym, ◌∙◌, slice_get, Result, Ok, Err, OnErr}
+use Rattle.std.proofs.Common.{◌≡◌, ℕ, zero, suc, List, [], ◌∷◌, ◌++◌, None, Some, refl, arith, ap, sym, ◌∙◌, slice_get, Result, Ok, Err, OnErr}
 use Rattle.std.specs.declared.collections.VecDeque.{VecDeque}
 use Rattle.std.specs.Map.{values_of}
 use Rattle.std.proofs.lemmas.Option.{same_Some}
@@ -50,40 +50,9 @@ module _ {A : Type 0} where
   change-nowhere f (e ∷ es) zero at = grind arith
   change-nowhere f (e ∷ es) (suc home) at = ap (λ loops. loop_of e ∷ loops) (change-nowhere f es home at)
 
-  pub length-loops_of : (es : List (List ℕ × VecDeque Posted A)) → length (loops_of es) ≡ length es
-  length-loops_of [] = refl
-  length-loops_of (e ∷ es) = ap suc (length-loops_of es)
-
   pub loops_of-append : (es fs : List (List ℕ × VecDeque Posted A)) → loops_of (es ++ fs) ≡ loops_of es ++ loops_of fs
   loops_of-append [] fs = refl
   loops_of-append (e ∷ es) fs = ap (λ loops. loop_of e ∷ loops) (loops_of-append es fs)
-
--- ---- one place after another
-
--- the first so many loops changed
-abbrev pub changed_to : ℕ → (Loop → Loop) → List Loop → List Loop
-changed_to n f [] = []
-changed_to zero f (l ∷ loops) = l ∷ loops
-changed_to (suc n) f (l ∷ loops) = f l ∷ changed_to n f loops
-
-pub change-changed : (n : ℕ) (f : Loop → Loop) (loops : List Loop) → change n f (changed_to n f loops) ≡ changed_to (suc n) f loops
-change-changed zero f [] = refl
-change-changed (suc n) f [] = refl
-change-changed zero f (l ∷ []) = refl
-change-changed zero f (l ∷ (m ∷ loops)) = refl
-change-changed (suc n) f (l ∷ loops) = ap (λ rest. f l ∷ rest) (change-changed n f loops)
-
-pub change-changed_to : (n : ℕ) (f : Loop → Loop) (loops : List Loop) → change n f (changed_to n f loops) ≡ changed_to (n + 1) f loops
-change-changed_to n f loops = let e : n + 1 ≡ suc n = omega arith in rw e (change-changed n f loops)
-
-pub changed_to-none : (f : Loop → Loop) (loops : List Loop) → changed_to 0 f loops ≡ loops
-changed_to-none f [] = refl
-changed_to-none f (l ∷ loops) = refl
-
-pub changed_to-all : (n : ℕ) (f : Loop → Loop) (loops : List Loop) → length loops ≤ n → changed_to n f loops ≡ map f loops
-changed_to-all n f [] h = refl
-changed_to-all zero f (l ∷ loops) h = absurd (omega (arith, h))
-changed_to-all (suc n) f (l ∷ loops) h = ap (λ rest. f l ∷ rest) (changed_to-all n f loops (omega (arith, h)))
 
 -- what holds at any rate holds after an error
 pub OnErr-always : {T E P : Type 0} (r : Result T E) → P → OnErr r P

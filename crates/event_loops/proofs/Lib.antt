@@ -2,3 +2,4 @@ pub mod Places
 pub mod Entries
 pub mod Names
 pub mod Numbers
+pub mod Waiting

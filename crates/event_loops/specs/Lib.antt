@@ -1,4 +1,6 @@
 pub mod Queues
 pub mod FaultNumbers
 pub mod Rings
+pub mod Marks
 pub mod Numbers
+pub mod Kept

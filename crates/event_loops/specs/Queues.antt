@@ -47,9 +47,13 @@ change home f [] = []
 change zero f (l ∷ loops) = f l ∷ loops
 change (suc home) f (l ∷ loops) = l ∷ change home f loops
 
+-- the object that an item is for
+abbrev pub receiver_of : Item → ℕ
+receiver_of (Call object method arguments) = object
+receiver_of (Deletion object) = object
+
 abbrev pub is_for : ℕ → Item → Bool
-is_for receiver (Call object method arguments) = eqb object receiver
-is_for receiver (Deletion object) = eqb object receiver
+is_for receiver item = eqb (receiver_of item) receiver
 
 -- posted before the item of this number
 abbrev pub is_before : ℕ → Posted → Bool
@@ -79,10 +83,14 @@ without_first_before number l = with_items (without_first (is_before number)) l
 abbrev pub without_object : ℕ → Loop → Loop
 without_object object l = with_items (none_for object) l
 
+-- the next item, after so many were posted
+abbrev pub next_item : ℕ → Item → Posted
+next_item posted item = record { number = posted + 1; item = item }
+
 -- an item more, with the next number, in the loop at a place
 abbrev pub posted_to : ℕ → Item → Queues → Queues
 posted_to home item s = record {
-  loops = change home (with_item (record { number = s.posted + 1; item = item })) s.loops;
+  loops = change home (with_item (next_item s.posted item)) s.loops;
   posted = s.posted + 1;
 }
 

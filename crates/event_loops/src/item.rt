@@ -1,5 +1,5 @@
 ghost use Rattle.std.specs.Prelude.{◌≡◌};
-ghost use Rattle.event_loops.specs.Queues.{is_for};
+ghost use Rattle.event_loops.specs.Queues.{receiver_of};
 
 use signatures::{Arguments, ObjectId};
 
@@ -19,13 +19,13 @@ pub enum Item {
 }
 
 impl Item {
-    /// Whether it is for this object.
-    pub fn is_for(&self, receiver: ObjectId) -> bool
-        ensures { result ≡ is_for receiver self.now }
+    /// The object that it is for.
+    pub fn object(&self) -> ObjectId
+        ensures { result ≡ receiver_of self.now }
     {
         match self {
-            Item::Call { object, .. } => *object == receiver,
-            Item::Deletion { object } => *object == receiver,
+            Item::Call { object, .. } => *object,
+            Item::Deletion { object } => *object,
         }
     }
 }

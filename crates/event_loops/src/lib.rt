@@ -4,7 +4,9 @@
 mod fault;
 mod item;
 mod loops;
+mod marks;
 mod queue;
+mod rings;
 
 pub use fault::{AddFault, PostFault};
 pub use item::{Item, Posted};

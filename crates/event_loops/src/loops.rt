@@ -1,15 +1,15 @@
-ghost use Rattle.std.specs.Prelude.{◌≡◌, ◌↔◌, ◌+◌, ◌-◌, ◌^◌, ◌<◌, ◌≤◌, Err, Some, [], ◌∷◌, ◌++◌, length, IfOk, IfSome, OnOk, OnErr, MatchOption, map};
+ghost use Rattle.std.specs.Prelude.{◌≡◌, ◌↔◌, ◌+◌, ◌-◌, ◌^◌, ◌<◌, ◌≤◌, Err, length, IfOk, IfSome, OnOk, OnErr, MatchOption};
 ghost use Rattle.std.specs.List.{find};
 ghost use Rattle.std.specs.Option.{option_copied};
-ghost use Rattle.event_loops.specs.Queues.{start, name_at, items_at, HasName, IsNamed, IsTaken, change, is_before, with_item, without_first_before, without_object, posted_to, taken_before, dropped, with_loop};
+ghost use Rattle.event_loops.specs.Queues.{start, name_at, items_at, HasName, IsNamed, IsTaken, is_before, posted_to, taken_before, dropped, with_loop};
 ghost use Rattle.event_loops.specs.Numbers.{AreDistinct, AreGiven, AreInOrder};
-ghost use Rattle.event_loops.specs.Rings.{shown};
 ghost use Rattle.event_loops.specs.declared.fault.AddFault.TheVariants.{Exists};
 ghost use Rattle.event_loops.specs.declared.fault.PostFault.TheVariants.{NoLoop};
 
 use crate::fault::{AddFault, PostFault};
 use crate::item::{Item, Posted};
-use crate::queue::{peek_before, push, remove_object, take_before};
+use crate::marks::Marks;
+use crate::rings::{forget, peek_at, post_at, take_at};
 use indexmap::IndexMap;
 use signatures::{LoopId, Name, ObjectId};
 use std::alloc::{AllocError, Global};
@@ -18,10 +18,14 @@ use std::marker::Model;
 
 /// The event loops in the order in which they were added, each with the items that wait in it, and how many items were
 /// ever posted. A loop is found by its name in time that doesn't grow with their number.
+///
+/// What an object's removal leaves out of the loops stays in their rings until it comes to the front: so a removal costs no
+/// search among the items that wait.
 #[derive(Drop)]
 pub struct Loops {
     alloc: Global,
     queues: IndexMap<Name, VecDeque<Posted>>,
+    marks: Marks,
     posted: u64,
 }
 
@@ -30,12 +34,11 @@ impl Model for Loops {
 
     ghost Value = { Queues };
 
-    ghost use Rattle.event_loops.specs.Rings.{shown};
-    ghost use Rattle.event_loops.specs.Numbers.{IsNumbered};
+    ghost use Rattle.event_loops.specs.Kept.{seen, Kept};
 
-    ghost view = { λ l. record { loops = shown l.queues; posted = l.posted } };
+    ghost view = { λ l. record { loops = seen l.queues l.marks; posted = l.posted } };
 
-    ghost invariant = { λ l. IsNumbered (record { loops = shown l.queues; posted = l.posted }) };
+    ghost invariant = { λ l. Kept l.queues l.marks l.posted };
 }
 
 impl Loops {
@@ -49,6 +52,7 @@ impl Loops {
         Ok(Loops {
             alloc,
             queues,
+            marks: Marks::new(alloc),
             posted: 0,
         })
     }
@@ -131,11 +135,7 @@ impl Loops {
         ensures no_loop { (result ≡ Err NoLoop) ↔ (length self.old.loops ≤ home) }
         ensures err { OnErr result (self.new ≡ self.old) }
     {
-        let posted = Posted {
-            number: self.posted + 1,
-            item,
-        };
-        push_at(&mut self.queues, home.number(), posted)?;
+        post_at(&mut self.queues, &mut self.marks, home, item, self.posted)?;
         self.posted += 1;
         Ok(())
     }
@@ -144,10 +144,7 @@ impl Loops {
     pub fn first_before(&self, home: LoopId, number: u64) -> Option<&Posted>
         ensures { option_copied result ≡ find (is_before number) (items_at self.now.loops home) }
     {
-        let Some((_, items)) = self.queues.get_index(home.number()) else {
-            return None;
-        };
-        peek_before(items, number)
+        peek_at(&self.queues, &self.marks, home.number(), number)
     }
 
     /// Removes the first item of a loop that was posted before the one of this number, and gives it.
@@ -155,68 +152,13 @@ impl Loops {
         ensures taken { result ≡ find (is_before number) (items_at self.old.loops home) }
         ensures rest { self.new ≡ taken_before home number self.old }
     {
-        take_at(&mut self.queues, home.number(), number)
+        take_at(&mut self.queues, &self.marks, home.number(), number)
     }
 
     /// Removes the items for an object from all loops.
     pub fn drop_object(&mut self, object: ObjectId)
         ensures { self.new ≡ dropped object self.old }
     {
-        drop_in_each(&mut self.queues, object);
-    }
-}
-
-/// One more item at the end of the loop at a place.
-fn push_at(
-    queues: &mut IndexMap<Name, VecDeque<Posted>>,
-    home: usize,
-    posted: Posted,
-) -> Result<(), PostFault>
-    ensures pushed { OnOk result
-        (shown queues.new ≡ change home (with_item posted) (shown queues.old)) }
-    ensures no_loop { (result ≡ Err NoLoop) ↔ (length queues.old.entries ≤ home) }
-    ensures err { OnErr result (shown queues.new ≡ shown queues.old) }
-{
-    match queues.get_index_mut(home) {
-        None => Err(PostFault::NoLoop),
-        Some(items) => {
-            push(items, posted)?;
-            Ok(())
-        }
-    }
-}
-
-/// Takes an item from the loop at a place, if there is such a loop.
-fn take_at(
-    queues: &mut IndexMap<Name, VecDeque<Posted>>,
-    home: usize,
-    number: u64,
-) -> Option<Posted>
-    ensures taken { result ≡ find (is_before number) (items_at (shown queues.old) home) }
-    ensures rest { shown queues.new ≡ change home (without_first_before number) (shown queues.old) }
-{
-    match queues.get_index_mut(home) {
-        None => None,
-        Some(items) => take_before(items, number),
-    }
-}
-
-/// Removes the items for an object from each loop.
-fn drop_in_each(queues: &mut IndexMap<Name, VecDeque<Posted>>, object: ObjectId)
-    ensures { shown queues.new ≡ map (without_object object) (shown queues.old) }
-{
-    for home in 0..queues.len() {
-        drop_at(queues, home, object);
-    }
-}
-
-/// Removes the items for an object from the loop at a place.
-fn drop_at(queues: &mut IndexMap<Name, VecDeque<Posted>>, home: usize, object: ObjectId)
-    ensures loops { shown queues.new ≡ change home (without_object object) (shown queues.old) }
-    ensures len { length queues.new.entries ≡ length queues.old.entries }
-{
-    match queues.get_index_mut(home) {
-        None => {}
-        Some(items) => remove_object(items, object),
+        forget(&mut self.queues, &mut self.marks, object);
     }
 }

@@ -1,13 +1,14 @@
-//! The items of one loop, in a ring.
+//! The items of one loop, in a ring. Some of them may be stale.
 
 ghost use Rattle.std.specs.Prelude.{◌≡◌, [], ◌∷◌, ◌++◌, OnOk, OnErr};
 ghost use Rattle.std.specs.List.{find};
 ghost use Rattle.std.specs.Option.{option_copied};
-ghost use Rattle.event_loops.specs.Queues.{is_before, without_first, none_for};
+ghost use Rattle.event_loops.specs.Queues.{without_first};
 ghost use Rattle.event_loops.specs.Rings.{place_of};
+ghost use Rattle.event_loops.specs.Marks.{since_of, is_due, taken_due, trimmed};
 
 use crate::item::Posted;
-use signatures::ObjectId;
+use crate::marks::Marks;
 use std::alloc::AllocError;
 use std::collections::VecDeque;
 
@@ -20,44 +21,71 @@ pub fn push(items: &mut VecDeque<Posted>, posted: Posted) -> Result<(), AllocErr
     Ok(())
 }
 
-/// The first item that was posted before the one of this number.
+/// The first item that waits and was posted before the one of this number.
 #[tactic(auto, using(crate::proofs::Places::by_place))]
-pub fn peek_before(items: &VecDeque<Posted>, number: u64) -> Option<&Posted>
-    ensures { option_copied result ≡ find (is_before number) items.now.items }
+pub fn peek_before<'a>(
+    items: &'a VecDeque<Posted>,
+    marks: &Marks,
+    number: u64,
+) -> Option<&'a Posted>
+    ensures { option_copied result ≡ find (is_due (since_of marks.now) number) items.now.items }
 {
-    match first_before(items, number) {
+    match first_before(items, marks, number) {
         None => None,
         Some(place) => items.get(place),
     }
 }
 
-/// Removes the first item that was posted before the one of this number, and gives it.
-#[tactic(auto, using(crate::proofs::Places::by_place))]
-pub fn take_before(items: &mut VecDeque<Posted>, number: u64) -> Option<Posted>
-    ensures taken { result ≡ find (is_before number) items.old.items }
-    ensures rest { items.new.items ≡ without_first (is_before number) items.old.items }
+/// Removes the first item that waits and was posted before the one of this number, and gives it.
+pub fn take_before(items: &mut VecDeque<Posted>, marks: &Marks, number: u64) -> Option<Posted>
+    ensures taken { result ≡ find (is_due (since_of marks.now) number) items.old.items }
+    ensures rest { items.new.items ≡ taken_due (since_of marks.now) number items.old.items }
 {
-    match first_before(items, number) {
+    let taken = remove_before(items, marks, number);
+    trim(items, marks);
+    taken
+}
+
+#[tactic(auto, using(crate::proofs::Places::by_place))]
+fn remove_before(items: &mut VecDeque<Posted>, marks: &Marks, number: u64) -> Option<Posted>
+    ensures taken { result ≡ find (is_due (since_of marks.now) number) items.old.items }
+    ensures rest { items.new.items
+        ≡ without_first (is_due (since_of marks.now) number) items.old.items }
+{
+    match first_before(items, marks, number) {
         None => None,
         Some(place) => items.remove(place),
     }
 }
 
-/// The place of the first item that was posted before the one of this number. Where one is there, it mostly is the first.
-fn first_before(items: &VecDeque<Posted>, number: u64) -> Option<usize>
-    ensures { result ≡ place_of (is_before number) items.now.items }
+/// The place of the first item that waits and was posted before the one of this number. Where one is there, it mostly is
+/// the first.
+fn first_before(items: &VecDeque<Posted>, marks: &Marks, number: u64) -> Option<usize>
+    ensures { result ≡ place_of (is_due (since_of marks.now) number) items.now.items }
 {
     for place in 0..items.len() {
-        if items[place].number < number {
+        if is_due(&items[place], marks, number) {
             return Some(place);
         }
     }
     None
 }
 
-/// Removes the items for an object.
-pub fn remove_object(items: &mut VecDeque<Posted>, object: ObjectId)
-    ensures { items.new.items ≡ none_for object items.old.items }
+/// Whether an item waits and was posted before the one of this number.
+fn is_due(posted: &Posted, marks: &Marks, number: u64) -> bool
+    ensures { result ≡ is_due (since_of marks.now) number posted.now }
 {
-    items.retain(|posted| !posted.item.is_for(object));
+    posted.number < number && marks.waits(posted)
+}
+
+/// Removes the items in front of the first that waits.
+pub fn trim(items: &mut VecDeque<Posted>, marks: &Marks)
+    ensures { items.new.items ≡ trimmed (since_of marks.now) items.old.items }
+{
+    'trim: while let Some(first) = items.front() {
+        if marks.waits(first) {
+            return;
+        }
+        items.pop_front();
+    }
 }

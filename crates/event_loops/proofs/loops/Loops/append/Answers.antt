@@ -1,28 +1,47 @@
-use Rattle.std.proofs.Common.{sym, ◌∙◌, ap, subst, List}
+use Rattle.std.proofs.Common.{◌≡◌, ◌∷◌, [], ◌++◌, sym, ◌∙◌, ap, subst, List}
 use Rattle.event_loops.specs.Queues.{Queues, Loop, IsTaken, with_loop}
 use Rattle.event_loops.specs.Rings.{shown, loops_of}
+use Rattle.event_loops.specs.Marks.{since_of, visible, AreUpto}
+use Rattle.event_loops.specs.Kept.{seen}
 use Rattle.event_loops.specs.Numbers.{IsNumbered}
 use Rattle.event_loops.proofs.Names.{shown-insert}
 use Rattle.event_loops.proofs.Numbers.{IsNumbered-with_loop}
+use Rattle.event_loops.proofs.Waiting.{name_at-visible, visible-with_loop, upto-with_loop}
 use Rattle.event_loops.proofs.loops.Loops.append.Goals as goal
 
 pub invariant_of-self-2 : goal.invariant_of-self-2
 invariant_of-self-2 c =
+    let since = since_of c.self.inside.marks in
+    let rings : List Loop = shown c.self.inside.queues in
     let IsFree : Queues → Type 0 = λ s. ¬ IsTaken s.loops c.args.name.now in
     let free = subst IsFree (sym c.self.view_is) c.requires in
+    let free_ring : ¬ IsTaken rings c.args.name.now = λ taken. free (taken.0, name_at-visible since rings taken.0 ∙ taken.1) in
+    let added : shown c.insert.new.self ≡ rings ++ record { name = c.args.name.now; items = [] } ∷ [] =
+    ap loops_of c.in_ok-insert.ensures.entries
+    ∙ shown-insert c.self.inside.queues c.args.name.now c.in_ok-name.name c.new.result c.in_ok-name.ensures c.new.ensures.items free_ring in
     let Numbered : List Loop → Type 0 = λ loops. IsNumbered (record { loops = loops; posted = c.self.inside.posted }) in
-    let before : Queues = record { loops = shown c.self.inside.queues; posted = c.self.inside.posted } in
-    subst Numbered
-    (sym (ap loops_of c.in_ok-insert.ensures.entries
-    ∙ shown-insert c.self.inside.queues c.args.name.now c.in_ok-name.name c.new.result c.in_ok-name.ensures c.new.ensures.items free))
-    (IsNumbered-with_loop c.args.name.now before c.self.invariant)
+    let Upto : List Loop → Type 0 = AreUpto c.self.inside.posted in
+    let before : Queues = record { loops = seen c.self.inside.queues c.self.inside.marks; posted = c.self.inside.posted } in
+    record {
+      numbered = subst Numbered (sym (ap (visible since) added ∙ visible-with_loop since c.args.name.now rings))
+          (IsNumbered-with_loop c.args.name.now before c.self.invariant.numbered);
+      within = record {
+        upto = subst Upto (sym added) (upto-with_loop c.args.name.now rings c.self.inside.posted c.self.invariant.within.upto);
+        marked = c.self.invariant.within.marked;
+      };
+    }
 
 pub returns-clause-added : goal.returns-clause-added
 returns-clause-added c =
+    let since = since_of c.self.inside.marks in
+    let rings : List Loop = shown c.self.inside.queues in
     let IsFree : Queues → Type 0 = λ s. ¬ IsTaken s.loops c.args.name.now in
     let free = subst IsFree (sym c.self.view_is) c.requires in
+    let free_ring : ¬ IsTaken rings c.args.name.now = λ taken. free (taken.0, name_at-visible since rings taken.0 ∙ taken.1) in
     let with : List Loop → Queues = λ loops. record { loops = loops; posted = c.self.inside.posted } in
     ap with
+    (ap (visible since)
     (ap loops_of c.in_ok-insert.ensures.entries
-    ∙ shown-insert c.self.inside.queues c.args.name.now c.in_ok-name.name c.new.result c.in_ok-name.ensures c.new.ensures.items free)
+    ∙ shown-insert c.self.inside.queues c.args.name.now c.in_ok-name.name c.new.result c.in_ok-name.ensures c.new.ensures.items free_ring)
+    ∙ visible-with_loop since c.args.name.now rings)
     ∙ ap (with_loop c.args.name.now) c.self.view_is

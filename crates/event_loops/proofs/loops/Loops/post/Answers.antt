@@ -1,6 +1,6 @@
 use Rattle.std.proofs.Common.{◌+◌, ◌-◌, ◌<◌, ◌^◌, sym, subst, List}
 use Rattle.event_loops.specs.Queues.{Queues, Loop}
-use Rattle.event_loops.specs.Rings.{shown}
+use Rattle.event_loops.specs.Kept.{seen}
 use Rattle.event_loops.specs.Numbers.{IsNumbered}
 use Rattle.event_loops.proofs.Numbers.{IsNumbered-posted}
 use Rattle.event_loops.proofs.loops.Loops.post.Goals as goal
@@ -10,5 +10,8 @@ invariant_of-self-2 c =
     let HasRoom : Queues → Type 0 = λ s. s.posted < 2 ^ 63 - 1 in
     let room = subst HasRoom (sym c.self.view_is) c.requires in
     let Numbered : List Loop → Type 0 = λ loops. IsNumbered (record { loops = loops; posted = c.self.inside.posted + 1 }) in
-    let before : Queues = record { loops = shown c.self.inside.queues; posted = c.self.inside.posted } in
-    subst Numbered (sym c.in_ok-push_at.ensures.pushed) (IsNumbered-posted c.number.result c.args.item before room c.self.invariant)
+    let before : Queues = record { loops = seen c.self.inside.queues c.self.inside.marks; posted = c.self.inside.posted } in
+    record {
+      numbered = subst Numbered (sym c.in_ok-post_at.ensures.pushed) (IsNumbered-posted c.args.home c.args.item before room c.self.invariant.numbered);
+      within = c.in_ok-post_at.ensures.within;
+    }

@@ -1,0 +1,74 @@
+//! For which objects items wait, so that they all go at once.
+
+ghost use Rattle.std.specs.Prelude.{◌≡◌, [], OnOk, OnErr};
+ghost use Rattle.event_loops.specs.Marks.{since_of, waits, Agree, Notes, Forgets};
+
+use crate::item::Posted;
+use indexmap::IndexMap;
+use signatures::{LoopId, ObjectId};
+use std::alloc::{AllocError, Global};
+
+/// Since when items wait for an object.
+#[derive(Clone, Copy)]
+pub struct Mark {
+    /// How many items had been posted before the first that may wait.
+    pub since: u64,
+    /// The loop to which the last one was posted.
+    pub home: usize,
+}
+
+/// The marks of the objects for which items may wait. An item for an object that has no mark, or that was posted before
+/// the mark was made, is stale: it is still in a ring, but waits no more.
+#[derive(Drop)]
+pub struct Marks {
+    pub by_object: IndexMap<usize, Mark>,
+}
+
+impl Marks {
+    pub fn new(alloc: Global) -> Marks
+        ensures { result.by_object.entries ≡ [] }
+    {
+        Marks {
+            by_object: IndexMap::new(alloc),
+        }
+    }
+
+    /// Whether an item waits.
+    pub fn waits(&self, posted: &Posted) -> bool
+        ensures { result ≡ waits (since_of self.now) posted.now }
+    {
+        match self.by_object.get(&posted.item.object().number()) {
+            None => false,
+            Some(mark) => mark.since < posted.number,
+        }
+    }
+
+    /// Marks an object for which the next item will be posted to this loop, where so many were posted. Without memory
+    /// nothing changes.
+    pub fn note(&mut self, object: ObjectId, home: LoopId, posted: u64) -> Result<(), AllocError>
+        ensures ok { OnOk result
+            (Notes object posted (since_of self.old) (since_of self.new)) }
+        ensures err { OnErr result (Agree (since_of self.old) (since_of self.new)) }
+    {
+        if let Some(mark) = self.by_object.get_mut(&object.number()) {
+            mark.home = home.number();
+            return Ok(());
+        }
+        let mark = Mark {
+            since: posted,
+            home: home.number(),
+        };
+        self.by_object.insert(object.number(), mark)?;
+        Ok(())
+    }
+
+    /// Takes an object's mark off, so that no item waits for it, and gives the loop to which the last one was posted.
+    pub fn forget(&mut self, object: ObjectId) -> Option<usize>
+        ensures { Forgets object (since_of self.old) (since_of self.new) }
+    {
+        match self.by_object.swap_remove(&object.number()) {
+            Some(mark) => Some(mark.home),
+            None => None,
+        }
+    }
+}
