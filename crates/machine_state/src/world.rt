@@ -1,9 +1,10 @@
 //! All of the machine's state but the stack.
 
 ghost use Rattle.std.specs.Prelude.{◌≡◌, ◌<◌, ◌≤◌, ◌^◌, length, IfOk, IfSome, IsTrue, MatchOption};
+ghost use Rattle.std.specs.List.{find};
 ghost use Rattle.std.specs.Option.{option_copied};
 ghost use Rattle.object_tree.specs.Objects.{IsFree, IsNamed, life_of};
-ghost use Rattle.machine_state.specs.Connections.{next_used, silences, is_silent};
+ghost use Rattle.machine_state.specs.Connections.{next_used, can_be_used, silences, is_silent};
 ghost use Rattle.machine_state.specs.Worlds.{untouched, Ticks, IsLeft, Becomes, noted, using, set_in};
 
 use crate::entry::{Entry, Trace};
@@ -61,8 +62,8 @@ impl World {
     }
 
     /// The connection that an emission uses next: the first of this sender and signal that was made later than the one
-    /// of the number `used`, and not later than that of `last`; none where the sender is blocked, unless the signal is
-    /// `destroyed`.
+    /// of the number `used`, and not later than that of `last`, and whose receiver lives; none where the sender is blocked
+    /// or dead, unless the signal is `destroyed`.
     pub fn next_used(
         &self,
         sender: ObjectId,
@@ -77,11 +78,32 @@ impl World {
         if self.is_silent(sender, signal) {
             None
         } else {
-            self.connected.next_due(sender, signal, used, last)
+            self.first_to_living(sender, signal, used, last)
         }
     }
 
-    /// Whether an emission of this signal calls nothing, since the sender is blocked.
+    /// The first connection that is due and whose receiver lives.
+    fn first_to_living(
+        &self,
+        sender: ObjectId,
+        signal: usize,
+        used: u64,
+        last: u64,
+    ) -> Option<Connection>
+        ensures { let can_be_used = can_be_used self.now.objects sender signal used last in
+            result ≡ find can_be_used self.now.connected.connections }
+    {
+        let mut passed = used;
+        while let Some(connection) = self.connected.next_due(sender, signal, passed, last) {
+            if self.objects.life(connection.receiver).is_some() {
+                return Some(connection);
+            }
+            passed = connection.number;
+        }
+        None
+    }
+
+    /// Whether an emission of this signal calls nothing, since the sender is blocked or dead.
     fn is_silent(&self, sender: ObjectId, signal: usize) -> bool
         ensures { result ≡ silences (life_of self.now.objects sender) signal }
     {
@@ -159,19 +181,19 @@ impl World {
     }
 }
 
-/// Whether an emission of this signal calls nothing, since its object is blocked; `destroyed` always calls.
+/// Whether an emission of this signal calls nothing, since its object is blocked or dead; `destroyed` always calls.
 pub fn is_silent(object: &Object, signal: usize) -> bool
     ensures { result ≡ is_silent object.now signal }
 {
     silences(object.life.as_ref(), signal)
 }
 
-/// Whether an object that lives this life is blocked, and the signal isn't `destroyed`.
+/// Whether an object that lives this life is blocked, or lives no more, and the signal isn't `destroyed`.
 fn silences(life: Option<&Life>, signal: usize) -> bool
     ensures { result ≡ silences (option_copied life.entry) signal }
 {
     match life {
         Some(life) => life.blocked && signal != DESTROYED,
-        None => false,
+        None => signal != DESTROYED,
     }
 }
