@@ -93,6 +93,7 @@ impl World {
         ensures { let can_be_used = can_be_used self.now.objects sender signal used last in
             result ≡ find can_be_used self.now.connected.connections }
     {
+        self.connected.numbers_rise();
         let mut passed = used;
         while let Some(connection) = self.connected.next_due(sender, signal, passed, last) {
             if self.objects.life(connection.receiver).is_some() {
