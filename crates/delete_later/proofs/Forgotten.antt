@@ -7,14 +7,11 @@ use Rattle.delete_later.specs.Laws.{waits_for, EndedIsForgotten}
 
 none_left : {X : Type 0} (test : X → Bool) (xs : List X) → list_any test (filter (λ x. not (test x)) xs) ≡ false
 none_left test [] = refl
-none_left {X} test (x ∷ xs) = by_test (test x) refl
+none_left {X} test (x ∷ xs) = by_test (test x) refl (none_left test xs)
   where
-    rest : list_any test (filter (λ y. not (test y)) xs) ≡ false
-    rest = none_left test xs
-
-    by_test : (b : Bool) → test x ≡ b → list_any test (if not b then x ∷ filter (λ y. not (test y)) xs else filter (λ y. not (test y)) xs) ≡ false
-    by_test true told = rest
-    by_test false told = rw told rest
+    by_test : (b : Bool) → test x ≡ b → list_any test (filter (λ y. not (test y)) xs) ≡ false → list_any test (if not b then x ∷ filter (λ y. not (test y)) xs else filter (λ y. not (test y)) xs) ≡ false
+    by_test true told rest = rest
+    by_test false told rest = rw told rest
 
 none_waits : (object home : ℕ) (loops : List Loop) → list_any (waits_for object) (items_at (map (without_object object) loops) home) ≡ false
 none_waits object home [] = refl

@@ -4,10 +4,10 @@ use Rattle.machine_state.specs.Connections.{can_be_used}
 use Rattle.machine_state.proofs.world.World.first_to_living.Given as goal
 
 -- the connections that were passed over can't be used
-abbrev pub invariant-loop-passed : goal.invariant-loop-passed
-invariant-loop-passed l =
+abbrev pub invariant-loop-connection : goal.invariant-loop-connection
+invariant-loop-connection l =
     find (can_be_used l.self.store.tree l.sender l.signal l.passed l.last) l.self.store.connections.connections
     ≡ find (can_be_used l.self.store.tree l.sender l.signal l.used l.last) l.self.store.connections.connections
 
-abbrev pub decreases-loop-passed : goal.decreases-loop-passed
-decreases-loop-passed l = l.last - l.passed
+abbrev pub decreases-loop-connection : goal.decreases-loop-connection
+decreases-loop-connection l = l.last - l.passed
