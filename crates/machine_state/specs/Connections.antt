@@ -1,5 +1,5 @@
 -- The connections that are made and removed, and those that an emission uses (docs/machine.md, "Rules").
-use Rattle.std.specs.Prelude.{ℕ, ◌&&◌, not, eqb, if◌then◌else◌, Bool, false, List, Option, None, Some}
+use Rattle.std.specs.Prelude.{ℕ, ◌&&◌, not, eqb, if◌then◌else◌, Bool, List, Option, None, Some, is_some}
 use Rattle.std.specs.List.{find}
 use Rattle.meta_model.specs.declared.qobject.TheConstants.{DESTROYED}
 use Rattle.object_tree.specs.declared.life.Life.{Life}
@@ -29,16 +29,25 @@ joined_by ends how connected = connected_by connected ends.sender ends.signal en
 abbrev pub parted : Endpoints → Connected → Connected
 parted ends connected = removed (joins_these ends) connected
 
--- the emission of an object that lives this life calls nothing: it is blocked, unless the signal is `destroyed`
--- (Qt 6, `QObject::blockSignals`); a dead object isn't blocked
+-- the emission of an object that lives this life calls nothing: it is blocked (Qt 6, `QObject::blockSignals`) or dead,
+-- unless the signal is `destroyed`
 abbrev pub silences : Option Life → ℕ → Bool
-silences None g = false
+silences None g = not (eqb g DESTROYED)
 silences (Some l) g = l.blocked && not (eqb g DESTROYED)
 
 abbrev pub is_silent : Object → ℕ → Bool
 is_silent x g = silences x.life g
 
--- the connection that an emission of object o uses next: the first that is due, unless the object is blocked
+-- the object lives
+abbrev pub is_living : List Object → ℕ → Bool
+is_living objects o = is_some (life_of objects o)
+
+-- a connection that is due, and whose receiver lives (Qt 6, `QObject::~QObject`: a dead receiver isn't called)
+abbrev pub can_be_used : List Object → ℕ → ℕ → ℕ → ℕ → Connection → Bool
+can_be_used objects o g used last c = is_due o g used last c && is_living objects c.receiver
+
+-- the connection that an emission of object o uses next: the first that is due and has a living receiver, unless the
+-- object is silent
 abbrev pub next_used : List Object → List Connection → ℕ → ℕ → ℕ → ℕ → Option Connection
 next_used objects connections o g used last =
-    if silences (life_of objects o) g then None else find (is_due o g used last) connections
+    if silences (life_of objects o) g then None else find (can_be_used objects o g used last) connections

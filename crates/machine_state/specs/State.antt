@@ -13,7 +13,8 @@ pub record Place : Type 0 where
   pub object : ℕ
   pub property : ℕ
 
--- What is going on. Objects are named by their creation number, methods by their number in the object's class.
+-- What is going on. Objects are named by their creation number, methods by their number in the object's class. A deletion
+-- ends an object and then its children, one by one (Qt 6, "Object Trees & Ownership").
 pub data Activation : Type 0 where
   -- a slot's body, with the statements that are left of it
   Body : (object method : ℕ) (arguments : List Value) (left : List Statement) → Activation
@@ -21,6 +22,9 @@ pub data Activation : Type 0 where
   Emit : (object signal : ℕ) (arguments : List Value) (used last : ℕ) → Activation
   -- the notifications that follow a write, with the properties that are still to be notified
   Update : (notify : List Place) → Activation
+  -- a deletion, with the object that is deleted next or whose `destroyed` goes on, if there is one, and the objects that
+  -- are torn down: they are dead, and their children are deleted; the latest first
+  Destroy : (next : Option ℕ) (torn : List ℕ) → Activation
 
 pub record State : Type 0 where
   -- in the order of creation

@@ -23,6 +23,9 @@ pub enum Fault {
     /// The stack of activations would pass the depth.
     #[error("activations nest too deep")]
     TooDeep,
+    /// An object would die while a body of it is active.
+    #[error("an object would die while a body of it is active")]
+    InUse,
     /// The limit of rules is used up, and another rule is due.
     #[error("the limit of rules is used up")]
     Steps,
@@ -42,6 +45,7 @@ impl Fault {
         match self {
             Fault::BadType => 60,
             Fault::TooDeep => 61,
+            Fault::InUse => 63,
             Fault::Steps => 64,
             Fault::Memory => 65,
             Fault::Stopped => 66,

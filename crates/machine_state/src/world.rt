@@ -1,30 +1,27 @@
 //! All of the machine's state but the stack.
 
 ghost use Rattle.std.specs.Prelude.{◌≡◌, ◌<◌, ◌≤◌, ◌^◌, length, IfOk, IfSome, IsTrue, MatchOption};
+ghost use Rattle.std.specs.List.{find};
 ghost use Rattle.std.specs.Option.{option_copied};
 ghost use Rattle.object_tree.specs.Objects.{IsFree, IsNamed, life_of};
-ghost use Rattle.machine_state.specs.Connections.{next_used, silences, is_silent};
+ghost use Rattle.machine_state.specs.Connections.{next_used, can_be_used, silences, is_silent};
 ghost use Rattle.machine_state.specs.Worlds.{untouched, Ticks, IsLeft, Becomes, noted, using, set_in};
 
 use crate::entry::{Entry, Trace};
 use crate::fault::Fault;
 use crate::turn::Turn;
-use connections::{Connection, Connections};
-use event_loops::Loops;
+use connections::Connection;
+use delete_later::Store;
 use meta_model::DESTROYED;
-use object_tree::{Life, Object, Tree};
+use object_tree::{Life, Object};
 use signatures::{Name, ObjectId, Value};
 use std::alloc::{AllocError, Global};
 
 /// All of a machine's state but the stack, and how many rules are left.
 #[derive(Drop)]
 pub struct World {
-    /// The objects, and who is whose parent.
-    pub objects: Tree,
-    /// The connections in the order in which they were made, and how many were ever numbered.
-    pub connected: Connections,
-    /// The event loops with the items that wait in them, and how many items were ever numbered.
-    pub queues: Loops,
+    /// The objects, the connections between them, and the event loops.
+    pub store: Store,
     /// The turn that goes on, if one does.
     pub turn: Option<Turn>,
     /// What was written down so far.
@@ -40,11 +37,9 @@ impl World {
     pub fn new(alloc: Global, steps: u64) -> Result<World, AllocError>
         ensures { IfOk result (λ world. world ≡ untouched steps) }
     {
-        let queues = Loops::new(alloc)?;
+        let store = Store::new(alloc)?;
         Ok(World {
-            objects: Tree::new(alloc),
-            connected: Connections::new(alloc),
-            queues,
+            store,
             turn: None,
             trace: Trace::new(alloc),
             events: 0,
@@ -54,15 +49,15 @@ impl World {
 
     /// The number of the object that has or had this name.
     pub fn find(&self, name: &Name) -> Option<ObjectId>
-        ensures { MatchOption result (IsFree self.now.objects name.now)
-            (IsNamed self.now.objects name.now) }
+        ensures { MatchOption result (IsFree self.now.store.tree name.now)
+            (IsNamed self.now.store.tree name.now) }
     {
-        self.objects.find(name)
+        self.store.tree.find(name)
     }
 
     /// The connection that an emission uses next: the first of this sender and signal that was made later than the one
-    /// of the number `used`, and not later than that of `last`; none where the sender is blocked, unless the signal is
-    /// `destroyed`.
+    /// of the number `used`, and not later than that of `last`, and whose receiver lives; none where the sender is blocked
+    /// or dead, unless the signal is `destroyed`.
     pub fn next_used(
         &self,
         sender: ObjectId,
@@ -70,22 +65,45 @@ impl World {
         used: u64,
         last: u64,
     ) -> Option<Connection>
-        ensures value { let connections = self.now.connected.connections in
-            result ≡ next_used self.now.objects connections sender signal used last }
+        ensures value { let connections = self.now.store.connections.connections in
+            result ≡ next_used self.now.store.tree connections sender signal used last }
         ensures within { IfSome result (λ c. (used < c.number) × (c.number ≤ last)) }
     {
         if self.is_silent(sender, signal) {
             None
         } else {
-            self.connected.next_due(sender, signal, used, last)
+            self.first_to_living(sender, signal, used, last)
         }
     }
 
-    /// Whether an emission of this signal calls nothing, since the sender is blocked.
-    fn is_silent(&self, sender: ObjectId, signal: usize) -> bool
-        ensures { result ≡ silences (life_of self.now.objects sender) signal }
+    /// The first connection that is due and whose receiver lives.
+    fn first_to_living(
+        &self,
+        sender: ObjectId,
+        signal: usize,
+        used: u64,
+        last: u64,
+    ) -> Option<Connection>
+        ensures { let can_be_used = can_be_used self.now.store.tree sender signal used last in
+            result ≡ find can_be_used self.now.store.connections.connections }
     {
-        silences(self.objects.life(sender), signal)
+        let store = &self.store;
+        store.connections.numbers_rise();
+        let mut passed = used;
+        while let Some(connection) = store.connections.next_due(sender, signal, passed, last) {
+            if store.tree.life(connection.receiver).is_some() {
+                return Some(connection);
+            }
+            passed = connection.number;
+        }
+        None
+    }
+
+    /// Whether an emission of this signal calls nothing, since the sender is blocked or dead.
+    fn is_silent(&self, sender: ObjectId, signal: usize) -> bool
+        ensures { result ≡ silences (life_of self.now.store.tree sender) signal }
+    {
+        silences(self.store.tree.life(sender), signal)
     }
 
     /// A rule that writes nothing down.
@@ -134,7 +152,7 @@ impl World {
     {
         self.note(entries)?;
         if connection.single {
-            self.connected.cut(connection.number);
+            self.store.connections.cut(connection.number);
         }
         Ok(())
     }
@@ -154,24 +172,24 @@ impl World {
             Becomes self.old target self.new result }
     {
         self.note(entries)?;
-        self.objects.set_value(object, property, value);
+        self.store.tree.set_value(object, property, value);
         Ok(())
     }
 }
 
-/// Whether an emission of this signal calls nothing, since its object is blocked; `destroyed` always calls.
+/// Whether an emission of this signal calls nothing, since its object is blocked or dead; `destroyed` always calls.
 pub fn is_silent(object: &Object, signal: usize) -> bool
     ensures { result ≡ is_silent object.now signal }
 {
     silences(object.life.as_ref(), signal)
 }
 
-/// Whether an object that lives this life is blocked, and the signal isn't `destroyed`.
+/// Whether an object that lives this life is blocked, or lives no more, and the signal isn't `destroyed`.
 fn silences(life: Option<&Life>, signal: usize) -> bool
     ensures { result ≡ silences (option_copied life.entry) signal }
 {
     match life {
         Some(life) => life.blocked && signal != DESTROYED,
-        None => false,
+        None => signal != DESTROYED,
     }
 }
