@@ -305,15 +305,15 @@ module _ (program : Program) (o : List Outline) (outlined : HasOutlines program 
   slots_loaded i from (slot ∷ slots) [] bodies typed h = absurd h
   slots_loaded i from (slot ∷ slots) (y ∷ ys) bodies typed h =
       let kinded : AllZip (IsKind p) (kinds_of slot.parameters) y.kinds = subst (λ (g : Sig). AllZip (IsKind p) g.types y.kinds) h.0.signed (typed 0 y refl) in (
-    record {
-      signed = h.0.signed;
-      typed = kinded;
-      body = found_body (body_at loaded.bodies i from);
-      slots = h.0.work;
-      resolved = bodies 0 from slot refl (omega arith) y.kinds (zip_both (IsReadAs o) (IsKind p) (kinds_of slot.parameters) y.kinds h.0.kinds kinded);
-    },
-    slots_loaded i (suc from) slots ys (λ k j s e at. bodies (suc k) j s e (omega (arith, at))) (λ k. typed (suc k)) h.1,
-  )
+        record {
+          signed = h.0.signed;
+          typed = kinded;
+          body = found_body (body_at loaded.bodies i from);
+          slots = h.0.work;
+          resolved = bodies 0 from slot refl (omega arith) y.kinds (zip_both (IsReadAs o) (IsKind p) (kinds_of slot.parameters) y.kinds h.0.kinds kinded);
+        },
+        slots_loaded i (suc from) slots ys (λ k j s e at. bodies (suc k) j s e (omega (arith, at))) (λ k. typed (suc k)) h.1,
+      )
 
   has_notifier : (c : ℕ) (class : MetaObject) (u : OutlineOf c class) (q : ℕ) (d : Property) → slice_get u.outline.properties q ≡ Some d → (s : Option Sig) → d.notify ≡ s → (n : Option ℕ) → IsNotify u.outline s n → HasNotifier class s n
   has_notifier c class u q d at None given n h = h
