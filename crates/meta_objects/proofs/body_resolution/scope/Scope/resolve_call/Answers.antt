@@ -28,7 +28,7 @@ returns-then-is_signal c =
     inr (
       refl,
       no_call (scope c.args.self.now) _ _ _ _ _ c.in_ok-path.ensures _ _ c.in-Some.ensures.value
-          (c.if-is_signal.ensures.0 c.if-is_signal.true),
+          (c.if-is_signal.ensures.0 refl),
     )
 
 pub returns-in_err-values : goal.returns-in_err-values

@@ -1,4 +1,5 @@
 use Rattle.std.proofs.Common.{inr, refl}
+use Rattle.std.proofs.lemmas.Bool.{not-true, not-false}
 use Rattle.signatures.specs.declared.qtype.QType.{QType}
 use Rattle.meta_model.specs.declared.object.MetaPath.{MetaPath}
 use Rattle.meta_model.specs.declared.fault.MetaFault.TheVariants as fault
@@ -16,9 +17,9 @@ returns-in_err-path c =
     (λ (led : Led). IsPath s c.args.path.now led.path led.kind) (λ found. IsReferencePath s c.args.path.now found) _ c.in_err-path.ensures
     (no_reference s _) _ c.from_residual.ensures.0 c.from_residual.ensures.1
 
-pub returns-then-not-pointer : goal.returns-then-not-pointer
-returns-then-not-pointer c =
-    inr (refl, no_pointer (scope c.args.self.now) _ _ _ c.in_ok-path.ensures c.if-not-pointer.true)
+pub returns-then-not-kind : goal.returns-then-not-kind
+returns-then-not-kind c =
+    inr (refl, no_pointer (scope c.args.self.now) _ _ _ c.in_ok-path.ensures (not-true _ c.if-not-kind.true))
 
 pub returns : goal.returns
-returns c = record { kind = _; leads = c.in_ok-path.ensures; pointer = c.if-not-pointer.false }
+returns c = record { kind = _; leads = c.in_ok-path.ensures; pointer = not-false _ c.if-not-kind.false }
