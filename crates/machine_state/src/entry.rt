@@ -68,6 +68,18 @@ pub enum Happening {
         /// With these arguments.
         arguments: Items<Shown>,
     },
+    /// An object dies.
+    Died {
+        /// Which object.
+        object: Name,
+    },
+    /// The deletion of an object is posted to an event loop.
+    Scheduled {
+        /// The loop.
+        event_loop: Name,
+        /// Which object.
+        object: Name,
+    },
     /// A statement does nothing, since a path leads to null.
     OnNull,
     /// A statement makes a connection between the objects of these names, in this way.
