@@ -91,6 +91,7 @@ const CASES: &[(&str, &str)] = &[
         "class A { property int n; slot s() { delete this.n; } }",
         "refused 13\n",
     ),
+    ("class A { slot s(QString t) { later t; } }", "refused 13\n"),
     (
         "class A { signal s(); } wire A s() -> A destroyed() direct;",
         "refused 13\n",
@@ -102,6 +103,14 @@ const CASES: &[(&str, &str)] = &[
     ("owns A A;", "refused 13\n"),
     (
         "class A { property Foo* f; slot s() { set this.f.x = 1; } }",
+        "refused 13\n",
+    ),
+    (
+        "class A { property Foo* f; slot s() { delete this.f.x; } }",
+        "refused 13\n",
+    ),
+    (
+        "class A { property Foo* f; slot s() { call this.f.deleteLater(); } }",
         "refused 13\n",
     ),
     ("class A { property int p notify n(int); }", "refused 14\n"),
@@ -119,6 +128,7 @@ const CASES: &[(&str, &str)] = &[
         "class A { property Foo* p; slot s() { delete this.p; } }",
         "refused 15\n",
     ),
+    ("class A { slot s(Foo* f) { later f; } }", "refused 15\n"),
     ("class A { signal s(int*); }", "refused 15\n"),
     ("class A { slot s(const A & a) { } }", "refused 15\n"),
     (
