@@ -13,7 +13,7 @@ use Rattle.machine_state.specs.declared.entry.Shown.TheVariants as show
 use Rattle.machine_state.specs.declared.entry.Entry.{Entry}
 use Rattle.machine_state.specs.declared.entry.Entry.TheVariants.{Accepted, Refused, At}
 use Rattle.machine_state.specs.declared.entry.Happening.{Happening}
-use Rattle.machine_state.specs.declared.entry.Happening.TheVariants.{Emitted, Called, Written, OnNull, Connected, Disconnected, Refused as RefusedStatement, Posted}
+use Rattle.machine_state.specs.declared.entry.Happening.TheVariants.{Emitted, Called, Written, OnNull, Connected, Disconnected, Refused as RefusedStatement, Posted, Scheduled, Died}
 
 abbrev pub newline : List ℕ
 newline = codes "\n"
@@ -60,9 +60,21 @@ emitted_text object signal arguments blocked = codes "emit " ++ call_text object
 abbrev pub called_text : List ℕ → List ℕ → List Shown → List ℕ
 called_text object slot arguments = codes "call " ++ call_text object slot arguments
 
+-- `post L `, in front of what is posted to the event loop
+abbrev pub post_text : List ℕ → List ℕ
+post_text event_loop = codes "post " ++ event_loop ++ codes " "
+
 -- `post L o.m(args)`
 abbrev pub posted_text : List ℕ → List ℕ → List ℕ → List Shown → List ℕ
-posted_text event_loop object method arguments = codes "post " ++ event_loop ++ codes " " ++ call_text object method arguments
+posted_text event_loop object method arguments = post_text event_loop ++ call_text object method arguments
+
+-- `post L ~o`, where `~o` is the deletion of o
+abbrev pub scheduled_text : List ℕ → List ℕ → List ℕ
+scheduled_text event_loop object = post_text event_loop ++ codes "~" ++ object
+
+-- `dead o`
+abbrev pub died_text : List ℕ → List ℕ
+died_text object = codes "dead " ++ object
 
 -- `set o.p v`
 abbrev pub written_text : List ℕ → List ℕ → Shown → List ℕ
@@ -98,6 +110,8 @@ abbrev pub happening_text : Happening → List ℕ
 happening_text (Emitted object signal arguments blocked) = emitted_text object signal arguments blocked
 happening_text (Called object slot arguments) = called_text object slot arguments
 happening_text (Posted event_loop object method arguments) = posted_text event_loop object method arguments
+happening_text (Scheduled event_loop object) = scheduled_text event_loop object
+happening_text (Died object) = died_text object
 happening_text (Written object property value) = written_text object property value
 happening_text OnNull = codes "null"
 happening_text (Connected ends how) = connected_text ends how

@@ -1,7 +1,7 @@
 //! The text of the output's lines.
 
 ghost use Rattle.std.specs.Prelude.{◌++◌, codes, decimal, OnOk};
-ghost use Rattle.trace_tool.specs.Lines.{newline, value_text, arguments_text, member_text, call_text, blocked_text, emitted_text, called_text, written_text, happening_text, depth_line, refused_event_line, entry_line, trace_text, posted_text};
+ghost use Rattle.trace_tool.specs.Lines.{newline, value_text, arguments_text, member_text, call_text, blocked_text, emitted_text, called_text, written_text, happening_text, depth_line, refused_event_line, entry_line, trace_text, post_text, posted_text, scheduled_text, died_text};
 ghost use Rattle.trace_tool.specs.Refusals.{refusal_line};
 ghost use Rattle.trace_tool.specs.Sent.{Adds};
 
@@ -158,10 +158,45 @@ impl Output {
         ensures { OnOk result (Adds (W.contents w.old) self.old (W.contents w.new) self.new
             (posted_text event_loop.now object.now method.now arguments.now)) }
     {
+        self.post(w, event_loop)?;
+        self.call(w, object, method, arguments)?;
+        Ok(())
+    }
+
+    /// Adds the deletion of an object that is posted to an event loop.
+    fn scheduled<W: Write>(
+        &mut self,
+        w: &mut W,
+        event_loop: &Name,
+        object: &Name,
+    ) -> Result<(), WriteFault>
+        ensures { OnOk result (Adds (W.contents w.old) self.old (W.contents w.new) self.new
+            (scheduled_text event_loop.now object.now)) }
+    {
+        self.post(w, event_loop)?;
+        self.put(w, b"~")?;
+        self.put(w, object.bytes())?;
+        Ok(())
+    }
+
+    /// Adds to which event loop something is posted.
+    fn post<W: Write>(&mut self, w: &mut W, event_loop: &Name) -> Result<(), WriteFault>
+        ensures { OnOk result (Adds (W.contents w.old) self.old (W.contents w.new) self.new
+            (post_text event_loop.now)) }
+    {
         self.put(w, b"post ")?;
         self.put(w, event_loop.bytes())?;
         self.put(w, b" ")?;
-        self.call(w, object, method, arguments)?;
+        Ok(())
+    }
+
+    /// Adds that an object dies.
+    fn died<W: Write>(&mut self, w: &mut W, object: &Name) -> Result<(), WriteFault>
+        ensures { OnOk result (Adds (W.contents w.old) self.old (W.contents w.new) self.new
+            (died_text object.now)) }
+    {
+        self.put(w, b"dead ")?;
+        self.put(w, object.bytes())?;
         Ok(())
     }
 
@@ -206,6 +241,8 @@ impl Output {
                 method,
                 arguments,
             } => self.posted(w, event_loop, object, method, arguments.as_slice())?,
+            Happening::Scheduled { event_loop, object } => self.scheduled(w, event_loop, object)?,
+            Happening::Died { object } => self.died(w, object)?,
             Happening::Written {
                 object,
                 property,

@@ -4,6 +4,7 @@ mod blocking;
 mod bodies;
 mod classes;
 mod connecting;
+mod deleting;
 mod events;
 mod queues;
 mod refusals;

@@ -48,6 +48,7 @@ const CASES: &[(&str, &str)] = &[
         "refused 12\n",
     ),
     ("class A { signal destroyed(int); }", "refused 12\n"),
+    ("class A { slot deleteLater() { } }", "refused 12\n"),
     ("class A { property int objectName; }", "refused 12\n"),
     ("class A { signal s(int v, int v); }", "refused 12\n"),
     (
@@ -77,20 +78,39 @@ const CASES: &[(&str, &str)] = &[
     ),
     ("class A { slot s() { call this.s(1); } }", "refused 13\n"),
     (
-        "class A { slot s() { call this.deleteLater(); } }",
+        "class A { slot s() { call this.deleteLater(1); } }",
         "refused 13\n",
     ),
+    (
+        "class A { slot s() { emit deleteLater(); } }",
+        "refused 13\n",
+    ),
+    ("class A { slot s() { delete b; } }", "refused 13\n"),
+    ("class A { slot s() { later this.b; } }", "refused 13\n"),
+    (
+        "class A { property int n; slot s() { delete this.n; } }",
+        "refused 13\n",
+    ),
+    ("class A { slot s(QString t) { later t; } }", "refused 13\n"),
     (
         "class A { signal s(); } wire A s() -> A destroyed() direct;",
         "refused 13\n",
     ),
     (
-        "class A { signal s(); } wire A s() -> A deleteLater() direct;",
+        "class A { slot s() { } } wire A deleteLater() -> A s() direct;",
         "refused 13\n",
     ),
     ("owns A A;", "refused 13\n"),
     (
         "class A { property Foo* f; slot s() { set this.f.x = 1; } }",
+        "refused 13\n",
+    ),
+    (
+        "class A { property Foo* f; slot s() { delete this.f.x; } }",
+        "refused 13\n",
+    ),
+    (
+        "class A { property Foo* f; slot s() { call this.f.deleteLater(); } }",
         "refused 13\n",
     ),
     ("class A { property int p notify n(int); }", "refused 14\n"),
@@ -104,6 +124,11 @@ const CASES: &[(&str, &str)] = &[
     ),
     ("class A { property Foo p; }", "refused 15\n"),
     ("class A { property Foo* p; }", "refused 15\n"),
+    (
+        "class A { property Foo* p; slot s() { delete this.p; } }",
+        "refused 15\n",
+    ),
+    ("class A { slot s(Foo* f) { later f; } }", "refused 15\n"),
     ("class A { signal s(int*); }", "refused 15\n"),
     ("class A { slot s(const A & a) { } }", "refused 15\n"),
     (

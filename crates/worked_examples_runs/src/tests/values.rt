@@ -57,12 +57,12 @@ const ROWS: &[Row] = &[
         text: "event 1\nevent 2 refused 46\nevent 3 refused 46\nevent 4 refused 46\nevent 5 refused 46\nevent 6 refused 46\nevent 7 refused 46\n",
         status: 0,
     },
-    // What is the runtime's own to emit, and what may not be called yet.
+    // What is the runtime's own to emit; `deleteLater()` is a slot like others.
     Row {
         words: RUN,
         program: KEEPER,
         script: "new k Keeper\nemit k.destroyed(null)\nemit k.destroyed()\nemit k.objectNameChanged(\"x\")\ncall k.deleteLater()\n",
-        text: "event 1\nevent 2 refused 46\nevent 3 refused 46\nevent 4 refused 46\nevent 5 refused 46\n",
+        text: "event 1\nevent 2 refused 46\nevent 3 refused 46\nevent 4 refused 46\nevent 5\n1 call k.deleteLater()\n1 post main ~k\n",
         status: 0,
     },
 ];

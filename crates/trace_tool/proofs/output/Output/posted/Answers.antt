@@ -2,4 +2,4 @@ use Rattle.trace_tool.proofs.Sending.{sent}
 use Rattle.trace_tool.proofs.output.Output.posted.Goals as goal
 
 pub returns : goal.returns
-returns g c = sent (sent (sent c.in_ok-put.ensures (rw c.bytes.ensures.value at c.in_ok-put-2.ensures)) c.in_ok-put-3.ensures) c.in_ok-call.ensures
+returns g c = sent c.in_ok-post.ensures c.in_ok-call.ensures
