@@ -91,6 +91,10 @@ pub enum Statement {
     Connect(MetaEndpoints, ConnectionType),
     /// `disconnect path, s(T, ..), path, m(T, ..);`: what is no longer connected.
     Disconnect(MetaEndpoints),
+    /// `delete path;`: the path of the object that is destroyed.
+    Delete(MetaPath),
+    /// `later path;`: the path of the object whose deletion is scheduled.
+    Later(MetaPath),
 }
 
 /// What a method does.

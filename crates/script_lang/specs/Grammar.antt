@@ -12,11 +12,13 @@
 --         | "call" Name "." Name "(" [value {"," value}] ")"
 --         | "block" Name
 --         | "unblock" Name
+--         | "delete" Name
+--         | "later" Name
 --   ends  = Name sig Name sig
 --   how   = kind ["unique"] ["single"]
 --   value = literal | Name
 --
--- `connect`, `disconnect`, `set`, `emit` and `call` are reserved words; the other verbs are names.
+-- `connect`, `disconnect`, `set`, `emit`, `call`, `delete` and `later` are reserved words; the other verbs are names.
 use Rattle.std.specs.Prelude.{ℕ, ◌≡◌, ◌≢◌, List, [], ◌∷◌, map, codes, Option, Some, None, Result, All}
 use Rattle.signatures.specs.declared.sig.Sig.{Sig}
 use Rattle.signatures.specs.declared.word.Word.TheVariants as word
@@ -69,6 +71,8 @@ verb_token verb.Emit = token.Word word.Emit
 verb_token verb.Call = token.Word word.Call
 verb_token verb.Block = token.Name (codes "block")
 verb_token verb.Unblock = token.Name (codes "unblock")
+verb_token verb.Delete = token.Word word.Delete
+verb_token verb.Later = token.Word word.Later
 
 -- the verb that the token is, if it is one
 abbrev pub IsVerbOf : Token → Option Verb → Type 0
@@ -180,6 +184,14 @@ tree_of_block object = tree.Block object
 abbrev pub tree_of_unblock : List ℕ → Event
 tree_of_unblock object = tree.Unblock object
 
+-- `O`, after `delete`
+abbrev pub tree_of_delete : List ℕ → Event
+tree_of_delete object = tree.Delete object
+
+-- `O`, after `later`
+abbrev pub tree_of_later : List ℕ → Event
+tree_of_later object = tree.Later object
+
 -- ---- events
 
 -- what follows each verb
@@ -195,6 +207,8 @@ Follow verb.Emit = Invocation
 Follow verb.Call = Invocation
 Follow verb.Block = List ℕ
 Follow verb.Unblock = List ℕ
+Follow verb.Delete = List ℕ
+Follow verb.Later = List ℕ
 
 abbrev pub spell_follow : (v : Verb) → Follow v → List Token → List Token
 spell_follow verb.Loop = spell_name
@@ -208,6 +222,8 @@ spell_follow verb.Emit = spell_invocation
 spell_follow verb.Call = spell_invocation
 spell_follow verb.Block = spell_name
 spell_follow verb.Unblock = spell_name
+spell_follow verb.Delete = spell_name
+spell_follow verb.Later = spell_name
 
 abbrev pub tree_of_follow : (v : Verb) → Follow v → Event
 tree_of_follow verb.Loop = tree_of_loop
@@ -221,6 +237,8 @@ tree_of_follow verb.Emit = tree_of_emit
 tree_of_follow verb.Call = tree_of_call
 tree_of_follow verb.Block = tree_of_block
 tree_of_follow verb.Unblock = tree_of_unblock
+tree_of_follow verb.Delete = tree_of_delete
+tree_of_follow verb.Later = tree_of_later
 
 pub record Reading : Type 0 where
   pub verb : Verb
@@ -247,6 +265,8 @@ signatures_in (tree.Emit object signal arguments) = []
 signatures_in (tree.Call object method arguments) = []
 signatures_in (tree.Block object) = []
 signatures_in (tree.Unblock object) = []
+signatures_in (tree.Delete object) = []
+signatures_in (tree.Later object) = []
 
 -- the tokens are this event
 pub record IsEvent (tokens : List Token) (event : Event) : Type 0 where

@@ -39,4 +39,8 @@ pub enum Event {
     Block(Name),
     /// `unblock O`: the object.
     Unblock(Name),
+    /// `delete O`: the object.
+    Delete(Name),
+    /// `later O`: the object.
+    Later(Name),
 }

@@ -2,7 +2,7 @@
 
 ghost use Rattle.std.specs.Prelude.{ℕ, List, ◌<◌, length, OnOk};
 ghost use Rattle.script_lang.specs.Grammar.{InputReading, spell_input, tree_of_input, spell_verb, spell_member, spell_invocation, tree_of_invocation, ReadsFollow, ReadsEvent};
-ghost use Rattle.script_lang.specs.declared.verb.Verb.TheVariants.{Loop, Turn, New, Adopt, Connect, Disconnect, Set, Emit, Call, Block, Unblock};
+ghost use Rattle.script_lang.specs.declared.verb.Verb.TheVariants.{Loop, Turn, New, Adopt, Connect, Disconnect, Set, Emit, Call, Block, Unblock, Delete, Later};
 ghost use Rattle.texts.specs.Reading.{Reads, EndsAnywhere, spell_name};
 
 use crate::event::{Event, Input};
@@ -46,6 +46,8 @@ fn follow(cursor: &mut Cursor, verb: Verb) -> Result<Event, ParseFault>
         Verb::Call => call(cursor),
         Verb::Block => block(cursor),
         Verb::Unblock => unblock(cursor),
+        Verb::Delete => delete(cursor),
+        Verb::Later => later(cursor),
     }
 }
 
@@ -140,6 +142,22 @@ fn unblock(cursor: &mut Cursor) -> Result<Event, ParseFault>
 {
     let object = cursor.name()?;
     Ok(Event::Unblock(object))
+}
+
+/// `O`, after `delete`.
+fn delete(cursor: &mut Cursor) -> Result<Event, ParseFault>
+    ensures { ReadsFollow Delete cursor.old result cursor.new }
+{
+    let object = cursor.name()?;
+    Ok(Event::Delete(object))
+}
+
+/// `O`, after `later`.
+fn later(cursor: &mut Cursor) -> Result<Event, ParseFault>
+    ensures { ReadsFollow Later cursor.old result cursor.new }
+{
+    let object = cursor.name()?;
+    Ok(Event::Later(object))
 }
 
 /// `O.M(V,..)`: the object, its method's name, the arguments.

@@ -31,6 +31,10 @@ pub enum Verb {
     Block,
     /// `unblock`
     Unblock,
+    /// `delete`
+    Delete,
+    /// `later`
+    Later,
 }
 
 impl Verb {
@@ -55,6 +59,8 @@ impl Verb {
             Word::Set => Some(Verb::Set),
             Word::Emit => Some(Verb::Emit),
             Word::Call => Some(Verb::Call),
+            Word::Delete => Some(Verb::Delete),
+            Word::Later => Some(Verb::Later),
             _ => None,
         }
     }

@@ -14,6 +14,8 @@ signatures_step (layer.Call path method arguments) = []
 signatures_step (layer.If condition body other) = flat_map (λ sigs. sigs) body ++ flat_map (λ sigs. sigs) other
 signatures_step (layer.Connect ends how) = signatures_at ends
 signatures_step (layer.Disconnect ends) = signatures_at ends
+signatures_step (layer.Delete path) = []
+signatures_step (layer.Later path) = []
 
 abbrev pub signatures_of : Stmt → List Sig
 signatures_of = fold-Stmt (List Sig) signatures_step

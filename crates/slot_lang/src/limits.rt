@@ -33,5 +33,7 @@ fn statement_has_few_parameters(statement: &Stmt) -> bool
         }
         Stmt::Connect(ends, _) => ends.have_few_types(),
         Stmt::Disconnect(ends) => ends.have_few_types(),
+        Stmt::Delete(_) => true,
+        Stmt::Later(_) => true,
     }
 }

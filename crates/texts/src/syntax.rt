@@ -137,6 +137,10 @@ pub enum Stmt {
     Connect(Endpoints<Path>, ConnectionType),
     /// `disconnect path, s(T, ..), path, m(T, ..);`: what is no longer connected.
     Disconnect(Endpoints<Path>),
+    /// `delete path;`: the path of the object that is destroyed.
+    Delete(Path),
+    /// `later path;`: the path of the object whose deletion is scheduled.
+    Later(Path),
 }
 
 /// The statements of a block, in their order.
