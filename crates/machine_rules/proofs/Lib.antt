@@ -2,7 +2,9 @@ pub mod Lists
 pub mod Fitting
 pub mod OneAnswer
 pub mod Frames
+pub mod Dying
 pub mod Waiting
+pub mod Declared
 pub mod Keeps
 pub mod Reaching
 pub mod Fields
