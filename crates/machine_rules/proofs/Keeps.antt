@@ -330,12 +330,12 @@ deferred-kept {p} {s} stack loop home x name =
       grows = grows-by _;
     }
 
-pub schedules-kept : {p : Loaded} {s : State} {stack : List Activation} {x : ℕ} {t : State} (life : Option Life) → Schedules s stack x t life → Keeps p s 1 t 0
-schedules-kept {s = s} None e = keeps-is e (keeps-all _ (grows-same s.trace))
-schedules-kept {p} {s} {stack} {x} {t} (Some l) r = by_mark l.scheduled r
+pub schedules-kept : (p : Loaded) (s : State) (stack : List Activation) (x : ℕ) (t : State) (life : Option Life) → Schedules s stack x t life → Keeps p s 1 t 0
+schedules-kept p s stack x t None e = keeps-is e (keeps-all stack (grows-same s.trace))
+schedules-kept p s stack x t (Some l) r = by_mark l.scheduled r
   where
     by_mark : (b : Bool) → DefersOnce s stack l.home x t b → Keeps p s 1 t 0
-    by_mark true e = keeps-is e (keeps-all _ (grows-same s.trace))
+    by_mark true e = keeps-is e (keeps-all stack (grows-same s.trace))
     by_mark false d = keeps-is d.gives (deferred-kept stack d.loop l.home x d.name)
 
 -- ---- bodies
@@ -349,7 +349,7 @@ does-kept p s o m arguments rest below (Connect ends how) t does =
 does-kept p s o m arguments rest below (Disconnect ends) t does =
     keeps-is does.gives (unlinked-kept p s (Body o m arguments rest ∷ below) (kept_ends ends) (names_of does.kept) does.answer)
 does-kept p s o m arguments rest below (Delete x) t does = keeps-is does (keeps-all _ (grows-same s.trace))
-does-kept p s o m arguments rest below (Schedule x) t does = schedules-kept (life_of s.objects x) does
+does-kept p s o m arguments rest below (Schedule x) t does = schedules-kept p s (Body o m arguments rest ∷ below) x t (life_of s.objects x) does
 does-kept p s o m arguments rest below Nothing t does = keeps-is does (keeps-all _ (grows-by _))
 
 body-kept : (p : Loaded) (s : State) (o m : ℕ) (arguments : List Value) (below : List Activation) (t : State) (left : List Statement) → BodyRule p s o m arguments below t left → Keeps p s 1 t 0

@@ -138,9 +138,9 @@ defers-one {s} {stack = stack} {home = home} {x = x} a b =
     ∙ ap (λ (name : List ℕ). deferred s stack b.loop home x name) (some-is a.named b.named)
     ∙ sym b.gives
 
-pub schedules-one : {s t u : State} {stack : List Activation} {x : ℕ} (life : Option Life) → Schedules s stack x t life → Schedules s stack x u life → t ≡ u
-schedules-one None a b = a ∙ sym b
-schedules-one {s} {t} {u} {stack} {x} (Some l) a b = by_mark l.scheduled a b
+pub schedules-one : (s t u : State) (stack : List Activation) (x : ℕ) (life : Option Life) → Schedules s stack x t life → Schedules s stack x u life → t ≡ u
+schedules-one s t u stack x None a b = a ∙ sym b
+schedules-one s t u stack x (Some l) a b = by_mark l.scheduled a b
   where
     by_mark : (n : Bool) → DefersOnce s stack l.home x t n → DefersOnce s stack l.home x u n → t ≡ u
     by_mark true a b = a ∙ sym b
@@ -155,7 +155,7 @@ does-one p s o m arguments rest below (Choose block) t u a b = a ∙ sym b
 does-one p s o m arguments rest below (Connect ends how) t u a b = connects-one a b
 does-one p s o m arguments rest below (Disconnect ends) t u a b = disconnects-one a b
 does-one p s o m arguments rest below (Delete x) t u a b = a ∙ sym b
-does-one p s o m arguments rest below (Schedule x) t u a b = schedules-one (life_of s.objects x) a b
+does-one p s o m arguments rest below (Schedule x) t u a b = schedules-one s t u (Body o m arguments rest ∷ below) x (life_of s.objects x) a b
 does-one p s o m arguments rest below Nothing t u a b = a ∙ sym b
 
 body-one : (p : Loaded) (s : State) (o m : ℕ) (arguments : List Value) (below : List Activation) (t u : State) (left : List Statement) → BodyRule p s o m arguments below t left → BodyRule p s o m arguments below u left → t ≡ u
