@@ -6,7 +6,7 @@ use Rattle.connections.specs.declared.connection.Connection.{Connection}
 use Rattle.connections.specs.Connected.{Connected, is_of, is_due, is_numbered, removed}
 use Rattle.object_tree.specs.declared.object.Object.{Object}
 use Rattle.object_tree.specs.Objects.{life_of}
-use Rattle.machine_state.specs.Connections.{silences, next_used, after_use}
+use Rattle.machine_state.specs.Connections.{silences, is_living, can_be_used, next_used, after_use}
 
 -- what is found passes
 found-passes : {X : Type 0} (test : X → Bool) (xs : List X) (c : X) → find test xs ≡ Some c → test c ≡ true
@@ -58,30 +58,53 @@ last-used c connected = by_test c.single
 -- ---- what is used
 
 -- what is due is of this sender and signal, made after the last one used and not after the last one that was made
-found-due : (connections : List Connection) (o g used last : ℕ) (c : Connection) → find (is_due o g used last) connections ≡ Some c → ((c.sender ≡ o) × (c.signal ≡ g)) × ((used < c.number) × (c.number ≤ last))
-found-due connections o g used last c found =
-    let due : is_due o g used last c ≡ true = found-passes (is_due o g used last) connections c found in
+due-is : (o g used last : ℕ) (c : Connection) → is_due o g used last c ≡ true → ((c.sender ≡ o) × (c.signal ≡ g)) × ((used < c.number) × (c.number ≤ last))
+due-is o g used last c due =
     let parts = and_parts (is_of o g c) (nat_lt used c.number && nat_le c.number last) due in
     let ends = and_parts (eqb c.sender o) (eqb c.signal g) parts.0 in
     let made = and_parts (nat_lt used c.number) (nat_le c.number last) parts.1 in
     ((eqb-true c.sender o ends.0, eqb-true c.signal g ends.1), (ltb-true used c.number made.0, leb-true c.number last made.1))
 
-pub due-within : (connections : List Connection) (o g used last : ℕ) (r : Option Connection) → r ≡ find (is_due o g used last) connections → IfSome r (λ c. (used < c.number) × (c.number ≤ last))
-due-within connections o g used last None e = tt
-due-within connections o g used last (Some c) e = (found-due connections o g used last c (sym e)).1
+-- what is found as due, and as one that can be used
+pub due-within : (connections : List Connection) (o g used last : ℕ) (c : Connection) → find (is_due o g used last) connections ≡ Some c → (used < c.number) × (c.number ≤ last)
+due-within connections o g used last c found = (due-is o g used last c (found-passes (is_due o g used last) connections c found)).1
 
--- what is used is due
-used-found : (objects : List Object) (connections : List Connection) (o g used last : ℕ) (c : Connection) → next_used objects connections o g used last ≡ Some c → find (is_due o g used last) connections ≡ Some c
+pub can-within : (objects : List Object) (connections : List Connection) (o g used last : ℕ) (r : Option Connection) → r ≡ find (can_be_used objects o g used last) connections → IfSome r (λ c. (used < c.number) × (c.number ≤ last))
+can-within objects connections o g used last None e = tt
+can-within objects connections o g used last (Some c) e =
+    let can : can_be_used objects o g used last c ≡ true = found-passes (can_be_used objects o g used last) connections c (sym e) in
+    (due-is o g used last c (and_parts (is_due o g used last c) (is_living objects c.receiver) can).0).1
+
+-- what is used can be
+used-found : (objects : List Object) (connections : List Connection) (o g used last : ℕ) (c : Connection) → next_used objects connections o g used last ≡ Some c → find (can_be_used objects o g used last) connections ≡ Some c
 used-found objects connections o g used last c found = by_test (silences (life_of objects o) g) found
   where
-    by_test : (b : Bool) → cond b None (find (is_due o g used last) connections) ≡ Some c → find (is_due o g used last) connections ≡ Some c
+    by_test : (b : Bool) → cond b None (find (can_be_used objects o g used last) connections) ≡ Some c → find (can_be_used objects o g used last) connections ≡ Some c
     by_test true e = absurd (cc e)
     by_test false e = e
 
+used-can : (objects : List Object) (connections : List Connection) (o g used last : ℕ) (c : Connection) → next_used objects connections o g used last ≡ Some c → (is_due o g used last c ≡ true) × (is_living objects c.receiver ≡ true)
+used-can objects connections o g used last c found =
+    let can : can_be_used objects o g used last c ≡ true = found-passes (can_be_used objects o g used last) connections c (used-found objects connections o g used last c found) in
+    and_parts (is_due o g used last c) (is_living objects c.receiver) can
+
+-- .. it is due
 pub used-due : (objects : List Object) (connections : List Connection) (o g used last : ℕ) (c : Connection) → next_used objects connections o g used last ≡ Some c → ((c.sender ≡ o) × (c.signal ≡ g)) × ((used < c.number) × (c.number ≤ last))
-used-due objects connections o g used last c found = found-due connections o g used last c (used-found objects connections o g used last c found)
+used-due objects connections o g used last c found = due-is o g used last c (used-can objects connections o g used last c found).0
+
+-- .. and its receiver lives
+pub used-living : (objects : List Object) (connections : List Connection) (o g used last : ℕ) (c : Connection) → next_used objects connections o g used last ≡ Some c → is_living objects c.receiver ≡ true
+used-living objects connections o g used last c found = (used-can objects connections o g used last c found).1
+
+-- .. its sender isn't silent
+pub used-heard : (objects : List Object) (connections : List Connection) (o g used last : ℕ) (c : Connection) → next_used objects connections o g used last ≡ Some c → silences (life_of objects o) g ≡ false
+used-heard objects connections o g used last c found = by_test (silences (life_of objects o) g) found
+  where
+    by_test : (b : Bool) → cond b None (find (can_be_used objects o g used last) connections) ≡ Some c → b ≡ false
+    by_test true e = absurd (cc e)
+    by_test false e = refl
 
 -- what holds of all connections holds of the one that is used
 pub used-among : (P : Connection → Type 0) (objects : List Object) (connections : List Connection) (o g used last : ℕ) (c : Connection) → AllByRecursion P connections → next_used objects connections o g used last ≡ Some c → P c
 used-among P objects connections o g used last c all found =
-    found-among P (is_due o g used last) connections c all (used-found objects connections o g used last c found)
+    found-among P (can_be_used objects o g used last) connections c all (used-found objects connections o g used last c found)

@@ -4,12 +4,16 @@ use Rattle.std.specs.List.{find}
 use Rattle.signatures.specs.declared.value.Value.{Value}
 use Rattle.texts.specs.declared.connection.ConnectionType.{ConnectionType}
 use Rattle.connections.specs.declared.connection.Connection.{Connection}
-use Rattle.connections.specs.Connected.{unconnected, connected_by, removed}
+use Rattle.connections.specs.Connected.{Connected}
 use Rattle.event_loops.specs.declared.item.Item.{Item}
 use Rattle.event_loops.specs.declared.item.Posted.{Posted}
-use Rattle.event_loops.specs.Queues.{start as only_main, items_at, is_before, posted_to, taken_before, with_loop}
+use Rattle.event_loops.specs.Queues.{Queues, items_at, is_before, posted_to, taken_before, with_loop}
 use Rattle.object_tree.specs.declared.object.Object.{Object}
+use Rattle.object_tree.specs.Family.{without_life}
 use Rattle.object_tree.specs.Objects.{change_life, blocked, written}
+use Rattle.delete_later.specs.declared.store.Store.{Store}
+use Rattle.delete_later.specs.Ending.{ended_in}
+use Rattle.delete_later.specs.Scheduling.{empty, scheduled_in}
 use Rattle.machine_state.specs.declared.entry.Entry.{Entry}
 use Rattle.machine_state.specs.declared.fault.Answer.{Answer}
 use Rattle.machine_state.specs.declared.fault.Answer.TheVariants as answer
@@ -25,7 +29,14 @@ use Rattle.machine_state.specs.State.{State, Activation}
 
 -- a world's state with a stack
 abbrev pub at : World → List Activation → State
-at w stack = record { objects = w.objects; connected = w.connected; queues = w.queues; turn = w.turn; stack = stack; trace = w.trace; events = w.events }
+at w stack = record { objects = w.store.tree; connected = w.store.connections; queues = w.store.loops; turn = w.turn; stack = stack; trace = w.trace; events = w.events }
+
+-- a state's objects, connections and event loops, and a state with others
+abbrev pub store_of : State → Store
+store_of s = record { tree = s.objects; connections = s.connected; loops = s.queues }
+
+abbrev pub with_store : State → Store → State
+with_store s store = record s { objects = store.tree; connected = store.connections; queues = store.loops }
 
 -- the world was changed so, or memory was refused and nothing changed
 abbrev pub Becomes : World → World → World → Result (Unit {0}) Fault → Type 0
@@ -34,7 +45,17 @@ Becomes w target v (Err fault) = (fault ≡ Memory) × (v ≡ w)
 
 -- nothing has happened, and so many rules may be used
 abbrev pub untouched : ℕ → World
-untouched steps = record { objects = []; connected = unconnected; queues = only_main; turn = None; trace = []; events = 0; left = steps }
+untouched steps = record { store = empty; turn = None; trace = []; events = 0; left = steps }
+
+-- a world with other objects, with other connections, and with other event loops
+abbrev pub with_objects : World → List Object → World
+with_objects w objects = record w { store = record w.store { tree = objects } }
+
+abbrev pub with_connected : World → Connected → World
+with_connected w connected = record w { store = record w.store { connections = connected } }
+
+abbrev pub with_queues : World → Queues → World
+with_queues w queues = record w { store = record w.store { loops = queues } }
 
 -- ---- rules
 
@@ -47,28 +68,32 @@ noted w entries = record w { left = w.left - 1; trace = w.trace ++ entries }
 
 -- .. that also writes a property of an object, if it lives
 abbrev pub set_in : World → List Entry → ℕ → ℕ → Value → World
-set_in w entries o q new = record (noted w entries) { objects = change_life o (written q new) w.objects }
+set_in w entries o q new = with_objects (noted w entries) (change_life o (written q new) w.store.tree)
 
 -- .. that also uses a connection
 abbrev pub having_used : World → Connection → World
-having_used w c = record w { connected = after_use c w.connected }
+having_used w c = with_connected w (after_use c w.store.connections)
 
 abbrev pub using : World → List Entry → Connection → World
 using w entries c = noted (having_used w c) entries
 
 -- .. that also posts an item to an event loop
 abbrev pub posting : World → List Entry → ℕ → Item → World
-posting w entries home item = record (noted w entries) { queues = posted_to home item w.queues }
+posting w entries home item = with_queues (noted w entries) (posted_to home item w.store.loops)
 
 -- .. that also takes the first item of an event loop that was posted before the one of this number
 abbrev pub taking : World → List Entry → ℕ → ℕ → World
-taking w entries home number = record (noted w entries) { queues = taken_before home number w.queues }
+taking w entries home number = with_queues (noted w entries) (taken_before home number w.store.loops)
 
 -- .. the item was taken, if there was one, or memory was refused and nothing changed
 abbrev pub TakesFirst : World → List Entry → ℕ → ℕ → World → Result (Option Posted) Fault → Type 0
 TakesFirst w entries home number v (Ok found) =
-    (found ≡ find (is_before number) (items_at w.queues.loops home)) × (v ≡ taking w entries home number)
+    (found ≡ find (is_before number) (items_at w.store.loops.loops home)) × (v ≡ taking w entries home number)
 TakesFirst w entries home number v (Err fault) = (fault ≡ Memory) × (v ≡ w)
+
+-- a world after a rule that takes it and writes nothing down
+abbrev pub taking_unwritten : World → ℕ → ℕ → World
+taking_unwritten w home number = with_queues (ticked w) (taken_before home number w.store.loops)
 
 -- the turn is over
 abbrev pub turn_ended : World → World
@@ -76,10 +101,21 @@ turn_ended w = record (ticked w) { turn = None }
 
 -- .. that also makes a connection between these ends, and that removes those between them
 abbrev pub connecting : World → List Entry → Endpoints → ConnectionType → World
-connecting w entries ends how = record (noted w entries) { connected = joined_by ends how w.connected }
+connecting w entries ends how = with_connected (noted w entries) (joined_by ends how w.store.connections)
 
 abbrev pub disconnecting : World → List Entry → Endpoints → World
-disconnecting w entries ends = record (noted w entries) { connected = parted ends w.connected }
+disconnecting w entries ends = with_connected (noted w entries) (parted ends w.store.connections)
+
+-- .. that also schedules an object's deletion, and that ends an object's life
+abbrev pub scheduling : World → List Entry → ℕ → World
+scheduling w entries o = record (noted w entries) { store = scheduled_in o w.store }
+
+abbrev pub dying : World → List Entry → ℕ → World
+dying w entries o = with_objects (noted w entries) (without_life o w.store.tree)
+
+-- a rule that writes nothing down, by which a dead object's connections and what waits for it go
+abbrev pub ending : World → ℕ → World
+ending w o = record (ticked w) { store = ended_in o w.store }
 
 -- a rule that writes nothing down was carried out, or none was left
 abbrev pub Ticks : World → World → Result (Unit {0}) Fault → Type 0
@@ -95,19 +131,23 @@ IsLeft w (Err fault) = (w.left ≡ 0) × (fault ≡ Steps)
 
 -- a world after one rule that leads to this state
 abbrev pub after : World → State → World
-after w s = record { objects = s.objects; connected = s.connected; queues = s.queues; turn = s.turn; trace = s.trace; events = s.events; left = w.left - 1 }
+after w s = record { store = store_of s; turn = s.turn; trace = s.trace; events = s.events; left = w.left - 1 }
 
 -- an event is counted, which is one rule
 abbrev pub counted : World → World
 counted w = record w { events = w.events + 1; left = w.left - 1 }
 
--- an event is accepted by one rule: its objects are these afterwards
+-- an event is accepted by one rule
+abbrev pub accepting : World → World
+accepting w = after w (accepted (at w []))
+
+-- .. its objects are these afterwards
 abbrev pub accepting_objects : World → List Object → World
 accepting_objects w objects = after w (record (accepted (at w [])) { objects = objects })
 
 -- .. an object is blocked or may emit again, if it lives
 abbrev pub accepting_block : World → ℕ → Bool → World
-accepting_block w o on = accepting_objects w (change_life o (blocked on) w.objects)
+accepting_block w o on = accepting_objects w (change_life o (blocked on) w.store.tree)
 
 -- .. these entries are written down
 abbrev pub accepting_entries : World → List Entry → World
@@ -115,7 +155,15 @@ accepting_entries w entries = after w (with_entries (accepted (at w [])) entries
 
 -- .. and a property of an object is written, if it lives
 abbrev pub accepting_write : World → List Entry → ℕ → ℕ → Value → World
-accepting_write w entries o q value = record (accepting_entries w entries) { objects = change_life o (written q value) w.objects }
+accepting_write w entries o q value = with_objects (accepting_entries w entries) (change_life o (written q value) w.store.tree)
+
+-- a state in which an object's deletion is scheduled
+abbrev pub with_scheduled : State → ℕ → State
+with_scheduled s o = with_store s (scheduled_in o (store_of s))
+
+-- .. that is so, and these entries are written down
+abbrev pub accepting_schedule : World → List Entry → ℕ → World
+accepting_schedule w entries o = after w (with_scheduled (with_entries (accepted (at w [])) entries) o)
 
 -- the event was refused for this reason, or memory was
 abbrev pub Refuses : World → Refusal → World → Result Answer Fault → Type 0
@@ -140,7 +188,7 @@ accepting_disconnection w ends = after w (without_connections (accepted (at w []
 
 -- .. an event loop is added
 abbrev pub accepting_loop : World → List ℕ → World
-accepting_loop w name = after w (record (accepted (at w [])) { queues = with_loop name w.queues })
+accepting_loop w name = after w (record (accepted (at w [])) { queues = with_loop name w.store.loops })
 
 -- .. a turn of an event loop begins: it delivers what is posted by now
 abbrev pub begun_turn : State → ℕ → State

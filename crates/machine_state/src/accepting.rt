@@ -1,12 +1,13 @@
 //! What the world becomes where an event is refused or accepted.
 
-ghost use Rattle.std.specs.Prelude.{◌≡◌, ◌<◌, ◌^◌, ◌-◌, OnOk, OnErr, IsErrAnd, IsTrue};
+ghost use Rattle.std.specs.Prelude.{◌≡◌, ◌∷◌, [], ◌<◌, ◌^◌, ◌-◌, OnOk, OnErr, IsErrAnd, IsTrue};
+ghost use Rattle.delete_later.specs.Scheduling.{IsHoused};
 ghost use Rattle.event_loops.specs.Queues.{IsTaken};
 ghost use Rattle.object_tree.specs.Adopting.{AdoptsLiving, MayBeGone};
 ghost use Rattle.object_tree.specs.Creating.{Creates};
 ghost use Rattle.object_tree.specs.Objects.{IsGone};
 ghost use Rattle.machine_state.specs.Connections.{are_joined};
-ghost use Rattle.machine_state.specs.Worlds.{counted, accepting_objects, accepting_block, accepting_entries, accepting_write, accepting_connection, accepting_disconnection, accepting_loop, accepting_turn, Becomes, Refuses};
+ghost use Rattle.machine_state.specs.Worlds.{counted, accepting, accepting_objects, accepting_block, accepting_entries, accepting_write, accepting_connection, accepting_disconnection, accepting_loop, accepting_schedule, accepting_turn, Becomes, Refuses};
 
 use crate::connecting::{join, part};
 use crate::endpoints::Endpoints;
@@ -55,15 +56,15 @@ impl World {
     ) -> Result<ObjectId, CreateFault>
         requires left { 0 < self.old.left }
         requires few { self.old.events < 2 ^ 63 }
-        ensures objects { Creates meta.now self.old.objects name.now class.now home result
-            self.new.objects }
-        ensures ok { OnOk result (self.new ≡ accepting_objects self.old self.new.objects) }
+        ensures objects { Creates meta.now self.old.store.tree name.now class.now home result
+            self.new.store.tree }
+        ensures ok { OnOk result (self.new ≡ accepting_objects self.old self.new.store.tree) }
         ensures err { OnErr result (self.new ≡ self.old) }
     {
         let Ok(()) = self.trace.accept(self.events + 1, []) else {
             return Err(CreateFault::Memory);
         };
-        match self.objects.create(meta, name, class, home) {
+        match self.store.tree.create(meta, name, class, home) {
             Ok(object) => {
                 self.count_event();
                 Ok(object)
@@ -86,17 +87,17 @@ impl World {
     ) -> Result<(), AdoptFault>
         requires left { 0 < self.old.left }
         requires few { self.old.events < 2 ^ 63 }
-        ensures objects { AdoptsLiving meta.now parent child self.old.objects result
-            self.new.objects }
-        ensures no_parent { IsGone self.old.objects parent → IsErrAnd result MayBeGone }
-        ensures no_child { IsGone self.old.objects child → IsErrAnd result MayBeGone }
-        ensures ok { OnOk result (self.new ≡ accepting_objects self.old self.new.objects) }
+        ensures objects { AdoptsLiving meta.now parent child self.old.store.tree result
+            self.new.store.tree }
+        ensures no_parent { IsGone self.old.store.tree parent → IsErrAnd result MayBeGone }
+        ensures no_child { IsGone self.old.store.tree child → IsErrAnd result MayBeGone }
+        ensures ok { OnOk result (self.new ≡ accepting_objects self.old self.new.store.tree) }
         ensures err { OnErr result (self.new ≡ self.old) }
     {
         let Ok(()) = self.trace.accept(self.events + 1, []) else {
             return Err(AdoptFault::Memory);
         };
-        match self.objects.adopt(meta, parent, child) {
+        match self.store.tree.adopt(meta, parent, child) {
             Ok(()) => {
                 self.count_event();
                 Ok(())
@@ -112,11 +113,11 @@ impl World {
     pub fn accept_loop(&mut self, name: &Name) -> Result<(), Fault>
         requires left { 0 < self.old.left }
         requires few { self.old.events < 2 ^ 63 }
-        requires free { ¬ IsTaken self.old.queues.loops name.now }
+        requires free { ¬ IsTaken self.old.store.loops.loops name.now }
         ensures { Becomes self.old (accepting_loop self.old name.now) self.new result }
     {
         self.trace.accept(self.events + 1, [])?;
-        match self.queues.add(name) {
+        match self.store.loops.add(name) {
             Ok(()) => {
                 self.count_event();
                 Ok(())
@@ -135,7 +136,7 @@ impl World {
         ensures { Becomes self.old (accepting_turn self.old home) self.new result }
     {
         self.trace.accept(self.events + 1, [])?;
-        let limit = self.queues.next_number();
+        let limit = self.store.loops.next_number();
         self.turn = Some(Turn { home, limit });
         self.count_event();
         Ok(())
@@ -148,7 +149,18 @@ impl World {
         ensures { Becomes self.old (accepting_block self.old object on) self.new result }
     {
         self.trace.accept(self.events + 1, [])?;
-        self.objects.block(object, on);
+        self.store.tree.block(object, on);
+        self.count_event();
+        Ok(())
+    }
+
+    /// Writes down that the event is accepted; without memory nothing changes.
+    pub fn accept(&mut self) -> Result<(), Fault>
+        requires left { 0 < self.old.left }
+        requires few { self.old.events < 2 ^ 63 }
+        ensures { Becomes self.old (accepting self.old) self.new result }
+    {
+        self.trace.accept(self.events + 1, [])?;
         self.count_event();
         Ok(())
     }
@@ -181,19 +193,42 @@ impl World {
             Becomes self.old target self.new result }
     {
         self.accept_with(entries)?;
-        self.objects.set_value(object, property, value);
+        self.store.tree.set_value(object, property, value);
         Ok(())
+    }
+
+    /// Schedules an object for deletion for an accepted event, and writes this entry down; without memory nothing changes.
+    /// Of an object that is scheduled already, or doesn't live, only the entry is written.
+    pub fn accept_schedule(&mut self, entry: Entry, object: ObjectId) -> Result<(), Fault>
+        requires left { 0 < self.old.left }
+        requires few { self.old.events < 2 ^ 63 }
+        requires home { IsHoused object self.old.store }
+        requires few_posted { self.old.store.loops.posted < 2 ^ 63 - 1 }
+        ensures { Becomes self.old (accepting_schedule self.old (entry ∷ []) object) self.new result }
+    {
+        self.trace.accept(self.events + 1, [entry])?;
+        match self.store.schedule(object) {
+            Ok(()) => {
+                self.count_event();
+                Ok(())
+            }
+            Err(_) => {
+                self.trace.pop();
+                self.trace.pop();
+                Err(Fault::Memory)
+            }
+        }
     }
 
     /// Adds the connection of an accepted event; without memory nothing changes. Whether a unique one exists isn't asked.
     pub fn accept_connection(&mut self, ends: Endpoints, how: ConnectionType) -> Result<(), Fault>
         requires left { 0 < self.old.left }
         requires few { self.old.events < 2 ^ 63 }
-        requires few_connected { self.old.connected.last < 2 ^ 63 - 1 }
+        requires few_connected { self.old.store.connections.last < 2 ^ 63 - 1 }
         ensures { Becomes self.old (accepting_connection self.old ends how) self.new result }
     {
         self.trace.accept(self.events + 1, [])?;
-        match join(&mut self.connected, &ends, how) {
+        match join(&mut self.store.connections, &ends, how) {
             Ok(()) => {
                 self.count_event();
                 Ok(())
@@ -209,11 +244,11 @@ impl World {
     pub fn accept_disconnection(&mut self, ends: Endpoints) -> Result<(), Fault>
         requires left { 0 < self.old.left }
         requires few { self.old.events < 2 ^ 63 }
-        requires joined { IsTrue (are_joined ends self.old.connected) }
+        requires joined { IsTrue (are_joined ends self.old.store.connections) }
         ensures { Becomes self.old (accepting_disconnection self.old ends) self.new result }
     {
         self.trace.accept(self.events + 1, [])?;
-        part(&mut self.connected, &ends);
+        part(&mut self.store.connections, &ends);
         self.count_event();
         Ok(())
     }

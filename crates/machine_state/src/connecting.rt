@@ -15,9 +15,9 @@ use texts::ConnectionType;
 impl World {
     /// Whether some connection joins these ends.
     pub fn are_joined(&self, ends: &Endpoints) -> bool
-        ensures { result ≡ are_joined ends.now self.now.connected }
+        ensures { result ≡ are_joined ends.now self.now.store.connections }
     {
-        self.connected
+        self.store.connections
             .are_connected(ends.sender, ends.signal, ends.receiver, ends.method)
     }
 
@@ -30,12 +30,12 @@ impl World {
         how: ConnectionType,
     ) -> Result<(), Fault>
         requires left { 0 < self.old.left }
-        requires few { self.old.connected.last < 2 ^ 63 - 1 }
+        requires few { self.old.store.connections.last < 2 ^ 63 - 1 }
         ensures { let target = connecting self.old (entry ∷ []) ends.now how in
             Becomes self.old target self.new result }
     {
         self.trace.append([entry])?;
-        match join(&mut self.connected, ends, how) {
+        match join(&mut self.store.connections, ends, how) {
             Ok(()) => {
                 self.left -= 1;
                 Ok(())
@@ -51,12 +51,12 @@ impl World {
     /// changes.
     pub fn disconnect(&mut self, entry: Entry, ends: &Endpoints) -> Result<(), Fault>
         requires left { 0 < self.old.left }
-        requires joined { IsTrue (are_joined ends.now self.old.connected) }
+        requires joined { IsTrue (are_joined ends.now self.old.store.connections) }
         ensures { let target = disconnecting self.old (entry ∷ []) ends.now in
             Becomes self.old target self.new result }
     {
         self.note([entry])?;
-        part(&mut self.connected, ends);
+        part(&mut self.store.connections, ends);
         Ok(())
     }
 }

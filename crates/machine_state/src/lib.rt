@@ -3,6 +3,7 @@
 
 mod accepting;
 mod connecting;
+mod deleting;
 mod endpoints;
 mod entry;
 mod fault;

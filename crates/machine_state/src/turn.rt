@@ -1,9 +1,11 @@
 //! Turns of event loops: which loop runs, what is posted and what is taken.
 
 ghost use Rattle.std.specs.Prelude.{◌≡◌, ◌<◌, ◌-◌, ◌^◌, ◌∷◌, [], length};
+ghost use Rattle.std.specs.List.{find};
+ghost use Rattle.event_loops.specs.Queues.{is_before, items_at};
 ghost use Rattle.machine_state.specs.Objects.{home_of};
 ghost use Rattle.machine_state.specs.Turns.{running, reaches_at_once};
-ghost use Rattle.machine_state.specs.Worlds.{Becomes, TakesFirst, having_used, posting, turn_ended};
+ghost use Rattle.machine_state.specs.Worlds.{Becomes, TakesFirst, having_used, posting, taking_unwritten, turn_ended};
 
 use crate::entry::Entry;
 use crate::fault::Fault;
@@ -27,9 +29,9 @@ pub struct Turn {
 impl World {
     /// The loop in which a living object lives.
     pub fn home(&self, object: ObjectId) -> Option<LoopId>
-        ensures { result ≡ home_of self.now.objects object }
+        ensures { result ≡ home_of self.now.store.tree object }
     {
-        match self.objects.life(object) {
+        match self.store.tree.life(object) {
             Some(life) => Some(life.home),
             None => None,
         }
@@ -55,16 +57,16 @@ impl World {
         item: Item,
     ) -> Result<(), Fault>
         requires left { 0 < self.old.left }
-        requires there { home < length self.old.queues.loops }
-        requires few { self.old.queues.posted < 2 ^ 63 - 1 }
+        requires there { home < length self.old.store.loops.loops }
+        requires few { self.old.store.loops.posted < 2 ^ 63 - 1 }
         ensures { let target = posting (having_used self.old connection.now) (entry ∷ []) home item in
             Becomes self.old target self.new result }
     {
         self.trace.append([entry])?;
-        match self.queues.post(home, item) {
+        match self.store.loops.post(home, item) {
             Ok(()) => {
                 if connection.single {
-                    self.connected.cut(connection.number);
+                    self.store.connections.cut(connection.number);
                 }
                 self.left -= 1;
                 Ok(())
@@ -88,7 +90,18 @@ impl World {
         ensures { TakesFirst self.old (entry ∷ []) home number self.new result }
     {
         self.note([entry])?;
-        Ok(self.queues.take_before(home, number))
+        Ok(self.store.loops.take_before(home, number))
+    }
+
+    /// A rule that takes the first item of an event loop that was posted before the one of this number, and gives it.
+    /// Nothing is written down.
+    pub fn take_unwritten(&mut self, home: LoopId, number: u64) -> Option<Posted>
+        requires left { 0 < self.old.left }
+        ensures taken { result ≡ find (is_before number) (items_at self.old.store.loops.loops home) }
+        ensures rest { self.new ≡ taking_unwritten self.old home number }
+    {
+        self.left -= 1;
+        self.store.loops.take_before(home, number)
     }
 
     /// A rule that ends the turn.

@@ -10,22 +10,18 @@ ghost use Rattle.machine_state.specs.Worlds.{untouched, Ticks, IsLeft, Becomes, 
 use crate::entry::{Entry, Trace};
 use crate::fault::Fault;
 use crate::turn::Turn;
-use connections::{Connection, Connections};
-use event_loops::Loops;
+use connections::Connection;
+use delete_later::Store;
 use meta_model::DESTROYED;
-use object_tree::{Life, Object, Tree};
+use object_tree::{Life, Object};
 use signatures::{Name, ObjectId, Value};
 use std::alloc::{AllocError, Global};
 
 /// All of a machine's state but the stack, and how many rules are left.
 #[derive(Drop)]
 pub struct World {
-    /// The objects, and who is whose parent.
-    pub objects: Tree,
-    /// The connections in the order in which they were made, and how many were ever numbered.
-    pub connected: Connections,
-    /// The event loops with the items that wait in them, and how many items were ever numbered.
-    pub queues: Loops,
+    /// The objects, the connections between them, and the event loops.
+    pub store: Store,
     /// The turn that goes on, if one does.
     pub turn: Option<Turn>,
     /// What was written down so far.
@@ -41,11 +37,9 @@ impl World {
     pub fn new(alloc: Global, steps: u64) -> Result<World, AllocError>
         ensures { IfOk result (λ world. world ≡ untouched steps) }
     {
-        let queues = Loops::new(alloc)?;
+        let store = Store::new(alloc)?;
         Ok(World {
-            objects: Tree::new(alloc),
-            connected: Connections::new(alloc),
-            queues,
+            store,
             turn: None,
             trace: Trace::new(alloc),
             events: 0,
@@ -55,10 +49,10 @@ impl World {
 
     /// The number of the object that has or had this name.
     pub fn find(&self, name: &Name) -> Option<ObjectId>
-        ensures { MatchOption result (IsFree self.now.objects name.now)
-            (IsNamed self.now.objects name.now) }
+        ensures { MatchOption result (IsFree self.now.store.tree name.now)
+            (IsNamed self.now.store.tree name.now) }
     {
-        self.objects.find(name)
+        self.store.tree.find(name)
     }
 
     /// The connection that an emission uses next: the first of this sender and signal that was made later than the one
@@ -71,8 +65,8 @@ impl World {
         used: u64,
         last: u64,
     ) -> Option<Connection>
-        ensures value { let connections = self.now.connected.connections in
-            result ≡ next_used self.now.objects connections sender signal used last }
+        ensures value { let connections = self.now.store.connections.connections in
+            result ≡ next_used self.now.store.tree connections sender signal used last }
         ensures within { IfSome result (λ c. (used < c.number) × (c.number ≤ last)) }
     {
         if self.is_silent(sender, signal) {
@@ -90,12 +84,13 @@ impl World {
         used: u64,
         last: u64,
     ) -> Option<Connection>
-        ensures { let can_be_used = can_be_used self.now.objects sender signal used last in
-            result ≡ find can_be_used self.now.connected.connections }
+        ensures { let can_be_used = can_be_used self.now.store.tree sender signal used last in
+            result ≡ find can_be_used self.now.store.connections.connections }
     {
+        self.store.connections.numbers_rise();
         let mut passed = used;
-        while let Some(connection) = self.connected.next_due(sender, signal, passed, last) {
-            if self.objects.life(connection.receiver).is_some() {
+        while let Some(connection) = self.store.connections.next_due(sender, signal, passed, last) {
+            if self.store.tree.life(connection.receiver).is_some() {
                 return Some(connection);
             }
             passed = connection.number;
@@ -105,9 +100,9 @@ impl World {
 
     /// Whether an emission of this signal calls nothing, since the sender is blocked or dead.
     fn is_silent(&self, sender: ObjectId, signal: usize) -> bool
-        ensures { result ≡ silences (life_of self.now.objects sender) signal }
+        ensures { result ≡ silences (life_of self.now.store.tree sender) signal }
     {
-        silences(self.objects.life(sender), signal)
+        silences(self.store.tree.life(sender), signal)
     }
 
     /// A rule that writes nothing down.
@@ -156,7 +151,7 @@ impl World {
     {
         self.note(entries)?;
         if connection.single {
-            self.connected.cut(connection.number);
+            self.store.connections.cut(connection.number);
         }
         Ok(())
     }
@@ -176,7 +171,7 @@ impl World {
             Becomes self.old target self.new result }
     {
         self.note(entries)?;
-        self.objects.set_value(object, property, value);
+        self.store.tree.set_value(object, property, value);
         Ok(())
     }
 }

@@ -11,8 +11,8 @@ returns-in_default-clause-objects c = λ u v x y lives living. (no_memory, refl)
 pub returns-in-Ok-adopt-clause-objects : goal.returns-in-Ok-adopt-clause-objects
 returns-in-Ok-adopt-clause-objects c = λ u v x y lives living.
     let is = c.in-Ok-adopt.ensures.value u v x y lives living in
-    let After : List Object → Type 0 = λ l. IsAdopted c.args.parent c.args.child y c.args.self.now.objects l in
-    (is.0, subst After (sym (ap (λ (w : World). w.objects) c.count_event.ensures)) is.1)
+    let After : List Object → Type 0 = λ l. IsAdopted c.args.parent c.args.child y c.args.self.now.store.tree l in
+    (is.0, subst After (sym (ap (λ (w : World). w.store.tree) c.count_event.ensures)) is.1)
 
 -- ---- where one of the two is gone
 

@@ -1,0 +1,3 @@
+pub mod Scheduling
+pub mod Ending
+pub mod Laws

@@ -1,0 +1,93 @@
+ghost use Rattle.std.specs.Prelude.{◌≡◌, ◌<◌, ◌-◌, ◌^◌, length, IfOk, OnOk, OnErr, MatchOption};
+ghost use Rattle.object_tree.specs.Typed.{StayTyped};
+ghost use Rattle.event_loops.specs.Queues.{posted_to};
+ghost use Rattle.event_loops.specs.declared.item.Item.TheVariants.{Deletion};
+ghost use Rattle.delete_later.specs.Scheduling.{empty, IsHoused, scheduled_in};
+ghost use Rattle.delete_later.specs.Ending.{ended_in, next_in, IsNext, NoneIsNext};
+
+use connections::Connections;
+use event_loops::{Item, Loops, PostFault};
+use object_tree::Tree;
+use signatures::{LoopId, ObjectId};
+use std::alloc::{AllocError, Global};
+
+/// The stores in which a run keeps its objects, what connects them and what waits for them.
+#[derive(Drop)]
+pub struct Store {
+    /// The objects, and who is whose parent.
+    pub tree: Tree,
+    /// The connections between the objects.
+    pub connections: Connections,
+    /// The event loops, with the items that wait in them.
+    pub loops: Loops,
+}
+
+impl Store {
+    /// No objects and no connections; `main` is the only loop, and nothing waits in it.
+    pub fn new(alloc: Global) -> Result<Store, AllocError>
+        ensures { IfOk result (λ store. store ≡ empty) }
+    {
+        let loops = Loops::new(alloc)?;
+        Ok(Store {
+            tree: Tree::new(alloc),
+            connections: Connections::new(alloc),
+            loops,
+        })
+    }
+
+    /// Schedules an object for deletion: the deletion waits, with the next number, at the end of the loop in which the
+    /// object lives. An object that is scheduled already, or doesn't live, changes nothing; nor does want of memory.
+    pub fn schedule(&mut self, object: ObjectId) -> Result<(), AllocError>
+        requires home { IsHoused object self.old }
+        requires few { self.old.loops.posted < 2 ^ 63 - 1 }
+        ensures scheduled { OnOk result (self.new ≡ scheduled_in object self.old) }
+        ensures err { OnErr result (self.new ≡ self.old) }
+        ensures typed { StayTyped self.old.tree self.new.tree }
+    {
+        let Some(life) = self.tree.life(object) else {
+            return Ok(());
+        };
+        if life.scheduled {
+            return Ok(());
+        }
+        post_deletion(&mut self.loops, life.home, object)?;
+        self.tree.mark_scheduled(object);
+        Ok(())
+    }
+
+    /// Ends a dead object: all connections from and to it go, and all items that wait for it, calls and its deletion.
+    pub fn end_one(&mut self, object: ObjectId)
+        ensures { self.new ≡ ended_in object self.old }
+    {
+        self.connections.drop_object(object);
+        self.loops.drop_object(object);
+    }
+
+    /// The object that is deleted next while these are torn down, the latest of them last: the first living child of the
+    /// last one.
+    pub fn next_to_end(&self, torn: &[ObjectId]) -> Option<ObjectId>
+        ensures next { result ≡ next_in self.now.tree torn.now }
+        ensures lives { MatchOption result
+            (NoneIsNext self.now.tree torn.now)
+            (IsNext self.now.tree torn.now) }
+    {
+        match torn.last() {
+            Some(last) => self.tree.first_child(*last),
+            None => None,
+        }
+    }
+}
+
+/// Posts an object's deletion to a loop that is there; without memory nothing changes.
+fn post_deletion(loops: &mut Loops, home: LoopId, object: ObjectId) -> Result<(), AllocError>
+    requires there { home < length loops.old.loops }
+    requires few { loops.old.posted < 2 ^ 63 - 1 }
+    ensures posted { OnOk result (loops.new ≡ posted_to home (Deletion object) loops.old) }
+    ensures err { OnErr result (loops.new ≡ loops.old) }
+{
+    match loops.post(home, Item::Deletion { object }) {
+        Ok(()) => Ok(()),
+        Err(PostFault::Memory) => Err(AllocError),
+        Err(PostFault::NoLoop) => unreachable!(),
+    }
+}

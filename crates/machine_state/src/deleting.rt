@@ -1,0 +1,59 @@
+//! Deletions: an object's life ends, what is left of it goes, and a deletion is scheduled.
+
+ghost use Rattle.std.specs.Prelude.{◌≡◌, ◌∷◌, [], ◌<◌, ◌-◌, ◌^◌};
+ghost use Rattle.delete_later.specs.Scheduling.{IsHoused};
+ghost use Rattle.machine_state.specs.Worlds.{Becomes, dying, ending, scheduling};
+
+use crate::entry::Entry;
+use crate::fault::Fault;
+use crate::world::World;
+use signatures::ObjectId;
+
+impl World {
+    /// A rule by which an object lives no more and leaves its parent's children, and which writes these entries down;
+    /// without memory nothing changes. Its own children, its connections and what waits for it stay.
+    pub fn mark_dead<const N: usize>(
+        &mut self,
+        entries: [Entry; N],
+        object: ObjectId,
+    ) -> Result<(), Fault>
+        requires left { 0 < self.old.left }
+        requires few { N < 2 ^ 32 }
+        ensures { Becomes self.old (dying self.old entries.entry object) self.new result }
+    {
+        self.note(entries)?;
+        self.store.tree.mark_dead(object);
+        Ok(())
+    }
+
+    /// A rule that ends a dead object: all connections from and to it go, and all that waits for it. Nothing is written
+    /// down.
+    pub fn end_one(&mut self, object: ObjectId)
+        requires left { 0 < self.old.left }
+        ensures { self.new ≡ ending self.old object }
+    {
+        self.store.end_one(object);
+        self.left -= 1;
+    }
+
+    /// A rule that schedules an object for deletion, and writes this entry down; without memory nothing changes. Of an
+    /// object that is scheduled already, or doesn't live, only the entry is written.
+    pub fn schedule(&mut self, entry: Entry, object: ObjectId) -> Result<(), Fault>
+        requires left { 0 < self.old.left }
+        requires home { IsHoused object self.old.store }
+        requires few { self.old.store.loops.posted < 2 ^ 63 - 1 }
+        ensures { Becomes self.old (scheduling self.old (entry ∷ []) object) self.new result }
+    {
+        self.trace.append([entry])?;
+        match self.store.schedule(object) {
+            Ok(()) => {
+                self.left -= 1;
+                Ok(())
+            }
+            Err(_) => {
+                self.trace.pop();
+                Err(Fault::Memory)
+            }
+        }
+    }
+}
