@@ -197,7 +197,7 @@ delivery-calls {p} {w} {c} {x} {method} {arguments} {taken} {count} o g used las
 }
 
 -- .. and else posts a call of it
-pub ends-posted : {p : Loaded} {d : ℕ} {h : List (Option ℕ)} {w v : World} {c : Connection} {x : Object} {method : MetaMethod} {arguments taken : List Value} {count : ℕ} (o g used last n : ℕ) (r : Result (Unit {0}) Fault) → next_used w.objects w.connected.connections o g used last ≡ Some c → IsMember p w.objects c.receiver c.method x method → taken ≡ take count arguments → count ≡ length method.kinds → {home : ℕ} → home_of w.objects c.receiver ≡ Some home → reaches_at_once c.kind home (running w.turn) ≡ false → length h < d → AreTyped p w.objects → 0 < w.left → n ≡ length h + 1 → PostsCall p w n c taken v r → Ends p d h w (Emit o g arguments used last ∷ []) v (Emit o g arguments c.number last ∷ []) r
+pub ends-posted : {p : Loaded} {d : ℕ} {h : List (Option ℕ)} {w v : World} {c : Connection} {x : Object} {method : MetaMethod} {arguments taken : List Value} {count : ℕ} (o g used last n : ℕ) (r : Result (Unit {0}) Fault) → next_used w.objects w.connected.connections o g used last ≡ Some c → IsMember p w.objects c.receiver c.method x method → taken ≡ take count arguments → count ≡ length method.kinds → {home : ℕ} → home_of w.objects c.receiver ≡ Some home → reaches_at_once c.kind home (running w.turn) ≡ false → length h < d → AreTyped p w.objects → 0 < w.left → n ≡ length h + 1 → PostsCall p w n c c.receiver c.method taken v r → Ends p d h w (Emit o g arguments used last ∷ []) v (Emit o g arguments c.number last ∷ []) r
 ends-posted {p} {w = w} {v = v} {c = c} {x = x} {method = method} {arguments = arguments} {taken = taken} o g used last n r found is cut count_is {home} lives later room typed some n_is posts =
     let target : World = posting (having_used w c) (entry_of_post w n posts.name posts.object posts.method taken ∷ []) posts.home (Call c.receiver c.method taken) in
     ends-noted target r

@@ -13,6 +13,8 @@ use Rattle.machine_state.specs.State.{Activation, Body, Emit}
 use Rattle.machine_rules.specs.Active.{shows}
 use Rattle.machine_rules.specs.Doings.{Doing, doing}
 use Rattle.machine_rules.specs.Reaches.{Ends, Advances, CallsIn, Calls, OnlyCalls, Sets}
+use Rattle.machine_rules.specs.declared.method_call.MethodCall.{MethodCall}
+use Rattle.machine_rules.specs.declared.place.Place.{Place}
 use Rattle.machine_rules.specs.declared.setting.Setting.{Setting}
 
 -- one activation on top of the stack leads to another
@@ -40,28 +42,29 @@ CarriesOut setting active o done rest left w v result =
 
 -- a property is written, and what that notifies is carried out: from every top of the stack whose next rule is this
 -- write, to what is left of it
-abbrev pub EndsWrite : Setting → List (Option ℕ) → ℕ → ℕ → Value → World → World → Result (Unit {0}) Fault → Type 0
-EndsWrite setting active o q new w v result =
+abbrev pub EndsWrite : Setting → List (Option ℕ) → Place → Value → World → World → Result (Unit {0}) Fault → Type 0
+EndsWrite setting active place new w v result =
     (from to : List Activation) (shown : List (Option ℕ)) → active ≡ shows to ++ shown →
-    Sets setting.meta w from to o q new → Ends setting.meta setting.depth shown w from v to result
+    Sets setting.meta w from to place.object place.property new → Ends setting.meta setting.depth shown w from v to result
 
 -- a method begins and is carried out: from every top of the stack from which it may, to what is left of it
-abbrev pub EndsCall : Setting → List (Option ℕ) → ℕ → ℕ → List Value → World → World → Result (Unit {0}) Fault → Type 0
-EndsCall setting active o m arguments w v result =
+abbrev pub EndsCall : Setting → List (Option ℕ) → MethodCall → World → World → Result (Unit {0}) Fault → Type 0
+EndsCall setting active call w v result =
     (from to : List Activation) (shown : List (Option ℕ)) → active ≡ shows to ++ shown →
-    Calls setting.meta w from to o m arguments → Ends setting.meta setting.depth shown w from v to result
+    Calls setting.meta w from to call.object call.method call.arguments.now → Ends setting.meta setting.depth shown w from v to result
 
 -- .. from every top of the stack from which nothing else may
-abbrev pub EndsOnlyCall : Setting → List (Option ℕ) → ℕ → ℕ → List Value → World → World → Result (Unit {0}) Fault → Type 0
-EndsOnlyCall setting active o m arguments w v result =
+abbrev pub EndsOnlyCall : Setting → List (Option ℕ) → MethodCall → World → World → Result (Unit {0}) Fault → Type 0
+EndsOnlyCall setting active call w v result =
     (from to : List Activation) (shown : List (Option ℕ)) → active ≡ shows to ++ shown →
-    Calls setting.meta w from to o m arguments → OnlyCalls setting.meta w from to o m arguments →
+    Calls setting.meta w from to call.object call.method call.arguments.now →
+    OnlyCalls setting.meta w from to call.object call.method call.arguments.now →
     Ends setting.meta setting.depth shown w from v to result
 
--- a connection is used, and its method begins and is carried out: from every top of the stack from which it may, once the
+-- a connection is used, and a method begins and is carried out: from every top of the stack from which it may, once the
 -- connection is used
-abbrev pub EndsUse : Setting → List (Option ℕ) → Connection → List Value → World → World → Result (Unit {0}) Fault → Type 0
-EndsUse setting active c arguments w v result =
+abbrev pub EndsUse : Setting → List (Option ℕ) → Connection → MethodCall → World → World → Result (Unit {0}) Fault → Type 0
+EndsUse setting active c call w v result =
     (from to : List Activation) (shown : List (Option ℕ)) → active ≡ shows to ++ shown →
-    CallsIn setting.meta w (having_used w c) from to c.receiver c.method arguments →
+    CallsIn setting.meta w (having_used w c) from to call.object call.method call.arguments.now →
     Ends setting.meta setting.depth shown w from v to result

@@ -12,7 +12,7 @@ use Rattle.machine_rules.specs.declared.doing.Doing.{Doing as Coded}
 use Rattle.machine_rules.specs.declared.doing.Doing.TheVariants as coded
 
 abbrev pub meant : Coded → Doing
-meant (coded.Write x q new) = Write x q new
+meant (coded.Write place new) = Write place.object place.property new
 meant (coded.Begin x m given) = Begin x m given
 meant (coded.Choose block) = Choose block.now
 meant (coded.Connect ends how) = Connect ends how

@@ -122,19 +122,19 @@ entry_of_call w depth x m method arguments = begin_entry depth x m method.sig.na
 abbrev pub entry_of_post : World → ℕ → List ℕ → Object → MetaMethod → List Value → Entry
 entry_of_post w depth name x method arguments = At depth (happening.Posted name x.name method.sig.name (all_shown w.objects arguments))
 
--- a connection was used and a call of its method posted to the event loop in which its receiver lives, where so many
+-- a connection was used and a call of a method posted to the event loop in which its object lives, where so many
 -- activations are on the stack; or memory was refused
-pub record PostsCall (p : Loaded) (w : World) (depth : ℕ) (c : Connection) (arguments : List Value)
+pub record PostsCall (p : Loaded) (w : World) (depth : ℕ) (c : Connection) (o m : ℕ) (arguments : List Value)
     (v : World) (result : Result (Unit {0}) Fault) : Type 0 where
   pub object : Object
   pub method : MetaMethod
-  pub is : IsMember p w.objects c.receiver c.method object method
+  pub is : IsMember p w.objects o m object method
   pub name : List ℕ
   pub home : ℕ
-  pub lives_in : home_of w.objects c.receiver ≡ Some home
+  pub lives_in : home_of w.objects o ≡ Some home
   pub is_loop : HasName w.queues.loops name home
   pub becomes :
-      Becomes w (posting (having_used w c) (entry_of_post w depth name object method arguments ∷ []) home (Call c.receiver c.method arguments)) v result
+      Becomes w (posting (having_used w c) (entry_of_post w depth name object method arguments ∷ []) home (Call o m arguments)) v result
 
 -- what is pushed where a method begins
 abbrev pub top_of : ℕ → ℕ → List Value → ℕ → Work → Activation

@@ -8,12 +8,13 @@ ghost use Rattle.machine_rules.specs.Calls.{Finishes, CarriesOut};
 
 use crate::active::Active;
 use crate::doing::Doing;
+use crate::method_call::MethodCall;
 use crate::paths::Scope;
 use crate::remaining::Remaining;
 use crate::setting::Setting;
 use machine_state::{Entry, Fault, Happening, World};
 use meta_objects::Statement;
-use signatures::{ObjectId, Value};
+use signatures::ObjectId;
 
 impl Setting {
     /// Carries out the statements of a body, and ends it.
@@ -22,21 +23,20 @@ impl Setting {
         &self,
         world: &mut World,
         active: &Active<'_>,
-        object: ObjectId,
-        method: usize,
-        arguments: &[Value],
+        call: &MethodCall<'_>,
         statements: &[Statement],
     ) -> Result<(), Fault>
         requires room { length active.now < self.now.depth }
         requires sound { IsSoundWorld self.now.meta world.old }
         ensures ends { Finishes self.now active.now
-            (Body object method arguments.now statements.now) world.old world.new result }
+            (Body call.now.object call.now.method call.now.arguments.now statements.now)
+            world.old world.new result }
     {
         let mut left = Remaining::all(self.alloc, statements);
         while let Some(statement) = left.next() {
             world.require_rule()?;
-            let doing = self.scope(world, object, arguments).doing_of(statement)?;
-            self.carry_out(world, active, object, doing, &mut left)?;
+            let doing = self.scope(world, &*call).doing_of(statement)?;
+            self.carry_out(world, active, call.object, doing, &mut left)?;
         }
         world.tick()
     }
@@ -59,9 +59,14 @@ impl Setting {
     {
         let over = (&*active).over(Some(object));
         match done {
-            Doing::Write(target, property, new) => self.write(world, &over, target, property, new),
+            Doing::Write(place, new) => self.write(world, &over, &place, new),
             Doing::Begin(target, method, given) => {
-                self.begin_typed(world, &over, target, method, given.as_slice())
+                let call = MethodCall {
+                    object: target,
+                    method,
+                    arguments: given.as_slice(),
+                };
+                self.begin_typed(world, &over, &call)
             }
             Doing::Choose(block) => {
                 left.put(block)?;
@@ -73,17 +78,17 @@ impl Setting {
         }
     }
 
-    /// What a body of this object reads.
-    fn scope<'w>(&self, world: &'w World, object: ObjectId, arguments: &'w [Value]) -> Scope<'w>
+    /// What the body of a call reads.
+    fn scope<'w>(&self, world: &'w World, call: &'w MethodCall<'_>) -> Scope<'w>
         ensures objects { result.objects.now ≡ world.now.objects }
-        ensures this { result.this ≡ object }
-        ensures arguments { result.arguments.now ≡ arguments.now }
+        ensures this { result.this ≡ call.now.object }
+        ensures arguments { result.arguments.now ≡ call.now.arguments.now }
     {
         Scope {
             alloc: self.alloc,
             objects: &world.objects,
-            this: object,
-            arguments,
+            this: call.object,
+            arguments: call.arguments,
         }
     }
 }

@@ -7,6 +7,7 @@ ghost use Rattle.machine_rules.specs.Scope.{doing_in};
 ghost use Rattle.machine_rules.specs.Coded.{Yields, FindsEnds, chosen_of};
 
 use crate::paths::Scope;
+use crate::place::Place;
 use expressions::EvalFault;
 use machine_state::Endpoints;
 use meta_objects::{MetaEndpoints, MetaPath, Statement};
@@ -17,7 +18,7 @@ use texts::{ConnectionType, Expr};
 #[derive(Drop)]
 pub enum Doing<'p> {
     /// A property of an object is written.
-    Write(ObjectId, usize, Value),
+    Write(Place, Value),
     /// A method of an object begins with these arguments.
     Begin(ObjectId, usize, Arguments),
     /// These statements come next.
@@ -60,7 +61,11 @@ impl<'w> Scope<'w> {
             return Ok(Doing::Nothing);
         };
         let new = self.value_of(value)?;
-        Ok(Doing::Write(target, property, new))
+        let place = Place {
+            object: target,
+            property,
+        };
+        Ok(Doing::Write(place, new))
     }
 
     /// A signal of the body's object is emitted.

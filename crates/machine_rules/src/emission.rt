@@ -9,11 +9,12 @@ ghost use Rattle.machine_rules.specs.Reaches.{top_of};
 ghost use Rattle.machine_rules.specs.Keeps.{KeepsWorld};
 
 use crate::active::Active;
-use crate::setting::{Setting, front};
+use crate::method_call::{MethodCall, front};
+use crate::setting::{Begun, Setting};
 use connections::Connection;
 use machine_state::{Fault, World, reaches_at_once};
 use meta_objects::Work;
-use signatures::{ObjectId, Value};
+use signatures::Value;
 
 impl Setting {
     /// Uses the connections of an emission one after the other, and ends it.
@@ -22,24 +23,22 @@ impl Setting {
         &self,
         world: &mut World,
         active: &Active<'_>,
-        object: ObjectId,
-        signal: usize,
-        arguments: &[Value],
+        call: &MethodCall<'_>,
         last: u64,
     ) -> Result<(), Fault>
         requires room { length active.now < self.now.depth }
         requires sound { IsSoundWorld self.now.meta world.old }
         requires emitted { ArgumentsFit self.now.meta world.old.objects
-            object signal arguments.now }
+            call.now.object call.now.method call.now.arguments.now }
         ensures ends { Finishes self.now active.now
-            (Emit object signal arguments.now 0 last) world.old world.new result }
+            (Emit call.now.object call.now.method call.now.arguments.now 0 last) world.old world.new result }
         ensures keeps { KeepsWorld self.now.meta world.old world.new }
         ensures sound { IsSoundWorld self.now.meta world.new }
     {
         let mut used = 0;
-        while let Some(connection) = world.next_used(object, signal, used, last) {
+        while let Some(connection) = world.next_used(call.object, call.method, used, last) {
             used = connection.number;
-            self.deliver(world, active, connection, arguments)?;
+            self.deliver(world, active, connection, call.arguments)?;
         }
         world.tick()
     }
@@ -69,11 +68,16 @@ impl Setting {
             unreachable!()
         };
         let taken = front(arguments, method.kinds.len());
+        let call = MethodCall {
+            object: to,
+            method: number,
+            arguments: taken,
+        };
         if reaches_at_once(connection.kind, home, world.running()) {
             let over = (&*active).over(None);
-            self.begin_used(world, &over, connection, taken)
+            self.begin_used(world, &over, &connection, &call)
         } else {
-            self.post(world, active.count() + 1, connection, taken)
+            self.post(world, active.count() + 1, &connection, &call)
         }
     }
 
@@ -83,22 +87,19 @@ impl Setting {
         &self,
         world: &mut World,
         active: &Active<'_>,
-        connection: Connection,
-        arguments: &[Value],
+        connection: &Connection,
+        call: &MethodCall<'_>,
     ) -> Result<(), Fault>
         requires sound { IsSoundWorld self.now.meta world.old }
         requires left { 0 < world.old.left }
         requires fit { ArgumentsFit self.now.meta world.old.objects
-            connection.receiver connection.method arguments.now }
+            call.now.object call.now.method call.now.arguments.now }
         ensures ends { EndsUse self.now active.now
-            connection arguments.now world.old world.new result }
+            connection.now call.now world.old world.new result }
     {
-        let (object, method) = (connection.receiver, connection.method);
-        let begun = self.begun(world, active, object, method, arguments)?;
-        world.use_connection([begun.line], &connection)?;
-        self.run_begun(
-            world, active, object, method, arguments, begun.work, begun.last,
-        )
+        let (line, begun) = self.begun(world, active, call)?;
+        world.use_connection([line], connection)?;
+        self.run_begun(world, active, call, &begun)
     }
 
     /// Begins a method whose arguments an expression gave, over what is left of the top of the stack; `BadType` where the
@@ -108,25 +109,22 @@ impl Setting {
         &self,
         world: &mut World,
         active: &Active<'_>,
-        object: ObjectId,
-        method: usize,
-        arguments: &[Value],
+        call: &MethodCall<'_>,
     ) -> Result<(), Fault>
         requires sound { IsSoundWorld self.now.meta world.old }
         requires left { 0 < world.old.left }
-        ensures ends { EndsOnlyCall self.now active.now
-            object method arguments.now world.old world.new result }
+        ensures ends { EndsOnlyCall self.now active.now call.now world.old world.new result }
     {
-        let Some((_, declared)) = self.member(world, object, method) else {
+        let Some((_, declared)) = self.member(world, call.object, call.method) else {
             return Err(Fault::BadType);
         };
         if !world
             .objects
-            .have_types(&self.meta, arguments, declared.kinds.as_slice())
+            .have_types(&self.meta, call.arguments, declared.kinds.as_slice())
         {
             return Err(Fault::BadType);
         }
-        self.begin(world, active, object, method, arguments)
+        self.begin(world, active, call)
     }
 
     /// Begins a method, over what is left of the top of the stack.
@@ -135,21 +133,17 @@ impl Setting {
         &self,
         world: &mut World,
         active: &Active<'_>,
-        object: ObjectId,
-        method: usize,
-        arguments: &[Value],
+        call: &MethodCall<'_>,
     ) -> Result<(), Fault>
         requires sound { IsSoundWorld self.now.meta world.old }
         requires left { 0 < world.old.left }
-        requires fit { ArgumentsFit self.now.meta world.old.objects object method arguments.now }
-        ensures ends { EndsCall self.now active.now
-            object method arguments.now world.old world.new result }
+        requires fit { ArgumentsFit self.now.meta world.old.objects
+            call.now.object call.now.method call.now.arguments.now }
+        ensures ends { EndsCall self.now active.now call.now world.old world.new result }
     {
-        let begun = self.begun(world, active, object, method, arguments)?;
-        world.note([begun.line])?;
-        self.run_begun(
-            world, active, object, method, arguments, begun.work, begun.last,
-        )
+        let (line, begun) = self.begun(world, active, call)?;
+        world.note([line])?;
+        self.run_begun(world, active, call, &begun)
     }
 
     /// Runs a method that has begun to its end.
@@ -158,28 +152,20 @@ impl Setting {
         &self,
         world: &mut World,
         active: &Active<'_>,
-        object: ObjectId,
-        method: usize,
-        arguments: &[Value],
-        work: &Work,
-        last: u64,
+        call: &MethodCall<'_>,
+        begun: &Begun<'_>,
     ) -> Result<(), Fault>
         requires room { length active.now < self.now.depth }
         requires sound { IsSoundWorld self.now.meta world.old }
-        requires begun { ArgumentsFit self.now.meta world.old.objects object method arguments.now }
+        requires fit { ArgumentsFit self.now.meta world.old.objects
+            call.now.object call.now.method call.now.arguments.now }
         ensures ends { Finishes self.now active.now
-            (top_of object method arguments.now last work.now) world.old world.new result }
+            (top_of call.now.object call.now.method call.now.arguments.now begun.now.last begun.now.work.now)
+            world.old world.new result }
     {
-        match work {
-            Work::Signal => self.run_emission(world, active, object, method, arguments, last),
-            Work::Slot(body) => self.run_body(
-                world,
-                active,
-                object,
-                method,
-                arguments,
-                body.as_slice(),
-            ),
+        match begun.work {
+            Work::Signal => self.run_emission(world, active, call, begun.last),
+            Work::Slot(body) => self.run_body(world, active, call, body.as_slice()),
         }
     }
 }

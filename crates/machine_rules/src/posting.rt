@@ -5,6 +5,7 @@ ghost use Rattle.machine_rules.specs.Good.{ArgumentsFit};
 ghost use Rattle.machine_rules.specs.Sound.{IsSoundWorld};
 ghost use Rattle.machine_rules.specs.Reaches.{PostsCall, entry_of_post};
 
+use crate::method_call::MethodCall;
 use crate::setting::Setting;
 use connections::Connection;
 use event_loops::Item;
@@ -15,40 +16,39 @@ use signatures::{Arguments, Name, Value};
 use std::alloc::AllocError;
 
 impl Setting {
-    /// Uses a connection and posts a call of its method to the event loop in which its receiver lives, where `depth`
+    /// Uses a connection and posts its call to the event loop in which the object that is called lives, where `depth`
     /// activations are on the stack; without memory nothing changes.
     pub fn post(
         &self,
         world: &mut World,
         depth: usize,
-        connection: Connection,
-        arguments: &[Value],
+        connection: &Connection,
+        call: &MethodCall<'_>,
     ) -> Result<(), Fault>
         requires sound { IsSoundWorld self.now.meta world.old }
         requires left { 0 < world.old.left }
         requires fit { ArgumentsFit self.now.meta world.old.objects
-            connection.receiver connection.method arguments.now }
-        ensures { PostsCall self.now.meta world.old depth
-            connection arguments.now world.new result }
+            call.now.object call.now.method call.now.arguments.now }
+        ensures { PostsCall self.now.meta world.old depth connection.now
+            call.now.object call.now.method call.now.arguments.now world.new result }
     {
-        let (object, method) = (connection.receiver, connection.method);
-        let Some((receiver, declared)) = self.member(world, object, method) else {
+        let Some((receiver, declared)) = self.member(world, call.object, call.method) else {
             unreachable!()
         };
-        let Some(home) = world.home(object) else {
+        let Some(home) = world.home(call.object) else {
             unreachable!()
         };
         let Some(event_loop) = world.queues.name(home) else {
             unreachable!()
         };
-        let entry = self.post_entry(world, depth, event_loop, receiver, declared, arguments)?;
-        let arguments = Arguments::copy_of(self.alloc, arguments)?;
+        let entry = self.post_entry(world, depth, event_loop, receiver, declared, call.arguments)?;
+        let arguments = Arguments::copy_of(self.alloc, call.arguments)?;
         let item = Item::Call {
-            object,
-            method,
+            object: call.object,
+            method: call.method,
             arguments,
         };
-        world.post(entry, &connection, home, item)
+        world.post(entry, connection, home, item)
     }
 
     /// The entry of a call that is posted to the event loop of this name.

@@ -1,16 +1,17 @@
 //! A program with its natives, and what its numbers lead to.
 
-ghost use Rattle.std.specs.Prelude.{◌≡◌, ◌≤◌, IfSome, IfOk, IfErr, MatchOption, take};
+ghost use Rattle.std.specs.Prelude.{◌≡◌, ◌≤◌, IfSome, IfOk, IfErr, MatchOption};
 ghost use Rattle.machine_rules.specs.Reaches.{entry_of_call, MayNest, IsBegun, IsBarred};
 ghost use Rattle.machine_rules.specs.Good.{ArgumentsFit};
 ghost use Rattle.machine_rules.specs.Sound.{IsSoundIn};
 ghost use Rattle.machine_rules.specs.There.{IsMember, IsField, LacksMember, LacksField};
 
 use crate::active::Active;
+use crate::method_call::MethodCall;
 use machine_state::{Entry, Fault, Happening, Natives, World, is_silent, show_all};
 use meta_objects::{Meta, MetaMethod, MetaProperty, Work};
 use object_tree::Object;
-use signatures::{ObjectId, Value};
+use signatures::ObjectId;
 use std::alloc::{AllocError, Global};
 
 /// A program with its natives, and how deep activations may nest.
@@ -28,10 +29,8 @@ pub struct Setting {
 }
 
 /// What is found of a method that may begin.
-#[derive(Drop)]
+#[derive(Clone, Copy)]
 pub struct Begun<'s> {
-    /// The line that is written down.
-    pub line: Entry,
     /// What is to run.
     pub work: &'s Work,
     /// The last connection that was made before.
@@ -108,61 +107,52 @@ impl Setting {
         }
     }
 
-    /// What is found of a method before it begins, or why it doesn't.
+    /// The line that is written down as a method begins, and what is found of it before; or why it doesn't begin.
     pub fn begun<'s>(
         &'s self,
         world: &World,
         active: &Active<'_>,
-        object: ObjectId,
-        method: usize,
-        arguments: &[Value],
-    ) -> Result<Begun<'s>, Fault>
-        requires fit { ArgumentsFit self.now.meta world.now.objects object method arguments.now }
+        call: &MethodCall<'_>,
+    ) -> Result<(Entry, Begun<'s>), Fault>
+        requires fit { ArgumentsFit self.now.meta world.now.objects
+            call.now.object call.now.method call.now.arguments.now }
         ensures ok { IfOk result (λ b. IsBegun self.now.meta self.now.depth active.now world.now
-            object method arguments.now b.line b.work.now b.last) }
+            call.now.object call.now.method call.now.arguments.now b.0 b.1.work.now b.1.last) }
         ensures err { IfErr result (IsBarred self.now.depth active.now) }
     {
-        let Some((found, declared)) = self.member(world, object, method) else {
+        let Some((found, declared)) = self.member(world, call.object, call.method) else {
             unreachable!()
         };
         self.may_nest(active)?;
-        let line = self.begin_entry(
-            world,
-            active.count() + 1,
-            found,
-            method,
-            declared,
-            arguments,
-        )?;
-        Ok(Begun {
-            line,
+        let line = self.begin_entry(world, active.count() + 1, found, declared, call)?;
+        let begun = Begun {
             work: &declared.work,
             last: world.connected.last(),
-        })
+        };
+        Ok((line, begun))
     }
 
-    /// The entry of a method that begins, which has this number.
+    /// The entry of a call of a method of an object that begins.
     fn begin_entry(
         &self,
         world: &World,
         depth: usize,
         object: &Object,
-        number: usize,
         method: &MetaMethod,
-        arguments: &[Value],
+        call: &MethodCall<'_>,
     ) -> Result<Entry, AllocError>
         ensures { IfOk result (λ entry. entry ≡
-            entry_of_call world.now depth object.now number method.now arguments.now) }
+            entry_of_call world.now depth object.now call.now.method method.now call.now.arguments.now) }
     {
         let name = object.name.copy()?;
         let called = method.sig.name.copy()?;
-        let arguments = show_all(self.alloc, &world.objects, arguments)?;
+        let arguments = show_all(self.alloc, &world.objects, call.arguments)?;
         let happening = match method.work {
             Work::Signal => Happening::Emitted {
                 object: name,
                 signal: called,
                 arguments,
-                blocked: is_silent(object, number),
+                blocked: is_silent(object, call.method),
             },
             Work::Slot(_) => Happening::Called {
                 object: name,
@@ -171,16 +161,5 @@ impl Setting {
             },
         };
         Ok(Entry::At(depth, happening))
-    }
-}
-
-/// As many of the arguments as a method declares.
-pub fn front(arguments: &[Value], count: usize) -> &[Value]
-    ensures { result.now ≡ take count arguments.now }
-{
-    if count < arguments.len() {
-        &arguments[..count]
-    } else {
-        arguments
     }
 }

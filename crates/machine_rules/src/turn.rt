@@ -5,6 +5,7 @@ ghost use Rattle.machine_rules.specs.Sound.{IsSoundWorld};
 ghost use Rattle.machine_rules.specs.Reaches.{Ends, Advances};
 
 use crate::active::Active;
+use crate::method_call::MethodCall;
 use crate::setting::Setting;
 use event_loops::{Item, Posted};
 use machine_state::{Fault, Turn, World};
@@ -46,8 +47,13 @@ impl Setting {
         };
         let (object, method) = (*object, *method);
         let below = Active::nothing();
-        let begun = self.begun(world, &below, object, method, arguments.as_slice())?;
-        let taken = world.take_before(begun.line, turn.home, turn.limit)?;
+        let call = MethodCall {
+            object,
+            method,
+            arguments: arguments.as_slice(),
+        };
+        let (line, begun) = self.begun(world, &below, &call)?;
+        let taken = world.take_before(line, turn.home, turn.limit)?;
         let Some(
             Posted {
                 item: Item::Call { arguments, .. },
@@ -57,9 +63,11 @@ impl Setting {
         else {
             unreachable!()
         };
-        let arguments = arguments.as_slice();
-        self.run_begun(
-            world, &below, object, method, arguments, begun.work, begun.last,
-        )
+        let call = MethodCall {
+            object,
+            method,
+            arguments: arguments.as_slice(),
+        };
+        self.run_begun(world, &below, &call, &begun)
     }
 }

@@ -8,11 +8,13 @@ ghost use Rattle.machine_rules.specs.Writing.{entry_of_write, TellsChange, Annou
 ghost use Rattle.machine_rules.specs.Rules.{places_of};
 
 use crate::active::Active;
-use crate::setting::{Setting, front};
+use crate::method_call::{MethodCall, front};
+use crate::place::Place;
+use crate::setting::Setting;
 use machine_state::{Entry, Fault, Happening, World, show, stored};
 use meta_objects::MetaProperty;
 use object_tree::{Object, Tree};
-use signatures::{ObjectId, Value};
+use signatures::Value;
 use std::alloc::AllocError;
 
 /// What is found of a property that may be written.
@@ -32,18 +34,16 @@ impl Setting {
         &self,
         world: &mut World,
         active: &Active<'_>,
-        object: ObjectId,
-        property: usize,
+        place: &Place,
         value: Value,
     ) -> Result<(), Fault>
         requires sound { IsSoundWorld self.now.meta world.old }
         requires left { 0 < world.old.left }
-        ensures ends { EndsWrite self.now active.now
-            object property value world.old world.new result }
+        ensures ends { EndsWrite self.now active.now place.now value world.old world.new result }
     {
-        let writing = self.writing(world, active, object, property, &value)?;
-        world.write([writing.line], object, property, value)?;
-        self.run_update(world, active, object, property, writing.changed)
+        let Writing { line, changed } = self.writing(world, active, place, &value)?;
+        world.write([line], place.object, place.property, value)?;
+        self.run_update(world, active, place, changed)
     }
 
     /// What is found of a property before a value is written to it over these activations, or why it isn't: `BadType`
@@ -53,19 +53,18 @@ impl Setting {
         &self,
         world: &World,
         active: &Active<'_>,
-        object: ObjectId,
-        property: usize,
+        place: &Place,
         value: &Value,
     ) -> Result<Writing, Fault>
         ensures ok { IfOk result (λ x. IsWriting self.now.meta self.now.depth active.now world.now
-            object property value.now x.line x.changed) }
+            place.now.object place.now.property value.now x.line x.changed) }
         ensures err { IfErr result (IsUnwritten self.now.meta self.now.depth active.now world.now
-            object property value.now) }
+            place.now.object place.now.property value.now) }
     {
-        let Some((found, declared)) = self.field(world, object, property) else {
+        let Some((found, declared)) = self.field(world, place.object, place.property) else {
             return Err(Fault::BadType);
         };
-        let changed = signal_of_change(&world.objects, object, property, declared.notify, value);
+        let changed = signal_of_change(&world.objects, place, declared.notify, value);
         if !world.objects.has_type(&self.meta, value, declared.kind) {
             return Err(Fault::BadType);
         }
@@ -100,19 +99,19 @@ impl Setting {
         &self,
         world: &mut World,
         active: &Active<'_>,
-        object: ObjectId,
-        property: usize,
+        place: &Place,
         changed: Option<usize>,
     ) -> Result<(), Fault>
         requires room { length active.now < self.now.depth }
         requires sound { IsSoundWorld self.now.meta world.old }
-        requires announces { MayAnnounce self.now.meta world.old.objects object property changed }
+        requires announces { MayAnnounce self.now.meta world.old.objects
+            place.now.object place.now.property changed }
         ensures ends { Finishes self.now active.now
-            (Update (places_of object property changed)) world.old world.new result }
+            (Update (places_of place.now.object place.now.property changed)) world.old world.new result }
     {
         match changed {
             Some(signal) => {
-                self.notify(world, active, object, property, signal)?;
+                self.notify(world, active, place, signal)?;
                 world.tick()
             }
             None => world.tick(),
@@ -125,42 +124,46 @@ impl Setting {
         &self,
         world: &mut World,
         active: &Active<'_>,
-        object: ObjectId,
-        property: usize,
+        place: &Place,
         signal: usize,
     ) -> Result<(), Fault>
         requires room { length active.now < self.now.depth }
         requires sound { IsSoundWorld self.now.meta world.old }
-        requires announces { Announces self.now.meta world.old.objects object property signal }
+        requires announces { Announces self.now.meta world.old.objects
+            place.now.object place.now.property signal }
         ensures ends { Leads self.now active.now
-            (Update (places_of object property (Some signal))) (Update [])
+            (Update (places_of place.now.object place.now.property (Some signal))) (Update [])
             world.old world.new result }
     {
         world.require_rule()?;
-        let Some((_, declared)) = self.member(world, object, signal) else {
+        let Some((_, declared)) = self.member(world, place.object, signal) else {
             unreachable!()
         };
-        let Some(value) = stored(&world.objects, object, property) else {
+        let Some(value) = stored(&world.objects, place.object, place.property) else {
             unreachable!()
         };
         let present = [value.copy()?];
         let taken = front(present.as_slice(), declared.kinds.len());
         let over = (&*active).over(None);
-        self.begin(world, &over, object, signal, taken)
+        let call = MethodCall {
+            object: place.object,
+            method: signal,
+            arguments: taken,
+        };
+        self.begin(world, &over, &call)
     }
 }
 
 /// The notify signal of a property that is written, where there is one and the new value doesn't read as the old one.
 fn signal_of_change(
     objects: &Tree,
-    object: ObjectId,
-    property: usize,
+    place: &Place,
     notify: Option<usize>,
     new: &Value,
 ) -> Option<usize>
-    ensures { TellsChange objects.now object property notify new.now result }
+    ensures { TellsChange objects.now place.now.object place.now.property notify new.now result }
 {
-    let Some(old) = stored(objects, object, property) else {
+    let Some(old) = stored(objects, place.object, place.property) else {
         return notify;
     };
     if objects.is_same(old, new) {

@@ -12,17 +12,16 @@ ghost use Rattle.script_lang.specs.declared.event.Event.{Event as AnEvent};
 use crate::events::named::find_living;
 use crate::events::values::read_input;
 use crate::judgement::{NotAccepted, refuse};
-use machine_rules::{Active, Setting};
+use machine_rules::{Active, Place, Setting, Writing};
 use machine_state::{Answer, Fault, Refusal, World};
 use meta_objects::{Meta, MetaProperty};
 use script_lang::Input;
 use signatures::{Name, ObjectId, Value};
 
-/// The numbers of an object and of its property, and the property's new value.
+/// A property of an object, and its new value.
 #[derive(Drop)]
 struct Assignment {
-    object: ObjectId,
-    property: usize,
+    place: Place,
     value: Value,
 }
 
@@ -43,13 +42,7 @@ pub fn assign(
 {
     match judge(setting, world, name, property, input) {
         Err(reason) => refuse(world, reason),
-        Ok(
-            Assignment {
-                object,
-                property,
-                value,
-            },
-        ) => write(setting, world, object, property, value),
+        Ok(Assignment { place, value }) => write(setting, world, &place, value),
     }
 }
 
@@ -62,9 +55,9 @@ fn judge(
     input: &Input,
 ) -> Result<Assignment, NotAccepted>
     ensures accepted { IfOk result (λ a. WritesTo setting.now.meta world.now
-        a.object a.property a.value (Set name.now property.now input.now)) }
+        a.place.object a.place.property a.value (Set name.now property.now input.now)) }
     ensures fits { IfOk result (λ a. ValueFits setting.now.meta world.now.objects
-        a.object a.property a.value) }
+        a.place.object a.place.property a.value) }
     ensures refused { IfErr result (IsNotAccepted
         (assign setting.now.meta (at world.now []) name.now property.now input.now)) }
 {
@@ -74,11 +67,11 @@ fn judge(
     };
     let value = read_input(world, input)?;
     if world.objects.has_type(&setting.meta, &value, declared.kind) {
-        Ok(Assignment {
+        let place = Place {
             object: ObjectId::new(object),
             property,
-            value,
-        })
+        };
+        Ok(Assignment { place, value })
     } else {
         Err(NotAccepted::Refused(Refusal::BadArgs))
     }
@@ -101,21 +94,22 @@ fn property_of<'m>(meta: &'m Meta, class: usize, name: &Name) -> Option<(usize, 
 fn write(
     setting: &Setting,
     world: &mut World,
-    object: ObjectId,
-    property: usize,
+    place: &Place,
     value: Value,
 ) -> Result<Answer, Fault>
     requires depth { 0 < setting.now.depth }
     requires left { 0 < world.old.left }
     requires idle { world.old.turn ≡ None }
     requires keeps { WorldInvariant setting.now.meta world.old }
-    requires fits { ValueFits setting.now.meta world.old.objects object property value }
-    ensures { (e : AnEvent) → WritesTo setting.now.meta world.old object property value e →
+    requires fits { ValueFits setting.now.meta world.old.objects
+        place.now.object place.now.property value }
+    ensures { (e : AnEvent) →
+        WritesTo setting.now.meta world.old place.now.object place.now.property value e →
         Answers setting.now e world.old world.new result }
 {
     let below = Active::nothing();
-    let writing = setting.writing(world, &below, object, property, &value)?;
-    world.accept_write([writing.line], object, property, value)?;
-    setting.run_update(world, &below, object, property, writing.changed)?;
+    let Writing { line, changed } = setting.writing(world, &below, place, &value)?;
+    world.accept_write([line], place.object, place.property, value)?;
+    setting.run_update(world, &below, place, changed)?;
     Ok(Answer::Done)
 }

@@ -13,12 +13,12 @@ use crate::events::ends::is_signal;
 use crate::events::named::find_living;
 use crate::events::values::read_inputs;
 use crate::judgement::{NotAccepted, refuse};
-use machine_rules::{Active, Setting};
+use machine_rules::{Active, MethodCall, Setting};
 use machine_state::{Answer, Fault, Refusal, World};
 use meta_model::{DELETE_LATER, OBJECT_NAME_CHANGED};
 use meta_objects::{Meta, MetaMethod};
 use script_lang::Input;
-use signatures::{Arguments, Name, ObjectId, Value};
+use signatures::{Arguments, Name, ObjectId};
 
 /// What an event asks of a method.
 #[derive(Clone, Copy, Debug, PartialEq, Eq)]
@@ -73,7 +73,14 @@ pub fn invoke(
                 method,
                 values,
             },
-        ) => begin(setting, world, object, method, values.as_slice()),
+        ) => {
+            let call = MethodCall {
+                object,
+                method,
+                arguments: values.as_slice(),
+            };
+            begin(setting, world, &call)
+        }
     }
 }
 
@@ -144,23 +151,21 @@ fn method_of<'m>(
 fn begin(
     setting: &Setting,
     world: &mut World,
-    object: ObjectId,
-    method: usize,
-    values: &[Value],
+    call: &MethodCall<'_>,
 ) -> Result<Answer, Fault>
     requires depth { 0 < setting.now.depth }
     requires left { 0 < world.old.left }
     requires idle { world.old.turn ≡ None }
     requires keeps { WorldInvariant setting.now.meta world.old }
-    requires fit { ArgumentsFit setting.now.meta world.old.objects object method values.now }
-    ensures { (e : AnEvent) → AsksFor setting.now.meta world.old object method values.now e →
+    requires fit { ArgumentsFit setting.now.meta world.old.objects
+        call.now.object call.now.method call.now.arguments.now }
+    ensures { (e : AnEvent) →
+        AsksFor setting.now.meta world.old call.now.object call.now.method call.now.arguments.now e →
         Answers setting.now e world.old world.new result }
 {
     let below = Active::nothing();
-    let begun = setting.begun(world, &below, object, method, values)?;
-    world.accept_with([begun.line])?;
-    setting.run_begun(
-        world, &below, object, method, values, begun.work, begun.last,
-    )?;
+    let (line, begun) = setting.begun(world, &below, call)?;
+    world.accept_with([line])?;
+    setting.run_begun(world, &below, call, &begun)?;
     Ok(Answer::Done)
 }

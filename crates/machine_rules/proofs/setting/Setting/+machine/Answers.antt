@@ -21,8 +21,8 @@ run_emission-deliver-requires t c =
     let found = sym c.in-Some.ensures.value in
     let sound = c.loop-connection.invariant.sound in
     let emitted = fit-still c.loop-connection.invariant.keeps c.requires.emitted in
-    let joined = next-joined now.objects now.connected.connections c.args.object c.args.signal c.loop-connection.used c.args.last _ sound.is.joined found in
-    let fits = next-fits now.objects now.connected.connections c.args.object c.args.signal c.loop-connection.used c.args.last _ found emitted in
+    let joined = next-joined now.objects now.connected.connections c.args.call.now.object c.args.call.now.method c.loop-connection.used c.args.last _ sound.is.joined found in
+    let fits = next-fits now.objects now.connected.connections c.args.call.now.object c.args.call.now.method c.loop-connection.used c.args.last _ found emitted in
     (omega (arith, c.loop-connection.invariant.fewer), (c.requires.room, (sound, (joined, fits))))
 
 pub run_emission-loop-connection-preserved : goal.run_emission-loop-connection-preserved
@@ -76,9 +76,9 @@ deliver-returns-else-reaches_at_once t c =
           ends-posted o g used last _ _ found c.in-Some.ensures c.front-taken.ensures c.len.ensures (sym c.in-Some-home.ensures) (sym later ∙ c.if-reaches_at_once.false) c.requires.room c.requires.sound.is.typed c.in_ok-require_rule.ensures (omega (arith, c.count.ensures)) c.post.ensures;
     }
 
-pub begin_used-returns-in_err-begun : goal.begin_used-returns-in_err-begun
-begin_used-returns-in_err-begun t c = record {
-  ends = λ from to shown over calls. ends-left _ (stops-barred over calls c.requires.fit c.requires.sound.is.typed c.requires.left c.in_err-begun.ensures.err) c.from_residual.ensures.1;
+pub begin_used-returns-in_err-line : goal.begin_used-returns-in_err-line
+begin_used-returns-in_err-line t c = record {
+  ends = λ from to shown over calls. ends-left _ (stops-barred over calls c.requires.fit c.requires.sound.is.typed c.requires.left c.in_err-line.ensures.err) c.from_residual.ensures.1;
 }
 
 pub begin_used-returns-in_err-use_connection : goal.begin_used-returns-in_err-use_connection
@@ -87,13 +87,13 @@ begin_used-returns-in_err-use_connection t c = record { ends = λ from to shown 
 pub begin_used-run_begun-requires : goal.begin_used-run_begun-requires
 begin_used-run_begun-requires t c =
     let went = c.in_ok-use_connection.ensures in
-    let Fit : World → Type 0 = λ v. ArgumentsFit c.args.self.now.meta v.objects c.args.connection.receiver c.args.connection.method c.args.arguments.now in
-    (omega (arith, ap (λ (w : World). w.left) went, c.requires.left), (c.in_ok-begun.ensures.ok.room, (sound-used c.args.world.now _ c.args.connection went c.requires.sound, subst Fit (sym went) c.requires.fit)))
+    let Fit : World → Type 0 = λ v. ArgumentsFit c.args.self.now.meta v.objects c.args.call.now.object c.args.call.now.method c.args.call.now.arguments.now in
+    (omega (arith, ap (λ (w : World). w.left) went, c.requires.left), (c.in_ok-line.ensures.ok.room, (sound-used c.args.world.now _ c.args.connection.now went c.requires.sound, subst Fit (sym went) c.requires.fit)))
 
 pub begin_used-returns : goal.begin_used-returns
 begin_used-returns t c = record {
   ends = λ from to shown over calls.
-      ends-begun over calls (begun-used c.args.connection c.in_ok-begun.ensures.ok) c.requires.fit c.requires.sound.is.typed c.requires.left refl c.in_ok-use_connection.ensures c.run_begun.ensures.ends;
+      ends-begun over calls (begun-used c.args.connection.now c.in_ok-line.ensures.ok) c.requires.fit c.requires.sound.is.typed c.requires.left refl c.in_ok-use_connection.ensures c.run_begun.ensures.ends;
 }
 
 -- ---- the beginning of methods
@@ -115,9 +115,9 @@ begin_typed-begin-requires t c = let typed = rw c.as_slice.ensures at c.have_typ
 pub begin_typed-returns : goal.begin_typed-returns
 begin_typed-returns t c = record { ends = λ from to shown over calls only. c.begin.ensures.ends from to shown over calls }
 
-pub begin-returns-in_err-begun : goal.begin-returns-in_err-begun
-begin-returns-in_err-begun t c = record {
-  ends = λ from to shown over calls. ends-left _ (stops-barred over calls c.requires.fit c.requires.sound.is.typed c.requires.left c.in_err-begun.ensures.err) c.from_residual.ensures.1;
+pub begin-returns-in_err-line : goal.begin-returns-in_err-line
+begin-returns-in_err-line t c = record {
+  ends = λ from to shown over calls. ends-left _ (stops-barred over calls c.requires.fit c.requires.sound.is.typed c.requires.left c.in_err-line.ensures.err) c.from_residual.ensures.1;
 }
 
 pub begin-returns-in_err-note : goal.begin-returns-in_err-note
@@ -126,13 +126,13 @@ begin-returns-in_err-note t c = record { ends = λ from to shown over calls. end
 pub begin-run_begun-requires : goal.begin-run_begun-requires
 begin-run_begun-requires t c =
     let went = c.in_ok-note.ensures in
-    let Fit : World → Type 0 = λ v. ArgumentsFit c.args.self.now.meta v.objects c.args.object c.args.method c.args.arguments.now in
-    (omega (arith, ap (λ (w : World). w.left) went, c.requires.left), (c.in_ok-begun.ensures.ok.room, (sound-noted c.args.world.now _ went c.requires.sound, subst Fit (sym went) c.requires.fit)))
+    let Fit : World → Type 0 = λ v. ArgumentsFit c.args.self.now.meta v.objects c.args.call.now.object c.args.call.now.method c.args.call.now.arguments.now in
+    (omega (arith, ap (λ (w : World). w.left) went, c.requires.left), (c.in_ok-line.ensures.ok.room, (sound-noted c.args.world.now _ went c.requires.sound, subst Fit (sym went) c.requires.fit)))
 
 pub begin-returns : goal.begin-returns
 begin-returns t c = record {
   ends = λ from to shown over calls.
-      ends-begun over calls c.in_ok-begun.ensures.ok c.requires.fit c.requires.sound.is.typed c.requires.left refl c.in_ok-note.ensures c.run_begun.ensures.ends;
+      ends-begun over calls c.in_ok-line.ensures.ok c.requires.fit c.requires.sound.is.typed c.requires.left refl c.in_ok-note.ensures c.run_begun.ensures.ends;
 }
 
 -- ---- bodies
@@ -161,14 +161,14 @@ pub run_body-loop-statement-preserved : goal.run_body-loop-statement-preserved
 run_body-loop-statement-preserved t c =
     let came = rw c.in-Some.ensures at c.loop-statement.invariant.reaches in
     let is = rw (c.scope.ensures.objects, c.scope.ensures.this, c.scope.ensures.arguments) at c.in_ok-doing.ensures in
-    let one = (c.in_ok-carry_out.ensures.advances c.args.method c.args.arguments.now _ is).cases in
+    let one = (c.in_ok-carry_out.ensures.advances c.args.call.now.method c.args.call.now.arguments.now _ is).cases in
     let keeps = keeps-then c.loop-statement.invariant.keeps (reaches-keeps one.0) in
     record { reaches = reaches-then came one.0; keeps = keeps; fewer = keeps.fewer; sound = reaches-sound (tt, tt) c.loop-statement.invariant.sound one.0 }
 
 pub run_body-loop-statement-smaller : goal.run_body-loop-statement-smaller
 run_body-loop-statement-smaller t c =
     let is = rw (c.scope.ensures.objects, c.scope.ensures.this, c.scope.ensures.arguments) at c.in_ok-doing.ensures in
-    (c.in_ok-carry_out.ensures.advances c.args.method c.args.arguments.now _ is).cases.1
+    (c.in_ok-carry_out.ensures.advances c.args.call.now.method c.args.call.now.arguments.now _ is).cases.1
 
 pub run_body-returns : goal.run_body-returns
 run_body-returns t c =
@@ -220,22 +220,22 @@ carry_out-returns-in-Disconnect t c = record {
 
 -- ---- writes
 
-pub write-returns-in_err-writing : goal.write-returns-in_err-writing
-write-returns-in_err-writing t c = record {
-  ends = λ from to shown over sets. ends-left _ (stops-unwritten over sets c.requires.sound.is.typed c.requires.left c.in_err-writing.ensures.err) c.from_residual.ensures.1;
+pub write-returns-in_err-line : goal.write-returns-in_err-line
+write-returns-in_err-line t c = record {
+  ends = λ from to shown over sets. ends-left _ (stops-unwritten over sets c.requires.sound.is.typed c.requires.left c.in_err-line.ensures.err) c.from_residual.ensures.1;
 }
 
 pub write-returns-in_err-write : goal.write-returns-in_err-write
 write-returns-in_err-write t c = record { ends = λ from to shown over sets. ends-unchanged _ sets.goes_on c.requires.left c.in_err-write.ensures c.from_residual-in_err-write.ensures.1 }
 
 pub write-run_update-requires : goal.write-run_update-requires
-write-run_update-requires t c = let is = c.in_ok-writing.ensures.ok in
+write-run_update-requires t c = let is = c.in_ok-line.ensures.ok in
     let went = c.in_ok-write.ensures in
     (omega (arith, ap (λ (w : World). w.left) went, c.requires.left), (is.room, (sound-as went (sound-set c.args.world.now _ c.args.value is.alters.is is.fits c.requires.sound), announces-as _ _ _ _ went (announces-written c.args.value _ is.alters c.requires.sound.is.typed))))
 
 pub write-returns : goal.write-returns
 write-returns t c = record {
-  ends = λ from to shown over sets. ends-written over sets c.requires.sound.is.typed c.requires.left c.in_ok-writing.ensures.ok c.in_ok-write.ensures c.run_update.ensures.ends;
+  ends = λ from to shown over sets. ends-written over sets c.requires.sound.is.typed c.requires.left c.in_ok-line.ensures.ok c.in_ok-write.ensures c.run_update.ensures.ends;
 }
 
 pub run_update-returns-in-None : goal.run_update-returns-in-None

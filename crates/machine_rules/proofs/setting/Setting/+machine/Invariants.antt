@@ -41,7 +41,7 @@ decreases-notify l = 6 * l.world.now.left + 1
 abbrev pub invariant-run_body-loop-statement : goal.invariant-run_body-loop-statement
 invariant-run_body-loop-statement l =
     record {
-      reaches : Reaches l.self.meta l.self.depth l.active l.fn.world (Body l.object l.method l.arguments l.statements ∷ []) l.world (Body l.object l.method l.arguments l.left ∷ []);
+      reaches : Reaches l.self.meta l.self.depth l.active l.fn.world (Body l.call.object l.call.method l.call.arguments.now l.statements ∷ []) l.world (Body l.call.object l.call.method l.call.arguments.now l.left ∷ []);
       keeps : KeepsWorld l.self.meta l.fn.world l.world;
       fewer : l.world.left ≤ l.fn.world.left;
       sound : IsSoundWorld l.self.meta l.world;
@@ -53,7 +53,7 @@ decreases-run_body-loop-statement l = l.world.left
 abbrev pub invariant-run_emission-loop-connection : goal.invariant-run_emission-loop-connection
 invariant-run_emission-loop-connection l =
     record {
-      reaches : Reaches l.self.meta l.self.depth l.active l.fn.world (Emit l.object l.signal l.arguments 0 l.last ∷ []) l.world (Emit l.object l.signal l.arguments l.used l.last ∷ []);
+      reaches : Reaches l.self.meta l.self.depth l.active l.fn.world (Emit l.call.object l.call.method l.call.arguments.now 0 l.last ∷ []) l.world (Emit l.call.object l.call.method l.call.arguments.now l.used l.last ∷ []);
       keeps : KeepsWorld l.self.meta l.fn.world l.world;
       fewer : l.world.left ≤ l.fn.world.left;
       sound : IsSoundWorld l.self.meta l.world;

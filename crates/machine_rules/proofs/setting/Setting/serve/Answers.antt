@@ -17,8 +17,8 @@ unreachable-requires c = first-fits c.args.turn.home c.args.turn.limit (Deletion
 pub begun-requires : goal.begun-requires
 begun-requires c = record { fit = rw c.as_slice.ensures (first-fits c.args.turn.home c.args.turn.limit (Call c.in-Call.object c.in-Call.method c.in-Call.arguments) c.requires.sound c.in-Some.ensures c.in-Call.is) }
 
-pub returns-in_err-begun : goal.returns-in_err-begun
-returns-in_err-begun c = advances-barred c.from_residual.result c.requires.goes_on c.nothing-below.ensures c.requires.room c.requires.left c.in_err-begun.ensures.err c.from_residual.ensures.1
+pub returns-in_err-line : goal.returns-in_err-line
+returns-in_err-line c = advances-barred c.from_residual.result c.requires.goes_on c.nothing-below.ensures c.requires.room c.requires.left c.in_err-line.ensures.err c.from_residual.ensures.1
 
 pub returns-in_err-taken : goal.returns-in_err-taken
 returns-in_err-taken c = advances-unchanged c.from_residual-in_err-taken.result c.requires.goes_on c.requires.left c.in_err-taken.ensures c.from_residual-in_err-taken.ensures.1
@@ -26,19 +26,19 @@ returns-in_err-taken c = advances-unchanged c.from_residual-in_err-taken.result 
 pub run_begun-requires-clause-sound : goal.run_begun-requires-clause-sound
 run_begun-requires-clause-sound c = taken-sound c.args.world.now _ _ _ c.in_ok-taken.ensures.1 c.requires.sound
 
-pub run_begun-requires-clause-begun : goal.run_begun-requires-clause-begun
-run_begun-requires-clause-begun c =
+pub run_begun-requires-clause-fit : goal.run_begun-requires-clause-fit
+run_begun-requires-clause-fit c =
     let fit = first-fits c.args.turn.home c.args.turn.limit (Call c.in-Call.object c.in-Call.method c.in-Call.arguments) c.requires.sound c.in-Some.ensures c.in-Call.is in
     let same : c.in-Some-Call.arguments ≡ c.in-Call.arguments = cc (c.in-Some-Call.is, c.in_ok-taken.ensures.0, c.in-Some.ensures, c.in-Call.is) in
-    let given : c.as_slice-arguments.result.now ≡ c.in-Call.arguments = c.as_slice-arguments.ensures ∙ same in
+    let given : c.as_slice-2.result.now ≡ c.in-Call.arguments = c.as_slice-2.ensures ∙ same in
     rw given (taken-fits c.args.world.now _ _ _ c.in_ok-taken.ensures.1 fit)
 
 pub returns : goal.returns
 returns c =
     let fit = first-fits c.args.turn.home c.args.turn.limit (Call c.in-Call.object c.in-Call.method c.in-Call.arguments) c.requires.sound c.in-Some.ensures c.in-Call.is in
     let same : c.in-Some-Call.arguments ≡ c.in-Call.arguments = cc (c.in-Some-Call.is, c.in_ok-taken.ensures.0, c.in-Some.ensures, c.in-Call.is) in
-    let given : c.as_slice-arguments.result.now ≡ c.in-Call.arguments = c.as_slice-arguments.ensures ∙ same in
-    let begun = rw c.as_slice.ensures at c.in_ok-begun.ensures.ok in
+    let given : c.as_slice-2.result.now ≡ c.in-Call.arguments = c.as_slice-2.ensures ∙ same in
+    let begun = rw c.as_slice.ensures at c.in_ok-line.ensures.ok in
     let ends = rw given at c.run_begun.ensures.ends in
     let less = ap (λ (u : World). u.left) c.in_ok-taken.ensures.1 in
     let went = reaches-served c.requires.goes_on c.in-Some.ensures c.in-Call.is c.nothing-below.ensures begun fit c.requires.sound.is.typed c.requires.left c.in_ok-taken.ensures.1 in

@@ -3,8 +3,8 @@ use Rattle.qt_runtime.proofs.Pushed.{began, barred-short, sound-begun}
 use Rattle.qt_runtime.proofs.Taken.{took-unchanged, took-stopped, ready}
 use Rattle.qt_runtime.proofs.events.invoke.begin.Goals as goal
 
-pub returns-in_err-begun : goal.returns-in_err-begun
-returns-in_err-begun c = λ e asks. barred-short e _ c.requires.depth (ready c.requires.left c.requires.idle) (rw c.nothing-below.ensures at c.in_err-begun.ensures.err) c.from_residual.ensures.1
+pub returns-in_err-line : goal.returns-in_err-line
+returns-in_err-line c = λ e asks. barred-short e _ c.requires.depth (ready c.requires.left c.requires.idle) (rw c.nothing-below.ensures at c.in_err-line.ensures.err) c.from_residual.ensures.1
 
 pub returns-in_err-accept_with : goal.returns-in_err-accept_with
 returns-in_err-accept_with c = λ e asks. took-unchanged e _ (ready c.requires.left c.requires.idle) c.in_err-accept_with.ensures c.from_residual-in_err-accept_with.ensures.1
@@ -14,7 +14,7 @@ run_begun-requires-clause-sound c = sound-begun c.args.world.now _ c.requires.ke
 
 pub returns-in_err-run_begun : goal.returns-in_err-run_begun
 returns-in_err-run_begun c = λ e asks.
-    let is = rw c.nothing-below.ensures at c.in_ok-begun.ensures.ok in
+    let is = rw c.nothing-below.ensures at c.in_ok-line.ensures.ok in
     let ends = rw c.nothing-below.ensures at c.in_err-run_begun.ensures.ends in
     took-stopped e _
     (began {r = Err c.in_err-run_begun.field-0.0} e c.requires.keeps.sound.is.typed c.requires.fit (ready c.requires.left c.requires.idle) asks is c.in_ok-accept_with.ensures ends)
@@ -22,6 +22,6 @@ returns-in_err-run_begun c = λ e asks.
 
 pub returns : goal.returns
 returns c = λ e asks.
-    let is = rw c.nothing-below.ensures at c.in_ok-begun.ensures.ok in
+    let is = rw c.nothing-below.ensures at c.in_ok-line.ensures.ok in
     let ends = rw c.nothing-below.ensures at c.in_ok-run_begun.ensures.ends in
     began {r = Ok tt} e c.requires.keeps.sound.is.typed c.requires.fit (ready c.requires.left c.requires.idle) asks is c.in_ok-accept_with.ensures ends
