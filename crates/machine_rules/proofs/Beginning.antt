@@ -38,18 +38,18 @@ use Rattle.machine_rules.proofs.Fields.{member-method, read-front}
 
 -- the world after a method began
 abbrev pub begun_world : World → ℕ → Object → ℕ → MetaMethod → List Value → World
-begun_world w depth x m method arguments = noted w (begin_entry depth x m method.sig.name (all_shown w.objects arguments) method.work ∷ [])
+begun_world w depth x m method arguments = noted w (begin_entry depth x m method.sig.name (all_shown w.store.tree arguments) method.work ∷ [])
 
 begun-is : (w : World) (stack over : List Activation) (o : ℕ) (x : Object) (m : ℕ) (method : MetaMethod) (arguments : List Value) (work : Work) →
-    at (noted w (begin_entry (suc (length over)) x m method.sig.name (all_shown w.objects arguments) work ∷ [])) (top_of o m arguments w.connected.last work ∷ over) ≡ begun (at w stack) over o x m method arguments work
+    at (noted w (begin_entry (suc (length over)) x m method.sig.name (all_shown w.store.tree arguments) work ∷ [])) (top_of o m arguments w.store.connections.last work ∷ over) ≡ begun (at w stack) over o x m method arguments work
 begun-is w stack over o x m method arguments Signal = refl
 begun-is w stack over o x m method arguments (Slot statements) = refl
 
 -- a method that is there begins
-pub begins-there : {p : Loaded} {n o m : ℕ} {x : Object} {method : MetaMethod} (w : World) (arguments : List Value) (stack over : List Activation) → IsMember p w.objects o m x method → n ≡ suc (length over) →
-    Begins p (at w stack) over o m arguments (at (begun_world w n x m method arguments) (top_of o m arguments w.connected.last method.work ∷ over))
+pub begins-there : {p : Loaded} {n o m : ℕ} {x : Object} {method : MetaMethod} (w : World) (arguments : List Value) (stack over : List Activation) → IsMember p w.store.tree o m x method → n ≡ suc (length over) →
+    Begins p (at w stack) over o m arguments (at (begun_world w n x m method arguments) (top_of o m arguments w.store.connections.last method.work ∷ over))
 begins-there {o = o} {m = m} {x = x} {method = method} w arguments stack over is depth_is =
-    let with_depth : ℕ → State = λ n. at (begun_world w n x m method arguments) (top_of o m arguments w.connected.last method.work ∷ over) in
+    let with_depth : ℕ → State = λ n. at (begun_world w n x m method arguments) (top_of o m arguments w.store.connections.last method.work ∷ over) in
     record {
       object = x;
       method = method;
@@ -70,37 +70,37 @@ fits-top last Signal below fit = fit
 fits-top last (Slot statements) below fit = fit
 
 reaches-begun : {p : Loaded} {d o m : ℕ} {h active : List (Option ℕ)} {w u v : World} {from to : List Activation} {arguments : List Value} {line : Entry} {work : Work} {last : ℕ} →
-    active ≡ shows to ++ h → CallsIn p w u from to o m arguments → IsBegun p d active u o m arguments line work last → ArgumentsFit p u.objects o m arguments → AreTyped p u.objects → 0 < w.left → u.left ≡ w.left → v ≡ noted u (line ∷ []) →
+    active ≡ shows to ++ h → CallsIn p w u from to o m arguments → IsBegun p d active u o m arguments line work last → ArgumentsFit p u.store.tree o m arguments → AreTyped p u.store.tree → 0 < w.left → u.left ≡ w.left → v ≡ noted u (line ∷ []) →
     Reaches p d h w from v (top_of o m arguments last work ∷ to)
 reaches-begun {p} {d} {o} {m} {h} {active} {w} {u} {v} {from} {to} {arguments} {line} {work} {last} over calls is fit typed some same v_is =
     let Pushed : World → Work → ℕ → Type 0 = λ z k l. Reaches p d h w from z (top_of o m arguments l k ∷ to) in
     let target : World = begun_world u (length active + 1) is.object m is.method arguments in
     let target_is : v ≡ target = v_is ∙ ap (λ (y : Entry). noted u (y ∷ [])) is.is_line in
-    let went : Pushed target is.method.work u.connected.last =
-    reaches-high over (λ below e. calls.gives below _ (begins-there u arguments (from ++ below) (to ++ below) is.is (one-more to below over e))) (λ below. top-fits u.connected.last is.method.work (to ++ below) fit) is.room typed (ap (λ (n : ℕ). n - 1) same) some in
+    let went : Pushed target is.method.work u.store.connections.last =
+    reaches-high over (λ below e. calls.gives below _ (begins-there u arguments (from ++ below) (to ++ below) is.is (one-more to below over e))) (λ below. top-fits u.store.connections.last is.method.work (to ++ below) fit) is.room typed (ap (λ (n : ℕ). n - 1) same) some in
     subst (λ (z : World). Pushed z work last) (sym target_is) (subst (λ (k : Work). Pushed target k last) (sym is.is_work) (subst (λ (l : ℕ). Pushed target is.method.work l) (sym is.is_last) went))
 
 -- a method begins, and what it pushed runs
 pub ends-begun : {p : Loaded} {d o m : ℕ} {h active : List (Option ℕ)} {w u v z : World} {from to : List Activation} {arguments : List Value} {line : Entry} {work : Work} {last : ℕ} {r : Result (Unit {0}) Fault} →
-    active ≡ shows to ++ h → CallsIn p w u from to o m arguments → IsBegun p d active u o m arguments line work last → ArgumentsFit p u.objects o m arguments → AreTyped p u.objects → 0 < w.left → u.left ≡ w.left → v ≡ noted u (line ∷ []) →
+    active ≡ shows to ++ h → CallsIn p w u from to o m arguments → IsBegun p d active u o m arguments line work last → ArgumentsFit p u.store.tree o m arguments → AreTyped p u.store.tree → 0 < w.left → u.left ≡ w.left → v ≡ noted u (line ∷ []) →
     Ends p d active v (top_of o m arguments last work ∷ []) z [] r → Ends p d h w from z to r
 ends-begun over calls is fit typed some same v_is x = ends-after (reaches-begun over calls is fit typed some same v_is) (ends-lifted over x)
 
 -- activations would nest too deep
 stops-begin : {p : Loaded} {d o m : ℕ} {h active : List (Option ℕ)} {w u : World} {from to : List Activation} {arguments : List Value} →
-    active ≡ shows to ++ h → CallsIn p w u from to o m arguments → ArgumentsFit p u.objects o m arguments → AreTyped p u.objects → 0 < w.left → d ≤ length active → StopsIn p d h w from w TooDeep
+    active ≡ shows to ++ h → CallsIn p w u from to o m arguments → ArgumentsFit p u.store.tree o m arguments → AreTyped p u.store.tree → 0 < w.left → d ≤ length active → StopsIn p d h w from w TooDeep
 stops-begin {o = o} {m = m} {active = active} {w = w} {u = u} {from = from} {to = to} {arguments = arguments} over calls fit typed some deep =
     let target : World = begun_world u (length active + 1) fit.object m fit.method arguments in
     stops-deep some (λ below e. (
-      at target (top_of o m arguments u.connected.last fit.method.work ∷ to ++ below),
+      at target (top_of o m arguments u.store.connections.last fit.method.work ∷ to ++ below),
       calls.gives below _ (begins-there u arguments (from ++ below) (to ++ below) fit.is (one-more to below over e)),
-      record { arguments = λ higher. top-fits u.connected.last fit.method.work (to ++ below) fit; values = typed },
+      record { arguments = λ higher. top-fits u.store.connections.last fit.method.work (to ++ below) fit; values = typed },
       omega (arith, one-more to below over e, deep),
     ))
 
 -- a method that fits doesn't begin
 pub stops-barred : {p : Loaded} {d o m : ℕ} {h active : List (Option ℕ)} {w u : World} {from to : List Activation} {arguments : List Value} {f : Fault} →
-    active ≡ shows to ++ h → CallsIn p w u from to o m arguments → ArgumentsFit p u.objects o m arguments → AreTyped p u.objects → 0 < w.left → IsBarred d active f → StopsIn p d h w from w f
+    active ≡ shows to ++ h → CallsIn p w u from to o m arguments → ArgumentsFit p u.store.tree o m arguments → AreTyped p u.store.tree → 0 < w.left → IsBarred d active f → StopsIn p d h w from w f
 stops-barred over calls fit typed some why = elim why [
   | inl deep ↦ stops-as deep.1 (stops-begin over calls fit typed some deep.0)
   | inr short ↦ stops-as short (stops-memory calls.goes_on some)
@@ -108,7 +108,7 @@ stops-barred over calls fit typed some why = elim why [
 
 -- there is no such method
 pub stops-no-member : {p : Loaded} {d o m : ℕ} {h : List (Option ℕ)} {w : World} {from to : List Activation} {arguments : List Value} →
-    Calls p w from to o m arguments → OnlyCalls p w from to o m arguments → ((x : Object) (method : MetaMethod) → ¬ IsMember p w.objects o m x method) → 0 < w.left → StopsIn p d h w from w BadType
+    Calls p w from to o m arguments → OnlyCalls p w from to o m arguments → ((x : Object) (method : MetaMethod) → ¬ IsMember p w.store.tree o m x method) → 0 < w.left → StopsIn p d h w from w BadType
 stops-no-member calls only none some = stops-stuck calls.goes_on some (λ below t r. let b = only.begins below t r in none b.object b.method b.is)
 
 -- the arguments that fit are of the method's types
@@ -119,13 +119,13 @@ fit-typed {p} {objects} {o} {m} {x} {method} {arguments} is fit =
 
 -- the arguments aren't of the method's types
 pub stops-ill-typed : {p : Loaded} {d o m : ℕ} {h : List (Option ℕ)} {w : World} {from to : List Activation} {x : Object} {method : MetaMethod} {arguments : List Value} →
-    Calls p w from to o m arguments → IsMember p w.objects o m x method → (¬ ReadAs p w.objects arguments method.kinds) → 0 < w.left → StopsIn p d h w from w BadType
+    Calls p w from to o m arguments → IsMember p w.store.tree o m x method → (¬ ReadAs p w.store.tree arguments method.kinds) → 0 < w.left → StopsIn p d h w from w BadType
 stops-ill-typed {p} {o = o} {m = m} {w = w} {from = from} {to = to} {x = x} {method = method} {arguments = arguments} calls is ill some =
     stops-ill some (λ below.
-    let t : State = at (begun_world w (suc (length (to ++ below))) x m method arguments) (top_of o m arguments w.connected.last method.work ∷ to ++ below) in (
+    let t : State = at (begun_world w (suc (length (to ++ below))) x m method arguments) (top_of o m arguments w.store.connections.last method.work ∷ to ++ below) in (
       t,
       calls.gives below t (begins-there w arguments (from ++ below) (to ++ below) is refl),
-      λ (well : IsWell p (at w (from ++ below)) t). ill (fit-typed is (fits-top w.connected.last method.work (to ++ below) (well.arguments (omega (arith, calls.no_lower, length-append from below, length-append to below))))),
+      λ (well : IsWell p (at w (from ++ below)) t). ill (fit-typed is (fits-top w.store.connections.last method.work (to ++ below) (well.arguments (omega (arith, calls.no_lower, length-append from below, length-append to below))))),
     ))
 
 pub fit-of : {p : Loaded} {objects : List Object} {o m : ℕ} {x : Object} {method : MetaMethod} {arguments : List Value} → IsMember p objects o m x method → ReadAs p objects arguments method.kinds → ArgumentsFit p objects o m arguments
@@ -158,7 +158,7 @@ delivered-fits {p} {objects} {c} {x} {method} {arguments} {taken} j fit is cut c
 
 -- what is found of a method before the connection is used holds after it
 pub begun-used : {p : Loaded} {d o m : ℕ} {active : List (Option ℕ)} {w : World} {arguments : List Value} {line : Entry} {work : Work} {last : ℕ} (c : Connection) → IsBegun p d active w o m arguments line work last → IsBegun p d active (having_used w c) o m arguments line work last
-begun-used {w = w} c x = record { room = x.room; object = x.object; method = x.method; is = x.is; is_line = x.is_line; is_work = x.is_work; is_last = x.is_last ∙ sym (last-used c w.connected) }
+begun-used {w = w} c x = record { room = x.room; object = x.object; method = x.method; is = x.is; is_line = x.is_line; is_work = x.is_work; is_last = x.is_last ∙ sym (last-used c w.store.connections) }
 
 -- memory was refused, behind a `?`
 pub becomes-short : (w target : World) (r : Result (Unit {0}) Fault) → IsErrAnd r (λ y. y ≡ Memory) → Becomes w target w r
@@ -173,7 +173,7 @@ no-home {objects = objects} {o = o} is none =
     absurd (cc no)
 
 -- a connection that comes next begins its method, where it reaches its receiver at once
-pub delivery-calls : {p : Loaded} {w : World} {c : Connection} {x : Object} {method : MetaMethod} {arguments taken : List Value} {count : ℕ} (o g used last : ℕ) → next_used w.objects w.connected.connections o g used last ≡ Some c → IsMember p w.objects c.receiver c.method x method → taken ≡ take count arguments → count ≡ length method.kinds → {home : ℕ} → home_of w.objects c.receiver ≡ Some home → reaches_at_once c.kind home (running w.turn) ≡ true → CallsIn p w (having_used w c) (Emit o g arguments used last ∷ []) (Emit o g arguments c.number last ∷ []) c.receiver c.method taken
+pub delivery-calls : {p : Loaded} {w : World} {c : Connection} {x : Object} {method : MetaMethod} {arguments taken : List Value} {count : ℕ} (o g used last : ℕ) → next_used w.store.tree w.store.connections.connections o g used last ≡ Some c → IsMember p w.store.tree c.receiver c.method x method → taken ≡ take count arguments → count ≡ length method.kinds → {home : ℕ} → home_of w.store.tree c.receiver ≡ Some home → reaches_at_once c.kind home (running w.turn) ≡ true → CallsIn p w (having_used w c) (Emit o g arguments used last ∷ []) (Emit o g arguments c.number last ∷ []) c.receiver c.method taken
 delivery-calls {p} {w} {c} {x} {method} {arguments} {taken} {count} o g used last found is cut count_is {home} lives at_once = record {
   no_lower = omega arith;
   goes_on = λ below. not-idle w _ below;
@@ -197,7 +197,7 @@ delivery-calls {p} {w} {c} {x} {method} {arguments} {taken} {count} o g used las
 }
 
 -- .. and else posts a call of it
-pub ends-posted : {p : Loaded} {d : ℕ} {h : List (Option ℕ)} {w v : World} {c : Connection} {x : Object} {method : MetaMethod} {arguments taken : List Value} {count : ℕ} (o g used last n : ℕ) (r : Result (Unit {0}) Fault) → next_used w.objects w.connected.connections o g used last ≡ Some c → IsMember p w.objects c.receiver c.method x method → taken ≡ take count arguments → count ≡ length method.kinds → {home : ℕ} → home_of w.objects c.receiver ≡ Some home → reaches_at_once c.kind home (running w.turn) ≡ false → length h < d → AreTyped p w.objects → 0 < w.left → n ≡ length h + 1 → PostsCall p w n c c.receiver c.method taken v r → Ends p d h w (Emit o g arguments used last ∷ []) v (Emit o g arguments c.number last ∷ []) r
+pub ends-posted : {p : Loaded} {d : ℕ} {h : List (Option ℕ)} {w v : World} {c : Connection} {x : Object} {method : MetaMethod} {arguments taken : List Value} {count : ℕ} (o g used last n : ℕ) (r : Result (Unit {0}) Fault) → next_used w.store.tree w.store.connections.connections o g used last ≡ Some c → IsMember p w.store.tree c.receiver c.method x method → taken ≡ take count arguments → count ≡ length method.kinds → {home : ℕ} → home_of w.store.tree c.receiver ≡ Some home → reaches_at_once c.kind home (running w.turn) ≡ false → length h < d → AreTyped p w.store.tree → 0 < w.left → n ≡ length h + 1 → PostsCall p w n c c.receiver c.method taken v r → Ends p d h w (Emit o g arguments used last ∷ []) v (Emit o g arguments c.number last ∷ []) r
 ends-posted {p} {w = w} {v = v} {c = c} {x = x} {method = method} {arguments = arguments} {taken = taken} o g used last n r found is cut count_is {home} lives later room typed some n_is posts =
     let target : World = posting (having_used w c) (entry_of_post w n posts.name posts.object posts.method taken ∷ []) posts.home (Call c.receiver c.method taken) in
     ends-noted target r

@@ -476,9 +476,9 @@ pub ends-keeps : {p : Loaded} {d : ℕ} {h : List (Option ℕ)} {w v : World} {a
 ends-keeps (Ok _) x = reaches-keeps x.cases
 ends-keeps (Err f) x = stops-keeps x.cases
 
-pub reaches-typed : {p : Loaded} {d : ℕ} {h : List (Option ℕ)} {w v : World} {a b : List Activation} → Reaches p d h w a v b → AreTyped p w.objects → AreTyped p v.objects
+pub reaches-typed : {p : Loaded} {d : ℕ} {h : List (Option ℕ)} {w v : World} {a b : List Activation} → Reaches p d h w a v b → AreTyped p w.store.tree → AreTyped p v.store.tree
 reaches-typed {h = h} x typed = let q = some-stack h in rules-typed (x.runs q.0 q.1) typed
 
-pub ends-typed : {p : Loaded} {d : ℕ} {h : List (Option ℕ)} {w v : World} {a b : List Activation} (r : Result (Unit {0}) Fault) → Ends p d h w a v b r → AreTyped p w.objects → AreTyped p v.objects
+pub ends-typed : {p : Loaded} {d : ℕ} {h : List (Option ℕ)} {w v : World} {a b : List Activation} (r : Result (Unit {0}) Fault) → Ends p d h w a v b r → AreTyped p w.store.tree → AreTyped p v.store.tree
 ends-typed (Ok _) x typed = reaches-typed x.cases typed
 ends-typed {h = h} (Err f) x typed = let q = some-stack h in rules-typed ((x.cases.stops q.0 q.1).1) typed

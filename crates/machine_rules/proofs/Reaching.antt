@@ -43,7 +43,7 @@ ends-after {r = Ok _} x y = record { cases = reaches-then x y.cases }
 ends-after {r = Err f} x y = record { cases = stops-after x y.cases }
 
 -- one rule that pushes nothing, to a world with one rule fewer left
-pub reaches-low : {p : Loaded} {d : ℕ} {h : List (Option ℕ)} {w v : World} {a b : List Activation} → ((below : List Activation) → shows below ≡ h → Rule p (at w (a ++ below)) (at v (b ++ below))) → length b ≤ length a → length b + length h ≤ d → AreTyped p v.objects → v.left ≡ w.left - 1 → 0 < w.left → Reaches p d h w a v b
+pub reaches-low : {p : Loaded} {d : ℕ} {h : List (Option ℕ)} {w v : World} {a b : List Activation} → ((below : List Activation) → shows below ≡ h → Rule p (at w (a ++ below)) (at v (b ++ below))) → length b ≤ length a → length b + length h ≤ d → AreTyped p v.store.tree → v.left ≡ w.left - 1 → 0 < w.left → Reaches p d h w a v b
 reaches-low {p} {d} {h} {w} {v} {a} {b} step low fits typed less some = record {
   runs = λ below e.
       let shallow : length (b ++ below) ≤ d = omega (arith, length-append b below, high below e, fits) in
@@ -53,7 +53,7 @@ reaches-low {p} {d} {h} {w} {v} {a} {b} step low fits typed less some = record {
 }
 
 -- one rule that pushes an activation, over a stack that shows `active`
-pub reaches-high : {p : Loaded} {d : ℕ} {h active : List (Option ℕ)} {w v : World} {from : List Activation} {top : Activation} {to : List Activation} → active ≡ shows to ++ h → ((below : List Activation) → shows below ≡ h → Rule p (at w (from ++ below)) (at v (top ∷ to ++ below))) → ((below : List Activation) → TopFits p v.objects (top ∷ to ++ below)) → length active < d → AreTyped p v.objects → v.left ≡ w.left - 1 → 0 < w.left → Reaches p d h w from v (top ∷ to)
+pub reaches-high : {p : Loaded} {d : ℕ} {h active : List (Option ℕ)} {w v : World} {from : List Activation} {top : Activation} {to : List Activation} → active ≡ shows to ++ h → ((below : List Activation) → shows below ≡ h → Rule p (at w (from ++ below)) (at v (top ∷ to ++ below))) → ((below : List Activation) → TopFits p v.store.tree (top ∷ to ++ below)) → length active < d → AreTyped p v.store.tree → v.left ≡ w.left - 1 → 0 < w.left → Reaches p d h w from v (top ∷ to)
 reaches-high {p} {d} {h} {active} {w} {v} {from} {top} {to} over step fit room typed less some = record {
   runs = λ below e.
       let shallow : length (top ∷ to ++ below) ≤ d = omega (arith, high (to ++ below) (shows-over to below over e), room) in
@@ -152,19 +152,19 @@ ends-faulted {e = e} (Err f) some ill is = record { cases = stops-faulted e some
 -- ---- calls that carry out one rule
 
 -- .. which writes nothing down
-pub reaches-ticked : {p : Loaded} {d : ℕ} {h : List (Option ℕ)} {w v : World} {a : Activation} {b : List Activation} → ((below : List Activation) → shows below ≡ h → Rule p (at w (a ∷ below)) (at w (b ++ below))) → length b ≤ 1 → length h < d → AreTyped p w.objects → Ticks w v (Ok tt) → Reaches p d h w (a ∷ []) v b
+pub reaches-ticked : {p : Loaded} {d : ℕ} {h : List (Option ℕ)} {w v : World} {a : Activation} {b : List Activation} → ((below : List Activation) → shows below ≡ h → Rule p (at w (a ∷ below)) (at w (b ++ below))) → length b ≤ 1 → length h < d → AreTyped p w.store.tree → Ticks w v (Ok tt) → Reaches p d h w (a ∷ []) v b
 reaches-ticked {p} {d} {h} {w} {v} {a} {b} step low room typed x =
     let Family : World → Type 0 = λ u. Reaches p d h w (a ∷ []) u b in
     subst Family (sym x.1) (reaches-low step low (omega (arith, low, room)) typed refl x.0)
 
-pub ends-ticked : {p : Loaded} {d : ℕ} {h : List (Option ℕ)} {w v : World} {a : Activation} {b : List Activation} (r : Result (Unit {0}) Fault) → ((below : List Activation) → shows below ≡ h → Rule p (at w (a ∷ below)) (at w (b ++ below))) → length b ≤ 1 → length h < d → AreTyped p w.objects → Ticks w v r → Ends p d h w (a ∷ []) v b r
+pub ends-ticked : {p : Loaded} {d : ℕ} {h : List (Option ℕ)} {w v : World} {a : Activation} {b : List Activation} (r : Result (Unit {0}) Fault) → ((below : List Activation) → shows below ≡ h → Rule p (at w (a ∷ below)) (at w (b ++ below))) → length b ≤ 1 → length h < d → AreTyped p w.store.tree → Ticks w v r → Ends p d h w (a ∷ []) v b r
 ends-ticked (Ok _) step low room typed x = record { cases = reaches-ticked step low room typed x }
 ends-ticked {p} {d} {h} {w} {v} {a} {b} (Err f) step low room typed x =
     let Family : World → Type 0 = λ u. StopsIn p d h w (a ∷ []) u f in
     record { cases = subst Family (sym x.2) (stops-as x.1 (stops-steps x.0)) }
 
 -- .. which writes an entry down, and leaves the stack as high as it was
-pub ends-noted : {p : Loaded} {d : ℕ} {h : List (Option ℕ)} {w v : World} {a b : Activation} (target : World) (r : Result (Unit {0}) Fault) → ((below : List Activation) → shows below ≡ h → Rule p (at w (a ∷ below)) (at target (b ∷ below))) → length h < d → AreTyped p target.objects → target.left ≡ w.left - 1 → 0 < w.left → Becomes w target v r → Ends p d h w (a ∷ []) v (b ∷ []) r
+pub ends-noted : {p : Loaded} {d : ℕ} {h : List (Option ℕ)} {w v : World} {a b : Activation} (target : World) (r : Result (Unit {0}) Fault) → ((below : List Activation) → shows below ≡ h → Rule p (at w (a ∷ below)) (at target (b ∷ below))) → length h < d → AreTyped p target.store.tree → target.left ≡ w.left - 1 → 0 < w.left → Becomes w target v r → Ends p d h w (a ∷ []) v (b ∷ []) r
 ends-noted {p} {d} {h} {w} {v} {a} {b} target (Ok _) step room typed less some x =
     let Family : World → Type 0 = λ u. Reaches p d h w (a ∷ []) u (b ∷ []) in
     record { cases = subst Family (sym x) (reaches-low {b = b ∷ []} step (omega arith) (omega (arith, room)) typed less some) }

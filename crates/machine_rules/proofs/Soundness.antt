@@ -57,7 +57,7 @@ fit-stays {p} {old} {new} {o} {m} {arguments} stay fit =
       typed = values-stay p stay arguments fit.method.kinds fit.typed;
     }
 
-pub fit-still : {p : Loaded} {w v : World} {o m : ℕ} {arguments : List Value} → KeepsWorld p w v → ArgumentsFit p w.objects o m arguments → ArgumentsFit p v.objects o m arguments
+pub fit-still : {p : Loaded} {w v : World} {o m : ℕ} {arguments : List Value} → KeepsWorld p w v → ArgumentsFit p w.store.tree o m arguments → ArgumentsFit p v.store.tree o m arguments
 fit-still keeps fit = fit-stays keeps.objects fit
 
 waits-still : (p : Loaded) (old new : List Object) (item : Item) → StayThere old new → Waits p old item → Waits p new item
@@ -204,7 +204,7 @@ some-fits p objects (Some o) = tt
 fit-over : (p : Loaded) (objects : List Object) (a : List Activation) (shown : List (Option ℕ)) → AllFit p objects a → AllFit p objects (a ++ (some-stack shown).0)
 fit-over p objects a shown fits = all-append (Fits p objects) a ((some-stack shown).0) fits (some-all (Fits p objects) (some-fits p objects) shown)
 
-keeps-sound : {p : Loaded} {w v : World} → IsSoundWorld p w → KeepsWorld p w v → AreTyped p v.objects → AllWait p v.objects v.queues.loops → IsSoundWorld p v
+keeps-sound : {p : Loaded} {w v : World} → IsSoundWorld p w → KeepsWorld p w v → AreTyped p v.store.tree → AllWait p v.store.tree v.store.loops.loops → IsSoundWorld p v
 keeps-sound sound keeps typed waiting = record {
   program = sound.program;
   is = record { typed = typed; joined = keeps.joined sound.program sound.is.joined; housed = keeps.housed sound.is.housed; waiting = waiting };
@@ -212,14 +212,14 @@ keeps-sound sound keeps typed waiting = record {
   room = omega (arith, keeps.posted, sound.room);
 }
 
-module _ {p : Loaded} {d : ℕ} {h : List (Option ℕ)} {w v : World} {a : List Activation} (fits : AllFit p w.objects a) (sound : IsSoundWorld p w) where
-  reaches-waiting : {b : List Activation} → Reaches p d h w a v b → AllWait p v.objects v.queues.loops
-  reaches-waiting x = let q = some-stack h in (rules-fair sound.program (x.runs q.0 q.1) sound.is.joined (record { waiting = sound.is.waiting; emitted = fit-over p w.objects a h fits })).waiting
+module _ {p : Loaded} {d : ℕ} {h : List (Option ℕ)} {w v : World} {a : List Activation} (fits : AllFit p w.store.tree a) (sound : IsSoundWorld p w) where
+  reaches-waiting : {b : List Activation} → Reaches p d h w a v b → AllWait p v.store.tree v.store.loops.loops
+  reaches-waiting x = let q = some-stack h in (rules-fair sound.program (x.runs q.0 q.1) sound.is.joined (record { waiting = sound.is.waiting; emitted = fit-over p w.store.tree a h fits })).waiting
 
-  stops-waiting : {f : Fault} → StopsIn p d h w a v f → AllWait p v.objects v.queues.loops
-  stops-waiting x = let q = some-stack h in (rules-fair sound.program ((x.stops q.0 q.1).1) sound.is.joined (record { waiting = sound.is.waiting; emitted = fit-over p w.objects a h fits })).waiting
+  stops-waiting : {f : Fault} → StopsIn p d h w a v f → AllWait p v.store.tree v.store.loops.loops
+  stops-waiting x = let q = some-stack h in (rules-fair sound.program ((x.stops q.0 q.1).1) sound.is.joined (record { waiting = sound.is.waiting; emitted = fit-over p w.store.tree a h fits })).waiting
 
-  ends-waiting : {b : List Activation} (r : Result (Unit {0}) Fault) → Ends p d h w a v b r → AllWait p v.objects v.queues.loops
+  ends-waiting : {b : List Activation} (r : Result (Unit {0}) Fault) → Ends p d h w a v b r → AllWait p v.store.tree v.store.loops.loops
   ends-waiting (Ok _) x = reaches-waiting x.cases
   ends-waiting (Err f) x = stops-waiting x.cases
 
@@ -236,8 +236,8 @@ sound-used {p} w entries c e sound =
     let Family : World → Type 0 = λ u. IsSoundWorld p u in
     subst Family (sym e) (record {
       program = sound.program;
-      is = record { typed = sound.is.typed; joined = all-used (Joined p w.objects) c w.connected sound.is.joined; housed = sound.is.housed; waiting = sound.is.waiting };
-      numbers = omega (arith, last-used c w.connected, sound.numbers);
+      is = record { typed = sound.is.typed; joined = all-used (Joined p w.store.tree) c w.store.connections sound.is.joined; housed = sound.is.housed; waiting = sound.is.waiting };
+      numbers = omega (arith, last-used c w.store.connections, sound.numbers);
       room = omega (arith, sound.room);
     })
 
@@ -264,7 +264,7 @@ sound-written {p} {objects} {connections} {loops} {o} {q} new f reads sound =
     }
 
 -- .. in a world
-pub sound-set : {p : Loaded} {o q : ℕ} {x : Object} {property : MetaProperty} (w : World) (entries : List Entry) (new : Value) → IsField p w.objects o q x property → ReadsAs p w.objects new property.kind → IsSoundWorld p w → IsSoundWorld p (set_in w entries o q new)
+pub sound-set : {p : Loaded} {o q : ℕ} {x : Object} {property : MetaProperty} (w : World) (entries : List Entry) (new : Value) → IsField p w.store.tree o q x property → ReadsAs p w.store.tree new property.kind → IsSoundWorld p w → IsSoundWorld p (set_in w entries o q new)
 sound-set w entries new f reads sound = record { program = sound.program; is = sound-written new f reads sound.is; numbers = omega (arith, sound.numbers); room = omega (arith, sound.room) }
 
 -- a world that is known to be another one

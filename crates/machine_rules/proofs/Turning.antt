@@ -56,7 +56,7 @@ none-below [] e = refl
 none-below (a ∷ below) e = absurd (cc e)
 
 -- what the turn does is the rule of an empty stack
-turn-rule : (p : Loaded) (w : World) (t : State) {turn : Turn} (first : Option Posted) → w.turn ≡ Some turn → first ≡ find (is_before turn.limit) (items_at w.queues.loops turn.home) → Serves p (at w []) t turn first → Rule p (at w []) t
+turn-rule : (p : Loaded) (w : World) (t : State) {turn : Turn} (first : Option Posted) → w.turn ≡ Some turn → first ≡ find (is_before turn.limit) (items_at w.store.loops.loops turn.home) → Serves p (at w []) t turn first → Rule p (at w []) t
 turn-rule p w t {turn} first is found serves =
     let Next : Option Turn → Type 0 = λ x. TurnRule p (at w []) t x in
     let First : Option Posted → Type 0 = λ f. Serves p (at w []) t turn f in
@@ -65,7 +65,7 @@ turn-rule p w t {turn} first is found serves =
 -- ---- its rules
 
 -- with nothing left the turn ends
-pub reaches-ended : {p : Loaded} {d : ℕ} {w v : World} {turn : Turn} → w.turn ≡ Some turn → None ≡ find (is_before turn.limit) (items_at w.queues.loops turn.home) → AreTyped p w.objects → 0 < w.left → v ≡ turn_ended w → Reaches p d [] w [] v []
+pub reaches-ended : {p : Loaded} {d : ℕ} {w v : World} {turn : Turn} → w.turn ≡ Some turn → None ≡ find (is_before turn.limit) (items_at w.store.loops.loops turn.home) → AreTyped p w.store.tree → 0 < w.left → v ≡ turn_ended w → Reaches p d [] w [] v []
 reaches-ended {p} {d} {w} {v} is none typed some v_is =
     let target : World = turn_ended w in
     let Over : List Activation → Type 0 = λ l. Rule p (at w l) (at target l) in
@@ -75,19 +75,19 @@ reaches-ended {p} {d} {w} {v} is none typed some v_is =
 
 -- the first item that the turn may deliver is taken, and its call begins
 pub reaches-served : {p : Loaded} {d o m : ℕ} {active : List (Option ℕ)} {w v : World} {turn : Turn} {q : Posted} {arguments : List Value} {line : Entry} {work : Work} {last : ℕ} →
-    w.turn ≡ Some turn → Some q ≡ find (is_before turn.limit) (items_at w.queues.loops turn.home) → q.item ≡ Call o m arguments → active ≡ [] → IsBegun p d active w o m arguments line work last → ArgumentsFit p w.objects o m arguments → AreTyped p w.objects → 0 < w.left → v ≡ taking w (line ∷ []) turn.home turn.limit →
+    w.turn ≡ Some turn → Some q ≡ find (is_before turn.limit) (items_at w.store.loops.loops turn.home) → q.item ≡ Call o m arguments → active ≡ [] → IsBegun p d active w o m arguments line work last → ArgumentsFit p w.store.tree o m arguments → AreTyped p w.store.tree → 0 < w.left → v ≡ taking w (line ∷ []) turn.home turn.limit →
     Reaches p d [] w [] v (top_of o m arguments last work ∷ [])
 reaches-served {p} {d} {o} {m} {active} {w} {v} {turn} {q} {arguments} {line} {work} {last} is found item_is none begun fit typed some v_is =
     let none_active : length active ≡ 0 = ap (λ (l : List (Option ℕ)). length l) none in
-    let took : World = record w { queues = taken_before turn.home turn.limit w.queues } in
+    let took : World = record w { queues = taken_before turn.home turn.limit w.store.loops } in
     let target : World = begun_world took (length active + 1) begun.object m begun.method arguments in
-    let stack : List Activation = top_of o m arguments w.connected.last begun.method.work ∷ [] in
+    let stack : List Activation = top_of o m arguments w.store.connections.last begun.method.work ∷ [] in
     let begins : Begins p (at took []) [] o m arguments (at target stack) = begins-there took arguments [] [] begun.is (omega (arith, none_active)) in
     let Of : Item → Type 0 = λ i. Delivers p (at took []) (at target stack) i in
     let rule : Rule p (at w []) (at target stack) = turn-rule p w (at target stack) (Some q) is found (subst Of (sym item_is) begins) in
-    let Over : List Activation → Type 0 = λ l. Rule p (at w l) (at target (top_of o m arguments w.connected.last begun.method.work ∷ l)) in
+    let Over : List Activation → Type 0 = λ l. Rule p (at w l) (at target (top_of o m arguments w.store.connections.last begun.method.work ∷ l)) in
     let room : 0 < d = omega (arith, none_active, begun.room) in
-    let went : Reaches p d [] w [] target stack = reaches-high {active = []} {from = []} {to = []} refl (λ below e. subst Over (sym (none-below below e)) rule) (λ below. top-fits w.connected.last begun.method.work below fit) room typed refl some in
+    let went : Reaches p d [] w [] target stack = reaches-high {active = []} {from = []} {to = []} refl (λ below e. subst Over (sym (none-below below e)) rule) (λ below. top-fits w.store.connections.last begun.method.work below fit) room typed refl some in
     let Pushed : World → Work → ℕ → Type 0 = λ u k l. Reaches p d [] w [] u (top_of o m arguments l k ∷ []) in
     let target_is : v ≡ target = v_is ∙ ap (λ (y : Entry). taking w (y ∷ []) turn.home turn.limit) begun.is_line in
     subst (λ (u : World). Pushed u work last) (sym target_is) (subst (λ (k : Work). Pushed target k last) (sym begun.is_work) (subst (λ (l : ℕ). Pushed target begun.method.work l) (sym begun.is_last) went))
@@ -105,10 +105,10 @@ advances-served {p} {d} {v = v} {u = u} {from = from} (Err f) none went less som
 -- ---- what is delivered
 
 -- what waits first fits
-pub first-fits : {p : Loaded} {w : World} {q : Posted} (home number : ℕ) (item : Item) → IsSoundWorld p w → Some q ≡ find (is_before number) (items_at w.queues.loops home) → q.item ≡ item → Waits p w.objects item
+pub first-fits : {p : Loaded} {w : World} {q : Posted} (home number : ℕ) (item : Item) → IsSoundWorld p w → Some q ≡ find (is_before number) (items_at w.store.loops.loops home) → q.item ≡ item → Waits p w.store.tree item
 first-fits {p} {w} {q} home number item sound found item_is =
-    let Fit : Item → Type 0 = λ i. Waits p w.objects i in
-    subst Fit item_is (first-waits p w.objects w.queues.loops home number q sound.is.waiting (sym found))
+    let Fit : Item → Type 0 = λ i. Waits p w.store.tree i in
+    subst Fit item_is (first-waits p w.store.tree w.store.loops.loops home number q sound.is.waiting (sym found))
 
 -- the world without the first item stays sound
 pub taken-sound : {p : Loaded} {v : World} (w : World) (entries : List Entry) (home number : ℕ) → v ≡ taking w entries home number → IsSoundWorld p w → IsSoundWorld p v
@@ -120,15 +120,15 @@ taken-sound {p} w entries home number e sound =
       is = record {
         typed = sound.is.typed;
         joined = sound.is.joined;
-        housed = housed-same w.objects w.objects w.queues.loops target.queues.loops (λ o. refl) (length-change home _ w.queues.loops) sound.is.housed;
-        waiting = all-taken p w.objects home number w.queues.loops sound.is.waiting;
+        housed = housed-same w.store.tree w.store.tree w.store.loops.loops target.store.loops.loops (λ o. refl) (length-change home _ w.store.loops.loops) sound.is.housed;
+        waiting = all-taken p w.store.tree home number w.store.loops.loops sound.is.waiting;
       };
       numbers = omega (arith, sound.numbers);
       room = omega (arith, sound.room);
     })
 
 -- .. and its objects stay there
-pub taken-fits : {p : Loaded} {v : World} {o m : ℕ} {arguments : List Value} (w : World) (entries : List Entry) (home number : ℕ) → v ≡ taking w entries home number → ArgumentsFit p w.objects o m arguments → ArgumentsFit p v.objects o m arguments
+pub taken-fits : {p : Loaded} {v : World} {o m : ℕ} {arguments : List Value} (w : World) (entries : List Entry) (home number : ℕ) → v ≡ taking w entries home number → ArgumentsFit p w.store.tree o m arguments → ArgumentsFit p v.store.tree o m arguments
 taken-fits {p} {o = o} {m = m} {arguments = arguments} w entries home number e fit =
-    let Family : World → Type 0 = λ u. ArgumentsFit p u.objects o m arguments in
+    let Family : World → Type 0 = λ u. ArgumentsFit p u.store.tree o m arguments in
     subst Family (sym e) fit

@@ -42,7 +42,7 @@ altered f sound changes = record { object = _; property = _; is = f; sound = sou
 abbrev pub written_world : World → ℕ → ℕ → Object → ℕ → MetaProperty → Value → World
 written_world w depth o x q property new = set_in w (entry_of_write w depth x property new ∷ []) o q new
 
-writes-there : {p : Loaded} {n o q : ℕ} {x : Object} {property : MetaProperty} {new old : Value} {signal : Option ℕ} (w : World) (stack over : List Activation) → (f : IsField p w.objects o q x property) → stored w.objects o q ≡ Some old → Changes (seen w.objects old) (seen w.objects new) property.notify signal → n ≡ suc (length over) →
+writes-there : {p : Loaded} {n o q : ℕ} {x : Object} {property : MetaProperty} {new old : Value} {signal : Option ℕ} (w : World) (stack over : List Activation) → (f : IsField p w.store.tree o q x property) → stored w.store.tree o q ≡ Some old → Changes (seen w.store.tree old) (seen w.store.tree new) property.notify signal → n ≡ suc (length over) →
     Writes p (at w stack) over o q new (at (written_world w n o x q property new) (Update (places_of o q signal) ∷ over))
 writes-there {o = o} {q = q} {x = x} {property = property} {new = new} {old = old} {signal = signal} w stack over f is_old changes depth_is =
     let with_depth : ℕ → State = λ n. at (written_world w n o x q property new) (Update (places_of o q signal) ∷ over) in
@@ -58,7 +58,7 @@ writes-there {o = o} {q = q} {x = x} {property = property} {new = new} {old = ol
     }
 
 -- it is so by the next rule
-written-next : {p : Loaded} {n o q : ℕ} {w : World} {from to : List Activation} {new : Value} {signal : Option ℕ} (below : List Activation) → Sets p w from to o q new → (c : Alters p w.objects o q new signal) → AreTyped p w.objects → n ≡ suc (length (to ++ below)) →
+written-next : {p : Loaded} {n o q : ℕ} {w : World} {from to : List Activation} {new : Value} {signal : Option ℕ} (below : List Activation) → Sets p w from to o q new → (c : Alters p w.store.tree o q new signal) → AreTyped p w.store.tree → n ≡ suc (length (to ++ below)) →
     Rule p (at w (from ++ below)) (at (written_world w n o c.object q c.property new) (Update (places_of o q signal) ∷ to ++ below))
 written-next {w = w} {from = from} {to = to} below sets c typed depth_is =
     let old = old-there c.is typed in
@@ -66,10 +66,10 @@ written-next {w = w} {from = from} {to = to} below sets c typed depth_is =
 
 -- a property is written, and its update runs
 pub ends-written : {p : Loaded} {d o q : ℕ} {h active : List (Option ℕ)} {w v u : World} {from to : List Activation} {new : Value} {line : Entry} {signal : Option ℕ} {r : Result (Unit {0}) Fault} →
-    active ≡ shows to ++ h → Sets p w from to o q new → AreTyped p w.objects → 0 < w.left → IsWriting p d active w o q new line signal → v ≡ set_in w (line ∷ []) o q new →
+    active ≡ shows to ++ h → Sets p w from to o q new → AreTyped p w.store.tree → 0 < w.left → IsWriting p d active w o q new line signal → v ≡ set_in w (line ∷ []) o q new →
     Ends p d active v (Update (places_of o q signal) ∷ []) u [] r → Ends p d h w from u to r
 ends-written {p} {d} {o} {q} {h} {active} {w} {v} {u} {from} {to} {new} {line} {signal} {r} over sets typed some is v_is rest =
-    let c : Alters p w.objects o q new signal = is.alters in
+    let c : Alters p w.store.tree o q new signal = is.alters in
     let target : World = written_world w (length active + 1) o c.object q c.property new in
     let target_is : v ≡ target = v_is ∙ ap (λ (e : Entry). set_in w (e ∷ []) o q new) is.is_line in
     let Family : World → Type 0 = λ k. Reaches p d h w from k (Update (places_of o q signal) ∷ to) in
@@ -79,7 +79,7 @@ ends-written {p} {d} {o} {q} {h} {active} {w} {v} {u} {from} {to} {new} {line} {
 
 -- a property isn't written
 pub stops-unwritten : {p : Loaded} {d o q : ℕ} {h active : List (Option ℕ)} {w : World} {from to : List Activation} {new : Value} {f : Fault} →
-    active ≡ shows to ++ h → Sets p w from to o q new → AreTyped p w.objects → 0 < w.left → IsUnwritten p d active w o q new f → StopsIn p d h w from w f
+    active ≡ shows to ++ h → Sets p w from to o q new → AreTyped p w.store.tree → 0 < w.left → IsUnwritten p d active w o q new f → StopsIn p d h w from w f
 stops-unwritten over sets typed some (missing none) = stops-stuck sets.goes_on some (λ below t r. let k = sets.only below t r in none k.object k.property k.is)
 stops-unwritten {p} {o = o} {q = q} {w = w} {from = from} {to = to} {new = new} over sets typed some (ill {changed = signal} c not) =
     stops-ill some (λ below.
@@ -123,8 +123,8 @@ announces-written {q = q} new (Some signal) c typed =
     signal-is (changed h) = refl
 
 -- .. in a world that is known to be another one
-pub announces-as : (p : Loaded) (o q : ℕ) (signal : Option ℕ) {w v : World} → v ≡ w → MayAnnounce p w.objects o q signal → MayAnnounce p v.objects o q signal
-announces-as p o q signal is x = let In : World → Type 0 = λ u. MayAnnounce p u.objects o q signal in subst In (sym is) x
+pub announces-as : (p : Loaded) (o q : ℕ) (signal : Option ℕ) {w v : World} → v ≡ w → MayAnnounce p w.store.tree o q signal → MayAnnounce p v.store.tree o q signal
+announces-as p o q signal is x = let In : World → Type 0 = λ u. MayAnnounce p u.store.tree o q signal in subst In (sym is) x
 
 -- the notify signal is there
 pub announced-member : {p : Loaded} {objects : List Object} {o q signal : ℕ} → (a : Announces p objects o q signal) → IsMember p objects o signal a.object a.sound.signal
@@ -147,7 +147,7 @@ announced-fits {p} {objects} {o} {q} {signal} {count} {x} {method} {present} {ta
     subst (λ (l : List Value). ArgumentsFit p objects o signal l) (sym taken_is) (fit-of (announced-member a) fits)
 
 -- the notify signal begins by the next rule of the update
-pub announcement-calls : {p : Loaded} {w : World} {o q signal count : ℕ} {x : Object} {method : MetaMethod} {present : Value} {taken : List Value} → Announces p w.objects o q signal → IsMember p w.objects o signal x method → stored w.objects o q ≡ Some present → taken ≡ take count (present ∷ []) → count ≡ length method.kinds → Calls p w (Update (places_of o q (Some signal)) ∷ []) (Update [] ∷ []) o signal taken
+pub announcement-calls : {p : Loaded} {w : World} {o q signal count : ℕ} {x : Object} {method : MetaMethod} {present : Value} {taken : List Value} → Announces p w.store.tree o q signal → IsMember p w.store.tree o signal x method → stored w.store.tree o q ≡ Some present → taken ≡ take count (present ∷ []) → count ≡ length method.kinds → Calls p w (Update (places_of o q (Some signal)) ∷ []) (Update [] ∷ []) o signal taken
 announcement-calls {p} {w} {o} {q} {signal} {count} {x} {method} {present} {taken} a is is_present cut count_is = record {
   no_lower = omega arith;
   goes_on = λ below. not-idle w _ below;

@@ -28,7 +28,7 @@ Finishes setting active a w v result = Ends setting.meta setting.depth active w 
 -- a connection is used, in every emission of which it is the next
 abbrev pub Delivers : Setting → List (Option ℕ) → Connection → List Value → World → World → Result (Unit {0}) Fault → Type 0
 Delivers setting active c arguments w v result =
-    (o g used last : ℕ) → next_used w.objects w.connected.connections o g used last ≡ Some c →
+    (o g used last : ℕ) → next_used w.store.tree w.store.connections.connections o g used last ≡ Some c →
     Leads setting active (Emit o g arguments used last) (Emit o g arguments c.number last) w v result
 
 -- this is done by the next statement, in every body of the object in which it does that and `rest` follows; `left` is
@@ -37,7 +37,7 @@ abbrev pub CarriesOut :
     Setting → List (Option ℕ) → ℕ → Doing → List Statement → List Statement →
     World → World → Result (Unit {0}) Fault → Type 0
 CarriesOut setting active o done rest left w v result =
-    (m : ℕ) (arguments : List Value) (x : Statement) → doing w.objects o arguments (out-Statement x) ≡ Some done →
+    (m : ℕ) (arguments : List Value) (x : Statement) → doing w.store.tree o arguments (out-Statement x) ≡ Some done →
     Advances setting.meta setting.depth active w (Body o m arguments (x ∷ rest) ∷ []) v (Body o m arguments left ∷ []) result
 
 -- a property is written, and what that notifies is carried out: from every top of the stack whose next rule is this

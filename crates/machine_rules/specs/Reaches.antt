@@ -116,11 +116,11 @@ begin_entry depth x m method given (Slot statements) = At depth (happening.Calle
 
 -- the entry of a method of an object that begins with these arguments, where so many activations are on the stack
 abbrev pub entry_of_call : World → ℕ → Object → ℕ → MetaMethod → List Value → Entry
-entry_of_call w depth x m method arguments = begin_entry depth x m method.sig.name (all_shown w.objects arguments) method.work
+entry_of_call w depth x m method arguments = begin_entry depth x m method.sig.name (all_shown w.store.tree arguments) method.work
 
 -- .. of a call of a method of an object that is posted to the event loop of this name
 abbrev pub entry_of_post : World → ℕ → List ℕ → Object → MetaMethod → List Value → Entry
-entry_of_post w depth name x method arguments = At depth (happening.Posted name x.name method.sig.name (all_shown w.objects arguments))
+entry_of_post w depth name x method arguments = At depth (happening.Posted name x.name method.sig.name (all_shown w.store.tree arguments))
 
 -- a connection was used and a call of a method posted to the event loop in which its object lives, where so many
 -- activations are on the stack; or memory was refused
@@ -128,11 +128,11 @@ pub record PostsCall (p : Loaded) (w : World) (depth : ℕ) (c : Connection) (o 
     (v : World) (result : Result (Unit {0}) Fault) : Type 0 where
   pub object : Object
   pub method : MetaMethod
-  pub is : IsMember p w.objects o m object method
+  pub is : IsMember p w.store.tree o m object method
   pub name : List ℕ
   pub home : ℕ
-  pub lives_in : home_of w.objects o ≡ Some home
-  pub is_loop : HasName w.queues.loops name home
+  pub lives_in : home_of w.store.tree o ≡ Some home
+  pub is_loop : HasName w.store.loops.loops name home
   pub becomes :
       Becomes w (posting (having_used w c) (entry_of_post w depth name object method arguments ∷ []) home (Call o m arguments)) v result
 
@@ -148,10 +148,10 @@ pub record IsBegun (p : Loaded) (depth : ℕ) (active : List (Option ℕ)) (w : 
   pub room : length active < depth
   pub object : Object
   pub method : MetaMethod
-  pub is : IsMember p w.objects o m object method
+  pub is : IsMember p w.store.tree o m object method
   pub is_line : line ≡ entry_of_call w (length active + 1) object m method arguments
   pub is_work : work ≡ method.work
-  pub is_last : last ≡ w.connected.last
+  pub is_last : last ≡ w.store.connections.last
 
 -- why a method that fits doesn't begin: activations would nest too deep, or memory was refused
 abbrev pub IsBarred : ℕ → List (Option ℕ) → Fault → Type 0
@@ -165,8 +165,8 @@ LacksEnds p objects ends = ¬ AreThere p objects ends
 
 -- this is the answer to a statement that connects
 pub record IsJudged (p : Loaded) (w : World) (ends : Endpoints) (how : ConnectionType) (answer : Result (Unit {0}) Refusal) : Type 0 where
-  pub spelled : AreThere p w.objects ends
-  pub is : may_connect p w.connected (found_ends spelled) spelled.signal.sig spelled.method.sig how answer
+  pub spelled : AreThere p w.store.tree ends
+  pub is : may_connect p w.store.connections (found_ends spelled) spelled.signal.sig spelled.method.sig how answer
 
 -- these are the names at two ends
 pub record NamesEnds (p : Loaded) (objects : List Object) (ends : Endpoints) (names : Named (List ℕ)) : Type 0 where
@@ -180,7 +180,7 @@ LacksNames p objects ends fault = LacksEnds p objects ends × (fault ≡ IllType
 -- a rule that pushes nothing was carried out, as this relation tells, where so many activations are on the stack
 pub record Went (What : State → List Activation → State → Type 0) (w : World) (depth : ℕ) (v : World) : Type 0 where
   pub tells : (old stack : List Activation) → length stack ≡ depth → What (at w old) stack (at v stack)
-  pub objects : v.objects ≡ w.objects
+  pub objects : v.store.tree ≡ w.store.tree
   pub left : v.left ≡ w.left - 1
 
 -- .. or there is none of which it tells, or memory was refused; then nothing changed

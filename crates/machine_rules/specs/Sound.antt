@@ -96,9 +96,9 @@ pub record Sound (p : Loaded) (objects : List Object) (connections : List Connec
 -- .. in a world, where the program is sound, and with each rule that is left a connection and an item may still be numbered
 pub record IsSoundWorld (p : Loaded) (w : World) : Type 0 where
   pub program : IsSound p
-  pub is : Sound p w.objects w.connected.connections w.queues.loops
-  pub numbers : w.connected.last + w.left < 2 ^ 63
-  pub room : w.queues.posted + w.left < 2 ^ 63
+  pub is : Sound p w.store.tree w.store.connections.connections w.store.loops.loops
+  pub numbers : w.store.connections.last + w.left < 2 ^ 63
+  pub room : w.store.loops.posted + w.left < 2 ^ 63
 
 -- a property is as the class of its object has it in a sound program
 abbrev pub IsSoundIn : Loaded → List Object → ℕ → MetaProperty → Type 0

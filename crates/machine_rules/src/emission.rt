@@ -2,7 +2,7 @@
 
 ghost use Rattle.std.specs.Prelude.{◌<◌, length};
 ghost use Rattle.machine_rules.specs.Good.{ArgumentsFit};
-ghost use Rattle.machine_rules.specs.Sound.{IsSoundWorld, Joined, SignalFits};
+ghost use Rattle.machine_rules.specs.Sound.{IsSoundWorld, SendsThese, IsDelivered};
 ghost use Rattle.machine_state.specs.State.{Emit};
 ghost use Rattle.machine_rules.specs.Calls.{Finishes, Delivers, EndsCall, EndsUse, EndsOnlyCall};
 ghost use Rattle.machine_rules.specs.Reaches.{top_of};
@@ -28,7 +28,7 @@ impl Setting {
     ) -> Result<(), Fault>
         requires room { length active.now < self.now.depth }
         requires sound { IsSoundWorld self.now.meta world.old }
-        requires emitted { ArgumentsFit self.now.meta world.old.objects
+        requires emitted { SendsThese self.now.meta world.old.store.tree
             call.now.object call.now.method call.now.arguments.now }
         ensures ends { Finishes self.now active.now
             (Emit call.now.object call.now.method call.now.arguments.now 0 last) world.old world.new result }
@@ -54,8 +54,7 @@ impl Setting {
     ) -> Result<(), Fault>
         requires room { length active.now < self.now.depth }
         requires sound { IsSoundWorld self.now.meta world.old }
-        requires joined { Joined self.now.meta world.old.objects connection }
-        requires emitted { SignalFits self.now.meta world.old.objects connection arguments.now }
+        requires takes { IsDelivered self.now.meta world.old.store.tree connection arguments.now }
         ensures ends { Delivers self.now active.now
             connection arguments.now world.old world.new result }
     {
@@ -92,7 +91,7 @@ impl Setting {
     ) -> Result<(), Fault>
         requires sound { IsSoundWorld self.now.meta world.old }
         requires left { 0 < world.old.left }
-        requires fit { ArgumentsFit self.now.meta world.old.objects
+        requires fit { ArgumentsFit self.now.meta world.old.store.tree
             call.now.object call.now.method call.now.arguments.now }
         ensures ends { EndsUse self.now active.now
             connection.now call.now world.old world.new result }
@@ -119,7 +118,8 @@ impl Setting {
             return Err(Fault::BadType);
         };
         if !world
-            .objects
+            .store
+            .tree
             .have_types(&self.meta, call.arguments, declared.kinds.as_slice())
         {
             return Err(Fault::BadType);
@@ -137,7 +137,7 @@ impl Setting {
     ) -> Result<(), Fault>
         requires sound { IsSoundWorld self.now.meta world.old }
         requires left { 0 < world.old.left }
-        requires fit { ArgumentsFit self.now.meta world.old.objects
+        requires fit { ArgumentsFit self.now.meta world.old.store.tree
             call.now.object call.now.method call.now.arguments.now }
         ensures ends { EndsCall self.now active.now call.now world.old world.new result }
     {
@@ -157,7 +157,7 @@ impl Setting {
     ) -> Result<(), Fault>
         requires room { length active.now < self.now.depth }
         requires sound { IsSoundWorld self.now.meta world.old }
-        requires fit { ArgumentsFit self.now.meta world.old.objects
+        requires fit { ArgumentsFit self.now.meta world.old.store.tree
             call.now.object call.now.method call.now.arguments.now }
         ensures ends { Finishes self.now active.now
             (top_of call.now.object call.now.method call.now.arguments.now begun.now.last begun.now.work.now)

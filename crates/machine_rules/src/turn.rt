@@ -25,7 +25,8 @@ impl Setting {
         Ok(())
     }
 
-    /// Delivers the first item that the turn may deliver, and runs the call to its end; with none left the turn ends.
+    /// Delivers the first item that the turn may deliver, and runs the call or the deletion to its end; with none left the
+    /// turn ends. A call of a dead object begins nothing.
     fn serve(&self, world: &mut World, turn: Turn) -> Result<(), Fault>
         requires room { 0 < self.now.depth }
         requires sound { IsSoundWorld self.now.meta world.old }
@@ -33,24 +34,31 @@ impl Setting {
         requires left { 0 < world.old.left }
         ensures { Advances self.now.meta self.now.depth [] world.old [] world.new [] result }
     {
-        let Some(first) = world.queues.first_before(turn.home, turn.limit) else {
+        let Some(first) = world.store.loops.first_before(turn.home, turn.limit) else {
             world.end_turn();
             return Ok(());
         };
-        let Item::Call {
-            object,
-            method,
-            arguments,
-        } = &first.item
-        else {
-            unreachable!()
-        };
-        let (object, method) = (*object, *method);
         let below = Active::nothing();
+        let (object, method, arguments) = match &first.item {
+            Item::Call {
+                object,
+                method,
+                arguments,
+            } => (*object, *method, arguments.as_slice()),
+            Item::Deletion { object } => {
+                let object = *object;
+                world.take_unwritten(turn.home, turn.limit);
+                return self.run_deletion(world, &below, object);
+            }
+        };
+        if world.store.tree.life(object).is_none() {
+            world.take_unwritten(turn.home, turn.limit);
+            return Ok(());
+        }
         let call = MethodCall {
             object,
             method,
-            arguments: arguments.as_slice(),
+            arguments,
         };
         let (line, begun) = self.begun(world, &below, &call)?;
         let taken = world.take_before(line, turn.home, turn.limit)?;

@@ -21,8 +21,8 @@ run_emission-deliver-requires t c =
     let found = sym c.in-Some.ensures.value in
     let sound = c.loop-connection.invariant.sound in
     let emitted = fit-still c.loop-connection.invariant.keeps c.requires.emitted in
-    let joined = next-joined now.objects now.connected.connections c.args.call.now.object c.args.call.now.method c.loop-connection.used c.args.last _ sound.is.joined found in
-    let fits = next-fits now.objects now.connected.connections c.args.call.now.object c.args.call.now.method c.loop-connection.used c.args.last _ found emitted in
+    let joined = next-joined now.store.tree now.store.connections.connections c.args.call.now.object c.args.call.now.method c.loop-connection.used c.args.last _ sound.is.joined found in
+    let fits = next-fits now.store.tree now.store.connections.connections c.args.call.now.object c.args.call.now.method c.loop-connection.used c.args.last _ found emitted in
     (omega (arith, c.loop-connection.invariant.fewer), (c.requires.room, (sound, (joined, fits))))
 
 pub run_emission-loop-connection-preserved : goal.run_emission-loop-connection-preserved
@@ -87,7 +87,7 @@ begin_used-returns-in_err-use_connection t c = record { ends = λ from to shown 
 pub begin_used-run_begun-requires : goal.begin_used-run_begun-requires
 begin_used-run_begun-requires t c =
     let went = c.in_ok-use_connection.ensures in
-    let Fit : World → Type 0 = λ v. ArgumentsFit c.args.self.now.meta v.objects c.args.call.now.object c.args.call.now.method c.args.call.now.arguments.now in
+    let Fit : World → Type 0 = λ v. ArgumentsFit c.args.self.now.meta v.store.tree c.args.call.now.object c.args.call.now.method c.args.call.now.arguments.now in
     (omega (arith, ap (λ (w : World). w.left) went, c.requires.left), (c.in_ok-line.ensures.ok.room, (sound-used c.args.world.now _ c.args.connection.now went c.requires.sound, subst Fit (sym went) c.requires.fit)))
 
 pub begin_used-returns : goal.begin_used-returns
@@ -126,7 +126,7 @@ begin-returns-in_err-note t c = record { ends = λ from to shown over calls. end
 pub begin-run_begun-requires : goal.begin-run_begun-requires
 begin-run_begun-requires t c =
     let went = c.in_ok-note.ensures in
-    let Fit : World → Type 0 = λ v. ArgumentsFit c.args.self.now.meta v.objects c.args.call.now.object c.args.call.now.method c.args.call.now.arguments.now in
+    let Fit : World → Type 0 = λ v. ArgumentsFit c.args.self.now.meta v.store.tree c.args.call.now.object c.args.call.now.method c.args.call.now.arguments.now in
     (omega (arith, ap (λ (w : World). w.left) went, c.requires.left), (c.in_ok-line.ensures.ok.room, (sound-noted c.args.world.now _ went c.requires.sound, subst Fit (sym went) c.requires.fit)))
 
 pub begin-returns : goal.begin-returns
