@@ -27,6 +27,7 @@ living-used objects o g used last (x ∷ xs) c e lives = by_test (λ is. living-
     found : (b : Bool) → b ≡ true → x ≡ c → cond b (Some x) (find (can_be_used objects o g used last) xs) ≡ Some c
     found true passes same = ap Some same
     found false passes same = absurd (cc passes)
+
     by_test : (find (is_due o g used last) xs ≡ Some c → find (can_be_used objects o g used last) xs ≡ Some c) → (b : Bool) → cond b (Some x) (find (is_due o g used last) xs) ≡ Some c → cond (b && is_living objects x.receiver) (Some x) (find (can_be_used objects o g used last) xs) ≡ Some c
     by_test rest true is = let same : x ≡ c = cc is in found (is_living objects x.receiver) (subst (λ (y : Connection). is_living objects y.receiver ≡ true) (sym same) lives) same
     by_test rest false is = rest is
@@ -53,7 +54,7 @@ same-behind objects o g used passed last low top [] rises less behind = refl
 same-behind objects o g used passed last low top (x ∷ xs) rises less behind =
     let due : is_due o g passed last x ≡ is_due o g used last x = due-after o g used passed last x (omega (arith, less, rises.0)) (omega (arith, behind, rises.0)) in
     let rest : find (can_be_used objects o g passed last) xs ≡ find (can_be_used objects o g used last) xs =
-        same-behind objects o g used passed last x.number top xs rises.1 (omega (arith, less, rises.0)) (omega (arith, behind, rises.0)) in
+    same-behind objects o g used passed last x.number top xs rises.1 (omega (arith, less, rises.0)) (omega (arith, behind, rises.0)) in
     ap (λ (b : Bool). cond (b && is_living objects x.receiver) (Some x) (find (can_be_used objects o g passed last) xs)) due
     ∙ ap (λ (r : Option Connection). cond (can_be_used objects o g used last x) (Some x) r) rest
 
@@ -69,8 +70,10 @@ dead-passed objects o g used last low top (x ∷ xs) c rises later e dead =
   where
     passes : x.number ≤ c.number → find (can_be_used objects o g c.number last) (x ∷ xs) ≡ find (can_be_used objects o g c.number last) xs
     passes before = ap (λ (b : Bool). cond (b && is_living objects x.receiver) (Some x) (find (can_be_used objects o g c.number last) xs)) (not-due o g c.number last x before)
+
     skips : (b : Bool) → b ≡ false → cond b (Some x) (find (can_be_used objects o g used last) xs) ≡ find (can_be_used objects o g used last) xs
     skips b is = ap (λ (t : Bool). cond t (Some x) (find (can_be_used objects o g used last) xs)) is
+
     by_test : (find (is_due o g used last) xs ≡ Some c → find (can_be_used objects o g c.number last) xs ≡ find (can_be_used objects o g used last) xs) → (b : Bool) → is_due o g used last x ≡ b → cond b (Some x) (find (is_due o g used last) xs) ≡ Some c → find (can_be_used objects o g c.number last) (x ∷ xs) ≡ find (can_be_used objects o g used last) (x ∷ xs)
     by_test rest true due is =
         let same : x ≡ c = cc is in

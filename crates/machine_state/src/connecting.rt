@@ -17,7 +17,8 @@ impl World {
     pub fn are_joined(&self, ends: &Endpoints) -> bool
         ensures { result ≡ are_joined ends.now self.now.store.connections }
     {
-        self.store.connections
+        self.store
+            .connections
             .are_connected(ends.sender, ends.signal, ends.receiver, ends.method)
     }
 

@@ -87,10 +87,11 @@ impl World {
         ensures { let can_be_used = can_be_used self.now.store.tree sender signal used last in
             result ≡ find can_be_used self.now.store.connections.connections }
     {
-        self.store.connections.numbers_rise();
+        let store = &self.store;
+        store.connections.numbers_rise();
         let mut passed = used;
-        while let Some(connection) = self.store.connections.next_due(sender, signal, passed, last) {
-            if self.store.tree.life(connection.receiver).is_some() {
+        while let Some(connection) = store.connections.next_due(sender, signal, passed, last) {
+            if store.tree.life(connection.receiver).is_some() {
                 return Some(connection);
             }
             passed = connection.number;

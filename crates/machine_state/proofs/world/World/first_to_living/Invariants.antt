@@ -6,8 +6,8 @@ use Rattle.machine_state.proofs.world.World.first_to_living.Given as goal
 -- the connections that were passed over can't be used
 abbrev pub invariant-loop-connection : goal.invariant-loop-connection
 invariant-loop-connection l =
-    find (can_be_used l.self.store.tree l.sender l.signal l.passed l.last) l.self.store.connections.connections
-    ≡ find (can_be_used l.self.store.tree l.sender l.signal l.used l.last) l.self.store.connections.connections
+    find (can_be_used l.store.tree l.sender l.signal l.passed l.last) l.store.connections.connections
+    ≡ find (can_be_used l.store.tree l.sender l.signal l.used l.last) l.store.connections.connections
 
 abbrev pub decreases-loop-connection : goal.decreases-loop-connection
 decreases-loop-connection l = l.last - l.passed
