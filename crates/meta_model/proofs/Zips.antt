@@ -1,5 +1,5 @@
 -- Lists that are made element by element.
-use Rattle.std.proofs.Common.{◌≡◌, ℕ, zero, suc, ◌<◌, ◌+◌, List, [], ◌∷◌, ◌++◌, length, get_or, slice_get, take, Any, Option, None, Some, MatchOption, refl, sym, subst}
+use Rattle.std.proofs.Common.{◌≡◌, ℕ, zero, suc, ◌<◌, ◌+◌, List, [], ◌∷◌, ◌++◌, length, get_or, slice_get, take, Any, Option, None, Some, MatchOption, refl, sym, ap, ◌∙◌, subst}
 use Rattle.std.specs.List.{AllZip}
 use Rattle.std.proofs.lemmas.List.{take_more}
 use Rattle.std.proofs.lemmas.Option.{slice_get_within, get_or_from_slice_get, none-some, same_Some}
@@ -64,3 +64,36 @@ module _ {A : Type 0} where
   pub get_back : (xs ys : List A) (i : ℕ) (x : A) → slice_get ys i ≡ Some x → (j : ℕ) × (slice_get (xs ++ ys) j ≡ Some x)
   get_back [] ys i x e = (i, e)
   get_back (a ∷ xs) ys i x e = let r = get_back xs ys i x e in (suc r.0, r.1)
+
+module _ {A B : Type 0} (R : A → B → Type 0) where
+  -- a list that relates to two lists in a row
+  pub zip_split : (xs us : List A) (zs : List B) → AllZip R (xs ++ us) zs → (ys : List B) × (vs : List B) × (zs ≡ ys ++ vs) × AllZip R xs ys × AllZip R us vs
+  zip_split [] us zs h = ([], zs, refl, tt, h)
+  zip_split (x ∷ xs) us [] h = absurd h
+  zip_split (x ∷ xs) us (z ∷ zs) h =
+      let rest = zip_split xs us zs h.1 in
+      (z ∷ rest.0, rest.1, ap (λ r. z ∷ r) rest.2, (h.0, rest.3), rest.4)
+
+-- what relates in one way relates in another
+pub zip_also : {A B : Type 0} (R S : A → B → Type 0) (xs : List A) (ys : List B) → ((x : A) (y : B) → R x y → S x y) → AllZip R xs ys → AllZip S xs ys
+zip_also R S [] [] f h = tt
+zip_also R S [] (y ∷ ys) f h = absurd h
+zip_also R S (x ∷ xs) [] f h = absurd h
+zip_also R S (x ∷ xs) (y ∷ ys) f h = (f x y h.0, zip_also R S xs ys f h.1)
+
+-- two relations that give the same for each element
+pub same_zip_by : {A B : Type 0} (R S : A → B → Type 0) (xs : List A) (ys zs : List B) → ((i : ℕ) (x : A) → slice_get xs i ≡ Some x → (y z : B) → R x y → S x z → y ≡ z) → AllZip R xs ys → AllZip S xs zs → ys ≡ zs
+same_zip_by R S [] [] [] f h k = refl
+same_zip_by R S [] [] (z ∷ zs) f h k = absurd k
+same_zip_by R S [] (y ∷ ys) zs f h k = absurd h
+same_zip_by R S (x ∷ xs) [] zs f h k = absurd h
+same_zip_by R S (x ∷ xs) (y ∷ ys) [] f h k = absurd k
+same_zip_by R S (x ∷ xs) (y ∷ ys) (z ∷ zs) f h k =
+    ap (λ v. v ∷ ys) (f 0 x refl y z h.0 k.0) ∙ ap (λ vs. z ∷ vs) (same_zip_by R S xs ys zs (λ i. f (suc i)) h.1 k.1)
+
+-- what relates in two ways relates in both
+pub zip_both : {A B : Type 0} (R S : A → B → Type 0) (xs : List A) (ys : List B) → AllZip R xs ys → AllZip S xs ys → AllZip (λ x y. R x y × S x y) xs ys
+zip_both R S [] [] h k = tt
+zip_both R S [] (y ∷ ys) h k = absurd h
+zip_both R S (x ∷ xs) [] h k = absurd h
+zip_both R S (x ∷ xs) (y ∷ ys) h k = ((h.0, k.0), zip_both R S xs ys h.1 k.1)

@@ -1,7 +1,7 @@
 -- The members that classes have, by name, inherited ones too (Qt 6, "The Meta-Object System" and "Using the Meta-Object
 -- Compiler"; docs/machine.md, "Meta-objects").
 use Rattle.std.specs.Borrow.{Bor}
-use Rattle.std.specs.Prelude.{◌≡◌, ◌≢◌, ℕ, suc, true, false, List, [], ◌∷◌, ◌++◌, map, Option, None, Some, Result, codes}
+use Rattle.std.specs.Prelude.{◌≡◌, ℕ, suc, true, false, List, [], ◌∷◌, ◌++◌, map, Option, None, Some, Result, codes}
 use Rattle.signatures.specs.declared.qtype.QType.{QType}
 use Rattle.signatures.specs.declared.sig.Sig.{Sig}
 use Rattle.signatures.specs.Types.{value_type}
@@ -28,10 +28,6 @@ sig_of name types = record { name = name; types = types }
 
 abbrev pub heading : Sig → Sort → Heading
 heading sig s = record { sig = sig; sort = s }
-
--- a body may call a slot, but for `deleteLater()`
-abbrev pub MayBeCalled : Sort → Type 0
-MayBeCalled s = (s ≢ sort.Signal) × (s ≢ sort.DeleteLater)
 
 -- ---- QObject
 abbrev pub destroyed : Sig

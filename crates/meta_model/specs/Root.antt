@@ -6,6 +6,9 @@ use Rattle.signatures.specs.declared.value.Value.TheVariants as value
 use Rattle.signatures.specs.Types.{value_type}
 use Rattle.meta_model.specs.declared.object.ValueType.{ValueType}
 use Rattle.meta_model.specs.declared.object.ValueType.TheVariants as type
+use Rattle.meta_model.specs.declared.object.MetaRoot.TheVariants.{This}
+use Rattle.meta_model.specs.declared.object.Statement.{Statement}
+use Rattle.meta_model.specs.declared.object.Statement.TheVariants as statement
 use Rattle.meta_model.specs.declared.object.Work.{Work}
 use Rattle.meta_model.specs.declared.object.Work.TheVariants.{Signal, Slot}
 use Rattle.meta_model.specs.declared.object.MetaMethod.{MetaMethod}
@@ -17,13 +20,17 @@ use Rattle.meta_model.specs.Outlines.{destroyed, destroyed_alone, name_changed, 
 abbrev pub root_method : Sig → List ValueType → Work → MetaMethod
 root_method sig kinds work = record { sig = sig; kinds = kinds; work = work }
 
+-- the body of `deleteLater()`: `later this;`
+abbrev pub delete_later_body : List Statement
+delete_later_body = statement.Later (record { root = This; steps = [] }) ∷ []
+
 -- `destroyed(QObject*)`, `destroyed()` and `objectNameChanged(QString)`, which are signals, and the slot `deleteLater()`
 abbrev pub root_methods : List MetaMethod
 root_methods =
     root_method destroyed (type.Reference QOBJECT false ∷ []) Signal
     ∷ root_method destroyed_alone [] Signal
     ∷ root_method name_changed (type.Text ∷ []) Signal
-    ∷ root_method delete_later [] (Slot [])
+    ∷ root_method delete_later [] (Slot delete_later_body)
     ∷ []
 
 -- `objectName`, which is notified by `objectNameChanged(QString)` and empty at first

@@ -30,7 +30,7 @@ use Rattle.meta_model.specs.declared.object.MetaProperty.{MetaProperty}
 use Rattle.meta_model.specs.declared.object.MetaWire.{MetaWire}
 use Rattle.meta_model.specs.declared.object.MetaOwns.{MetaOwns}
 use Rattle.meta_model.specs.Loaded.{Loaded}
-use Rattle.meta_model.specs.declared.qobject.TheConstants.{QOBJECT, OBJECT_NAME_CHANGED, DELETE_LATER}
+use Rattle.meta_model.specs.declared.qobject.TheConstants.{QOBJECT, OBJECT_NAME_CHANGED}
 use Rattle.meta_model.specs.Members.{IsClass, IsClassNamed, IsMethod, IsProperty, Below, Declares, IsIn}
 use Rattle.meta_model.specs.Literals.{HoldsNoObject}
 use Rattle.meta_model.specs.Root.{root_class, BeginsAsRoot}
@@ -106,14 +106,14 @@ pub record IsSoundCall (p : Loaded) (me : ℕ) (kinds : List ValueType) (path : 
   pub counted : length slot.kinds ≡ length es
   pub values : AreSoundExprs p me kinds es
 
--- signal g of class c may be connected to method m of class d, which isn't one of `QObject`'s own
+-- signal g of class c may be connected to method m of class d, which isn't one that the runtime emits
 pub record MayConnect (p : Loaded) (c g d m : ℕ) : Type 0 where
   pub signal : MetaMethod
   pub from : IsMethod p c g signal
   pub signals : signal.work ≡ Signal
   pub method : MetaMethod
   pub to : IsMethod p d m method
-  pub called : DELETE_LATER < m
+  pub called : OBJECT_NAME_CHANGED < m
 
 -- `connect` and `disconnect`: the sender's class has the signal, the receiver's the method
 pub record AreSoundEnds (p : Loaded) (me : ℕ) (kinds : List ValueType) (ends : MetaEndpoints) : Type 0 where
@@ -139,6 +139,10 @@ mutual
         → AreSoundEnds p me kinds ends → IsSoundStatement p me kinds (statement.Connect ends type)
     disconnect_sound : {ends : MetaEndpoints}
         → AreSoundEnds p me kinds ends → IsSoundStatement p me kinds (statement.Disconnect ends)
+    delete_sound : {path : MetaPath} {class : ℕ}
+        → LeadsToClass p me kinds path class → IsSoundStatement p me kinds (statement.Delete path)
+    later_sound : {path : MetaPath} {class : ℕ}
+        → LeadsToClass p me kinds path class → IsSoundStatement p me kinds (statement.Later path)
 
   -- .. of the statements of a block
   pub data AreSound (p : Loaded) (me : ℕ) (kinds : List ValueType) : List Statement → Type 0 where
@@ -206,7 +210,7 @@ pub record IsSoundClass (p : Loaded) (c : ℕ) (class : MetaObject) : Type 0 whe
   pub distinct_properties : HasDistinctProperties class
 
 -- ---- the program
--- a wire leads from a signal to a method that isn't one of `QObject`'s own
+-- a wire leads from a signal to a method that isn't one that the runtime emits
 abbrev pub IsSoundWire : Loaded → MetaWire → Type 0
 IsSoundWire p wire = MayConnect p wire.sender wire.signal wire.receiver wire.method
 

@@ -32,6 +32,6 @@ pub use outlining::outline_classes;
 pub use places::{Named, find, place_of};
 pub use qobject::{
     DELETE_LATER, DESTROYED, DESTROYED_ALONE, OBJECT_NAME, OBJECT_NAME_CHANGED, QOBJECT,
-    reference_to,
+    delete_later_body, reference_to,
 };
 pub use slot_body::SlotBody;

@@ -1,5 +1,4 @@
 ghost use Rattle.std.specs.Prelude.{◌≡◌, ◌↔◌, IsTrue};
-ghost use Rattle.meta_model.specs.Outlines.{MayBeCalled};
 ghost use Rattle.meta_model.specs.declared.outline.Sort.TheVariants.{Signal};
 
 use signatures::{Name, Sig};
@@ -11,7 +10,7 @@ use texts::Property;
 pub enum Sort {
     /// A signal has none.
     Signal,
-    /// `deleteLater()` has an empty one.
+    /// `deleteLater()` has one that stands in no program.
     DeleteLater,
     /// A slot has one: the number of its class among the program's, and its place among that class's slots.
     Slot(usize, usize),
@@ -32,13 +31,6 @@ impl Heading {
         ensures { IsTrue result ↔ (self.now.sort ≡ Signal) }
     {
         matches!(self.sort, Sort::Signal)
-    }
-
-    /// Whether a body may call it: a slot, but for `deleteLater()`.
-    pub fn may_be_called(&self) -> bool
-        ensures { IsTrue result ↔ MayBeCalled self.now.sort }
-    {
-        matches!(self.sort, Sort::Slot(_, _))
     }
 }
 

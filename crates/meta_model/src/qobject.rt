@@ -4,9 +4,12 @@ ghost use Rattle.std.specs.Prelude.{◌≡◌, [], ◌∷◌, IfOk, codes};
 ghost use Rattle.signatures.specs.Name.{IsName};
 ghost use Rattle.signatures.specs.Types.{value_type};
 ghost use Rattle.meta_model.specs.Outlines.{qobject, sig_of, heading, reference_to, name_changed, object_name};
+ghost use Rattle.meta_model.specs.Root.{delete_later_body};
 ghost use Rattle.meta_model.specs.declared.outline.Sort.TheVariants.{Signal};
 
+use crate::object::{MetaPath, MetaRoot, Statement};
 use crate::outline::{Heading, Outline, Sort};
+use crate::slot_body::SlotBody;
 use signatures::{Name, QType, Sig};
 use sqlite_items::Items;
 use std::alloc::{AllocError, Global};
@@ -57,6 +60,19 @@ pub fn qobject(alloc: Global) -> Result<Outline, AllocError>
         methods,
         properties,
     })
+}
+
+/// The body of `deleteLater()`: `later this;`.
+pub fn delete_later_body(alloc: Global) -> Result<SlotBody, AllocError>
+    ensures { IfOk result (λ body. body ≡ delete_later_body) }
+{
+    let mut statements = Items::new(alloc);
+    let this = MetaPath {
+        root: MetaRoot::This,
+        steps: Items::new(alloc),
+    };
+    statements.push(Statement::Later(this))?;
+    SlotBody::new(alloc, statements)
 }
 
 /// A signal.

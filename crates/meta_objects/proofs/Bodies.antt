@@ -29,7 +29,7 @@ use Rattle.meta_model.specs.Kinds.{IsReadAs}
 use Rattle.meta_model.specs.Conditions.{IsSignalOf}
 use Rattle.meta_model.specs.Ends.{IsSigned}
 use Rattle.meta_model.specs.Literals.{literal}
-use Rattle.meta_objects.specs.Bodies.{Scope, IsRoot, this_root, parameter_root, PointsTo, HasMember, IsStep, AreSteps, IsPath, IsExpr, literal_is, path_is, unary_is, binary_is, AreExprs, IsObjectPath, IsPropertyOfName, IsCallOf, IsSet, IsEmit, IsCall, AreEnds, IsStatement, set_is, emit_is, call_is, if_is, connect_is, disconnect_is, AreStatements, none_are, next_is, IsStatementOf}
+use Rattle.meta_objects.specs.Bodies.{Scope, IsRoot, this_root, parameter_root, PointsTo, HasMember, IsStep, AreSteps, IsPath, IsExpr, literal_is, path_is, unary_is, binary_is, AreExprs, IsObjectPath, IsReferencePath, IsPropertyOfName, IsCallOf, IsSet, IsEmit, IsCall, AreEnds, IsStatement, set_is, emit_is, call_is, if_is, connect_is, disconnect_is, delete_is, later_is, AreStatements, none_are, next_is, IsStatementOf}
 use Rattle.meta_model.proofs.Searches.{same_first}
 use Rattle.meta_model.proofs.Firsts.{first_item}
 use Rattle.meta_model.proofs.ReadTypes.{same_read}
@@ -148,6 +148,9 @@ module _ (s : Scope) where
       let class = same_named s.outlines h.kind.name k.kind.name (ap (λ (T : QType). T.name) path_is.1) h.number k.number h.points.points.class k.points.points.class in
       (path_is.0, sym h.points.is ∙ class ∙ k.points.is)
 
+  same_reference : (path : Path) (f g : MetaPath) → IsReferencePath s path f → IsReferencePath s path g → f ≡ g
+  same_reference path f g h k = (same_path path f g h.kind k.kind h.leads k.leads).0
+
   -- ---- statements
   same_set : (path : Path) (name : List ℕ) (e : Expr Path) (x y : MetaPath) (q r : ℕ) (f g : Expr MetaPath) → IsSet s path name e x q f → IsSet s path name e y r g → (x ≡ y) × (q ≡ r) × (f ≡ g)
   same_set path name e x y q r f g h k =
@@ -204,6 +207,8 @@ module _ (s : Scope) where
         cc
     same_parts x y z (connect_is {ends = ends} {type = type} {found = f} h) (connect_is {found = g} k) = ap (λ found. statement.Connect found type) (same_ends ends f g h k)
     same_parts x y z (disconnect_is {ends = ends} {found = f} h) (disconnect_is {found = g} k) = ap (λ found. statement.Disconnect found) (same_ends ends f g h k)
+    same_parts x y z (delete_is {path = path} {found = f} h) (delete_is {found = g} k) = ap (λ found. statement.Delete found) (same_reference path f g h k)
+    same_parts x y z (later_is {path = path} {found = f} h) (later_is {found = g} k) = ap (λ found. statement.Later found) (same_reference path f g h k)
 
     pub same_statements : (xs : List Stmt) (ys zs : List Statement) → AreStatements s xs ys → AreStatements s xs zs → ys ≡ zs
     same_statements xs ys zs none_are none_are = refl

@@ -1,5 +1,5 @@
 -- Resolving `emit` and `call`.
-use Rattle.std.proofs.Common.{◌≡◌, ℕ, ◌<◌, List, length, sym, ap, ◌∙◌, subst}
+use Rattle.std.proofs.Common.{◌≡◌, ◌≢◌, ℕ, ◌<◌, List, length, sym, ap, ◌∙◌, subst}
 use Rattle.texts.specs.declared.syntax.Expr.{Expr}
 use Rattle.texts.specs.declared.syntax.Path.{Path}
 use Rattle.texts.specs.declared.syntax.Stmt.TheVariants as stmt_by
@@ -13,7 +13,6 @@ use Rattle.meta_model.specs.declared.outline.Heading.{Heading}
 use Rattle.meta_model.specs.declared.outline.Outline.{Outline}
 use Rattle.meta_model.specs.declared.outline.Sort.TheVariants as sort
 use Rattle.meta_model.specs.Places.{StandsAt, StandsFirst, Found}
-use Rattle.meta_model.specs.Outlines.{MayBeCalled}
 use Rattle.meta_objects.specs.Bodies.{Scope, AreExprs, IsObjectPath, IsCallOf, IsEmit, IsCall, IsStatement, emit_is, call_is, IsStatementOf}
 use Rattle.meta_model.proofs.Firsts.{found_item}
 use Rattle.meta_objects.proofs.Bodies.{same_in, same_object}
@@ -95,13 +94,13 @@ module _ (s : Scope) where
           method_not (IsCallOf n (length es)) r.3.class class (called_class r.0 r.1 r.2 r.3) none r.1 r.3.method
 
       module _ (m : ℕ) (h : Heading) (method : Found (IsCallOf n (length es)) class.methods m h) where
-        pub no_call : ¬ MayBeCalled h.sort → (y : Statement) → ¬ IsStatementOf s (stmt_by.Call p n es) y
-        no_call lacks y is =
+        pub no_call : h.sort ≡ sort.Signal → (y : Statement) → ¬ IsStatementOf s (stmt_by.Call p n es) y
+        no_call signal y is =
             let r = a_call y is in
             let same = method_is (IsCallOf n (length es)) r.3.class class (called_class r.0 r.1 r.2 r.3) m r.1 h method r.3.method in
-            lacks (subst (λ (k : Heading). MayBeCalled k.sort) same.1 r.3.callable)
+            r.3.callable (ap (λ (k : Heading). k.sort) same.1 ∙ signal)
 
-        pub call_piece : (fs : List (Expr MetaPath)) → MayBeCalled h.sort → AreExprs s es fs → IsStatementOf s (stmt_by.Call p n es) (statement_by.Call g m fs)
+        pub call_piece : (fs : List (Expr MetaPath)) → h.sort ≢ sort.Signal → AreExprs s es fs → IsStatementOf s (stmt_by.Call p n es) (statement_by.Call g m fs)
         call_piece fs callable values =
             by_parts s _ _ _ _ (stmt_by.outs-Call p n es) (statement_by.outs-Call g m fs)
-            (call_is (record { class = class; object = object; method = method.first; callable = subst (λ (k : Heading). MayBeCalled k.sort) (sym method.is) callable; values = values }))
+            (call_is (record { class = class; object = object; method = method.first; callable = subst (λ (k : Heading). k.sort ≢ sort.Signal) (sym method.is) callable; values = values }))

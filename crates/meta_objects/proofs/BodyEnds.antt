@@ -12,7 +12,7 @@ use Rattle.meta_model.specs.declared.object.Statement.TheVariants as statement_b
 use Rattle.meta_model.specs.declared.object.Statement.TheOpen as statement
 use Rattle.meta_model.specs.declared.object.Statement.TheViews.{out-Statement}
 use Rattle.meta_model.specs.declared.outline.Outline.{Outline}
-use Rattle.meta_model.specs.declared.qobject.TheConstants.{DELETE_LATER}
+use Rattle.meta_model.specs.declared.qobject.TheConstants.{OBJECT_NAME_CHANGED}
 use Rattle.meta_model.specs.Places.{StandsFirst, NoneStands, StandsAt}
 use Rattle.meta_model.specs.Conditions.{IsSignalOf}
 use Rattle.meta_model.specs.Ends.{IsSigned}
@@ -41,7 +41,7 @@ module _ (s : Scope) where
           let same = same_object s ends.receiver y.receiver g h.to_class class h.receiver object in
           none y.method (subst (λ (o : Outline). StandsAt (IsSigned ends.method) o.methods y.method) same.1 h.method.at)
 
-      pub no_called : (m : ℕ) → StandsFirst (IsSigned ends.method) class.methods m → m ≤ DELETE_LATER → (y : MetaEndpoints) → ¬ AreEnds s ends y
+      pub no_called : (m : ℕ) → StandsFirst (IsSigned ends.method) class.methods m → m ≤ OBJECT_NAME_CHANGED → (y : MetaEndpoints) → ¬ AreEnds s ends y
       no_called m first early y h =
           let same = same_object s ends.receiver y.receiver g h.to_class class h.receiver object in
           let at = same_in (λ (o : Outline). o.methods) (IsSigned ends.method) h.to_class class same.1 y.method m h.method first in

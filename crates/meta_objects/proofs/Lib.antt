@@ -2,6 +2,7 @@ pub mod Bodies
 pub mod BodyPieces
 pub mod BodyCalls
 pub mod BodyEnds
+pub mod BodyReferences
 pub mod LookUps
 pub mod Ends
 pub mod Unique

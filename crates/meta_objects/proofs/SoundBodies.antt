@@ -1,5 +1,5 @@
 -- A body as it is loaded is sound: its names' numbers are those of members.
-use Rattle.std.proofs.Common.{◌≡◌, ℕ, List, [], ◌∷◌, length, sym, ◌∙◌}
+use Rattle.std.proofs.Common.{◌≡◌, ℕ, false, List, [], ◌∷◌, length, sym, ◌∙◌, subst}
 use Rattle.signatures.specs.declared.sig.Sig.{Sig}
 use Rattle.signatures.specs.declared.value.Value.{Value}
 use Rattle.signatures.specs.declared.value.Value.TheVariants as value
@@ -11,19 +11,24 @@ use Rattle.texts.specs.declared.syntax.Stmt.{Stmt}
 use Rattle.texts.specs.declared.syntax.Stmt.TheOpen as stmt
 use Rattle.texts.specs.declared.syntax.Stmt.TheViews.{out-Stmt}
 use Rattle.meta_model.specs.declared.object.ValueType.{ValueType}
+use Rattle.meta_model.specs.declared.object.ValueType.TheVariants as type
 use Rattle.meta_model.specs.declared.object.MetaRoot.{MetaRoot}
+use Rattle.meta_model.specs.declared.object.MetaRoot.TheVariants.{This}
 use Rattle.meta_model.specs.declared.object.Step.{Step}
 use Rattle.meta_model.specs.declared.object.MetaPath.{MetaPath}
 use Rattle.meta_model.specs.declared.object.MetaEndpoints.{MetaEndpoints}
 use Rattle.meta_model.specs.declared.object.Statement.{Statement}
 use Rattle.meta_model.specs.declared.object.Statement.TheOpen as statement
+use Rattle.meta_model.specs.declared.object.Statement.TheVariants as statement_by
 use Rattle.meta_model.specs.declared.object.Statement.TheViews.{out-Statement}
 use Rattle.meta_model.specs.declared.object.MetaMethod.{MetaMethod}
 use Rattle.meta_model.specs.Loaded.{Loaded}
 use Rattle.meta_model.specs.Members.{IsMethod}
-use Rattle.meta_model.specs.Sound.{HasRoot, this_has, parameter_has, Leads, here, on, LeadsTo, LeadsToClass, IsSoundExpr, literal_sound, path_sound, unary_sound, binary_sound, AreSoundExprs, MayConnect, AreSoundEnds, IsSoundStatement, set_sound, emit_sound, call_sound, if_sound, connect_sound, disconnect_sound, AreSound, none_sound, next_sound}
+use Rattle.meta_model.specs.Sound.{HasRoot, this_has, parameter_has, Leads, here, on, LeadsTo, LeadsToClass, IsSoundExpr, literal_sound, path_sound, unary_sound, binary_sound, AreSoundExprs, MayConnect, AreSoundEnds, IsSoundStatement, set_sound, emit_sound, call_sound, if_sound, connect_sound, disconnect_sound, delete_sound, later_sound, AreSound, none_sound, next_sound}
+use Rattle.meta_model.specs.declared.qobject.TheConstants.{QOBJECT}
+use Rattle.meta_model.specs.Root.{delete_later_body}
 use Rattle.meta_model.specs.Literals.{literal, HoldsNoObject}
-use Rattle.meta_objects.specs.LoadedBodies.{Site, IsLoadedRoot, this_loaded, parameter_loaded, AreLoadedSteps, no_steps, step_on, IsLoadedPath, IsLoadedObject, IsLoadedExpr, literal_loaded, path_loaded, unary_loaded, binary_loaded, AreLoadedExprs, AreLoadedEnds, IsLoadedStatement, set_loaded, emit_loaded, call_loaded, if_loaded, connect_loaded, disconnect_loaded, AreLoadedStatements, none_loaded, next_loaded}
+use Rattle.meta_objects.specs.LoadedBodies.{Site, IsLoadedRoot, this_loaded, parameter_loaded, AreLoadedSteps, no_steps, step_on, IsLoadedPath, IsLoadedObject, IsLoadedExpr, literal_loaded, path_loaded, unary_loaded, binary_loaded, AreLoadedExprs, AreLoadedEnds, IsLoadedStatement, set_loaded, emit_loaded, call_loaded, if_loaded, connect_loaded, disconnect_loaded, delete_loaded, later_loaded, AreLoadedStatements, none_loaded, next_loaded}
 use Rattle.meta_objects.specs.LoadedEnds.{Connects}
 use Rattle.meta_objects.proofs.Soundness.{zip_length}
 
@@ -43,6 +48,17 @@ connects_sound h = record {
   to = h.method.is;
   called = h.called;
 }
+
+-- `this` is a `QObject` in the body of `deleteLater()`
+pub delete_later_sound : (p : Loaded) (kinds : List ValueType) → AreSound p QOBJECT kinds delete_later_body
+delete_later_sound p kinds =
+    let this_path : MetaPath = record { root = This; steps = [] } in
+    let leads : LeadsToClass p QOBJECT kinds this_path QOBJECT = record {
+      constant = false;
+      leads = record { root_type = type.Reference QOBJECT false; root = this_has; steps = here };
+    } in
+    let one : IsSoundStatement p QOBJECT kinds (statement.Later this_path) = later_sound leads in
+    next_sound (subst (λ s. IsSoundStatement p QOBJECT kinds s) (sym (statement_by.outs-Later this_path)) one) none_sound
 
 module _ (s : Site) (counted : (c m : ℕ) (method : MetaMethod) → IsMethod s.program c m method → length method.sig.types ≡ length method.kinds) where
   root_sound : (r : Root) (f : MetaRoot) (T : ValueType) → IsLoadedRoot s r f T → HasRoot s.me s.kinds f T
@@ -112,6 +128,8 @@ module _ (s : Site) (counted : (c m : ℕ) (method : MetaMethod) → IsMethod s.
         if_sound (expr_sound e f h) (statements_sound x1 y1 h1) (statements_sound x2 y2 h2)
     statement_sound x y (connect_loaded {ends = ends} {found = found} h) = connect_sound (ends_sound ends found h)
     statement_sound x y (disconnect_loaded {ends = ends} {found = found} h) = disconnect_sound (ends_sound ends found h)
+    statement_sound x y (delete_loaded {path = path} {found = found} h) = delete_sound (object_sound path found _ h)
+    statement_sound x y (later_loaded {path = path} {found = found} h) = later_sound (object_sound path found _ h)
 
     pub statements_sound : (xs : List Stmt) (ys : List Statement) → AreLoadedStatements s xs ys → AreSound s.program s.me s.kinds ys
     statements_sound xs ys none_loaded = none_sound

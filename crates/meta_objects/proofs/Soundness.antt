@@ -1,5 +1,5 @@
 -- Bodies that are resolved in outlines, as they are loaded: by the numbers of the members with their names.
-use Rattle.std.proofs.Common.{◌≡◌, ℕ, zero, suc, ◌<◌, false, List, [], ◌∷◌, map, length, slice_get, Some, inl, refl, sym, ap, ◌∙◌, subst}
+use Rattle.std.proofs.Common.{◌≡◌, ◌≢◌, ℕ, zero, suc, ◌<◌, Bool, false, List, [], ◌∷◌, map, length, slice_get, Some, true, inl, refl, sym, ap, ◌∙◌, subst}
 use Rattle.std.specs.List.{AllZip}
 use Rattle.std.proofs.lemmas.Option.{none-some, same_Some}
 use Rattle.signatures.specs.declared.qtype.QType.{QType}
@@ -33,19 +33,24 @@ use Rattle.meta_model.specs.declared.outline.Outline.{Outline}
 use Rattle.meta_model.specs.Loaded.{Loaded}
 use Rattle.meta_model.specs.Members.{IsClassNamed, IsMethod, IsMethodNamed, IsProperty}
 use Rattle.meta_model.specs.Sound.{IsKind}
-use Rattle.meta_model.specs.Outlines.{IsOutlineNamed, MayBeCalled, kinds_of}
-use Rattle.meta_model.specs.declared.qobject.TheConstants.{DELETE_LATER}
+use Rattle.meta_model.specs.Outlines.{IsOutlineNamed, kinds_of}
+use Rattle.meta_model.specs.Root.{delete_later_body}
+use Rattle.meta_model.specs.declared.qobject.TheConstants.{OBJECT_NAME_CHANGED}
 use Rattle.meta_model.specs.Places.{StandsFirst}
 use Rattle.meta_model.specs.Kinds.{IsKindIn, IsReadAs}
 use Rattle.meta_model.specs.Conditions.{IsSignalOf}
 use Rattle.meta_model.specs.Ends.{IsSigned}
 use Rattle.meta_objects.specs.LoadedEnds.{Connects}
-use Rattle.meta_objects.specs.Bodies.{Scope, IsRoot, this_root, parameter_root, PointsTo, HasMember, AreSteps, IsPath, IsExpr, literal_is, path_is, unary_is, binary_is, AreExprs, IsObjectPath, IsCallOf, IsSet, IsEmit, IsCall, AreEnds, IsStatement, set_is, emit_is, call_is, if_is, connect_is, disconnect_is, AreStatements, none_are, next_is}
-use Rattle.meta_objects.specs.LoadedBodies.{Site, site, IsLoadedRoot, this_loaded, parameter_loaded, HasProperty, AreLoadedSteps, no_steps, step_on, IsLoadedPath, IsLoadedObject, IsLoadedExpr, literal_loaded, path_loaded, unary_loaded, binary_loaded, AreLoadedExprs, IsLoadedSet, IsLoadedEmit, IsLoadedCall, AreLoadedEnds, IsLoadedStatement, set_loaded, emit_loaded, call_loaded, if_loaded, connect_loaded, disconnect_loaded, AreLoadedStatements, none_loaded, next_loaded}
+use Rattle.meta_objects.specs.Bodies.{Scope, IsRoot, this_root, parameter_root, PointsTo, HasMember, AreSteps, IsPath, IsExpr, literal_is, path_is, unary_is, binary_is, AreExprs, IsObjectPath, IsReferencePath, IsCallOf, IsSet, IsEmit, IsCall, AreEnds, IsStatement, set_is, emit_is, call_is, if_is, connect_is, disconnect_is, delete_is, later_is, AreStatements, none_are, next_is}
+use Rattle.meta_objects.specs.LoadedBodies.{Site, site, IsLoadedRoot, this_loaded, parameter_loaded, HasProperty, AreLoadedSteps, no_steps, step_on, IsLoadedPath, IsLoadedObject, IsLoadedExpr, literal_loaded, path_loaded, unary_loaded, binary_loaded, AreLoadedExprs, IsLoadedSet, IsLoadedEmit, IsLoadedCall, AreLoadedEnds, IsLoadedStatement, set_loaded, emit_loaded, call_loaded, if_loaded, connect_loaded, disconnect_loaded, delete_loaded, later_loaded, AreLoadedStatements, none_loaded, next_loaded}
 use Rattle.meta_objects.specs.Loading.{body_at, found_body, work_of, IsMethodOf, IsPropertyOf, IsObject}
 use Rattle.meta_model.proofs.Zips.{zip_left, zip_right}
 use Rattle.meta_model.proofs.Searches.{same_first}
 use Rattle.meta_model.proofs.ReadTypes.{same_read}
+
+-- what a declared type is read as, which is its kind
+abbrev pub IsTyped : List Outline → Loaded → QType → ValueType → Type 0
+IsTyped outlines p T k = IsReadAs outlines T k × IsKind p T k
 
 pub zip_length : {A B : Type 0} (R : A → B → Type 0) (xs : List A) (ys : List B) → AllZip R xs ys → length xs ≡ length ys
 zip_length R [] [] h = refl
@@ -80,13 +85,14 @@ module _ (outlines : List Outline) (bodies : List (List (List Statement))) (p : 
     pub loaded : MetaProperty
     pub is : IsProperty p c q loaded
     pub named : loaded.name ≡ property.name
+    pub typed : loaded.declared ≡ property.kind
     pub kind : IsReadAs outlines property.kind loaded.kind
 
   pub property_at : (c : ℕ) (o : Outline) → slice_get outlines c ≡ Some o → (q : ℕ) (property : Property) → slice_get o.properties q ≡ Some property → FoundProperty c q property
   property_at c o e q property at =
       let x = object_at c o e in
       let y = zip_left (IsPropertyOf outlines o) o.properties x.0.properties x.2.properties q property at in
-      record { loaded = y.0; is = record { class = x.0; is_class = record { is = x.1 }; is = y.1 }; named = y.2.named; kind = y.2.kind }
+      record { loaded = y.0; is = record { class = x.0; is_class = record { is = x.1 }; is = y.1 }; named = y.2.named; typed = y.2.typed; kind = y.2.kind }
 
   pub record FoundMethod (c m : ℕ) (h : Heading) : Type 0 where
     pub loaded : MetaMethod
@@ -101,7 +107,7 @@ module _ (outlines : List Outline) (bodies : List (List (List Statement))) (p : 
 
   -- a signal and a method that are found, as they are loaded
   pub connects : (c : ℕ) (o : Outline) → slice_get outlines c ≡ Some o → (from : Sig) (g : ℕ) → StandsFirst (IsSignalOf from) o.methods g
-      → (d : ℕ) (u : Outline) → slice_get outlines d ≡ Some u → (to : Sig) (m : ℕ) → StandsFirst (IsSigned to) u.methods m → DELETE_LATER < m
+      → (d : ℕ) (u : Outline) → slice_get outlines d ≡ Some u → (to : Sig) (m : ℕ) → StandsFirst (IsSigned to) u.methods m → OBJECT_NAME_CHANGED < m
       → Connects p c from g d to m
   connects c o at_c from g first d u at_d to m second called =
       let signal = method_at c o at_c g first.at.item first.at.is in
@@ -120,8 +126,16 @@ module _ (outlines : List Outline) (bodies : List (List (List Statement))) (p : 
       let x = zip_right (IsMethodOf outlines bodies) o.0.methods h.class.methods o.2.methods m method h.is in
       ap (λ (s : Sig). length s.types) x.2.signed ∙ zip_length (IsReadAs outlines) x.0.sig.types method.kinds x.2.kinds
 
-  -- ---- bodies
-  module _ (name : List ℕ) (parameters : List Parameter) (me : ℕ) (is_me : IsOutlineNamed outlines name me) (kinds : List ValueType) (typed : AllZip (IsReadAs outlines) (kinds_of parameters) kinds) where
+  -- a pointer is read as a reference
+  referred : (T : QType) (k : ValueType) → T.pointer ≡ true → IsKind p T k → (c : ℕ) × (constant : Bool) × (k ≡ type.Reference c constant)
+  referred T type.Int pointer h = let plain = ap (λ (U : QType). U.pointer) h in absurd (cc)
+  referred T type.Bool pointer h = let plain = ap (λ (U : QType). U.pointer) h in absurd (cc)
+  referred T type.Text pointer h = let plain = ap (λ (U : QType). U.pointer) h in absurd (cc)
+  referred T (type.Reference c constant) pointer h = (c, constant, refl)
+
+  -- ---- bodies, where no declared type is wanting
+  module _ (properties_typed : (c q : ℕ) (property : MetaProperty) → IsProperty p c q property → IsKind p property.declared property.kind)
+      (name : List ℕ) (parameters : List Parameter) (me : ℕ) (is_me : IsOutlineNamed outlines name me) (kinds : List ValueType) (typed : AllZip (IsTyped outlines p) (kinds_of parameters) kinds) where
     abbrev scope : Scope
     scope = record { outlines = outlines; me = name; parameters = parameters }
 
@@ -137,10 +151,10 @@ module _ (outlines : List Outline) (bodies : List (List (List Statement))) (p : 
     member T n q property h =
         property_at h.number h.points.class.at.item h.points.class.at.is q property (h.place.at.is ∙ ap (λ (x : Property). Some x) h.is)
 
-    root_loads : (r : Root) (f : MetaRoot) (T : QType) → IsRoot scope r f T → (k : ValueType) × IsLoadedRoot loaded_site r f k × IsReadAs outlines T k
-    root_loads r f T this_root = (type.Reference me false, this_loaded, inl (refl, refl, is_me))
+    root_loads : (r : Root) (f : MetaRoot) (T : QType) → IsRoot scope r f T → (k : ValueType) × IsLoadedRoot loaded_site r f k × IsTyped outlines p T k
+    root_loads r f T this_root = (type.Reference me false, this_loaded, (inl (refl, refl, is_me), (refl, refl, named name me is_me)))
     root_loads r f T (parameter_root {k = k} at) =
-        let y = zip_left (IsReadAs outlines) (kinds_of parameters) kinds typed k at.at.item.kind (map_at (λ (x : Parameter). x.kind) parameters k at.at.item at.at.is) in
+        let y = zip_left (IsTyped outlines p) (kinds_of parameters) kinds typed k at.at.item.kind (map_at (λ (x : Parameter). x.kind) parameters k at.at.item at.at.is) in
         (y.0, parameter_loaded at y.1, y.2)
 
     -- the property that a name is resolved to has it
@@ -149,17 +163,18 @@ module _ (outlines : List Outline) (bodies : List (List (List Statement))) (p : 
         let found = member T n q property h in
         record { is = found.is; named = found.named ∙ sym (ap (λ (x : Property). x.name) h.is) ∙ h.place.at.has }
 
-    steps_load : (names : List (List ℕ)) (T : QType) (k : ValueType) (steps : List Step) (U : QType) → IsReadAs outlines T k → AreSteps outlines T names steps U → (l : ValueType) × IsReadAs outlines U l × AreLoadedSteps p k names steps l
-    steps_load [] T k [] U read h = (k, subst (λ V. IsReadAs outlines V k) h read, no_steps)
+    steps_load : (names : List (List ℕ)) (T : QType) (k : ValueType) (steps : List Step) (U : QType) → IsTyped outlines p T k → AreSteps outlines T names steps U → (l : ValueType) × IsTyped outlines p U l × AreLoadedSteps p k names steps l
+    steps_load [] T k [] U read h = (k, subst (λ V. IsTyped outlines p V k) h read, no_steps)
     steps_load [] T k (s ∷ steps) U read h = absurd h
     steps_load (n ∷ names) T k [] U read h = absurd h
     steps_load (n ∷ names) T k (s ∷ steps) U read h =
         let found = member T n s.property h.0 h.1.member in
         let kind : found.loaded.kind ≡ s.kind = same_read outlines h.0.kind found.loaded.kind s.kind found.kind h.1.kind in
-        let rest = steps_load names h.0.kind s.kind steps U h.1.kind h.2 in
-        (rest.0, rest.1, subst (λ l. AreLoadedSteps p l (n ∷ names) (s ∷ steps) rest.0) (sym (points T h.1.member.number k h.1.member.points read)) (step_on (has_property T n s.property h.0 h.1.member) kind rest.2))
+        let declared : IsKind p h.0.kind s.kind = subst (λ l. IsKind p h.0.kind l) kind (subst (λ V. IsKind p V found.loaded.kind) found.typed (properties_typed h.1.member.number s.property found.loaded found.is)) in
+        let rest = steps_load names h.0.kind s.kind steps U (h.1.kind, declared) h.2 in
+        (rest.0, rest.1, subst (λ l. AreLoadedSteps p l (n ∷ names) (s ∷ steps) rest.0) (sym (points T h.1.member.number k h.1.member.points read.0)) (step_on (has_property T n s.property h.0 h.1.member) kind rest.2))
 
-    path_loads : (path : Path) (f : MetaPath) (T : QType) → IsPath scope path f T → (k : ValueType) × IsReadAs outlines T k × IsLoadedPath loaded_site path f k
+    path_loads : (path : Path) (f : MetaPath) (T : QType) → IsPath scope path f T → (k : ValueType) × IsTyped outlines p T k × IsLoadedPath loaded_site path f k
     path_loads path f T h =
         let root = root_loads path.root f.root h.root_type h.root in
         let steps = steps_load path.properties h.root_type root.0 f.steps T root.2 h.steps in
@@ -168,7 +183,14 @@ module _ (outlines : List Outline) (bodies : List (List (List Statement))) (p : 
     object_loads : (path : Path) (f : MetaPath) (class : Outline) (h : IsObjectPath scope path f class) → IsLoadedObject loaded_site path f h.number
     object_loads path f class h =
         let path_to = path_loads path f h.kind h.leads in
-        record { constant = h.kind.constant; leads = subst (λ k. IsLoadedPath loaded_site path f k) (points h.kind h.number path_to.0 h.points.points path_to.1) path_to.2 }
+        record { constant = h.kind.constant; leads = subst (λ k. IsLoadedPath loaded_site path f k) (points h.kind h.number path_to.0 h.points.points path_to.1.0) path_to.2 }
+
+    -- .. of a class that is there, as the type is
+    reference_loads : (path : Path) (f : MetaPath) → IsReferencePath scope path f → (c : ℕ) × IsLoadedObject loaded_site path f c
+    reference_loads path f h =
+        let path_to = path_loads path f h.kind h.leads in
+        let refers = referred h.kind path_to.0 h.pointer path_to.1.1 in
+        (refers.0, record { constant = refers.1; leads = subst (λ k. IsLoadedPath loaded_site path f k) refers.2 path_to.2 })
 
     -- the class of the objects that the path leads to, by its number
     target_at : (path : Path) (f : MetaPath) (class : Outline) (h : IsObjectPath scope path f class) → slice_get outlines h.number ≡ Some class
@@ -198,9 +220,9 @@ module _ (outlines : List Outline) (bodies : List (List (List Statement))) (p : 
         }
 
     -- a signal's work, and a slot's
-    sort_slot : (s : Sort) → MayBeCalled s → (body : List Statement) × (work_of bodies s ≡ work.Slot body)
-    sort_slot sort.Signal callable = absurd (callable.0 refl)
-    sort_slot sort.DeleteLater callable = absurd (callable.1 refl)
+    sort_slot : (s : Sort) → s ≢ sort.Signal → (body : List Statement) × (work_of bodies s ≡ work.Slot body)
+    sort_slot sort.Signal callable = absurd (callable refl)
+    sort_slot sort.DeleteLater callable = (delete_later_body, refl)
     sort_slot (sort.Slot i j) callable = (found_body (body_at bodies i j), refl)
 
     -- the method that a name and a number of parameters are resolved to has them
@@ -257,6 +279,8 @@ module _ (outlines : List Outline) (bodies : List (List (List Statement))) (p : 
           if_loaded (expr_loads e f h) (statements_load x1 y1 h1) (statements_load x2 y2 h2)
       statement_loads x y (connect_is {ends = ends} {found = found} h) = connect_loaded (ends_load ends found h)
       statement_loads x y (disconnect_is {ends = ends} {found = found} h) = disconnect_loaded (ends_load ends found h)
+      statement_loads x y (delete_is {path = path} {found = found} h) = delete_loaded (reference_loads path found h).1
+      statement_loads x y (later_is {path = path} {found = found} h) = later_loaded (reference_loads path found h).1
 
       pub statements_load : (xs : List Stmt) (ys : List Statement) → AreStatements scope xs ys → AreLoadedStatements loaded_site xs ys
       statements_load xs ys none_are = none_loaded

@@ -29,8 +29,8 @@ use Rattle.meta_model.specs.declared.outline.Heading.{Heading}
 use Rattle.meta_model.specs.declared.outline.Outline.{Outline}
 use Rattle.meta_model.specs.Loaded.{Loaded}
 use Rattle.meta_model.specs.Places.{StandsAt, StandsFirst}
-use Rattle.meta_model.specs.Members.{IsClass, methods_in, method_count, methods_before, method_offset, Declares, base_of, Below, same, under, IsIn}
-use Rattle.meta_model.specs.Sound.{IsKind, AreSound, none_sound, IsSoundBody, IsSoundWork, IsSoundMethod, IsNotifier, IsSoundProperty, IsUnder, HasDistinctMethods, HasDistinctProperties, IsSoundClass, IsSoundWire, IsSoundOwns, IsSound}
+use Rattle.meta_model.specs.Members.{IsClass, IsProperty, methods_in, method_count, methods_before, method_offset, Declares, base_of, Below, same, under, IsIn}
+use Rattle.meta_model.specs.Sound.{IsKind, AreSound, IsSoundBody, IsSoundWork, IsSoundMethod, IsNotifier, IsSoundProperty, IsUnder, HasDistinctMethods, HasDistinctProperties, IsSoundClass, IsSoundWire, IsSoundOwns, IsSound}
 use Rattle.meta_model.specs.Literals.{HoldsNoObject}
 use Rattle.meta_model.specs.Root.{root_methods, root_class, BeginsAsRoot}
 use Rattle.meta_model.specs.Outlines.{IsOutlineNamed, kinds_of, signal_heading, slot_headings, own_methods, heading, destroyed, destroyed_alone, name_changed, qobject}
@@ -42,41 +42,15 @@ use Rattle.meta_objects.specs.Builds.{HasOutlines, IsClean, IsLoadedForm}
 use Rattle.meta_objects.specs.LoadedBodies.{site, AreLoadedStatements}
 use Rattle.meta_objects.specs.LoadedEnds.{Connects}
 use Rattle.meta_objects.specs.Classes.{IsLoadedSignal, IsLoadedSlot, HasNotifier, IsLoadedProperty, IsLoadedClass, HasLoadedClass, IsLoadedWire, IsLoadedOwns, IsLoadedProgram}
-use Rattle.meta_model.proofs.Zips.{zip_left, zip_right, get_front, get_back}
+use Rattle.meta_model.proofs.Zips.{zip_left, zip_right, zip_split, zip_also, zip_both, same_zip_by, get_front, get_back}
 use Rattle.meta_model.proofs.Searches.{place_in}
 use Rattle.meta_model.proofs.Once.{once, none_at, get_split_at}
 use Rattle.meta_model.proofs.ReadTypes.{same_read}
 use Rattle.meta_objects.proofs.Deciding.{carries}
 use Rattle.meta_objects.proofs.Unique.{same_zip, same_method, same_property_by, same_place, same_object}
 use Rattle.meta_model.proofs.Outlined.{Declared, Reaches, here, up, HasSlot, outline_of, slot_of, outlines_count, root_at, reaches_root, delete_later_in_root, distinct_outlines}
-use Rattle.meta_objects.proofs.Soundness.{zip_length, object_at, named, kind_in, connects, kinds_counted, statements_load}
-use Rattle.meta_objects.proofs.SoundBodies.{connects_sound, statements_sound}
-
-module _ {A B : Type 0} (R : A → B → Type 0) where
-  -- a list that relates to two lists in a row
-  zip_split : (xs us : List A) (zs : List B) → AllZip R (xs ++ us) zs → (ys : List B) × (vs : List B) × (zs ≡ ys ++ vs) × AllZip R xs ys × AllZip R us vs
-  zip_split [] us zs h = ([], zs, refl, tt, h)
-  zip_split (x ∷ xs) us [] h = absurd h
-  zip_split (x ∷ xs) us (z ∷ zs) h =
-      let rest = zip_split xs us zs h.1 in
-      (z ∷ rest.0, rest.1, ap (λ r. z ∷ r) rest.2, (h.0, rest.3), rest.4)
-
--- what relates in one way relates in another
-zip_also : {A B : Type 0} (R S : A → B → Type 0) (xs : List A) (ys : List B) → ((x : A) (y : B) → R x y → S x y) → AllZip R xs ys → AllZip S xs ys
-zip_also R S [] [] f h = tt
-zip_also R S [] (y ∷ ys) f h = absurd h
-zip_also R S (x ∷ xs) [] f h = absurd h
-zip_also R S (x ∷ xs) (y ∷ ys) f h = (f x y h.0, zip_also R S xs ys f h.1)
-
--- two relations that give the same for each element
-same_zip_by : {A B : Type 0} (R S : A → B → Type 0) (xs : List A) (ys zs : List B) → ((i : ℕ) (x : A) → slice_get xs i ≡ Some x → (y z : B) → R x y → S x z → y ≡ z) → AllZip R xs ys → AllZip S xs zs → ys ≡ zs
-same_zip_by R S [] [] [] f h k = refl
-same_zip_by R S [] [] (z ∷ zs) f h k = absurd k
-same_zip_by R S [] (y ∷ ys) zs f h k = absurd h
-same_zip_by R S (x ∷ xs) [] zs f h k = absurd h
-same_zip_by R S (x ∷ xs) (y ∷ ys) [] f h k = absurd k
-same_zip_by R S (x ∷ xs) (y ∷ ys) (z ∷ zs) f h k =
-    ap (λ v. v ∷ ys) (f 0 x refl y z h.0 k.0) ∙ ap (λ vs. z ∷ vs) (same_zip_by R S xs ys zs (λ i. f (suc i)) h.1 k.1)
+use Rattle.meta_objects.proofs.Soundness.{IsTyped, zip_length, object_at, named, kind_in, connects, kinds_counted, statements_load}
+use Rattle.meta_objects.proofs.SoundBodies.{connects_sound, delete_later_sound, statements_sound}
 
 -- an element of a front
 in_front : {X : Type 0} (P : X → Type 0) (xs ys : List X) (m k : ℕ) → k < m → m < length xs → StandsAt P (xs ++ ys) k → StandsAt P xs k
@@ -196,6 +170,15 @@ module _ (program : Program) (o : List Outline) (outlined : HasOutlines program 
   kinds_sound (T ∷ Ts) [] has h = absurd h
   kinds_sound (T ∷ Ts) (k ∷ ks) has h = (kind_sound T k (has 0 T refl) h.0, kinds_sound Ts ks (λ i. has (suc i)) h.1)
 
+  property_kind : (c : ℕ) (class : MetaObject) (u : OutlineOf c class) (q : ℕ) (property : MetaProperty) → slice_get class.properties q ≡ Some property → IsKind p property.declared property.kind
+  property_kind c class u q property at =
+      let d = zip_right (IsPropertyOf o u.outline) u.outline.properties class.properties u.by.properties q property at in
+      let known = none_at (λ (y : Property). LacksType o y.kind) u.outline.properties (λ any. has_types c u.outline u.is (inl any)) q d.0 d.1 in
+      subst (λ T. IsKind p T property.kind) (sym d.2.typed) (kind_sound d.0.kind property.kind known d.2.kind)
+
+  properties_typed : (c q : ℕ) (property : MetaProperty) → IsProperty p c q property → IsKind p property.declared property.kind
+  properties_typed c q property h = property_kind c h.class (outline_at c h.class h.is_class.is) q property h.is
+
   -- ---- methods
   is_first : (name : List ℕ) (c : ℕ) (u : Outline) → slice_get o c ≡ Some u → u.name ≡ name → IsOutlineNamed o name c
   is_first name c u e named = record {
@@ -204,23 +187,23 @@ module _ (program : Program) (o : List Outline) (outlined : HasOutlines program 
   }
 
   -- the body of slot j of class i, as it is loaded
-  body_loaded : (i : ℕ) (class : Class) → slice_get program.classes i ≡ Some class → (u : Outline) → slice_get o (suc i) ≡ Some u → u.name ≡ class.name → (j : ℕ) (slot : Slot) → slice_get class.slots j ≡ Some slot → (kinds : List ValueType) → AllZip (IsReadAs o) (kinds_of slot.parameters) kinds → AreLoadedStatements (site p (suc i) slot.parameters kinds) slot.body (found_body (body_at loaded.bodies i j))
+  body_loaded : (i : ℕ) (class : Class) → slice_get program.classes i ≡ Some class → (u : Outline) → slice_get o (suc i) ≡ Some u → u.name ≡ class.name → (j : ℕ) (slot : Slot) → slice_get class.slots j ≡ Some slot → (kinds : List ValueType) → AllZip (IsTyped o p) (kinds_of slot.parameters) kinds → AreLoadedStatements (site p (suc i) slot.parameters kinds) slot.body (found_body (body_at loaded.bodies i j))
   body_loaded i class is_class u is_outline u_named j slot is_slot kinds typed =
       let of_class = zip_left (AreBodies o) program.classes loaded.bodies loaded.uses.are_bodies i class is_class in
       let body = zip_left (IsBody o class) class.slots of_class.0 of_class.2 j slot is_slot in
       let found : found_body (body_at loaded.bodies i j) ≡ body.0 =
       ap (λ bs. found_body (option_and_then (λ of_class. slice_get of_class j) bs)) of_class.1 ∙ ap found_body body.1 in
       subst (λ b. AreLoadedStatements (site p (suc i) slot.parameters kinds) slot.body b) (sym found)
-      (statements_load o loaded.bodies p loaded.objects class.name slot.parameters (suc i)
+      (statements_load o loaded.bodies p loaded.objects properties_typed class.name slot.parameters (suc i)
       (is_first class.name (suc i) u is_outline u_named) kinds typed slot.body body.0 body.2)
 
-  body_sound : (c i j m : ℕ) (h : Heading) (kinds : List ValueType) → HasSlot program.classes o c i j m h → AllZip (IsReadAs o) h.sig.types kinds → AreSound p (suc i) kinds (found_body (body_at loaded.bodies i j))
+  body_sound : (c i j m : ℕ) (h : Heading) (kinds : List ValueType) → HasSlot program.classes o c i j m h → AllZip (IsTyped o p) h.sig.types kinds → AreSound p (suc i) kinds (found_body (body_at loaded.bodies i j))
   body_sound c i j m h kinds slot typed =
-      let types : AllZip (IsReadAs o) (kinds_of slot.slot.parameters) kinds = subst (λ (s : Sig). AllZip (IsReadAs o) s.types kinds) slot.signed typed in
+      let types : AllZip (IsTyped o p) (kinds_of slot.slot.parameters) kinds = subst (λ (s : Sig). AllZip (IsTyped o p) s.types kinds) slot.signed typed in
       statements_sound (site p (suc i) slot.slot.parameters kinds) (kinds_counted o loaded.bodies p loaded.objects) slot.slot.body _
       (body_loaded i slot.class slot.is_class slot.outline slot.is_outline slot.named j slot.slot slot.is_slot kinds types)
 
-  slot_sound : (c i j m : ℕ) (h : Heading) (kinds : List ValueType) → HasSlot program.classes o c i j m h → AllZip (IsReadAs o) h.sig.types kinds → IsSoundBody p c m kinds (found_body (body_at loaded.bodies i j))
+  slot_sound : (c i j m : ℕ) (h : Heading) (kinds : List ValueType) → HasSlot program.classes o c i j m h → AllZip (IsTyped o p) h.sig.types kinds → IsSoundBody p c m kinds (found_body (body_at loaded.bodies i j))
   slot_sound c i j m h kinds slot typed =
       let declaring = class_is (suc i) slot.outline slot.is_outline in
       record {
@@ -230,7 +213,7 @@ module _ (program : Program) (o : List Outline) (outlined : HasOutlines program 
         sound = body_sound c i j m h kinds slot typed;
       }
 
-  work_sound : (c : ℕ) (u : Outline) → slice_get o c ≡ Some u → (m : ℕ) (h : Heading) → slice_get u.methods m ≡ Some h → (kinds : List ValueType) → AllZip (IsReadAs o) h.sig.types kinds → (s : Sort) → h.sort ≡ s → IsSoundWork p c m kinds (work_of loaded.bodies s)
+  work_sound : (c : ℕ) (u : Outline) → slice_get o c ≡ Some u → (m : ℕ) (h : Heading) → slice_get u.methods m ≡ Some h → (kinds : List ValueType) → AllZip (IsTyped o p) h.sig.types kinds → (s : Sort) → h.sort ≡ s → IsSoundWork p c m kinds (work_of loaded.bodies s)
   work_sound c u e m h at kinds typed sort.Signal is = tt
   work_sound c u e m h at kinds typed sort.DeleteLater is =
       let root = class_is 0 qobject (root_at program.classes o outlined.are) in
@@ -241,20 +224,20 @@ module _ (program : Program) (o : List Outline) (outlined : HasOutlines program 
         declaring = 0;
         below = below c 0 root.0 root.1 (reaches_root program.classes o outlined.are (suc c) c (omega arith) u e);
         declares = record { after = omega (arith, offset); within = omega (arith, count, early) };
-        sound = none_sound;
+        sound = delete_later_sound p kinds;
       }
   work_sound c u e m h at kinds typed (sort.Slot i j) is = slot_sound c i j m h kinds (slot_of program.classes o outlined.are c u e m h at i j is) typed
 
   method_sound : (c : ℕ) (class : MetaObject) (u : OutlineOf c class) (m : ℕ) (method : MetaMethod) → slice_get class.methods m ≡ Some method → IsSoundMethod p c m method
   method_sound c class u m method at =
       let h = zip_right (IsMethodOf o loaded.bodies) u.outline.methods class.methods u.by.methods m method at in
+      let kinded = kinds_sound h.0.sig.types method.kinds
+      (λ i T e. none_at (LacksType o) h.0.sig.types (none_at (λ (x : Heading). Any (LacksType o) x.sig.types) u.outline.methods (λ any. has_types c u.outline u.is (inr any)) m h.0 h.1) i T e)
+      h.2.kinds in
+      let typed = zip_both (IsReadAs o) (IsKind p) h.0.sig.types method.kinds h.2.kinds kinded in
       record {
-        kinds =
-            subst (λ (s : Sig). AllZip (IsKind p) s.types method.kinds) (sym h.2.signed)
-            (kinds_sound h.0.sig.types method.kinds
-            (λ i T e. none_at (LacksType o) h.0.sig.types (none_at (λ (x : Heading). Any (LacksType o) x.sig.types) u.outline.methods (λ any. has_types c u.outline u.is (inr any)) m h.0 h.1) i T e)
-            h.2.kinds);
-        work = subst (λ w. IsSoundWork p c m method.kinds w) (sym h.2.work) (work_sound c u.outline u.is m h.0 h.1 method.kinds h.2.kinds h.0.sort refl);
+        kinds = subst (λ (s : Sig). AllZip (IsKind p) s.types method.kinds) (sym h.2.signed) kinded;
+        work = subst (λ w. IsSoundWork p c m method.kinds w) (sym h.2.work) (work_sound c u.outline u.is m h.0 h.1 method.kinds typed h.0.sort refl);
       }
 
   -- ---- properties
@@ -286,9 +269,7 @@ module _ (program : Program) (o : List Outline) (outlined : HasOutlines program 
   property_sound c class u q property at =
       let d = zip_right (IsPropertyOf o u.outline) u.outline.properties class.properties u.by.properties q property at in
       record {
-        kind =
-            subst (λ T. IsKind p T property.kind) (sym d.2.typed)
-            (kind_sound d.0.kind property.kind (none_at (λ (y : Property). LacksType o y.kind) u.outline.properties (λ any. has_types c u.outline u.is (inl any)) q d.0 d.1) d.2.kind);
+        kind = property_kind c class u q property at;
         initial = subst HoldsNoObject (sym d.2.initial) (initial_holds_none d.0.initial property.kind);
         notifies = λ m is. notifier c class u q d.0 d.1 property d.2 d.0.notify refl m is (subst (λ n. IsNotify u.outline d.0.notify n) is d.2.notify);
       }
@@ -316,22 +297,23 @@ module _ (program : Program) (o : List Outline) (outlined : HasOutlines program 
   )
 
   slots_loaded : (i from : ℕ) (slots : List Slot) (ys : List MetaMethod)
-      → ((k j : ℕ) (slot : Slot) → slice_get slots k ≡ Some slot → from + k ≡ j → (kinds : List ValueType) → AllZip (IsReadAs o) (kinds_of slot.parameters) kinds → AreLoadedStatements (site p (suc i) slot.parameters kinds) slot.body (found_body (body_at loaded.bodies i j)))
+      → ((k j : ℕ) (slot : Slot) → slice_get slots k ≡ Some slot → from + k ≡ j → (kinds : List ValueType) → AllZip (IsTyped o p) (kinds_of slot.parameters) kinds → AreLoadedStatements (site p (suc i) slot.parameters kinds) slot.body (found_body (body_at loaded.bodies i j)))
       → ((k : ℕ) (y : MetaMethod) → slice_get ys k ≡ Some y → AllZip (IsKind p) y.sig.types y.kinds)
       → AllZip (IsMethodOf o loaded.bodies) (slot_headings i from slots) ys → AllZip (IsLoadedSlot p (suc i)) slots ys
   slots_loaded i from [] [] bodies typed h = tt
   slots_loaded i from [] (y ∷ ys) bodies typed h = absurd h
   slots_loaded i from (slot ∷ slots) [] bodies typed h = absurd h
-  slots_loaded i from (slot ∷ slots) (y ∷ ys) bodies typed h = (
-    record {
-      signed = h.0.signed;
-      typed = subst (λ (g : Sig). AllZip (IsKind p) g.types y.kinds) h.0.signed (typed 0 y refl);
-      body = found_body (body_at loaded.bodies i from);
-      slots = h.0.work;
-      resolved = bodies 0 from slot refl (omega arith) y.kinds h.0.kinds;
-    },
-    slots_loaded i (suc from) slots ys (λ k j s e at. bodies (suc k) j s e (omega (arith, at))) (λ k. typed (suc k)) h.1,
-  )
+  slots_loaded i from (slot ∷ slots) (y ∷ ys) bodies typed h =
+      let kinded : AllZip (IsKind p) (kinds_of slot.parameters) y.kinds = subst (λ (g : Sig). AllZip (IsKind p) g.types y.kinds) h.0.signed (typed 0 y refl) in (
+        record {
+          signed = h.0.signed;
+          typed = kinded;
+          body = found_body (body_at loaded.bodies i from);
+          slots = h.0.work;
+          resolved = bodies 0 from slot refl (omega arith) y.kinds (zip_both (IsReadAs o) (IsKind p) (kinds_of slot.parameters) y.kinds h.0.kinds kinded);
+        },
+        slots_loaded i (suc from) slots ys (λ k j s e at. bodies (suc k) j s e (omega (arith, at))) (λ k. typed (suc k)) h.1,
+      )
 
   has_notifier : (c : ℕ) (class : MetaObject) (u : OutlineOf c class) (q : ℕ) (d : Property) → slice_get u.outline.properties q ≡ Some d → (s : Option Sig) → d.notify ≡ s → (n : Option ℕ) → IsNotify u.outline s n → HasNotifier class s n
   has_notifier c class u q d at None given n h = h
@@ -383,7 +365,7 @@ module _ (program : Program) (o : List Outline) (outlined : HasOutlines program 
       λ k y e. let at = get_back properties.0 properties.1 k y e in (property_sound c class u at.0 y (ap (λ ps. slice_get ps at.0) properties.2 ∙ at.1)).kind in
       let is_outline : slice_get o (suc d.i) ≡ Some u.outline = subst (λ n. slice_get o n ≡ Some u.outline) d.number u.is in
       let outline_named : u.outline.name ≡ d.class.name = ap (λ (v : Outline). v.name) d.shape in
-      let bodies : (k j : ℕ) (slot : Slot) → slice_get d.class.slots k ≡ Some slot → 0 + k ≡ j → (kinds : List ValueType) → AllZip (IsReadAs o) (kinds_of slot.parameters) kinds → AreLoadedStatements (site p (suc d.i) slot.parameters kinds) slot.body (found_body (body_at loaded.bodies d.i j)) =
+      let bodies : (k j : ℕ) (slot : Slot) → slice_get d.class.slots k ≡ Some slot → 0 + k ≡ j → (kinds : List ValueType) → AllZip (IsTyped o p) (kinds_of slot.parameters) kinds → AreLoadedStatements (site p (suc d.i) slot.parameters kinds) slot.body (found_body (body_at loaded.bodies d.i j)) =
       λ k j slot e at.
       let same : k ≡ j = omega (arith, at) in
       body_loaded d.i d.class d.is u.outline is_outline outline_named j slot (subst (λ n. slice_get d.class.slots n ≡ Some slot) same e) in

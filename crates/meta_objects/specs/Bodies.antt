@@ -1,6 +1,6 @@
 -- How the names in slot bodies are resolved: where a part has no resolved form, one of its names isn't there
 -- (docs/language.md, "Names").
-use Rattle.std.specs.Prelude.{◌≡◌, ℕ, ◌<◌, true, List, [], ◌∷◌, length, Some, Any}
+use Rattle.std.specs.Prelude.{◌≡◌, ◌≢◌, ℕ, ◌<◌, true, List, [], ◌∷◌, length, Some, Any}
 use Rattle.std.specs.List.{AllZip}
 use Rattle.signatures.specs.declared.qtype.QType.{QType}
 use Rattle.signatures.specs.declared.value.Value.{Value}
@@ -33,8 +33,8 @@ use Rattle.meta_model.specs.declared.outline.Outline.{Outline}
 use Rattle.meta_model.specs.declared.outline.Sort.TheVariants as sort
 use Rattle.meta_model.specs.Places.{StandsFirst}
 pub use Rattle.meta_model.specs.Indexed.{IsCallOf, IsPropertyOfName}
-use Rattle.meta_model.specs.Outlines.{IsOutlineNamed, MayBeCalled, reference_to}
-use Rattle.meta_model.specs.declared.qobject.TheConstants.{OBJECT_NAME_CHANGED, DELETE_LATER}
+use Rattle.meta_model.specs.Outlines.{IsOutlineNamed, reference_to}
+use Rattle.meta_model.specs.declared.qobject.TheConstants.{OBJECT_NAME_CHANGED}
 use Rattle.meta_model.specs.Literals.{literal}
 use Rattle.meta_model.specs.Kinds.{IsReadAs}
 use Rattle.meta_model.specs.Conditions.{IsSignalOf}
@@ -113,6 +113,13 @@ pub record IsObjectPath (s : Scope) (path : Path) (found : MetaPath) (class : Ou
   pub number : ℕ
   pub points : PointsToThis s.outlines kind number class
 
+-- .. and one of which no member is named: it is declared to lead to a reference; that its class is there is asked of the
+-- declared types
+pub record IsReferencePath (s : Scope) (path : Path) (found : MetaPath) : Type 0 where
+  pub kind : QType
+  pub leads : IsPath s path found kind
+  pub pointer : kind.pointer ≡ true
+
 -- ---- statements
 -- `set`: the object's class has the property
 pub record IsSet (s : Scope) (path : Path) (name : List ℕ) (e : Expr Path) (found : MetaPath) (q : ℕ)
@@ -131,16 +138,17 @@ pub record IsEmit (s : Scope) (name : List ℕ) (es : List (Expr Path)) (m : ℕ
   pub emitted : OBJECT_NAME_CHANGED < m
   pub values : AreExprs s es fs
 
--- `call`: the object's class has the slot, which isn't `deleteLater()`
+-- `call`: the object's class has the slot
 pub record IsCall (s : Scope) (path : Path) (name : List ℕ) (es : List (Expr Path)) (found : MetaPath) (m : ℕ)
     (fs : List (Expr MetaPath)) : Type 0 where
   pub class : Outline
   pub object : IsObjectPath s path found class
   pub method : StandsFirst (IsCallOf name (length es)) class.methods m
-  pub callable : MayBeCalled method.at.item.sort
+  pub callable : method.at.item.sort ≢ sort.Signal
   pub values : AreExprs s es fs
 
--- `connect` and `disconnect`: the sender's class has the signal, the receiver's the method, which isn't one of `QObject`'s
+-- `connect` and `disconnect`: the sender's class has the signal, the receiver's the method, which isn't one of the signals
+-- that the runtime emits
 pub record AreEnds (s : Scope) (ends : Endpoints Path) (found : MetaEndpoints) : Type 0 where
   pub from_class : Outline
   pub sender : IsObjectPath s ends.sender found.sender from_class
@@ -148,7 +156,7 @@ pub record AreEnds (s : Scope) (ends : Endpoints Path) (found : MetaEndpoints) :
   pub to_class : Outline
   pub receiver : IsObjectPath s ends.receiver found.receiver to_class
   pub method : StandsFirst (IsSigned ends.method) to_class.methods found.method
-  pub called : DELETE_LATER < found.method
+  pub called : OBJECT_NAME_CHANGED < found.method
 
 mutual
   -- one statement, by its parts
@@ -167,6 +175,10 @@ mutual
         → AreEnds s ends found → IsStatement s (stmt.Connect ends type) (statement.Connect found type)
     disconnect_is : {ends : Endpoints Path} {found : MetaEndpoints}
         → AreEnds s ends found → IsStatement s (stmt.Disconnect ends) (statement.Disconnect found)
+    delete_is : {path : Path} {found : MetaPath}
+        → IsReferencePath s path found → IsStatement s (stmt.Delete path) (statement.Delete found)
+    later_is : {path : Path} {found : MetaPath}
+        → IsReferencePath s path found → IsStatement s (stmt.Later path) (statement.Later found)
 
   -- the statements of a block, in their order
   pub data AreStatements (s : Scope) : List Stmt → List Statement → Type 0 where

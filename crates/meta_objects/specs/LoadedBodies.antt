@@ -151,6 +151,10 @@ mutual
         → AreLoadedEnds s ends found → IsLoadedStatement s (stmt.Connect ends type) (statement.Connect found type)
     disconnect_loaded : {ends : Endpoints Path} {found : MetaEndpoints}
         → AreLoadedEnds s ends found → IsLoadedStatement s (stmt.Disconnect ends) (statement.Disconnect found)
+    delete_loaded : {path : Path} {found : MetaPath} {class : ℕ}
+        → IsLoadedObject s path found class → IsLoadedStatement s (stmt.Delete path) (statement.Delete found)
+    later_loaded : {path : Path} {found : MetaPath} {class : ℕ}
+        → IsLoadedObject s path found class → IsLoadedStatement s (stmt.Later path) (statement.Later found)
 
   -- the statements of a block, in their order
   pub data AreLoadedStatements (s : Site) : List Stmt → List Statement → Type 0 where

@@ -2,14 +2,14 @@
 use Rattle.std.specs.Prelude.{◌≡◌, ℕ, ◌<◌}
 use Rattle.signatures.specs.declared.sig.Sig.{Sig}
 use Rattle.meta_model.specs.declared.object.Work.TheVariants.{Signal}
-use Rattle.meta_model.specs.declared.qobject.TheConstants.{DELETE_LATER}
+use Rattle.meta_model.specs.declared.qobject.TheConstants.{OBJECT_NAME_CHANGED}
 use Rattle.meta_model.specs.Loaded.{Loaded}
 use Rattle.meta_model.specs.Members.{HasSig}
 
 -- the first signature is that of signal g of class c, the second that of method m of class d, which isn't one of
--- `QObject`'s own
+-- the signals that the runtime emits
 pub record Connects (p : Loaded) (c : ℕ) (from : Sig) (g d : ℕ) (to : Sig) (m : ℕ) : Type 0 where
   pub signal : HasSig p c from g
   pub signals : signal.method.work ≡ Signal
   pub method : HasSig p d to m
-  pub called : DELETE_LATER < m
+  pub called : OBJECT_NAME_CHANGED < m

@@ -27,7 +27,8 @@ use Rattle.meta_model.specs.declared.outline.Outline.{Outline}
 use Rattle.meta_model.specs.Loaded.{Loaded}
 use Rattle.meta_model.specs.Places.{IsPlace}
 use Rattle.meta_model.specs.Outlines.{IsOutlineNamed}
-use Rattle.meta_model.specs.declared.qobject.TheConstants.{DELETE_LATER}
+use Rattle.meta_model.specs.declared.qobject.TheConstants.{OBJECT_NAME_CHANGED}
+use Rattle.meta_model.specs.Root.{delete_later_body}
 use Rattle.meta_model.specs.Kinds.{IsReadAs}
 use Rattle.meta_model.specs.Values.{default}
 use Rattle.meta_model.specs.Conditions.{IsSignalOf}
@@ -45,7 +46,7 @@ found_body (Some body) = body
 
 abbrev pub work_of : List (List (List Statement)) → Sort → Work
 work_of bodies sort.Signal = work.Signal
-work_of bodies sort.DeleteLater = work.Slot []
+work_of bodies sort.DeleteLater = work.Slot delete_later_body
 work_of bodies (sort.Slot i j) = work.Slot (found_body (body_at bodies i j))
 
 pub record IsMethodOf (outlines : List Outline) (bodies : List (List (List Statement))) (h : Heading) (method : MetaMethod) : Type 0 where
@@ -88,11 +89,11 @@ abbrev pub AreObjects : List Outline → List (List (List Statement)) → List M
 AreObjects outlines bodies objects = AllZip (IsObject outlines bodies) outlines objects
 
 -- ---- wires and owns
--- a wire leads from a signal to a signal or slot that isn't one of `QObject`'s
+-- a wire leads from a signal to a slot or a signal, which isn't one that the runtime emits
 pub record IsWire (outlines : List Outline) (wire : Wire) (loaded : MetaWire) : Type 0 where
   pub from : IsEnd (IsSignalOf wire.signal) outlines wire.sender loaded.sender loaded.signal
   pub to : IsEnd (IsSigned wire.method) outlines wire.receiver loaded.receiver loaded.method
-  pub called : DELETE_LATER < loaded.method
+  pub called : OBJECT_NAME_CHANGED < loaded.method
   pub same_kind : loaded.kind ≡ wire.kind
 
 pub record IsOwns (outlines : List Outline) (owns : Owns) (loaded : MetaOwns) : Type 0 where

@@ -7,7 +7,7 @@ ghost use Rattle.meta_objects.specs.Loading.{IsObject, AreObjects};
 
 use meta_model::{
     Heading, IndexedOutline, MetaMethod, MetaObject, MetaProperty, SlotBody, Sort, ValueType, Work,
-    read_kind, read_kinds,
+    delete_later_body, read_kind, read_kinds,
 };
 use signatures::Value;
 use sqlite_items::Items;
@@ -89,7 +89,7 @@ fn work_of(alloc: Global, bodies: &[Items<SlotBody>], sort: Sort) -> Result<Work
     match sort {
         Sort::Signal => Ok(Work::Signal),
         Sort::DeleteLater => {
-            let body = empty_body(alloc)?;
+            let body = delete_later_body(alloc)?;
             Ok(Work::Slot(body))
         }
         Sort::Slot(class, slot) => {

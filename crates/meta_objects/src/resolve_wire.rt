@@ -7,7 +7,9 @@ ghost use Rattle.meta_model.specs.LookUps.{LooksUp};
 ghost use Rattle.meta_objects.specs.Loading.{IsWire, IsOwns};
 ghost use Rattle.meta_objects.specs.Resolving.{FindsEnd, ResolvesEach};
 
-use meta_model::{DELETE_LATER, IndexedOutline, MetaFault, MetaOwns, MetaWire, find, place_of};
+use meta_model::{
+    IndexedOutline, MetaFault, MetaOwns, MetaWire, OBJECT_NAME_CHANGED, find, place_of,
+};
 use signatures::{Name, Sig};
 use sqlite_items::Items;
 use std::alloc::Global;
@@ -41,7 +43,7 @@ fn resolve_wire(outlines: &[IndexedOutline], wire: &Wire) -> Option<MetaWire>
     let Some((receiver, method)) = method_end(outlines, &wire.receiver, &wire.method) else {
         return None;
     };
-    if DELETE_LATER < method {
+    if OBJECT_NAME_CHANGED < method {
         Some(MetaWire {
             sender,
             signal,

@@ -65,14 +65,15 @@ how_at_end rest end = record { not_unique = λ after e. cc; not_single = λ afte
 
 -- ---- verbs
 
+-- the letters of a verb; 1 stands before those of a reserved word, as `adopt` and `later` have the same sum
 abbrev letters_of : Token → List ℕ
 letters_of (token.Name letters) = letters
-letters_of (token.Word w) = word_spelling w
+letters_of (token.Word w) = 1 ∷ word_spelling w
 letters_of _ = []
 
 abbrev verbs : List Verb
 verbs =
-    verb.Loop ∷ verb.Turn ∷ verb.New ∷ verb.Adopt ∷ verb.Connect ∷ verb.Disconnect ∷ verb.Set ∷ verb.Emit ∷ verb.Call ∷ verb.Block ∷ verb.Unblock ∷ []
+    verb.Loop ∷ verb.Turn ∷ verb.New ∷ verb.Adopt ∷ verb.Connect ∷ verb.Disconnect ∷ verb.Set ∷ verb.Emit ∷ verb.Call ∷ verb.Block ∷ verb.Unblock ∷ verb.Delete ∷ verb.Later ∷ []
 
 -- the verb whose letters have this sum
 abbrev verb_with : ℕ → List Verb → Option Verb
@@ -139,6 +140,8 @@ one_tree_of_follow verb.Call a b r s er es e =
     (ap (λ i. tree.Call i.0 i.1 i.2) h.0, h.1)
 one_tree_of_follow verb.Block a b r s er es e = (cc, cc)
 one_tree_of_follow verb.Unblock a b r s er es e = (cc, cc)
+one_tree_of_follow verb.Delete a b r s er es e = (cc, cc)
+one_tree_of_follow verb.Later a b r s er es e = (cc, cc)
 
 -- ---- events
 

@@ -5,7 +5,7 @@ use Rattle.signatures.specs.declared.word.Word.{Word}
 use Rattle.signatures.specs.declared.word.Word.TheVariants as word
 use Rattle.texts.specs.Cursor.{NotAt, NotAtWord}
 use Rattle.slot_lang.specs.Expressions.{Expression, tree_of_expression, EndsFactor}
-use Rattle.slot_lang.specs.Grammar.{spell_value, spell_arguments, spell_condition, Assignment, spell_assignment, tree_of_assignment, Emission, spell_emission, tree_of_emission, Call, spell_call, tree_of_call, Choice, spell_choice, tree_of_choice, PathEnds, Connection, spell_connection, tree_of_connection, spell_disconnection, tree_of_disconnection, Body, no_more, more, Statement, set, emit, call, choice, connect, disconnect, Else, no_else, else_block, spell_statements, spell_statement, spell_else, spell_block, tree_of_block, tree_of_statement, tree_of_else, EndsStatement, ReadsStatement}
+use Rattle.slot_lang.specs.Grammar.{spell_value, spell_arguments, spell_condition, Assignment, spell_assignment, tree_of_assignment, Emission, spell_emission, tree_of_emission, Call, spell_call, tree_of_call, Choice, spell_choice, tree_of_choice, PathEnds, Connection, spell_connection, tree_of_connection, spell_disconnection, tree_of_disconnection, spell_object, tree_of_deletion, tree_of_later_deletion, Body, no_more, more, Statement, set, emit, call, choice, connect, disconnect, delete, later, Else, no_else, else_block, spell_statements, spell_statement, spell_else, spell_block, tree_of_block, tree_of_statement, tree_of_else, EndsStatement, ReadsStatement}
 use Rattle.texts.specs.Reading.{EndsAnywhere, Found, Reads, spell_word}
 use Rattle.texts.specs.declared.fault.ParseFault.{ParseFault}
 use Rattle.texts.specs.declared.symbol.Symbol.{Symbol}
@@ -133,6 +133,20 @@ after_disconnect _ between rest g = cc
 pub disconnect_form : IsForm word.Disconnect spell_disconnection tree_of_disconnection EndsAnywhere
 disconnect_form = record { statement = λ ends. disconnect ends; spelled = λ ends rest. refl; tree_is = λ ends. refl; ends = λ rest e. tt; only = after_disconnect }
 
+after_delete : (s : Statement) (between rest : List Token) → token.Word word.Delete ∷ between ≡ spell_statement s rest → (path : Path) × (between ≡ spell_object path rest)
+after_delete (delete path) between rest g = (path, cc)
+after_delete _ between rest g = cc
+
+pub delete_form : IsForm word.Delete spell_object tree_of_deletion EndsAnywhere
+delete_form = record { statement = λ path. delete path; spelled = λ path rest. refl; tree_is = λ path. refl; ends = λ rest e. tt; only = after_delete }
+
+after_later : (s : Statement) (between rest : List Token) → token.Word word.Later ∷ between ≡ spell_statement s rest → (path : Path) × (between ≡ spell_object path rest)
+after_later (later path) between rest g = (path, cc)
+after_later _ between rest g = cc
+
+pub later_form : IsForm word.Later spell_object tree_of_later_deletion EndsAnywhere
+later_form = record { statement = λ path. later path; spelled = λ path rest. refl; tree_is = λ path. refl; ends = λ rest e. tt; only = after_later }
+
 -- the word that comes next
 pub word_at : {before after : List Token} {found : Word} → Found spell_word (λ word. word) EndsAnywhere before found after → (first : Word) → found ≡ first → before ≡ token.Word first ∷ after
 word_at {after = after} f first is = f.spelled ∙ ap (λ w. spell_word w after) (f.tree_is ∙ is)
@@ -145,17 +159,19 @@ not_at_word f other differs rest e =
     differs cc
 
 -- where another word comes next, or none
-pub no_statement_at : {before : List Token} → NotAtWord word.Set before → NotAtWord word.Emit before → NotAtWord word.Call before → NotAtWord word.If before → NotAtWord word.Connect before → NotAtWord word.Disconnect before → None spell_statement EndsStatement before
-no_statement_at s e c i n d (set a) rest ends g = s _ g
-no_statement_at s e c i n d (emit a) rest ends g = e _ g
-no_statement_at s e c i n d (call a) rest ends g = c _ g
-no_statement_at s e c i n d (choice t b o) rest ends g = i _ g
-no_statement_at s e c i n d (connect a) rest ends g = n _ g
-no_statement_at s e c i n d (disconnect a) rest ends g = d _ g
+pub no_statement_at : {before : List Token} → NotAtWord word.Set before → NotAtWord word.Emit before → NotAtWord word.Call before → NotAtWord word.If before → NotAtWord word.Connect before → NotAtWord word.Disconnect before → NotAtWord word.Delete before → NotAtWord word.Later before → None spell_statement EndsStatement before
+no_statement_at s e c i n d x l (set a) rest ends g = s _ g
+no_statement_at s e c i n d x l (emit a) rest ends g = e _ g
+no_statement_at s e c i n d x l (call a) rest ends g = c _ g
+no_statement_at s e c i n d x l (choice t b o) rest ends g = i _ g
+no_statement_at s e c i n d x l (connect a) rest ends g = n _ g
+no_statement_at s e c i n d x l (disconnect a) rest ends g = d _ g
+no_statement_at s e c i n d x l (delete a) rest ends g = x _ g
+no_statement_at s e c i n d x l (later a) rest ends g = l _ g
 
 pub no_statement_without_word : {before : List Token} → None spell_word EndsAnywhere before → None spell_statement EndsStatement before
 no_statement_without_word none =
-    no_statement_at (λ rest e. none word.Set rest tt e) (λ rest e. none word.Emit rest tt e) (λ rest e. none word.Call rest tt e) (λ rest e. none word.If rest tt e) (λ rest e. none word.Connect rest tt e) (λ rest e. none word.Disconnect rest tt e)
+    no_statement_at (λ rest e. none word.Set rest tt e) (λ rest e. none word.Emit rest tt e) (λ rest e. none word.Call rest tt e) (λ rest e. none word.If rest tt e) (λ rest e. none word.Connect rest tt e) (λ rest e. none word.Disconnect rest tt e) (λ rest e. none word.Delete rest tt e) (λ rest e. none word.Later rest tt e)
 
 -- a statement begins with a word ..
 pub begins_with_word : (s : Statement) (symbol : Symbol) (after rest : List Token) → spell_statement s after ≡ token.Symbol symbol ∷ rest → ⊥

@@ -1,7 +1,7 @@
 -- No two readings of a block with the same tokens stand for different trees.
 use Rattle.std.proofs.Common.{◌≡◌, ◌∙◌, ℕ, List, [], ◌∷◌, ◌++◌, map, Some, refl, sym, ap}
 use Rattle.slot_lang.specs.Expressions.{Expression, spell_expression, spell_path, tree_of_expression, EndsFactor}
-use Rattle.slot_lang.specs.Grammar.{Target, spell_target, spell_value, spell_arguments, Assignment, spell_assignment, tree_of_assignment, Emission, spell_emission, tree_of_emission, Call, spell_call, tree_of_call, spell_condition, spell_path_ends, tree_of_path_ends, spell_how, spell_connection, tree_of_connection, spell_disconnection, tree_of_disconnection, Body, no_more, more, Statement, set, emit, call, choice, connect, disconnect, Else, no_else, else_block, spell_statements, spell_statement, spell_else, spell_block, tree_of_block, tree_of_statement, tree_of_else, EndsStatement, IsBody}
+use Rattle.slot_lang.specs.Grammar.{Target, spell_target, spell_value, spell_arguments, Assignment, spell_assignment, tree_of_assignment, Emission, spell_emission, tree_of_emission, Call, spell_call, tree_of_call, spell_condition, spell_path_ends, tree_of_path_ends, spell_how, spell_connection, tree_of_connection, spell_disconnection, tree_of_disconnection, spell_object, Body, no_more, more, Statement, set, emit, call, choice, connect, disconnect, delete, later, Else, no_else, else_block, spell_statements, spell_statement, spell_else, spell_block, tree_of_block, tree_of_statement, tree_of_else, EndsStatement, IsBody}
 use Rattle.texts.specs.Connections.{EndsAtSig, EndsConnectionType}
 use Rattle.texts.specs.Reading.{EndsAnywhere}
 use Rattle.texts.specs.declared.symbol.Symbol.TheVariants.{Comma, Semicolon, CloseBrace}
@@ -98,6 +98,15 @@ one_disconnection a b r s er es e =
     let rests = h.1 in
     (ap (λ ends. stmt.Disconnect ends) h.0, cc)
 
+path_ends_at_semicolon : (rest : List Token) → EndsFactor (token.Symbol Semicolon ∷ rest)
+path_ends_at_semicolon rest after e = cc
+
+one_object : HasOneTree spell_object (λ path. path) EndsAnywhere
+one_object a b r s er es e =
+    let h = one_path a b (token.Symbol Semicolon ∷ r) (token.Symbol Semicolon ∷ s) (path_ends_at_semicolon r) (path_ends_at_semicolon s) e in
+    let rests = h.1 in
+    (h.0, cc)
+
 -- ---- statements and blocks
 
 mutual
@@ -122,6 +131,8 @@ mutual
       (ap (λ x. stmt.If x (tree_of_block b) (tree_of_else o)) h.0 ∙ (ap (λ x. stmt.If (tree_of_expression u) x (tree_of_else o)) k.0 ∙ ap (λ x. stmt.If (tree_of_expression u) (tree_of_block c) x) m.0), m.1)
   unique_statement (connect a) (connect b) r s er es e = one_connection a b r s tt tt cc
   unique_statement (disconnect a) (disconnect b) r s er es e = one_disconnection a b r s tt tt cc
+  unique_statement (delete a) (delete b) r s er es e = let h = one_object a b r s tt tt cc in (ap (λ path. stmt.Delete path) h.0, h.1)
+  unique_statement (later a) (later b) r s er es e = let h = one_object a b r s tt tt cc in (ap (λ path. stmt.Later path) h.0, h.1)
   unique_statement _ _ r s er es e = cc
 
   unique_else : (o p : Else) (r s : List Token) → EndsStatement r → EndsStatement s → spell_else o r ≡ spell_else p s → (tree_of_else o ≡ tree_of_else p) × (r ≡ s)

@@ -8,6 +8,8 @@
 --         | "if" "(" expr ")" block ["else" block]
 --         | "connect" ends "," how ";"
 --         | "disconnect" ends ";"
+--         | "delete" path ";"
+--         | "later" path ";"
 --   ends  = path "," sig "," path "," sig
 --   how   = kind ["," "unique"] ["," "single"]
 use Rattle.std.specs.Prelude.{ℕ, ◌≡◌, List, [], ◌∷◌, map, Some, Result}
@@ -110,6 +112,16 @@ spell_disconnection ends after = spell_path_ends ends (token.Symbol Semicolon �
 abbrev pub tree_of_disconnection : PathEnds → Stmt
 tree_of_disconnection ends = stmt.Disconnect (tree_of_path_ends ends)
 
+-- what follows "delete", and "later": path ";"
+abbrev pub spell_object : Path → List Token → List Token
+spell_object path after = spell_path path (token.Symbol Semicolon ∷ after)
+
+abbrev pub tree_of_deletion : Path → Stmt
+tree_of_deletion path = stmt.Delete path
+
+abbrev pub tree_of_later_deletion : Path → Stmt
+tree_of_later_deletion path = stmt.Later path
+
 -- ---- statements and blocks
 
 mutual
@@ -125,6 +137,8 @@ mutual
     choice : Expression → Body → Else → Statement
     connect : Connection → Statement
     disconnect : PathEnds → Statement
+    delete : Path → Statement
+    later : Path → Statement
 
   -- ["else" block]
   pub data Else : Type 0 where
@@ -144,6 +158,8 @@ abbrev mutual
       token.Word word.If ∷ spell_condition e (token.Symbol OpenBrace ∷ spell_statements body (token.Symbol CloseBrace ∷ spell_else other after))
   spell_statement (connect c) after = token.Word word.Connect ∷ spell_connection c after
   spell_statement (disconnect ends) after = token.Word word.Disconnect ∷ spell_disconnection ends after
+  spell_statement (delete path) after = token.Word word.Delete ∷ spell_object path after
+  spell_statement (later path) after = token.Word word.Later ∷ spell_object path after
 
   pub spell_else : Else → List Token → List Token
   spell_else no_else after = after
@@ -171,6 +187,8 @@ abbrev mutual
   tree_of_statement (choice e body other) = stmt.If (tree_of_expression e) (tree_of_block body) (tree_of_else other)
   tree_of_statement (connect c) = tree_of_connection c
   tree_of_statement (disconnect ends) = tree_of_disconnection ends
+  tree_of_statement (delete path) = tree_of_deletion path
+  tree_of_statement (later path) = tree_of_later_deletion path
 
   -- a missing `else` is an empty one
   pub tree_of_else : Else → List Stmt
@@ -220,3 +238,9 @@ ReadsConnection before result after = Reads spell_connection tree_of_connection 
 
 abbrev pub ReadsDisconnection : List Token → Result Stmt ParseFault → List Token → Type 0
 ReadsDisconnection before result after = Reads spell_disconnection tree_of_disconnection EndsAnywhere before result after
+
+abbrev pub ReadsDeletion : List Token → Result Stmt ParseFault → List Token → Type 0
+ReadsDeletion before result after = Reads spell_object tree_of_deletion EndsAnywhere before result after
+
+abbrev pub ReadsLaterDeletion : List Token → Result Stmt ParseFault → List Token → Type 0
+ReadsLaterDeletion before result after = Reads spell_object tree_of_later_deletion EndsAnywhere before result after

@@ -8,6 +8,7 @@ ghost use Rattle.texts.specs.Reading.{Reads, EndsAnywhere};
 ghost use Rattle.texts.specs.declared.fault.ParseFault.TheVariants.{Syntax};
 
 use crate::connection::{connection, disconnection};
+use crate::deletion::{deletion, later_deletion};
 use crate::expression::{Argument, expression, group};
 use crate::fault::BodyFault;
 use crate::limits::body_has_few_parameters;
@@ -91,6 +92,8 @@ fn statement(cursor: &mut Cursor) -> Result<Stmt, ParseFault>
         Word::If => choice(cursor),
         Word::Connect => connection(cursor),
         Word::Disconnect => disconnection(cursor),
+        Word::Delete => deletion(cursor),
+        Word::Later => later_deletion(cursor),
         _ => Err(ParseFault::Syntax),
     }
 }

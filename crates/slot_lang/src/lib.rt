@@ -3,6 +3,7 @@
 
 mod body;
 mod connection;
+mod deletion;
 mod expression;
 mod fault;
 mod limits;

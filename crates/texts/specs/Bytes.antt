@@ -1,5 +1,5 @@
 -- Bytes by what they may begin, and runs of bytes (docs/language.md, "Tokens").
-use Rattle.std.specs.Prelude.{ℕ, ◌≡◌, Bool, true, false, not, ◌&&◌, nat_le, nat_eq, List}
+use Rattle.std.specs.Prelude.{ℕ, Bool, true, false, not, ◌&&◌, nat_le, nat_eq, List}
 use Rattle.signatures.specs.Name.{is_letter, is_digit, is_name_byte}
 use Rattle.signatures.specs.Tokens.{is_blank, IsRunBy}
 use Rattle.texts.specs.declared.bytes.Class.{Class}

@@ -48,6 +48,14 @@ impl<'a> Scope<'a> {
                 let ends = self.resolve_ends(ends)?;
                 Ok(Statement::Disconnect(ends))
             }
+            Stmt::Delete(path) => {
+                let path = self.resolve_reference(path)?;
+                Ok(Statement::Delete(path))
+            }
+            Stmt::Later(path) => {
+                let path = self.resolve_reference(path)?;
+                Ok(Statement::Later(path))
+            }
         }
     }
 
@@ -98,7 +106,7 @@ impl<'a> Scope<'a> {
         let Some((slot, heading)) = class.find_call(name, values.len()) else {
             return Err(MetaFault::NoMember);
         };
-        if !heading.may_be_called() {
+        if heading.is_signal() {
             return Err(MetaFault::NoMember);
         }
         let values = self.resolve_exprs(values)?;

@@ -5,12 +5,12 @@ ghost use Rattle.meta_objects.specs.Resolving.{scope, Resolves};
 
 use crate::body_resolution::path::Target;
 use crate::body_resolution::scope::Scope;
-use meta_model::{DELETE_LATER, MetaEndpoints, MetaFault};
+use meta_model::{MetaEndpoints, MetaFault, OBJECT_NAME_CHANGED};
 use texts::{Endpoints, Path};
 
 impl<'a> Scope<'a> {
     /// The ends; `NoMember` where a name in them isn't there, a path isn't declared to lead to objects, the first
-    /// signature isn't that of a signal, or the second is that of a method of `QObject`.
+    /// signature isn't that of a signal, or the second is that of a signal which the runtime emits.
     pub fn resolve_ends(&self, ends: &Endpoints<Path>) -> Result<MetaEndpoints, MetaFault>
         ensures { Resolves (AreEnds (scope self.now) ends.now) result }
     {
@@ -28,7 +28,7 @@ impl<'a> Scope<'a> {
         let Some(method) = to.place_of_signed(&ends.method) else {
             return Err(MetaFault::NoMember);
         };
-        if method <= DELETE_LATER {
+        if method <= OBJECT_NAME_CHANGED {
             return Err(MetaFault::NoMember);
         }
         Ok(MetaEndpoints {

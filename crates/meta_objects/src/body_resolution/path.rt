@@ -1,7 +1,8 @@
 //! Paths whose names are resolved.
 
 ghost use Rattle.std.specs.Prelude.{◌≡◌};
-ghost use Rattle.meta_objects.specs.Resolving.{scope, ResolvesPath, ResolvesFrom, ResolvesObject};
+ghost use Rattle.meta_objects.specs.Bodies.{IsReferencePath};
+ghost use Rattle.meta_objects.specs.Resolving.{scope, Resolves, ResolvesPath, ResolvesFrom, ResolvesObject};
 ghost use Rattle.meta_objects.specs.Resolving.{FindsClass, FindsMember};
 
 use crate::body_resolution::scope::Scope;
@@ -37,6 +38,18 @@ impl<'a> Scope<'a> {
             return Err(MetaFault::NoMember);
         };
         Ok(Target { path, class })
+    }
+
+    /// The path in the place of an object of which no member is named; `NoMember` where a name in it isn't there, or it
+    /// isn't declared to lead to a reference. The class of the reference is left to the judgement of the declared types.
+    pub fn resolve_reference(&self, path: &Path) -> Result<MetaPath, MetaFault>
+        ensures { Resolves (IsReferencePath (scope self.now) path.now) result }
+    {
+        let Led { path, kind } = self.resolve_path(path)?;
+        if !kind.pointer {
+            return Err(MetaFault::NoMember);
+        }
+        Ok(path)
     }
 
     /// The path; `NoMember` where a name in it isn't there.

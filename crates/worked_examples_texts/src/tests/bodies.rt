@@ -1,4 +1,4 @@
-//! The statements that connect and disconnect.
+//! The statements that connect and disconnect, and those that destroy.
 
 use signatures::Kind;
 use slot_lang::{ConnectionType, Stmt, parse_body};
@@ -110,6 +110,54 @@ fn other_connections_are_refused(rt: HostRuntime) -> Result<(), Fail> {
         let fault = parse_body(rt.alloc(), tokens.as_slice()).err();
         let found = fault.and_then(|fault| fault.number());
         assert_eq!(rt; found, Some(number), "for {body}");
+    }
+    Ok(())
+}
+
+/// Whether a body's first statement destroys at once or later, if it destroys, and how many properties lead to the
+/// object.
+fn first_end(alloc: Global, body: &str) -> Result<(bool, usize), Fail> {
+    let tokens = tokens(alloc, body.as_bytes())?;
+    let body = parse_body(alloc, tokens.as_slice())?;
+    match body.get(0) {
+        Some(Stmt::Delete(path)) => Ok((true, path.properties.len())),
+        Some(Stmt::Later(path)) => Ok((false, path.properties.len())),
+        _ => Err("no such statement".into()),
+    }
+}
+
+#[test]
+fn bodies_destroy_at_once_or_later(rt: HostRuntime) -> Result<(), Fail> {
+    let cases = [
+        ("{ delete this; }", (true, 0)),
+        ("{ delete p.a; }", (true, 1)),
+        ("{ later p; delete this; }", (false, 0)),
+        ("{later this.a.b;}", (false, 2)),
+    ];
+    for (body, end) in cases {
+        let found = first_end(rt.alloc(), body)?;
+        assert_eq!(rt; found, end, "in {body}");
+    }
+    Ok(())
+}
+
+#[test]
+fn other_ends_are_refused(rt: HostRuntime) -> Result<(), Fail> {
+    let cases = [
+        "{ delete ; }",
+        "{ delete this }",
+        "{ delete this, p; }",
+        "{ delete null; }",
+        "{ later this.; }",
+        "{ later this.f(); }",
+        "{ later delete; }",
+        "{ deleteLater this; }",
+    ];
+    for body in cases {
+        let tokens = tokens(rt.alloc(), body.as_bytes())?;
+        let fault = parse_body(rt.alloc(), tokens.as_slice()).err();
+        let found = fault.and_then(|fault| fault.number());
+        assert_eq!(rt; found, Some(5), "for {body}");
     }
     Ok(())
 }

@@ -1,4 +1,4 @@
-//! Events of scripts: connections of every kind, event loops and turns.
+//! Events of scripts: connections of every kind, event loops and turns, and the end of objects.
 
 use script_lang::{Event, ScriptFault, read_script};
 use signatures::Kind;
@@ -21,6 +21,9 @@ fn lines_are_events_or_not(rt: HostRuntime) -> Result<(), Fail> {
             true,
         ),
         ("disconnect a s(QString const &) b hit()", true),
+        ("delete o", true),
+        ("delete main // a comment", true),
+        ("later new", true),
         ("loop", false),
         ("loop this", false),
         ("loop io io", false),
@@ -40,6 +43,11 @@ fn lines_are_events_or_not(rt: HostRuntime) -> Result<(), Fail> {
             "disconnect a s() b f(int,int,int,int,int,int,int,int,int)",
             false,
         ),
+        ("delete", false),
+        ("delete later", false),
+        ("later o p", false),
+        ("later o.x", false),
+        ("later null", false),
     ];
     for (line, is_event) in cases {
         let found = match read_script(rt.alloc(), line.as_bytes()) {
@@ -50,6 +58,19 @@ fn lines_are_events_or_not(rt: HostRuntime) -> Result<(), Fail> {
         assert_eq!(rt; found, is_event, "for {line}");
     }
     Ok(())
+}
+
+#[test]
+fn objects_end_at_once_or_later(rt: HostRuntime) -> Result<(), Fail> {
+    let events = read_script(rt.alloc(), b"delete o\nlater p\n".as_slice())?;
+    match (events.get(0), events.get(1)) {
+        (Some(Event::Delete(now)), Some(Event::Later(scheduled))) => {
+            assert_eq!(rt; now.bytes(), b"o".as_slice());
+            assert_eq!(rt; scheduled.bytes(), b"p".as_slice());
+            Ok(())
+        }
+        _ => Err("other events".into()),
+    }
 }
 
 #[test]

@@ -8,8 +8,8 @@ returns-in_default c = λ loaded is. c.in_default.ensures _ _ is.from
 pub returns-in_default-method_end : goal.returns-in_default-method_end
 returns-in_default-method_end c = λ loaded is. c.in_default-method_end.ensures _ _ is.to
 
-pub returns-else-method-gt-DELETE_LATER : goal.returns-else-method-gt-DELETE_LATER
-returns-else-method-gt-DELETE_LATER c = λ loaded is.
+pub returns-else-method-gt-OBJECT_NAME_CHANGED : goal.returns-else-method-gt-OBJECT_NAME_CHANGED
+returns-else-method-gt-OBJECT_NAME_CHANGED c = λ loaded is.
     let same = one_end _ _ _ _ _ _ _ is.to c.in-Some-method_end.ensures in
     let one = same.1 in
     let called = is.called in

@@ -32,3 +32,9 @@ returns-in-Block c = rw c.in-Block.is c.block.ensures
 
 pub returns-in-Unblock : goal.returns-in-Unblock
 returns-in-Unblock c = rw c.in-Unblock.is c.unblock.ensures
+
+pub returns-in-Delete : goal.returns-in-Delete
+returns-in-Delete c = rw c.in-Delete.is c.delete.ensures
+
+pub returns-in-Later : goal.returns-in-Later
+returns-in-Later c = rw c.in-Later.is c.later.ensures

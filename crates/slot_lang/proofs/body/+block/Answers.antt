@@ -1,7 +1,7 @@
 use Rattle.std.proofs.Common.{length, arith, ap}
 use Rattle.std.proofs.lemmas.Result.{err_from_is_err_and}
 use Rattle.signatures.specs.declared.word.Word.TheVariants as word
-use Rattle.slot_lang.proofs.Bodies.{body_step, body_done, body_stuck, else_found, no_else_block, nothing_found, choice_found, form_reads, set_form, emit_form, call_form, if_form, connect_form, disconnect_form, word_at, not_at_word, no_statement_at, no_statement_without_word}
+use Rattle.slot_lang.proofs.Bodies.{body_step, body_done, body_stuck, else_found, no_else_block, nothing_found, choice_found, form_reads, set_form, emit_form, call_form, if_form, connect_form, disconnect_form, delete_form, later_form, word_at, not_at_word, no_statement_at, no_statement_without_word}
 use Rattle.slot_lang.proofs.body.+block.Goals as goal
 
 -- ---- block
@@ -66,10 +66,16 @@ statement-returns-in-Connect-clause-reads t c = form_reads connect_form c.connec
 pub statement-returns-in-Disconnect-clause-reads : goal.statement-returns-in-Disconnect-clause-reads
 statement-returns-in-Disconnect-clause-reads t c = form_reads disconnect_form c.disconnection.new.cursor c.disconnection.result (word_at c.in_ok-word.ensures.reads word.Disconnect c.in-Disconnect.is) c.disconnection.ensures.reads
 
+pub statement-returns-in-Delete-clause-reads : goal.statement-returns-in-Delete-clause-reads
+statement-returns-in-Delete-clause-reads t c = form_reads delete_form c.deletion.new.cursor c.deletion.result (word_at c.in_ok-word.ensures.reads word.Delete c.in-Delete.is) c.deletion.ensures.reads
+
+pub statement-returns-in-Later-clause-reads : goal.statement-returns-in-Later-clause-reads
+statement-returns-in-Later-clause-reads t c = form_reads later_form c.later_deletion.new.cursor c.later_deletion.result (word_at c.in_ok-word.ensures.reads word.Later c.in-Later.is) c.later_deletion.ensures.reads
+
 pub statement-returns-in_default : goal.statement-returns-in_default
 statement-returns-in_default t c =
     let other = not_at_word c.in_ok-word.ensures.reads in
     record {
-      reads = λ k. no_statement_at (other word.Set c.in_default.not-Set) (other word.Emit c.in_default.not-Emit) (other word.Call c.in_default.not-Call) (other word.If c.in_default.not-If) (other word.Connect c.in_default.not-Connect) (other word.Disconnect c.in_default.not-Disconnect);
+      reads = λ k. no_statement_at (other word.Set c.in_default.not-Set) (other word.Emit c.in_default.not-Emit) (other word.Call c.in_default.not-Call) (other word.If c.in_default.not-If) (other word.Connect c.in_default.not-Connect) (other word.Disconnect c.in_default.not-Disconnect) (other word.Delete c.in_default.not-Delete) (other word.Later c.in_default.not-Later);
       shorter = tt;
     }

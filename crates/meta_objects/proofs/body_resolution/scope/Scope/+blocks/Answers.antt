@@ -1,13 +1,15 @@
 use Rattle.std.proofs.Common.{refl}
 use Rattle.std.proofs.lemmas.Option.{slice_get_read}
 use Rattle.meta_model.specs.declared.object.MetaEndpoints.{MetaEndpoints}
+use Rattle.meta_model.specs.declared.object.MetaPath.{MetaPath}
 use Rattle.meta_model.specs.declared.object.Statement.{Statement}
 use Rattle.meta_model.specs.declared.fault.MetaFault.TheVariants as fault
-use Rattle.meta_objects.specs.Bodies.{AreEnds, IsStatementOf, AreStatements, LacksInBody}
+use Rattle.meta_objects.specs.Bodies.{AreEnds, IsReferencePath, IsStatementOf, AreStatements, LacksInBody}
 use Rattle.meta_objects.specs.Resolving.{scope}
 use Rattle.meta_model.proofs.OutlineSteps.{failed}
 use Rattle.meta_objects.proofs.BodyPieces.{block_left, block_only, block_stuck, block_end, if_piece, no_other}
 use Rattle.meta_objects.proofs.BodyEnds.{no_connect, connect_piece, no_disconnect, disconnect_piece}
+use Rattle.meta_objects.proofs.BodyReferences.{no_delete, delete_piece, no_later, later_piece}
 use Rattle.meta_objects.proofs.body_resolution.scope.Scope.+blocks.Goals as goal
 
 pub resolve_block-loop-statement-preserved : goal.resolve_block-loop-statement-preserved
@@ -60,3 +62,23 @@ resolve_statement-returns-in_err-ends-in-Disconnect t c =
 
 pub resolve_statement-returns-in_ok-ends-in-Disconnect : goal.resolve_statement-returns-in_ok-ends-in-Disconnect
 resolve_statement-returns-in_ok-ends-in-Disconnect t c = rw c.in-Disconnect.is (disconnect_piece _ _ _ c.in_ok-ends-in-Disconnect.ensures)
+
+pub resolve_statement-returns-in_err-path-in-Delete : goal.resolve_statement-returns-in_err-path-in-Delete
+resolve_statement-returns-in_err-path-in-Delete t c =
+    let s = scope c.args.self.now in
+    failed fault.NoMember ((found : MetaPath) → ¬ IsReferencePath s c.in-Delete.path found) ((y : Statement) → ¬ IsStatementOf s c.args.statement.now y)
+    (λ found. IsReferencePath s c.in-Delete.path found) (λ y. IsStatementOf s c.args.statement.now y) _ c.in_err-path-in-Delete.ensures
+    (λ lacks. rw c.in-Delete.is (no_delete s _ lacks)) _ c.from_residual-in_err-path-in-Delete.ensures.0 c.from_residual-in_err-path-in-Delete.ensures.1
+
+pub resolve_statement-returns-in_ok-path-in-Delete : goal.resolve_statement-returns-in_ok-path-in-Delete
+resolve_statement-returns-in_ok-path-in-Delete t c = rw c.in-Delete.is (delete_piece _ _ _ c.in_ok-path-in-Delete.ensures)
+
+pub resolve_statement-returns-in_err-path-in-Later : goal.resolve_statement-returns-in_err-path-in-Later
+resolve_statement-returns-in_err-path-in-Later t c =
+    let s = scope c.args.self.now in
+    failed fault.NoMember ((found : MetaPath) → ¬ IsReferencePath s c.in-Later.path found) ((y : Statement) → ¬ IsStatementOf s c.args.statement.now y)
+    (λ found. IsReferencePath s c.in-Later.path found) (λ y. IsStatementOf s c.args.statement.now y) _ c.in_err-path-in-Later.ensures
+    (λ lacks. rw c.in-Later.is (no_later s _ lacks)) _ c.from_residual-in_err-path-in-Later.ensures.0 c.from_residual-in_err-path-in-Later.ensures.1
+
+pub resolve_statement-returns-in_ok-path-in-Later : goal.resolve_statement-returns-in_ok-path-in-Later
+resolve_statement-returns-in_ok-path-in-Later t c = rw c.in-Later.is (later_piece _ _ _ c.in_ok-path-in-Later.ensures)

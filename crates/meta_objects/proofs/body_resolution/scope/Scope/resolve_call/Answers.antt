@@ -23,12 +23,12 @@ pub returns-in_default : goal.returns-in_default
 returns-in_default c =
     inr (refl, no_call_method (scope c.args.self.now) _ _ _ _ _ c.in_ok-path.ensures c.in_default.ensures.value)
 
-pub returns-then-not-may_be_called : goal.returns-then-not-may_be_called
-returns-then-not-may_be_called c =
+pub returns-then-is_signal : goal.returns-then-is_signal
+returns-then-is_signal c =
     inr (
       refl,
       no_call (scope c.args.self.now) _ _ _ _ _ c.in_ok-path.ensures _ _ c.in-Some.ensures.value
-          (λ callable. let e = c.if-not-may_be_called.ensures.1 callable in absurd (cc)),
+          (c.if-is_signal.ensures.0 refl),
     )
 
 pub returns-in_err-values : goal.returns-in_err-values
@@ -41,4 +41,4 @@ returns-in_err-values c =
 pub returns : goal.returns
 returns c =
     call_piece (scope c.args.self.now) _ _ _ _ _ c.in_ok-path.ensures _ _
-    c.in-Some.ensures.value _ (c.if-not-may_be_called.ensures.0 refl) c.in_ok-values.ensures
+    c.in-Some.ensures.value _ (λ signal. let e = c.if-is_signal.ensures.1 signal in absurd (cc)) c.in_ok-values.ensures

@@ -31,10 +31,10 @@ pub returns-in_default-place_of_signed : goal.returns-in_default-place_of_signed
 returns-in_default-place_of_signed c =
     inr (refl, no_method (scope c.args.self.now) _ _ _ c.in_ok-receiver.ensures c.in_default-place_of_signed.ensures)
 
-pub returns-then-method-le-DELETE_LATER : goal.returns-then-method-le-DELETE_LATER
-returns-then-method-le-DELETE_LATER c =
+pub returns-then-method-le-OBJECT_NAME_CHANGED : goal.returns-then-method-le-OBJECT_NAME_CHANGED
+returns-then-method-le-OBJECT_NAME_CHANGED c =
     inr (
       refl,
       no_called (scope c.args.self.now) _ _ _ c.in_ok-receiver.ensures _ c.in-Some-place_of_signed.ensures
-          c.if-method-le-DELETE_LATER.true,
+          c.if-method-le-OBJECT_NAME_CHANGED.true,
     )
