@@ -91,12 +91,7 @@ fn property_of<'m>(meta: &'m Meta, class: usize, name: &Name) -> Option<(usize, 
 }
 
 /// Writes a property for an event that is accepted, and runs what it notifies.
-fn write(
-    setting: &Setting,
-    world: &mut World,
-    place: &Place,
-    value: Value,
-) -> Result<Answer, Fault>
+fn write(setting: &Setting, world: &mut World, place: &Place, value: Value) -> Result<Answer, Fault>
     requires depth { 0 < setting.now.depth }
     requires left { 0 < world.old.left }
     requires idle { world.old.turn ≡ None }

@@ -2,6 +2,7 @@
 
 ghost use Rattle.std.specs.Prelude.{◌≡◌, ◌↔◌, ◌<◌, [], Ok, length, IfOk, IfErr, IsTrue, MatchOption, None};
 ghost use Rattle.machine_state.specs.Worlds.{at};
+ghost use Rattle.machine_rules.specs.Reaches.{CallFits};
 ghost use Rattle.machine_rules.specs.Good.{ArgumentsFit};
 ghost use Rattle.machine_rules.specs.Judgement.{NothingIs, numbered};
 ghost use Rattle.qt_runtime.specs.Judgement.{IsNotAccepted};
@@ -148,17 +149,12 @@ fn method_of<'m>(
 }
 
 /// Begins a method for an event that is accepted, and runs it.
-fn begin(
-    setting: &Setting,
-    world: &mut World,
-    call: &MethodCall<'_>,
-) -> Result<Answer, Fault>
+fn begin(setting: &Setting, world: &mut World, call: &MethodCall<'_>) -> Result<Answer, Fault>
     requires depth { 0 < setting.now.depth }
     requires left { 0 < world.old.left }
     requires idle { world.old.turn ≡ None }
     requires keeps { WorldInvariant setting.now.meta world.old }
-    requires fit { ArgumentsFit setting.now.meta world.old.objects
-        call.now.object call.now.method call.now.arguments.now }
+    requires fit { CallFits setting.now.meta world.old.objects call.now }
     ensures { (e : AnEvent) →
         AsksFor setting.now.meta world.old call.now.object call.now.method call.now.arguments.now e →
         Answers setting.now e world.old world.new result }
