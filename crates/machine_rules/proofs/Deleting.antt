@@ -1,12 +1,10 @@
 -- How deletions are carried out.
-use Rattle.std.proofs.Common.{◌≡◌, ◌≢◌, ⊎_elim, ◌⊎◌, inl, inr, ℕ, zero, suc, ◌+◌, ◌-◌, ◌<◌, ◌≤◌, eqb, Bool, true, false, IsTrue, List, [], ◌∷◌, ◌++◌, length, take, reverse, cond, Result, Ok, Err, Option, Some, None, slice_get, refl, sym, ap, ◌∙◌, subst, arith, length-append}
+use Rattle.std.proofs.Common.{◌≡◌, ◌≢◌, ⊎_elim, inl, inr, ℕ, zero, suc, ◌+◌, ◌-◌, ◌<◌, ◌≤◌, eqb, Bool, true, false, IsTrue, List, [], ◌∷◌, ◌++◌, length, take, reverse, cond, Result, Ok, Err, Option, Some, None, slice_get, refl, sym, ap, ◌∙◌, subst, arith, length-append}
 use Rattle.std.specs.Prelude.{is_some, MatchOption, OnOk}
 use Rattle.std.specs.List.{find}
 use Rattle.std.specs.Option.{option_map}
-use Rattle.std.specs.Result.{IsErrAnd}
 use Rattle.std.proofs.lemmas.Bool.{cases_eq, eqb-true}
 use Rattle.std.proofs.lemmas.List.{reverse-append}
-use Rattle.signatures.specs.declared.value.Value.{Value}
 use Rattle.signatures.specs.declared.value.Value.TheVariants as value
 use Rattle.meta_model.specs.declared.qobject.TheConstants.{DESTROYED}
 use Rattle.meta_model.specs.Loaded.{Loaded}
@@ -14,34 +12,34 @@ use Rattle.meta_model.specs.Values.{null_has}
 use Rattle.object_tree.specs.declared.life.Life.{Life}
 use Rattle.object_tree.specs.declared.object.Object.{Object}
 use Rattle.object_tree.specs.Family.{children_of, IsChild, without_life}
-use Rattle.object_tree.specs.Objects.{Lives, life_of, name_of}
+use Rattle.object_tree.specs.Objects.{life_of, name_of}
 use Rattle.object_tree.specs.Typed.{AreTyped}
-use Rattle.object_tree.proofs.Changing.{life-of-lives, lives-of-life}
+use Rattle.object_tree.proofs.Changing.{life-of-lives}
 use Rattle.object_tree.proofs.TypedObjects.{typed-died}
 use Rattle.delete_later.specs.Ending.{last_of, next_in, first_child_of, IsNext, NoneIsNext}
 use Rattle.machine_state.specs.declared.entry.Entry.{Entry}
 use Rattle.machine_state.specs.declared.entry.Entry.TheVariants.{At}
 use Rattle.machine_state.specs.declared.entry.Happening.TheVariants.{Died}
 use Rattle.machine_state.specs.declared.fault.Fault.{Fault}
-use Rattle.machine_state.specs.declared.fault.Fault.TheVariants.{TooDeep, InUse, Steps, Memory}
+use Rattle.machine_state.specs.declared.fault.Fault.TheVariants.{TooDeep, InUse}
 use Rattle.machine_state.specs.declared.world.World.{World}
 use Rattle.machine_state.specs.Connections.{is_living}
 use Rattle.machine_state.specs.State.{State, Activation, Emit, Destroy}
 use Rattle.machine_state.specs.Worlds.{at, ticked, dying, ending, Ticks}
 use Rattle.machine_rules.specs.Active.{shows, shows_body}
-use Rattle.machine_rules.specs.Destroying.{deleting, Dies, NextRule, ChildRule, living_child}
-use Rattle.machine_rules.specs.Good.{EmissionFits, of_dead, TopFits, has_body, IsWell, Spares}
+use Rattle.machine_rules.specs.Destroying.{deleting, Dies, NextRule, ChildRule}
+use Rattle.machine_rules.specs.Good.{EmissionFits, of_dead, has_body, IsWell, Spares}
 use Rattle.machine_rules.specs.Keeps.{KeepsWorld}
 use Rattle.machine_rules.specs.Reaches.{Reaches, StopsIn, Ends, Deletes, Kills, entry_of_destroyed, Forgets}
 use Rattle.machine_rules.specs.Rules.{Rule}
-use Rattle.machine_rules.specs.There.{IsDead, NoneDied}
-use Rattle.machine_rules.proofs.Dying.{living-not-dead, dead-no-life, died-dead, other-seen}
+use Rattle.machine_rules.specs.There.{IsDead}
+use Rattle.machine_rules.proofs.Dying.{dead-no-life, died-dead, other-seen}
 use Rattle.machine_rules.proofs.Beginning.{one-more, has-life}
 use Rattle.machine_rules.proofs.Declared.{emission-sends}
 use Rattle.machine_rules.specs.Sound.{SendsThese}
 use Rattle.meta_model.specs.Sound.{IsSound}
 use Rattle.machine_rules.proofs.Frames.{high, has-shown}
-use Rattle.machine_rules.proofs.Reaching.{none-spared, reaches-low, reaches-high, reaches-then, stops-after, stops-as, stops-memory, stops-steps, stops-deep, stops-fatal, ends-after, ends-left, ends-lifted, not-idle}
+use Rattle.machine_rules.proofs.Reaching.{none-spared, reaches-low, reaches-high, stops-as, stops-memory, stops-steps, stops-deep, stops-fatal, ends-after, ends-lifted, not-idle}
 
 -- ---- a deletion begins
 

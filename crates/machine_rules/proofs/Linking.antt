@@ -30,7 +30,7 @@ use Rattle.machine_state.specs.declared.world.World.{World}
 use Rattle.machine_state.specs.Refusals.{refusal_number}
 use Rattle.machine_state.specs.State.{State, Activation}
 use Rattle.machine_state.specs.Worlds.{at, noted, connecting, disconnecting, scheduling, Becomes}
-use Rattle.machine_rules.specs.Connecting.{AreThere, kept_ends, names_of, may_disconnect}
+use Rattle.machine_rules.specs.Connecting.{AreThere, kept_ends, may_disconnect}
 use Rattle.machine_rules.specs.Reaches.{IsJudged, LacksEnds, NamesEnds, Went, Stays, ConnectsIn, DisconnectsIn, SchedulesIn}
 use Rattle.machine_rules.specs.Rules.{Connects, Disconnects}
 use Rattle.machine_rules.proofs.Fields.{member-at}
