@@ -1,5 +1,5 @@
 -- How methods begin.
-use Rattle.std.proofs.Common.{◌≡◌, ℕ, suc, ◌+◌, ◌-◌, ◌<◌, ◌≤◌, inl, inr, Bool, true, false, IsTrue, List, [], ◌∷◌, ◌++◌, length, take, Result, Option, None, Some, refl, sym, ap, ◌∙◌, subst, arith, length-append, Ok, Err}
+use Rattle.std.proofs.Common.{◌≡◌, ℕ, suc, ◌+◌, ◌-◌, ◌<◌, ◌≤◌, inl, inr, eqb, not, Bool, true, false, IsTrue, List, [], ◌∷◌, ◌++◌, length, take, Result, Option, None, Some, refl, sym, ap, ◌∙◌, subst, arith, length-append, Ok, Err}
 use Rattle.std.specs.List.{AllByRecursion}
 use Rattle.std.specs.Result.{IsErrAnd}
 use Rattle.signatures.specs.declared.value.Value.{Value}
@@ -14,7 +14,11 @@ use Rattle.machine_state.specs.declared.fault.Fault.{Fault}
 use Rattle.machine_state.specs.declared.fault.Fault.TheVariants.{BadType, TooDeep, Memory}
 use Rattle.event_loops.specs.declared.item.Item.TheVariants.{Call}
 use Rattle.std.specs.Option.{option_map}
-use Rattle.object_tree.proofs.Changing.{life-of-lives}
+use Rattle.std.specs.Prelude.{is_some}
+use Rattle.std.proofs.lemmas.Bool.{eqb-true}
+use Rattle.meta_model.specs.declared.qobject.TheConstants.{DESTROYED}
+use Rattle.object_tree.specs.Objects.{Lives, life_of}
+use Rattle.object_tree.proofs.Changing.{life-of-lives, lives-of-life}
 use Rattle.object_tree.specs.declared.life.Life.{Life}
 use Rattle.object_tree.specs.declared.object.Object.{Object}
 use Rattle.machine_state.specs.declared.world.World.{World}
@@ -22,33 +26,34 @@ use Rattle.machine_state.specs.Objects.{all_shown, home_of}
 use Rattle.machine_state.specs.State.{State, Activation, Emit}
 use Rattle.machine_state.specs.Turns.{running, reaches_at_once}
 use Rattle.machine_rules.specs.Rules.{Begins, begun, with_used, posted, EmitRule, Uses, Arrives}
-use Rattle.machine_state.specs.Connections.{next_used}
-use Rattle.machine_state.proofs.Due.{used-among, used-due, last-used}
+use Rattle.machine_state.specs.Connections.{silences, is_living, next_used}
+use Rattle.machine_state.proofs.Due.{used-among, used-due, used-living, used-heard, last-used}
 use Rattle.object_tree.specs.Typed.{AreTyped, ReadAs}
-use Rattle.machine_rules.specs.Good.{ArgumentsFit, TopFits, IsWell}
-use Rattle.machine_rules.specs.Sound.{Joined}
+use Rattle.machine_rules.specs.Good.{ArgumentsFit, EmissionFits, of_living, of_dead, TopFits, IsWell}
+use Rattle.machine_rules.specs.Sound.{Sends, SendsThese, Joined, IsDelivered}
 use Rattle.machine_state.specs.Worlds.{at, noted, having_used, posting, Becomes}
 use Rattle.machine_rules.specs.Reaches.{Reaches, StopsIn, Ends, CallsIn, Calls, OnlyCalls, begin_entry, entry_of_post, top_of, IsBegun, IsBarred, PostsCall}
 use Rattle.machine_rules.specs.Active.{shows}
 use Rattle.machine_rules.proofs.Frames.{high, shows-over}
 use Rattle.machine_rules.specs.There.{IsMember}
-use Rattle.machine_rules.proofs.Reaching.{reaches-high, ends-after, ends-lifted, not-idle, ends-noted, stops-as, stops-memory, stops-deep, stops-ill, stops-stuck}
-use Rattle.machine_rules.proofs.Fields.{member-method, read-front}
+use Rattle.machine_rules.proofs.Dying.{lives-not-dead}
+use Rattle.machine_rules.proofs.Reaching.{none-spared, same-spared, reaches-high, ends-after, ends-lifted, not-idle, ends-noted, stops-as, stops-memory, stops-deep, stops-ill, stops-stuck}
+use Rattle.machine_rules.proofs.Fields.{member-method, method-unique, read-front}
 
 -- the world after a method began
 abbrev pub begun_world : World → ℕ → Object → ℕ → MetaMethod → List Value → World
-begun_world w depth x m method arguments = noted w (begin_entry depth x m method.sig.name (all_shown w.objects arguments) method.work ∷ [])
+begun_world w depth x m method arguments = noted w (begin_entry depth x m method.sig.name (all_shown w.store.tree arguments) method.work ∷ [])
 
 begun-is : (w : World) (stack over : List Activation) (o : ℕ) (x : Object) (m : ℕ) (method : MetaMethod) (arguments : List Value) (work : Work) →
-    at (noted w (begin_entry (suc (length over)) x m method.sig.name (all_shown w.objects arguments) work ∷ [])) (top_of o m arguments w.connected.last work ∷ over) ≡ begun (at w stack) over o x m method arguments work
+    at (noted w (begin_entry (suc (length over)) x m method.sig.name (all_shown w.store.tree arguments) work ∷ [])) (top_of o m arguments w.store.connections.last work ∷ over) ≡ begun (at w stack) over o x m method arguments work
 begun-is w stack over o x m method arguments Signal = refl
 begun-is w stack over o x m method arguments (Slot statements) = refl
 
 -- a method that is there begins
-pub begins-there : {p : Loaded} {n o m : ℕ} {x : Object} {method : MetaMethod} (w : World) (arguments : List Value) (stack over : List Activation) → IsMember p w.objects o m x method → n ≡ suc (length over) →
-    Begins p (at w stack) over o m arguments (at (begun_world w n x m method arguments) (top_of o m arguments w.connected.last method.work ∷ over))
+pub begins-there : {p : Loaded} {n o m : ℕ} {x : Object} {method : MetaMethod} (w : World) (arguments : List Value) (stack over : List Activation) → IsMember p w.store.tree o m x method → n ≡ suc (length over) →
+    Begins p (at w stack) over o m arguments (at (begun_world w n x m method arguments) (top_of o m arguments w.store.connections.last method.work ∷ over))
 begins-there {o = o} {m = m} {x = x} {method = method} w arguments stack over is depth_is =
-    let with_depth : ℕ → State = λ n. at (begun_world w n x m method arguments) (top_of o m arguments w.connected.last method.work ∷ over) in
+    let with_depth : ℕ → State = λ n. at (begun_world w n x m method arguments) (top_of o m arguments w.store.connections.last method.work ∷ over) in
     record {
       object = x;
       method = method;
@@ -61,45 +66,50 @@ pub one-more : {h active : List (Option ℕ)} (to below : List Activation) → a
 one-more to below over e = omega (arith, high (to ++ below) (shows-over to below over e))
 
 pub top-fits : {p : Loaded} {objects : List Object} {o m : ℕ} {arguments : List Value} (last : ℕ) (work : Work) (below : List Activation) → ArgumentsFit p objects o m arguments → TopFits p objects (top_of o m arguments last work ∷ below)
-top-fits last Signal below fit = fit
+top-fits last Signal below fit = of_living fit
 top-fits last (Slot statements) below fit = fit
 
-fits-top : {p : Loaded} {objects : List Object} {o m : ℕ} {arguments : List Value} (last : ℕ) (work : Work) (below : List Activation) → TopFits p objects (top_of o m arguments last work ∷ below) → ArgumentsFit p objects o m arguments
-fits-top last Signal below fit = fit
-fits-top last (Slot statements) below fit = fit
+emission-fits : {p : Loaded} {objects : List Object} {o m : ℕ} {x : Object} {method : MetaMethod} {arguments : List Value} → IsMember p objects o m x method → EmissionFits p objects o m arguments → ArgumentsFit p objects o m arguments
+emission-fits is (of_living fit) = fit
+emission-fits is (of_dead gone g_is typed) = absurd (lives-not-dead is.lives gone)
+
+fits-top : {p : Loaded} {objects : List Object} {o m : ℕ} {x : Object} {method : MetaMethod} {arguments : List Value} (last : ℕ) (work : Work) (below : List Activation) → IsMember p objects o m x method → TopFits p objects (top_of o m arguments last work ∷ below) → ArgumentsFit p objects o m arguments
+fits-top last Signal below is fit = emission-fits is fit
+fits-top last (Slot statements) below is fit = fit
 
 reaches-begun : {p : Loaded} {d o m : ℕ} {h active : List (Option ℕ)} {w u v : World} {from to : List Activation} {arguments : List Value} {line : Entry} {work : Work} {last : ℕ} →
-    active ≡ shows to ++ h → CallsIn p w u from to o m arguments → IsBegun p d active u o m arguments line work last → ArgumentsFit p u.objects o m arguments → AreTyped p u.objects → 0 < w.left → u.left ≡ w.left → v ≡ noted u (line ∷ []) →
+    active ≡ shows to ++ h → CallsIn p w u from to o m arguments → IsBegun p d active u o m arguments line work last → ArgumentsFit p u.store.tree o m arguments → AreTyped p u.store.tree → 0 < w.left → u.left ≡ w.left → v ≡ noted u (line ∷ []) →
     Reaches p d h w from v (top_of o m arguments last work ∷ to)
 reaches-begun {p} {d} {o} {m} {h} {active} {w} {u} {v} {from} {to} {arguments} {line} {work} {last} over calls is fit typed some same v_is =
     let Pushed : World → Work → ℕ → Type 0 = λ z k l. Reaches p d h w from z (top_of o m arguments l k ∷ to) in
     let target : World = begun_world u (length active + 1) is.object m is.method arguments in
     let target_is : v ≡ target = v_is ∙ ap (λ (y : Entry). noted u (y ∷ [])) is.is_line in
-    let went : Pushed target is.method.work u.connected.last =
-    reaches-high over (λ below e. calls.gives below _ (begins-there u arguments (from ++ below) (to ++ below) is.is (one-more to below over e))) (λ below. top-fits u.connected.last is.method.work (to ++ below) fit) is.room typed (ap (λ (n : ℕ). n - 1) same) some in
+    let went : Pushed target is.method.work u.store.connections.last =
+    reaches-high over (λ below e. calls.gives below _ (begins-there u arguments (from ++ below) (to ++ below) is.is (one-more to below over e))) (λ below e. none-spared w.store.tree u.store.tree (from ++ below) (same-spared calls.objects)) (λ below. top-fits u.store.connections.last is.method.work (to ++ below) fit) is.room typed (ap (λ (n : ℕ). n - 1) same) some in
     subst (λ (z : World). Pushed z work last) (sym target_is) (subst (λ (k : Work). Pushed target k last) (sym is.is_work) (subst (λ (l : ℕ). Pushed target is.method.work l) (sym is.is_last) went))
 
 -- a method begins, and what it pushed runs
 pub ends-begun : {p : Loaded} {d o m : ℕ} {h active : List (Option ℕ)} {w u v z : World} {from to : List Activation} {arguments : List Value} {line : Entry} {work : Work} {last : ℕ} {r : Result (Unit {0}) Fault} →
-    active ≡ shows to ++ h → CallsIn p w u from to o m arguments → IsBegun p d active u o m arguments line work last → ArgumentsFit p u.objects o m arguments → AreTyped p u.objects → 0 < w.left → u.left ≡ w.left → v ≡ noted u (line ∷ []) →
+    active ≡ shows to ++ h → CallsIn p w u from to o m arguments → IsBegun p d active u o m arguments line work last → ArgumentsFit p u.store.tree o m arguments → AreTyped p u.store.tree → 0 < w.left → u.left ≡ w.left → v ≡ noted u (line ∷ []) →
     Ends p d active v (top_of o m arguments last work ∷ []) z [] r → Ends p d h w from z to r
 ends-begun over calls is fit typed some same v_is x = ends-after (reaches-begun over calls is fit typed some same v_is) (ends-lifted over x)
 
 -- activations would nest too deep
 stops-begin : {p : Loaded} {d o m : ℕ} {h active : List (Option ℕ)} {w u : World} {from to : List Activation} {arguments : List Value} →
-    active ≡ shows to ++ h → CallsIn p w u from to o m arguments → ArgumentsFit p u.objects o m arguments → AreTyped p u.objects → 0 < w.left → d ≤ length active → StopsIn p d h w from w TooDeep
+    active ≡ shows to ++ h → CallsIn p w u from to o m arguments → ArgumentsFit p u.store.tree o m arguments → AreTyped p u.store.tree → 0 < w.left → d ≤ length active → StopsIn p d h w from w TooDeep
 stops-begin {o = o} {m = m} {active = active} {w = w} {u = u} {from = from} {to = to} {arguments = arguments} over calls fit typed some deep =
     let target : World = begun_world u (length active + 1) fit.object m fit.method arguments in
     stops-deep some (λ below e. (
-      at target (top_of o m arguments u.connected.last fit.method.work ∷ to ++ below),
+      at target (top_of o m arguments u.store.connections.last fit.method.work ∷ to ++ below),
       calls.gives below _ (begins-there u arguments (from ++ below) (to ++ below) fit.is (one-more to below over e)),
-      record { arguments = λ higher. top-fits u.connected.last fit.method.work (to ++ below) fit; values = typed },
+      record { arguments = λ higher. top-fits u.store.connections.last fit.method.work (to ++ below) fit; values = typed },
+      none-spared w.store.tree u.store.tree (from ++ below) (same-spared calls.objects),
       omega (arith, one-more to below over e, deep),
     ))
 
 -- a method that fits doesn't begin
 pub stops-barred : {p : Loaded} {d o m : ℕ} {h active : List (Option ℕ)} {w u : World} {from to : List Activation} {arguments : List Value} {f : Fault} →
-    active ≡ shows to ++ h → CallsIn p w u from to o m arguments → ArgumentsFit p u.objects o m arguments → AreTyped p u.objects → 0 < w.left → IsBarred d active f → StopsIn p d h w from w f
+    active ≡ shows to ++ h → CallsIn p w u from to o m arguments → ArgumentsFit p u.store.tree o m arguments → AreTyped p u.store.tree → 0 < w.left → IsBarred d active f → StopsIn p d h w from w f
 stops-barred over calls fit typed some why = elim why [
   | inl deep ↦ stops-as deep.1 (stops-begin over calls fit typed some deep.0)
   | inr short ↦ stops-as short (stops-memory calls.goes_on some)
@@ -107,7 +117,7 @@ stops-barred over calls fit typed some why = elim why [
 
 -- there is no such method
 pub stops-no-member : {p : Loaded} {d o m : ℕ} {h : List (Option ℕ)} {w : World} {from to : List Activation} {arguments : List Value} →
-    Calls p w from to o m arguments → OnlyCalls p w from to o m arguments → ((x : Object) (method : MetaMethod) → ¬ IsMember p w.objects o m x method) → 0 < w.left → StopsIn p d h w from w BadType
+    Calls p w from to o m arguments → OnlyCalls p w from to o m arguments → ((x : Object) (method : MetaMethod) → ¬ IsMember p w.store.tree o m x method) → 0 < w.left → StopsIn p d h w from w BadType
 stops-no-member calls only none some = stops-stuck calls.goes_on some (λ below t r. let b = only.begins below t r in none b.object b.method b.is)
 
 -- the arguments that fit are of the method's types
@@ -118,13 +128,13 @@ fit-typed {p} {objects} {o} {m} {x} {method} {arguments} is fit =
 
 -- the arguments aren't of the method's types
 pub stops-ill-typed : {p : Loaded} {d o m : ℕ} {h : List (Option ℕ)} {w : World} {from to : List Activation} {x : Object} {method : MetaMethod} {arguments : List Value} →
-    Calls p w from to o m arguments → IsMember p w.objects o m x method → (¬ ReadAs p w.objects arguments method.kinds) → 0 < w.left → StopsIn p d h w from w BadType
+    Calls p w from to o m arguments → IsMember p w.store.tree o m x method → (¬ ReadAs p w.store.tree arguments method.kinds) → 0 < w.left → StopsIn p d h w from w BadType
 stops-ill-typed {p} {o = o} {m = m} {w = w} {from = from} {to = to} {x = x} {method = method} {arguments = arguments} calls is ill some =
     stops-ill some (λ below.
-    let t : State = at (begun_world w (suc (length (to ++ below))) x m method arguments) (top_of o m arguments w.connected.last method.work ∷ to ++ below) in (
+    let t : State = at (begun_world w (suc (length (to ++ below))) x m method arguments) (top_of o m arguments w.store.connections.last method.work ∷ to ++ below) in (
       t,
       calls.gives below t (begins-there w arguments (from ++ below) (to ++ below) is refl),
-      λ (well : IsWell p (at w (from ++ below)) t). ill (fit-typed is (fits-top w.connected.last method.work (to ++ below) (well.arguments (omega (arith, calls.no_lower, length-append from below, length-append to below))))),
+      λ (well : IsWell p (at w (from ++ below)) t). ill (fit-typed is (fits-top w.store.connections.last method.work (to ++ below) is (well.arguments (omega (arith, calls.no_lower, length-append from below, length-append to below))))),
     ))
 
 pub fit-of : {p : Loaded} {objects : List Object} {o m : ℕ} {x : Object} {method : MetaMethod} {arguments : List Value} → IsMember p objects o m x method → ReadAs p objects arguments method.kinds → ArgumentsFit p objects o m arguments
@@ -132,32 +142,61 @@ fit-of {x = x} {method = method} is typed = record { object = x; method = method
 
 -- ---- connections
 
-pub next-joined : {p : Loaded} {objects : List Object} (now : List Object) (connections : List Connection) (o g used last : ℕ) (c : Connection) → AllByRecursion (Joined p objects) connections → next_used now connections o g used last ≡ Some c → Joined p objects c
-next-joined {p} {objects} now connections o g used last c all found = used-among (Joined p objects) now connections o g used last c all found
+-- a signal that is heard has one list of types
+heard-kinds : {p : Loaded} (objects : List Object) (o g : ℕ) {a b : List ValueType} → Sends p objects o g a → Sends p objects o g b → silences (life_of objects o) g ≡ false → a ≡ b
+heard-kinds {p} objects o g {a} {b} x y heard = by_life (life_of objects o) refl heard
+  where
+    not-false : (n : Bool) → not n ≡ false → n ≡ true
+    not-false true e = refl
+    not-false false e = absurd (cc e)
 
--- the emission's arguments are those of the connection's signal
-pub next-fits : {p : Loaded} {objects : List Object} {arguments : List Value} (now : List Object) (connections : List Connection) (o g used last : ℕ) (c : Connection) → next_used now connections o g used last ≡ Some c → ArgumentsFit p objects o g arguments → ArgumentsFit p objects c.sender c.signal arguments
-next-fits {p} {objects} {arguments} now connections o g used last c found fit =
-    let is = (used-due now connections o g used last c found).0 in
-    subst (λ (n : ℕ). ArgumentsFit p objects c.sender n arguments) (sym is.1) (subst (λ (n : ℕ). ArgumentsFit p objects n g arguments) (sym is.0) fit)
+    by_life : (there : Option Life) → life_of objects o ≡ there → silences there g ≡ false → a ≡ b
+    by_life None is h = let last : g ≡ DESTROYED = eqb-true g DESTROYED (not-false (eqb g DESTROYED) h) in x.last last ∙ sym (y.last last)
+    by_life (Some l) is h =
+        let there = lives-of-life objects o l is in
+        let first = x.takes.living there.0 l there.1 in
+        let second = y.takes.living there.0 l there.1 in
+        sym first.takes ∙ ap (λ (k : MetaMethod). k.kinds) (method-unique first.is second.is) ∙ second.takes
 
--- the method that a connection leads to takes the first arguments of the signal
-pub delivered-fits : {p : Loaded} {objects : List Object} {c : Connection} {x : Object} {method : MetaMethod} {arguments taken : List Value} {count : ℕ} → Joined p objects c → ArgumentsFit p objects c.sender c.signal arguments → IsMember p objects c.receiver c.method x method → taken ≡ take count arguments → count ≡ length method.kinds → ArgumentsFit p objects c.receiver c.method taken
-delivered-fits {p} {objects} {c} {x} {method} {arguments} {taken} j fit is cut count_is =
-    let of_signal : ReadAs p objects arguments j.signal.kinds = fit-typed j.sends fit in
-    let split : ReadAs p objects arguments (j.method.kinds ++ j.rest) = subst (λ (l : List ValueType). ReadAs p objects arguments l) j.fits of_signal in
-    let front : ReadAs p objects (take (length j.method.kinds) arguments) j.method.kinds = read-front p objects arguments j.method.kinds j.rest split in
-    let long : taken ≡ take (length method.kinds) arguments = cut ∙ ap (λ (n : ℕ). take n arguments) count_is in
-    let has : ArgumentsFit p objects c.receiver c.method (take (length j.method.kinds) arguments) = fit-of j.receives front in
-    let same : j.method ≡ method = member-method j.receives is in
-    let taken_is : taken ≡ take (length j.method.kinds) arguments = long ∙ ap (λ (k : MetaMethod). take (length k.kinds) arguments) (sym same) in
-    subst (λ (l : List Value). ArgumentsFit p objects c.receiver c.method l) (sym taken_is) has
+-- what lives has a life
+pub has-life : (objects : List Object) (o : ℕ) → is_living objects o ≡ true → (x : Object) × (l : Life) × Lives objects o x l
+has-life objects o e = by_life (life_of objects o) refl e
+  where
+    by_life : (there : Option Life) → life_of objects o ≡ there → is_some there ≡ true → (x : Object) × (l : Life) × Lives objects o x l
+    by_life None is f = absurd (cc f)
+    by_life (Some l) is f = let there = lives-of-life objects o l is in (there.0, l, there.1)
+
+-- the next connection's receiver lives, and its method takes the first of the emission's arguments
+pub next-delivered : {p : Loaded} {objects : List Object} {arguments : List Value} (connections : List Connection) (o g used last : ℕ) (c : Connection) → AllByRecursion (Joined p objects) connections → SendsThese p objects o g arguments → next_used objects connections o g used last ≡ Some c → IsDelivered p objects c arguments
+next-delivered {p} {objects} {arguments} connections o g used last c all emitted found =
+    let j : Joined p objects c = used-among (Joined p objects) objects connections o g used last c all found in
+    let is = (used-due objects connections o g used last c found).0 in
+    let sends : Sends p objects o g (j.kinds ++ j.rest) =
+    subst (λ (n : ℕ). Sends p objects o n (j.kinds ++ j.rest)) is.1 (subst (λ (n : ℕ). Sends p objects n c.signal (j.kinds ++ j.rest)) is.0 j.sends) in
+    let same : emitted.kinds ≡ j.kinds ++ j.rest = heard-kinds objects o g emitted.sends sends (used-heard objects connections o g used last c found) in
+    let split : ReadAs p objects arguments (j.kinds ++ j.rest) = subst (λ (l : List ValueType). ReadAs p objects arguments l) same emitted.typed in
+    let front : ReadAs p objects (take (length j.kinds) arguments) j.kinds = read-front p objects arguments j.kinds j.rest split in
+    let receiver = has-life objects c.receiver (used-living objects connections o g used last c found) in
+    let declared = j.receives.living receiver.0 receiver.1 receiver.2 in
+    record {
+      receiver = receiver.0;
+      method = declared.method;
+      is = record { life = receiver.1; lives = receiver.2; is_method = declared.is };
+      typed = subst (λ (l : List ValueType). ReadAs p objects (take (length l) arguments) l) (sym declared.takes) front;
+    }
+
+-- .. which are those that it is given
+pub delivered-fits : {p : Loaded} {objects : List Object} {c : Connection} {x : Object} {method : MetaMethod} {arguments taken : List Value} {count : ℕ} → IsDelivered p objects c arguments → IsMember p objects c.receiver c.method x method → taken ≡ take count arguments → count ≡ length method.kinds → ArgumentsFit p objects c.receiver c.method taken
+delivered-fits {p} {objects} {c} {x} {method} {arguments} {taken} d is cut count_is =
+    let same : method ≡ d.method = member-method is d.is in
+    let taken_is : taken ≡ take (length d.method.kinds) arguments = cut ∙ ap (λ (n : ℕ). take n arguments) count_is ∙ ap (λ (k : MetaMethod). take (length k.kinds) arguments) same in
+    subst (λ (l : List Value). ArgumentsFit p objects c.receiver c.method l) (sym taken_is) (fit-of d.is d.typed)
 
 -- ---- a connection is used
 
 -- what is found of a method before the connection is used holds after it
 pub begun-used : {p : Loaded} {d o m : ℕ} {active : List (Option ℕ)} {w : World} {arguments : List Value} {line : Entry} {work : Work} {last : ℕ} (c : Connection) → IsBegun p d active w o m arguments line work last → IsBegun p d active (having_used w c) o m arguments line work last
-begun-used {w = w} c x = record { room = x.room; object = x.object; method = x.method; is = x.is; is_line = x.is_line; is_work = x.is_work; is_last = x.is_last ∙ sym (last-used c w.connected) }
+begun-used {w = w} c x = record { room = x.room; object = x.object; method = x.method; is = x.is; is_line = x.is_line; is_work = x.is_work; is_last = x.is_last ∙ sym (last-used c w.store.connections) }
 
 -- memory was refused, behind a `?`
 pub becomes-short : (w target : World) (r : Result (Unit {0}) Fault) → IsErrAnd r (λ y. y ≡ Memory) → Becomes w target w r
@@ -172,9 +211,10 @@ no-home {objects = objects} {o = o} is none =
     absurd (cc no)
 
 -- a connection that comes next begins its method, where it reaches its receiver at once
-pub delivery-calls : {p : Loaded} {w : World} {c : Connection} {x : Object} {method : MetaMethod} {arguments taken : List Value} {count : ℕ} (o g used last : ℕ) → next_used w.objects w.connected.connections o g used last ≡ Some c → IsMember p w.objects c.receiver c.method x method → taken ≡ take count arguments → count ≡ length method.kinds → {home : ℕ} → home_of w.objects c.receiver ≡ Some home → reaches_at_once c.kind home (running w.turn) ≡ true → CallsIn p w (having_used w c) (Emit o g arguments used last ∷ []) (Emit o g arguments c.number last ∷ []) c.receiver c.method taken
+pub delivery-calls : {p : Loaded} {w : World} {c : Connection} {x : Object} {method : MetaMethod} {arguments taken : List Value} {count : ℕ} (o g used last : ℕ) → next_used w.store.tree w.store.connections.connections o g used last ≡ Some c → IsMember p w.store.tree c.receiver c.method x method → taken ≡ take count arguments → count ≡ length method.kinds → {home : ℕ} → home_of w.store.tree c.receiver ≡ Some home → reaches_at_once c.kind home (running w.turn) ≡ true → CallsIn p w (having_used w c) (Emit o g arguments used last ∷ []) (Emit o g arguments c.number last ∷ []) c.receiver c.method taken
 delivery-calls {p} {w} {c} {x} {method} {arguments} {taken} {count} o g used last found is cut count_is {home} lives at_once = record {
   no_lower = omega arith;
+  objects = refl;
   goes_on = λ below. not-idle w _ below;
   gives = λ below t b.
       let s : State = at w (Emit o g arguments used last ∷ below) in
@@ -196,7 +236,7 @@ delivery-calls {p} {w} {c} {x} {method} {arguments} {taken} {count} o g used las
 }
 
 -- .. and else posts a call of it
-pub ends-posted : {p : Loaded} {d : ℕ} {h : List (Option ℕ)} {w v : World} {c : Connection} {x : Object} {method : MetaMethod} {arguments taken : List Value} {count : ℕ} (o g used last n : ℕ) (r : Result (Unit {0}) Fault) → next_used w.objects w.connected.connections o g used last ≡ Some c → IsMember p w.objects c.receiver c.method x method → taken ≡ take count arguments → count ≡ length method.kinds → {home : ℕ} → home_of w.objects c.receiver ≡ Some home → reaches_at_once c.kind home (running w.turn) ≡ false → length h < d → AreTyped p w.objects → 0 < w.left → n ≡ length h + 1 → PostsCall p w n c c.receiver c.method taken v r → Ends p d h w (Emit o g arguments used last ∷ []) v (Emit o g arguments c.number last ∷ []) r
+pub ends-posted : {p : Loaded} {d : ℕ} {h : List (Option ℕ)} {w v : World} {c : Connection} {x : Object} {method : MetaMethod} {arguments taken : List Value} {count : ℕ} (o g used last n : ℕ) (r : Result (Unit {0}) Fault) → next_used w.store.tree w.store.connections.connections o g used last ≡ Some c → IsMember p w.store.tree c.receiver c.method x method → taken ≡ take count arguments → count ≡ length method.kinds → {home : ℕ} → home_of w.store.tree c.receiver ≡ Some home → reaches_at_once c.kind home (running w.turn) ≡ false → length h < d → AreTyped p w.store.tree → 0 < w.left → n ≡ length h + 1 → PostsCall p w n c c.receiver c.method taken v r → Ends p d h w (Emit o g arguments used last ∷ []) v (Emit o g arguments c.number last ∷ []) r
 ends-posted {p} {w = w} {v = v} {c = c} {x = x} {method = method} {arguments = arguments} {taken = taken} o g used last n r found is cut count_is {home} lives later room typed some n_is posts =
     let target : World = posting (having_used w c) (entry_of_post w n posts.name posts.object posts.method taken ∷ []) posts.home (Call c.receiver c.method taken) in
     ends-noted target r
@@ -223,7 +263,7 @@ ends-posted {p} {w = w} {v = v} {c = c} {x = x} {method = method} {arguments = a
     } in
     let Next : Option Connection → Type 0 = λ y. EmitRule p s o g arguments last below to y in
     subst Next (sym found) uses)
-    room typed refl some posts.becomes
+    (λ o gone. gone) room typed refl some posts.becomes
 
 -- ---- tests
 

@@ -16,13 +16,15 @@ use Rattle.machine_state.specs.declared.world.World.{World}
 use Rattle.machine_state.specs.State.{State, Activation, Body}
 use Rattle.texts.specs.declared.connection.ConnectionType.{ConnectionType}
 use Rattle.machine_state.specs.declared.endpoints.Endpoints.{Endpoints}
-use Rattle.machine_rules.specs.Doings.{Doing, Write, Begin, Choose, Connect, Disconnect, Nothing, doing}
+use Rattle.machine_rules.specs.Doings.{Doing, Write, Begin, Choose, Connect, Disconnect, Delete, Schedule, Nothing, doing}
 use Rattle.machine_rules.specs.Coded.{Yields}
 use Rattle.machine_rules.specs.Rules.{Rule, StatementRule, Does, told, Connects, Disconnects}
+use Rattle.machine_rules.specs.Destroying.{Schedules}
+use Rattle.object_tree.specs.Objects.{life_of}
 use Rattle.object_tree.specs.Typed.{AreTyped}
 use Rattle.machine_rules.specs.Runs.{Rules, done, then}
 use Rattle.machine_state.specs.Worlds.{at, noted, Ticks, Becomes}
-use Rattle.machine_rules.specs.Reaches.{StopsIn, Ends, Advances, Calls, OnlyCalls, Sets, Went, Stays, ConnectsIn, DisconnectsIn}
+use Rattle.machine_rules.specs.Reaches.{StopsIn, Ends, Advances, Calls, OnlyCalls, Sets, Deletes, Went, Stays, ConnectsIn, DisconnectsIn, SchedulesIn}
 use Rattle.machine_rules.proofs.Reaching.{not-idle, reaches-low, stops-as, stops-memory, stops-stuck, ends-noted, ends-ticked}
 use Rattle.machine_rules.proofs.Frames.{high}
 use Rattle.machine_rules.proofs.Keeps.{some-stack, rules-kept}
@@ -33,12 +35,12 @@ use Rattle.machine_rules.proofs.Keeps.{some-stack, rules-kept}
 abbrev next : World → ℕ → ℕ → List Value → Statement → List Statement → List Activation → State
 next w o m arguments x rest below = at w (Body o m arguments (x ∷ rest) ∷ below)
 
-does-rule : (p : Loaded) (w : World) (o m : ℕ) (arguments : List Value) (x : Statement) (rest : List Statement) (d : Doing) (below : List Activation) (t : State) → doing w.objects o arguments (out-Statement x) ≡ Some d → Does p (next w o m arguments x rest below) o m arguments rest below d t → Rule p (next w o m arguments x rest below) t
+does-rule : (p : Loaded) (w : World) (o m : ℕ) (arguments : List Value) (x : Statement) (rest : List Statement) (d : Doing) (below : List Activation) (t : State) → doing w.store.tree o arguments (out-Statement x) ≡ Some d → Does p (next w o m arguments x rest below) o m arguments rest below d t → Rule p (next w o m arguments x rest below) t
 does-rule p w o m arguments x rest d below t is does =
     let r : StatementRule p (next w o m arguments x rest below) o m arguments x rest below t = record { what = d; is = is; does = does } in
     r
 
-rule-does : (p : Loaded) (w : World) (o m : ℕ) (arguments : List Value) (x : Statement) (rest : List Statement) (d : Doing) (below : List Activation) (t : State) → doing w.objects o arguments (out-Statement x) ≡ Some d → Rule p (next w o m arguments x rest below) t → Does p (next w o m arguments x rest below) o m arguments rest below d t
+rule-does : (p : Loaded) (w : World) (o m : ℕ) (arguments : List Value) (x : Statement) (rest : List Statement) (d : Doing) (below : List Activation) (t : State) → doing w.store.tree o arguments (out-Statement x) ≡ Some d → Rule p (next w o m arguments x rest below) t → Does p (next w o m arguments x rest below) o m arguments rest below d t
 rule-does p w o m arguments x rest d below t is rule =
     let r : StatementRule p (next w o m arguments x rest below) o m arguments x rest below t = rule in
     let both : Some r.what ≡ Some d = sym r.is ∙ is in
@@ -47,14 +49,14 @@ rule-does p w o m arguments x rest d below t is rule =
     subst Done same r.does
 
 -- a method begins
-pub does-call : {p : Loaded} {w : World} {o : ℕ} {arguments : List Value} {x : Statement} (m : ℕ) (rest : List Statement) {y n : ℕ} {given : List Value} → doing w.objects o arguments (out-Statement x) ≡ Some (Begin y n given) → Calls p w (Body o m arguments (x ∷ rest) ∷ []) (Body o m arguments rest ∷ []) y n given
-does-call {p} {w} {o} {arguments} {x} m rest {y} {n} {given} is = record { no_lower = omega arith; goes_on = λ below. not-idle w _ below; gives = λ below t b. does-rule p w o m arguments x rest (Begin y n given) below t is b }
+pub does-call : {p : Loaded} {w : World} {o : ℕ} {arguments : List Value} {x : Statement} (m : ℕ) (rest : List Statement) {y n : ℕ} {given : List Value} → doing w.store.tree o arguments (out-Statement x) ≡ Some (Begin y n given) → Calls p w (Body o m arguments (x ∷ rest) ∷ []) (Body o m arguments rest ∷ []) y n given
+does-call {p} {w} {o} {arguments} {x} m rest {y} {n} {given} is = record { no_lower = omega arith; objects = refl; goes_on = λ below. not-idle w _ below; gives = λ below t b. does-rule p w o m arguments x rest (Begin y n given) below t is b }
 
-pub does-call-alone : {p : Loaded} {w : World} {o : ℕ} {arguments : List Value} {x : Statement} (m : ℕ) (rest : List Statement) {y n : ℕ} {given : List Value} → doing w.objects o arguments (out-Statement x) ≡ Some (Begin y n given) → OnlyCalls p w (Body o m arguments (x ∷ rest) ∷ []) (Body o m arguments rest ∷ []) y n given
+pub does-call-alone : {p : Loaded} {w : World} {o : ℕ} {arguments : List Value} {x : Statement} (m : ℕ) (rest : List Statement) {y n : ℕ} {given : List Value} → doing w.store.tree o arguments (out-Statement x) ≡ Some (Begin y n given) → OnlyCalls p w (Body o m arguments (x ∷ rest) ∷ []) (Body o m arguments rest ∷ []) y n given
 does-call-alone {p} {w} {o} {arguments} {x} m rest {y} {n} {given} is = record { begins = λ below t r. rule-does p w o m arguments x rest (Begin y n given) below t is r }
 
 -- a property is written
-pub does-set : {p : Loaded} {w : World} {o : ℕ} {arguments : List Value} {x : Statement} (m : ℕ) (rest : List Statement) {y q : ℕ} {new : Value} → doing w.objects o arguments (out-Statement x) ≡ Some (Write y q new) → Sets p w (Body o m arguments (x ∷ rest) ∷ []) (Body o m arguments rest ∷ []) y q new
+pub does-set : {p : Loaded} {w : World} {o : ℕ} {arguments : List Value} {x : Statement} (m : ℕ) (rest : List Statement) {y q : ℕ} {new : Value} → doing w.store.tree o arguments (out-Statement x) ≡ Some (Write y q new) → Sets p w (Body o m arguments (x ∷ rest) ∷ []) (Body o m arguments rest ∷ []) y q new
 does-set {p} {w} {o} {arguments} {x} m rest {y} {q} {new} is = record {
   goes_on = λ below. not-idle w _ below;
   gives = λ below t b. does-rule p w o m arguments x rest (Write y q new) below t is b;
@@ -62,7 +64,7 @@ does-set {p} {w} {o} {arguments} {x} m rest {y} {q} {new} is = record {
 }
 
 -- nothing is done
-pub does-nothing : {p : Loaded} {w : World} {o : ℕ} {arguments : List Value} {x : Statement} (m : ℕ) (rest : List Statement) {d : ℕ} {h : List (Option ℕ)} {v : World} (n : ℕ) (r : Result (Unit {0}) Fault) → doing w.objects o arguments (out-Statement x) ≡ Some Nothing → length h < d → AreTyped p w.objects → 0 < w.left → n ≡ length h + 1 → Becomes w (noted w (At n OnNull ∷ [])) v r → Ends p d h w (Body o m arguments (x ∷ rest) ∷ []) v (Body o m arguments rest ∷ []) r
+pub does-nothing : {p : Loaded} {w : World} {o : ℕ} {arguments : List Value} {x : Statement} (m : ℕ) (rest : List Statement) {d : ℕ} {h : List (Option ℕ)} {v : World} (n : ℕ) (r : Result (Unit {0}) Fault) → doing w.store.tree o arguments (out-Statement x) ≡ Some Nothing → length h < d → AreTyped p w.store.tree → 0 < w.left → n ≡ length h + 1 → Becomes w (noted w (At n OnNull ∷ [])) v r → Ends p d h w (Body o m arguments (x ∷ rest) ∷ []) v (Body o m arguments rest ∷ []) r
 does-nothing {p} {w} {o} {arguments} {x} m rest {d} {h} {v} n r is room typed some n_is notes =
     ends-noted (noted w (At n OnNull ∷ [])) r
     (λ below k.
@@ -70,18 +72,17 @@ does-nothing {p} {w} {o} {arguments} {x} m rest {d} {h} {v} n r is room typed so
     let depth_is : n ≡ suc (length below) = omega (arith, n_is, high below k) in
     let null_is : t ≡ told (next w o m arguments x rest below) (Body o m arguments rest ∷ below) OnNull = ap (λ (i : ℕ). at (noted w (At i OnNull ∷ [])) (Body o m arguments rest ∷ below)) depth_is in
     does-rule p w o m arguments x rest Nothing below t is null_is)
-    room typed refl some notes
+    (λ k gone. gone) room typed refl some notes
 
 -- what this relation tells of is done, and nothing is pushed
-does-told : {p : Loaded} {w v : World} {o : ℕ} {arguments : List Value} {x : Statement} (m : ℕ) (rest : List Statement) {d : ℕ} {h : List (Option ℕ)} (what : Doing) (What : State → List Activation → State → Type 0) (n : ℕ) (r : Result (Unit {0}) Fault) → doing w.objects o arguments (out-Statement x) ≡ Some what →
+does-told : {p : Loaded} {w v : World} {o : ℕ} {arguments : List Value} {x : Statement} (m : ℕ) (rest : List Statement) {d : ℕ} {h : List (Option ℕ)} (what : Doing) (What : State → List Activation → State → Type 0) (n : ℕ) (r : Result (Unit {0}) Fault) → doing w.store.tree o arguments (out-Statement x) ≡ Some what →
     ((below : List Activation) (t : State) → What (next w o m arguments x rest below) (Body o m arguments rest ∷ below) t → Does p (next w o m arguments x rest below) o m arguments rest below what t) →
     ((below : List Activation) (t : State) → Does p (next w o m arguments x rest below) o m arguments rest below what t → What (next w o m arguments x rest below) (Body o m arguments rest ∷ below) t) →
-    length h < d → AreTyped p w.objects → 0 < w.left → n ≡ length h + 1 → MatchResult r (λ _. Went What w n v) (Stays What w v) → Ends p d h w (Body o m arguments (x ∷ rest) ∷ []) v (Body o m arguments rest ∷ []) r
+    length h < d → AreTyped p w.store.tree → 0 < w.left → n ≡ length h + 1 → MatchResult r (λ _. Went What w n v) (Stays What w v) → Ends p d h w (Body o m arguments (x ∷ rest) ∷ []) v (Body o m arguments rest ∷ []) r
 does-told {p} {w} {v} {o} {arguments} {x} m rest {d} {h} what What n (Ok _) is does told_by room typed some n_is went =
-    let Typed : List Object → Type 0 = λ l. AreTyped p l in
     record {
       cases = reaches-low {b = Body o m arguments rest ∷ []} (λ below k. does-rule p w o m arguments x rest what below _ is (does below _ (went.tells (Body o m arguments (x ∷ rest) ∷ below) (Body o m arguments rest ∷ below) (omega (arith, n_is, high below k)))))
-          (omega arith) (omega (arith, room)) (subst Typed (sym went.objects) typed) went.left some;
+          went.spared (omega arith) (omega (arith, room)) (went.typed p typed) went.left some;
     }
 does-told {p} {w} {v} {o} {arguments} {x} m rest {d} {h} what What n (Err f) is does told_by room typed some n_is stays =
     let At : World → Type 0 = λ u. StopsIn p d h w (Body o m arguments (x ∷ rest) ∷ []) u f in
@@ -92,22 +93,34 @@ does-told {p} {w} {v} {o} {arguments} {x} m rest {d} {h} what What n (Err f) is 
     record { cases = subst At (sym stays.same) stops }
 
 -- a connection is made
-pub does-connect : {p : Loaded} {w v : World} {o : ℕ} {arguments : List Value} {x : Statement} (m : ℕ) (rest : List Statement) {d : ℕ} {h : List (Option ℕ)} (ends : Endpoints) (how : ConnectionType) (n : ℕ) (r : Result (Unit {0}) Fault) → doing w.objects o arguments (out-Statement x) ≡ Some (Connect ends how) → length h < d → AreTyped p w.objects → 0 < w.left → n ≡ length h + 1 → ConnectsIn p w n ends how v r → Ends p d h w (Body o m arguments (x ∷ rest) ∷ []) v (Body o m arguments rest ∷ []) r
+pub does-connect : {p : Loaded} {w v : World} {o : ℕ} {arguments : List Value} {x : Statement} (m : ℕ) (rest : List Statement) {d : ℕ} {h : List (Option ℕ)} (ends : Endpoints) (how : ConnectionType) (n : ℕ) (r : Result (Unit {0}) Fault) → doing w.store.tree o arguments (out-Statement x) ≡ Some (Connect ends how) → length h < d → AreTyped p w.store.tree → 0 < w.left → n ≡ length h + 1 → ConnectsIn p w n ends how v r → Ends p d h w (Body o m arguments (x ∷ rest) ∷ []) v (Body o m arguments rest ∷ []) r
 does-connect {p} m rest ends how n r is room typed some n_is went =
     does-told m rest (Connect ends how) (λ s stack t. Connects p s stack ends how t) n r is (λ below t does. does) (λ below t does. does) room typed some n_is went
 
 -- .. or removed
-pub does-disconnect : {p : Loaded} {w v : World} {o : ℕ} {arguments : List Value} {x : Statement} (m : ℕ) (rest : List Statement) {d : ℕ} {h : List (Option ℕ)} (ends : Endpoints) (n : ℕ) (r : Result (Unit {0}) Fault) → doing w.objects o arguments (out-Statement x) ≡ Some (Disconnect ends) → length h < d → AreTyped p w.objects → 0 < w.left → n ≡ length h + 1 → DisconnectsIn p w n ends v r → Ends p d h w (Body o m arguments (x ∷ rest) ∷ []) v (Body o m arguments rest ∷ []) r
+pub does-disconnect : {p : Loaded} {w v : World} {o : ℕ} {arguments : List Value} {x : Statement} (m : ℕ) (rest : List Statement) {d : ℕ} {h : List (Option ℕ)} (ends : Endpoints) (n : ℕ) (r : Result (Unit {0}) Fault) → doing w.store.tree o arguments (out-Statement x) ≡ Some (Disconnect ends) → length h < d → AreTyped p w.store.tree → 0 < w.left → n ≡ length h + 1 → DisconnectsIn p w n ends v r → Ends p d h w (Body o m arguments (x ∷ rest) ∷ []) v (Body o m arguments rest ∷ []) r
 does-disconnect {p} m rest ends n r is room typed some n_is went =
     does-told m rest (Disconnect ends) (λ s stack t. Disconnects p s stack ends t) n r is (λ below t does. does) (λ below t does. does) room typed some n_is went
 
+-- an object is scheduled for deletion
+pub does-schedule : {p : Loaded} {w v : World} {o : ℕ} {arguments : List Value} {x : Statement} (m : ℕ) (rest : List Statement) {d : ℕ} {h : List (Option ℕ)} (y : ℕ) (n : ℕ) (r : Result (Unit {0}) Fault) → doing w.store.tree o arguments (out-Statement x) ≡ Some (Schedule y) → length h < d → AreTyped p w.store.tree → 0 < w.left → n ≡ length h + 1 → SchedulesIn w n y v r → Ends p d h w (Body o m arguments (x ∷ rest) ∷ []) v (Body o m arguments rest ∷ []) r
+does-schedule m rest y n r is room typed some n_is went =
+    does-told m rest (Schedule y) (λ s stack t. Schedules s stack y t (life_of s.objects y)) n r is (λ below t does. does) (λ below t does. does) room typed some n_is went
+
+-- .. or deleted
+pub does-delete : {p : Loaded} {w : World} {o : ℕ} {arguments : List Value} {x : Statement} (m : ℕ) (rest : List Statement) {y : ℕ} → doing w.store.tree o arguments (out-Statement x) ≡ Some (Delete y) → Deletes p w (Body o m arguments (x ∷ rest) ∷ []) (Body o m arguments rest ∷ []) y
+does-delete {p} {w} {o} {arguments} {x} m rest {y} is = record {
+  goes_on = λ below. not-idle w _ below;
+  gives = λ below. does-rule p w o m arguments x rest (Delete y) below _ is refl;
+}
+
 -- a block comes next
-pub does-choose : {p : Loaded} {w : World} {o : ℕ} {arguments : List Value} {x : Statement} (m : ℕ) (rest : List Statement) {d : ℕ} {h : List (Option ℕ)} {v : World} (r : Result (Unit {0}) Fault) (block : List Statement) → doing w.objects o arguments (out-Statement x) ≡ Some (Choose block) → length h < d → AreTyped p w.objects → Ticks w v r → Ends p d h w (Body o m arguments (x ∷ rest) ∷ []) v (Body o m arguments (block ++ rest) ∷ []) r
+pub does-choose : {p : Loaded} {w : World} {o : ℕ} {arguments : List Value} {x : Statement} (m : ℕ) (rest : List Statement) {d : ℕ} {h : List (Option ℕ)} {v : World} (r : Result (Unit {0}) Fault) (block : List Statement) → doing w.store.tree o arguments (out-Statement x) ≡ Some (Choose block) → length h < d → AreTyped p w.store.tree → Ticks w v r → Ends p d h w (Body o m arguments (x ∷ rest) ∷ []) v (Body o m arguments (block ++ rest) ∷ []) r
 does-choose {p} {w} {o} {arguments} {x} m rest r block is room typed ticks =
     ends-ticked {b = Body o m arguments (block ++ rest) ∷ []} r (λ below k. does-rule p w o m arguments x rest (Choose block) below _ is refl) (omega arith) room typed ticks
 
 -- a statement that lacks a value has no rule
-pub lacks-rule : {p : Loaded} {w : World} {o : ℕ} {arguments : List Value} {x : Statement} (m : ℕ) (rest : List Statement) {d : ℕ} {h : List (Option ℕ)} → 0 < w.left → doing w.objects o arguments (out-Statement x) ≡ None → StopsIn p d h w (Body o m arguments (x ∷ rest) ∷ []) w BadType
+pub lacks-rule : {p : Loaded} {w : World} {o : ℕ} {arguments : List Value} {x : Statement} (m : ℕ) (rest : List Statement) {d : ℕ} {h : List (Option ℕ)} → 0 < w.left → doing w.store.tree o arguments (out-Statement x) ≡ None → StopsIn p d h w (Body o m arguments (x ∷ rest) ∷ []) w BadType
 lacks-rule {p} {w} {o} {arguments} {x} m rest some none =
     stops-stuck (not-idle w (Body o m arguments (x ∷ rest))) some (λ below t rule.
     let r : StatementRule p (next w o m arguments x rest below) o m arguments x rest below t = rule in
@@ -119,10 +132,10 @@ pub moved : {a b : List Object} {n o : ℕ} {k l : List Value} (F : List Object 
 moved {a} {b} {n} {o} {k} {l} F objects this arguments x =
     subst (λ (i : List Value). F b o i) arguments (subst (λ (i : ℕ). F b i k) this (subst (λ (i : List Object). F i n k) objects x))
 
-pub lacks-read : {p : Loaded} {d o : ℕ} {h : List (Option ℕ)} {w : World} {arguments : List Value} {x : Statement} {f : EvalFault} {a : List Object} {i : ℕ} {l : List Value} (m : ℕ) (rest : List Statement) → 0 < w.left → a ≡ w.objects → i ≡ o → l ≡ arguments → Yields (doing a i l (out-Statement x)) (Err f) → f ≡ eval.BadType → StopsIn p d h w (Body o m arguments (x ∷ rest) ∷ []) w BadType
+pub lacks-read : {p : Loaded} {d o : ℕ} {h : List (Option ℕ)} {w : World} {arguments : List Value} {x : Statement} {f : EvalFault} {a : List Object} {i : ℕ} {l : List Value} (m : ℕ) (rest : List Statement) → 0 < w.left → a ≡ w.store.tree → i ≡ o → l ≡ arguments → Yields (doing a i l (out-Statement x)) (Err f) → f ≡ eval.BadType → StopsIn p d h w (Body o m arguments (x ∷ rest) ∷ []) w BadType
 lacks-read {p} {o = o} {w = w} {arguments = arguments} {x = x} {a = a} {i = i} {l = l} m rest some objects this given yields is =
     let At : EvalFault → Type 0 = λ g. Yields (doing a i l (out-Statement x)) (Err g) in
-    let none : doing w.objects o arguments (out-Statement x) ≡ None = moved (λ b j k. doing b j k (out-Statement x) ≡ None) objects this given (subst At is yields) in
+    let none : doing w.store.tree o arguments (out-Statement x) ≡ None = moved (λ b j k. doing b j k (out-Statement x) ≡ None) objects this given (subst At is yields) in
     lacks-rule m rest some none
 
 -- ---- a statement uses a rule

@@ -1,5 +1,5 @@
 -- What each rule leaves as it was.
-use Rattle.std.proofs.Common.{◌≡◌, inl, ℕ, suc, ◌+◌, List, [], ◌∷◌, ◌++◌, Option, Some, None, refl, sym, ap, ◌∙◌, subst, arith, Result, Ok, Err, append_assoc, append-nil, ◌≤◌, Bool, true, false, length}
+use Rattle.std.proofs.Common.{◌≡◌, ◌⊎◌, inl, inr, ℕ, suc, ◌+◌, List, [], ◌∷◌, ◌++◌, Option, Some, None, refl, sym, ap, ◌∙◌, subst, arith, Result, Ok, Err, append_assoc, append-nil, ◌<◌, ◌≤◌, Bool, true, false, length, map}
 use Rattle.signatures.specs.declared.value.Value.{Value}
 use Rattle.meta_model.specs.Loaded.{Loaded}
 use Rattle.meta_model.specs.declared.object.Statement.{Statement}
@@ -10,7 +10,7 @@ use Rattle.std.specs.List.{AllByRecursion, find}
 use Rattle.event_loops.specs.declared.item.Item.{Item}
 use Rattle.event_loops.specs.declared.item.Item.TheVariants.{Call, Deletion}
 use Rattle.event_loops.specs.declared.item.Posted.{Posted}
-use Rattle.event_loops.specs.Queues.{Queues, items_at, is_before, posted_to, taken_before}
+use Rattle.event_loops.specs.Queues.{Loop, Queues, items_at, is_before, posted_to, taken_before, dropped, without_object}
 use Rattle.object_tree.specs.declared.life.Life.{Life}
 use Rattle.object_tree.specs.declared.object.Object.{Object}
 use Rattle.connections.specs.declared.connection.Connection.{Connection}
@@ -18,19 +18,22 @@ use Rattle.machine_state.specs.declared.fault.Fault.{Fault}
 use Rattle.machine_state.specs.declared.world.World.{World}
 use Rattle.machine_state.specs.Worlds.{at}
 use Rattle.machine_state.proofs.Due.{last-used, all-used, all-removed}
-use Rattle.machine_state.specs.State.{State, Place, Activation, Body, Emit, Update}
-use Rattle.machine_rules.specs.Rules.{RuleAt, BodyRule, Does, EmitRule, UpdateRule, Begins, Writes, begun, with_used, linked, unlinked, TurnRule, Serves, Delivers, Arrives}
-use Rattle.machine_rules.specs.Doings.{Doing, Write, Begin, Choose, Connect, Disconnect, Nothing}
-use Rattle.machine_state.specs.Connections.{next_used, joins_these}
+use Rattle.machine_state.specs.State.{State, Place, Activation, Body, Emit, Update, Destroy}
+use Rattle.machine_rules.specs.Destroying.{Dies, forgotten, deferred, NextRule, ChildRule, DestroyRule, living_child, DefersOnce, Schedules}
+use Rattle.machine_rules.specs.Rules.{RuleAt, BodyRule, Does, EmitRule, UpdateRule, NotifiesIf, Begins, BeginsIf, Writes, begun, with_used, linked, unlinked, TurnRule, Serves, Delivers, Arrives}
+use Rattle.machine_rules.specs.Doings.{Doing, Write, Begin, Choose, Connect, Disconnect, Delete, Schedule, Nothing}
+use Rattle.machine_state.specs.Connections.{is_living, next_used, joins_these}
+use Rattle.connections.specs.Connected.{touches}
 use Rattle.machine_state.specs.declared.turn.Turn.{Turn}
 use Rattle.machine_state.specs.Turns.{running, reaches_at_once}
 use Rattle.machine_rules.proofs.Waiting.{length-change, housed-same, home-change}
 use Rattle.meta_model.specs.declared.object.ValueType.{ValueType}
-use Rattle.object_tree.specs.Objects.{Lives, life_of, class_of, change_life, written}
-use Rattle.object_tree.proofs.Changing.{life-of-lives, lives-of-life}
+use Rattle.object_tree.specs.Objects.{Lives, life_of, class_of, change_life, with_life, written, scheduled}
+use Rattle.object_tree.specs.Family.{without_life}
+use Rattle.object_tree.proofs.Changing.{life-of-lives, lives-of-life, length-change as same-length}
 use Rattle.object_tree.specs.Typed.{AreTyped, ReadAs}
 use Rattle.machine_state.specs.declared.entry.Entry.{Entry}
-use Rattle.machine_rules.specs.There.{IsMember}
+use Rattle.machine_rules.specs.There.{IsMember, IsDead}
 use Rattle.signatures.specs.Types.{Fits}
 use Rattle.texts.specs.declared.connection.ConnectionType.{ConnectionType}
 use Rattle.texts.specs.declared.connection.Endpoints.{Endpoints as Named}
@@ -41,14 +44,15 @@ use Rattle.machine_rules.specs.Connecting.{AreThere, kept_ends, named_signal, na
 use Rattle.machine_rules.specs.Judgement.{goes_on, holds}
 use Rattle.machine_rules.proofs.Fitting.{kinds-fit}
 use Rattle.machine_rules.proofs.Lists.{all-snoc}
+use Rattle.machine_rules.proofs.Declared.{member-takes, member-sends}
+use Rattle.machine_rules.proofs.Dying.{lives-or-dead, lives-not-dead, died-stay, died-home, scheduled-stay}
 use Rattle.machine_rules.specs.Runs.{Rules, done, then}
-use Rattle.machine_rules.specs.Sound.{Joined}
+use Rattle.machine_rules.specs.Sound.{IsDeclared, Takes, Sends, Joined}
 use Rattle.machine_rules.specs.Active.{whose, shows}
 use Rattle.machine_rules.specs.Reaches.{Reaches, StopsIn, Ends}
 use Rattle.machine_rules.specs.Keeps.{StayThere, AllJoined, Grows, Keeps, KeepsWorld}
 use Rattle.object_tree.proofs.TypedObjects.{Follow, read-still, class-written, seen-written}
 use Rattle.std.specs.Option.{option_map}
-use Rattle.meta_model.specs.Members.{IsMethod}
 
 -- ---- objects that stay
 
@@ -64,46 +68,69 @@ lives-of-class objects o class e = by_life (life_of objects o) refl e
 pub class-of-lives : (objects : List Object) (o : ℕ) {x : Object} {l : Life} → Lives objects o x l → class_of objects o ≡ Some l.class
 class-of-lives objects o lives = ap (option_map (λ (l : Life). l.class)) (life-of-lives lives)
 
-pub stays : (old new : List Object) (o : ℕ) {x : Object} {l : Life} → StayThere old new → Lives old o x l → (y : Object) × (k : Life) × Lives new o y k × (k.class ≡ l.class)
-stays old new o {x} {l} stay lives = lives-of-class new o l.class (stay.living o l.class (class-of-lives old o lives))
+-- what lives of what was created lived before, of its class
+pub lived : (old new : List Object) (o : ℕ) {x : Object} {l : Life} → StayThere old new → o < length old → Lives new o x l → (y : Object) × (k : Life) × Lives old o y k × (k.class ≡ l.class)
+lived old new o {x} {l} stay created lives = elim (lives-or-dead old o created) [
+  | inl before ↦
+      let now : (class_of new o ≡ Some before.1.class) ⊎ IsDead new o = stay.living o before.1.class (class-of-lives old o before.2) in
+      elim now [
+        | inl same ↦ let classes : Some before.1.class ≡ Some l.class = sym same ∙ class-of-lives new o lives in (before.0, before.1, before.2, cc classes)
+        | inr gone ↦ absurd (lives-not-dead lives gone)
+      ]
+  | inr gone ↦ absurd (lives-not-dead lives (stay.dead o gone))
+]
 
--- a method of an object stays one of it
-pub member-still : {p : Loaded} {old new : List Object} {o m : ℕ} {x : Object} {method : MetaMethod} → StayThere old new → IsMember p old o m x method → (y : Object) × IsMember p new o m y method
-member-still {p} {old} {new} {o} {m} {x} {method} stay is =
-    let there = stays old new o stay is.lives in
-    let Methods : ℕ → Type 0 = λ k. IsMethod p k m method in
-    (there.0, record { life = there.1; lives = there.2; is_method = subst Methods (sym there.3) is.is_method })
+-- a living object lives on, of its class, unless it died
+pub lives-on : (old new : List Object) (o : ℕ) {x : Object} {l : Life} → StayThere old new → (¬ IsDead new o) → Lives old o x l → (y : Object) × (k : Life) × Lives new o y k × (k.class ≡ l.class)
+lives-on old new o {x} {l} stay spared lives = elim (stay.living o l.class (class-of-lives old o lives)) [
+  | inl same ↦ lives-of-class new o l.class same
+  | inr gone ↦ absurd (spared gone)
+]
+
+-- what a method takes it takes still
+pub takes-still : {p : Loaded} {old new : List Object} {o m : ℕ} {kinds : List ValueType} → StayThere old new → Takes p old o m kinds → Takes p new o m kinds
+takes-still {p} {old} {new} {o} {m} {kinds} stay takes =
+    let Declared : ℕ → Type 0 = λ k. IsDeclared p k m kinds in
+    record {
+      created = omega (arith, takes.created, stay.created);
+      living = λ x l lives. let before = lived old new o stay takes.created lives in subst Declared before.3 (takes.living before.0 before.1 before.2);
+    }
+
+pub sends-still : {p : Loaded} {old new : List Object} {o g : ℕ} {kinds : List ValueType} → StayThere old new → Sends p old o g kinds → Sends p new o g kinds
+sends-still stay sends = record { takes = takes-still stay sends.takes; last = sends.last }
 
 -- what reads as a type does so still
 follow-stay : {old new : List Object} → StayThere old new → Follow old new
-follow-stay stay = record { stays = λ o c e. inl (stay.living o c e); rests = stay.dead }
+follow-stay stay = record { stays = stay.living; rests = stay.dead }
 
 pub values-stay : (p : Loaded) {old new : List Object} → StayThere old new → (vs : List Value) (Ts : List ValueType) → ReadAs p old vs Ts → ReadAs p new vs Ts
 values-stay p {old} {new} stay vs Ts have = read-still p old new (follow-stay stay) vs Ts have
 
 pub all-stay : (objects : List Object) → StayThere objects objects
-all-stay objects = record { living = λ o class is. is; dead = λ o is. is }
+all-stay objects = record { living = λ o class is. inl is; dead = λ o is. is; created = omega arith }
+
+pub stay-then : {a b c : List Object} → StayThere a b → StayThere b c → StayThere a c
+stay-then {a} {b} {c} x y = record {
+  living = λ o class is. elim (x.living o class is) [
+    | inl still ↦ y.living o class still
+    | inr gone ↦ inr (y.dead o gone)
+  ];
+  dead = λ o is. y.dead o (x.dead o is);
+  created = omega (arith, x.created, y.created);
+}
 
 -- objects of which one is written
 pub written-stay : (objects : List Object) (o q : ℕ) (new : Value) → StayThere objects (change_life o (written q new) objects)
-written-stay objects o q new = record { living = λ k class is. class-written o q new objects k ∙ is; dead = λ k is. seen-written o q new objects k ∙ is }
+written-stay objects o q new = record {
+  living = λ k class is. inl (class-written o q new objects k ∙ is);
+  dead = λ k is. seen-written o q new objects k ∙ is;
+  created = omega (arith, same-length o (with_life (written q new)) objects);
+}
 
 -- ---- connections join what they joined
 
 joined-still : {p : Loaded} {old new : List Object} (c : Connection) → StayThere old new → Joined p old c → Joined p new c
-joined-still {p} {old} {new} c stay j =
-    let sender = member-still stay j.sends in
-    let receiver = member-still stay j.receives in
-    record {
-      sender = sender.0;
-      signal = j.signal;
-      sends = sender.1;
-      receiver = receiver.0;
-      method = j.method;
-      receives = receiver.1;
-      rest = j.rest;
-      fits = j.fits;
-    }
+joined-still c stay j = record { kinds = j.kinds; rest = j.rest; sends = sends-still stay j.sends; receives = takes-still stay j.receives }
 
 pub all-joined-still : (p : Loaded) (old new : List Object) (connections : List Connection) → StayThere old new → AllJoined p old connections → AllJoined p new connections
 all-joined-still p old new [] stay all = tt
@@ -112,17 +139,14 @@ all-joined-still p old new (c ∷ cs) stay all = (joined-still c stay all.0, all
 -- what is connected joins what is named
 pub joined-by : {p : Loaded} {objects : List Object} {ends : Endpoints} (how : ConnectionType) (n : ℕ) (spelled : AreThere p objects ends) → IsSound p → Fits spelled.signal.sig spelled.method.sig →
     Joined p objects (record { number = n; sender = ends.sender; signal = named_signal ends.signal; receiver = ends.receiver; method = ends.method; kind = how.kind; single = how.single })
-joined-by how n spelled program fits =
+joined-by {p} {objects} {ends} how n spelled program fits =
     let front = kinds-fit program spelled.sends.is_method spelled.receives.is_method fits in
+    let kept : IsMember p objects ends.sender (named_signal ends.signal) spelled.sender front.0 = record { life = spelled.sends.life; lives = spelled.sends.lives; is_method = front.1 } in
     record {
-      sender = spelled.sender;
-      signal = front.0;
-      sends = record { life = spelled.sends.life; lives = spelled.sends.lives; is_method = front.1 };
-      receiver = spelled.receiver;
-      method = spelled.method;
-      receives = spelled.receives;
+      kinds = spelled.method.kinds;
       rest = front.2.0;
-      fits = front.2.1;
+      sends = subst (λ (kinds : List ValueType). Sends p objects ends.sender (named_signal ends.signal) kinds) front.2.1 (member-sends program kept);
+      receives = member-takes spelled.receives;
     }
 
 -- ---- what was written down
@@ -144,7 +168,7 @@ keeps-same {s = s} = record { objects = all-stay _; joined = λ program all. all
 
 pub keeps-then : {p : Loaded} {s m t : State} {n j k : ℕ} → Keeps p s n m j → Keeps p m j t k → Keeps p s n t k
 keeps-then x y = record {
-  objects = record { living = λ o class is. y.objects.living o class (x.objects.living o class is); dead = λ o is. y.objects.dead o (x.objects.dead o is) };
+  objects = stay-then x.objects y.objects;
   joined = λ program all. y.joined program (x.joined program all);
   connected = omega (arith, x.connected, y.connected);
   paid = omega (arith, x.paid, y.paid);
@@ -235,6 +259,84 @@ unlinked-kept p s stack ends names (Ok _) = record {
 }
 unlinked-kept p s stack ends names (Err k) = keeps-all stack (grows-by _)
 
+-- ---- objects that are deleted
+
+-- one dies
+dies-kept : {p : Loaded} {s : State} {stack : List Activation} {x : ℕ} {t : State} → Dies s stack x t → Keeps p s 1 t 0
+dies-kept {p} {s} {x = x} d =
+    let stay : StayThere s.objects (without_life x s.objects) = died-stay s.objects x d.named in
+    keeps-is d.gives (record {
+      objects = stay;
+      joined = λ program all. all-joined-still p s.objects _ s.connected.connections stay all;
+      connected = omega arith;
+      paid = omega arith;
+      housed = λ housed. record { has_main = housed.has_main; each = λ o home is. housed.each o home (died-home s.objects x o home d.named is) };
+      posted = omega arith;
+      no_turn = λ e. e;
+      events = refl;
+      fewer = omega arith;
+      grows = grows-by _;
+    })
+
+length-dropped : (x : ℕ) (loops : List Loop) → length (map (without_object x) loops) ≡ length loops
+length-dropped x [] = refl
+length-dropped x (l ∷ loops) = ap suc (length-dropped x loops)
+
+-- .. and is forgotten
+forgotten-kept : {p : Loaded} {s : State} (x : ℕ) (stack : List Activation) → Keeps p s 1 (record (forgotten s x) { stack = stack }) 0
+forgotten-kept {p} {s} x stack = record {
+  objects = all-stay _;
+  joined = λ program all. all-removed (Joined p s.objects) (touches x) s.connected all;
+  connected = omega arith;
+  paid = omega arith;
+  housed = housed-same s.objects s.objects s.queues.loops (dropped x s.queues).loops (λ o. refl) (length-dropped x s.queues.loops);
+  posted = omega arith;
+  no_turn = λ e. e;
+  events = refl;
+  fewer = omega arith;
+  grows = grows-same s.trace;
+}
+
+destroy-kept : (p : Loaded) (s : State) (below : List Activation) (t : State) (next : Option ℕ) (torn : List ℕ) → DestroyRule s below t next torn → Keeps p s 1 t 0
+destroy-kept p s below t (Some x) torn r = by_life (is_living s.objects x) r
+  where
+    by_life : (b : Bool) → NextRule s below t x torn b → Keeps p s 1 t 0
+    by_life true d = dies-kept d
+    by_life false e = keeps-is e (forgotten-kept x (Destroy None (x ∷ torn) ∷ below))
+destroy-kept p s below t None [] r = keeps-is r (keeps-all _ (grows-same s.trace))
+destroy-kept p s below t None (parent ∷ torn) r = by_child (living_child s parent) r
+  where
+    by_child : (child : Option ℕ) → ChildRule s below t parent torn child → Keeps p s 1 t 0
+    by_child (Some x) d = dies-kept d
+    by_child None e = keeps-is e (keeps-all _ (grows-same s.trace))
+
+-- .. or scheduled
+deferred-kept : {p : Loaded} {s : State} (stack : List Activation) (loop : List ℕ) (home x : ℕ) (name : List ℕ) → Keeps p s 1 (deferred s stack loop home x name) 0
+deferred-kept {p} {s} stack loop home x name =
+    let stay : StayThere s.objects (change_life x scheduled s.objects) = scheduled-stay s.objects x in
+    record {
+      objects = stay;
+      joined = λ program all. all-joined-still p s.objects _ s.connected.connections stay all;
+      connected = omega arith;
+      paid = omega arith;
+      housed = housed-same s.objects _ s.queues.loops _ (home-change x scheduled s.objects (λ l. refl)) (length-change home _ s.queues.loops);
+      posted = omega arith;
+      no_turn = λ e. e;
+      events = refl;
+      fewer = omega arith;
+      grows = grows-by _;
+    }
+
+pub schedules-kept : (p : Loaded) (s : State) (stack : List Activation) (x : ℕ) (t : State) (life : Option Life) → Schedules s stack x t life → Keeps p s 1 t 0
+schedules-kept p s stack x t None e = keeps-is e (keeps-all stack (grows-same s.trace))
+schedules-kept p s stack x t (Some l) r = by_mark l.scheduled r
+  where
+    by_mark : (b : Bool) → DefersOnce s stack l.home x t b → Keeps p s 1 t 0
+    by_mark true e = keeps-is e (keeps-all stack (grows-same s.trace))
+    by_mark false d = keeps-is d.gives (deferred-kept stack d.loop l.home x d.name)
+
+-- ---- bodies
+
 does-kept : (p : Loaded) (s : State) (o m : ℕ) (arguments : List Value) (rest : List Statement) (below : List Activation) (d : Doing) (t : State) → Does p s o m arguments rest below d t → Keeps p s 1 t 0
 does-kept p s o m arguments rest below (Write x q new) t does = writes-kept does
 does-kept p s o m arguments rest below (Begin x n given) t does = begins-kept does
@@ -243,6 +345,8 @@ does-kept p s o m arguments rest below (Connect ends how) t does =
     keeps-is does.gives (linked-kept p s (Body o m arguments rest ∷ below) ends how (names_of does.kept) does.spelled does.answer does.judged)
 does-kept p s o m arguments rest below (Disconnect ends) t does =
     keeps-is does.gives (unlinked-kept p s (Body o m arguments rest ∷ below) (kept_ends ends) (names_of does.kept) does.answer)
+does-kept p s o m arguments rest below (Delete x) t does = keeps-is does (keeps-all _ (grows-same s.trace))
+does-kept p s o m arguments rest below (Schedule x) t does = schedules-kept p s (Body o m arguments rest ∷ below) x t (life_of s.objects x) does
 does-kept p s o m arguments rest below Nothing t does = keeps-is does (keeps-all _ (grows-by _))
 
 body-kept : (p : Loaded) (s : State) (o m : ℕ) (arguments : List Value) (below : List Activation) (t : State) (left : List Statement) → BodyRule p s o m arguments below t left → Keeps p s 1 t 0
@@ -276,11 +380,19 @@ emit-kept p s o g arguments last below t (Some c) r = keeps-then (used-kept c) (
 
 update-kept : (p : Loaded) (s : State) (below : List Activation) (t : State) (places : List Place) → UpdateRule p s below t places → Keeps p s 1 t 0
 update-kept p s below t [] r = keeps-is r (keeps-all _ (grows-same s.trace))
-update-kept p s below t (place ∷ places) r = begun-kept p s _ place.object r.object r.signal r.method _ Signal t r.gives
+update-kept p s below t (place ∷ places) r = by_life (life_of s.objects place.object) r
+  where
+    by_life : (life : Option Life) → NotifiesIf p s (Update places ∷ below) place t life → Keeps p s 1 t 0
+    by_life None e = keeps-is e (keeps-all _ (grows-same s.trace))
+    by_life (Some l) n = begun-kept p s _ place.object n.object n.signal n.method _ Signal t n.gives
 
 delivers-kept : (p : Loaded) (s t : State) (item : Item) → Delivers p s t item → Keeps p s 1 t 0
-delivers-kept p s t (Call o m arguments) r = begins-kept r
-delivers-kept p s t (Deletion o) r = absurd r
+delivers-kept p s t (Call o m arguments) r = by_life (life_of s.objects o) r
+  where
+    by_life : (life : Option Life) → BeginsIf p s o m arguments t life → Keeps p s 1 t 0
+    by_life None e = keeps-is e (keeps-all _ (grows-same s.trace))
+    by_life (Some l) b = begins-kept b
+delivers-kept p s t (Deletion o) r = keeps-is r (keeps-all _ (grows-same s.trace))
 
 serves-kept : (p : Loaded) (s t : State) (turn : Turn) (first : Option Posted) → Serves p s t turn first → Keeps p s 1 t 0
 serves-kept p s t turn None r = keeps-is r (record { objects = all-stay _; joined = λ program all. all; connected = omega arith; paid = omega arith; housed = λ all. all; posted = omega arith; no_turn = λ e. refl; events = refl; fewer = omega arith; grows = grows-same s.trace })
@@ -309,6 +421,7 @@ rule-kept p s t [] r = turn-kept p s t s.turn r
 rule-kept p s t (Body o m arguments left ∷ below) r = body-kept p s o m arguments below t left r
 rule-kept p s t (Emit o g arguments used last ∷ below) r = emit-kept p s o g arguments last below t (next_used s.objects s.connected.connections o g used last) r
 rule-kept p s t (Update places ∷ below) r = update-kept p s below t places r
+rule-kept p s t (Destroy next torn ∷ below) r = destroy-kept p s below t next torn r
 
 -- a rule, whatever is left after it
 one-kept : {p : Loaded} {s t : State} (n : ℕ) → Keeps p s 1 t 0 → Keeps p s (suc n) t n
@@ -360,9 +473,9 @@ pub ends-keeps : {p : Loaded} {d : ℕ} {h : List (Option ℕ)} {w v : World} {a
 ends-keeps (Ok _) x = reaches-keeps x.cases
 ends-keeps (Err f) x = stops-keeps x.cases
 
-pub reaches-typed : {p : Loaded} {d : ℕ} {h : List (Option ℕ)} {w v : World} {a b : List Activation} → Reaches p d h w a v b → AreTyped p w.objects → AreTyped p v.objects
+pub reaches-typed : {p : Loaded} {d : ℕ} {h : List (Option ℕ)} {w v : World} {a b : List Activation} → Reaches p d h w a v b → AreTyped p w.store.tree → AreTyped p v.store.tree
 reaches-typed {h = h} x typed = let q = some-stack h in rules-typed (x.runs q.0 q.1) typed
 
-pub ends-typed : {p : Loaded} {d : ℕ} {h : List (Option ℕ)} {w v : World} {a b : List Activation} (r : Result (Unit {0}) Fault) → Ends p d h w a v b r → AreTyped p w.objects → AreTyped p v.objects
+pub ends-typed : {p : Loaded} {d : ℕ} {h : List (Option ℕ)} {w v : World} {a b : List Activation} (r : Result (Unit {0}) Fault) → Ends p d h w a v b r → AreTyped p w.store.tree → AreTyped p v.store.tree
 ends-typed (Ok _) x typed = reaches-typed x.cases typed
 ends-typed {h = h} (Err f) x typed = let q = some-stack h in rules-typed ((x.cases.stops q.0 q.1).1) typed

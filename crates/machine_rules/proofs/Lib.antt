@@ -2,7 +2,9 @@ pub mod Lists
 pub mod Fitting
 pub mod OneAnswer
 pub mod Frames
+pub mod Dying
 pub mod Waiting
+pub mod Declared
 pub mod Keeps
 pub mod Reaching
 pub mod Fields
@@ -13,6 +15,7 @@ pub mod Bodies
 pub mod Reading
 pub mod Yielding
 pub mod Blocks
+pub mod Deleting
 pub mod Soundness
 pub mod Turning
 pub mod OneRule

@@ -14,16 +14,16 @@ use Rattle.event_loops.specs.declared.item.Item.TheVariants.{Call, Deletion}
 use Rattle.event_loops.specs.declared.item.Posted.{Posted}
 use Rattle.event_loops.specs.Queues.{items_at, is_before, taken_before}
 use Rattle.object_tree.specs.declared.object.Object.{Object}
-use Rattle.object_tree.specs.Objects.{change_life, written}
+use Rattle.object_tree.specs.Objects.{change_life, written, life_of}
 use Rattle.object_tree.specs.Seen.{seen}
 use Rattle.connections.specs.declared.connection.Connection.{Connection}
 use Rattle.machine_state.specs.declared.entry.Entry.TheVariants.{At}
 use Rattle.machine_state.specs.declared.entry.Happening.TheVariants.{Written}
-use Rattle.machine_state.specs.Connections.{next_used}
+use Rattle.machine_state.specs.Connections.{is_living, next_used}
 use Rattle.machine_state.specs.Objects.{shown}
 use Rattle.machine_state.specs.declared.turn.Turn.{Turn}
 use Rattle.machine_state.specs.Turns.{running, reaches_at_once}
-use Rattle.machine_state.specs.State.{State, Place, Activation, Body, Emit, Update}
+use Rattle.machine_state.specs.State.{State, Place, Activation, Body, Emit, Update, Destroy}
 use Rattle.signatures.specs.declared.sig.Sig.{Sig}
 use Rattle.texts.specs.declared.connection.ConnectionType.{ConnectionType}
 use Rattle.texts.specs.declared.connection.Endpoints.{Endpoints as Named}
@@ -34,8 +34,9 @@ use Rattle.machine_rules.specs.declared.ends.FoundEnds.{FoundEnds}
 use Rattle.machine_rules.specs.Connecting.{AreThere, kept_ends, names_of, found_ends, may_connect}
 use Rattle.machine_rules.specs.Judgement.{HasOneAnswer}
 use Rattle.machine_rules.proofs.OneAnswer.{one-check, one-then}
-use Rattle.machine_rules.specs.Doings.{Doing, Write, Begin, Choose, Connect, Disconnect, Nothing}
-use Rattle.machine_rules.specs.Rules.{Rule, RuleAt, BodyRule, Does, EmitRule, Uses, UpdateRule, Notifies, Begins, Writes, Changes, places_of, changed, unchanged, silent, begun, pushed, with_used, Connects, Disconnects, linked, unlinked, Arrives, posted, TurnRule, Serves, Delivers}
+use Rattle.machine_rules.specs.Destroying.{Dies, died, NextRule, ChildRule, DestroyRule, living_child, Defers, deferred, DefersOnce, Schedules}
+use Rattle.machine_rules.specs.Doings.{Doing, Write, Begin, Choose, Connect, Disconnect, Delete, Schedule, Nothing}
+use Rattle.machine_rules.specs.Rules.{Rule, RuleAt, BodyRule, Does, EmitRule, Uses, UpdateRule, Notifies, NotifiesIf, Begins, BeginsIf, Writes, Changes, places_of, changed, unchanged, silent, begun, pushed, with_used, Connects, Disconnects, linked, unlinked, Arrives, posted, TurnRule, Serves, Delivers}
 use Rattle.machine_rules.proofs.Fields.{some-is, life-unique, method-unique, member-object, member-method, field-property}
 
 -- two methods of one number of one life's class
@@ -112,12 +113,49 @@ disconnects-one {p} {s} {stack = stack} {ends = ends} a b =
     ∙ ap (λ (n : Named (List ℕ)). unlinked s stack (kept_ends ends) n b.answer) (names-one a.kept b.kept)
     ∙ sym b.gives
 
+-- ---- objects that are deleted
+
+dies-one : {s t u : State} {stack : List Activation} {x : ℕ} → Dies s stack x t → Dies s stack x u → t ≡ u
+dies-one {s} {stack = stack} {x = x} a b = a.gives ∙ ap (λ (name : List ℕ). died s stack x name) (some-is a.named b.named) ∙ sym b.gives
+
+destroy-one : (s : State) (below : List Activation) (t u : State) (next : Option ℕ) (torn : List ℕ) → DestroyRule s below t next torn → DestroyRule s below u next torn → t ≡ u
+destroy-one s below t u (Some x) torn a b = by_life (is_living s.objects x) a b
+  where
+    by_life : (n : Bool) → NextRule s below t x torn n → NextRule s below u x torn n → t ≡ u
+    by_life true a b = dies-one a b
+    by_life false a b = a ∙ sym b
+destroy-one s below t u None [] a b = a ∙ sym b
+destroy-one s below t u None (parent ∷ torn) a b = by_child (living_child s parent) a b
+  where
+    by_child : (child : Option ℕ) → ChildRule s below t parent torn child → ChildRule s below u parent torn child → t ≡ u
+    by_child (Some x) a b = dies-one a b
+    by_child None a b = a ∙ sym b
+
+defers-one : {s t u : State} {stack : List Activation} {home x : ℕ} → Defers s stack home x t → Defers s stack home x u → t ≡ u
+defers-one {s} {stack = stack} {home = home} {x = x} a b =
+    a.gives
+    ∙ ap (λ (loop : List ℕ). deferred s stack loop home x a.name) (some-is a.is_loop b.is_loop)
+    ∙ ap (λ (name : List ℕ). deferred s stack b.loop home x name) (some-is a.named b.named)
+    ∙ sym b.gives
+
+pub schedules-one : (s t u : State) (stack : List Activation) (x : ℕ) (life : Option Life) → Schedules s stack x t life → Schedules s stack x u life → t ≡ u
+schedules-one s t u stack x None a b = a ∙ sym b
+schedules-one s t u stack x (Some l) a b = by_mark l.scheduled a b
+  where
+    by_mark : (n : Bool) → DefersOnce s stack l.home x t n → DefersOnce s stack l.home x u n → t ≡ u
+    by_mark true a b = a ∙ sym b
+    by_mark false a b = defers-one a b
+
+-- ---- bodies
+
 does-one : (p : Loaded) (s : State) (o m : ℕ) (arguments : List Value) (rest : List Statement) (below : List Activation) (d : Doing) (t u : State) → Does p s o m arguments rest below d t → Does p s o m arguments rest below d u → t ≡ u
 does-one p s o m arguments rest below (Write x q new) t u a b = writes-one a b
 does-one p s o m arguments rest below (Begin x n given) t u a b = begins-one a b
 does-one p s o m arguments rest below (Choose block) t u a b = a ∙ sym b
 does-one p s o m arguments rest below (Connect ends how) t u a b = connects-one a b
 does-one p s o m arguments rest below (Disconnect ends) t u a b = disconnects-one a b
+does-one p s o m arguments rest below (Delete x) t u a b = a ∙ sym b
+does-one p s o m arguments rest below (Schedule x) t u a b = schedules-one s t u (Body o m arguments rest ∷ below) x (life_of s.objects x) a b
 does-one p s o m arguments rest below Nothing t u a b = a ∙ sym b
 
 body-one : (p : Loaded) (s : State) (o m : ℕ) (arguments : List Value) (below : List Activation) (t u : State) (left : List Statement) → BodyRule p s o m arguments below t left → BodyRule p s o m arguments below u left → t ≡ u
@@ -169,11 +207,19 @@ notifies-one {s = s} {below = below} {place = place} a b =
 
 update-one : (p : Loaded) (s : State) (below : List Activation) (t u : State) (places : List Place) → UpdateRule p s below t places → UpdateRule p s below u places → t ≡ u
 update-one p s below t u [] a b = a ∙ sym b
-update-one p s below t u (place ∷ places) a b = notifies-one a b
+update-one p s below t u (place ∷ places) a b = by_life (life_of s.objects place.object) a b
+  where
+    by_life : (life : Option Life) → NotifiesIf p s (Update places ∷ below) place t life → NotifiesIf p s (Update places ∷ below) place u life → t ≡ u
+    by_life None a b = a ∙ sym b
+    by_life (Some l) a b = notifies-one a b
 
 delivers-one : (p : Loaded) (s t u : State) (item : Item) → Delivers p s t item → Delivers p s u item → t ≡ u
-delivers-one p s t u (Call o m arguments) a b = begins-one a b
-delivers-one p s t u (Deletion o) a b = absurd a
+delivers-one p s t u (Call o m arguments) a b = by_life (life_of s.objects o) a b
+  where
+    by_life : (life : Option Life) → BeginsIf p s o m arguments t life → BeginsIf p s o m arguments u life → t ≡ u
+    by_life None a b = a ∙ sym b
+    by_life (Some l) a b = begins-one a b
+delivers-one p s t u (Deletion o) a b = a ∙ sym b
 
 serves-one : (p : Loaded) (s t u : State) (turn : Turn) (first : Option Posted) → Serves p s t turn first → Serves p s u turn first → t ≡ u
 serves-one p s t u turn None a b = a ∙ sym b
@@ -188,6 +234,7 @@ stack-one p s t u [] a b = turn-one p s t u s.turn a b
 stack-one p s t u (Body o m arguments left ∷ below) a b = body-one p s o m arguments below t u left a b
 stack-one p s t u (Emit o g arguments used last ∷ below) a b = emit-one p s o g arguments last below t u (next_used s.objects s.connected.connections o g used last) a b
 stack-one p s t u (Update places ∷ below) a b = update-one p s below t u places a b
+stack-one p s t u (Destroy next torn ∷ below) a b = destroy-one s below t u next torn a b
 
 pub rule-one : (p : Loaded) (s t u : State) → Rule p s t → Rule p s u → t ≡ u
 rule-one p s t u a b = stack-one p s t u s.stack a b

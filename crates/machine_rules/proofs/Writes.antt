@@ -20,14 +20,16 @@ use Rattle.object_tree.specs.Seen.{seen}
 use Rattle.object_tree.specs.Typed.{AreTyped, ReadsAs, ReadAs}
 use Rattle.machine_state.specs.Objects.{stored}
 use Rattle.machine_state.specs.State.{State, Activation, Update}
-use Rattle.machine_rules.specs.Rules.{Rule, Writes, Notifies, Changes, changed, unchanged, silent, places_of, begun}
+use Rattle.machine_rules.specs.Rules.{Rule, Writes, Notifies, NotifiesIf, Changes, changed, unchanged, silent, places_of, begun}
 use Rattle.machine_rules.specs.Sound.{IsSoundIn}
-use Rattle.machine_rules.specs.There.{IsMember, IsField}
+use Rattle.object_tree.proofs.TypedObjects.{seen-written}
+use Rattle.object_tree.proofs.Changing.{life-of-lives}
+use Rattle.machine_rules.specs.There.{IsMember, IsField, NoneDied}
 use Rattle.machine_rules.specs.Good.{ArgumentsFit, IsWell}
 use Rattle.machine_state.specs.Worlds.{at, set_in}
 use Rattle.machine_rules.specs.Reaches.{Reaches, StopsIn, Ends, Calls, Sets}
 use Rattle.machine_rules.specs.Writing.{entry_of_write, TellsChange, Alters, IsWriting, IsUnwritten, missing, ill, deep, short, Announces, MayAnnounce}
-use Rattle.machine_rules.proofs.Reaching.{reaches-high, ends-after, ends-lifted, not-idle, stops-deep, stops-ill, stops-memory, stops-stuck}
+use Rattle.machine_rules.proofs.Reaching.{none-spared, reaches-high, ends-after, ends-lifted, not-idle, stops-deep, stops-ill, stops-memory, stops-stuck}
 use Rattle.machine_rules.proofs.Fields.{life-unique, member-method, typed-written, written-typed, field-written, old-there, stored-reads}
 use Rattle.machine_rules.proofs.Beginning.{fit-of, one-more}
 use Rattle.machine_rules.specs.Active.{shows}
@@ -38,11 +40,15 @@ use Rattle.machine_rules.specs.Active.{shows}
 abbrev pub altered : {p : Loaded} {objects : List Object} {o q : ℕ} {x : Object} {property : MetaProperty} {new : Value} {signal : Option ℕ} → IsField p objects o q x property → IsSoundIn p objects o property → TellsChange objects o q property.notify new signal → Alters p objects o q new signal
 altered f sound changes = record { object = _; property = _; is = f; sound = sound; changes = changes }
 
+-- by a write no object dies
+none-died-written : (objects : List Object) (o q : ℕ) (new : Value) → NoneDied objects (change_life o (written q new) objects)
+none-died-written objects o q new k gone = sym (seen-written o q new objects k) ∙ gone
+
 -- the world in which the property is written
 abbrev pub written_world : World → ℕ → ℕ → Object → ℕ → MetaProperty → Value → World
 written_world w depth o x q property new = set_in w (entry_of_write w depth x property new ∷ []) o q new
 
-writes-there : {p : Loaded} {n o q : ℕ} {x : Object} {property : MetaProperty} {new old : Value} {signal : Option ℕ} (w : World) (stack over : List Activation) → (f : IsField p w.objects o q x property) → stored w.objects o q ≡ Some old → Changes (seen w.objects old) (seen w.objects new) property.notify signal → n ≡ suc (length over) →
+writes-there : {p : Loaded} {n o q : ℕ} {x : Object} {property : MetaProperty} {new old : Value} {signal : Option ℕ} (w : World) (stack over : List Activation) → (f : IsField p w.store.tree o q x property) → stored w.store.tree o q ≡ Some old → Changes (seen w.store.tree old) (seen w.store.tree new) property.notify signal → n ≡ suc (length over) →
     Writes p (at w stack) over o q new (at (written_world w n o x q property new) (Update (places_of o q signal) ∷ over))
 writes-there {o = o} {q = q} {x = x} {property = property} {new = new} {old = old} {signal = signal} w stack over f is_old changes depth_is =
     let with_depth : ℕ → State = λ n. at (written_world w n o x q property new) (Update (places_of o q signal) ∷ over) in
@@ -58,7 +64,7 @@ writes-there {o = o} {q = q} {x = x} {property = property} {new = new} {old = ol
     }
 
 -- it is so by the next rule
-written-next : {p : Loaded} {n o q : ℕ} {w : World} {from to : List Activation} {new : Value} {signal : Option ℕ} (below : List Activation) → Sets p w from to o q new → (c : Alters p w.objects o q new signal) → AreTyped p w.objects → n ≡ suc (length (to ++ below)) →
+written-next : {p : Loaded} {n o q : ℕ} {w : World} {from to : List Activation} {new : Value} {signal : Option ℕ} (below : List Activation) → Sets p w from to o q new → (c : Alters p w.store.tree o q new signal) → AreTyped p w.store.tree → n ≡ suc (length (to ++ below)) →
     Rule p (at w (from ++ below)) (at (written_world w n o c.object q c.property new) (Update (places_of o q signal) ∷ to ++ below))
 written-next {w = w} {from = from} {to = to} below sets c typed depth_is =
     let old = old-there c.is typed in
@@ -66,30 +72,31 @@ written-next {w = w} {from = from} {to = to} below sets c typed depth_is =
 
 -- a property is written, and its update runs
 pub ends-written : {p : Loaded} {d o q : ℕ} {h active : List (Option ℕ)} {w v u : World} {from to : List Activation} {new : Value} {line : Entry} {signal : Option ℕ} {r : Result (Unit {0}) Fault} →
-    active ≡ shows to ++ h → Sets p w from to o q new → AreTyped p w.objects → 0 < w.left → IsWriting p d active w o q new line signal → v ≡ set_in w (line ∷ []) o q new →
+    active ≡ shows to ++ h → Sets p w from to o q new → AreTyped p w.store.tree → 0 < w.left → IsWriting p d active w o q new line signal → v ≡ set_in w (line ∷ []) o q new →
     Ends p d active v (Update (places_of o q signal) ∷ []) u [] r → Ends p d h w from u to r
 ends-written {p} {d} {o} {q} {h} {active} {w} {v} {u} {from} {to} {new} {line} {signal} {r} over sets typed some is v_is rest =
-    let c : Alters p w.objects o q new signal = is.alters in
+    let c : Alters p w.store.tree o q new signal = is.alters in
     let target : World = written_world w (length active + 1) o c.object q c.property new in
     let target_is : v ≡ target = v_is ∙ ap (λ (e : Entry). set_in w (e ∷ []) o q new) is.is_line in
     let Family : World → Type 0 = λ k. Reaches p d h w from k (Update (places_of o q signal) ∷ to) in
     let went : Reaches p d h w from target (Update (places_of o q signal) ∷ to) =
-    reaches-high over (λ below e. written-next below sets c typed (one-more to below over e)) (λ below. tt) is.room (typed-written new c.is typed is.fits) refl some in
+    reaches-high over (λ below e. written-next below sets c typed (one-more to below over e)) (λ below e. none-spared w.store.tree (change_life o (written q new) w.store.tree) (from ++ below) (none-died-written w.store.tree o q new)) (λ below. tt) is.room (typed-written new c.is typed is.fits) refl some in
     ends-after (subst Family (sym target_is) went) (ends-lifted over rest)
 
 -- a property isn't written
 pub stops-unwritten : {p : Loaded} {d o q : ℕ} {h active : List (Option ℕ)} {w : World} {from to : List Activation} {new : Value} {f : Fault} →
-    active ≡ shows to ++ h → Sets p w from to o q new → AreTyped p w.objects → 0 < w.left → IsUnwritten p d active w o q new f → StopsIn p d h w from w f
+    active ≡ shows to ++ h → Sets p w from to o q new → AreTyped p w.store.tree → 0 < w.left → IsUnwritten p d active w o q new f → StopsIn p d h w from w f
 stops-unwritten over sets typed some (missing none) = stops-stuck sets.goes_on some (λ below t r. let k = sets.only below t r in none k.object k.property k.is)
 stops-unwritten {p} {o = o} {q = q} {w = w} {from = from} {to = to} {new = new} over sets typed some (ill {changed = signal} c not) =
     stops-ill some (λ below.
     let t : State = at (written_world w (suc (length (to ++ below))) o c.object q c.property new) (Update (places_of o q signal) ∷ to ++ below) in
     (t, written-next below sets c typed refl, λ (well : IsWell p (at w (from ++ below)) t). not (written-typed new c.is typed well.values)))
-stops-unwritten {o = o} {q = q} {active = active} {w = w} {to = to} {new = new} over sets typed some (deep {changed = signal} c fits high) =
+stops-unwritten {o = o} {q = q} {active = active} {w = w} {from = from} {to = to} {new = new} over sets typed some (deep {changed = signal} c fits high) =
     stops-deep some (λ below e. (
       at (written_world w (length active + 1) o c.object q c.property new) (Update (places_of o q signal) ∷ to ++ below),
       written-next below sets c typed (one-more to below over e),
       record { arguments = λ higher. tt; values = typed-written new c.is typed fits },
+      none-spared w.store.tree (change_life o (written q new) w.store.tree) (from ++ below) (none-died-written w.store.tree o q new),
       omega (arith, one-more to below over e, high),
     ))
 stops-unwritten over sets typed some short = stops-memory sets.goes_on some
@@ -123,8 +130,8 @@ announces-written {q = q} new (Some signal) c typed =
     signal-is (changed h) = refl
 
 -- .. in a world that is known to be another one
-pub announces-as : (p : Loaded) (o q : ℕ) (signal : Option ℕ) {w v : World} → v ≡ w → MayAnnounce p w.objects o q signal → MayAnnounce p v.objects o q signal
-announces-as p o q signal is x = let In : World → Type 0 = λ u. MayAnnounce p u.objects o q signal in subst In (sym is) x
+pub announces-as : (p : Loaded) (o q : ℕ) (signal : Option ℕ) {w v : World} → v ≡ w → MayAnnounce p w.store.tree o q signal → MayAnnounce p v.store.tree o q signal
+announces-as p o q signal is x = let In : World → Type 0 = λ u. MayAnnounce p u.store.tree o q signal in subst In (sym is) x
 
 -- the notify signal is there
 pub announced-member : {p : Loaded} {objects : List Object} {o q signal : ℕ} → (a : Announces p objects o q signal) → IsMember p objects o signal a.object a.sound.signal
@@ -147,9 +154,10 @@ announced-fits {p} {objects} {o} {q} {signal} {count} {x} {method} {present} {ta
     subst (λ (l : List Value). ArgumentsFit p objects o signal l) (sym taken_is) (fit-of (announced-member a) fits)
 
 -- the notify signal begins by the next rule of the update
-pub announcement-calls : {p : Loaded} {w : World} {o q signal count : ℕ} {x : Object} {method : MetaMethod} {present : Value} {taken : List Value} → Announces p w.objects o q signal → IsMember p w.objects o signal x method → stored w.objects o q ≡ Some present → taken ≡ take count (present ∷ []) → count ≡ length method.kinds → Calls p w (Update (places_of o q (Some signal)) ∷ []) (Update [] ∷ []) o signal taken
+pub announcement-calls : {p : Loaded} {w : World} {o q signal count : ℕ} {x : Object} {method : MetaMethod} {present : Value} {taken : List Value} → Announces p w.store.tree o q signal → IsMember p w.store.tree o signal x method → stored w.store.tree o q ≡ Some present → taken ≡ take count (present ∷ []) → count ≡ length method.kinds → Calls p w (Update (places_of o q (Some signal)) ∷ []) (Update [] ∷ []) o signal taken
 announcement-calls {p} {w} {o} {q} {signal} {count} {x} {method} {present} {taken} a is is_present cut count_is = record {
   no_lower = omega arith;
+  objects = refl;
   goes_on = λ below. not-idle w _ below;
   gives = λ below t b.
       let s : State = at w (Update (places_of o q (Some signal)) ∷ below) in
@@ -171,7 +179,8 @@ announcement-calls {p} {w} {o} {q} {signal} {count} {x} {method} {present} {take
         is_method = b.is.is_method;
         gives = b.gives ∙ ap (λ (l : List Value). begun s over o b.object signal b.method l b.method.work) taken_is ∙ ap (λ (k : Work). begun s over o b.object signal b.method (take (length b.method.kinds) (present ∷ [])) k) work_is;
       } in
-      notifies;
+      let Next : Option Life → Type 0 = λ life. NotifiesIf p s over (record { object = o; property = q }) t life in
+      subst Next (sym (life-of-lives b.is.lives)) notifies;
 }
 
 pub changes-none : {old new : Value} (notify : Option ℕ) → old ≡ new → Changes old new notify None

@@ -9,10 +9,10 @@ use Rattle.machine_state.specs.declared.fault.Fault.{Fault}
 use Rattle.machine_state.specs.declared.world.World.{World}
 use Rattle.machine_state.specs.Connections.{next_used}
 use Rattle.machine_state.specs.Worlds.{having_used}
-use Rattle.machine_state.specs.State.{Activation, Body, Emit}
+use Rattle.machine_state.specs.State.{Activation, Body, Emit, Destroy}
 use Rattle.machine_rules.specs.Active.{shows}
 use Rattle.machine_rules.specs.Doings.{Doing, doing}
-use Rattle.machine_rules.specs.Reaches.{Ends, Advances, CallsIn, Calls, OnlyCalls, Sets}
+use Rattle.machine_rules.specs.Reaches.{Ends, Advances, CallsIn, Calls, OnlyCalls, Sets, Deletes, Kills}
 use Rattle.machine_rules.specs.declared.method_call.MethodCall.{MethodCall}
 use Rattle.machine_rules.specs.declared.place.Place.{Place}
 use Rattle.machine_rules.specs.declared.setting.Setting.{Setting}
@@ -28,7 +28,7 @@ Finishes setting active a w v result = Ends setting.meta setting.depth active w 
 -- a connection is used, in every emission of which it is the next
 abbrev pub Delivers : Setting → List (Option ℕ) → Connection → List Value → World → World → Result (Unit {0}) Fault → Type 0
 Delivers setting active c arguments w v result =
-    (o g used last : ℕ) → next_used w.objects w.connected.connections o g used last ≡ Some c →
+    (o g used last : ℕ) → next_used w.store.tree w.store.connections.connections o g used last ≡ Some c →
     Leads setting active (Emit o g arguments used last) (Emit o g arguments c.number last) w v result
 
 -- this is done by the next statement, in every body of the object in which it does that and `rest` follows; `left` is
@@ -37,7 +37,7 @@ abbrev pub CarriesOut :
     Setting → List (Option ℕ) → ℕ → Doing → List Statement → List Statement →
     World → World → Result (Unit {0}) Fault → Type 0
 CarriesOut setting active o done rest left w v result =
-    (m : ℕ) (arguments : List Value) (x : Statement) → doing w.objects o arguments (out-Statement x) ≡ Some done →
+    (m : ℕ) (arguments : List Value) (x : Statement) → doing w.store.tree o arguments (out-Statement x) ≡ Some done →
     Advances setting.meta setting.depth active w (Body o m arguments (x ∷ rest) ∷ []) v (Body o m arguments left ∷ []) result
 
 -- a property is written, and what that notifies is carried out: from every top of the stack whose next rule is this
@@ -68,3 +68,15 @@ EndsUse setting active c call w v result =
     (from to : List Activation) (shown : List (Option ℕ)) → active ≡ shows to ++ shown →
     CallsIn setting.meta w (having_used w c) from to call.object call.method call.arguments.now →
     Ends setting.meta setting.depth shown w from v to result
+
+-- an object is deleted, and then its children: from every top of the stack whose next rule begins that, to what is left of it
+abbrev pub EndsDeletion : Setting → List (Option ℕ) → ℕ → World → World → Result (Unit {0}) Fault → Type 0
+EndsDeletion setting active x w v result =
+    (from to : List Activation) (shown : List (Option ℕ)) → active ≡ shows to ++ shown →
+    Deletes setting.meta w from to x → Ends setting.meta setting.depth shown w from v to result
+
+-- an object dies, and its `destroyed` is carried out: over every deletion by whose next rule it may die
+abbrev pub EndsDeath : Setting → List (Option ℕ) → ℕ → World → World → Result (Unit {0}) Fault → Type 0
+EndsDeath setting active x w v result =
+    (next : Option ℕ) (before torn : List ℕ) → Kills setting.meta w next before torn x →
+    Leads setting active (Destroy next before) (Destroy (Some x) torn) w v result

@@ -3,7 +3,7 @@ use Rattle.std.specs.Prelude.{◌≡◌, List, Option, None, Some, Result, Ok, E
 use Rattle.expressions.specs.declared.evaluation.EvalFault.{EvalFault}
 use Rattle.expressions.specs.declared.evaluation.EvalFault.TheVariants.{BadType, Memory as NoMemory}
 use Rattle.meta_model.specs.declared.object.Statement.{Statement}
-use Rattle.machine_rules.specs.Doings.{Doing, Write, Begin, Choose, Connect, Disconnect, Nothing}
+use Rattle.machine_rules.specs.Doings.{Doing, Write, Begin, Choose, Connect, Disconnect, Delete, Schedule, Nothing}
 use Rattle.meta_model.specs.declared.object.MetaEndpoints.{MetaEndpoints}
 use Rattle.machine_state.specs.declared.endpoints.Endpoints.{Endpoints}
 use Rattle.machine_rules.specs.Scope.{ends_in}
@@ -17,6 +17,8 @@ meant (coded.Begin x m given) = Begin x m given
 meant (coded.Choose block) = Choose block.now
 meant (coded.Connect ends how) = Connect ends how
 meant (coded.Disconnect ends) = Disconnect ends
+meant (coded.Delete x) = Delete x
+meant (coded.Schedule x) = Schedule x
 meant coded.Nothing = Nothing
 
 -- what a statement does was found out, or it lacks a value, or memory was refused

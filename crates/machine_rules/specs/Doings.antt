@@ -23,6 +23,10 @@ pub data Doing : Type 0 where
   Connect : (ends : Endpoints) (how : ConnectionType) → Doing
   -- the connections between a signal and a method are removed
   Disconnect : (ends : Endpoints) → Doing
+  -- an object is deleted
+  Delete : (object : ℕ) → Doing
+  -- .. when control returns to the event loop in which it lives
+  Schedule : (object : ℕ) → Doing
   -- nothing, since a path leads to null
   Nothing : Doing
 
@@ -62,3 +66,5 @@ doing objects o arguments (layer.Connect ends how) =
     on_ends (λ between. Connect between how) ends (path_value objects o arguments ends.sender) (path_value objects o arguments ends.receiver)
 doing objects o arguments (layer.Disconnect ends) =
     on_ends Disconnect ends (path_value objects o arguments ends.sender) (path_value objects o arguments ends.receiver)
+doing objects o arguments (layer.Delete path) = on_object (λ x. Some (Delete x)) (path_value objects o arguments path)
+doing objects o arguments (layer.Later path) = on_object (λ x. Some (Schedule x)) (path_value objects o arguments path)

@@ -1,12 +1,17 @@
 -- The moments that no rule of a run may bring (docs/machine.md, "Faults").
-use Rattle.std.specs.Prelude.{ℕ, ◌<◌, ◌≤◌, List, [], ◌∷◌, length}
+use Rattle.std.specs.Prelude.{◌≡◌, ℕ, ◌<◌, ◌≤◌, eqb, ◌||◌, Bool, false, IsTrue, List, [], ◌∷◌, length}
 use Rattle.signatures.specs.declared.value.Value.{Value}
 use Rattle.meta_model.specs.declared.object.MetaMethod.{MetaMethod}
+use Rattle.meta_model.specs.declared.object.ValueType.{ValueType}
+use Rattle.meta_model.specs.declared.object.ValueType.TheVariants as type
+use Rattle.meta_model.specs.declared.qobject.TheConstants.{QOBJECT, DESTROYED}
 use Rattle.meta_model.specs.Loaded.{Loaded}
 use Rattle.object_tree.specs.declared.object.Object.{Object}
 use Rattle.object_tree.specs.Typed.{ReadAs, AreTyped}
-use Rattle.machine_rules.specs.There.{IsMember}
-use Rattle.machine_state.specs.State.{State, Activation, Body, Emit, Update}
+use Rattle.machine_rules.specs.There.{IsMember, IsDead}
+use Rattle.machine_state.specs.State.{State, Activation, Body, Emit, Update, Destroy}
+
+-- ---- arguments
 
 -- the arguments are as many as the living object's method declares, each, as it reads, of its type
 pub record ArgumentsFit (p : Loaded) (objects : List Object) (o m : ℕ) (arguments : List Value) : Type 0 where
@@ -15,11 +20,33 @@ pub record ArgumentsFit (p : Loaded) (objects : List Object) (o m : ℕ) (argume
   pub is : IsMember p objects o m object method
   pub typed : ReadAs p objects arguments method.kinds
 
+-- the types that `destroyed(QObject*)` declares, in every class
+abbrev pub destroyed_kinds : List ValueType
+destroyed_kinds = type.Reference QOBJECT false ∷ []
+
+-- .. as many as the object's signal declares; of a dead object only `destroyed` is emitted
+pub data EmissionFits (p : Loaded) (objects : List Object) (o g : ℕ) (arguments : List Value) : Type 0 where
+  of_living : ArgumentsFit p objects o g arguments → EmissionFits p objects o g arguments
+  of_dead : IsDead objects o → g ≡ DESTROYED → ReadAs p objects arguments destroyed_kinds → EmissionFits p objects o g arguments
+
 abbrev pub TopFits : Loaded → List Object → List Activation → Type 0
 TopFits p objects [] = Unit {0}
 TopFits p objects (Body o m arguments left ∷ below) = ArgumentsFit p objects o m arguments
-TopFits p objects (Emit o g arguments used last ∷ below) = ArgumentsFit p objects o g arguments
+TopFits p objects (Emit o g arguments used last ∷ below) = EmissionFits p objects o g arguments
 TopFits p objects (Update places ∷ below) = Unit {0}
+TopFits p objects (Destroy next torn ∷ below) = Unit {0}
+
+-- ---- active bodies
+
+-- a body of the object is active
+abbrev pub has_body : ℕ → List Activation → Bool
+has_body o [] = false
+has_body o (Body x m arguments left ∷ below) = eqb x o || has_body o below
+has_body o (Emit x g arguments used last ∷ below) = has_body o below
+has_body o (Update places ∷ below) = has_body o below
+has_body o (Destroy next torn ∷ below) = has_body o below
+
+-- ---- rules
 
 -- After a rule from s to t every property of a living object has a value of its type, and what was pushed has the
 -- arguments that its method declares.
@@ -27,7 +54,12 @@ pub record IsWell (p : Loaded) (s t : State) : Type 0 where
   pub arguments : length s.stack < length t.stack → TopFits p t.objects t.stack
   pub values : AreTyped p t.objects
 
+-- .. no object dies while a body of it is active
+abbrev pub Spares : State → State → Type 0
+Spares s t = (o : ℕ) → IsTrue (has_body o s.stack) → IsDead t.objects o → IsDead s.objects o
+
 -- .. and activations nest no deeper than the depth
 pub record IsGood (p : Loaded) (depth : ℕ) (s t : State) : Type 0 where
   pub well : IsWell p s t
+  pub spared : Spares s t
   pub shallow : length t.stack ≤ depth

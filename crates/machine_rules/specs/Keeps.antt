@@ -1,22 +1,23 @@
 -- What rules never take back (docs/machine.md, "What every run keeps").
-use Rattle.std.specs.Prelude.{◌≡◌, ℕ, ◌+◌, ◌≤◌, List, [], ◌++◌, Some, None}
+use Rattle.std.specs.Prelude.{◌≡◌, ◌⊎◌, ℕ, ◌+◌, ◌≤◌, List, [], ◌++◌, length, Some, None}
 use Rattle.std.specs.List.{AllByRecursion}
 use Rattle.meta_model.specs.Loaded.{Loaded}
 use Rattle.meta_model.specs.Sound.{IsSound}
 use Rattle.object_tree.specs.declared.object.Object.{Object}
 use Rattle.object_tree.specs.Objects.{class_of}
-use Rattle.object_tree.specs.Seen.{seen_reference}
 use Rattle.connections.specs.declared.connection.Connection.{Connection}
 use Rattle.machine_state.specs.declared.entry.Entry.{Entry}
 use Rattle.machine_state.specs.declared.world.World.{World}
 use Rattle.machine_state.specs.State.{State}
 use Rattle.machine_state.specs.Worlds.{at}
 use Rattle.machine_rules.specs.Sound.{Joined, AreHoused}
+use Rattle.machine_rules.specs.There.{IsDead}
 
--- living objects stay alive, each of its class, and dead ones stay dead; others may come
+-- a living object stays of its class, or dies; dead ones stay dead, no number of an object goes, and others may come
 pub record StayThere (old new : List Object) : Type 0 where
-  pub living : (o class : ℕ) → class_of old o ≡ Some class → class_of new o ≡ Some class
-  pub dead : (o : ℕ) → seen_reference old (Some o) ≡ None → seen_reference new (Some o) ≡ None
+  pub living : (o class : ℕ) → class_of old o ≡ Some class → (class_of new o ≡ Some class) ⊎ IsDead new o
+  pub dead : (o : ℕ) → IsDead old o → IsDead new o
+  pub created : length old ≤ length new
 
 -- every connection joins what is there
 abbrev pub AllJoined : Loaded → List Object → List Connection → Type 0
@@ -27,9 +28,9 @@ pub record Grows (old new : List Entry) : Type 0 where
   pub more : List Entry
   pub is : new ≡ old ++ more
 
--- From s, with so many rules left, to t, with so many left: no object goes, in a sound program connections go on to join
--- what is there, and objects to live in loops that are there; no count falls, a number of a connection or of an item is
--- paid with a rule, no event is taken, no turn begins, and nothing that was written down goes.
+-- From s, with so many rules left, to t, with so many left: objects keep their classes and stay dead, in a sound program
+-- connections go on to join what is there, and objects to live in loops that are there; no count falls, a number of a
+-- connection or of an item is paid with a rule, no event is taken, no turn begins, and nothing that was written down goes.
 pub record Keeps (p : Loaded) (s : State) (left : ℕ) (t : State) (after : ℕ) : Type 0 where
   pub objects : StayThere s.objects t.objects
   pub joined : IsSound p → AllJoined p s.objects s.connected.connections → AllJoined p t.objects t.connected.connections

@@ -4,6 +4,7 @@ pub mod Scope
 pub mod There
 pub mod Judgement
 pub mod Connecting
+pub mod Destroying
 pub mod Rules
 pub mod Good
 pub mod Runs

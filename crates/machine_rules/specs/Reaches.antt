@@ -1,5 +1,5 @@
 -- What a call of the machine's code does, whatever activations are below (docs/machine.md, "Runs").
-use Rattle.std.specs.Prelude.{◌≡◌, ◌≢◌, ℕ, ◌+◌, ◌-◌, ◌<◌, ◌≤◌, ◌⊎◌, List, ◌++◌, length, Result, Ok, Err, MatchResult, Bool, Option, Some, ◌∷◌, []}
+use Rattle.std.specs.Prelude.{◌≡◌, ◌≢◌, ℕ, ◌+◌, ◌-◌, ◌<◌, ◌≤◌, ◌⊎◌, List, ◌++◌, length, Result, Ok, Err, MatchResult, Bool, Option, Some, ◌∷◌, [], true, false}
 use Rattle.meta_model.specs.Loaded.{Loaded}
 use Rattle.signatures.specs.declared.value.Value.{Value}
 use Rattle.signatures.specs.declared.value.Value.TheVariants as value
@@ -10,17 +10,20 @@ use Rattle.expressions.specs.declared.evaluation.EvalFault.{EvalFault}
 use Rattle.expressions.specs.declared.evaluation.EvalFault.TheVariants.{BadType, Memory as NoMemory}
 use Rattle.connections.specs.declared.connection.Connection.{Connection}
 use Rattle.event_loops.specs.declared.item.Item.TheVariants.{Call}
-use Rattle.event_loops.specs.Queues.{HasName}
+use Rattle.event_loops.specs.declared.item.Posted.{Posted}
+use Rattle.event_loops.specs.Queues.{HasName, items_at, is_before}
+use Rattle.machine_state.specs.declared.turn.Turn.{Turn}
+use Rattle.std.specs.List.{find}
 use Rattle.machine_state.specs.declared.entry.Entry.{Entry}
 use Rattle.machine_state.specs.declared.entry.Entry.TheVariants.{At}
 use Rattle.machine_state.specs.declared.entry.Happening.TheVariants as happening
 use Rattle.machine_state.specs.declared.entry.Shown.{Shown}
 use Rattle.object_tree.specs.declared.object.Object.{Object}
 use Rattle.machine_state.specs.declared.fault.Fault.{Fault}
-use Rattle.machine_state.specs.declared.fault.Fault.TheVariants.{BadType as IllTyped, TooDeep, Memory}
+use Rattle.machine_state.specs.declared.fault.Fault.TheVariants.{BadType as IllTyped, TooDeep, Steps, Memory}
 use Rattle.machine_state.specs.declared.world.World.{World}
-use Rattle.machine_state.specs.Connections.{is_silent}
-use Rattle.machine_state.specs.State.{State, Activation, Body, Emit, IsIdle}
+use Rattle.machine_state.specs.Connections.{is_silent, is_living}
+use Rattle.machine_state.specs.State.{State, Activation, Body, Emit, Destroy, IsIdle}
 use Rattle.machine_state.specs.Objects.{all_shown, home_of}
 use Rattle.texts.specs.declared.connection.ConnectionType.{ConnectionType}
 use Rattle.texts.specs.declared.connection.Endpoints.{Endpoints as Named}
@@ -30,10 +33,15 @@ use Rattle.machine_rules.specs.Connecting.{AreThere, may_connect, found_ends, na
 use Rattle.machine_rules.specs.declared.method_call.MethodCall.{MethodCall}
 use Rattle.machine_rules.specs.Good.{ArgumentsFit}
 use Rattle.machine_rules.specs.Rules.{Rule, Begins, Writes, Connects, Disconnects}
-use Rattle.machine_rules.specs.There.{IsMember}
+use Rattle.meta_model.specs.Outlines.{destroyed}
+use Rattle.object_tree.specs.Objects.{life_of}
+use Rattle.object_tree.specs.Typed.{StayTyped}
+use Rattle.machine_state.specs.declared.entry.Shown.TheVariants as show
+use Rattle.machine_rules.specs.Destroying.{deleting, Dies, Schedules}
+use Rattle.machine_rules.specs.There.{IsMember, NoneDied}
 use Rattle.machine_rules.specs.Active.{shows}
 use Rattle.machine_rules.specs.Runs.{Rules, RulesStop}
-use Rattle.machine_state.specs.Worlds.{at, having_used, posting, Becomes}
+use Rattle.machine_state.specs.Worlds.{at, having_used, posting, ending, Becomes}
 
 -- ---- what a body's paths and expressions give to the code
 
@@ -86,6 +94,7 @@ MayNest depth shown (Err fault) = (depth ≤ length shown) × (fault ≡ TooDeep
 -- by the next rule of a world a method of an object may begin, in what the rule makes of the world before that
 pub record CallsIn (p : Loaded) (w u : World) (from to : List Activation) (o m : ℕ) (arguments : List Value) : Type 0 where
   pub no_lower : length from ≤ length to
+  pub objects : u.store.tree ≡ w.store.tree
   pub goes_on : (below : List Activation) → ¬ IsIdle (at w (from ++ below))
   pub gives :
       (below : List Activation) (t : State) →
@@ -111,6 +120,17 @@ pub record Sets (p : Loaded) (w : World) (from to : List Activation) (o q : ℕ)
       (below : List Activation) (t : State) →
       Rule p (at w (from ++ below)) t → Writes p (at w (from ++ below)) (to ++ below) o q new t
 
+-- by the next rule the deletion of an object begins
+pub record Deletes (p : Loaded) (w : World) (from to : List Activation) (x : ℕ) : Type 0 where
+  pub goes_on : (below : List Activation) → ¬ IsIdle (at w (from ++ below))
+  pub gives : (below : List Activation) → Rule p (at w (from ++ below)) (deleting (at w (from ++ below)) (to ++ below) x)
+
+-- by the next rule of a deletion an object may die, and is then the one whose `destroyed` goes on
+pub record Kills (p : Loaded) (w : World) (next : Option ℕ) (before torn : List ℕ) (x : ℕ) : Type 0 where
+  pub gives :
+      (below : List Activation) (t : State) →
+      Dies (at w (Destroy next before ∷ below)) (Destroy (Some x) torn ∷ below) x t → Rule p (at w (Destroy next before ∷ below)) t
+
 -- the arguments of a call are those that its method declares
 abbrev pub CallFits : Loaded → List Object → MethodCall → Type 0
 CallFits p objects call = ArgumentsFit p objects call.object call.method call.arguments.now
@@ -122,11 +142,15 @@ begin_entry depth x m method given (Slot statements) = At depth (happening.Calle
 
 -- the entry of a method of an object that begins with these arguments, where so many activations are on the stack
 abbrev pub entry_of_call : World → ℕ → Object → ℕ → MetaMethod → List Value → Entry
-entry_of_call w depth x m method arguments = begin_entry depth x m method.sig.name (all_shown w.objects arguments) method.work
+entry_of_call w depth x m method arguments = begin_entry depth x m method.sig.name (all_shown w.store.tree arguments) method.work
+
+-- .. of the signal `destroyed` of an object of this name
+abbrev pub entry_of_destroyed : ℕ → List ℕ → Entry
+entry_of_destroyed depth name = At depth (happening.Emitted name destroyed.name (show.Null ∷ []) false)
 
 -- .. of a call of a method of an object that is posted to the event loop of this name
 abbrev pub entry_of_post : World → ℕ → List ℕ → Object → MetaMethod → List Value → Entry
-entry_of_post w depth name x method arguments = At depth (happening.Posted name x.name method.sig.name (all_shown w.objects arguments))
+entry_of_post w depth name x method arguments = At depth (happening.Posted name x.name method.sig.name (all_shown w.store.tree arguments))
 
 -- a connection was used and a call of a method posted to the event loop in which its object lives, where so many
 -- activations are on the stack; or memory was refused
@@ -134,11 +158,11 @@ pub record PostsCall (p : Loaded) (w : World) (depth : ℕ) (c : Connection) (o 
     (v : World) (result : Result (Unit {0}) Fault) : Type 0 where
   pub object : Object
   pub method : MetaMethod
-  pub is : IsMember p w.objects o m object method
+  pub is : IsMember p w.store.tree o m object method
   pub name : List ℕ
   pub home : ℕ
-  pub lives_in : home_of w.objects o ≡ Some home
-  pub is_loop : HasName w.queues.loops name home
+  pub lives_in : home_of w.store.tree o ≡ Some home
+  pub is_loop : HasName w.store.loops.loops name home
   pub becomes :
       Becomes w (posting (having_used w c) (entry_of_post w depth name object method arguments ∷ []) home (Call o m arguments)) v result
 
@@ -154,16 +178,16 @@ pub record IsBegun (p : Loaded) (depth : ℕ) (active : List (Option ℕ)) (w : 
   pub room : length active < depth
   pub object : Object
   pub method : MetaMethod
-  pub is : IsMember p w.objects o m object method
+  pub is : IsMember p w.store.tree o m object method
   pub is_line : line ≡ entry_of_call w (length active + 1) object m method arguments
   pub is_work : work ≡ method.work
-  pub is_last : last ≡ w.connected.last
+  pub is_last : last ≡ w.store.connections.last
 
 -- why a method that fits doesn't begin: activations would nest too deep, or memory was refused
 abbrev pub IsBarred : ℕ → List (Option ℕ) → Fault → Type 0
 IsBarred depth shown fault = (depth ≤ length shown) × (fault ≡ TooDeep) ⊎ (fault ≡ Memory)
 
--- ---- connections that statements make and remove
+-- ---- connections that statements make and remove, and deletions that they schedule
 
 -- an object or its method isn't there
 abbrev pub LacksEnds : Loaded → List Object → Endpoints → Type 0
@@ -171,8 +195,8 @@ LacksEnds p objects ends = ¬ AreThere p objects ends
 
 -- this is the answer to a statement that connects
 pub record IsJudged (p : Loaded) (w : World) (ends : Endpoints) (how : ConnectionType) (answer : Result (Unit {0}) Refusal) : Type 0 where
-  pub spelled : AreThere p w.objects ends
-  pub is : may_connect p w.connected (found_ends spelled) spelled.signal.sig spelled.method.sig how answer
+  pub spelled : AreThere p w.store.tree ends
+  pub is : may_connect p w.store.connections (found_ends spelled) spelled.signal.sig spelled.method.sig how answer
 
 -- these are the names at two ends
 pub record NamesEnds (p : Loaded) (objects : List Object) (ends : Endpoints) (names : Named (List ℕ)) : Type 0 where
@@ -186,7 +210,8 @@ LacksNames p objects ends fault = LacksEnds p objects ends × (fault ≡ IllType
 -- a rule that pushes nothing was carried out, as this relation tells, where so many activations are on the stack
 pub record Went (What : State → List Activation → State → Type 0) (w : World) (depth : ℕ) (v : World) : Type 0 where
   pub tells : (old stack : List Activation) → length stack ≡ depth → What (at w old) stack (at v stack)
-  pub objects : v.objects ≡ w.objects
+  pub typed : StayTyped w.store.tree v.store.tree
+  pub spared : NoneDied w.store.tree v.store.tree
   pub left : v.left ≡ w.left - 1
 
 -- .. or there is none of which it tells, or memory was refused; then nothing changed
@@ -203,3 +228,24 @@ abbrev pub DisconnectsIn : Loaded → World → ℕ → Endpoints → World → 
 DisconnectsIn p w depth ends v result =
     let What : State → List Activation → State → Type 0 = λ s stack t. Disconnects p s stack ends t in
     MatchResult result (λ _. Went What w depth v) (Stays What w v)
+
+abbrev pub SchedulesIn : World → ℕ → ℕ → World → Result (Unit {0}) Fault → Type 0
+SchedulesIn w depth x v result =
+    let What : State → List Activation → State → Type 0 = λ s stack t. Schedules s stack x t (life_of s.objects x) in
+    MatchResult result (λ _. Went What w depth v) (Stays What w v)
+
+-- .. an object was forgotten, which comes last among those that are torn down then; or no rule was left, or memory was
+-- refused
+abbrev pub Forgets : World → List ℕ → ℕ → World → List ℕ → Result (Unit {0}) Fault → Type 0
+Forgets w torn x v after (Ok went) = (0 < w.left) × (v ≡ ending w x) × (after ≡ torn ++ x ∷ [])
+Forgets w torn x v after (Err fault) = (v ≡ w) × ((w.left ≡ 0) × (fault ≡ Steps) ⊎ (0 < w.left) × (fault ≡ Memory))
+
+-- the first item that a turn may deliver is a call of a living object
+pub record IsCalled (w : World) (turn : Turn) : Type 0 where
+  pub first : Posted
+  pub found : find (is_before turn.limit) (items_at w.store.loops.loops turn.home) ≡ Some first
+  pub object : ℕ
+  pub method : ℕ
+  pub arguments : List Value
+  pub is : first.item ≡ Call object method arguments
+  pub lives : is_living w.store.tree object ≡ true

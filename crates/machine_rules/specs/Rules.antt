@@ -18,7 +18,8 @@ use Rattle.event_loops.specs.declared.item.Item.TheVariants.{Call, Deletion}
 use Rattle.event_loops.specs.declared.item.Posted.{Posted}
 use Rattle.event_loops.specs.Queues.{HasName, items_at, is_before, posted_to, taken_before}
 use Rattle.object_tree.specs.declared.object.Object.{Object}
-use Rattle.object_tree.specs.Objects.{change_life, written}
+use Rattle.object_tree.specs.Objects.{change_life, written, life_of}
+use Rattle.object_tree.specs.declared.life.Life.{Life}
 use Rattle.object_tree.specs.Seen.{seen}
 use Rattle.connections.specs.declared.connection.Connection.{Connection}
 use Rattle.machine_state.specs.declared.entry.Entry.{Entry}
@@ -33,8 +34,9 @@ use Rattle.machine_state.specs.Connections.{is_silent, next_used, after_use}
 use Rattle.machine_state.specs.Objects.{stored, shown, all_shown, home_of}
 use Rattle.machine_rules.specs.There.{IsMember, IsField}
 use Rattle.machine_rules.specs.Connecting.{AreThere, kept_ends, names_of, found_ends, may_connect, may_disconnect}
-use Rattle.machine_rules.specs.Doings.{Doing, Write, Begin, Choose, Connect, Disconnect, Nothing, doing}
-use Rattle.machine_state.specs.State.{State, Place, Activation, Body, Emit, Update}
+use Rattle.machine_rules.specs.Destroying.{deleting, DestroyRule, Schedules}
+use Rattle.machine_rules.specs.Doings.{Doing, Write, Begin, Choose, Connect, Disconnect, Delete, Schedule, Nothing, doing}
+use Rattle.machine_state.specs.State.{State, Place, Activation, Body, Emit, Update, Destroy}
 use Rattle.machine_state.specs.Turns.{running, reaches_at_once}
 use Rattle.machine_state.specs.declared.turn.Turn.{Turn}
 
@@ -96,10 +98,15 @@ pub record Notifies (p : Loaded) (s : State) (below : List Activation) (place : 
   pub is_method : IsMethod p is.life.class signal method
   pub gives : t ≡ begun s below place.object object signal method (take (length method.kinds) (present ∷ [])) Signal
 
+-- .. if its object lives; a dead one notifies nobody
+abbrev pub NotifiesIf : Loaded → State → List Activation → Place → State → Option Life → Type 0
+NotifiesIf p s below place t None = t ≡ record s { stack = below }
+NotifiesIf p s below place t (Some l) = Notifies p s below place t
+
 -- the next property is notified; with none left the update ends
 abbrev pub UpdateRule : Loaded → State → List Activation → State → List Place → Type 0
 UpdateRule p s below t [] = t ≡ record s { stack = below }
-UpdateRule p s below t (place ∷ places) = Notifies p s (Update places ∷ below) place t
+UpdateRule p s below t (place ∷ places) = NotifiesIf p s (Update places ∷ below) place t (life_of s.objects place.object)
 
 -- ---- bodies
 
@@ -140,6 +147,8 @@ Does p s o m arguments rest below (Begin x n given) t = Begins p s (Body o m arg
 Does p s o m arguments rest below (Choose block) t = t ≡ record s { stack = Body o m arguments (block ++ rest) ∷ below }
 Does p s o m arguments rest below (Connect ends how) t = Connects p s (Body o m arguments rest ∷ below) ends how t
 Does p s o m arguments rest below (Disconnect ends) t = Disconnects p s (Body o m arguments rest ∷ below) ends t
+Does p s o m arguments rest below (Delete x) t = t ≡ deleting s (Body o m arguments rest ∷ below) x
+Does p s o m arguments rest below (Schedule x) t = Schedules s (Body o m arguments rest ∷ below) x t (life_of s.objects x)
 Does p s o m arguments rest below Nothing t = t ≡ told s (Body o m arguments rest ∷ below) happening.OnNull
 
 -- a statement is carried out, and `rest` follows it
@@ -197,10 +206,15 @@ EmitRule p s o g arguments last below t (Some c) = Uses p s (Emit o g arguments 
 
 -- ---- turns of event loops
 
--- an item is delivered: the call begins
+-- a call begins, if its object lives
+abbrev pub BeginsIf : Loaded → State → ℕ → ℕ → List Value → State → Option Life → Type 0
+BeginsIf p s o m arguments t None = t ≡ s
+BeginsIf p s o m arguments t (Some l) = Begins p s [] o m arguments t
+
+-- an item is delivered: the call, or the deletion, begins
 abbrev pub Delivers : Loaded → State → State → Item → Type 0
-Delivers p s t (Call o m arguments) = Begins p s [] o m arguments t
-Delivers p s t (Deletion o) = ⊥
+Delivers p s t (Call o m arguments) = BeginsIf p s o m arguments t (life_of s.objects o)
+Delivers p s t (Deletion o) = t ≡ deleting s [] o
 
 -- the first item that was posted before the turn began is taken and delivered; with none left the turn ends
 abbrev pub Serves : Loaded → State → State → Turn → Option Posted → Type 0
@@ -222,6 +236,7 @@ RuleAt p s t (Body o m arguments left ∷ below) = BodyRule p s o m arguments be
 RuleAt p s t (Emit o g arguments used last ∷ below) =
     EmitRule p s o g arguments last below t (next_used s.objects s.connected.connections o g used last)
 RuleAt p s t (Update places ∷ below) = UpdateRule p s below t places
+RuleAt p s t (Destroy next torn ∷ below) = DestroyRule s below t next torn
 
 -- t follows s by one rule
 abbrev pub Rule : Loaded → State → State → Type 0

@@ -2,10 +2,10 @@
 use Rattle.std.specs.Prelude.{◌≡◌, ℕ, suc, ◌<◌, ◌⊎◌, length}
 use Rattle.meta_model.specs.Loaded.{Loaded}
 use Rattle.machine_state.specs.declared.fault.Fault.{Fault}
-use Rattle.machine_state.specs.declared.fault.Fault.TheVariants.{BadType, TooDeep, Steps, Memory, Stopped}
+use Rattle.machine_state.specs.declared.fault.Fault.TheVariants.{BadType, TooDeep, InUse, Steps, Memory, Stopped}
 use Rattle.machine_state.specs.State.{State, IsIdle}
 use Rattle.machine_rules.specs.Rules.{Rule}
-use Rattle.machine_rules.specs.Good.{IsWell, IsGood}
+use Rattle.machine_rules.specs.Good.{IsWell, Spares, IsGood}
 
 -- From s, with so many rules left, to t, with so many left: each state follows the one before it by one rule that
 -- brings no bad moment.
@@ -26,17 +26,27 @@ pub record GoesIll (p : Loaded) (s : State) (Follows : State → Type 0) : Type 
   pub follows : Follows t
   pub ill : ¬ IsWell p s t
 
+-- what follows lets an object die while a body of it is active, and is well but for that
+pub record GoesFatal (p : Loaded) (s : State) (Follows : State → Type 0) : Type 0 where
+  pub t : State
+  pub follows : Follows t
+  pub well : IsWell p s t
+  pub fatal : ¬ Spares s t
+
 -- what follows nests too deep, and is well but for that
 pub record GoesDeep (p : Loaded) (depth : ℕ) (s : State) (Follows : State → Type 0) : Type 0 where
   pub t : State
   pub follows : Follows t
   pub well : IsWell p s t
+  pub spared : Spares s t
   pub deep : depth < length t.stack
 
--- Why a run stops in a state. Nothing follows, or what follows would give a value of a wrong type; it would nest too
--- deep; no rule is left where one is due; memory was refused where a rule is due.
+-- Why a run stops in a state. Nothing follows, or what follows would give a value of a wrong type; an object would die
+-- while a body of it is active; it would nest too deep; no rule is left where one is due; memory was refused where a rule
+-- is due.
 abbrev pub Reason : Type 0 → (State → Type 0) → Type 0 → Loaded → ℕ → State → ℕ → Fault → Type 0
 Reason Stuck Follows Due p depth s left BadType = (0 < left) × (Stuck ⊎ GoesIll p s Follows)
+Reason Stuck Follows Due p depth s left InUse = (0 < left) × GoesFatal p s Follows
 Reason Stuck Follows Due p depth s left TooDeep = (0 < left) × GoesDeep p depth s Follows
 Reason Stuck Follows Due p depth s left Steps = (left ≡ 0) × Due
 Reason Stuck Follows Due p depth s left Memory = (0 < left) × Due

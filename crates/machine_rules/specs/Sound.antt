@@ -1,14 +1,15 @@
--- What every machine keeps: properties have values of their types, no connection names something that isn't there, what a
--- connection calls takes the first arguments of its signal, each object lives in a loop that is there, and what waits in
--- the loops may begin (docs/machine.md, "What every run keeps").
-use Rattle.std.specs.Prelude.{◌≡◌, ℕ, ◌+◌, ◌^◌, ◌<◌, List, ◌++◌, length, Some}
+-- What every machine keeps: properties have values of their types, connections join methods that their objects have or had,
+-- what a connection calls takes the first arguments of its signal, each object lives in a loop that is there, and what
+-- waits in the loops may begin (docs/machine.md, "What every run keeps").
+use Rattle.std.specs.Prelude.{◌≡◌, ℕ, ◌+◌, ◌^◌, ◌<◌, List, ◌++◌, length, take, Some}
 use Rattle.std.specs.List.{AllByRecursion}
 use Rattle.meta_model.specs.declared.object.MetaMethod.{MetaMethod}
 use Rattle.meta_model.specs.declared.object.MetaObject.{MetaObject}
 use Rattle.meta_model.specs.declared.object.MetaProperty.{MetaProperty}
 use Rattle.meta_model.specs.declared.object.ValueType.{ValueType}
 use Rattle.meta_model.specs.Loaded.{Loaded}
-use Rattle.meta_model.specs.Members.{IsClass}
+use Rattle.meta_model.specs.Members.{IsClass, IsMethod}
+use Rattle.meta_model.specs.declared.qobject.TheConstants.{DESTROYED}
 use Rattle.meta_model.specs.Sound.{IsSound, IsSoundProperty}
 use Rattle.connections.specs.declared.connection.Connection.{Connection}
 use Rattle.event_loops.specs.declared.item.Item.{Item}
@@ -19,31 +20,68 @@ use Rattle.machine_state.specs.Objects.{home_of}
 use Rattle.object_tree.specs.declared.life.Life.{Life}
 use Rattle.object_tree.specs.declared.object.Object.{Object}
 use Rattle.object_tree.specs.Objects.{Lives}
-use Rattle.object_tree.specs.Typed.{AreTyped}
+use Rattle.object_tree.specs.Typed.{AreTyped, ReadAs}
 use Rattle.signatures.specs.declared.value.Value.{Value}
 use Rattle.machine_rules.specs.There.{IsMember}
-use Rattle.machine_rules.specs.Good.{ArgumentsFit}
+use Rattle.machine_rules.specs.Good.{destroyed_kinds}
 
--- a connection joins a signal and a method of two living objects, and the method fits the signal
+-- ---- methods of objects that may be dead by now
+
+-- a method of a class that declares these types
+pub record IsDeclared (p : Loaded) (class m : ℕ) (kinds : List ValueType) : Type 0 where
+  pub method : MetaMethod
+  pub is : IsMethod p class m method
+  pub takes : method.kinds ≡ kinds
+
+-- an object has this number, and as long as it lives, its method m declares these types
+pub record Takes (p : Loaded) (objects : List Object) (o m : ℕ) (kinds : List ValueType) : Type 0 where
+  pub created : o < length objects
+  pub living : (x : Object) (life : Life) → Lives objects o x life → IsDeclared p life.class m kinds
+
+-- .. its signal g does so; those of `destroyed(QObject*)` are known when it is dead, too
+pub record Sends (p : Loaded) (objects : List Object) (o g : ℕ) (kinds : List ValueType) : Type 0 where
+  pub takes : Takes p objects o g kinds
+  pub last : g ≡ DESTROYED → kinds ≡ destroyed_kinds
+
+-- a method of an object takes these arguments, as they read
+pub record TakesThese (p : Loaded) (objects : List Object) (o m : ℕ) (arguments : List Value) : Type 0 where
+  pub kinds : List ValueType
+  pub takes : Takes p objects o m kinds
+  pub typed : ReadAs p objects arguments kinds
+
+-- .. and a signal, which is emitted with them
+pub record SendsThese (p : Loaded) (objects : List Object) (o g : ℕ) (arguments : List Value) : Type 0 where
+  pub kinds : List ValueType
+  pub sends : Sends p objects o g kinds
+  pub typed : ReadAs p objects arguments kinds
+
+-- ---- connections and items
+
+-- a connection joins a signal to a method that takes the first of its arguments
 pub record Joined (p : Loaded) (objects : List Object) (c : Connection) : Type 0 where
-  pub sender : Object
-  pub signal : MetaMethod
-  pub sends : IsMember p objects c.sender c.signal sender signal
+  pub kinds : List ValueType
+  pub rest : List ValueType
+  pub sends : Sends p objects c.sender c.signal (kinds ++ rest)
+  pub receives : Takes p objects c.receiver c.method kinds
+
+-- the connection's receiver lives, and its method takes the first of these arguments
+pub record IsDelivered (p : Loaded) (objects : List Object) (c : Connection) (arguments : List Value) : Type 0 where
   pub receiver : Object
   pub method : MetaMethod
-  pub receives : IsMember p objects c.receiver c.method receiver method
-  pub rest : List ValueType
-  pub fits : signal.kinds ≡ method.kinds ++ rest
+  pub is : IsMember p objects c.receiver c.method receiver method
+  pub typed : ReadAs p objects (take (length method.kinds) arguments) method.kinds
+
+-- ---- the world
 
 -- the loop `main` is there, and each living object lives in an event loop that is there
 pub record AreHoused (objects : List Object) (loops : List Loop) : Type 0 where
   pub has_main : 0 < length loops
   pub each : (o home : ℕ) → home_of objects o ≡ Some home → home < length loops
 
--- what waits is a call of a method of an object that is there, with arguments that fit
+-- what waits is a call of a method with arguments that fit, or the deletion of an object
 abbrev pub Waits : Loaded → List Object → Item → Type 0
-Waits p objects (Call o m arguments) = ArgumentsFit p objects o m arguments
-Waits p objects (Deletion o) = ⊥
+Waits p objects (Call o m arguments) = TakesThese p objects o m arguments
+Waits p objects (Deletion o) = o < length objects
 
 -- .. so of all items of all loops
 abbrev pub AllWait : Loaded → List Object → List Loop → Type 0
@@ -58,13 +96,9 @@ pub record Sound (p : Loaded) (objects : List Object) (connections : List Connec
 -- .. in a world, where the program is sound, and with each rule that is left a connection and an item may still be numbered
 pub record IsSoundWorld (p : Loaded) (w : World) : Type 0 where
   pub program : IsSound p
-  pub is : Sound p w.objects w.connected.connections w.queues.loops
-  pub numbers : w.connected.last + w.left < 2 ^ 63
-  pub room : w.queues.posted + w.left < 2 ^ 63
-
--- the arguments are those that a connection's signal declares
-abbrev pub SignalFits : Loaded → List Object → Connection → List Value → Type 0
-SignalFits p objects c arguments = ArgumentsFit p objects c.sender c.signal arguments
+  pub is : Sound p w.store.tree w.store.connections.connections w.store.loops.loops
+  pub numbers : w.store.connections.last + w.left < 2 ^ 63
+  pub room : w.store.loops.posted + w.left < 2 ^ 63
 
 -- a property is as the class of its object has it in a sound program
 abbrev pub IsSoundIn : Loaded → List Object → ℕ → MetaProperty → Type 0

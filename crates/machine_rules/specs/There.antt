@@ -1,5 +1,5 @@
--- What is there: a living object and one of its methods or properties (docs/machine.md, "Rules").
-use Rattle.std.specs.Prelude.{◌≡◌, ℕ, List, Some, slice_get}
+-- What is there: a living object and one of its methods or properties; and what is dead (docs/machine.md, "Rules").
+use Rattle.std.specs.Prelude.{◌≡◌, ℕ, List, None, Some, slice_get}
 use Rattle.meta_model.specs.declared.object.MetaMethod.{MetaMethod}
 use Rattle.meta_model.specs.declared.object.MetaObject.{MetaObject}
 use Rattle.meta_model.specs.declared.object.MetaProperty.{MetaProperty}
@@ -8,6 +8,7 @@ use Rattle.meta_model.specs.Members.{IsClass, IsMethod}
 use Rattle.object_tree.specs.declared.life.Life.{Life}
 use Rattle.object_tree.specs.declared.object.Object.{Object}
 use Rattle.object_tree.specs.Objects.{Lives}
+use Rattle.object_tree.specs.Seen.{seen_reference}
 
 -- a living object and one of its methods
 pub record IsMember (p : Loaded) (objects : List Object) (o m : ℕ) (x : Object) (method : MetaMethod) : Type 0 where
@@ -30,3 +31,11 @@ pub record IsField (p : Loaded) (objects : List Object) (o q : ℕ) (x : Object)
 -- no such object lives, or it has no such property
 abbrev pub LacksField : Loaded → List Object → ℕ → ℕ → Type 0
 LacksField p objects o q = (x : Object) (property : MetaProperty) → ¬ IsField p objects o q x property
+
+-- the object was created, and lives no more
+abbrev pub IsDead : List Object → ℕ → Type 0
+IsDead objects o = seen_reference objects (Some o) ≡ None
+
+-- no object has died
+abbrev pub NoneDied : List Object → List Object → Type 0
+NoneDied old new = (o : ℕ) → IsDead new o → IsDead old o

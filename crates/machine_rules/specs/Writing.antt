@@ -20,7 +20,7 @@ use Rattle.machine_rules.specs.There.{IsField, LacksField}
 
 -- the entry of a property of an object that is written, where so many activations are on the stack
 abbrev pub entry_of_write : World → ℕ → Object → MetaProperty → Value → Entry
-entry_of_write w depth x property new = At depth (Written x.name property.name (shown w.objects new))
+entry_of_write w depth x property new = At depth (Written x.name property.name (shown w.store.tree new))
 
 -- the signal is what is to be emitted where this value is written to the property: the property's notify signal, if the
 -- value doesn't read as the old one
@@ -41,18 +41,18 @@ pub record Alters (p : Loaded) (objects : List Object) (o q : ℕ) (new : Value)
 pub record IsWriting (p : Loaded) (depth : ℕ) (active : List (Option ℕ)) (w : World) (o q : ℕ) (new : Value)
     (line : Entry) (changed : Option ℕ) : Type 0 where
   pub room : length active < depth
-  pub alters : Alters p w.objects o q new changed
-  pub fits : ReadsAs p w.objects new alters.property.kind
+  pub alters : Alters p w.store.tree o q new changed
+  pub fits : ReadsAs p w.store.tree new alters.property.kind
   pub is_line : line ≡ entry_of_write w (length active + 1) alters.object alters.property new
 
 -- why a property isn't written: it isn't there, the value isn't of its type, activations would nest too deep, or memory
 -- was refused
 pub data IsUnwritten (p : Loaded) (depth : ℕ) (active : List (Option ℕ)) (w : World) (o q : ℕ) (new : Value) : Fault → Type 0 where
-  missing : LacksField p w.objects o q → IsUnwritten p depth active w o q new BadType
-  ill : {changed : Option ℕ} (alters : Alters p w.objects o q new changed) →
-      (¬ ReadsAs p w.objects new alters.property.kind) → IsUnwritten p depth active w o q new BadType
-  deep : {changed : Option ℕ} (alters : Alters p w.objects o q new changed) →
-      ReadsAs p w.objects new alters.property.kind → depth ≤ length active →
+  missing : LacksField p w.store.tree o q → IsUnwritten p depth active w o q new BadType
+  ill : {changed : Option ℕ} (alters : Alters p w.store.tree o q new changed) →
+      (¬ ReadsAs p w.store.tree new alters.property.kind) → IsUnwritten p depth active w o q new BadType
+  deep : {changed : Option ℕ} (alters : Alters p w.store.tree o q new changed) →
+      ReadsAs p w.store.tree new alters.property.kind → depth ≤ length active →
       IsUnwritten p depth active w o q new TooDeep
   short : IsUnwritten p depth active w o q new Memory
 

@@ -1,6 +1,7 @@
 //! What is active below.
 
 ghost use Rattle.std.specs.Prelude.{◌≡◌, ◌<◌, [], ◌∷◌, length};
+ghost use Rattle.machine_rules.specs.Active.{shows_body, frame_shows};
 
 use signatures::ObjectId;
 use std::marker::Model;
@@ -33,6 +34,18 @@ impl<'b> Model for Active<'b> {
     ghost invariant = { λ active. active.count ≡ length (frame_shows active.latest) };
 }
 
+impl<'b> Frame<'b> {
+    /// Whether one of these is a body of the object.
+    fn has_body(&self, object: ObjectId) -> bool
+        ensures { result ≡ shows_body object (frame_shows self.now) }
+    {
+        match self {
+            Frame::Nothing => false,
+            Frame::Over(body, below) => *body == Some(object) || below.has_body(object),
+        }
+    }
+}
+
 impl<'b> Active<'b> {
     /// Nothing is active.
     #[tactic(auto, using(crate::proofs::Frames::equations))]
@@ -54,6 +67,13 @@ impl<'b> Active<'b> {
             latest: Frame::Over(body, &self.latest),
             count: self.count + 1,
         }
+    }
+
+    /// Whether a body of the object is active.
+    pub fn has_body(&self, object: ObjectId) -> bool
+        ensures { result ≡ shows_body object self.now }
+    {
+        self.latest.has_body(object)
     }
 
     /// How many there are.

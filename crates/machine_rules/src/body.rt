@@ -74,19 +74,21 @@ impl Setting {
             }
             Doing::Connect(ends, how) => self.connect(world, over.count(), ends, how),
             Doing::Disconnect(ends) => self.disconnect(world, over.count(), ends),
+            Doing::Delete(target) => self.delete(world, &over, target),
+            Doing::Schedule(target) => self.schedule(world, over.count(), target),
             Doing::Nothing => world.note([Entry::At(over.count(), Happening::OnNull)]),
         }
     }
 
     /// What the body of a call reads.
     fn scope<'w>(&self, world: &'w World, call: &'w MethodCall<'_>) -> Scope<'w>
-        ensures objects { result.objects.now ≡ world.now.objects }
+        ensures objects { result.objects.now ≡ world.now.store.tree }
         ensures this { result.this ≡ call.now.object }
         ensures arguments { result.arguments.now ≡ call.now.arguments.now }
     {
         Scope {
             alloc: self.alloc,
-            objects: &world.objects,
+            objects: &world.store.tree,
             this: call.object,
             arguments: call.arguments,
         }

@@ -26,7 +26,7 @@ impl Setting {
         how: ConnectionType,
     ) -> Result<(), Fault>
         requires left { 0 < world.old.left }
-        requires few { world.old.connected.last < 2 ^ 63 - 1 }
+        requires few { world.old.store.connections.last < 2 ^ 63 - 1 }
         ensures { ConnectsIn self.now.meta world.old depth ends how world.new result }
     {
         let Some(answer) = self.judged(world, &ends, how) else {
@@ -66,7 +66,7 @@ impl Setting {
         method: &Sig,
         how: ConnectionType,
     ) -> Result<(), Refusal>
-        ensures { may_connect self.now.meta world.now.connected found.now
+        ensures { may_connect self.now.meta world.now.store.connections found.now
             signal.now method.now how result }
     {
         match self
@@ -87,13 +87,13 @@ impl Setting {
         ends: &Endpoints,
         how: ConnectionType,
     ) -> Option<Result<(), Refusal>>
-        ensures { MatchOption result (LacksEnds self.now.meta world.now.objects ends.now)
+        ensures { MatchOption result (LacksEnds self.now.meta world.now.store.tree ends.now)
             (IsJudged self.now.meta world.now ends.now how) }
     {
-        let Some((_, sender)) = world.objects.get(ends.sender) else {
+        let Some((_, sender)) = world.store.tree.get(ends.sender) else {
             return None;
         };
-        let Some((_, receiver)) = world.objects.get(ends.receiver) else {
+        let Some((_, receiver)) = world.store.tree.get(ends.receiver) else {
             return None;
         };
         let Some(signal) = self.meta.method_at(sender.class, ends.signal) else {
@@ -112,8 +112,8 @@ impl Setting {
 
     /// The names at two ends; `BadType` where an object or its method isn't there.
     fn names(&self, world: &World, ends: &Endpoints) -> Result<texts::Endpoints<Name>, Fault>
-        ensures ok { IfOk result (NamesEnds self.now.meta world.now.objects ends.now) }
-        ensures err { IfErr result (LacksNames self.now.meta world.now.objects ends.now) }
+        ensures ok { IfOk result (NamesEnds self.now.meta world.now.store.tree ends.now) }
+        ensures err { IfErr result (LacksNames self.now.meta world.now.store.tree ends.now) }
     {
         let Some((sender, signal)) = self.member(world, ends.sender, ends.signal) else {
             return Err(Fault::BadType);

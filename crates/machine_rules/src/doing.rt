@@ -1,7 +1,7 @@
 //! What the statements of a body do.
 
 ghost use Rattle.std.specs.Prelude.{◌≡◌};
-ghost use Rattle.meta_model.specs.declared.object.Statement.TheOpen.{Set, Emit, Call, If, Connect, Disconnect};
+ghost use Rattle.meta_model.specs.declared.object.Statement.TheOpen.{Set, Emit, Call, If, Connect, Disconnect, Delete, Later};
 ghost use Rattle.meta_model.specs.declared.object.Statement.TheViews.{out-Statement};
 ghost use Rattle.machine_rules.specs.Scope.{doing_in};
 ghost use Rattle.machine_rules.specs.Coded.{Yields, FindsEnds, chosen_of};
@@ -27,6 +27,10 @@ pub enum Doing<'p> {
     Connect(Endpoints, ConnectionType),
     /// The connections between a signal and a method are removed.
     Disconnect(Endpoints),
+    /// An object is deleted.
+    Delete(ObjectId),
+    /// .. when control returns to the event loop in which it lives.
+    Schedule(ObjectId),
     /// Nothing, since a path leads to null.
     Nothing,
 }
@@ -45,6 +49,8 @@ impl<'w> Scope<'w> {
             }
             Statement::Connect(ends, how) => self.connection(ends, *how),
             Statement::Disconnect(ends) => self.disconnection(ends),
+            Statement::Delete(path) => self.deletion(path),
+            Statement::Later(path) => self.later_deletion(path),
         }
     }
 
@@ -114,6 +120,26 @@ impl<'w> Scope<'w> {
             return Ok(Doing::Nothing);
         };
         Ok(Doing::Disconnect(between))
+    }
+
+    /// The object that a path leads to is deleted.
+    fn deletion<'p>(&self, path: &MetaPath) -> Result<Doing<'p>, EvalFault>
+        ensures { Yields (doing_in self.now (Delete path.now)) result }
+    {
+        let Some(target) = self.object_at(path)? else {
+            return Ok(Doing::Nothing);
+        };
+        Ok(Doing::Delete(target))
+    }
+
+    /// .. when control returns to its event loop.
+    fn later_deletion<'p>(&self, path: &MetaPath) -> Result<Doing<'p>, EvalFault>
+        ensures { Yields (doing_in self.now (Later path.now)) result }
+    {
+        let Some(target) = self.object_at(path)? else {
+            return Ok(Doing::Nothing);
+        };
+        Ok(Doing::Schedule(target))
     }
 
     /// The ends whose objects two paths lead to, or `None` where one leads to null.

@@ -1,7 +1,7 @@
 //! Emissions, and the beginning of methods.
 
 ghost use Rattle.std.specs.Prelude.{◌<◌, length};
-ghost use Rattle.machine_rules.specs.Sound.{IsSoundWorld, Joined, SignalFits};
+ghost use Rattle.machine_rules.specs.Sound.{IsSoundWorld, SendsThese, IsDelivered};
 ghost use Rattle.machine_state.specs.State.{Emit};
 ghost use Rattle.machine_rules.specs.Calls.{Finishes, Delivers, EndsCall, EndsUse, EndsOnlyCall};
 ghost use Rattle.machine_rules.specs.Reaches.{CallFits, top_of};
@@ -27,7 +27,8 @@ impl Setting {
     ) -> Result<(), Fault>
         requires room { length active.now < self.now.depth }
         requires sound { IsSoundWorld self.now.meta world.old }
-        requires emitted { CallFits self.now.meta world.old.objects call.now }
+        requires emitted { SendsThese self.now.meta world.old.store.tree
+            call.now.object call.now.method call.now.arguments.now }
         ensures ends { Finishes self.now active.now
             (Emit call.now.object call.now.method call.now.arguments.now 0 last)
             world.old world.new result }
@@ -53,8 +54,7 @@ impl Setting {
     ) -> Result<(), Fault>
         requires room { length active.now < self.now.depth }
         requires sound { IsSoundWorld self.now.meta world.old }
-        requires joined { Joined self.now.meta world.old.objects connection }
-        requires emitted { SignalFits self.now.meta world.old.objects connection arguments.now }
+        requires takes { IsDelivered self.now.meta world.old.store.tree connection arguments.now }
         ensures ends { Delivers self.now active.now
             connection arguments.now world.old world.new result }
     {
@@ -91,7 +91,7 @@ impl Setting {
     ) -> Result<(), Fault>
         requires sound { IsSoundWorld self.now.meta world.old }
         requires left { 0 < world.old.left }
-        requires fit { CallFits self.now.meta world.old.objects call.now }
+        requires fit { CallFits self.now.meta world.old.store.tree call.now }
         ensures ends { EndsUse self.now active.now
             connection.now call.now world.old world.new result }
     {
@@ -117,7 +117,8 @@ impl Setting {
             return Err(Fault::BadType);
         };
         if !world
-            .objects
+            .store
+            .tree
             .have_types(&self.meta, call.arguments, declared.kinds.as_slice())
         {
             return Err(Fault::BadType);
@@ -135,7 +136,7 @@ impl Setting {
     ) -> Result<(), Fault>
         requires sound { IsSoundWorld self.now.meta world.old }
         requires left { 0 < world.old.left }
-        requires fit { CallFits self.now.meta world.old.objects call.now }
+        requires fit { CallFits self.now.meta world.old.store.tree call.now }
         ensures ends { EndsCall self.now active.now call.now world.old world.new result }
     {
         let (line, begun) = self.begun(world, active, call)?;
@@ -154,7 +155,7 @@ impl Setting {
     ) -> Result<(), Fault>
         requires room { length active.now < self.now.depth }
         requires sound { IsSoundWorld self.now.meta world.old }
-        requires fit { CallFits self.now.meta world.old.objects call.now }
+        requires fit { CallFits self.now.meta world.old.store.tree call.now }
         ensures ends { Finishes self.now active.now
             (top_of call.now.object call.now.method call.now.arguments.now
             begun.now.last begun.now.work.now)

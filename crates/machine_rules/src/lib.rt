@@ -1,10 +1,11 @@
-//! The rules of a run: emissions, bodies of slots, connections that these make, writes of properties and turns of event
-//! loops.
+//! The rules of a run: emissions, bodies of slots, connections that these make, writes of properties, deletions of objects
+//! and turns of event loops.
 #![tactic(auto)]
 
 mod active;
 mod body;
 mod connecting;
+mod destruction;
 mod doing;
 mod emission;
 mod ends;

@@ -26,7 +26,7 @@ impl Setting {
     ) -> Result<(), Fault>
         requires sound { IsSoundWorld self.now.meta world.old }
         requires left { 0 < world.old.left }
-        requires fit { CallFits self.now.meta world.old.objects call.now }
+        requires fit { CallFits self.now.meta world.old.store.tree call.now }
         ensures { PostsCall self.now.meta world.old depth connection.now
             call.now.object call.now.method call.now.arguments.now world.new result }
     {
@@ -36,7 +36,7 @@ impl Setting {
         let Some(home) = world.home(call.object) else {
             unreachable!()
         };
-        let Some(event_loop) = world.queues.name(home) else {
+        let Some(event_loop) = world.store.loops.name(home) else {
             unreachable!()
         };
         let entry = self.post_entry(world, depth, event_loop, receiver, declared, call.arguments)?;
@@ -66,7 +66,7 @@ impl Setting {
             event_loop: event_loop.copy()?,
             object: object.name.copy()?,
             method: method.sig.name.copy()?,
-            arguments: show_all(self.alloc, &world.objects, arguments)?,
+            arguments: show_all(self.alloc, &world.store.tree, arguments)?,
         };
         Ok(Entry::At(depth, posted))
     }

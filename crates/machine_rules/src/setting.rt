@@ -58,10 +58,10 @@ impl Setting {
         object: ObjectId,
         method: usize,
     ) -> Option<(&'w Object, &'s MetaMethod)>
-        ensures { MatchOption result (LacksMember self.now.meta world.now.objects object method)
-            (λ f. IsMember self.now.meta world.now.objects object method f.0.now f.1.now) }
+        ensures { MatchOption result (LacksMember self.now.meta world.now.store.tree object method)
+            (λ f. IsMember self.now.meta world.now.store.tree object method f.0.now f.1.now) }
     {
-        let Some((found, life)) = world.objects.get(object) else {
+        let Some((found, life)) = world.store.tree.get(object) else {
             return None;
         };
         let Some(declared) = self.meta.method_at(life.class, method) else {
@@ -78,12 +78,12 @@ impl Setting {
         property: usize,
     ) -> Option<(&'w Object, &'s MetaProperty)>
         ensures value { MatchOption result
-            (LacksField self.now.meta world.now.objects object property)
-            (λ f. IsField self.now.meta world.now.objects object property f.0.now f.1.now) }
+            (LacksField self.now.meta world.now.store.tree object property)
+            (λ f. IsField self.now.meta world.now.store.tree object property f.0.now f.1.now) }
         ensures sound { IfSome result (λ f.
-            IsSoundIn self.now.meta world.now.objects object f.1.now) }
+            IsSoundIn self.now.meta world.now.store.tree object f.1.now) }
     {
-        let Some((found, life)) = world.objects.get(object) else {
+        let Some((found, life)) = world.store.tree.get(object) else {
             return None;
         };
         let Some(class) = self.meta.object(life.class) else {
@@ -113,7 +113,7 @@ impl Setting {
         active: &Active<'_>,
         call: &MethodCall<'_>,
     ) -> Result<(Entry, Begun<'s>), Fault>
-        requires fit { CallFits self.now.meta world.now.objects call.now }
+        requires fit { CallFits self.now.meta world.now.store.tree call.now }
         ensures ok { IfOk result (λ b. IsBegun self.now.meta self.now.depth active.now world.now
             call.now.object call.now.method call.now.arguments.now
             b.0 b.1.work.now b.1.last) }
@@ -126,7 +126,7 @@ impl Setting {
         let line = self.begin_entry(world, active.count() + 1, found, declared, call)?;
         let begun = Begun {
             work: &declared.work,
-            last: world.connected.last(),
+            last: world.store.connections.last(),
         };
         Ok((line, begun))
     }
@@ -146,7 +146,7 @@ impl Setting {
     {
         let name = object.name.copy()?;
         let called = method.sig.name.copy()?;
-        let arguments = show_all(self.alloc, &world.objects, call.arguments)?;
+        let arguments = show_all(self.alloc, &world.store.tree, call.arguments)?;
         let happening = match method.work {
             Work::Signal => Happening::Emitted {
                 object: name,

@@ -2,7 +2,7 @@
 
 ghost use Rattle.std.specs.Prelude.{◌≡◌, ◌<◌, [], Some, None, OnOk};
 ghost use Rattle.machine_rules.specs.Sound.{IsSoundWorld};
-ghost use Rattle.machine_rules.specs.Reaches.{Ends, Advances};
+ghost use Rattle.machine_rules.specs.Reaches.{Ends, Advances, IsCalled};
 
 use crate::active::Active;
 use crate::method_call::MethodCall;
@@ -25,7 +25,8 @@ impl Setting {
         Ok(())
     }
 
-    /// Delivers the first item that the turn may deliver, and runs the call to its end; with none left the turn ends.
+    /// Delivers the first item that the turn may deliver, and runs the call or the deletion to its end; with none left the
+    /// turn ends. A call of a dead object begins nothing.
     fn serve(&self, world: &mut World, turn: Turn) -> Result<(), Fault>
         requires room { 0 < self.now.depth }
         requires sound { IsSoundWorld self.now.meta world.old }
@@ -33,9 +34,38 @@ impl Setting {
         requires left { 0 < world.old.left }
         ensures { Advances self.now.meta self.now.depth [] world.old [] world.new [] result }
     {
-        let Some(first) = world.queues.first_before(turn.home, turn.limit) else {
+        let Some(first) = world.store.loops.first_before(turn.home, turn.limit) else {
             world.end_turn();
             return Ok(());
+        };
+        match &first.item {
+            Item::Call { object, .. } => {
+                if world.store.tree.life(*object).is_some() {
+                    return self.serve_call(world, turn);
+                }
+                world.take_unwritten(turn.home, turn.limit);
+                Ok(())
+            }
+            Item::Deletion { object } => {
+                let object = *object;
+                world.take_unwritten(turn.home, turn.limit);
+                self.run_deletion(world, &Active::nothing(), object)
+            }
+        }
+    }
+
+    /// Delivers the first item, which is a call of a living object, and runs it to its end.
+    fn serve_call(&self, world: &mut World, turn: Turn) -> Result<(), Fault>
+        requires room { 0 < self.now.depth }
+        requires sound { IsSoundWorld self.now.meta world.old }
+        requires goes_on { world.old.turn ≡ Some turn }
+        requires left { 0 < world.old.left }
+        requires first { IsCalled world.old turn }
+        ensures { Advances self.now.meta self.now.depth [] world.old [] world.new [] result }
+    {
+        let Turn { home, limit } = turn;
+        let Some(first) = world.store.loops.first_before(home, limit) else {
+            unreachable!()
         };
         let Item::Call {
             object,
@@ -53,7 +83,7 @@ impl Setting {
             arguments: arguments.as_slice(),
         };
         let (line, begun) = self.begun(world, &below, &call)?;
-        let taken = world.take_before(line, turn.home, turn.limit)?;
+        let taken = world.take_before(line, home, limit)?;
         let Some(
             Posted {
                 item: Item::Call { arguments, .. },

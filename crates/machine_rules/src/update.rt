@@ -64,8 +64,8 @@ impl Setting {
         let Some((found, declared)) = self.field(world, place.object, place.property) else {
             return Err(Fault::BadType);
         };
-        let changed = signal_of_change(&world.objects, place, declared.notify, value);
-        if !world.objects.has_type(&self.meta, value, declared.kind) {
+        let changed = signal_of_change(&world.store.tree, place, declared.notify, value);
+        if !world.store.tree.has_type(&self.meta, value, declared.kind) {
             return Err(Fault::BadType);
         }
         self.may_nest(active)?;
@@ -88,7 +88,7 @@ impl Setting {
         let written = Happening::Written {
             object: object.name.copy()?,
             property: property.name.copy()?,
-            value: show(&world.objects, value)?,
+            value: show(&world.store.tree, value)?,
         };
         Ok(Entry::At(depth, written))
     }
@@ -104,7 +104,7 @@ impl Setting {
     ) -> Result<(), Fault>
         requires room { length active.now < self.now.depth }
         requires sound { IsSoundWorld self.now.meta world.old }
-        requires announces { MayAnnounce self.now.meta world.old.objects
+        requires announces { MayAnnounce self.now.meta world.old.store.tree
             place.now.object place.now.property changed }
         ensures ends { Finishes self.now active.now
             (Update (places_of place.now.object place.now.property changed)) world.old world.new result }
@@ -129,7 +129,7 @@ impl Setting {
     ) -> Result<(), Fault>
         requires room { length active.now < self.now.depth }
         requires sound { IsSoundWorld self.now.meta world.old }
-        requires announces { Announces self.now.meta world.old.objects
+        requires announces { Announces self.now.meta world.old.store.tree
             place.now.object place.now.property signal }
         ensures ends { Leads self.now active.now
             (Update (places_of place.now.object place.now.property (Some signal))) (Update [])
@@ -139,7 +139,7 @@ impl Setting {
         let Some((_, declared)) = self.member(world, place.object, signal) else {
             unreachable!()
         };
-        let Some(value) = stored(&world.objects, place.object, place.property) else {
+        let Some(value) = stored(&world.store.tree, place.object, place.property) else {
             unreachable!()
         };
         let present = [value.copy()?];

@@ -1,13 +1,16 @@
 use Rattle.std.proofs.Common.{◌∙◌, ℕ, List, [], length, refl, sym, ap, subst, arith, Option, Some}
 use Rattle.signatures.specs.declared.value.Value.{Value}
 use Rattle.machine_state.specs.declared.world.World.{World}
-use Rattle.machine_rules.proofs.Reaching.{not-idle, reaches-same, reaches-then, stops-after, ends-after, ends-left, ends-undue, ends-short, ends-unchanged, ends-faulted, ends-ticked}
+use Rattle.machine_rules.proofs.Reaching.{not-idle, reaches-same, reaches-then, stops-after, stops-as, ends-after, ends-lifted, ends-left, ends-undue, ends-short, ends-unchanged, ends-faulted, ends-ticked}
 use Rattle.machine_rules.specs.Good.{ArgumentsFit}
 use Rattle.machine_rules.proofs.Keeps.{keeps-same, keeps-then, ends-keeps, reaches-typed, reaches-keeps}
-use Rattle.machine_rules.proofs.Soundness.{fit-still, ends-sound, reaches-sound, sound-used, sound-noted, sound-set, sound-as}
-use Rattle.machine_rules.proofs.Beginning.{ends-begun, stops-barred, stops-no-member, stops-ill-typed, fit-of, next-joined, next-fits, delivered-fits, delivery-calls, begun-used, ends-posted, no-home, not-true}
+use Rattle.machine_rules.proofs.Declared.{fit-sends}
+use Rattle.machine_rules.proofs.Soundness.{emitted-still, ends-sound, reaches-sound, sound-used, sound-noted, sound-set, sound-as}
+use Rattle.machine_rules.proofs.Beginning.{ends-begun, stops-barred, stops-no-member, stops-ill-typed, fit-of, next-delivered, delivered-fits, delivery-calls, begun-used, ends-posted, no-home, not-true}
 use Rattle.machine_rules.proofs.Writes.{ends-written, stops-unwritten, announces-written, announces-as, announced-member, announced-value, announced-fits, announcement-calls}
-use Rattle.machine_rules.proofs.Bodies.{does-call, does-call-alone, does-set, does-nothing, does-connect, does-disconnect, does-choose, lacks-read, advances-one, advances-ticked, advances-left}
+use Rattle.machine_rules.proofs.Bodies.{does-call, does-call-alone, does-set, does-nothing, does-connect, does-disconnect, does-delete, does-schedule, does-choose, lacks-read, advances-one, advances-ticked, advances-left}
+use Rattle.machine_rules.proofs.Deleting.{ends-deleting, stops-deleting, reaches-died, stops-in-use, stops-announcing, living-name, on-ok, died-as, died-emits, died-gone, dead-after, kills-first, kills-next, reaches-latest, reaches-next, stops-forgetting, forgets-fewer, nonempty, none-left}
+use Rattle.machine_rules.proofs.Dying.{copied-living}
 use Rattle.machine_rules.proofs.setting.Setting.+machine.Goals as goal
 
 -- ---- emissions
@@ -20,16 +23,15 @@ run_emission-deliver-requires t c =
     let now = c.loop-connection.world in
     let found = sym c.in-Some.ensures.value in
     let sound = c.loop-connection.invariant.sound in
-    let emitted = fit-still c.loop-connection.invariant.keeps c.requires.emitted in
-    let joined = next-joined now.objects now.connected.connections c.args.call.now.object c.args.call.now.method c.loop-connection.used c.args.last _ sound.is.joined found in
-    let fits = next-fits now.objects now.connected.connections c.args.call.now.object c.args.call.now.method c.loop-connection.used c.args.last _ found emitted in
-    (omega (arith, c.loop-connection.invariant.fewer), (c.requires.room, (sound, (joined, fits))))
+    let emitted = emitted-still c.loop-connection.invariant.keeps c.requires.emitted in
+    let takes = next-delivered now.store.connections.connections c.args.call.now.object c.args.call.now.method c.loop-connection.used c.args.last _ sound.is.joined emitted found in
+    (omega (arith, c.loop-connection.invariant.fewer), (c.requires.room, (sound, takes)))
 
 pub run_emission-loop-connection-preserved : goal.run_emission-loop-connection-preserved
 run_emission-loop-connection-preserved t c =
     let went = c.in_ok-deliver.ensures.ends _ _ _ _ (sym c.in-Some.ensures.value) in
     let keeps = keeps-then c.loop-connection.invariant.keeps (ends-keeps _ went) in
-    record { reaches = reaches-then c.loop-connection.invariant.reaches went.cases; keeps = keeps; fewer = keeps.fewer; sound = ends-sound (fit-still c.loop-connection.invariant.keeps c.requires.emitted, tt) c.loop-connection.invariant.sound _ went }
+    record { reaches = reaches-then c.loop-connection.invariant.reaches went.cases; keeps = keeps; fewer = keeps.fewer; sound = ends-sound (emitted-still c.loop-connection.invariant.keeps c.requires.emitted, tt) c.loop-connection.invariant.sound _ went }
 
 pub run_emission-returns-in_err-deliver-clause-ends : goal.run_emission-returns-in_err-deliver-clause-ends
 run_emission-returns-in_err-deliver-clause-ends t c =
@@ -41,7 +43,7 @@ run_emission-returns-in_err-deliver-clause-keeps t c =
 
 pub run_emission-returns-in_err-deliver-clause-sound : goal.run_emission-returns-in_err-deliver-clause-sound
 run_emission-returns-in_err-deliver-clause-sound t c =
-    ends-sound (fit-still c.loop-connection.invariant.keeps c.requires.emitted, tt) c.loop-connection.invariant.sound _ (c.in_err-deliver.ensures.ends _ _ _ _ (sym c.in-Some.ensures.value))
+    ends-sound (emitted-still c.loop-connection.invariant.keeps c.requires.emitted, tt) c.loop-connection.invariant.sound _ (c.in_err-deliver.ensures.ends _ _ _ _ (sym c.in-Some.ensures.value))
 
 pub run_emission-returns-clause-ends : goal.run_emission-returns-clause-ends
 run_emission-returns-clause-ends t c =
@@ -52,16 +54,16 @@ pub deliver-returns-in_err-require_rule : goal.deliver-returns-in_err-require_ru
 deliver-returns-in_err-require_rule t c = record { ends = λ o g used last found. ends-undue _ c.in_err-require_rule.ensures c.from_residual.ensures.1 }
 
 pub deliver-unreachable-requires : goal.deliver-unreachable-requires
-deliver-unreachable-requires t c = c.in_default.ensures _ _ c.requires.joined.receives
+deliver-unreachable-requires t c = c.in_default.ensures _ _ c.requires.takes.is
 
 pub deliver-unreachable-requires-in_default-home : goal.deliver-unreachable-requires-in_default-home
 deliver-unreachable-requires-in_default-home t c = no-home c.in-Some.ensures c.in_default-home.ensures
 
 pub deliver-begin_used-requires : goal.deliver-begin_used-requires
-deliver-begin_used-requires t c = (omega arith, (c.requires.sound, (c.in_ok-require_rule.ensures, delivered-fits c.requires.joined c.requires.emitted c.in-Some.ensures c.front-taken.ensures c.len.ensures)))
+deliver-begin_used-requires t c = (omega arith, (c.requires.sound, (c.in_ok-require_rule.ensures, delivered-fits c.requires.takes c.in-Some.ensures c.front-taken.ensures c.len.ensures)))
 
 pub deliver-post-requires-clause-fit : goal.deliver-post-requires-clause-fit
-deliver-post-requires-clause-fit t c = delivered-fits c.requires.joined c.requires.emitted c.in-Some.ensures c.front-taken.ensures c.len.ensures
+deliver-post-requires-clause-fit t c = delivered-fits c.requires.takes c.in-Some.ensures c.front-taken.ensures c.len.ensures
 
 pub deliver-returns-then-reaches_at_once : goal.deliver-returns-then-reaches_at_once
 deliver-returns-then-reaches_at_once t c =
@@ -87,7 +89,7 @@ begin_used-returns-in_err-use_connection t c = record { ends = λ from to shown 
 pub begin_used-run_begun-requires : goal.begin_used-run_begun-requires
 begin_used-run_begun-requires t c =
     let went = c.in_ok-use_connection.ensures in
-    let Fit : World → Type 0 = λ v. ArgumentsFit c.args.self.now.meta v.objects c.args.call.now.object c.args.call.now.method c.args.call.now.arguments.now in
+    let Fit : World → Type 0 = λ v. ArgumentsFit c.args.self.now.meta v.store.tree c.args.call.now.object c.args.call.now.method c.args.call.now.arguments.now in
     (omega (arith, ap (λ (w : World). w.left) went, c.requires.left), (c.in_ok-line.ensures.ok.room, (sound-used c.args.world.now _ c.args.connection.now went c.requires.sound, subst Fit (sym went) c.requires.fit)))
 
 pub begin_used-returns : goal.begin_used-returns
@@ -126,7 +128,7 @@ begin-returns-in_err-note t c = record { ends = λ from to shown over calls. end
 pub begin-run_begun-requires : goal.begin-run_begun-requires
 begin-run_begun-requires t c =
     let went = c.in_ok-note.ensures in
-    let Fit : World → Type 0 = λ v. ArgumentsFit c.args.self.now.meta v.objects c.args.call.now.object c.args.call.now.method c.args.call.now.arguments.now in
+    let Fit : World → Type 0 = λ v. ArgumentsFit c.args.self.now.meta v.store.tree c.args.call.now.object c.args.call.now.method c.args.call.now.arguments.now in
     (omega (arith, ap (λ (w : World). w.left) went, c.requires.left), (c.in_ok-line.ensures.ok.room, (sound-noted c.args.world.now _ went c.requires.sound, subst Fit (sym went) c.requires.fit)))
 
 pub begin-returns : goal.begin-returns
@@ -268,3 +270,149 @@ pub notify-returns : goal.notify-returns
 notify-returns t c = let present = sym c.in-Some-stored.ensures ∙ ap (λ (v : Value). Some v) (sym c.in_ok-copy.ensures) in
     let cut = rw c.as_slice.ensures at c.front-taken.ensures in
     record { ends = c.begin.ensures.ends _ _ _ c.over-over.ensures (announcement-calls c.requires.announces c.in-Some.ensures present cut c.len.ensures) }
+
+-- ---- deletions
+
+pub delete-returns-in_err-may_nest : goal.delete-returns-in_err-may_nest
+delete-returns-in_err-may_nest t c = record {
+  ends = λ from to shown over deletes. ends-left _ (stops-as c.in_err-may_nest.ensures.1 (stops-deleting over deletes c.requires.sound.is.typed c.requires.left c.in_err-may_nest.ensures.0)) c.from_residual.ensures.1;
+}
+
+pub delete-returns : goal.delete-returns
+delete-returns t c = record {
+  ends = λ from to shown over deletes. ends-deleting over deletes c.in_ok-may_nest.ensures c.requires.sound.is.typed c.in_ok-tick.ensures c.run_deletion.ensures.ends;
+}
+
+pub run_begun-run_emission-requires : goal.run_begun-run_emission-requires
+run_begun-run_emission-requires t c = (omega arith, (c.requires.room, (c.requires.sound, fit-sends c.requires.sound.program c.requires.fit)))
+
+pub carry_out-returns-in-Delete : goal.carry_out-returns-in-Delete
+carry_out-returns-in-Delete t c = record { advances = λ m arguments x is. advances-one _ (c.delete.ensures.ends _ _ _ c.over-over.ensures (does-delete m c.args.left.now (rw c.in-Delete.is at is))) }
+
+pub carry_out-returns-in-Schedule : goal.carry_out-returns-in-Schedule
+carry_out-returns-in-Schedule t c = record {
+  advances = λ m arguments x is.
+      let higher = ap (λ (l : List (Option ℕ)). length l) c.over-over.ensures in
+      advances-one _ (does-schedule m c.args.left.now _ _ _ (rw c.in-Schedule.is at is) c.requires.room c.requires.sound.is.typed c.requires.due (omega (arith, c.count-in-Schedule.ensures, higher)) c.schedule.ensures);
+}
+
+pub announce-returns-in_err-require_rule-clause-ends : goal.announce-returns-in_err-require_rule-clause-ends
+announce-returns-in_err-require_rule-clause-ends t c = λ next before torn kills. ends-undue _ c.in_err-require_rule.ensures c.from_residual.ensures.1
+
+pub announce-returns-then-has_body-clause-ends : goal.announce-returns-then-has_body-clause-ends
+announce-returns-then-has_body-clause-ends t c = λ next before torn kills.
+    let named = living-name c.args.world.now.store.tree c.args.object c.requires.lives in
+    record { cases = stops-in-use kills named.1 c.requires.sound.is.typed c.in_ok-require_rule.ensures c.requires.lives (sym c.has_body.ensures ∙ c.if-has_body.true) }
+
+pub announce-returns-in_err-may_nest-clause-ends : goal.announce-returns-in_err-may_nest-clause-ends
+announce-returns-in_err-may_nest-clause-ends t c = λ next before torn kills.
+    let named = living-name c.args.world.now.store.tree c.args.object c.requires.lives in
+    let higher = ap (λ (l : List (Option ℕ)). length l) c.over-over.ensures in
+    ends-left _ (stops-as c.in_err-may_nest.ensures.1 (stops-announcing kills named.1 c.requires.sound.is.typed c.in_ok-require_rule.ensures (sym c.has_body.ensures ∙ c.if-has_body.false) (omega (arith, c.in_err-may_nest.ensures.0, higher)))) c.from_residual-in_err-may_nest.ensures.1
+
+pub announce-returns-in_err-copy-clause-ends : goal.announce-returns-in_err-copy-clause-ends
+announce-returns-in_err-copy-clause-ends t c = λ next before torn kills. ends-short _ (not-idle c.args.world.now _) c.in_ok-require_rule.ensures c.from_residual-in_err-copy.ensures.1
+
+pub announce-returns-in_err-emitted-clause-ends : goal.announce-returns-in_err-emitted-clause-ends
+announce-returns-in_err-emitted-clause-ends t c = λ next before torn kills. ends-short _ (not-idle c.args.world.now _) c.in_ok-require_rule.ensures c.from_residual-in_err-emitted.ensures.1
+
+pub announce-returns-in_err-mark_dead-clause-ends : goal.announce-returns-in_err-mark_dead-clause-ends
+announce-returns-in_err-mark_dead-clause-ends t c = λ next before torn kills. ends-unchanged _ (not-idle c.args.world.now _) c.in_ok-require_rule.ensures c.in_err-mark_dead.ensures c.from_residual-in_err-mark_dead.ensures.1
+
+pub announce-run_emission-requires : goal.announce-run_emission-requires
+announce-run_emission-requires t c =
+    let w = c.args.world.now in
+    let named = sym c.in-Some.ensures in
+    let came = died-as c.args.world.now c.args.object c.in_ok-mark_dead.ensures c.in_ok-copy.ensures c.in_ok-emitted.ensures c.count.ensures c.count-2.ensures in
+    let higher = ap (λ (l : List (Option ℕ)). length l) c.over-over.ensures in
+    let went = reaches-died {d = c.args.self.now.depth} {active = c.args.active.now} {torn = []} (kills-first w c.args.object [] c.requires.lives) named c.requires.sound.is.typed c.in_ok-require_rule.ensures (sym c.has_body.ensures ∙ c.if-has_body.false) (omega (arith, c.in_ok-may_nest.ensures, higher)) (omega (arith, higher)) c.last-last.ensures came in
+    (omega (arith, ap (λ (u : World). u.left) c.in_ok-mark_dead.ensures, c.in_ok-require_rule.ensures), (c.in_ok-may_nest.ensures, (reaches-sound (tt, tt) c.requires.sound went, died-emits w _ c.args.object c.requires.sound.program named came)))
+
+pub announce-returns-clause-ends : goal.announce-returns-clause-ends
+announce-returns-clause-ends t c = λ next before torn kills.
+    let named = sym c.in-Some.ensures in
+    let came = died-as c.args.world.now c.args.object c.in_ok-mark_dead.ensures c.in_ok-copy.ensures c.in_ok-emitted.ensures c.count.ensures c.count-2.ensures in
+    let higher = ap (λ (l : List (Option ℕ)). length l) c.over-over.ensures in
+    let went = reaches-died kills named c.requires.sound.is.typed c.in_ok-require_rule.ensures (sym c.has_body.ensures ∙ c.if-has_body.false) (omega (arith, c.in_ok-may_nest.ensures, higher)) (omega (arith, higher)) c.last-last.ensures came in
+    ends-after went (ends-lifted c.over-over.ensures c.run_emission.ensures.ends)
+
+pub announce-returns-clause-dead : goal.announce-returns-clause-dead
+announce-returns-clause-dead t c =
+    let named = sym c.in-Some.ensures in
+    let came = died-as c.args.world.now c.args.object c.in_ok-mark_dead.ensures c.in_ok-copy.ensures c.in_ok-emitted.ensures c.count.ensures c.count-2.ensures in
+    on-ok _ (dead-after c.args.object (died-gone c.args.world.now _ c.args.object named came) c.run_emission.ensures.keeps)
+
+pub announce_living-returns-then-is_some-clause-ends : goal.announce_living-returns-then-is_some-clause-ends
+announce_living-returns-then-is_some-clause-ends t c =
+    let lives = copied-living c.args.world.now.store.tree c.args.object _ _ c.is_some.ensures c.if-is_some.true c.life.ensures in
+    c.announce.ensures.ends _ _ _ (kills-first c.args.world.now c.args.object [] lives)
+
+pub announce_living-returns-else-is_some-clause-ends : goal.announce_living-returns-else-is_some-clause-ends
+announce_living-returns-else-is_some-clause-ends t c = record { cases = reaches-same }
+
+pub run_deletion-loop-world-init : goal.run_deletion-loop-world-init
+run_deletion-loop-world-init t c =
+    let died = c.in_ok-announce_living.ensures.ends.cases in
+    let sound = reaches-sound (tt, tt) c.requires.sound died in
+    let forgets = rw c.new-torn.ensures.items at c.in_ok-forget.ensures in
+    let went = reaches-latest c.args.object [] c.forget.new.torn.items c.requires.room sound.is.typed c.in_ok-announce_living.ensures.dead forgets in
+    record { reaches = reaches-then died went; fewer = (reaches-keeps (reaches-then died went)).fewer; sound = reaches-sound (tt, tt) sound went }
+
+pub run_deletion-returns-in_err-announce-in-Some : goal.run_deletion-returns-in_err-announce-in-Some
+run_deletion-returns-in_err-announce-in-Some t c =
+    let now = c.loop-world.world in
+    let some = nonempty _ _ c.loop-world.torn.items c.is_empty.ensures c.loop-world-test.true c.loop-world.torn.ok.0 in
+    let next = rw c.as_slice.ensures.value at c.next_to_end.ensures.next in
+    let lives = rw c.as_slice.ensures.value at c.next_to_end.ensures.lives in
+    let kills = kills-next now c.loop-world.torn.items some c.next_to_end.result next lives c.in-Some.child c.in-Some.is in
+    record { ends = ends-left _ (stops-after c.loop-world.invariant.reaches (c.in_err-announce-in-Some.ensures.ends _ _ _ kills).cases) c.from_residual-in_err-announce-in-Some.ensures.1 }
+
+pub run_deletion-loop-world-smaller-in-Continue-branch-4 : goal.run_deletion-loop-world-smaller-in-Continue-branch-4
+run_deletion-loop-world-smaller-in-Continue-branch-4 t c =
+    let now = c.loop-world.world in
+    let some = nonempty _ _ c.loop-world.torn.items c.is_empty.ensures c.loop-world-test.true c.loop-world.torn.ok.0 in
+    let next = rw c.as_slice.ensures.value at c.next_to_end.ensures.next in
+    let lives = rw c.as_slice.ensures.value at c.next_to_end.ensures.lives in
+    let kills = kills-next now c.loop-world.torn.items some c.next_to_end.result next lives c.in-Some.child c.in-Some.is in
+    let died = (c.in_ok-announce-in-Some.ensures.ends _ _ _ kills).cases in
+    omega (arith, (reaches-keeps died).fewer, forgets-fewer c.announce.new.world c.in-Some.child c.loop-world.torn.items c.forget-in-Some.new.torn.items c.in_ok-forget-in-Some.ensures)
+
+pub run_deletion-loop-world-preserved-in-Continue-branch-4 : goal.run_deletion-loop-world-preserved-in-Continue-branch-4
+run_deletion-loop-world-preserved-in-Continue-branch-4 t c =
+    let now = c.loop-world.world in
+    let some = nonempty _ _ c.loop-world.torn.items c.is_empty.ensures c.loop-world-test.true c.loop-world.torn.ok.0 in
+    let next = rw c.as_slice.ensures.value at c.next_to_end.ensures.next in
+    let lives = rw c.as_slice.ensures.value at c.next_to_end.ensures.lives in
+    let kills = kills-next now c.loop-world.torn.items some c.next_to_end.result next lives c.in-Some.child c.in-Some.is in
+    let died = (c.in_ok-announce-in-Some.ensures.ends _ _ _ kills).cases in
+    let sound = reaches-sound (tt, tt) c.loop-world.invariant.sound died in
+    let went = reaches-latest c.in-Some.child c.loop-world.torn.items c.forget-in-Some.new.torn.items c.requires.room sound.is.typed c.in_ok-announce-in-Some.ensures.dead c.in_ok-forget-in-Some.ensures in
+    let came = reaches-then c.loop-world.invariant.reaches (reaches-then died went) in
+    record { reaches = came; fewer = (reaches-keeps came).fewer; sound = reaches-sound (tt, tt) sound went }
+
+pub run_deletion-returns-in_err-forget-in-Some : goal.run_deletion-returns-in_err-forget-in-Some
+run_deletion-returns-in_err-forget-in-Some t c =
+    let now = c.loop-world.world in
+    let some = nonempty _ _ c.loop-world.torn.items c.is_empty.ensures c.loop-world-test.true c.loop-world.torn.ok.0 in
+    let next = rw c.as_slice.ensures.value at c.next_to_end.ensures.next in
+    let lives = rw c.as_slice.ensures.value at c.next_to_end.ensures.lives in
+    let kills = kills-next now c.loop-world.torn.items some c.next_to_end.result next lives c.in-Some.child c.in-Some.is in
+    let died = (c.in_ok-announce-in-Some.ensures.ends _ _ _ kills).cases in
+    record { ends = ends-left _ (stops-after (reaches-then c.loop-world.invariant.reaches died) (stops-forgetting c.in-Some.child c.loop-world.torn.items c.forget-in-Some.new.torn.items _ c.in_err-forget-in-Some.ensures)) c.from_residual-in_err-forget-in-Some.ensures.1 }
+
+pub run_deletion-loop-world-preserved : goal.run_deletion-loop-world-preserved
+run_deletion-loop-world-preserved t c =
+    let now = c.loop-world.world in
+    let some = nonempty _ _ c.loop-world.torn.items c.is_empty.ensures c.loop-world-test.true c.loop-world.torn.ok.0 in
+    let next = rw c.as_slice.ensures.value at c.next_to_end.ensures.next in
+    let lives = rw c.as_slice.ensures.value at c.next_to_end.ensures.lives in
+    let shorter = rw c.loop-world.torn.ok.0 at c.pop.ensures.rest in
+    let went = reaches-next now c.loop-world.torn.items some c.next_to_end.result next lives c.pop.new.self.items c.requires.room c.loop-world.invariant.sound.is.typed c.in-None.is shorter c.in_ok-tick-in-None.ensures in
+    let came = reaches-then c.loop-world.invariant.reaches went in
+    record { reaches = came; fewer = (reaches-keeps came).fewer; sound = reaches-sound (tt, tt) c.loop-world.invariant.sound went }
+
+pub run_deletion-returns : goal.run_deletion-returns
+run_deletion-returns t c =
+    let empty = none-left _ _ c.loop-world.torn.items c.is_empty.ensures c.loop-world-test.false c.loop-world.torn.ok.0 in
+    let came = rw empty at c.loop-world.invariant.reaches in
+    record { ends = ends-after came (ends-ticked {b = []} _ (λ below e. refl) (omega arith) c.requires.room c.loop-world.invariant.sound.is.typed c.tick-2.ensures) }

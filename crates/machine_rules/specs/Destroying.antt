@@ -1,0 +1,95 @@
+-- What a deletion does, and how one is scheduled (docs/machine.md, "Destruction"; Qt 6, `QObject::~QObject`,
+-- `QObject::deleteLater` and "Object Trees & Ownership").
+use Rattle.std.specs.Prelude.{◌≡◌, ℕ, suc, List, [], ◌∷◌, ◌++◌, length, Option, None, Some, Bool, true, false}
+use Rattle.std.specs.List.{find}
+use Rattle.signatures.specs.declared.value.Value.TheVariants as value
+use Rattle.meta_model.specs.declared.qobject.TheConstants.{DESTROYED}
+use Rattle.meta_model.specs.Outlines.{destroyed}
+use Rattle.connections.specs.Connected.{removed, touches}
+use Rattle.event_loops.specs.declared.item.Item.TheVariants.{Deletion}
+use Rattle.event_loops.specs.Queues.{HasName, posted_to, dropped}
+use Rattle.object_tree.specs.declared.life.Life.{Life}
+use Rattle.object_tree.specs.Family.{children_of, without_life}
+use Rattle.object_tree.specs.Objects.{name_of, change_life, scheduled}
+use Rattle.machine_state.specs.declared.entry.Entry.TheVariants.{At}
+use Rattle.machine_state.specs.declared.entry.Happening.TheVariants as happening
+use Rattle.machine_state.specs.declared.entry.Shown.TheVariants as show
+use Rattle.machine_state.specs.Connections.{is_living}
+use Rattle.machine_state.specs.State.{State, Activation, Emit, Destroy}
+
+-- ---- an object is deleted
+
+-- the deletion of an object begins; nothing is written down
+abbrev pub deleting : State → List Activation → ℕ → State
+deleting s below x = record s { stack = Destroy (Some x) [] ∷ below }
+
+-- Object x, of this name, dies, over a stack with the deletion on top: it leaves its parent, and its `destroyed` is emitted,
+-- whether it was blocked or not. The signal's argument would be a reference to x, which reads as null from now on.
+abbrev pub died : State → List Activation → ℕ → List ℕ → State
+died s stack x name = record s {
+  objects = without_life x s.objects;
+  stack = Emit x DESTROYED (value.Ref None ∷ []) 0 s.connected.last ∷ stack;
+  trace = s.trace ++ At (length stack) (happening.Died name)
+      ∷ At (suc (length stack)) (happening.Emitted name destroyed.name (show.Null ∷ []) false) ∷ [];
+}
+
+-- .. whatever its name is
+pub record Dies (s : State) (stack : List Activation) (x : ℕ) (t : State) : Type 0 where
+  pub name : List ℕ
+  pub named : name_of s.objects x ≡ Some name
+  pub gives : t ≡ died s stack x name
+
+-- no connection leads from or to the object any more, and nothing waits for it
+abbrev pub forgotten : State → ℕ → State
+forgotten s x = record s { connected = removed (touches x) s.connected; queues = dropped x s.queues }
+
+-- the object that is deleted next dies, if it lives; it is forgotten when its `destroyed` has ended, and then it is the
+-- latest of those that are torn down
+abbrev pub NextRule : State → List Activation → State → ℕ → List ℕ → Bool → Type 0
+NextRule s below t x torn true = Dies s (Destroy (Some x) torn ∷ below) x t
+NextRule s below t x torn false = t ≡ record (forgotten s x) { stack = Destroy None (x ∷ torn) ∷ below }
+
+-- a child of the latest of those that are torn down dies; where it has none left, it isn't torn down any more
+abbrev pub ChildRule : State → List Activation → State → ℕ → List ℕ → Option ℕ → Type 0
+ChildRule s below t parent torn (Some x) = Dies s (Destroy (Some x) (parent ∷ torn) ∷ below) x t
+ChildRule s below t parent torn None = t ≡ record s { stack = Destroy None torn ∷ below }
+
+-- the first living child of an object, in the order of adoption
+abbrev pub living_child : State → ℕ → Option ℕ
+living_child s parent = find (is_living s.objects) (children_of s.objects parent)
+
+-- with no object left a deletion ends
+abbrev pub DestroyRule : State → List Activation → State → Option ℕ → List ℕ → Type 0
+DestroyRule s below t (Some x) torn = NextRule s below t x torn (is_living s.objects x)
+DestroyRule s below t None [] = t ≡ record s { stack = below }
+DestroyRule s below t None (parent ∷ torn) = ChildRule s below t parent torn (living_child s parent)
+
+-- ---- an object is scheduled to be deleted
+
+-- The deletion of object x, of this name, is appended to the items of the event loop in which it lives, and x is scheduled;
+-- the stack stays as it is.
+abbrev pub deferred : State → List Activation → List ℕ → ℕ → ℕ → List ℕ → State
+deferred s stack loop home x name = record s {
+  objects = change_life x scheduled s.objects;
+  queues = posted_to home (Deletion x) s.queues;
+  stack = stack;
+  trace = s.trace ++ At (length stack) (happening.Scheduled loop name) ∷ [];
+}
+
+-- .. whatever the names are
+pub record Defers (s : State) (stack : List Activation) (home x : ℕ) (t : State) : Type 0 where
+  pub loop : List ℕ
+  pub is_loop : HasName s.queues.loops loop home
+  pub name : List ℕ
+  pub named : name_of s.objects x ≡ Some name
+  pub gives : t ≡ deferred s stack loop home x name
+
+-- .. unless it is scheduled already
+abbrev pub DefersOnce : State → List Activation → ℕ → ℕ → State → Bool → Type 0
+DefersOnce s stack home x t true = t ≡ record s { stack = stack }
+DefersOnce s stack home x t false = Defers s stack home x t
+
+-- an object that lives this life is scheduled; where it doesn't live, nothing changes
+abbrev pub Schedules : State → List Activation → ℕ → State → Option Life → Type 0
+Schedules s stack x t None = t ≡ record s { stack = stack }
+Schedules s stack x t (Some l) = DefersOnce s stack l.home x t l.scheduled
