@@ -23,6 +23,7 @@ pub fn delete(setting: &Setting, world: &mut World, name: &Name) -> Result<Answe
         Err(reason) => return refuse(world, reason),
     };
     world.accept()?;
-    setting.run_deletion(world, &Active::nothing(), object)?;
+    let below = Active::nothing();
+    setting.run_deletion(world, &below, object)?;
     Ok(Answer::Done)
 }
