@@ -1,5 +1,5 @@
 -- How methods begin.
-use Rattle.std.proofs.Common.{◌≡◌, ℕ, suc, ◌+◌, ◌-◌, ◌<◌, ◌≤◌, inl, inr, Bool, true, false, IsTrue, List, [], ◌∷◌, ◌++◌, length, take, Result, Option, None, Some, refl, sym, ap, ◌∙◌, subst, arith, length-append, Ok, Err}
+use Rattle.std.proofs.Common.{◌≡◌, ℕ, suc, ◌+◌, ◌-◌, ◌<◌, ◌≤◌, inl, inr, eqb, not, Bool, true, false, IsTrue, List, [], ◌∷◌, ◌++◌, length, take, Result, Option, None, Some, refl, sym, ap, ◌∙◌, subst, arith, length-append, Ok, Err}
 use Rattle.std.specs.List.{AllByRecursion}
 use Rattle.std.specs.Result.{IsErrAnd}
 use Rattle.signatures.specs.declared.value.Value.{Value}
@@ -15,7 +15,11 @@ use Rattle.machine_state.specs.declared.fault.Fault.TheVariants.{BadType, TooDee
 use Rattle.event_loops.specs.declared.item.Item.TheVariants.{Call}
 use Rattle.event_loops.specs.Queues.{HasName}
 use Rattle.std.specs.Option.{option_map}
-use Rattle.object_tree.proofs.Changing.{life-of-lives}
+use Rattle.std.specs.Prelude.{is_some}
+use Rattle.std.proofs.lemmas.Bool.{eqb-true}
+use Rattle.meta_model.specs.declared.qobject.TheConstants.{DESTROYED}
+use Rattle.object_tree.specs.Objects.{Lives, life_of}
+use Rattle.object_tree.proofs.Changing.{life-of-lives, lives-of-life}
 use Rattle.object_tree.specs.declared.life.Life.{Life}
 use Rattle.object_tree.specs.declared.object.Object.{Object}
 use Rattle.machine_state.specs.declared.world.World.{World}
@@ -23,18 +27,19 @@ use Rattle.machine_state.specs.Objects.{all_shown, home_of}
 use Rattle.machine_state.specs.State.{State, Activation, Emit}
 use Rattle.machine_state.specs.Turns.{running, reaches_at_once}
 use Rattle.machine_rules.specs.Rules.{Begins, begun, with_used, posted, EmitRule, Uses, Arrives}
-use Rattle.machine_state.specs.Connections.{next_used}
-use Rattle.machine_state.proofs.Due.{used-among, used-due, last-used}
+use Rattle.machine_state.specs.Connections.{silences, is_living, next_used}
+use Rattle.machine_state.proofs.Due.{used-among, used-due, used-living, used-heard, last-used}
 use Rattle.object_tree.specs.Typed.{AreTyped, ReadAs}
-use Rattle.machine_rules.specs.Good.{ArgumentsFit, TopFits, IsWell}
-use Rattle.machine_rules.specs.Sound.{Joined}
+use Rattle.machine_rules.specs.Good.{ArgumentsFit, EmissionFits, of_living, of_dead, TopFits, IsWell}
+use Rattle.machine_rules.specs.Sound.{Sends, SendsThese, Joined, IsDelivered}
 use Rattle.machine_state.specs.Worlds.{at, noted, having_used, posting, Becomes}
 use Rattle.machine_rules.specs.Reaches.{Reaches, StopsIn, Ends, CallsIn, Calls, OnlyCalls, begin_entry, entry_of_post, top_of, IsBegun, IsBarred, PostsCall}
 use Rattle.machine_rules.specs.Active.{shows}
 use Rattle.machine_rules.proofs.Frames.{high, shows-over}
 use Rattle.machine_rules.specs.There.{IsMember}
-use Rattle.machine_rules.proofs.Reaching.{reaches-high, ends-after, ends-lifted, not-idle, ends-noted, stops-as, stops-memory, stops-deep, stops-ill, stops-stuck}
-use Rattle.machine_rules.proofs.Fields.{member-method, read-front}
+use Rattle.machine_rules.proofs.Dying.{lives-not-dead}
+use Rattle.machine_rules.proofs.Reaching.{none-spared, same-spared, reaches-high, ends-after, ends-lifted, not-idle, ends-noted, stops-as, stops-memory, stops-deep, stops-ill, stops-stuck}
+use Rattle.machine_rules.proofs.Fields.{member-method, method-unique, read-front}
 
 -- the world after a method began
 abbrev pub begun_world : World → ℕ → Object → ℕ → MetaMethod → List Value → World
@@ -62,12 +67,16 @@ pub one-more : {h active : List (Option ℕ)} (to below : List Activation) → a
 one-more to below over e = omega (arith, high (to ++ below) (shows-over to below over e))
 
 pub top-fits : {p : Loaded} {objects : List Object} {o m : ℕ} {arguments : List Value} (last : ℕ) (work : Work) (below : List Activation) → ArgumentsFit p objects o m arguments → TopFits p objects (top_of o m arguments last work ∷ below)
-top-fits last Signal below fit = fit
+top-fits last Signal below fit = of_living fit
 top-fits last (Slot statements) below fit = fit
 
-fits-top : {p : Loaded} {objects : List Object} {o m : ℕ} {arguments : List Value} (last : ℕ) (work : Work) (below : List Activation) → TopFits p objects (top_of o m arguments last work ∷ below) → ArgumentsFit p objects o m arguments
-fits-top last Signal below fit = fit
-fits-top last (Slot statements) below fit = fit
+emission-fits : {p : Loaded} {objects : List Object} {o m : ℕ} {x : Object} {method : MetaMethod} {arguments : List Value} → IsMember p objects o m x method → EmissionFits p objects o m arguments → ArgumentsFit p objects o m arguments
+emission-fits is (of_living fit) = fit
+emission-fits is (of_dead gone g_is typed) = absurd (lives-not-dead is.lives gone)
+
+fits-top : {p : Loaded} {objects : List Object} {o m : ℕ} {x : Object} {method : MetaMethod} {arguments : List Value} (last : ℕ) (work : Work) (below : List Activation) → IsMember p objects o m x method → TopFits p objects (top_of o m arguments last work ∷ below) → ArgumentsFit p objects o m arguments
+fits-top last Signal below is fit = emission-fits is fit
+fits-top last (Slot statements) below is fit = fit
 
 reaches-begun : {p : Loaded} {d o m : ℕ} {h active : List (Option ℕ)} {w u v : World} {from to : List Activation} {arguments : List Value} {line : Entry} {work : Work} {last : ℕ} →
     active ≡ shows to ++ h → CallsIn p w u from to o m arguments → IsBegun p d active u o m arguments line work last → ArgumentsFit p u.store.tree o m arguments → AreTyped p u.store.tree → 0 < w.left → u.left ≡ w.left → v ≡ noted u (line ∷ []) →
@@ -77,7 +86,7 @@ reaches-begun {p} {d} {o} {m} {h} {active} {w} {u} {v} {from} {to} {arguments} {
     let target : World = begun_world u (length active + 1) is.object m is.method arguments in
     let target_is : v ≡ target = v_is ∙ ap (λ (y : Entry). noted u (y ∷ [])) is.is_line in
     let went : Pushed target is.method.work u.store.connections.last =
-    reaches-high over (λ below e. calls.gives below _ (begins-there u arguments (from ++ below) (to ++ below) is.is (one-more to below over e))) (λ below. top-fits u.store.connections.last is.method.work (to ++ below) fit) is.room typed (ap (λ (n : ℕ). n - 1) same) some in
+    reaches-high over (λ below e. calls.gives below _ (begins-there u arguments (from ++ below) (to ++ below) is.is (one-more to below over e))) (λ below e. none-spared (from ++ below) (same-spared calls.objects)) (λ below. top-fits u.store.connections.last is.method.work (to ++ below) fit) is.room typed (ap (λ (n : ℕ). n - 1) same) some in
     subst (λ (z : World). Pushed z work last) (sym target_is) (subst (λ (k : Work). Pushed target k last) (sym is.is_work) (subst (λ (l : ℕ). Pushed target is.method.work l) (sym is.is_last) went))
 
 -- a method begins, and what it pushed runs
@@ -95,6 +104,7 @@ stops-begin {o = o} {m = m} {active = active} {w = w} {u = u} {from = from} {to 
       at target (top_of o m arguments u.store.connections.last fit.method.work ∷ to ++ below),
       calls.gives below _ (begins-there u arguments (from ++ below) (to ++ below) fit.is (one-more to below over e)),
       record { arguments = λ higher. top-fits u.store.connections.last fit.method.work (to ++ below) fit; values = typed },
+      none-spared (from ++ below) (same-spared calls.objects),
       omega (arith, one-more to below over e, deep),
     ))
 
@@ -125,7 +135,7 @@ stops-ill-typed {p} {o = o} {m = m} {w = w} {from = from} {to = to} {x = x} {met
     let t : State = at (begun_world w (suc (length (to ++ below))) x m method arguments) (top_of o m arguments w.store.connections.last method.work ∷ to ++ below) in (
       t,
       calls.gives below t (begins-there w arguments (from ++ below) (to ++ below) is refl),
-      λ (well : IsWell p (at w (from ++ below)) t). ill (fit-typed is (fits-top w.store.connections.last method.work (to ++ below) (well.arguments (omega (arith, calls.no_lower, length-append from below, length-append to below))))),
+      λ (well : IsWell p (at w (from ++ below)) t). ill (fit-typed is (fits-top w.store.connections.last method.work (to ++ below) is (well.arguments (omega (arith, calls.no_lower, length-append from below, length-append to below))))),
     ))
 
 pub fit-of : {p : Loaded} {objects : List Object} {o m : ℕ} {x : Object} {method : MetaMethod} {arguments : List Value} → IsMember p objects o m x method → ReadAs p objects arguments method.kinds → ArgumentsFit p objects o m arguments
@@ -133,26 +143,55 @@ fit-of {x = x} {method = method} is typed = record { object = x; method = method
 
 -- ---- connections
 
-pub next-joined : {p : Loaded} {objects : List Object} (now : List Object) (connections : List Connection) (o g used last : ℕ) (c : Connection) → AllByRecursion (Joined p objects) connections → next_used now connections o g used last ≡ Some c → Joined p objects c
-next-joined {p} {objects} now connections o g used last c all found = used-among (Joined p objects) now connections o g used last c all found
+-- a signal that is heard has one list of types
+heard-kinds : {p : Loaded} (objects : List Object) (o g : ℕ) {a b : List ValueType} → Sends p objects o g a → Sends p objects o g b → silences (life_of objects o) g ≡ false → a ≡ b
+heard-kinds {p} objects o g {a} {b} x y heard = by_life (life_of objects o) refl heard
+  where
+    by_life : (there : Option Life) → life_of objects o ≡ there → silences there g ≡ false → a ≡ b
+    by_life None is h = let last : g ≡ DESTROYED = eqb-true g DESTROYED (not-false (eqb g DESTROYED) h) in x.last last ∙ sym (y.last last)
+    by_life (Some l) is h =
+        let there = lives-of-life objects o l is in
+        let first = x.takes.living there.0 l there.1 in
+        let second = y.takes.living there.0 l there.1 in
+        sym first.takes ∙ ap (λ (k : MetaMethod). k.kinds) (method-unique first.is second.is) ∙ second.takes
 
--- the emission's arguments are those of the connection's signal
-pub next-fits : {p : Loaded} {objects : List Object} {arguments : List Value} (now : List Object) (connections : List Connection) (o g used last : ℕ) (c : Connection) → next_used now connections o g used last ≡ Some c → ArgumentsFit p objects o g arguments → ArgumentsFit p objects c.sender c.signal arguments
-next-fits {p} {objects} {arguments} now connections o g used last c found fit =
-    let is = (used-due now connections o g used last c found).0 in
-    subst (λ (n : ℕ). ArgumentsFit p objects c.sender n arguments) (sym is.1) (subst (λ (n : ℕ). ArgumentsFit p objects n g arguments) (sym is.0) fit)
+    not-false : (n : Bool) → not n ≡ false → n ≡ true
+    not-false true e = refl
+    not-false false e = absurd (cc e)
 
--- the method that a connection leads to takes the first arguments of the signal
-pub delivered-fits : {p : Loaded} {objects : List Object} {c : Connection} {x : Object} {method : MetaMethod} {arguments taken : List Value} {count : ℕ} → Joined p objects c → ArgumentsFit p objects c.sender c.signal arguments → IsMember p objects c.receiver c.method x method → taken ≡ take count arguments → count ≡ length method.kinds → ArgumentsFit p objects c.receiver c.method taken
-delivered-fits {p} {objects} {c} {x} {method} {arguments} {taken} j fit is cut count_is =
-    let of_signal : ReadAs p objects arguments j.signal.kinds = fit-typed j.sends fit in
-    let split : ReadAs p objects arguments (j.method.kinds ++ j.rest) = subst (λ (l : List ValueType). ReadAs p objects arguments l) j.fits of_signal in
-    let front : ReadAs p objects (take (length j.method.kinds) arguments) j.method.kinds = read-front p objects arguments j.method.kinds j.rest split in
-    let long : taken ≡ take (length method.kinds) arguments = cut ∙ ap (λ (n : ℕ). take n arguments) count_is in
-    let has : ArgumentsFit p objects c.receiver c.method (take (length j.method.kinds) arguments) = fit-of j.receives front in
-    let same : j.method ≡ method = member-method j.receives is in
-    let taken_is : taken ≡ take (length j.method.kinds) arguments = long ∙ ap (λ (k : MetaMethod). take (length k.kinds) arguments) (sym same) in
-    subst (λ (l : List Value). ArgumentsFit p objects c.receiver c.method l) (sym taken_is) has
+-- what lives has a life
+has-life : (objects : List Object) (o : ℕ) → is_living objects o ≡ true → (x : Object) × (l : Life) × Lives objects o x l
+has-life objects o e = by_life (life_of objects o) refl e
+  where
+    by_life : (there : Option Life) → life_of objects o ≡ there → is_some there ≡ true → (x : Object) × (l : Life) × Lives objects o x l
+    by_life None is f = absurd (cc f)
+    by_life (Some l) is f = let there = lives-of-life objects o l is in (there.0, l, there.1)
+
+-- the next connection's receiver lives, and its method takes the first of the emission's arguments
+pub next-delivered : {p : Loaded} {objects : List Object} {arguments : List Value} (connections : List Connection) (o g used last : ℕ) (c : Connection) → AllByRecursion (Joined p objects) connections → SendsThese p objects o g arguments → next_used objects connections o g used last ≡ Some c → IsDelivered p objects c arguments
+next-delivered {p} {objects} {arguments} connections o g used last c all emitted found =
+    let j : Joined p objects c = used-among (Joined p objects) objects connections o g used last c all found in
+    let is = (used-due objects connections o g used last c found).0 in
+    let sends : Sends p objects o g (j.kinds ++ j.rest) =
+    subst (λ (n : ℕ). Sends p objects o n (j.kinds ++ j.rest)) is.1 (subst (λ (n : ℕ). Sends p objects n c.signal (j.kinds ++ j.rest)) is.0 j.sends) in
+    let same : emitted.kinds ≡ j.kinds ++ j.rest = heard-kinds objects o g emitted.sends sends (used-heard objects connections o g used last c found) in
+    let split : ReadAs p objects arguments (j.kinds ++ j.rest) = subst (λ (l : List ValueType). ReadAs p objects arguments l) same emitted.typed in
+    let front : ReadAs p objects (take (length j.kinds) arguments) j.kinds = read-front p objects arguments j.kinds j.rest split in
+    let receiver = has-life objects c.receiver (used-living objects connections o g used last c found) in
+    let declared = j.receives.living receiver.0 receiver.1 receiver.2 in
+    record {
+      receiver = receiver.0;
+      method = declared.method;
+      is = record { life = receiver.1; lives = receiver.2; is_method = declared.is };
+      typed = subst (λ (l : List ValueType). ReadAs p objects (take (length l) arguments) l) (sym declared.takes) front;
+    }
+
+-- .. which are those that it is given
+pub delivered-fits : {p : Loaded} {objects : List Object} {c : Connection} {x : Object} {method : MetaMethod} {arguments taken : List Value} {count : ℕ} → IsDelivered p objects c arguments → IsMember p objects c.receiver c.method x method → taken ≡ take count arguments → count ≡ length method.kinds → ArgumentsFit p objects c.receiver c.method taken
+delivered-fits {p} {objects} {c} {x} {method} {arguments} {taken} d is cut count_is =
+    let same : method ≡ d.method = member-method is d.is in
+    let taken_is : taken ≡ take (length d.method.kinds) arguments = cut ∙ ap (λ (n : ℕ). take n arguments) count_is ∙ ap (λ (k : MetaMethod). take (length k.kinds) arguments) same in
+    subst (λ (l : List Value). ArgumentsFit p objects c.receiver c.method l) (sym taken_is) (fit-of d.is d.typed)
 
 -- ---- a connection is used
 
@@ -176,6 +215,7 @@ no-home {objects = objects} {o = o} is none =
 pub delivery-calls : {p : Loaded} {w : World} {c : Connection} {x : Object} {method : MetaMethod} {arguments taken : List Value} {count : ℕ} (o g used last : ℕ) → next_used w.store.tree w.store.connections.connections o g used last ≡ Some c → IsMember p w.store.tree c.receiver c.method x method → taken ≡ take count arguments → count ≡ length method.kinds → {home : ℕ} → home_of w.store.tree c.receiver ≡ Some home → reaches_at_once c.kind home (running w.turn) ≡ true → CallsIn p w (having_used w c) (Emit o g arguments used last ∷ []) (Emit o g arguments c.number last ∷ []) c.receiver c.method taken
 delivery-calls {p} {w} {c} {x} {method} {arguments} {taken} {count} o g used last found is cut count_is {home} lives at_once = record {
   no_lower = omega arith;
+  objects = refl;
   goes_on = λ below. not-idle w _ below;
   gives = λ below t b.
       let s : State = at w (Emit o g arguments used last ∷ below) in
@@ -224,7 +264,7 @@ ends-posted {p} {w = w} {v = v} {c = c} {x = x} {method = method} {arguments = a
     } in
     let Next : Option Connection → Type 0 = λ y. EmitRule p s o g arguments last below to y in
     subst Next (sym found) uses)
-    room typed refl some posts.becomes
+    (λ o gone. gone) room typed refl some posts.becomes
 
 -- ---- tests
 

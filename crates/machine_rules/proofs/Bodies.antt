@@ -16,14 +16,16 @@ use Rattle.machine_state.specs.declared.world.World.{World}
 use Rattle.machine_state.specs.State.{State, Activation, Body}
 use Rattle.texts.specs.declared.connection.ConnectionType.{ConnectionType}
 use Rattle.machine_state.specs.declared.endpoints.Endpoints.{Endpoints}
-use Rattle.machine_rules.specs.Doings.{Doing, Write, Begin, Choose, Connect, Disconnect, Nothing, doing}
+use Rattle.machine_rules.specs.Doings.{Doing, Write, Begin, Choose, Connect, Disconnect, Delete, Schedule, Nothing, doing}
 use Rattle.machine_rules.specs.Coded.{Yields}
 use Rattle.machine_rules.specs.Rules.{Rule, StatementRule, Does, told, Connects, Disconnects}
+use Rattle.machine_rules.specs.Destroying.{Schedules}
+use Rattle.object_tree.specs.Objects.{life_of}
 use Rattle.object_tree.specs.Typed.{AreTyped}
 use Rattle.machine_rules.specs.Good.{}
 use Rattle.machine_rules.specs.Runs.{Rules, done, then}
 use Rattle.machine_state.specs.Worlds.{at, noted, Ticks, Becomes}
-use Rattle.machine_rules.specs.Reaches.{StopsIn, Ends, Advances, Calls, OnlyCalls, Sets, Went, Stays, ConnectsIn, DisconnectsIn}
+use Rattle.machine_rules.specs.Reaches.{StopsIn, Ends, Advances, Calls, OnlyCalls, Sets, Deletes, Went, Stays, ConnectsIn, DisconnectsIn, SchedulesIn}
 use Rattle.machine_rules.proofs.Reaching.{not-idle, reaches-low, stops-as, stops-memory, stops-stuck, ends-noted, ends-ticked}
 use Rattle.machine_rules.proofs.Frames.{high}
 use Rattle.machine_rules.proofs.Keeps.{some-stack, rules-kept}
@@ -49,7 +51,7 @@ rule-does p w o m arguments x rest d below t is rule =
 
 -- a method begins
 pub does-call : {p : Loaded} {w : World} {o : ℕ} {arguments : List Value} {x : Statement} (m : ℕ) (rest : List Statement) {y n : ℕ} {given : List Value} → doing w.store.tree o arguments (out-Statement x) ≡ Some (Begin y n given) → Calls p w (Body o m arguments (x ∷ rest) ∷ []) (Body o m arguments rest ∷ []) y n given
-does-call {p} {w} {o} {arguments} {x} m rest {y} {n} {given} is = record { no_lower = omega arith; goes_on = λ below. not-idle w _ below; gives = λ below t b. does-rule p w o m arguments x rest (Begin y n given) below t is b }
+does-call {p} {w} {o} {arguments} {x} m rest {y} {n} {given} is = record { no_lower = omega arith; objects = refl; goes_on = λ below. not-idle w _ below; gives = λ below t b. does-rule p w o m arguments x rest (Begin y n given) below t is b }
 
 pub does-call-alone : {p : Loaded} {w : World} {o : ℕ} {arguments : List Value} {x : Statement} (m : ℕ) (rest : List Statement) {y n : ℕ} {given : List Value} → doing w.store.tree o arguments (out-Statement x) ≡ Some (Begin y n given) → OnlyCalls p w (Body o m arguments (x ∷ rest) ∷ []) (Body o m arguments rest ∷ []) y n given
 does-call-alone {p} {w} {o} {arguments} {x} m rest {y} {n} {given} is = record { begins = λ below t r. rule-does p w o m arguments x rest (Begin y n given) below t is r }
@@ -71,7 +73,7 @@ does-nothing {p} {w} {o} {arguments} {x} m rest {d} {h} {v} n r is room typed so
     let depth_is : n ≡ suc (length below) = omega (arith, n_is, high below k) in
     let null_is : t ≡ told (next w o m arguments x rest below) (Body o m arguments rest ∷ below) OnNull = ap (λ (i : ℕ). at (noted w (At i OnNull ∷ [])) (Body o m arguments rest ∷ below)) depth_is in
     does-rule p w o m arguments x rest Nothing below t is null_is)
-    room typed refl some notes
+    (λ k gone. gone) room typed refl some notes
 
 -- what this relation tells of is done, and nothing is pushed
 does-told : {p : Loaded} {w v : World} {o : ℕ} {arguments : List Value} {x : Statement} (m : ℕ) (rest : List Statement) {d : ℕ} {h : List (Option ℕ)} (what : Doing) (What : State → List Activation → State → Type 0) (n : ℕ) (r : Result (Unit {0}) Fault) → doing w.store.tree o arguments (out-Statement x) ≡ Some what →
@@ -79,10 +81,9 @@ does-told : {p : Loaded} {w v : World} {o : ℕ} {arguments : List Value} {x : S
     ((below : List Activation) (t : State) → Does p (next w o m arguments x rest below) o m arguments rest below what t → What (next w o m arguments x rest below) (Body o m arguments rest ∷ below) t) →
     length h < d → AreTyped p w.store.tree → 0 < w.left → n ≡ length h + 1 → MatchResult r (λ _. Went What w n v) (Stays What w v) → Ends p d h w (Body o m arguments (x ∷ rest) ∷ []) v (Body o m arguments rest ∷ []) r
 does-told {p} {w} {v} {o} {arguments} {x} m rest {d} {h} what What n (Ok _) is does told_by room typed some n_is went =
-    let Typed : List Object → Type 0 = λ l. AreTyped p l in
     record {
       cases = reaches-low {b = Body o m arguments rest ∷ []} (λ below k. does-rule p w o m arguments x rest what below _ is (does below _ (went.tells (Body o m arguments (x ∷ rest) ∷ below) (Body o m arguments rest ∷ below) (omega (arith, n_is, high below k)))))
-          (omega arith) (omega (arith, room)) (subst Typed (sym went.objects) typed) went.left some;
+          went.spared (omega arith) (omega (arith, room)) (went.typed p typed) went.left some;
     }
 does-told {p} {w} {v} {o} {arguments} {x} m rest {d} {h} what What n (Err f) is does told_by room typed some n_is stays =
     let At : World → Type 0 = λ u. StopsIn p d h w (Body o m arguments (x ∷ rest) ∷ []) u f in
@@ -101,6 +102,18 @@ does-connect {p} m rest ends how n r is room typed some n_is went =
 pub does-disconnect : {p : Loaded} {w v : World} {o : ℕ} {arguments : List Value} {x : Statement} (m : ℕ) (rest : List Statement) {d : ℕ} {h : List (Option ℕ)} (ends : Endpoints) (n : ℕ) (r : Result (Unit {0}) Fault) → doing w.store.tree o arguments (out-Statement x) ≡ Some (Disconnect ends) → length h < d → AreTyped p w.store.tree → 0 < w.left → n ≡ length h + 1 → DisconnectsIn p w n ends v r → Ends p d h w (Body o m arguments (x ∷ rest) ∷ []) v (Body o m arguments rest ∷ []) r
 does-disconnect {p} m rest ends n r is room typed some n_is went =
     does-told m rest (Disconnect ends) (λ s stack t. Disconnects p s stack ends t) n r is (λ below t does. does) (λ below t does. does) room typed some n_is went
+
+-- an object is scheduled for deletion
+pub does-schedule : {p : Loaded} {w v : World} {o : ℕ} {arguments : List Value} {x : Statement} (m : ℕ) (rest : List Statement) {d : ℕ} {h : List (Option ℕ)} (y : ℕ) (n : ℕ) (r : Result (Unit {0}) Fault) → doing w.store.tree o arguments (out-Statement x) ≡ Some (Schedule y) → length h < d → AreTyped p w.store.tree → 0 < w.left → n ≡ length h + 1 → SchedulesIn w n y v r → Ends p d h w (Body o m arguments (x ∷ rest) ∷ []) v (Body o m arguments rest ∷ []) r
+does-schedule m rest y n r is room typed some n_is went =
+    does-told m rest (Schedule y) (λ s stack t. Schedules s stack y t (life_of s.objects y)) n r is (λ below t does. does) (λ below t does. does) room typed some n_is went
+
+-- .. or deleted
+pub does-delete : {p : Loaded} {w : World} {o : ℕ} {arguments : List Value} {x : Statement} (m : ℕ) (rest : List Statement) {y : ℕ} → doing w.store.tree o arguments (out-Statement x) ≡ Some (Delete y) → Deletes p w (Body o m arguments (x ∷ rest) ∷ []) (Body o m arguments rest ∷ []) y
+does-delete {p} {w} {o} {arguments} {x} m rest {y} is = record {
+  goes_on = λ below. not-idle w _ below;
+  gives = λ below. does-rule p w o m arguments x rest (Delete y) below _ is refl;
+}
 
 -- a block comes next
 pub does-choose : {p : Loaded} {w : World} {o : ℕ} {arguments : List Value} {x : Statement} (m : ℕ) (rest : List Statement) {d : ℕ} {h : List (Option ℕ)} {v : World} (r : Result (Unit {0}) Fault) (block : List Statement) → doing w.store.tree o arguments (out-Statement x) ≡ Some (Choose block) → length h < d → AreTyped p w.store.tree → Ticks w v r → Ends p d h w (Body o m arguments (x ∷ rest) ∷ []) v (Body o m arguments (block ++ rest) ∷ []) r

@@ -15,6 +15,7 @@ pub mod Bodies
 pub mod Reading
 pub mod Yielding
 pub mod Blocks
+pub mod Deleting
 pub mod Soundness
 pub mod Turning
 pub mod OneRule

@@ -8,6 +8,8 @@ use Rattle.meta_model.specs.Members.{IsMethod}
 use Rattle.object_tree.specs.declared.life.Life.{Life}
 use Rattle.object_tree.specs.declared.object.Object.{Object}
 use Rattle.object_tree.specs.Objects.{Lives}
+use Rattle.object_tree.specs.Typed.{StayTyped}
+use Rattle.machine_rules.specs.There.{NoneDied}
 use Rattle.machine_state.specs.declared.endpoints.Endpoints.{Endpoints}
 use Rattle.machine_state.specs.declared.entry.Entry.TheVariants.{At}
 use Rattle.machine_state.specs.declared.entry.Happening.TheVariants.{Connected, Disconnected, Refused}
@@ -63,17 +65,18 @@ second-fails false b e h = absurd (cc h)
 
 module _ (What : State → List Activation → State → Type 0) (w v : World) (depth : ℕ) where
   -- one rule was carried out, to this world where so many activations are on the stack, or memory was refused
-  came : (target : ℕ → World) (r : Result (Unit {0}) Fault) → ((old stack : List Activation) → What (at w old) stack (at (target (length stack)) stack)) → ((n : ℕ) → (target n).objects ≡ w.store.tree) → ((n : ℕ) → (target n).left ≡ w.left - 1) →
+  came : (target : ℕ → World) (r : Result (Unit {0}) Fault) → ((old stack : List Activation) → What (at w old) stack (at (target (length stack)) stack)) → ((n : ℕ) → StayTyped w.store.tree (target n).store.tree) → ((n : ℕ) → NoneDied w.store.tree (target n).store.tree) → ((n : ℕ) → (target n).left ≡ w.left - 1) →
       Becomes w (target depth) v r → MatchResult r (λ _. Went What w depth v) (Stays What w v)
-  came target (Ok _) tells objects left v_is = record {
+  came target (Ok _) tells typed spared left v_is = record {
     tells = λ old stack e.
         let In : World → Type 0 = λ u. What (at w old) stack (at u stack) in
         let High : ℕ → Type 0 = λ n. What (at w old) stack (at (target n) stack) in
         subst In (sym v_is) (subst High e (tells old stack));
-    objects = ap (λ (u : World). u.store.tree) v_is ∙ objects depth;
+    typed = subst (λ (u : World). StayTyped w.store.tree u.store.tree) (sym v_is) (typed depth);
+    spared = subst (λ (u : World). NoneDied w.store.tree u.store.tree) (sym v_is) (spared depth);
     left = ap (λ (u : World). u.left) v_is ∙ left depth;
   }
-  came target (Err f) tells objects left short = record { same = short.1; why = inr short.0 }
+  came target (Err f) tells typed spared left short = record { same = short.1; why = inr short.0 }
 
 module _ (p : Loaded) (w v : World) (depth : ℕ) (ends : Endpoints) where
   -- the connect is refused
@@ -81,25 +84,25 @@ module _ (p : Loaded) (w v : World) (depth : ℕ) (ends : Endpoints) where
   connect-refused {how = how} {k = k} r j becomes =
       came (λ s stack t. Connects p s stack ends how t) w v depth (λ n. noted w (At n (Refused (refusal_number k)) ∷ [])) r
       (λ old stack. record { spelled = j.spelled; kept = kept-there j.spelled; answer = Err k; judged = j.is; gives = refl })
-      (λ n. refl) (λ n. refl) becomes
+      (λ n p typed. typed) (λ n o gone. gone) (λ n. refl) becomes
 
   -- .. made
   pub connect-made : {how : ConnectionType} {done : Unit {0}} {names : Named (List ℕ)} (r : Result (Unit {0}) Fault) → IsJudged p w ends how (Ok done) → NamesEnds p w.store.tree (kept_ends ends) names → Becomes w (connecting w (At depth (Connected names how) ∷ []) (kept_ends ends) how) v r → ConnectsIn p w depth ends how v r
   connect-made {how = how} {done = done} {names = names} r j named becomes =
       came (λ s stack t. Connects p s stack ends how t) w v depth (λ n. connecting w (At n (Connected names how) ∷ []) (kept_ends ends) how) r
       (λ old stack. record { spelled = j.spelled; kept = named.there; answer = Ok done; judged = j.is; gives = ap (λ (l : Named (List ℕ)). at (connecting w (At (length stack) (Connected l how) ∷ []) (kept_ends ends) how) stack) named.is })
-      (λ n. refl) (λ n. refl) becomes
+      (λ n p typed. typed) (λ n o gone. gone) (λ n. refl) becomes
 
   -- there is nothing to be removed
   pub disconnect-refused : {names : Named (List ℕ)} (r : Result (Unit {0}) Fault) → NamesEnds p w.store.tree (kept_ends ends) names → may_disconnect w.store.connections (kept_ends ends) (Err NoConnection) → Becomes w (noted w (At depth (Refused (refusal_number NoConnection)) ∷ [])) v r → DisconnectsIn p w depth ends v r
   disconnect-refused r named judged becomes =
       came (λ s stack t. Disconnects p s stack ends t) w v depth (λ n. noted w (At n (Refused (refusal_number NoConnection)) ∷ [])) r
       (λ old stack. record { kept = named.there; answer = Err NoConnection; judged = judged; gives = refl })
-      (λ n. refl) (λ n. refl) becomes
+      (λ n p typed. typed) (λ n o gone. gone) (λ n. refl) becomes
 
   -- .. it is removed
   pub disconnect-made : {names : Named (List ℕ)} (r : Result (Unit {0}) Fault) → NamesEnds p w.store.tree (kept_ends ends) names → may_disconnect w.store.connections (kept_ends ends) (Ok tt) → Becomes w (disconnecting w (At depth (Disconnected names) ∷ []) (kept_ends ends)) v r → DisconnectsIn p w depth ends v r
   disconnect-made {names = names} r named judged becomes =
       came (λ s stack t. Disconnects p s stack ends t) w v depth (λ n. disconnecting w (At n (Disconnected names) ∷ []) (kept_ends ends)) r
       (λ old stack. record { kept = named.there; answer = Ok tt; judged = judged; gives = ap (λ (l : Named (List ℕ)). at (disconnecting w (At (length stack) (Disconnected l) ∷ []) (kept_ends ends)) stack) named.is })
-      (λ n. refl) (λ n. refl) becomes
+      (λ n p typed. typed) (λ n o gone. gone) (λ n. refl) becomes

@@ -1,17 +1,19 @@
 -- How runs are put together.
-use Rattle.std.proofs.Common.{◌≡◌, ℕ, suc, ◌+◌, ◌-◌, ◌<◌, ◌≤◌, inl, inr, Option, List, [], ◌∷◌, ◌++◌, length, Result, Ok, Err, refl, sym, subst, arith, length-append}
+use Rattle.std.proofs.Common.{◌≡◌, ℕ, suc, ◌+◌, ◌-◌, ◌<◌, ◌≤◌, inl, inr, Option, IsTrue, List, [], ◌∷◌, ◌++◌, length, Result, Ok, Err, refl, sym, subst, arith, length-append}
 use Rattle.std.specs.Result.{IsErrAnd}
 use Rattle.meta_model.specs.Loaded.{Loaded}
 use Rattle.expressions.specs.declared.evaluation.EvalFault.{EvalFault}
 use Rattle.expressions.specs.declared.evaluation.EvalFault.TheVariants as eval
 use Rattle.machine_state.specs.declared.fault.Fault.{Fault}
-use Rattle.machine_state.specs.declared.fault.Fault.TheVariants.{BadType, TooDeep, Steps, Memory, Stopped}
+use Rattle.machine_state.specs.declared.fault.Fault.TheVariants.{BadType, TooDeep, InUse, Steps, Memory, Stopped}
 use Rattle.machine_state.specs.declared.world.World.{World}
 use Rattle.machine_state.specs.State.{State, Activation, IsIdle}
 use Rattle.machine_rules.specs.Rules.{Rule}
 use Rattle.object_tree.specs.Typed.{AreTyped}
-use Rattle.machine_rules.specs.Good.{IsWell, IsGood, TopFits}
-use Rattle.machine_rules.specs.Runs.{Rules, done, then, IsStuck, GoesIll, GoesDeep, Reason}
+use Rattle.object_tree.specs.declared.object.Object.{Object}
+use Rattle.machine_rules.specs.There.{IsDead, NoneDied}
+use Rattle.machine_rules.specs.Good.{has_body, IsWell, Spares, IsGood, TopFits}
+use Rattle.machine_rules.specs.Runs.{Rules, done, then, IsStuck, GoesIll, GoesFatal, GoesDeep, Reason}
 use Rattle.machine_state.specs.Worlds.{at, Ticks, Becomes}
 use Rattle.machine_rules.specs.Active.{shows}
 use Rattle.machine_rules.specs.Reaches.{Reaches, StopsIn, Ends}
@@ -42,22 +44,29 @@ pub ends-after : {p : Loaded} {d : ℕ} {h : List (Option ℕ)} {w v u : World} 
 ends-after {r = Ok _} x y = record { cases = reaches-then x y.cases }
 ends-after {r = Err f} x y = record { cases = stops-after x y.cases }
 
+-- where no object has died, none has that has a body
+pub none-spared : {old new : List Object} (stack : List Activation) → NoneDied old new → (o : ℕ) → IsTrue (has_body o stack) → IsDead new o → IsDead old o
+none-spared stack none o body gone = none o gone
+
+pub same-spared : {old new : List Object} → new ≡ old → NoneDied old new
+same-spared e o gone = subst (λ (objects : List Object). IsDead objects o) e gone
+
 -- one rule that pushes nothing, to a world with one rule fewer left
-pub reaches-low : {p : Loaded} {d : ℕ} {h : List (Option ℕ)} {w v : World} {a b : List Activation} → ((below : List Activation) → shows below ≡ h → Rule p (at w (a ++ below)) (at v (b ++ below))) → length b ≤ length a → length b + length h ≤ d → AreTyped p v.store.tree → v.left ≡ w.left - 1 → 0 < w.left → Reaches p d h w a v b
-reaches-low {p} {d} {h} {w} {v} {a} {b} step low fits typed less some = record {
+pub reaches-low : {p : Loaded} {d : ℕ} {h : List (Option ℕ)} {w v : World} {a b : List Activation} → ((below : List Activation) → shows below ≡ h → Rule p (at w (a ++ below)) (at v (b ++ below))) → NoneDied w.store.tree v.store.tree → length b ≤ length a → length b + length h ≤ d → AreTyped p v.store.tree → v.left ≡ w.left - 1 → 0 < w.left → Reaches p d h w a v b
+reaches-low {p} {d} {h} {w} {v} {a} {b} step none low fits typed less some = record {
   runs = λ below e.
       let shallow : length (b ++ below) ≤ d = omega (arith, length-append b below, high below e, fits) in
       let no_higher : length (b ++ below) ≤ length (a ++ below) = omega (arith, length-append b below, length-append a below, low) in
-      let good : IsGood p d (at w (a ++ below)) (at v (b ++ below)) = record { well = record { arguments = λ higher. absurd (omega (arith, higher, no_higher)); values = typed }; shallow = shallow } in
+      let good : IsGood p d (at w (a ++ below)) (at v (b ++ below)) = record { well = record { arguments = λ higher. absurd (omega (arith, higher, no_higher)); values = typed }; spared = none-spared (a ++ below) none; shallow = shallow } in
       rules-one (step below e) good some less;
 }
 
 -- one rule that pushes an activation, over a stack that shows `active`
-pub reaches-high : {p : Loaded} {d : ℕ} {h active : List (Option ℕ)} {w v : World} {from : List Activation} {top : Activation} {to : List Activation} → active ≡ shows to ++ h → ((below : List Activation) → shows below ≡ h → Rule p (at w (from ++ below)) (at v (top ∷ to ++ below))) → ((below : List Activation) → TopFits p v.store.tree (top ∷ to ++ below)) → length active < d → AreTyped p v.store.tree → v.left ≡ w.left - 1 → 0 < w.left → Reaches p d h w from v (top ∷ to)
-reaches-high {p} {d} {h} {active} {w} {v} {from} {top} {to} over step fit room typed less some = record {
+pub reaches-high : {p : Loaded} {d : ℕ} {h active : List (Option ℕ)} {w v : World} {from : List Activation} {top : Activation} {to : List Activation} → active ≡ shows to ++ h → ((below : List Activation) → shows below ≡ h → Rule p (at w (from ++ below)) (at v (top ∷ to ++ below))) → ((below : List Activation) → shows below ≡ h → Spares (at w (from ++ below)) (at v (top ∷ to ++ below))) → ((below : List Activation) → TopFits p v.store.tree (top ∷ to ++ below)) → length active < d → AreTyped p v.store.tree → v.left ≡ w.left - 1 → 0 < w.left → Reaches p d h w from v (top ∷ to)
+reaches-high {p} {d} {h} {active} {w} {v} {from} {top} {to} over step spared fit room typed less some = record {
   runs = λ below e.
       let shallow : length (top ∷ to ++ below) ≤ d = omega (arith, high (to ++ below) (shows-over to below over e), room) in
-      let good : IsGood p d (at w (from ++ below)) (at v (top ∷ to ++ below)) = record { well = record { arguments = λ higher. fit below; values = typed }; shallow = shallow } in
+      let good : IsGood p d (at w (from ++ below)) (at v (top ∷ to ++ below)) = record { well = record { arguments = λ higher. fit below; values = typed }; spared = spared below e; shallow = shallow } in
       rules-one (step below e) good some less;
 }
 
@@ -94,12 +103,21 @@ stops-ill {p} {w = w} {from = from} some next = record {
       (from ++ below, done, (some, inr is));
 }
 
+-- by the next rule an object dies while a body of it is active
+pub stops-fatal : {p : Loaded} {d : ℕ} {h : List (Option ℕ)} {w : World} {from : List Activation} → 0 < w.left → ((below : List Activation) → shows below ≡ h → (t : State) × Rule p (at w (from ++ below)) t × IsWell p (at w (from ++ below)) t × (¬ Spares (at w (from ++ below)) t)) → StopsIn p d h w from w InUse
+stops-fatal {p} {w = w} {from = from} some next = record {
+  stops = λ below e.
+      let q = next below e in
+      let is : GoesFatal p (at w (from ++ below)) (λ t. Rule p (at w (from ++ below)) t) = record { t = q.0; follows = q.1; well = q.2; fatal = q.3 } in
+      (from ++ below, done, (some, is));
+}
+
 -- the next rule nests too deep
-pub stops-deep : {p : Loaded} {d : ℕ} {h : List (Option ℕ)} {w : World} {from : List Activation} → 0 < w.left → ((below : List Activation) → shows below ≡ h → (t : State) × Rule p (at w (from ++ below)) t × IsWell p (at w (from ++ below)) t × (d < length t.stack)) → StopsIn p d h w from w TooDeep
+pub stops-deep : {p : Loaded} {d : ℕ} {h : List (Option ℕ)} {w : World} {from : List Activation} → 0 < w.left → ((below : List Activation) → shows below ≡ h → (t : State) × Rule p (at w (from ++ below)) t × IsWell p (at w (from ++ below)) t × Spares (at w (from ++ below)) t × (d < length t.stack)) → StopsIn p d h w from w TooDeep
 stops-deep {p} {d} {w = w} {from = from} some next = record {
   stops = λ below e.
       let q = next below e in
-      let is : GoesDeep p d (at w (from ++ below)) (λ t. Rule p (at w (from ++ below)) t) = record { t = q.0; follows = q.1; well = q.2; deep = q.3 } in
+      let is : GoesDeep p d (at w (from ++ below)) (λ t. Rule p (at w (from ++ below)) t) = record { t = q.0; follows = q.1; well = q.2; spared = q.3; deep = q.4 } in
       (from ++ below, done, (some, is));
 }
 
@@ -110,7 +128,8 @@ reason-more p d s left BadType stuck follows due r =
       | inl none ↦ (r.0, inl (stuck none))
       | inr ill ↦ (r.0, inr (record { t = ill.t; follows = follows ill.t ill.follows; ill = ill.ill }))
     ]
-reason-more p d s left TooDeep stuck follows due r = let deep = r.1 in (r.0, record { t = deep.t; follows = follows deep.t deep.follows; well = deep.well; deep = deep.deep })
+reason-more p d s left TooDeep stuck follows due r = let deep = r.1 in (r.0, record { t = deep.t; follows = follows deep.t deep.follows; well = deep.well; spared = deep.spared; deep = deep.deep })
+reason-more p d s left InUse stuck follows due r = let fatal = r.1 in (r.0, record { t = fatal.t; follows = follows fatal.t fatal.follows; well = fatal.well; fatal = fatal.fatal })
 reason-more p d s left Steps stuck follows due r = (r.0, due r.1)
 reason-more p d s left Memory stuck follows due r = (r.0, due r.1)
 reason-more p d s left Stopped stuck follows due r = absurd r
@@ -155,7 +174,7 @@ ends-faulted {e = e} (Err f) some ill is = record { cases = stops-faulted e some
 pub reaches-ticked : {p : Loaded} {d : ℕ} {h : List (Option ℕ)} {w v : World} {a : Activation} {b : List Activation} → ((below : List Activation) → shows below ≡ h → Rule p (at w (a ∷ below)) (at w (b ++ below))) → length b ≤ 1 → length h < d → AreTyped p w.store.tree → Ticks w v (Ok tt) → Reaches p d h w (a ∷ []) v b
 reaches-ticked {p} {d} {h} {w} {v} {a} {b} step low room typed x =
     let Family : World → Type 0 = λ u. Reaches p d h w (a ∷ []) u b in
-    subst Family (sym x.1) (reaches-low step low (omega (arith, low, room)) typed refl x.0)
+    subst Family (sym x.1) (reaches-low step (λ o gone. gone) low (omega (arith, low, room)) typed refl x.0)
 
 pub ends-ticked : {p : Loaded} {d : ℕ} {h : List (Option ℕ)} {w v : World} {a : Activation} {b : List Activation} (r : Result (Unit {0}) Fault) → ((below : List Activation) → shows below ≡ h → Rule p (at w (a ∷ below)) (at w (b ++ below))) → length b ≤ 1 → length h < d → AreTyped p w.store.tree → Ticks w v r → Ends p d h w (a ∷ []) v b r
 ends-ticked (Ok _) step low room typed x = record { cases = reaches-ticked step low room typed x }
@@ -164,11 +183,11 @@ ends-ticked {p} {d} {h} {w} {v} {a} {b} (Err f) step low room typed x =
     record { cases = subst Family (sym x.2) (stops-as x.1 (stops-steps x.0)) }
 
 -- .. which writes an entry down, and leaves the stack as high as it was
-pub ends-noted : {p : Loaded} {d : ℕ} {h : List (Option ℕ)} {w v : World} {a b : Activation} (target : World) (r : Result (Unit {0}) Fault) → ((below : List Activation) → shows below ≡ h → Rule p (at w (a ∷ below)) (at target (b ∷ below))) → length h < d → AreTyped p target.store.tree → target.left ≡ w.left - 1 → 0 < w.left → Becomes w target v r → Ends p d h w (a ∷ []) v (b ∷ []) r
-ends-noted {p} {d} {h} {w} {v} {a} {b} target (Ok _) step room typed less some x =
+pub ends-noted : {p : Loaded} {d : ℕ} {h : List (Option ℕ)} {w v : World} {a b : Activation} (target : World) (r : Result (Unit {0}) Fault) → ((below : List Activation) → shows below ≡ h → Rule p (at w (a ∷ below)) (at target (b ∷ below))) → NoneDied w.store.tree target.store.tree → length h < d → AreTyped p target.store.tree → target.left ≡ w.left - 1 → 0 < w.left → Becomes w target v r → Ends p d h w (a ∷ []) v (b ∷ []) r
+ends-noted {p} {d} {h} {w} {v} {a} {b} target (Ok _) step none room typed less some x =
     let Family : World → Type 0 = λ u. Reaches p d h w (a ∷ []) u (b ∷ []) in
-    record { cases = subst Family (sym x) (reaches-low {b = b ∷ []} step (omega arith) (omega (arith, room)) typed less some) }
-ends-noted {p} {d} {h} {w} {v} {a} {b} target (Err f) step room typed less some x =
+    record { cases = subst Family (sym x) (reaches-low {b = b ∷ []} step none (omega arith) (omega (arith, room)) typed less some) }
+ends-noted {p} {d} {h} {w} {v} {a} {b} target (Err f) step none room typed less some x =
     let Family : World → Type 0 = λ u. StopsIn p d h w (a ∷ []) u f in
     record { cases = subst Family (sym x.1) (stops-as x.0 (stops-memory (not-idle w a) some)) }
 

@@ -1,6 +1,8 @@
 -- What stays sound: items that wait and emissions have arguments that fit.
-use Rattle.std.proofs.Common.{◌≡◌, ℕ, suc, ◌+◌, ◌-◌, ◌<◌, Bool, true, false, List, [], ◌∷◌, ◌++◌, length, take, Result, Ok, Err, Option, Some, None, refl, sym, ap, subst, arith}
+use Rattle.std.proofs.Common.{◌≡◌, ℕ, suc, ◌+◌, ◌-◌, ◌<◌, Bool, true, false, List, [], ◌∷◌, ◌++◌, length, take, Result, Ok, Err, Option, Some, None, slice_get, refl, sym, ap, subst, arith}
 use Rattle.std.specs.List.{AllByRecursion, find}
+use Rattle.std.specs.Option.{option_map}
+use Rattle.std.proofs.lemmas.Option.{slice_get_within}
 use Rattle.signatures.specs.declared.value.Value.{Value}
 use Rattle.meta_model.specs.declared.object.MetaMethod.{MetaMethod}
 use Rattle.meta_model.specs.declared.object.Statement.{Statement}
@@ -13,30 +15,35 @@ use Rattle.event_loops.specs.declared.item.Item.TheVariants.{Call, Deletion}
 use Rattle.event_loops.specs.declared.item.Posted.{Posted}
 use Rattle.event_loops.specs.Queues.{Loop, items_at, is_before, taken_before}
 use Rattle.object_tree.specs.declared.object.Object.{Object}
-use Rattle.object_tree.specs.Objects.{change_life, written}
+use Rattle.object_tree.specs.declared.life.Life.{Life}
+use Rattle.object_tree.specs.Family.{without_life}
+use Rattle.object_tree.specs.Objects.{life_of, name_of, change_life, written, scheduled}
 use Rattle.object_tree.specs.Typed.{AreTyped, ReadsAs}
 use Rattle.machine_state.specs.declared.entry.Entry.{Entry}
 use Rattle.machine_state.specs.declared.fault.Fault.{Fault}
 use Rattle.machine_state.specs.declared.turn.Turn.{Turn}
 use Rattle.machine_state.specs.declared.world.World.{World}
-use Rattle.machine_state.specs.Connections.{next_used}
-use Rattle.machine_state.specs.State.{State, Place, Activation, Body, Emit, Update}
+use Rattle.machine_state.specs.Connections.{is_living, next_used}
+use Rattle.machine_state.specs.State.{State, Place, Activation, Body, Emit, Update, Destroy}
 use Rattle.machine_state.specs.Turns.{running, reaches_at_once}
 use Rattle.machine_state.specs.Worlds.{using, set_in, noted}
 use Rattle.machine_state.proofs.Due.{all-used, last-used}
-use Rattle.machine_rules.specs.Doings.{Doing, Write, Begin, Choose, Nothing, Connect, Disconnect}
-use Rattle.machine_rules.specs.Good.{ArgumentsFit, TopFits, IsWell}
+use Rattle.machine_rules.specs.Doings.{Doing, Write, Begin, Choose, Nothing, Connect, Disconnect, Delete, Schedule}
+use Rattle.machine_rules.specs.Good.{ArgumentsFit, EmissionFits, TopFits, IsWell}
 use Rattle.machine_rules.specs.Keeps.{StayThere, AllJoined, KeepsWorld}
 use Rattle.machine_rules.specs.Reaches.{Reaches, StopsIn, Ends}
-use Rattle.machine_rules.specs.Rules.{RuleAt, BodyRule, Does, EmitRule, UpdateRule, TurnRule, Serves, Delivers, Arrives, Posts, Begins, Writes, begun, with_used, linked, unlinked}
+use Rattle.machine_rules.specs.Rules.{RuleAt, BodyRule, Does, EmitRule, UpdateRule, NotifiesIf, TurnRule, Serves, Delivers, Arrives, Posts, Begins, BeginsIf, Writes, begun, with_used, linked, unlinked}
 use Rattle.machine_rules.specs.Runs.{Rules, done, then}
-use Rattle.machine_rules.specs.Sound.{Joined, Waits, AllWait, Sound, IsSoundWorld}
-use Rattle.machine_rules.proofs.Beginning.{next-joined, next-fits, delivered-fits}
-use Rattle.machine_rules.proofs.Keeps.{member-still, values-stay, written-stay, all-joined-still, rule-kept, some-top, some-stack, some-all, reaches-keeps, stops-keeps, ends-keeps, reaches-typed, ends-typed}
+use Rattle.machine_rules.specs.Sound.{TakesThese, SendsThese, IsDelivered, Joined, Waits, AllWait, Sound, IsSoundWorld}
+use Rattle.machine_rules.specs.Destroying.{deleting, Dies, forgotten, deferred, NextRule, ChildRule, DestroyRule, living_child, DefersOnce, Schedules}
+use Rattle.machine_rules.proofs.Beginning.{next-delivered, delivered-fits}
+use Rattle.machine_rules.proofs.Declared.{fit-takes, emission-sends}
+use Rattle.machine_rules.proofs.Dying.{died-stay, scheduled-stay}
+use Rattle.machine_rules.proofs.Keeps.{takes-still, sends-still, values-stay, written-stay, all-joined-still, rule-kept, some-top, some-stack, some-all, reaches-keeps, stops-keeps, ends-keeps, reaches-typed, ends-typed}
 use Rattle.machine_rules.proofs.Fields.{typed-written}
 use Rattle.machine_rules.specs.There.{IsField}
 use Rattle.meta_model.specs.declared.object.MetaProperty.{MetaProperty}
-use Rattle.machine_rules.proofs.Waiting.{all-posted, all-taken, housed-same, home-change}
+use Rattle.machine_rules.proofs.Waiting.{all-posted, all-taken, all-dropped, housed-same, home-change}
 use Rattle.machine_rules.proofs.Lists.{all-append, all-weaken}
 use Rattle.machine_rules.specs.Connecting.{kept_ends, names_of}
 use Rattle.machine_state.specs.declared.endpoints.Endpoints.{Endpoints}
@@ -47,22 +54,15 @@ use Rattle.meta_model.specs.Sound.{IsSound}
 
 -- ---- as long as the objects stay there
 
-pub fit-stays : {p : Loaded} {old new : List Object} {o m : ℕ} {arguments : List Value} → StayThere old new → ArgumentsFit p old o m arguments → ArgumentsFit p new o m arguments
-fit-stays {p} {old} {new} {o} {m} {arguments} stay fit =
-    let there = member-still stay fit.is in
-    record {
-      object = there.0;
-      method = fit.method;
-      is = there.1;
-      typed = values-stay p stay arguments fit.method.kinds fit.typed;
-    }
+sends-stays : {p : Loaded} {old new : List Object} {o g : ℕ} {arguments : List Value} → StayThere old new → SendsThese p old o g arguments → SendsThese p new o g arguments
+sends-stays {p} {arguments = arguments} stay s = record { kinds = s.kinds; sends = sends-still stay s.sends; typed = values-stay p stay arguments s.kinds s.typed }
 
-pub fit-still : {p : Loaded} {w v : World} {o m : ℕ} {arguments : List Value} → KeepsWorld p w v → ArgumentsFit p w.store.tree o m arguments → ArgumentsFit p v.store.tree o m arguments
-fit-still keeps fit = fit-stays keeps.objects fit
+pub emitted-still : {p : Loaded} {w v : World} {o g : ℕ} {arguments : List Value} → KeepsWorld p w v → SendsThese p w.store.tree o g arguments → SendsThese p v.store.tree o g arguments
+emitted-still keeps s = sends-stays keeps.objects s
 
 waits-still : (p : Loaded) (old new : List Object) (item : Item) → StayThere old new → Waits p old item → Waits p new item
-waits-still p old new (Call o m arguments) stay fit = fit-stays stay fit
-waits-still p old new (Deletion o) stay none = absurd none
+waits-still p old new (Call o m arguments) stay t = record { kinds = t.kinds; takes = takes-still stay t.takes; typed = values-stay p stay arguments t.kinds t.typed }
+waits-still p old new (Deletion o) stay created = omega (arith, created, stay.created)
 
 pub all-wait-still : (p : Loaded) (old new : List Object) (loops : List Loop) → StayThere old new → AllWait p old loops → AllWait p new loops
 all-wait-still p old new loops stay all =
@@ -71,22 +71,32 @@ all-wait-still p old new loops stay all =
 
 -- ---- emissions
 
--- an emission has the arguments that its signal declares
+-- an emission has the arguments that its signal takes
 abbrev pub Fits : Loaded → List Object → Activation → Type 0
 Fits p objects (Body o m arguments left) = Unit {0}
-Fits p objects (Emit o g arguments used last) = ArgumentsFit p objects o g arguments
+Fits p objects (Emit o g arguments used last) = SendsThese p objects o g arguments
 Fits p objects (Update places) = Unit {0}
+Fits p objects (Destroy next torn) = Unit {0}
 
 abbrev pub AllFit : Loaded → List Object → List Activation → Type 0
 AllFit p objects stack = AllByRecursion (Fits p objects) stack
 
 fits-still : (p : Loaded) (old new : List Object) → StayThere old new → (a : Activation) → Fits p old a → Fits p new a
 fits-still p old new stay (Body o m arguments left) fits = tt
-fits-still p old new stay (Emit o g arguments used last) fits = fit-stays stay fits
+fits-still p old new stay (Emit o g arguments used last) fits = sends-stays stay fits
 fits-still p old new stay (Update places) fits = tt
+fits-still p old new stay (Destroy next torn) fits = tt
 
 all-fit-still : (p : Loaded) (old new : List Object) (stack : List Activation) → StayThere old new → AllFit p old stack → AllFit p new stack
 all-fit-still p old new stack stay all = all-weaken (Fits p old) (Fits p new) stack (fits-still p old new stay) all
+
+-- what has a name was created
+named-created : (objects : List Object) (x : ℕ) {name : List ℕ} → name_of objects x ≡ Some name → x < length objects
+named-created objects x {name} named = by_object (slice_get objects x) refl named
+  where
+    by_object : (there : Option Object) → slice_get objects x ≡ there → option_map (λ (y : Object). y.name) there ≡ Some name → x < length objects
+    by_object None is e = absurd (cc e)
+    by_object (Some y) is e = slice_get_within objects x y is
 
 -- what waits fits, and so does what is emitted
 pub record Fair (p : Loaded) (s : State) : Type 0 where
@@ -96,25 +106,25 @@ pub record Fair (p : Loaded) (s : State) : Type 0 where
 -- ---- rules
 
 -- a method that begins, over what is fair
-begun-fair : (p : Loaded) (u t : State) (n : ℕ) (below : List Activation) (o : ℕ) (x : Object) (m : ℕ) (method : MetaMethod) (arguments : List Value) (work : Work) → t ≡ begun u below o x m method arguments work → n < suc (length below) → (n < length t.stack → TopFits p t.objects t.stack) → AllWait p u.objects u.queues.loops → AllFit p u.objects below → Fair p t
-begun-fair p u t n below o x m method arguments Signal e higher fits waiting lower =
+begun-fair : (p : Loaded) → IsSound p → (u t : State) (n : ℕ) (below : List Activation) (o : ℕ) (x : Object) (m : ℕ) (method : MetaMethod) (arguments : List Value) (work : Work) → t ≡ begun u below o x m method arguments work → n < suc (length below) → (n < length t.stack → TopFits p t.objects t.stack) → AllWait p u.objects u.queues.loops → AllFit p u.objects below → Fair p t
+begun-fair p program u t n below o x m method arguments Signal e higher fits waiting lower =
     let Family : State → Type 0 = λ v. (n < length v.stack → TopFits p v.objects v.stack) → Fair p v in
-    subst Family (sym e) (λ top. record { waiting = waiting; emitted = (top higher, lower) }) fits
-begun-fair p u t n below o x m method arguments (Slot statements) e higher fits waiting lower =
+    subst Family (sym e) (λ top. record { waiting = waiting; emitted = (emission-sends program (top higher), lower) }) fits
+begun-fair p program u t n below o x m method arguments (Slot statements) e higher fits waiting lower =
     let Family : State → Type 0 = λ v. Fair p v in
     subst Family (sym e) (record { waiting = waiting; emitted = (tt, lower) })
 
 -- a call begins, or is posted
-arrives-fair : (p : Loaded) (u t : State) (n : ℕ) (stack : List Activation) (home o : ℕ) (x : Object) (m : ℕ) (method : MetaMethod) (arguments : List Value) (b : Bool) → ArgumentsFit p u.objects o m arguments → AllWait p u.objects u.queues.loops → AllFit p u.objects stack → n < suc (length stack) → (n < length t.stack → TopFits p t.objects t.stack) → Arrives u stack home o x m method arguments t b → Fair p t
-arrives-fair p u t n stack home o x m method arguments true fit waiting lower higher top r = begun-fair p u t n stack o x m method arguments method.work r higher top waiting lower
-arrives-fair p u t n stack home o x m method arguments false fit waiting lower higher top r =
+arrives-fair : (p : Loaded) → IsSound p → (u t : State) (n : ℕ) (stack : List Activation) (home o : ℕ) (x : Object) (m : ℕ) (method : MetaMethod) (arguments : List Value) (b : Bool) → ArgumentsFit p u.objects o m arguments → AllWait p u.objects u.queues.loops → AllFit p u.objects stack → n < suc (length stack) → (n < length t.stack → TopFits p t.objects t.stack) → Arrives u stack home o x m method arguments t b → Fair p t
+arrives-fair p program u t n stack home o x m method arguments true fit waiting lower higher top r = begun-fair p program u t n stack o x m method arguments method.work r higher top waiting lower
+arrives-fair p program u t n stack home o x m method arguments false fit waiting lower higher top r =
     let Family : State → Type 0 = λ v. Fair p v in
     let item : Posted = record { number = u.queues.posted + 1; item = Call o m arguments } in
-    subst Family (sym r.gives) (record { waiting = all-posted p u.objects home item u.queues.loops fit waiting; emitted = lower })
+    subst Family (sym r.gives) (record { waiting = all-posted p u.objects home item u.queues.loops (fit-takes fit) waiting; emitted = lower })
 
-module _ {p : Loaded} {s t : State} (well : IsWell p s t) (waiting : AllWait p s.objects s.queues.loops) where
+module _ {p : Loaded} {s t : State} (program : IsSound p) (well : IsWell p s t) (waiting : AllWait p s.objects s.queues.loops) where
   pub begins-fair : {below : List Activation} {o m : ℕ} {arguments : List Value} → Begins p s below o m arguments t → length s.stack < suc (length below) → AllFit p s.objects below → Fair p t
-  begins-fair {below} {o} {m} {arguments} b higher lower = begun-fair p s t (length s.stack) below o b.object m b.method arguments b.method.work b.gives higher well.arguments waiting lower
+  begins-fair {below} {o} {m} {arguments} b higher lower = begun-fair p program s t (length s.stack) below o b.object m b.method arguments b.method.work b.gives higher well.arguments waiting lower
 
   pub writes-fair : {below : List Activation} {o q : ℕ} {new : Value} → Writes p s below o q new t → AllFit p s.objects below → Fair p t
   writes-fair {below} {o} {q} {new} w lower =
@@ -138,6 +148,56 @@ module _ {p : Loaded} {s t : State} (well : IsWell p s t) (waiting : AllWait p s
   unlinked-fair stack ends names (Ok _) e lower = let Family : State → Type 0 = λ v. Fair p v in subst Family (sym e) (record { waiting = waiting; emitted = lower })
   unlinked-fair stack ends names (Err k) e lower = quiet-fair e lower
 
+  -- an object dies, and is forgotten
+  dies-fair : {stack : List Activation} {x : ℕ} → Dies s stack x t → length s.stack ≡ length stack → AllFit p s.objects stack → Fair p t
+  dies-fair {stack} {x} d high lower =
+      let after : List Object = without_life x s.objects in
+      let stay : StayThere s.objects after = died-stay s.objects x d.named in
+      let Family : State → Type 0 = λ v. (length s.stack < length v.stack → TopFits p v.objects v.stack) → Fair p v in
+      subst Family (sym d.gives)
+      (λ top. record {
+        waiting = all-wait-still p s.objects after s.queues.loops stay waiting;
+        emitted = (emission-sends program (top (omega (arith, high))), all-fit-still p s.objects after stack stay lower);
+      }) well.arguments
+
+  forgotten-fair : (x : ℕ) (stack : List Activation) → t ≡ record (forgotten s x) { stack = stack } → AllFit p s.objects stack → Fair p t
+  forgotten-fair x stack e lower =
+      let Family : State → Type 0 = λ v. Fair p v in
+      subst Family (sym e) (record { waiting = all-dropped p s.objects x s.queues.loops waiting; emitted = lower })
+
+  destroy-fair : (below : List Activation) (next : Option ℕ) (torn : List ℕ) → AllFit p s.objects below → length s.stack ≡ suc (length below) → DestroyRule s below t next torn → Fair p t
+  destroy-fair below (Some x) torn lower high r = by_life (is_living s.objects x) r
+    where
+      by_life : (b : Bool) → NextRule s below t x torn b → Fair p t
+      by_life true d = dies-fair d high (tt, lower)
+      by_life false e = forgotten-fair x (Destroy None (x ∷ torn) ∷ below) e (tt, lower)
+  destroy-fair below None [] lower high r = quiet-fair r lower
+  destroy-fair below None (parent ∷ torn) lower high r = by_child (living_child s parent) r
+    where
+      by_child : (child : Option ℕ) → ChildRule s below t parent torn child → Fair p t
+      by_child (Some x) d = dies-fair d high (tt, lower)
+      by_child None e = quiet-fair e (tt, lower)
+
+  -- .. or it is scheduled
+  deferred-fair : (stack : List Activation) (loop : List ℕ) (home x : ℕ) (name : List ℕ) → t ≡ deferred s stack loop home x name → x < length s.objects → AllFit p s.objects stack → Fair p t
+  deferred-fair stack loop home x name e created lower =
+      let after : List Object = change_life x scheduled s.objects in
+      let stay : StayThere s.objects after = scheduled-stay s.objects x in
+      let item : Posted = record { number = s.queues.posted + 1; item = Deletion x } in
+      let Family : State → Type 0 = λ v. Fair p v in
+      subst Family (sym e) (record {
+        waiting = all-posted p after home item s.queues.loops (omega (arith, created, stay.created)) (all-wait-still p s.objects after s.queues.loops stay waiting);
+        emitted = all-fit-still p s.objects after stack stay lower;
+      })
+
+  schedules-fair : (stack : List Activation) (x : ℕ) (life : Option Life) → Schedules s stack x t life → AllFit p s.objects stack → Fair p t
+  schedules-fair stack x None e lower = quiet-fair e lower
+  schedules-fair stack x (Some l) r lower = by_mark l.scheduled r
+    where
+      by_mark : (b : Bool) → DefersOnce s stack l.home x t b → Fair p t
+      by_mark true e = quiet-fair e lower
+      by_mark false d = deferred-fair stack d.loop l.home x d.name d.gives (named-created s.objects x d.named) lower
+
   does-fair : (o m : ℕ) (arguments : List Value) (rest : List Statement) (below : List Activation) (d : Doing) → AllFit p s.objects below → length s.stack ≡ suc (length below) → Does p s o m arguments rest below d t → Fair p t
   does-fair o m arguments rest below (Write y q new) lower high does = writes-fair does (tt, lower)
   does-fair o m arguments rest below (Begin y n given) lower high does = begins-fair does (omega (arith, high)) (tt, lower)
@@ -146,31 +206,45 @@ module _ {p : Loaded} {s t : State} (well : IsWell p s t) (waiting : AllWait p s
       linked-fair (Body o m arguments rest ∷ below) (kept_ends ends) how (names_of does.kept) does.answer does.gives (tt, lower)
   does-fair o m arguments rest below (Disconnect ends) lower high does =
       unlinked-fair (Body o m arguments rest ∷ below) (kept_ends ends) (names_of does.kept) does.answer does.gives (tt, lower)
+  does-fair o m arguments rest below (Delete x) lower high does = quiet-fair does (tt, (tt, lower))
+  does-fair o m arguments rest below (Schedule x) lower high does = schedules-fair (Body o m arguments rest ∷ below) x (life_of s.objects x) does (tt, lower)
   does-fair o m arguments rest below Nothing lower high does = quiet-fair does (tt, lower)
 
   body-fair : (o m : ℕ) (arguments : List Value) (below : List Activation) (left : List Statement) → AllFit p s.objects below → length s.stack ≡ suc (length below) → BodyRule p s o m arguments below t left → Fair p t
   body-fair o m arguments below [] lower high r = quiet-fair r lower
   body-fair o m arguments below (x ∷ rest) lower high r = does-fair o m arguments rest below r.what lower high r.does
 
-  emission-fair : (o g : ℕ) (arguments : List Value) (used last : ℕ) (below : List Activation) (found : Option Connection) → AllJoined p s.objects s.connected.connections → next_used s.objects s.connected.connections o g used last ≡ found → ArgumentsFit p s.objects o g arguments → AllFit p s.objects below → length s.stack ≡ suc (length below) → EmitRule p s o g arguments last below t found → Fair p t
+  emission-fair : (o g : ℕ) (arguments : List Value) (used last : ℕ) (below : List Activation) (found : Option Connection) → AllJoined p s.objects s.connected.connections → next_used s.objects s.connected.connections o g used last ≡ found → SendsThese p s.objects o g arguments → AllFit p s.objects below → length s.stack ≡ suc (length below) → EmitRule p s o g arguments last below t found → Fair p t
   emission-fair o g arguments used last below None joined is fit lower high r = quiet-fair r lower
   emission-fair o g arguments used last below (Some c) joined is fit lower high r =
-      let of_signal = next-fits s.objects s.connected.connections o g used last c is fit in
-      let j = next-joined s.objects s.connected.connections o g used last c joined is in
-      let given : ArgumentsFit p s.objects c.receiver c.method (take (length r.method.kinds) arguments) = delivered-fits j of_signal r.is refl refl in
-      arrives-fair p (with_used s c) t (length s.stack) (Emit o g arguments c.number last ∷ below) r.home c.receiver r.receiver c.method r.method (take (length r.method.kinds) arguments) (reaches_at_once c.kind r.home (running s.turn)) given waiting (fit, lower) (omega (arith, high)) well.arguments r.arrives
+      let d : IsDelivered p s.objects c arguments = next-delivered s.connected.connections o g used last c joined fit is in
+      let given : ArgumentsFit p s.objects c.receiver c.method (take (length r.method.kinds) arguments) = delivered-fits d r.is refl refl in
+      arrives-fair p program (with_used s c) t (length s.stack) (Emit o g arguments c.number last ∷ below) r.home c.receiver r.receiver c.method r.method (take (length r.method.kinds) arguments) (reaches_at_once c.kind r.home (running s.turn)) given waiting (fit, lower) (omega (arith, high)) well.arguments r.arrives
 
   update-fair : (below : List Activation) (places : List Place) → AllFit p s.objects below → length s.stack ≡ suc (length below) → UpdateRule p s below t places → Fair p t
   update-fair below [] lower high r = quiet-fair r lower
-  update-fair below (place ∷ places) lower high r =
-      begun-fair p s t (length s.stack) (Update places ∷ below) place.object r.object r.signal r.method (take (length r.method.kinds) (r.present ∷ [])) Signal r.gives (omega (arith, high)) well.arguments waiting (tt, lower)
+  update-fair below (place ∷ places) lower high r = by_life (life_of s.objects place.object) r
+    where
+      by_life : (life : Option Life) → NotifiesIf p s (Update places ∷ below) place t life → Fair p t
+      by_life None e = quiet-fair e (tt, lower)
+      by_life (Some l) n =
+          begun-fair p program s t (length s.stack) (Update places ∷ below) place.object n.object n.signal n.method (take (length n.method.kinds) (n.present ∷ [])) Signal n.gives (omega (arith, high)) well.arguments waiting (tt, lower)
 
   -- an item is delivered, or the turn ends
-  delivers-fair : (turn : Turn) (item : Item) → length s.stack ≡ 0 → Delivers p (record s { queues = taken_before turn.home turn.limit s.queues }) t item → Fair p t
-  delivers-fair turn (Call o m arguments) low b =
-      let taken : State = record s { queues = taken_before turn.home turn.limit s.queues } in
-      begun-fair p taken t (length s.stack) [] o b.object m b.method arguments b.method.work b.gives (omega (arith, low)) well.arguments (all-taken p s.objects turn.home turn.limit s.queues.loops waiting) tt
-  delivers-fair turn (Deletion o) low b = absurd b
+  delivers-fair : (turn : Turn) (item : Item) → length s.stack ≡ 0 → AllFit p s.objects s.stack → Delivers p (record s { queues = taken_before turn.home turn.limit s.queues }) t item → Fair p t
+  delivers-fair turn (Call o m arguments) low all r = by_life (life_of s.objects o) r
+    where
+      taken : State
+      taken = record s { queues = taken_before turn.home turn.limit s.queues }
+
+      by_life : (life : Option Life) → BeginsIf p taken o m arguments t life → Fair p t
+      by_life None e =
+          let Family : State → Type 0 = λ v. Fair p v in
+          subst Family (sym e) (record { waiting = all-taken p s.objects turn.home turn.limit s.queues.loops waiting; emitted = all })
+      by_life (Some l) b = begun-fair p program taken t (length s.stack) [] o b.object m b.method arguments b.method.work b.gives (omega (arith, low)) well.arguments (all-taken p s.objects turn.home turn.limit s.queues.loops waiting) tt
+  delivers-fair turn (Deletion o) low all e =
+      let Family : State → Type 0 = λ v. Fair p v in
+      subst Family (sym e) (record { waiting = all-taken p s.objects turn.home turn.limit s.queues.loops waiting; emitted = (tt, tt) })
 
   turn-fair : (found : Option Turn) → length s.stack ≡ 0 → AllFit p s.objects s.stack → TurnRule p s t found → Fair p t
   turn-fair None low all r = absurd r
@@ -180,19 +254,20 @@ module _ {p : Loaded} {s t : State} (well : IsWell p s t) (waiting : AllWait p s
       by_first None e =
           let Family : State → Type 0 = λ v. Fair p v in
           subst Family (sym e) (record { waiting = waiting; emitted = all })
-      by_first (Some q) d = delivers-fair turn q.item low d
+      by_first (Some q) d = delivers-fair turn q.item low all d
 
   pub rule-fair : (stack : List Activation) → AllJoined p s.objects s.connected.connections → AllFit p s.objects s.stack → AllFit p s.objects stack → length s.stack ≡ length stack → RuleAt p s t stack → Fair p t
   rule-fair [] joined here all high r = turn-fair s.turn high here r
   rule-fair (Body o m arguments left ∷ below) joined here all high r = body-fair o m arguments below left all.1 high r
   rule-fair (Emit o g arguments used last ∷ below) joined here all high r = emission-fair o g arguments used last below (next_used s.objects s.connected.connections o g used last) joined refl all.0 all.1 high r
   rule-fair (Update places ∷ below) joined here all high r = update-fair below places all.1 high r
+  rule-fair (Destroy next torn ∷ below) joined here all high r = destroy-fair below next torn all.1 high r
 
 -- .. and so after runs of rules
 pub rules-fair : {p : Loaded} {d : ℕ} {s t : State} {n k : ℕ} → IsSound p → Rules p d s n t k → AllJoined p s.objects s.connected.connections → Fair p s → Fair p t
 rules-fair program done joined fair = fair
 rules-fair {p} program (then {s = s} {m = m} r good rest) joined fair =
-    rules-fair program rest ((rule-kept p s m s.stack r).joined program joined) (rule-fair good.well fair.waiting s.stack joined fair.emitted fair.emitted refl r)
+    rules-fair program rest ((rule-kept p s m s.stack r).joined program joined) (rule-fair program good.well fair.waiting s.stack joined fair.emitted fair.emitted refl r)
 
 -- ---- the world stays sound
 

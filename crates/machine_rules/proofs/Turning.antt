@@ -6,7 +6,10 @@ use Rattle.signatures.specs.declared.value.Value.{Value}
 use Rattle.meta_model.specs.declared.object.Work.{Work}
 use Rattle.meta_model.specs.Loaded.{Loaded}
 use Rattle.event_loops.specs.declared.item.Item.{Item}
-use Rattle.event_loops.specs.declared.item.Item.TheVariants.{Call}
+use Rattle.event_loops.specs.declared.item.Item.TheVariants.{Call, Deletion}
+use Rattle.object_tree.specs.declared.life.Life.{Life}
+use Rattle.object_tree.specs.Objects.{life_of}
+use Rattle.object_tree.proofs.Changing.{life-of-lives}
 use Rattle.event_loops.specs.declared.item.Posted.{Posted}
 use Rattle.event_loops.specs.Queues.{items_at, is_before, taken_before}
 use Rattle.machine_state.specs.declared.entry.Entry.{Entry}
@@ -14,18 +17,18 @@ use Rattle.machine_state.specs.declared.fault.Fault.{Fault}
 use Rattle.machine_state.specs.declared.fault.Fault.TheVariants.{Steps, Memory}
 use Rattle.machine_state.specs.declared.turn.Turn.{Turn}
 use Rattle.machine_state.specs.declared.world.World.{World}
-use Rattle.machine_state.specs.State.{State, Activation, IsIdle}
-use Rattle.machine_state.specs.Worlds.{at, taking, turn_ended}
+use Rattle.machine_state.specs.State.{State, Activation, Destroy, IsIdle}
+use Rattle.machine_state.specs.Worlds.{at, with_queues, taking, taking_unwritten, turn_ended}
 use Rattle.machine_rules.specs.Active.{shows}
 use Rattle.machine_rules.specs.Good.{ArgumentsFit}
 use Rattle.object_tree.specs.Typed.{AreTyped}
 use Rattle.machine_rules.specs.Reaches.{Reaches, StopsIn, Ends, Advances, IsBegun, IsBarred, top_of}
-use Rattle.machine_rules.specs.Rules.{Rule, TurnRule, Serves, Delivers, Begins}
+use Rattle.machine_rules.specs.Rules.{Rule, TurnRule, Serves, Delivers, Begins, BeginsIf}
 use Rattle.machine_rules.specs.Runs.{done}
 use Rattle.machine_rules.specs.Sound.{Waits, IsSoundWorld}
 use Rattle.machine_rules.proofs.Beginning.{begun_world, begins-there, top-fits}
 use Rattle.machine_rules.proofs.Keeps.{reaches-keeps}
-use Rattle.machine_rules.proofs.Reaching.{reaches-low, reaches-high, reaches-then, stops-after, ends-unchanged}
+use Rattle.machine_rules.proofs.Reaching.{none-spared, reaches-low, reaches-high, reaches-then, stops-after, ends-unchanged}
 use Rattle.machine_rules.proofs.Bodies.{advances-left}
 use Rattle.machine_rules.proofs.Waiting.{length-change, housed-same, all-taken, first-waits}
 
@@ -71,7 +74,7 @@ reaches-ended {p} {d} {w} {v} is none typed some v_is =
     let Over : List Activation → Type 0 = λ l. Rule p (at w l) (at target l) in
     let Family : World → Type 0 = λ u. Reaches p d [] w [] u [] in
     let ends : Rule p (at w []) (at target []) = turn-rule p w (at target []) None is none refl in
-    subst Family (sym v_is) (reaches-low {a = []} {b = []} (λ below e. subst Over (sym (none-below below e)) ends) (omega arith) (omega arith) typed refl some)
+    subst Family (sym v_is) (reaches-low {a = []} {b = []} (λ below e. subst Over (sym (none-below below e)) ends) (λ o gone. gone) (omega arith) (omega arith) typed refl some)
 
 -- the first item that the turn may deliver is taken, and its call begins
 pub reaches-served : {p : Loaded} {d o m : ℕ} {active : List (Option ℕ)} {w v : World} {turn : Turn} {q : Posted} {arguments : List Value} {line : Entry} {work : Work} {last : ℕ} →
@@ -79,18 +82,43 @@ pub reaches-served : {p : Loaded} {d o m : ℕ} {active : List (Option ℕ)} {w 
     Reaches p d [] w [] v (top_of o m arguments last work ∷ [])
 reaches-served {p} {d} {o} {m} {active} {w} {v} {turn} {q} {arguments} {line} {work} {last} is found item_is none begun fit typed some v_is =
     let none_active : length active ≡ 0 = ap (λ (l : List (Option ℕ)). length l) none in
-    let took : World = record w { queues = taken_before turn.home turn.limit w.store.loops } in
+    let took : World = with_queues w (taken_before turn.home turn.limit w.store.loops) in
     let target : World = begun_world took (length active + 1) begun.object m begun.method arguments in
     let stack : List Activation = top_of o m arguments w.store.connections.last begun.method.work ∷ [] in
     let begins : Begins p (at took []) [] o m arguments (at target stack) = begins-there took arguments [] [] begun.is (omega (arith, none_active)) in
     let Of : Item → Type 0 = λ i. Delivers p (at took []) (at target stack) i in
-    let rule : Rule p (at w []) (at target stack) = turn-rule p w (at target stack) (Some q) is found (subst Of (sym item_is) begins) in
+    let If : Option Life → Type 0 = λ life. BeginsIf p (at took []) o m arguments (at target stack) life in
+    let rule : Rule p (at w []) (at target stack) = turn-rule p w (at target stack) (Some q) is found (subst Of (sym item_is) (subst If (sym (life-of-lives begun.is.lives)) begins)) in
     let Over : List Activation → Type 0 = λ l. Rule p (at w l) (at target (top_of o m arguments w.store.connections.last begun.method.work ∷ l)) in
     let room : 0 < d = omega (arith, none_active, begun.room) in
-    let went : Reaches p d [] w [] target stack = reaches-high {active = []} {from = []} {to = []} refl (λ below e. subst Over (sym (none-below below e)) rule) (λ below. top-fits w.store.connections.last begun.method.work below fit) room typed refl some in
+    let went : Reaches p d [] w [] target stack = reaches-high {active = []} {from = []} {to = []} refl (λ below e. subst Over (sym (none-below below e)) rule) (λ below e. none-spared below (λ k gone. gone)) (λ below. top-fits w.store.connections.last begun.method.work below fit) room typed refl some in
     let Pushed : World → Work → ℕ → Type 0 = λ u k l. Reaches p d [] w [] u (top_of o m arguments l k ∷ []) in
     let target_is : v ≡ target = v_is ∙ ap (λ (y : Entry). taking w (y ∷ []) turn.home turn.limit) begun.is_line in
     subst (λ (u : World). Pushed u work last) (sym target_is) (subst (λ (k : Work). Pushed target k last) (sym begun.is_work) (subst (λ (l : ℕ). Pushed target begun.method.work l) (sym begun.is_last) went))
+
+-- .. a call of a dead object begins nothing
+pub reaches-passed : {p : Loaded} {d o m : ℕ} {w v : World} {turn : Turn} {q : Posted} {arguments : List Value} → w.turn ≡ Some turn → Some q ≡ find (is_before turn.limit) (items_at w.store.loops.loops turn.home) → q.item ≡ Call o m arguments → None ≡ life_of w.store.tree o → AreTyped p w.store.tree → 0 < w.left → v ≡ taking_unwritten w turn.home turn.limit → Reaches p d [] w [] v []
+reaches-passed {p} {d} {o} {m} {w} {v} {turn} {q} {arguments} is found item_is gone typed some v_is =
+    let took : World = with_queues w (taken_before turn.home turn.limit w.store.loops) in
+    let target : World = taking_unwritten w turn.home turn.limit in
+    let If : Option Life → Type 0 = λ life. BeginsIf p (at took []) o m arguments (at target []) life in
+    let Of : Item → Type 0 = λ i. Delivers p (at took []) (at target []) i in
+    let rule : Rule p (at w []) (at target []) = turn-rule p w (at target []) (Some q) is found (subst Of (sym item_is) (subst If gone refl)) in
+    let Over : List Activation → Type 0 = λ l. Rule p (at w l) (at target l) in
+    let Family : World → Type 0 = λ u. Reaches p d [] w [] u [] in
+    subst Family (sym v_is) (reaches-low {a = []} {b = []} (λ below e. subst Over (sym (none-below below e)) rule) (λ k gone. gone) (omega arith) (omega arith) typed refl some)
+
+-- .. a deletion begins
+pub reaches-deleting : {p : Loaded} {d o : ℕ} {w v : World} {turn : Turn} {q : Posted} → w.turn ≡ Some turn → Some q ≡ find (is_before turn.limit) (items_at w.store.loops.loops turn.home) → q.item ≡ Deletion o → 0 < d → AreTyped p w.store.tree → 0 < w.left → v ≡ taking_unwritten w turn.home turn.limit → Reaches p d [] w [] v (Destroy (Some o) [] ∷ [])
+reaches-deleting {p} {d} {o} {w} {v} {turn} {q} is found item_is room typed some v_is =
+    let took : World = with_queues w (taken_before turn.home turn.limit w.store.loops) in
+    let target : World = taking_unwritten w turn.home turn.limit in
+    let stack : List Activation = Destroy (Some o) [] ∷ [] in
+    let Of : Item → Type 0 = λ i. Delivers p (at took []) (at target stack) i in
+    let rule : Rule p (at w []) (at target stack) = turn-rule p w (at target stack) (Some q) is found (subst Of (sym item_is) refl) in
+    let Over : List Activation → Type 0 = λ l. Rule p (at w l) (at target (Destroy (Some o) [] ∷ l)) in
+    let Family : World → Type 0 = λ u. Reaches p d [] w [] u (Destroy (Some o) [] ∷ []) in
+    subst Family (sym v_is) (reaches-high {active = []} {from = []} {to = []} refl (λ below e. subst Over (sym (none-below below e)) rule) (λ below e. none-spared below (λ k gone. gone)) (λ below. tt) room typed refl some)
 
 -- .. and is carried out
 pub advances-served : {p : Loaded} {d : ℕ} {active : List (Option ℕ)} {w v u : World} {from : List Activation} (r : Result (Unit {0}) Fault) → active ≡ [] → Reaches p d [] w [] v from → v.left ≡ w.left - 1 → 0 < w.left → Ends p d active v from u [] r → Advances p d [] w [] u [] r

@@ -1,17 +1,17 @@
 -- Where objects live, and what waits in event loops that change.
-use Rattle.std.proofs.Common.{◌≡◌, ℕ, zero, suc, ◌<◌, Bool, true, false, cond, List, [], ◌∷◌, ◌++◌, length, Option, Some, refl, sym, ap, ◌∙◌, arith}
+use Rattle.std.proofs.Common.{◌≡◌, ℕ, zero, suc, ◌<◌, Bool, true, false, cond, List, [], ◌∷◌, ◌++◌, length, map, not, Option, Some, refl, sym, ap, ◌∙◌, arith}
 use Rattle.std.specs.List.{AllByRecursion, find}
 use Rattle.std.specs.Option.{option_map, option_and_then}
 use Rattle.meta_model.specs.Loaded.{Loaded}
 use Rattle.event_loops.specs.declared.item.Posted.{Posted}
-use Rattle.event_loops.specs.Queues.{Loop, HasName, items_at, change, is_before, without_first, with_item, without_first_before}
+use Rattle.event_loops.specs.Queues.{Loop, HasName, items_at, change, is_before, without_first, is_for, with_item, without_first_before, without_object}
 use Rattle.object_tree.specs.declared.object.Object.{Object}
 use Rattle.object_tree.specs.declared.life.Life.{Life}
 use Rattle.object_tree.specs.Objects.{change_life, with_life}
 use Rattle.object_tree.proofs.Changing.{part-change, life-part}
 use Rattle.machine_state.specs.Objects.{home_of}
 use Rattle.machine_state.proofs.Due.{found-among}
-use Rattle.machine_rules.proofs.Lists.{all-snoc}
+use Rattle.machine_rules.proofs.Lists.{all-snoc, all-filtered}
 use Rattle.machine_rules.specs.Sound.{AreHoused, Waits, AllWait}
 
 -- ---- homes
@@ -64,6 +64,11 @@ pub all-taken : (p : Loaded) (objects : List Object) (home number : ℕ) (loops 
 all-taken p objects home number [] all = tt
 all-taken p objects zero number (l ∷ loops) all = (all-but-first (λ (q : Posted). Waits p objects q.item) (is_before number) l.items all.0, all.1)
 all-taken p objects (suc home) number (l ∷ loops) all = (all.0, all-taken p objects home number loops all.1)
+
+-- no item of an object any more
+pub all-dropped : (p : Loaded) (objects : List Object) (x : ℕ) (loops : List Loop) → AllWait p objects loops → AllWait p objects (map (without_object x) loops)
+all-dropped p objects x [] all = tt
+all-dropped p objects x (l ∷ loops) all = (all-filtered (λ (q : Posted). Waits p objects q.item) (λ q. not (is_for x q.item)) l.items all.0, all-dropped p objects x loops all.1)
 
 items-wait : (p : Loaded) (objects : List Object) (loops : List Loop) (home : ℕ) → AllWait p objects loops → AllByRecursion (λ (q : Posted). Waits p objects q.item) (items_at loops home)
 items-wait p objects [] home all = tt

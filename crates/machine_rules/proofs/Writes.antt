@@ -20,14 +20,16 @@ use Rattle.object_tree.specs.Seen.{seen}
 use Rattle.object_tree.specs.Typed.{AreTyped, ReadsAs, ReadAs}
 use Rattle.machine_state.specs.Objects.{stored}
 use Rattle.machine_state.specs.State.{State, Activation, Update}
-use Rattle.machine_rules.specs.Rules.{Rule, Writes, Notifies, Changes, changed, unchanged, silent, places_of, begun}
+use Rattle.machine_rules.specs.Rules.{Rule, Writes, Notifies, NotifiesIf, Changes, changed, unchanged, silent, places_of, begun}
 use Rattle.machine_rules.specs.Sound.{IsSoundIn}
-use Rattle.machine_rules.specs.There.{IsMember, IsField}
+use Rattle.object_tree.proofs.TypedObjects.{seen-written}
+use Rattle.object_tree.proofs.Changing.{life-of-lives}
+use Rattle.machine_rules.specs.There.{IsMember, IsField, NoneDied}
 use Rattle.machine_rules.specs.Good.{ArgumentsFit, IsWell}
 use Rattle.machine_state.specs.Worlds.{at, set_in}
 use Rattle.machine_rules.specs.Reaches.{Reaches, StopsIn, Ends, Calls, Sets}
 use Rattle.machine_rules.specs.Writing.{entry_of_write, TellsChange, Alters, IsWriting, IsUnwritten, missing, ill, deep, short, Announces, MayAnnounce}
-use Rattle.machine_rules.proofs.Reaching.{reaches-high, ends-after, ends-lifted, not-idle, stops-deep, stops-ill, stops-memory, stops-stuck}
+use Rattle.machine_rules.proofs.Reaching.{none-spared, reaches-high, ends-after, ends-lifted, not-idle, stops-deep, stops-ill, stops-memory, stops-stuck}
 use Rattle.machine_rules.proofs.Fields.{life-unique, member-method, typed-written, written-typed, field-written, old-there, stored-reads}
 use Rattle.machine_rules.proofs.Beginning.{fit-of, one-more}
 use Rattle.machine_rules.specs.Active.{shows}
@@ -37,6 +39,10 @@ use Rattle.machine_rules.specs.Active.{shows}
 -- a property that was found, and the signal of the change
 abbrev pub altered : {p : Loaded} {objects : List Object} {o q : ℕ} {x : Object} {property : MetaProperty} {new : Value} {signal : Option ℕ} → IsField p objects o q x property → IsSoundIn p objects o property → TellsChange objects o q property.notify new signal → Alters p objects o q new signal
 altered f sound changes = record { object = _; property = _; is = f; sound = sound; changes = changes }
+
+-- by a write no object dies
+none-died-written : (objects : List Object) (o q : ℕ) (new : Value) → NoneDied objects (change_life o (written q new) objects)
+none-died-written objects o q new k gone = sym (seen-written o q new objects k) ∙ gone
 
 -- the world in which the property is written
 abbrev pub written_world : World → ℕ → ℕ → Object → ℕ → MetaProperty → Value → World
@@ -74,7 +80,7 @@ ends-written {p} {d} {o} {q} {h} {active} {w} {v} {u} {from} {to} {new} {line} {
     let target_is : v ≡ target = v_is ∙ ap (λ (e : Entry). set_in w (e ∷ []) o q new) is.is_line in
     let Family : World → Type 0 = λ k. Reaches p d h w from k (Update (places_of o q signal) ∷ to) in
     let went : Reaches p d h w from target (Update (places_of o q signal) ∷ to) =
-    reaches-high over (λ below e. written-next below sets c typed (one-more to below over e)) (λ below. tt) is.room (typed-written new c.is typed is.fits) refl some in
+    reaches-high over (λ below e. written-next below sets c typed (one-more to below over e)) (λ below e. none-spared (from ++ below) (none-died-written w.store.tree o q new)) (λ below. tt) is.room (typed-written new c.is typed is.fits) refl some in
     ends-after (subst Family (sym target_is) went) (ends-lifted over rest)
 
 -- a property isn't written
@@ -85,11 +91,12 @@ stops-unwritten {p} {o = o} {q = q} {w = w} {from = from} {to = to} {new = new} 
     stops-ill some (λ below.
     let t : State = at (written_world w (suc (length (to ++ below))) o c.object q c.property new) (Update (places_of o q signal) ∷ to ++ below) in
     (t, written-next below sets c typed refl, λ (well : IsWell p (at w (from ++ below)) t). not (written-typed new c.is typed well.values)))
-stops-unwritten {o = o} {q = q} {active = active} {w = w} {to = to} {new = new} over sets typed some (deep {changed = signal} c fits high) =
+stops-unwritten {o = o} {q = q} {active = active} {w = w} {from = from} {to = to} {new = new} over sets typed some (deep {changed = signal} c fits high) =
     stops-deep some (λ below e. (
       at (written_world w (length active + 1) o c.object q c.property new) (Update (places_of o q signal) ∷ to ++ below),
       written-next below sets c typed (one-more to below over e),
       record { arguments = λ higher. tt; values = typed-written new c.is typed fits },
+      none-spared (from ++ below) (none-died-written w.store.tree o q new),
       omega (arith, one-more to below over e, high),
     ))
 stops-unwritten over sets typed some short = stops-memory sets.goes_on some
@@ -150,6 +157,7 @@ announced-fits {p} {objects} {o} {q} {signal} {count} {x} {method} {present} {ta
 pub announcement-calls : {p : Loaded} {w : World} {o q signal count : ℕ} {x : Object} {method : MetaMethod} {present : Value} {taken : List Value} → Announces p w.store.tree o q signal → IsMember p w.store.tree o signal x method → stored w.store.tree o q ≡ Some present → taken ≡ take count (present ∷ []) → count ≡ length method.kinds → Calls p w (Update (places_of o q (Some signal)) ∷ []) (Update [] ∷ []) o signal taken
 announcement-calls {p} {w} {o} {q} {signal} {count} {x} {method} {present} {taken} a is is_present cut count_is = record {
   no_lower = omega arith;
+  objects = refl;
   goes_on = λ below. not-idle w _ below;
   gives = λ below t b.
       let s : State = at w (Update (places_of o q (Some signal)) ∷ below) in
@@ -171,7 +179,8 @@ announcement-calls {p} {w} {o} {q} {signal} {count} {x} {method} {present} {take
         is_method = b.is.is_method;
         gives = b.gives ∙ ap (λ (l : List Value). begun s over o b.object signal b.method l b.method.work) taken_is ∙ ap (λ (k : Work). begun s over o b.object signal b.method (take (length b.method.kinds) (present ∷ [])) k) work_is;
       } in
-      notifies;
+      let Next : Option Life → Type 0 = λ life. NotifiesIf p s over (record { object = o; property = q }) t life in
+      subst Next (sym (life-of-lives b.is.lives)) notifies;
 }
 
 pub changes-none : {old new : Value} (notify : Option ℕ) → old ≡ new → Changes old new notify None

@@ -9,10 +9,10 @@ use Rattle.machine_state.specs.declared.fault.Fault.{Fault}
 use Rattle.machine_state.specs.declared.world.World.{World}
 use Rattle.machine_state.specs.Connections.{next_used}
 use Rattle.machine_state.specs.Worlds.{having_used}
-use Rattle.machine_state.specs.State.{Activation, Body, Emit}
+use Rattle.machine_state.specs.State.{Activation, Body, Emit, Destroy}
 use Rattle.machine_rules.specs.Active.{shows}
 use Rattle.machine_rules.specs.Doings.{Doing, doing}
-use Rattle.machine_rules.specs.Reaches.{Ends, Advances, CallsIn, Calls, OnlyCalls, Sets}
+use Rattle.machine_rules.specs.Reaches.{Ends, Advances, CallsIn, Calls, OnlyCalls, Sets, Deletes, Kills}
 use Rattle.machine_rules.specs.declared.method_call.MethodCall.{MethodCall}
 use Rattle.machine_rules.specs.declared.place.Place.{Place}
 use Rattle.machine_rules.specs.declared.setting.Setting.{Setting}
@@ -68,3 +68,15 @@ EndsUse setting active c call w v result =
     (from to : List Activation) (shown : List (Option ℕ)) → active ≡ shows to ++ shown →
     CallsIn setting.meta w (having_used w c) from to call.object call.method call.arguments.now →
     Ends setting.meta setting.depth shown w from v to result
+
+-- an object is deleted, and then its children: from every top of the stack whose next rule begins that, to what is left of it
+abbrev pub EndsDeletion : Setting → List (Option ℕ) → ℕ → World → World → Result (Unit {0}) Fault → Type 0
+EndsDeletion setting active x w v result =
+    (from to : List Activation) (shown : List (Option ℕ)) → active ≡ shows to ++ shown →
+    Deletes setting.meta w from to x → Ends setting.meta setting.depth shown w from v to result
+
+-- an object dies, and its `destroyed` is carried out: over every deletion by whose next rule it may die
+abbrev pub EndsDeath : Setting → List (Option ℕ) → ℕ → World → World → Result (Unit {0}) Fault → Type 0
+EndsDeath setting active x w v result =
+    (next : Option ℕ) (before torn : List ℕ) → Kills setting.meta w next before torn x →
+    Leads setting active (Destroy next before) (Destroy (Some x) torn) w v result

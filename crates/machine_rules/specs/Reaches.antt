@@ -1,5 +1,5 @@
 -- What a call of the machine's code does, whatever activations are below (docs/machine.md, "Runs").
-use Rattle.std.specs.Prelude.{◌≡◌, ◌≢◌, ℕ, ◌+◌, ◌-◌, ◌<◌, ◌≤◌, ◌⊎◌, List, ◌++◌, length, Result, Ok, Err, MatchResult, Bool, Option, Some, ◌∷◌, []}
+use Rattle.std.specs.Prelude.{◌≡◌, ◌≢◌, ℕ, ◌+◌, ◌-◌, ◌<◌, ◌≤◌, ◌⊎◌, List, ◌++◌, length, Result, Ok, Err, MatchResult, Bool, Option, Some, ◌∷◌, [], false}
 use Rattle.meta_model.specs.Loaded.{Loaded}
 use Rattle.signatures.specs.declared.value.Value.{Value}
 use Rattle.signatures.specs.declared.value.Value.TheVariants as value
@@ -17,10 +17,10 @@ use Rattle.machine_state.specs.declared.entry.Happening.TheVariants as happening
 use Rattle.machine_state.specs.declared.entry.Shown.{Shown}
 use Rattle.object_tree.specs.declared.object.Object.{Object}
 use Rattle.machine_state.specs.declared.fault.Fault.{Fault}
-use Rattle.machine_state.specs.declared.fault.Fault.TheVariants.{BadType as IllTyped, TooDeep, Memory}
+use Rattle.machine_state.specs.declared.fault.Fault.TheVariants.{BadType as IllTyped, TooDeep, Steps, Memory}
 use Rattle.machine_state.specs.declared.world.World.{World}
 use Rattle.machine_state.specs.Connections.{is_silent}
-use Rattle.machine_state.specs.State.{State, Activation, Body, Emit, IsIdle}
+use Rattle.machine_state.specs.State.{State, Activation, Body, Emit, Destroy, IsIdle}
 use Rattle.machine_state.specs.Objects.{all_shown, home_of}
 use Rattle.texts.specs.declared.connection.ConnectionType.{ConnectionType}
 use Rattle.texts.specs.declared.connection.Endpoints.{Endpoints as Named}
@@ -28,10 +28,15 @@ use Rattle.machine_state.specs.declared.endpoints.Endpoints.{Endpoints}
 use Rattle.machine_state.specs.declared.refusal.Refusal.{Refusal}
 use Rattle.machine_rules.specs.Connecting.{AreThere, may_connect, found_ends, names_of}
 use Rattle.machine_rules.specs.Rules.{Rule, Begins, Writes, Connects, Disconnects}
-use Rattle.machine_rules.specs.There.{IsMember}
+use Rattle.meta_model.specs.Outlines.{destroyed}
+use Rattle.object_tree.specs.Objects.{life_of}
+use Rattle.object_tree.specs.Typed.{StayTyped}
+use Rattle.machine_state.specs.declared.entry.Shown.TheVariants as show
+use Rattle.machine_rules.specs.Destroying.{deleting, Dies, Schedules}
+use Rattle.machine_rules.specs.There.{IsMember, NoneDied}
 use Rattle.machine_rules.specs.Active.{shows}
 use Rattle.machine_rules.specs.Runs.{Rules, RulesStop}
-use Rattle.machine_state.specs.Worlds.{at, having_used, posting, Becomes}
+use Rattle.machine_state.specs.Worlds.{at, having_used, posting, ending, Becomes}
 
 -- ---- what a body's paths and expressions give to the code
 
@@ -84,6 +89,7 @@ MayNest depth shown (Err fault) = (depth ≤ length shown) × (fault ≡ TooDeep
 -- by the next rule of a world a method of an object may begin, in what the rule makes of the world before that
 pub record CallsIn (p : Loaded) (w u : World) (from to : List Activation) (o m : ℕ) (arguments : List Value) : Type 0 where
   pub no_lower : length from ≤ length to
+  pub objects : u.store.tree ≡ w.store.tree
   pub goes_on : (below : List Activation) → ¬ IsIdle (at w (from ++ below))
   pub gives :
       (below : List Activation) (t : State) →
@@ -109,6 +115,17 @@ pub record Sets (p : Loaded) (w : World) (from to : List Activation) (o q : ℕ)
       (below : List Activation) (t : State) →
       Rule p (at w (from ++ below)) t → Writes p (at w (from ++ below)) (to ++ below) o q new t
 
+-- by the next rule the deletion of an object begins
+pub record Deletes (p : Loaded) (w : World) (from to : List Activation) (x : ℕ) : Type 0 where
+  pub goes_on : (below : List Activation) → ¬ IsIdle (at w (from ++ below))
+  pub gives : (below : List Activation) → Rule p (at w (from ++ below)) (deleting (at w (from ++ below)) (to ++ below) x)
+
+-- by the next rule of a deletion an object may die, and is then the one whose `destroyed` goes on
+pub record Kills (p : Loaded) (w : World) (next : Option ℕ) (before torn : List ℕ) (x : ℕ) : Type 0 where
+  pub gives :
+      (below : List Activation) (t : State) →
+      Dies (at w (Destroy next before ∷ below)) (Destroy (Some x) torn ∷ below) x t → Rule p (at w (Destroy next before ∷ below)) t
+
 -- the entry of a method that begins
 abbrev pub begin_entry : ℕ → Object → ℕ → List ℕ → List Shown → Work → Entry
 begin_entry depth x m method given Signal = At depth (happening.Emitted x.name method given (is_silent x m))
@@ -117,6 +134,10 @@ begin_entry depth x m method given (Slot statements) = At depth (happening.Calle
 -- the entry of a method of an object that begins with these arguments, where so many activations are on the stack
 abbrev pub entry_of_call : World → ℕ → Object → ℕ → MetaMethod → List Value → Entry
 entry_of_call w depth x m method arguments = begin_entry depth x m method.sig.name (all_shown w.store.tree arguments) method.work
+
+-- .. of the signal `destroyed` of an object of this name
+abbrev pub entry_of_destroyed : ℕ → List ℕ → Entry
+entry_of_destroyed depth name = At depth (happening.Emitted name destroyed.name (show.Null ∷ []) false)
 
 -- .. of a call of a method of an object that is posted to the event loop of this name
 abbrev pub entry_of_post : World → ℕ → List ℕ → Object → MetaMethod → List Value → Entry
@@ -157,7 +178,7 @@ pub record IsBegun (p : Loaded) (depth : ℕ) (active : List (Option ℕ)) (w : 
 abbrev pub IsBarred : ℕ → List (Option ℕ) → Fault → Type 0
 IsBarred depth shown fault = (depth ≤ length shown) × (fault ≡ TooDeep) ⊎ (fault ≡ Memory)
 
--- ---- connections that statements make and remove
+-- ---- connections that statements make and remove, and deletions that they schedule
 
 -- an object or its method isn't there
 abbrev pub LacksEnds : Loaded → List Object → Endpoints → Type 0
@@ -180,7 +201,8 @@ LacksNames p objects ends fault = LacksEnds p objects ends × (fault ≡ IllType
 -- a rule that pushes nothing was carried out, as this relation tells, where so many activations are on the stack
 pub record Went (What : State → List Activation → State → Type 0) (w : World) (depth : ℕ) (v : World) : Type 0 where
   pub tells : (old stack : List Activation) → length stack ≡ depth → What (at w old) stack (at v stack)
-  pub objects : v.store.tree ≡ w.store.tree
+  pub typed : StayTyped w.store.tree v.store.tree
+  pub spared : NoneDied w.store.tree v.store.tree
   pub left : v.left ≡ w.left - 1
 
 -- .. or there is none of which it tells, or memory was refused; then nothing changed
@@ -197,3 +219,14 @@ abbrev pub DisconnectsIn : Loaded → World → ℕ → Endpoints → World → 
 DisconnectsIn p w depth ends v result =
     let What : State → List Activation → State → Type 0 = λ s stack t. Disconnects p s stack ends t in
     MatchResult result (λ _. Went What w depth v) (Stays What w v)
+
+abbrev pub SchedulesIn : World → ℕ → ℕ → World → Result (Unit {0}) Fault → Type 0
+SchedulesIn w depth x v result =
+    let What : State → List Activation → State → Type 0 = λ s stack t. Schedules s stack x t (life_of s.objects x) in
+    MatchResult result (λ _. Went What w depth v) (Stays What w v)
+
+-- .. an object was forgotten, which comes last among those that are torn down then; or no rule was left, or memory was
+-- refused
+abbrev pub Forgets : World → List ℕ → ℕ → World → List ℕ → Result (Unit {0}) Fault → Type 0
+Forgets w torn x v after (Ok went) = (0 < w.left) × (v ≡ ending w x) × (after ≡ torn ++ x ∷ [])
+Forgets w torn x v after (Err fault) = (v ≡ w) × ((w.left ≡ 0) × (fault ≡ Steps) ⊎ (0 < w.left) × (fault ≡ Memory))

@@ -35,3 +35,7 @@ LacksField p objects o q = (x : Object) (property : MetaProperty) → ¬ IsField
 -- the object was created, and lives no more
 abbrev pub IsDead : List Object → ℕ → Type 0
 IsDead objects o = seen_reference objects (Some o) ≡ None
+
+-- no object has died
+abbrev pub NoneDied : List Object → List Object → Type 0
+NoneDied old new = (o : ℕ) → IsDead new o → IsDead old o

@@ -1,8 +1,8 @@
 //! Deletions of objects.
 
-ghost use Rattle.std.specs.Prelude.{◌≡◌, ◌+◌, ◌<◌, true, [], length, None, Some, IfOk};
-ghost use Rattle.machine_rules.specs.Calls.{Finishes, EndsDeath, EndsDeletion};
-ghost use Rattle.machine_rules.specs.Reaches.{IsDeath, SchedulesIn};
+ghost use Rattle.std.specs.Prelude.{◌≡◌, ◌<◌, true, false, [], length, Some, IfOk, OnOk};
+ghost use Rattle.machine_rules.specs.Calls.{Finishes, Leads, EndsDeath, EndsDeletion};
+ghost use Rattle.machine_rules.specs.Reaches.{entry_of_destroyed, Forgets, SchedulesIn};
 ghost use Rattle.machine_rules.specs.Sound.{IsSoundWorld};
 ghost use Rattle.machine_state.specs.Connections.{is_living};
 ghost use Rattle.machine_state.specs.State.{Destroy};
@@ -48,26 +48,43 @@ impl Setting {
         ensures ends { Finishes self.now active.now (Destroy (Some object) [])
             world.old world.new result }
     {
-        if world.store.tree.life(object).is_some() {
-            self.announce(world, active, object)?;
-        }
+        self.announce_living(world, active, object)?;
         let mut torn = Vec::new(self.alloc);
-        world.require_rule()?;
-        torn.push(object)?;
-        world.end_one(object);
+        forget(world, &mut torn, object)?;
         while !torn.is_empty() {
-            world.require_rule()?;
-            let Some(child) = world.store.next_to_end(torn.as_slice()) else {
-                torn.pop();
-                world.tick()?;
-                continue;
-            };
-            self.announce(world, active, child)?;
-            world.require_rule()?;
-            torn.push(child)?;
-            world.end_one(child);
+            match world.store.next_to_end(torn.as_slice()) {
+                Some(child) => {
+                    self.announce(world, active, child)?;
+                    forget(world, &mut torn, child)?;
+                }
+                None => {
+                    world.tick()?;
+                    torn.pop();
+                }
+            }
         }
         world.tick()
+    }
+
+    /// Lets an object die by the first rule of its deletion, if it lives.
+    #[cycle(machine)]
+    fn announce_living(
+        &self,
+        world: &mut World,
+        active: &Active<'_>,
+        object: ObjectId,
+    ) -> Result<(), Fault>
+        requires room { length active.now < self.now.depth }
+        requires sound { IsSoundWorld self.now.meta world.old }
+        ensures ends { Leads self.now active.now (Destroy (Some object) []) (Destroy (Some object) [])
+            world.old world.new result }
+        ensures dead { OnOk result (is_living world.new.store.tree object ≡ false) }
+    {
+        if world.store.tree.life(object).is_some() {
+            self.announce(world, active, object)
+        } else {
+            Ok(())
+        }
     }
 
     /// Lets an object die, over a deletion, and emits its `destroyed`; `InUse` where a body of it is active.
@@ -82,6 +99,7 @@ impl Setting {
         requires sound { IsSoundWorld self.now.meta world.old }
         requires lives { is_living world.old.store.tree object ≡ true }
         ensures ends { EndsDeath self.now active.now object world.old world.new result }
+        ensures dead { OnOk result (is_living world.new.store.tree object ≡ false) }
     {
         world.require_rule()?;
         if active.has_body(object) {
@@ -146,4 +164,14 @@ impl Setting {
         };
         world.schedule(Entry::At(depth, scheduled), object)
     }
+}
+
+/// A rule by which a dead object is forgotten, which is torn down then; without memory nothing changes in the world.
+fn forget(world: &mut World, torn: &mut Vec<ObjectId>, object: ObjectId) -> Result<(), Fault>
+    ensures { Forgets world.old torn.old.items object world.new torn.new.items result }
+{
+    world.require_rule()?;
+    torn.push(object)?;
+    world.end_one(object);
+    Ok(())
 }

@@ -51,10 +51,10 @@ impl Setting {
                 return self.run_deletion(world, &below, object);
             }
         };
-        if world.store.tree.life(object).is_none() {
+        let Some(_) = world.store.tree.life(object) else {
             world.take_unwritten(turn.home, turn.limit);
             return Ok(());
-        }
+        };
         let call = MethodCall {
             object,
             method,

@@ -4,8 +4,9 @@ use Rattle.machine_state.specs.declared.world.World.{World}
 use Rattle.machine_rules.proofs.Reaching.{not-idle, reaches-same, reaches-then, stops-after, stops-as, ends-after, ends-left, ends-undue, ends-short, ends-unchanged, ends-faulted, ends-ticked}
 use Rattle.machine_rules.specs.Good.{ArgumentsFit}
 use Rattle.machine_rules.proofs.Keeps.{keeps-same, keeps-then, ends-keeps, reaches-typed, reaches-keeps}
-use Rattle.machine_rules.proofs.Soundness.{fit-still, ends-sound, reaches-sound, sound-used, sound-noted, sound-set, sound-as}
-use Rattle.machine_rules.proofs.Beginning.{ends-begun, stops-barred, stops-no-member, stops-ill-typed, fit-of, next-joined, next-fits, delivered-fits, delivery-calls, begun-used, ends-posted, no-home, not-true}
+use Rattle.machine_rules.proofs.Declared.{fit-sends, emission-sends}
+use Rattle.machine_rules.proofs.Soundness.{emitted-still, ends-sound, reaches-sound, sound-used, sound-noted, sound-set, sound-as}
+use Rattle.machine_rules.proofs.Beginning.{ends-begun, stops-barred, stops-no-member, stops-ill-typed, fit-of, next-delivered, delivered-fits, delivery-calls, begun-used, ends-posted, no-home, not-true}
 use Rattle.machine_rules.proofs.Writes.{ends-written, stops-unwritten, announces-written, announces-as, announced-member, announced-value, announced-fits, announcement-calls}
 use Rattle.machine_rules.proofs.Bodies.{does-call, does-call-alone, does-set, does-nothing, does-connect, does-disconnect, does-choose, lacks-read, advances-one, advances-ticked, advances-left}
 use Rattle.machine_rules.proofs.setting.Setting.+machine.Goals as goal
@@ -20,16 +21,15 @@ run_emission-deliver-requires t c =
     let now = c.loop-connection.world in
     let found = sym c.in-Some.ensures.value in
     let sound = c.loop-connection.invariant.sound in
-    let emitted = fit-still c.loop-connection.invariant.keeps c.requires.emitted in
-    let joined = next-joined now.store.tree now.store.connections.connections c.args.call.now.object c.args.call.now.method c.loop-connection.used c.args.last _ sound.is.joined found in
-    let fits = next-fits now.store.tree now.store.connections.connections c.args.call.now.object c.args.call.now.method c.loop-connection.used c.args.last _ found emitted in
-    (omega (arith, c.loop-connection.invariant.fewer), (c.requires.room, (sound, (joined, fits))))
+    let emitted = emitted-still c.loop-connection.invariant.keeps c.requires.emitted in
+    let takes = next-delivered now.store.connections.connections c.args.call.now.object c.args.call.now.method c.loop-connection.used c.args.last _ sound.is.joined emitted found in
+    (omega (arith, c.loop-connection.invariant.fewer), (c.requires.room, (sound, takes)))
 
 pub run_emission-loop-connection-preserved : goal.run_emission-loop-connection-preserved
 run_emission-loop-connection-preserved t c =
     let went = c.in_ok-deliver.ensures.ends _ _ _ _ (sym c.in-Some.ensures.value) in
     let keeps = keeps-then c.loop-connection.invariant.keeps (ends-keeps _ went) in
-    record { reaches = reaches-then c.loop-connection.invariant.reaches went.cases; keeps = keeps; fewer = keeps.fewer; sound = ends-sound (fit-still c.loop-connection.invariant.keeps c.requires.emitted, tt) c.loop-connection.invariant.sound _ went }
+    record { reaches = reaches-then c.loop-connection.invariant.reaches went.cases; keeps = keeps; fewer = keeps.fewer; sound = ends-sound (emitted-still c.loop-connection.invariant.keeps c.requires.emitted, tt) c.loop-connection.invariant.sound _ went }
 
 pub run_emission-returns-in_err-deliver-clause-ends : goal.run_emission-returns-in_err-deliver-clause-ends
 run_emission-returns-in_err-deliver-clause-ends t c =
@@ -41,7 +41,7 @@ run_emission-returns-in_err-deliver-clause-keeps t c =
 
 pub run_emission-returns-in_err-deliver-clause-sound : goal.run_emission-returns-in_err-deliver-clause-sound
 run_emission-returns-in_err-deliver-clause-sound t c =
-    ends-sound (fit-still c.loop-connection.invariant.keeps c.requires.emitted, tt) c.loop-connection.invariant.sound _ (c.in_err-deliver.ensures.ends _ _ _ _ (sym c.in-Some.ensures.value))
+    ends-sound (emitted-still c.loop-connection.invariant.keeps c.requires.emitted, tt) c.loop-connection.invariant.sound _ (c.in_err-deliver.ensures.ends _ _ _ _ (sym c.in-Some.ensures.value))
 
 pub run_emission-returns-clause-ends : goal.run_emission-returns-clause-ends
 run_emission-returns-clause-ends t c =
@@ -52,16 +52,16 @@ pub deliver-returns-in_err-require_rule : goal.deliver-returns-in_err-require_ru
 deliver-returns-in_err-require_rule t c = record { ends = λ o g used last found. ends-undue _ c.in_err-require_rule.ensures c.from_residual.ensures.1 }
 
 pub deliver-unreachable-requires : goal.deliver-unreachable-requires
-deliver-unreachable-requires t c = c.in_default.ensures _ _ c.requires.joined.receives
+deliver-unreachable-requires t c = c.in_default.ensures _ _ c.requires.takes.is
 
 pub deliver-unreachable-requires-in_default-home : goal.deliver-unreachable-requires-in_default-home
 deliver-unreachable-requires-in_default-home t c = no-home c.in-Some.ensures c.in_default-home.ensures
 
 pub deliver-begin_used-requires : goal.deliver-begin_used-requires
-deliver-begin_used-requires t c = (omega arith, (c.requires.sound, (c.in_ok-require_rule.ensures, delivered-fits c.requires.joined c.requires.emitted c.in-Some.ensures c.front-taken.ensures c.len.ensures)))
+deliver-begin_used-requires t c = (omega arith, (c.requires.sound, (c.in_ok-require_rule.ensures, delivered-fits c.requires.takes c.in-Some.ensures c.front-taken.ensures c.len.ensures)))
 
 pub deliver-post-requires-clause-fit : goal.deliver-post-requires-clause-fit
-deliver-post-requires-clause-fit t c = delivered-fits c.requires.joined c.requires.emitted c.in-Some.ensures c.front-taken.ensures c.len.ensures
+deliver-post-requires-clause-fit t c = delivered-fits c.requires.takes c.in-Some.ensures c.front-taken.ensures c.len.ensures
 
 pub deliver-returns-then-reaches_at_once : goal.deliver-returns-then-reaches_at_once
 deliver-returns-then-reaches_at_once t c =

@@ -1,5 +1,5 @@
-use Rattle.std.proofs.Common.{◌≤◌, ◌+◌, ◌-◌, ◌*◌, [], ◌∷◌}
-use Rattle.machine_state.specs.State.{Body, Emit}
+use Rattle.std.proofs.Common.{◌≤◌, ◌+◌, ◌-◌, ◌*◌, [], ◌∷◌, reverse, Some, None}
+use Rattle.machine_state.specs.State.{Body, Emit, Destroy}
 use Rattle.machine_rules.specs.Sound.{IsSoundWorld}
 use Rattle.machine_rules.specs.Reaches.{Reaches}
 use Rattle.machine_rules.specs.Keeps.{KeepsWorld}
@@ -37,6 +37,29 @@ decreases-run_update l = 6 * l.world.now.left + 2
 
 abbrev pub decreases-notify : goal.decreases-notify
 decreases-notify l = 6 * l.world.now.left + 1
+
+abbrev pub decreases-delete : goal.decreases-delete
+decreases-delete l = 6 * l.world.now.left + 0
+
+abbrev pub decreases-run_deletion : goal.decreases-run_deletion
+decreases-run_deletion l = 6 * l.world.now.left + 2
+
+abbrev pub decreases-announce_living : goal.decreases-announce_living
+decreases-announce_living l = 6 * l.world.now.left + 1
+
+abbrev pub decreases-announce : goal.decreases-announce
+decreases-announce l = 6 * l.world.now.left + 0
+
+abbrev pub invariant-run_deletion-loop-torn : goal.invariant-run_deletion-loop-torn
+invariant-run_deletion-loop-torn l =
+    record {
+      reaches : Reaches l.self.meta l.self.depth l.active l.fn.world (Destroy (Some l.object) [] ∷ []) l.world (Destroy None (reverse l.torn.items) ∷ []);
+      fewer : l.world.left ≤ l.fn.world.left;
+      sound : IsSoundWorld l.self.meta l.world;
+    }
+
+abbrev pub decreases-run_deletion-loop-torn : goal.decreases-run_deletion-loop-torn
+decreases-run_deletion-loop-torn l = l.world.left
 
 abbrev pub invariant-run_body-loop-statement : goal.invariant-run_body-loop-statement
 invariant-run_body-loop-statement l =

@@ -1,0 +1,259 @@
+-- How deletions are carried out.
+use Rattle.std.proofs.Common.{◌≡◌, ◌≢◌, ⊎_elim, ◌⊎◌, inl, inr, ℕ, zero, suc, ◌+◌, ◌-◌, ◌<◌, ◌≤◌, Bool, true, false, IsTrue, List, [], ◌∷◌, ◌++◌, length, take, reverse, cond, Result, Ok, Err, Option, Some, None, slice_get, refl, sym, ap, ◌∙◌, subst, arith, length-append}
+use Rattle.std.specs.Prelude.{is_some, MatchOption}
+use Rattle.std.specs.List.{find}
+use Rattle.std.specs.Option.{option_map}
+use Rattle.std.specs.Result.{IsErrAnd}
+use Rattle.std.proofs.lemmas.Bool.{cases_eq}
+use Rattle.std.proofs.lemmas.List.{reverse-append}
+use Rattle.signatures.specs.declared.value.Value.{Value}
+use Rattle.signatures.specs.declared.value.Value.TheVariants as value
+use Rattle.meta_model.specs.declared.qobject.TheConstants.{DESTROYED}
+use Rattle.meta_model.specs.Loaded.{Loaded}
+use Rattle.meta_model.specs.Values.{null_has}
+use Rattle.object_tree.specs.declared.life.Life.{Life}
+use Rattle.object_tree.specs.declared.object.Object.{Object}
+use Rattle.object_tree.specs.Family.{children_of, IsChild, without_life}
+use Rattle.object_tree.specs.Objects.{Lives, life_of, name_of}
+use Rattle.object_tree.specs.Typed.{AreTyped}
+use Rattle.object_tree.proofs.Changing.{life-of-lives, lives-of-life}
+use Rattle.object_tree.proofs.TypedObjects.{typed-died}
+use Rattle.delete_later.specs.Ending.{last_of, next_in, first_child_of, IsNext, NoneIsNext}
+use Rattle.machine_state.specs.declared.entry.Entry.{Entry}
+use Rattle.machine_state.specs.declared.entry.Entry.TheVariants.{At}
+use Rattle.machine_state.specs.declared.entry.Happening.TheVariants.{Died}
+use Rattle.machine_state.specs.declared.fault.Fault.{Fault}
+use Rattle.machine_state.specs.declared.fault.Fault.TheVariants.{TooDeep, InUse, Steps, Memory}
+use Rattle.machine_state.specs.declared.world.World.{World}
+use Rattle.machine_state.specs.Connections.{is_living}
+use Rattle.machine_state.specs.State.{State, Activation, Emit, Destroy}
+use Rattle.machine_state.specs.Worlds.{at, ticked, dying, ending, Ticks}
+use Rattle.machine_rules.specs.Active.{shows, shows_body}
+use Rattle.machine_rules.specs.Destroying.{deleting, Dies, NextRule, ChildRule, living_child}
+use Rattle.machine_rules.specs.Good.{EmissionFits, of_dead, TopFits, has_body, IsWell, Spares}
+use Rattle.machine_rules.specs.Keeps.{KeepsWorld}
+use Rattle.machine_rules.specs.Reaches.{Reaches, StopsIn, Ends, Deletes, Kills, entry_of_destroyed, Forgets}
+use Rattle.machine_rules.specs.Rules.{Rule}
+use Rattle.machine_rules.specs.There.{IsDead, NoneDied}
+use Rattle.machine_rules.proofs.Dying.{living-not-dead, dead-no-life, died-dead, other-seen}
+use Rattle.machine_rules.proofs.Beginning.{one-more}
+use Rattle.machine_rules.proofs.Frames.{high, has-shown}
+use Rattle.machine_rules.proofs.Reaching.{none-spared, reaches-low, reaches-high, reaches-then, stops-after, stops-as, stops-memory, stops-steps, stops-deep, stops-fatal, ends-after, ends-left, ends-lifted, not-idle}
+
+-- ---- a deletion begins
+
+-- .. and is carried out
+pub ends-deleting : {p : Loaded} {d x : ℕ} {h active : List (Option ℕ)} {w v u : World} {from to : List Activation} {r : Result (Unit {0}) Fault} → active ≡ shows to ++ h → Deletes p w from to x → length active < d → AreTyped p w.store.tree → Ticks w v (Ok tt) → Ends p d active v (Destroy (Some x) [] ∷ []) u [] r → Ends p d h w from u to r
+ends-deleting {p} {d} {x} {h} {active} {w} {v} {u} {from} {to} over deletes room typed ticks rest =
+    let Family : World → Type 0 = λ k. Reaches p d h w from k (Destroy (Some x) [] ∷ to) in
+    let went : Reaches p d h w from (ticked w) (Destroy (Some x) [] ∷ to) =
+    reaches-high over (λ below e. deletes.gives below) (λ below e. none-spared (from ++ below) (λ o gone. gone)) (λ below. tt) room typed refl ticks.0 in
+    ends-after (subst Family (sym ticks.1) went) (ends-lifted over rest)
+
+-- .. or activations would nest too deep
+pub stops-deleting : {p : Loaded} {d x : ℕ} {h active : List (Option ℕ)} {w : World} {from to : List Activation} → active ≡ shows to ++ h → Deletes p w from to x → AreTyped p w.store.tree → 0 < w.left → d ≤ length active → StopsIn p d h w from w TooDeep
+stops-deleting {p} {d} {x} {h} {active} {w} {from} {to} over deletes typed some deep =
+    stops-deep some (λ below e. (
+      deleting (at w (from ++ below)) (to ++ below) x,
+      deletes.gives below,
+      record { arguments = λ higher. tt; values = typed },
+      none-spared (from ++ below) (λ o gone. gone),
+      omega (arith, one-more to below over e, deep),
+    ))
+
+-- ---- an object dies
+
+-- the world in which it has died, where the deletion is the last of so many activations
+abbrev pub died_world : World → ℕ → ℕ → List ℕ → World
+died_world w depth x name = dying w (At depth (Died name) ∷ entry_of_destroyed (depth + 1) name ∷ []) x
+
+abbrev pub announced : World → ℕ → Activation
+announced w x = Emit x DESTROYED (value.Ref None ∷ []) 0 w.store.connections.last
+
+dies-there : {n x : ℕ} {name : List ℕ} (w : World) (stack over : List Activation) → name_of w.store.tree x ≡ Some name → n ≡ length over → Dies (at w stack) over x (at (died_world w n x name) (announced w x ∷ over))
+dies-there {n} {x} {name} w stack over named depth_is =
+    let more : n + 1 ≡ suc (length over) = omega (arith, depth_is) in
+    let with_depths : ℕ → ℕ → State = λ i k. at (dying w (At i (Died name) ∷ entry_of_destroyed k name ∷ []) x) (announced w x ∷ over) in
+    record {
+      name = name;
+      named = named;
+      gives = ap (λ (i : ℕ). with_depths i (n + 1)) depth_is ∙ ap (λ (k : ℕ). with_depths (length over) k) more;
+    }
+
+-- its `destroyed` fits
+pub death-fits : (p : Loaded) (objects : List Object) (x : ℕ) {name : List ℕ} → name_of objects x ≡ Some name → EmissionFits p (without_life x objects) x DESTROYED (value.Ref None ∷ [])
+death-fits p objects x named = of_dead (died-dead objects x named) refl (null_has, tt)
+
+-- where no body of it is active, none that has a body dies
+unbodied-spared : (objects : List Object) (x : ℕ) (stack : List Activation) → has_body x stack ≡ false → (o : ℕ) → IsTrue (has_body o stack) → IsDead (without_life x objects) o → IsDead objects o
+unbodied-spared objects x stack none o body gone = ⊎_elim
+    (λ (same : o ≡ x). let active : has_body x stack ≡ true = ap (λ (k : ℕ). has_body k stack) (sym same) ∙ body in let no : true ≡ false = sym active ∙ none in absurd (cc no))
+    (λ (other : o ≢ x). sym (other-seen objects x o other) ∙ gone)
+    (cases_eq o x)
+
+module _ {p : Loaded} {d : ℕ} {active : List (Option ℕ)} {w : World} {next : Option ℕ} {before torn : List ℕ} {x : ℕ} {name : List ℕ} (kills : Kills p w next before torn x) (named : name_of w.store.tree x ≡ Some name) (typed : AreTyped p w.store.tree) (some : 0 < w.left) where
+  died-next : {n : ℕ} (below : List Activation) → n ≡ suc (length below) → Rule p (at w (Destroy next before ∷ below)) (at (died_world w n x name) (announced w x ∷ Destroy (Some x) torn ∷ below))
+  died-next below depth_is = kills.gives below _ (dies-there w (Destroy next before ∷ below) (Destroy (Some x) torn ∷ below) named depth_is)
+
+  bodiless : (below : List Activation) → shows below ≡ active → shows_body x active ≡ false → has_body x below ≡ false
+  bodiless below e none = has-shown x below ∙ ap (shows_body x) e ∙ none
+
+  -- it dies by one rule
+  pub reaches-died : {v : World} {n last : ℕ} → shows_body x active ≡ false → suc (length active) < d → n ≡ suc (length active) → last ≡ w.store.connections.last → v ≡ died_world w n x name → Reaches p d active w (Destroy next before ∷ []) v (Emit x DESTROYED (value.Ref None ∷ []) 0 last ∷ Destroy (Some x) torn ∷ [])
+  reaches-died {v} {n} {last} none room n_is last_is v_is =
+      let target : World = died_world w n x name in
+      let Family : World → ℕ → Type 0 = λ u l. Reaches p d active w (Destroy next before ∷ []) u (Emit x DESTROYED (value.Ref None ∷ []) 0 l ∷ Destroy (Some x) torn ∷ []) in
+      let went : Family target w.store.connections.last =
+      reaches-high {active = None ∷ active} {from = Destroy next before ∷ []} {to = Destroy (Some x) torn ∷ []} refl
+      (λ below e. died-next below (omega (arith, n_is, high below e)))
+      (λ below e. unbodied-spared w.store.tree x (Destroy next before ∷ below) (bodiless below e none))
+      (λ below. death-fits p w.store.tree x named)
+      (omega (arith, room)) (typed-died p x w.store.tree typed) refl some in
+      subst (λ (u : World). Family u last) (sym v_is) (subst (λ (l : ℕ). Family target l) (sym last_is) went)
+
+  -- a body of it is active
+  pub stops-in-use : is_living w.store.tree x ≡ true → shows_body x active ≡ true → StopsIn p d active w (Destroy next before ∷ []) w InUse
+  stops-in-use lives bodied = stops-fatal some (λ below e.
+      let s : State = at w (Destroy next before ∷ below) in
+      let t : State = at (died_world w (suc (length below)) x name) (announced w x ∷ Destroy (Some x) torn ∷ below) in
+      let well : IsWell p s t = record { arguments = λ higher. death-fits p w.store.tree x named; values = typed-died p x w.store.tree typed } in
+      let body : has_body x below ≡ true = has-shown x below ∙ ap (shows_body x) e ∙ bodied in
+      let fatal : ¬ Spares s t = λ spares. living-dead w.store.tree x lives (spares x body (died-dead w.store.tree x named)) in
+      (t, died-next below refl, well, fatal))
+    where
+      living-dead : (objects : List Object) (o : ℕ) → is_living objects o ≡ true → IsDead objects o → ⊥
+      living-dead objects o lives gone = let none : is_some (life_of objects o) ≡ false = ap (λ (life : Option Life). is_some life) (dead-no-life objects o gone) in let no : true ≡ false = sym lives ∙ none in absurd (cc no)
+
+  -- activations would nest too deep
+  pub stops-announcing : shows_body x active ≡ false → d ≤ suc (length active) → StopsIn p d active w (Destroy next before ∷ []) w TooDeep
+  stops-announcing none deep = stops-deep some (λ below e.
+      let s : State = at w (Destroy next before ∷ below) in
+      let t : State = at (died_world w (suc (length below)) x name) (announced w x ∷ Destroy (Some x) torn ∷ below) in
+      let well : IsWell p s t = record { arguments = λ higher. death-fits p w.store.tree x named; values = typed-died p x w.store.tree typed } in
+      (t, died-next below refl, well, unbodied-spared w.store.tree x (Destroy next before ∷ below) (bodiless below e none), omega (arith, high below e, deep)))
+
+-- what lives has a name
+pub living-named : (objects : List Object) (o : ℕ) → is_living objects o ≡ true → None ≡ name_of objects o → ⊥
+living-named objects o lives none = by_object (slice_get objects o) refl none
+  where
+    by_object : (there : Option Object) → slice_get objects o ≡ there → None ≡ option_map (λ (x : Object). x.name) there → ⊥
+    by_object None is e =
+        let no : is_some (life_of objects o) ≡ false = ap (λ (there : Option Object). is_some (life_in there)) is in
+        let both : true ≡ false = sym lives ∙ no in
+        absurd (cc both)
+      where
+        life_in : Option Object → Option Life
+        life_in None = None
+        life_in (Some x) = x.life
+    by_object (Some x) is e = absurd (cc e)
+
+-- what has died stays dead
+pub dead-after : (p : Loaded) {w v : World} {x : ℕ} → IsDead w.store.tree x → KeepsWorld p w v → is_living v.store.tree x ≡ false
+dead-after p {w} {v} {x} gone keeps = ap (λ (life : Option Life). is_some life) (dead-no-life v.store.tree x (keeps.objects.dead x gone))
+
+-- ---- the rules of a deletion
+
+-- the object that is deleted may die by the first rule, if it lives
+pub kills-first : {p : Loaded} (w : World) (x : ℕ) (torn : List ℕ) → is_living w.store.tree x ≡ true → Kills p w (Some x) torn torn x
+kills-first w x torn lives = record {
+  gives = λ below t dies.
+      let Next : Bool → Type 0 = λ b. NextRule (at w (Destroy (Some x) torn ∷ below)) below t x torn b in
+      subst Next (sym lives) dies;
+}
+
+-- .. and so may a child
+pub kills-child : {p : Loaded} (w : World) (parent child : ℕ) (torn : List ℕ) → find (is_living w.store.tree) (children_of w.store.tree parent) ≡ Some child → Kills p w None (parent ∷ torn) (parent ∷ torn) child
+kills-child w parent child torn found = record {
+  gives = λ below t dies.
+      let Next : Option ℕ → Type 0 = λ c. ChildRule (at w (Destroy None (parent ∷ torn) ∷ below)) below t parent torn c in
+      subst Next (sym found) dies;
+}
+
+module _ {p : Loaded} {d : ℕ} {active : List (Option ℕ)} {w v : World} (room : length active < d) (typed : AreTyped p w.store.tree) where
+  -- a dead object is forgotten
+  pub reaches-forgotten : (x : ℕ) (torn : List ℕ) → is_living w.store.tree x ≡ false → 0 < w.left → v ≡ ending w x → Reaches p d active w (Destroy (Some x) torn ∷ []) v (Destroy None (x ∷ torn) ∷ [])
+  reaches-forgotten x torn gone some v_is =
+      let target : World = ending w x in
+      let Family : World → Type 0 = λ u. Reaches p d active w (Destroy (Some x) torn ∷ []) u (Destroy None (x ∷ torn) ∷ []) in
+      subst Family (sym v_is) (reaches-low {b = Destroy None (x ∷ torn) ∷ []}
+      (λ below e. let Next : Bool → Type 0 = λ b. NextRule (at w (Destroy (Some x) torn ∷ below)) below (at target (Destroy None (x ∷ torn) ∷ below)) x torn b in subst Next (sym gone) refl)
+      (λ o dead. dead) (omega arith) (omega (arith, room)) typed refl some)
+
+  -- one without children left isn't torn down any more
+  pub reaches-torn : (parent : ℕ) (torn : List ℕ) → find (is_living w.store.tree) (children_of w.store.tree parent) ≡ None → Ticks w v (Ok tt) → Reaches p d active w (Destroy None (parent ∷ torn) ∷ []) v (Destroy None torn ∷ [])
+  reaches-torn parent torn none ticks =
+      let Family : World → Type 0 = λ u. Reaches p d active w (Destroy None (parent ∷ torn) ∷ []) u (Destroy None torn ∷ []) in
+      subst Family (sym ticks.1) (reaches-low {b = Destroy None torn ∷ []}
+      (λ below e. let Next : Option ℕ → Type 0 = λ c. ChildRule (at w (Destroy None (parent ∷ torn) ∷ below)) below (at (ticked w) (Destroy None torn ∷ below)) parent torn c in subst Next (sym none) refl)
+      (λ o dead. dead) (omega arith) (omega (arith, room)) typed refl ticks.0)
+
+-- it isn't forgotten, since no rule is left or memory was refused
+pub stops-forgetting : {p : Loaded} {d : ℕ} {active : List (Option ℕ)} {w v : World} {a : Activation} {x : ℕ} {torn after : List ℕ} (f : Fault) → Forgets w torn x v after (Err f) → StopsIn p d active w (a ∷ []) v f
+stops-forgetting {p} {d} {active} {w} {v} {a} f forgets =
+    let Family : World → Type 0 = λ u. StopsIn p d active w (a ∷ []) u f in
+    subst Family (sym forgets.0) (elim forgets.1 [
+      | inl undue ↦ stops-as undue.1 (stops-steps undue.0)
+      | inr short ↦ stops-as short.1 (stops-memory (not-idle w a) short.0)
+    ])
+
+-- ---- the list of those that are torn down
+
+-- a list that isn't empty has a last element
+pub ends-with : (xs : List ℕ) → 0 < length xs → (front : List ℕ) × (last : ℕ) × (xs ≡ front ++ last ∷ [])
+ends-with [] some = absurd (omega (arith, some))
+ends-with (x ∷ []) some = ([], x, refl)
+ends-with (x ∷ y ∷ ys) some =
+    let more = ends-with (y ∷ ys) (omega arith) in
+    (x ∷ more.0, more.1, ap (λ (l : List ℕ). x ∷ l) more.2)
+
+reverse-last : (front : List ℕ) (last : ℕ) → reverse (front ++ last ∷ []) ≡ last ∷ reverse front
+reverse-last front last = reverse-append front (last ∷ [])
+
+-- .. which is the latest
+pub turned : {xs front : List ℕ} {last : ℕ} → xs ≡ front ++ last ∷ [] → reverse xs ≡ last ∷ reverse front
+turned {xs} {front} {last} e = ap (λ (l : List ℕ). reverse l) e ∙ reverse-last front last
+
+get-last : (front : List ℕ) (last : ℕ) → slice_get (front ++ last ∷ []) (length front) ≡ Some last
+get-last [] last = refl
+get-last (x ∷ front) last = get-last front last
+
+pub last-is : {xs front : List ℕ} {last : ℕ} → xs ≡ front ++ last ∷ [] → last_of xs ≡ Some last
+last-is {xs} {front} {last} e =
+    let long : length xs - 1 ≡ length front = omega (arith, ap (λ (l : List ℕ). length l) e, length-append front (last ∷ [])) in
+    ap (λ (l : List ℕ). slice_get l (length xs - 1)) e ∙ ap (λ (n : ℕ). slice_get (front ++ last ∷ []) n) long ∙ get-last front last
+
+take-front : (front : List ℕ) (last : ℕ) → take (length front) (front ++ last ∷ []) ≡ front
+take-front [] last = refl
+take-front (x ∷ front) last = ap (λ (l : List ℕ). x ∷ l) (take-front front last)
+
+-- what is left where it is taken off
+pub popped-is : {xs rest front : List ℕ} {last : ℕ} → xs ≡ front ++ last ∷ [] → rest ≡ take (length xs - 1) xs → rest ≡ front
+popped-is {xs} {rest} {front} {last} e rest_is =
+    let long : length xs - 1 ≡ length front = omega (arith, ap (λ (l : List ℕ). length l) e, length-append front (last ∷ [])) in
+    rest_is ∙ ap (λ (n : ℕ). take n xs) long ∙ ap (λ (l : List ℕ). take (length front) l) e ∙ take-front front last
+
+-- ---- the child that dies next
+
+-- the first of a list that passes, where the first element does, or there is none
+found-first : (test : ℕ → Bool) (xs : List ℕ) (first : Option ℕ) → first ≡ slice_get xs 0 → ((x : ℕ) → first ≡ Some x → test x ≡ true) → find test xs ≡ first
+found-first test [] first e passes = sym e
+found-first test (x ∷ xs) first e passes =
+    let here : test x ≡ true = passes x e in
+    let At : Bool → Type 0 = λ b. cond b (Some x) (find test xs) ≡ first in
+    subst At (sym here) (sym e)
+
+child-lives : (objects : List Object) (parent o : ℕ) → IsChild objects parent o → is_living objects o ≡ true
+child-lives objects parent o child = ap (λ (life : Option Life). is_some life) (life-of-lives child.lives)
+
+-- what the code finds is the first living child of the latest that is torn down
+pub next-child : (objects : List Object) {torn front : List ℕ} {parent : ℕ} (found : Option ℕ) → torn ≡ front ++ parent ∷ [] → found ≡ next_in objects torn → MatchOption found (NoneIsNext objects torn) (IsNext objects torn) → find (is_living objects) (children_of objects parent) ≡ found
+next-child objects {torn} {front} {parent} found e is lives =
+    let last : last_of torn ≡ Some parent = last-is e in
+    let first : found ≡ slice_get (children_of objects parent) 0 = is ∙ ap (first_child_of objects) last in
+    found-first (is_living objects) (children_of objects parent) found first (by_found found lives last)
+  where
+    by_found : (found : Option ℕ) → MatchOption found (NoneIsNext objects torn) (IsNext objects torn) → last_of torn ≡ Some parent → (x : ℕ) → found ≡ Some x → is_living objects x ≡ true
+    by_found None none last x k = absurd (cc k)
+    by_found (Some y) some last x k =
+        let same : y ≡ x = cc k in
+        subst (λ (o : ℕ). is_living objects o ≡ true) same (child-lives objects some.parent y some.child)
