@@ -39,7 +39,7 @@ use Rattle.machine_state.specs.Objects.{home_of}
 use Rattle.event_loops.specs.declared.item.Item.{Item}
 use Rattle.event_loops.specs.declared.item.Item.TheVariants.{Call, Deletion}
 use Rattle.event_loops.specs.declared.item.Posted.{Posted}
-use Rattle.event_loops.specs.Queues.{Loop as ALoop, items_at, is_before, taken_before, with_loop}
+use Rattle.event_loops.specs.Queues.{Loop as ALoop, Queues, items_at, is_before, taken_before, with_loop}
 use Rattle.machine_state.specs.declared.turn.Turn.{Turn as ATurn}
 use Rattle.machine_state.specs.Turns.{running, reaches_at_once}
 use Rattle.machine_state.specs.Connections.{is_living, next_used}
@@ -221,14 +221,14 @@ module _ {p : Loaded} {s t : State} (sound : IsSound p) (well : IsWell p s t) wh
       by_child None e = as-is e (tt, lower)
 
   -- an item is delivered, or a turn ends
-  delivers-stands : (turn : ATurn) (item : Item) → length s.stack ≡ 0 → AllStand p s → Delivers p (record s { queues = taken_before turn.home turn.limit s.queues }) t item → AllStand p t
-  delivers-stands turn (Call o m arguments) low all r = by_life (life_of s.objects o) r
+  delivers-stands : (queues : Queues) (item : Item) → length s.stack ≡ 0 → AllStand p s → Delivers p (record s { queues = queues }) t item → AllStand p t
+  delivers-stands queues (Call o m arguments) low all r = by_life (life_of s.objects o) r
     where
-      by_life : (life : Option Life) → BeginsIf p (record s { queues = taken_before turn.home turn.limit s.queues }) o m arguments t life → AllStand p t
+      by_life : (life : Option Life) → BeginsIf p (record s { queues = queues }) o m arguments t life → AllStand p t
       by_life None e = as-is e all
       by_life (Some l) b =
-          begun-stands p (record s { queues = taken_before turn.home turn.limit s.queues }) [] o b.object m b.method arguments b.method.work t sound b.is refl b.gives (omega (arith, low)) (record { arguments = well.arguments; values = well.values }) tt
-  delivers-stands turn (Deletion o) low all r = as-is r (tt, tt)
+          begun-stands p (record s { queues = queues }) [] o b.object m b.method arguments b.method.work t sound b.is refl b.gives (omega (arith, low)) (record { arguments = well.arguments; values = well.values }) tt
+  delivers-stands queues (Deletion o) low all r = as-is r (tt, tt)
 
   turn-stands : (found : Option ATurn) → length s.stack ≡ 0 → AllStand p s → TurnRule p s t found → AllStand p t
   turn-stands None low all r = absurd r
@@ -236,7 +236,7 @@ module _ {p : Loaded} {s t : State} (sound : IsSound p) (well : IsWell p s t) wh
     where
       by_first : (first : Option Posted) → Serves p s t turn first → AllStand p t
       by_first None e = as-is e all
-      by_first (Some q) d = delivers-stands turn q.item low all d
+      by_first (Some q) d = delivers-stands (taken_before turn.home turn.limit s.queues) q.item low all d
 
   rule-stands : AreTyped p s.objects → Spares s t → (stack : List Activation) → s.stack ≡ stack → AllStand p s → AllByRecursion (Stands p s.objects) stack → RuleAt p s t stack → AllStand p t
   rule-stands typed spares [] is here all r = turn-stands s.turn (ap (λ (l : List Activation). length l) is) here r

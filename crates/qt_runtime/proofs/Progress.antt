@@ -32,7 +32,7 @@ use Rattle.std.specs.Option.{option_map}
 use Rattle.event_loops.specs.declared.item.Item.{Item}
 use Rattle.event_loops.specs.declared.item.Item.TheVariants.{Call, Deletion}
 use Rattle.event_loops.specs.declared.item.Posted.{Posted}
-use Rattle.event_loops.specs.Queues.{HasName, items_at, is_before, taken_before}
+use Rattle.event_loops.specs.Queues.{Queues, HasName, items_at, is_before, taken_before}
 use Rattle.object_tree.specs.declared.life.Life.{Life}
 use Rattle.object_tree.specs.Objects.{Lives, life_of, name_of}
 use Rattle.object_tree.proofs.Changing.{life-of-lives, lives-of-life}
@@ -168,24 +168,22 @@ module _ {p : Loaded} {s : State} (sound : IsSound p) (up : Invariant p s) where
       arrives-somehow (with_used s c) (Emit o g arguments c.number last ∷ below) home c.receiver d.receiver c.method d.method (take (length d.method.kinds) arguments) (reaches_at_once c.kind home (running s.turn)) named
       (λ t r. stuck t (record { receiver = d.receiver; method = d.method; is = d.is; home = home; lives_in = lives; arrives = r }))
 
+  -- a call that waits begins, if its object lives
+  delivers-goes : (queues : Queues) (item : Item) → Waits p s.objects item → ((t : State) → ¬ Delivers p (record s { queues = queues }) t item) → ⊥
+  delivers-goes queues (Call o m arguments) waits none = by_life (life_of s.objects o) refl none
+    where
+      by_life : (life : Option Life) → life_of s.objects o ≡ life → ((t : State) → ¬ BeginsIf p (record s { queues = queues }) o m arguments t life) → ⊥
+      by_life None is stays = stays _ refl
+      by_life (Some l) is stays =
+          let there = lives-of-life s.objects o l is in
+          let declared = waits.takes.living there.0 l there.1 in
+          stays _ (record { object = there.0; method = declared.method; is = record { life = l; lives = there.1; is_method = declared.is }; gives = refl })
+  delivers-goes queues (Deletion o) waits none = none _ refl
+
   -- .. and so has a turn
   turn-goes : (turn : Turn) (first : Option Posted) → ((q : Posted) → first ≡ Some q → Waits p s.objects q.item) → ((t : State) → ¬ Serves p s t turn first) → ⊥
   turn-goes turn None waits stuck = stuck _ refl
-  turn-goes turn (Some q) waits stuck = delivers q.item (waits q refl) stuck
-    where
-      taken : State
-      taken = record s { queues = taken_before turn.home turn.limit s.queues }
-
-      delivers : (item : Item) → Waits p s.objects item → ((t : State) → ¬ Delivers p taken t item) → ⊥
-      delivers (Call o m arguments) fit none = by_life (life_of s.objects o) refl none
-        where
-          by_life : (life : Option Life) → life_of s.objects o ≡ life → ((t : State) → ¬ BeginsIf p taken o m arguments t life) → ⊥
-          by_life None is stays = stays _ refl
-          by_life (Some l) is stays =
-              let there = lives-of-life s.objects o l is in
-              let declared = fit.takes.living there.0 l there.1 in
-              stays _ (record { object = there.0; method = declared.method; is = record { life = l; lives = there.1; is_method = declared.is }; gives = refl })
-      delivers (Deletion o) fit none = none _ refl
+  turn-goes turn (Some q) waits stuck = delivers-goes (taken_before turn.home turn.limit s.queues) q.item (waits q refl) stuck
 
   -- .. and so has an update
   update-goes : (below : List Activation) (places : List Place) → AllByRecursion (PlaceStands p s.objects) places → ((t : State) → ¬ UpdateRule p s below t places) → ⊥

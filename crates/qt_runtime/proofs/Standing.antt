@@ -94,11 +94,11 @@ own-body : (o : ℕ) (other : Bool) → IsTrue (eqb o o || other)
 own-body o other = by_test (eqb o o) (eq-eqb o o refl)
   where
     by_test : (b : Bool) → b ≡ true → IsTrue (b || other)
-    by_test true e = tt
+    by_test true e = refl
     by_test false e = absurd (cc e)
 
 lower-body : (one other : Bool) → IsTrue other → IsTrue (one || other)
-lower-body true other h = tt
+lower-body true other h = refl
 lower-body false other h = h
 
 pub all-stand-still : (p : Loaded) (old new : List Object) (stack : List Activation) → StayThere old new → SparedIn stack old new → AllByRecursion (Stands p old) stack → AllByRecursion (Stands p new) stack

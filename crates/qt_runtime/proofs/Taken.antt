@@ -35,11 +35,11 @@ runs-taken {p} {d} {s} {m} {t} {n} {j} {k} e x good some less rest =
 
 -- an event that pushes nothing is good where the objects are typed
 pub good-quiet : {p : Loaded} {d : ℕ} (w v : World) → AreTyped p v.store.tree → IsGood p d (at w []) (at v [])
-good-quiet w v typed = record { well = record { arguments = λ more. absurd (omega (arith, more)); values = typed }; spared = λ o body gone. absurd body; shallow = omega arith }
+good-quiet w v typed = record { well = record { arguments = λ more. absurd (omega (arith, more)); values = typed }; spared = λ o body gone. absurd (cc body); shallow = omega arith }
 
 -- .. and one that pushes an activation where its arguments fit too
 pub good-pushed : {p : Loaded} {d : ℕ} {top : Activation} (w v : World) → AreTyped p v.store.tree → TopFits p v.store.tree (top ∷ []) → 1 ≤ d → IsGood p d (at w []) (at v (top ∷ []))
-good-pushed w v typed fit room = record { well = record { arguments = λ more. fit; values = typed }; spared = λ o body gone. absurd body; shallow = omega (arith, room) }
+good-pushed w v typed fit room = record { well = record { arguments = λ more. fit; values = typed }; spared = λ o body gone. absurd (cc body); shallow = omega (arith, room) }
 
 -- nothing is going on where no activation is and no turn goes on
 pub idle : (w : World) → w.turn ≡ None → IsIdle (at w [])
