@@ -86,7 +86,7 @@ reaches-begun {p} {d} {o} {m} {h} {active} {w} {u} {v} {from} {to} {arguments} {
     let target : World = begun_world u (length active + 1) is.object m is.method arguments in
     let target_is : v ≡ target = v_is ∙ ap (λ (y : Entry). noted u (y ∷ [])) is.is_line in
     let went : Pushed target is.method.work u.store.connections.last =
-    reaches-high over (λ below e. calls.gives below _ (begins-there u arguments (from ++ below) (to ++ below) is.is (one-more to below over e))) (λ below e. none-spared (from ++ below) (same-spared calls.objects)) (λ below. top-fits u.store.connections.last is.method.work (to ++ below) fit) is.room typed (ap (λ (n : ℕ). n - 1) same) some in
+    reaches-high over (λ below e. calls.gives below _ (begins-there u arguments (from ++ below) (to ++ below) is.is (one-more to below over e))) (λ below e. none-spared w.store.tree u.store.tree (from ++ below) (same-spared calls.objects)) (λ below. top-fits u.store.connections.last is.method.work (to ++ below) fit) is.room typed (ap (λ (n : ℕ). n - 1) same) some in
     subst (λ (z : World). Pushed z work last) (sym target_is) (subst (λ (k : Work). Pushed target k last) (sym is.is_work) (subst (λ (l : ℕ). Pushed target is.method.work l) (sym is.is_last) went))
 
 -- a method begins, and what it pushed runs
@@ -104,7 +104,7 @@ stops-begin {o = o} {m = m} {active = active} {w = w} {u = u} {from = from} {to 
       at target (top_of o m arguments u.store.connections.last fit.method.work ∷ to ++ below),
       calls.gives below _ (begins-there u arguments (from ++ below) (to ++ below) fit.is (one-more to below over e)),
       record { arguments = λ higher. top-fits u.store.connections.last fit.method.work (to ++ below) fit; values = typed },
-      none-spared (from ++ below) (same-spared calls.objects),
+      none-spared w.store.tree u.store.tree (from ++ below) (same-spared calls.objects),
       omega (arith, one-more to below over e, deep),
     ))
 
@@ -147,6 +147,10 @@ fit-of {x = x} {method = method} is typed = record { object = x; method = method
 heard-kinds : {p : Loaded} (objects : List Object) (o g : ℕ) {a b : List ValueType} → Sends p objects o g a → Sends p objects o g b → silences (life_of objects o) g ≡ false → a ≡ b
 heard-kinds {p} objects o g {a} {b} x y heard = by_life (life_of objects o) refl heard
   where
+    not-false : (n : Bool) → not n ≡ false → n ≡ true
+    not-false true e = refl
+    not-false false e = absurd (cc e)
+
     by_life : (there : Option Life) → life_of objects o ≡ there → silences there g ≡ false → a ≡ b
     by_life None is h = let last : g ≡ DESTROYED = eqb-true g DESTROYED (not-false (eqb g DESTROYED) h) in x.last last ∙ sym (y.last last)
     by_life (Some l) is h =
@@ -154,10 +158,6 @@ heard-kinds {p} objects o g {a} {b} x y heard = by_life (life_of objects o) refl
         let first = x.takes.living there.0 l there.1 in
         let second = y.takes.living there.0 l there.1 in
         sym first.takes ∙ ap (λ (k : MetaMethod). k.kinds) (method-unique first.is second.is) ∙ second.takes
-
-    not-false : (n : Bool) → not n ≡ false → n ≡ true
-    not-false true e = refl
-    not-false false e = absurd (cc e)
 
 -- what lives has a life
 has-life : (objects : List Object) (o : ℕ) → is_living objects o ≡ true → (x : Object) × (l : Life) × Lives objects o x l

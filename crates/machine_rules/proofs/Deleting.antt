@@ -47,7 +47,7 @@ pub ends-deleting : {p : Loaded} {d x : ℕ} {h active : List (Option ℕ)} {w v
 ends-deleting {p} {d} {x} {h} {active} {w} {v} {u} {from} {to} over deletes room typed ticks rest =
     let Family : World → Type 0 = λ k. Reaches p d h w from k (Destroy (Some x) [] ∷ to) in
     let went : Reaches p d h w from (ticked w) (Destroy (Some x) [] ∷ to) =
-    reaches-high over (λ below e. deletes.gives below) (λ below e. none-spared (from ++ below) (λ o gone. gone)) (λ below. tt) room typed refl ticks.0 in
+    reaches-high over (λ below e. deletes.gives below) (λ below e. none-spared w.store.tree w.store.tree (from ++ below) (λ o gone. gone)) (λ below. tt) room typed refl ticks.0 in
     ends-after (subst Family (sym ticks.1) went) (ends-lifted over rest)
 
 -- .. or activations would nest too deep
@@ -57,7 +57,7 @@ stops-deleting {p} {d} {x} {h} {active} {w} {from} {to} over deletes typed some 
       deleting (at w (from ++ below)) (to ++ below) x,
       deletes.gives below,
       record { arguments = λ higher. tt; values = typed },
-      none-spared (from ++ below) (λ o gone. gone),
+      none-spared w.store.tree w.store.tree (from ++ below) (λ o gone. gone),
       omega (arith, one-more to below over e, deep),
     ))
 
@@ -91,13 +91,13 @@ unbodied-spared objects x stack none o body gone = ⊎_elim
     (λ (other : o ≢ x). sym (other-seen objects x o other) ∙ gone)
     (cases_eq o x)
 
+bodiless : (x : ℕ) {active : List (Option ℕ)} (below : List Activation) → shows below ≡ active → shows_body x active ≡ false → has_body x below ≡ false
+bodiless x below e none = has-shown x below ∙ ap (shows_body x) e ∙ none
+
+died-next : {p : Loaded} {w : World} {next : Option ℕ} {before torn : List ℕ} {x n : ℕ} {name : List ℕ} (below : List Activation) → Kills p w next before torn x → name_of w.store.tree x ≡ Some name → n ≡ suc (length below) → Rule p (at w (Destroy next before ∷ below)) (at (died_world w n x name) (announced w x ∷ Destroy (Some x) torn ∷ below))
+died-next {p} {w} {next} {before} {torn} {x} below kills named depth_is = kills.gives below _ (dies-there w (Destroy next before ∷ below) (Destroy (Some x) torn ∷ below) named depth_is)
+
 module _ {p : Loaded} {d : ℕ} {active : List (Option ℕ)} {w : World} {next : Option ℕ} {before torn : List ℕ} {x : ℕ} {name : List ℕ} (kills : Kills p w next before torn x) (named : name_of w.store.tree x ≡ Some name) (typed : AreTyped p w.store.tree) (some : 0 < w.left) where
-  died-next : {n : ℕ} (below : List Activation) → n ≡ suc (length below) → Rule p (at w (Destroy next before ∷ below)) (at (died_world w n x name) (announced w x ∷ Destroy (Some x) torn ∷ below))
-  died-next below depth_is = kills.gives below _ (dies-there w (Destroy next before ∷ below) (Destroy (Some x) torn ∷ below) named depth_is)
-
-  bodiless : (below : List Activation) → shows below ≡ active → shows_body x active ≡ false → has_body x below ≡ false
-  bodiless below e none = has-shown x below ∙ ap (shows_body x) e ∙ none
-
   -- it dies by one rule
   pub reaches-died : {v : World} {n last : ℕ} → shows_body x active ≡ false → suc (length active) < d → n ≡ suc (length active) → last ≡ w.store.connections.last → v ≡ died_world w n x name → Reaches p d active w (Destroy next before ∷ []) v (Emit x DESTROYED (value.Ref None ∷ []) 0 last ∷ Destroy (Some x) torn ∷ [])
   reaches-died {v} {n} {last} none room n_is last_is v_is =
@@ -105,8 +105,8 @@ module _ {p : Loaded} {d : ℕ} {active : List (Option ℕ)} {w : World} {next :
       let Family : World → ℕ → Type 0 = λ u l. Reaches p d active w (Destroy next before ∷ []) u (Emit x DESTROYED (value.Ref None ∷ []) 0 l ∷ Destroy (Some x) torn ∷ []) in
       let went : Family target w.store.connections.last =
       reaches-high {active = None ∷ active} {from = Destroy next before ∷ []} {to = Destroy (Some x) torn ∷ []} refl
-      (λ below e. died-next below (omega (arith, n_is, high below e)))
-      (λ below e. unbodied-spared w.store.tree x (Destroy next before ∷ below) (bodiless below e none))
+      (λ below e. died-next below kills named (omega (arith, n_is, high below e)))
+      (λ below e. unbodied-spared w.store.tree x (Destroy next before ∷ below) (bodiless x below e none))
       (λ below. death-fits p w.store.tree x named)
       (omega (arith, room)) (typed-died p x w.store.tree typed) refl some in
       subst (λ (u : World). Family u last) (sym v_is) (subst (λ (l : ℕ). Family target l) (sym last_is) went)
@@ -119,7 +119,7 @@ module _ {p : Loaded} {d : ℕ} {active : List (Option ℕ)} {w : World} {next :
       let well : IsWell p s t = record { arguments = λ higher. death-fits p w.store.tree x named; values = typed-died p x w.store.tree typed } in
       let body : has_body x below ≡ true = has-shown x below ∙ ap (shows_body x) e ∙ bodied in
       let fatal : ¬ Spares s t = λ spares. living-dead w.store.tree x lives (spares x body (died-dead w.store.tree x named)) in
-      (t, died-next below refl, well, fatal))
+      (t, died-next below kills named refl, well, fatal))
     where
       living-dead : (objects : List Object) (o : ℕ) → is_living objects o ≡ true → IsDead objects o → ⊥
       living-dead objects o lives gone = let none : is_some (life_of objects o) ≡ false = ap (λ (life : Option Life). is_some life) (dead-no-life objects o gone) in let no : true ≡ false = sym lives ∙ none in absurd (cc no)
@@ -130,7 +130,7 @@ module _ {p : Loaded} {d : ℕ} {active : List (Option ℕ)} {w : World} {next :
       let s : State = at w (Destroy next before ∷ below) in
       let t : State = at (died_world w (suc (length below)) x name) (announced w x ∷ Destroy (Some x) torn ∷ below) in
       let well : IsWell p s t = record { arguments = λ higher. death-fits p w.store.tree x named; values = typed-died p x w.store.tree typed } in
-      (t, died-next below refl, well, unbodied-spared w.store.tree x (Destroy next before ∷ below) (bodiless below e none), omega (arith, high below e, deep)))
+      (t, died-next below kills named refl, well, unbodied-spared w.store.tree x (Destroy next before ∷ below) (bodiless x below e none), omega (arith, high below e, deep)))
 
 -- what lives has a name
 pub living-named : (objects : List Object) (o : ℕ) → is_living objects o ≡ true → None ≡ name_of objects o → ⊥
@@ -148,8 +148,8 @@ living-named objects o lives none = by_object (slice_get objects o) refl none
     by_object (Some x) is e = absurd (cc e)
 
 -- what has died stays dead
-pub dead-after : (p : Loaded) {w v : World} {x : ℕ} → IsDead w.store.tree x → KeepsWorld p w v → is_living v.store.tree x ≡ false
-dead-after p {w} {v} {x} gone keeps = ap (λ (life : Option Life). is_some life) (dead-no-life v.store.tree x (keeps.objects.dead x gone))
+pub dead-after : {p : Loaded} {w v : World} (x : ℕ) → IsDead w.store.tree x → KeepsWorld p w v → is_living v.store.tree x ≡ false
+dead-after {v = v} x gone keeps = ap (λ (life : Option Life). is_some life) (dead-no-life v.store.tree x (keeps.objects.dead x gone))
 
 -- ---- the rules of a deletion
 
@@ -188,8 +188,8 @@ module _ {p : Loaded} {d : ℕ} {active : List (Option ℕ)} {w v : World} (room
       (λ o dead. dead) (omega arith) (omega (arith, room)) typed refl ticks.0)
 
 -- it isn't forgotten, since no rule is left or memory was refused
-pub stops-forgetting : {p : Loaded} {d : ℕ} {active : List (Option ℕ)} {w v : World} {a : Activation} {x : ℕ} {torn after : List ℕ} (f : Fault) → Forgets w torn x v after (Err f) → StopsIn p d active w (a ∷ []) v f
-stops-forgetting {p} {d} {active} {w} {v} {a} f forgets =
+pub stops-forgetting : {p : Loaded} {d : ℕ} {active : List (Option ℕ)} {w v : World} {a : Activation} (x : ℕ) (torn after : List ℕ) (f : Fault) → Forgets w torn x v after (Err f) → StopsIn p d active w (a ∷ []) v f
+stops-forgetting {p} {d} {active} {w} {v} {a} x torn after f forgets =
     let Family : World → Type 0 = λ u. StopsIn p d active w (a ∷ []) u f in
     subst Family (sym forgets.0) (elim forgets.1 [
       | inl undue ↦ stops-as undue.1 (stops-steps undue.0)
@@ -210,15 +210,15 @@ reverse-last : (front : List ℕ) (last : ℕ) → reverse (front ++ last ∷ []
 reverse-last front last = reverse-append front (last ∷ [])
 
 -- .. which is the latest
-pub turned : {xs front : List ℕ} {last : ℕ} → xs ≡ front ++ last ∷ [] → reverse xs ≡ last ∷ reverse front
-turned {xs} {front} {last} e = ap (λ (l : List ℕ). reverse l) e ∙ reverse-last front last
+pub turned : (xs front : List ℕ) (last : ℕ) → xs ≡ front ++ last ∷ [] → reverse xs ≡ last ∷ reverse front
+turned xs front last e = ap (λ (l : List ℕ). reverse l) e ∙ reverse-last front last
 
 get-last : (front : List ℕ) (last : ℕ) → slice_get (front ++ last ∷ []) (length front) ≡ Some last
 get-last [] last = refl
 get-last (x ∷ front) last = get-last front last
 
-pub last-is : {xs front : List ℕ} {last : ℕ} → xs ≡ front ++ last ∷ [] → last_of xs ≡ Some last
-last-is {xs} {front} {last} e =
+pub last-is : (xs front : List ℕ) (last : ℕ) → xs ≡ front ++ last ∷ [] → last_of xs ≡ Some last
+last-is xs front last e =
     let long : length xs - 1 ≡ length front = omega (arith, ap (λ (l : List ℕ). length l) e, length-append front (last ∷ [])) in
     ap (λ (l : List ℕ). slice_get l (length xs - 1)) e ∙ ap (λ (n : ℕ). slice_get (front ++ last ∷ []) n) long ∙ get-last front last
 
@@ -227,8 +227,8 @@ take-front [] last = refl
 take-front (x ∷ front) last = ap (λ (l : List ℕ). x ∷ l) (take-front front last)
 
 -- what is left where it is taken off
-pub popped-is : {xs rest front : List ℕ} {last : ℕ} → xs ≡ front ++ last ∷ [] → rest ≡ take (length xs - 1) xs → rest ≡ front
-popped-is {xs} {rest} {front} {last} e rest_is =
+pub popped-is : (xs rest front : List ℕ) (last : ℕ) → xs ≡ front ++ last ∷ [] → rest ≡ take (length xs - 1) xs → rest ≡ front
+popped-is xs rest front last e rest_is =
     let long : length xs - 1 ≡ length front = omega (arith, ap (λ (l : List ℕ). length l) e, length-append front (last ∷ [])) in
     rest_is ∙ ap (λ (n : ℕ). take n xs) long ∙ ap (λ (l : List ℕ). take (length front) l) e ∙ take-front front last
 
@@ -246,9 +246,9 @@ child-lives : (objects : List Object) (parent o : ℕ) → IsChild objects paren
 child-lives objects parent o child = ap (λ (life : Option Life). is_some life) (life-of-lives child.lives)
 
 -- what the code finds is the first living child of the latest that is torn down
-pub next-child : (objects : List Object) {torn front : List ℕ} {parent : ℕ} (found : Option ℕ) → torn ≡ front ++ parent ∷ [] → found ≡ next_in objects torn → MatchOption found (NoneIsNext objects torn) (IsNext objects torn) → find (is_living objects) (children_of objects parent) ≡ found
-next-child objects {torn} {front} {parent} found e is lives =
-    let last : last_of torn ≡ Some parent = last-is e in
+pub next-child : (objects : List Object) (torn front : List ℕ) (parent : ℕ) (found : Option ℕ) → torn ≡ front ++ parent ∷ [] → found ≡ next_in objects torn → MatchOption found (NoneIsNext objects torn) (IsNext objects torn) → find (is_living objects) (children_of objects parent) ≡ found
+next-child objects torn front parent found e is lives =
+    let last : last_of torn ≡ Some parent = last-is torn front parent e in
     let first : found ≡ slice_get (children_of objects parent) 0 = is ∙ ap (first_child_of objects) last in
     found-first (is_living objects) (children_of objects parent) found first (by_found found lives last)
   where

@@ -45,6 +45,11 @@ dead-no-life objects o gone = by_life (life_of objects o) refl
 pub lives-or-dead : (objects : List Object) (o : ℕ) → o < length objects → ((x : Object) × (l : Life) × Lives objects o x l) ⊎ IsDead objects o
 lives-or-dead objects o created = by_object (slice_get objects o) refl
   where
+    past : (xs : List Object) (k : ℕ) → slice_get xs k ≡ None → length xs ≤ k
+    past [] k e = omega arith
+    past (y ∷ xs) zero e = absurd (cc e)
+    past (y ∷ xs) (suc k) e = let more = past xs k e in omega (arith, more)
+
     by_life : (x : Object) → slice_get objects o ≡ Some x → (there : Option Life) → x.life ≡ there → ((y : Object) × (l : Life) × Lives objects o y l) ⊎ IsDead objects o
     by_life x is None none = inr (ap (λ (t : Option Object). seen_object t o) is ∙ ap (option_map (λ (l : Life). o)) none)
     by_life x is (Some l) some = inl (x, l, record { is = is; lives = some })
@@ -52,11 +57,6 @@ lives-or-dead objects o created = by_object (slice_get objects o) refl
     by_object : (there : Option Object) → slice_get objects o ≡ there → ((y : Object) × (l : Life) × Lives objects o y l) ⊎ IsDead objects o
     by_object None is = absurd (omega (arith, created, past objects o is))
     by_object (Some x) is = by_life x is x.life refl
-
-    past : (xs : List Object) (k : ℕ) → slice_get xs k ≡ None → length xs ≤ k
-    past [] k e = omega arith
-    past (y ∷ xs) zero e = absurd (cc e)
-    past (y ∷ xs) (suc k) e = let more = past xs k e in omega (arith, more)
 
 -- what is dead was created
 pub dead-created : (objects : List Object) (o : ℕ) → IsDead objects o → o < length objects

@@ -1,5 +1,5 @@
 -- Connections that statements make and remove.
-use Rattle.std.proofs.Common.{◌≡◌, ◌&&◌, Bool, true, false, IsTrue, ℕ, ◌-◌, List, [], ◌∷◌, length, Result, Ok, Err, MatchResult, refl, sym, ap, ◌∙◌, subst, inr}
+use Rattle.std.proofs.Common.{◌≡◌, ◌&&◌, Bool, true, false, IsTrue, if◌then◌else◌, Option, Some, ℕ, ◌-◌, List, [], ◌∷◌, length, Result, Ok, Err, MatchResult, refl, sym, ap, ◌∙◌, subst, inr}
 use Rattle.texts.specs.declared.connection.ConnectionType.{ConnectionType}
 use Rattle.texts.specs.declared.connection.Endpoints.{Endpoints as Named}
 use Rattle.meta_model.specs.Loaded.{Loaded}
@@ -9,19 +9,29 @@ use Rattle.object_tree.specs.declared.life.Life.{Life}
 use Rattle.object_tree.specs.declared.object.Object.{Object}
 use Rattle.object_tree.specs.Objects.{Lives}
 use Rattle.object_tree.specs.Typed.{StayTyped}
-use Rattle.machine_rules.specs.There.{NoneDied}
+use Rattle.machine_rules.specs.There.{IsDead, NoneDied}
+use Rattle.delete_later.specs.declared.store.Store.{Store}
+use Rattle.delete_later.specs.Scheduling.{deferred_to, scheduled_with, scheduled_in}
+use Rattle.event_loops.specs.Queues.{name_at}
+use Rattle.object_tree.specs.Typed.{AreTyped}
+use Rattle.object_tree.specs.Objects.{life_of, scheduled}
+use Rattle.object_tree.proofs.Changing.{life-of-lives}
+use Rattle.object_tree.proofs.TypedObjects.{typed-change}
+use Rattle.std.specs.Option.{option_map}
+use Rattle.machine_rules.specs.Destroying.{Defers, DefersOnce, Schedules}
+use Rattle.machine_rules.proofs.Dying.{scheduled-seen}
 use Rattle.machine_state.specs.declared.endpoints.Endpoints.{Endpoints}
 use Rattle.machine_state.specs.declared.entry.Entry.TheVariants.{At}
-use Rattle.machine_state.specs.declared.entry.Happening.TheVariants.{Connected, Disconnected, Refused}
+use Rattle.machine_state.specs.declared.entry.Happening.TheVariants.{Connected, Disconnected, Refused, Scheduled}
 use Rattle.machine_state.specs.declared.fault.Fault.{Fault}
 use Rattle.machine_state.specs.declared.refusal.Refusal.{Refusal}
 use Rattle.machine_state.specs.declared.refusal.Refusal.TheVariants.{NoConnection}
 use Rattle.machine_state.specs.declared.world.World.{World}
 use Rattle.machine_state.specs.Refusals.{refusal_number}
 use Rattle.machine_state.specs.State.{State, Activation}
-use Rattle.machine_state.specs.Worlds.{at, noted, connecting, disconnecting, Becomes}
+use Rattle.machine_state.specs.Worlds.{at, noted, connecting, disconnecting, scheduling, Becomes}
 use Rattle.machine_rules.specs.Connecting.{AreThere, kept_ends, names_of, may_disconnect}
-use Rattle.machine_rules.specs.Reaches.{IsJudged, LacksEnds, NamesEnds, Went, Stays, ConnectsIn, DisconnectsIn}
+use Rattle.machine_rules.specs.Reaches.{IsJudged, LacksEnds, NamesEnds, Went, Stays, ConnectsIn, DisconnectsIn, SchedulesIn}
 use Rattle.machine_rules.specs.Rules.{Connects, Disconnects}
 use Rattle.machine_rules.proofs.Fields.{member-at}
 use Rattle.machine_rules.proofs.Fitting.{named-there}
@@ -77,6 +87,31 @@ module _ (What : State → List Activation → State → Type 0) (w v : World) (
     left = ap (λ (u : World). u.left) v_is ∙ left depth;
   }
   came target (Err f) tells typed spared left short = record { same = short.1; why = inr short.0 }
+
+-- an object is scheduled for deletion
+pub schedule-made : (w v : World) (depth x : ℕ) {y : Object} {l : Life} {loop : List ℕ} (r : Result (Unit {0}) Fault) → Lives w.store.tree x y l → l.scheduled ≡ false → Some loop ≡ name_at w.store.loops.loops l.home → Becomes w (scheduling w (At depth (Scheduled loop y.name) ∷ []) x) v r → SchedulesIn w depth x v r
+schedule-made w v depth x {y} {l} {loop} r lives unmarked named becomes =
+    let life_is : life_of w.store.tree x ≡ Some l = life-of-lives lives in
+    let With : Bool → Store = λ b. if b then w.store else deferred_to l.home x w.store in
+    let made : scheduled_in x w.store ≡ deferred_to l.home x w.store = ap (λ (life : Option Life). scheduled_with life x w.store) life_is ∙ ap With unmarked in
+    let target : ℕ → World = λ n. scheduling w (At n (Scheduled loop y.name) ∷ []) x in
+    came (λ s stack t. Schedules s stack x t (life_of s.objects x)) w v depth target r
+    (λ old stack.
+    let s : State = at w old in
+    let t : State = at (target (length stack)) stack in
+    let defers : Defers s stack l.home x t = record {
+      loop = loop;
+      is_loop = sym named;
+      name = y.name;
+      named = ap (option_map (λ (z : Object). z.name)) lives.is;
+      gives = ap (λ (store : Store). at (record (noted w (At (length stack) (Scheduled loop y.name) ∷ [])) { store = store }) stack) made;
+    } in
+    let Once : Bool → Type 0 = λ b. DefersOnce s stack l.home x t b in
+    let Life_is : Option Life → Type 0 = λ life. Schedules s stack x t life in
+    subst Life_is (sym life_is) (subst Once (sym unmarked) defers))
+    (λ n p typed. subst (λ (store : Store). AreTyped p store.tree) (sym made) (typed-change p x scheduled w.store.tree (λ k. refl) typed))
+    (λ n o gone. sym (scheduled-seen w.store.tree x o) ∙ subst (λ (store : Store). IsDead store.tree o) made gone)
+    (λ n. refl) becomes
 
 module _ (p : Loaded) (w v : World) (depth : ℕ) (ends : Endpoints) where
   -- the connect is refused

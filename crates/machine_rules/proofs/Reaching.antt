@@ -45,8 +45,8 @@ ends-after {r = Ok _} x y = record { cases = reaches-then x y.cases }
 ends-after {r = Err f} x y = record { cases = stops-after x y.cases }
 
 -- where no object has died, none has that has a body
-pub none-spared : {old new : List Object} (stack : List Activation) → NoneDied old new → (o : ℕ) → IsTrue (has_body o stack) → IsDead new o → IsDead old o
-none-spared stack none o body gone = none o gone
+pub none-spared : (old new : List Object) (stack : List Activation) → NoneDied old new → (o : ℕ) → IsTrue (has_body o stack) → IsDead new o → IsDead old o
+none-spared old new stack none o body gone = none o gone
 
 pub same-spared : {old new : List Object} → new ≡ old → NoneDied old new
 same-spared e o gone = subst (λ (objects : List Object). IsDead objects o) e gone
@@ -57,7 +57,7 @@ reaches-low {p} {d} {h} {w} {v} {a} {b} step none low fits typed less some = rec
   runs = λ below e.
       let shallow : length (b ++ below) ≤ d = omega (arith, length-append b below, high below e, fits) in
       let no_higher : length (b ++ below) ≤ length (a ++ below) = omega (arith, length-append b below, length-append a below, low) in
-      let good : IsGood p d (at w (a ++ below)) (at v (b ++ below)) = record { well = record { arguments = λ higher. absurd (omega (arith, higher, no_higher)); values = typed }; spared = none-spared (a ++ below) none; shallow = shallow } in
+      let good : IsGood p d (at w (a ++ below)) (at v (b ++ below)) = record { well = record { arguments = λ higher. absurd (omega (arith, higher, no_higher)); values = typed }; spared = none-spared w.store.tree v.store.tree (a ++ below) none; shallow = shallow } in
       rules-one (step below e) good some less;
 }
 

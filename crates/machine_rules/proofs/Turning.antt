@@ -91,7 +91,7 @@ reaches-served {p} {d} {o} {m} {active} {w} {v} {turn} {q} {arguments} {line} {w
     let rule : Rule p (at w []) (at target stack) = turn-rule p w (at target stack) (Some q) is found (subst Of (sym item_is) (subst If (sym (life-of-lives begun.is.lives)) begins)) in
     let Over : List Activation → Type 0 = λ l. Rule p (at w l) (at target (top_of o m arguments w.store.connections.last begun.method.work ∷ l)) in
     let room : 0 < d = omega (arith, none_active, begun.room) in
-    let went : Reaches p d [] w [] target stack = reaches-high {active = []} {from = []} {to = []} refl (λ below e. subst Over (sym (none-below below e)) rule) (λ below e. none-spared below (λ k gone. gone)) (λ below. top-fits w.store.connections.last begun.method.work below fit) room typed refl some in
+    let went : Reaches p d [] w [] target stack = reaches-high {active = []} {from = []} {to = []} refl (λ below e. subst Over (sym (none-below below e)) rule) (λ below e. none-spared w.store.tree w.store.tree below (λ k gone. gone)) (λ below. top-fits w.store.connections.last begun.method.work below fit) room typed refl some in
     let Pushed : World → Work → ℕ → Type 0 = λ u k l. Reaches p d [] w [] u (top_of o m arguments l k ∷ []) in
     let target_is : v ≡ target = v_is ∙ ap (λ (y : Entry). taking w (y ∷ []) turn.home turn.limit) begun.is_line in
     subst (λ (u : World). Pushed u work last) (sym target_is) (subst (λ (k : Work). Pushed target k last) (sym begun.is_work) (subst (λ (l : ℕ). Pushed target begun.method.work l) (sym begun.is_last) went))
@@ -118,7 +118,7 @@ reaches-deleting {p} {d} {o} {w} {v} {turn} {q} is found item_is room typed some
     let rule : Rule p (at w []) (at target stack) = turn-rule p w (at target stack) (Some q) is found (subst Of (sym item_is) refl) in
     let Over : List Activation → Type 0 = λ l. Rule p (at w l) (at target (Destroy (Some o) [] ∷ l)) in
     let Family : World → Type 0 = λ u. Reaches p d [] w [] u (Destroy (Some o) [] ∷ []) in
-    subst Family (sym v_is) (reaches-high {active = []} {from = []} {to = []} refl (λ below e. subst Over (sym (none-below below e)) rule) (λ below e. none-spared below (λ k gone. gone)) (λ below. tt) room typed refl some)
+    subst Family (sym v_is) (reaches-high {active = []} {from = []} {to = []} refl (λ below e. subst Over (sym (none-below below e)) rule) (λ below e. none-spared w.store.tree w.store.tree below (λ k gone. gone)) (λ below. tt) room typed refl some)
 
 -- .. and is carried out
 pub advances-served : {p : Loaded} {d : ℕ} {active : List (Option ℕ)} {w v u : World} {from : List Activation} (r : Result (Unit {0}) Fault) → active ≡ [] → Reaches p d [] w [] v from → v.left ≡ w.left - 1 → 0 < w.left → Ends p d active v from u [] r → Advances p d [] w [] u [] r

@@ -1,10 +1,10 @@
 -- Where objects live, and what waits in event loops that change.
-use Rattle.std.proofs.Common.{◌≡◌, ℕ, zero, suc, ◌<◌, Bool, true, false, cond, List, [], ◌∷◌, ◌++◌, length, map, not, Option, Some, refl, sym, ap, ◌∙◌, arith}
+use Rattle.std.proofs.Common.{◌≡◌, ℕ, zero, suc, ◌<◌, Bool, true, false, cond, List, [], ◌∷◌, ◌++◌, length, map, not, Option, None, Some, refl, sym, ap, ◌∙◌, arith}
 use Rattle.std.specs.List.{AllByRecursion, find}
 use Rattle.std.specs.Option.{option_map, option_and_then}
 use Rattle.meta_model.specs.Loaded.{Loaded}
 use Rattle.event_loops.specs.declared.item.Posted.{Posted}
-use Rattle.event_loops.specs.Queues.{Loop, HasName, items_at, change, is_before, without_first, is_for, with_item, without_first_before, without_object}
+use Rattle.event_loops.specs.Queues.{Loop, HasName, name_at, items_at, change, is_before, without_first, is_for, with_item, without_first_before, without_object}
 use Rattle.object_tree.specs.declared.object.Object.{Object}
 use Rattle.object_tree.specs.declared.life.Life.{Life}
 use Rattle.object_tree.specs.Objects.{change_life, with_life}
@@ -42,6 +42,12 @@ pub loop-named : (loops : List Loop) (home : ℕ) → home < length loops → (n
 loop-named [] home h = absurd (omega (arith, h))
 loop-named (l ∷ loops) zero h = (l.name, refl)
 loop-named (l ∷ loops) (suc home) h = loop-named loops home (omega (arith, h))
+
+pub no-loop : (loops : List Loop) (home : ℕ) → home < length loops → None ≡ name_at loops home → ⊥
+no-loop loops home there none =
+    let named = loop-named loops home there in
+    let no : None ≡ Some named.0 = none ∙ named.1 in
+    absurd (cc no)
 
 -- ---- items
 

@@ -80,7 +80,7 @@ ends-written {p} {d} {o} {q} {h} {active} {w} {v} {u} {from} {to} {new} {line} {
     let target_is : v ≡ target = v_is ∙ ap (λ (e : Entry). set_in w (e ∷ []) o q new) is.is_line in
     let Family : World → Type 0 = λ k. Reaches p d h w from k (Update (places_of o q signal) ∷ to) in
     let went : Reaches p d h w from target (Update (places_of o q signal) ∷ to) =
-    reaches-high over (λ below e. written-next below sets c typed (one-more to below over e)) (λ below e. none-spared (from ++ below) (none-died-written w.store.tree o q new)) (λ below. tt) is.room (typed-written new c.is typed is.fits) refl some in
+    reaches-high over (λ below e. written-next below sets c typed (one-more to below over e)) (λ below e. none-spared w.store.tree (change_life o (written q new) w.store.tree) (from ++ below) (none-died-written w.store.tree o q new)) (λ below. tt) is.room (typed-written new c.is typed is.fits) refl some in
     ends-after (subst Family (sym target_is) went) (ends-lifted over rest)
 
 -- a property isn't written
@@ -96,7 +96,7 @@ stops-unwritten {o = o} {q = q} {active = active} {w = w} {from = from} {to = to
       at (written_world w (length active + 1) o c.object q c.property new) (Update (places_of o q signal) ∷ to ++ below),
       written-next below sets c typed (one-more to below over e),
       record { arguments = λ higher. tt; values = typed-written new c.is typed fits },
-      none-spared (from ++ below) (none-died-written w.store.tree o q new),
+      none-spared w.store.tree (change_life o (written q new) w.store.tree) (from ++ below) (none-died-written w.store.tree o q new),
       omega (arith, one-more to below over e, high),
     ))
 stops-unwritten over sets typed some short = stops-memory sets.goes_on some

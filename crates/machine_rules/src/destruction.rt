@@ -171,7 +171,9 @@ fn forget(world: &mut World, torn: &mut Vec<ObjectId>, object: ObjectId) -> Resu
     ensures { Forgets world.old torn.old.items object world.new torn.new.items result }
 {
     world.require_rule()?;
-    torn.push(object)?;
+    if torn.push(object).is_err() {
+        return Err(Fault::Memory);
+    }
     world.end_one(object);
     Ok(())
 }

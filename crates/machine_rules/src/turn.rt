@@ -39,32 +39,36 @@ impl Setting {
             return Ok(());
         };
         let below = Active::nothing();
-        let (object, method, arguments) = match &first.item {
+        let call = match &first.item {
             Item::Call {
                 object,
                 method,
                 arguments,
-            } => (*object, *method, arguments.as_slice()),
+            } => MethodCall {
+                object: *object,
+                method: *method,
+                arguments: arguments.as_slice(),
+            },
             Item::Deletion { object } => {
                 let object = *object;
                 world.take_unwritten(turn.home, turn.limit);
                 return self.run_deletion(world, &below, object);
             }
         };
-        let Some(_) = world.store.tree.life(object) else {
+        let Some(_) = world.store.tree.life(call.object) else {
             world.take_unwritten(turn.home, turn.limit);
             return Ok(());
-        };
-        let call = MethodCall {
-            object,
-            method,
-            arguments,
         };
         let (line, begun) = self.begun(world, &below, &call)?;
         let taken = world.take_before(line, turn.home, turn.limit)?;
         let Some(
             Posted {
-                item: Item::Call { arguments, .. },
+                item:
+                    Item::Call {
+                        object,
+                        method,
+                        arguments,
+                    },
                 ..
             },
         ) = taken

@@ -50,16 +50,16 @@ decreases-announce_living l = 6 * l.world.now.left + 1
 abbrev pub decreases-announce : goal.decreases-announce
 decreases-announce l = 6 * l.world.now.left + 0
 
-abbrev pub invariant-run_deletion-loop-torn : goal.invariant-run_deletion-loop-torn
-invariant-run_deletion-loop-torn l =
+abbrev pub invariant-run_deletion-loop-world : goal.invariant-run_deletion-loop-world
+invariant-run_deletion-loop-world l =
     record {
       reaches : Reaches l.self.meta l.self.depth l.active l.fn.world (Destroy (Some l.object) [] ∷ []) l.world (Destroy None (reverse l.torn.items) ∷ []);
       fewer : l.world.left ≤ l.fn.world.left;
       sound : IsSoundWorld l.self.meta l.world;
     }
 
-abbrev pub decreases-run_deletion-loop-torn : goal.decreases-run_deletion-loop-torn
-decreases-run_deletion-loop-torn l = l.world.left
+abbrev pub decreases-run_deletion-loop-world : goal.decreases-run_deletion-loop-world
+decreases-run_deletion-loop-world l = l.world.left
 
 abbrev pub invariant-run_body-loop-statement : goal.invariant-run_body-loop-statement
 invariant-run_body-loop-statement l =
