@@ -66,7 +66,11 @@ fn judge(
         return Err(NotAccepted::Refused(Refusal::NoMember));
     };
     let value = read_input(world, input)?;
-    if world.store.tree.has_type(&setting.meta, &value, declared.kind) {
+    if world
+        .store
+        .tree
+        .has_type(&setting.meta, &value, declared.kind)
+    {
         let place = Place {
             object: ObjectId::new(object),
             property,
@@ -91,12 +95,7 @@ fn property_of<'m>(meta: &'m Meta, class: usize, name: &Name) -> Option<(usize, 
 }
 
 /// Writes a property for an event that is accepted, and runs what it notifies.
-fn write(
-    setting: &Setting,
-    world: &mut World,
-    place: &Place,
-    value: Value,
-) -> Result<Answer, Fault>
+fn write(setting: &Setting, world: &mut World, place: &Place, value: Value) -> Result<Answer, Fault>
     requires depth { 0 < setting.now.depth }
     requires left { 0 < world.old.left }
     requires idle { world.old.turn ≡ None }

@@ -148,11 +148,7 @@ fn method_of<'m>(
 }
 
 /// Begins a method for an event that is accepted, and runs it.
-fn begin(
-    setting: &Setting,
-    world: &mut World,
-    call: &MethodCall<'_>,
-) -> Result<Answer, Fault>
+fn begin(setting: &Setting, world: &mut World, call: &MethodCall<'_>) -> Result<Answer, Fault>
     requires depth { 0 < setting.now.depth }
     requires left { 0 < world.old.left }
     requires idle { world.old.turn ≡ None }
