@@ -1,5 +1,5 @@
 -- Events that are applied one after the other.
-use Rattle.std.proofs.Common.{◌≡◌, ℕ, ◌⊎◌, true, false, List, [], ◌∷◌, ◌++◌, Option, None, Result, Ok, Err, refl, sym, ap, ◌∙◌, subst, inl, inr, append_assoc}
+use Rattle.std.proofs.Common.{◌≡◌, ℕ, ◌⊎◌, true, false, List, [], ◌∷◌, ◌++◌, None, Result, Ok, Err, refl, sym, ap, ◌∙◌, subst, inl, inr, append_assoc}
 use Rattle.std.specs.Result.{IsErrAnd}
 use Rattle.script_lang.specs.declared.event.Event.{Event}
 use Rattle.meta_model.specs.Loaded.{Loaded}
@@ -11,7 +11,6 @@ use Rattle.qt_runtime.specs.Causes.{Cause}
 use Rattle.qt_runtime.specs.Seen.{Seen, Completes, Halts, Stays, RunsAll}
 use Rattle.machine_state.specs.Worlds.{at}
 use Rattle.qt_runtime.proofs.Running.{runs-trans}
-use Rattle.qt_runtime.proofs.Taken.{idle}
 
 pub completes-none : {a : Seen} → a.stopped ≡ false → a.world.turn ≡ None → Completes a [] a
 completes-none went none = record { went = went; same = refl; whole = record { runs = done; ends = record { empty = refl; no_turn = none } } }

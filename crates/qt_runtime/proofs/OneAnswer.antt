@@ -1,5 +1,5 @@
 -- Judgements have at most one answer.
-use Rattle.std.proofs.Common.{◌≡◌, ℕ, List, [], ◌∷◌, Option, None, Some, slice_get, length, Result, Ok, Err, refl, sym, ap, ◌∙◌, subst, inl, inr}
+use Rattle.std.proofs.Common.{◌≡◌, ℕ, List, [], ◌∷◌, Option, None, Some, slice_get, length, refl, sym, ap, ◌∙◌, subst, inl, inr}
 use Rattle.std.proofs.lemmas.Bool.{cases_eq}
 use Rattle.meta_model.specs.declared.object.MetaMethod.{MetaMethod}
 use Rattle.meta_model.specs.declared.object.MetaObject.{MetaObject}
@@ -12,9 +12,8 @@ use Rattle.object_tree.specs.declared.object.Object.{Object}
 use Rattle.object_tree.specs.Adopting.{IsAdopted}
 use Rattle.script_lang.specs.declared.event.Input.{Input}
 use Rattle.script_lang.specs.declared.event.Input.TheVariants as input
-use Rattle.machine_state.specs.declared.refusal.Refusal.{Refusal}
 use Rattle.machine_rules.proofs.Fields.{class-unique}
-use Rattle.machine_rules.proofs.OneAnswer.{one-find, one-gives, one-becomes, one-then, numbered-is}
+use Rattle.machine_rules.proofs.OneAnswer.{one-find, one-gives, one-then, numbered-is}
 use Rattle.machine_rules.specs.Judgement.{Numbered, HasOneAnswer}
 use Rattle.qt_runtime.specs.events.Named.{living}
 use Rattle.qt_runtime.specs.events.Values.{value, values}

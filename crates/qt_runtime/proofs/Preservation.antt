@@ -12,7 +12,6 @@ use Rattle.meta_model.specs.declared.object.ValueType.{ValueType}
 use Rattle.meta_model.specs.declared.object.Work.{Work}
 use Rattle.meta_model.specs.declared.object.Work.TheVariants.{Signal, Slot}
 use Rattle.meta_model.specs.Loaded.{Loaded}
-use Rattle.meta_model.specs.Members.{IsClass, Below}
 use Rattle.meta_model.specs.Sound.{IsSound, IsSoundWork, IsSoundBody, AreSound, none_sound, next_sound}
 use Rattle.connections.specs.declared.connection.Connection.{Connection}
 use Rattle.object_tree.specs.declared.life.Life.{Life}
@@ -51,7 +50,7 @@ use Rattle.script_lang.specs.declared.event.Input.{Input}
 use Rattle.machine_state.specs.Accepting.{accepted}
 use Rattle.qt_runtime.specs.declared.events.invoke.Invocation.{Invocation}
 use Rattle.qt_runtime.specs.declared.events.invoke.Invocation.TheVariants.{Emit as EmitIt, Call as CallIt}
-use Rattle.machine_rules.specs.Judgement.{Numbered, Gives, found as finds, holds as so, becomes, gives as just, goes_on}
+use Rattle.machine_rules.specs.Judgement.{found as finds, holds as so, becomes, gives as just, goes_on}
 use Rattle.qt_runtime.specs.Takes.{judged, Takes, accepts, refuses}
 use Rattle.qt_runtime.specs.events.Block.{block}
 use Rattle.qt_runtime.specs.events.Later.{later}
@@ -61,7 +60,6 @@ use Rattle.machine_state.specs.Connections.{joins_these}
 use Rattle.machine_state.proofs.Due.{all-removed}
 use Rattle.qt_runtime.proofs.Judged.{given-is}
 use Rattle.qt_runtime.specs.events.Invoke.{invoke}
-use Rattle.qt_runtime.specs.events.Named.{IsLiving}
 use Rattle.qt_runtime.proofs.Judging.Naming.{living-is, living-object}
 use Rattle.machine_rules.specs.Good.{has_body, ArgumentsFit, TopFits, IsWell, Spares}
 use Rattle.qt_runtime.specs.Runs.{Runs, done, rules, takes}

@@ -1,5 +1,5 @@
 -- Why the code doesn't accept an event (docs/machine.md, "Events").
-use Rattle.std.specs.Prelude.{Result, Ok, Err}
+use Rattle.std.specs.Prelude.{Result, Err}
 use Rattle.machine_state.specs.declared.refusal.Refusal.{Refusal}
 use Rattle.qt_runtime.specs.declared.judgement.NotAccepted.{NotAccepted}
 use Rattle.qt_runtime.specs.declared.judgement.NotAccepted.TheVariants.{Refused, Memory}

@@ -1,5 +1,5 @@
 -- That an event has one answer (docs/machine.md, "Events"), and a program one run (docs/machine.md, "Runs").
-use Rattle.std.specs.Prelude.{◌≡◌, ℕ, ◌⊎◌, List, Result}
+use Rattle.std.specs.Prelude.{◌≡◌, ℕ, ◌⊎◌, List}
 use Rattle.meta_model.specs.Loaded.{Loaded}
 use Rattle.meta_model.specs.Sound.{IsSound}
 use Rattle.script_lang.specs.declared.event.Event.{Event}

@@ -1,5 +1,5 @@
 -- `adopt`.
-use Rattle.std.proofs.Common.{◌≡◌, ◌<◌, ℕ, List, [], Result, Ok, Err, MatchResult, refl, sym, subst}
+use Rattle.std.proofs.Common.{◌≡◌, ℕ, List, [], Result, Ok, Err, MatchResult, refl, sym, subst}
 use Rattle.meta_model.specs.Loaded.{Loaded}
 use Rattle.object_tree.specs.declared.fault.AdoptFault.{AdoptFault}
 use Rattle.object_tree.specs.declared.life.Life.{Life}

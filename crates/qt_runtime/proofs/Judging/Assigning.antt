@@ -21,7 +21,7 @@ use Rattle.qt_runtime.specs.events.Assign.{assign, IsPropertyOf}
 use Rattle.qt_runtime.specs.events.Named.{IsLiving}
 use Rattle.qt_runtime.specs.events.Values.{value}
 use Rattle.qt_runtime.proofs.Judged.{then-ends, then-on}
-use Rattle.qt_runtime.proofs.Judging.Naming.{living-ok, living-object}
+use Rattle.qt_runtime.proofs.Judging.Naming.{living-ok}
 
 -- the value is of the type of a property that is found
 pub fits-field : {p : Loaded} {objects : List Object} {o q : ℕ} {v : Value} {x : Object} {property : MetaProperty} → ValueFits p objects o q v → IsField p objects o q x property → ReadsAs p objects v property.kind
@@ -43,13 +43,3 @@ module _ (p : Loaded) (w : World) (name property : List ℕ) (i : Input) (o : Nu
 
       pub writes-to : ReadsAs p w.store.tree v q.it.kind → WritesTo p w o.number q.number v (Set name property i)
       writes-to fits = record { effect = λ t writes. goes_on o (living-ok o lives) (goes_on q (found has) (goes_on v is (goes_on tt (holds fits) (becomes writes)))) }
-
-      pub value-fits : ReadsAs p w.store.tree v q.it.kind → ValueFits p w.store.tree o.number q.number v
-      value-fits fits =
-          let object = living-object o lives in
-          record {
-            object = object.0;
-            property = q.it;
-            is = record { life = o.it; lives = object.1; class = has.is.class; is_class = has.is.is_class; is_property = has.is.is };
-            reads = fits;
-          }

@@ -12,7 +12,6 @@ use Rattle.machine_state.specs.declared.refusal.Refusal.TheVariants.{NoMember, B
 use Rattle.machine_state.specs.declared.world.World.{World}
 use Rattle.machine_state.specs.State.{State}
 use Rattle.machine_state.specs.Worlds.{at}
-use Rattle.machine_rules.specs.Good.{ArgumentsFit}
 use Rattle.machine_rules.proofs.Fields.{method-unique}
 use Rattle.qt_runtime.specs.declared.events.invoke.Invocation.{Invocation}
 use Rattle.qt_runtime.specs.declared.events.invoke.Invocation.TheVariants.{Emit, Call}
@@ -25,7 +24,7 @@ use Rattle.qt_runtime.specs.events.Invoke.{invoke, May, IsAskedOf}
 use Rattle.qt_runtime.specs.events.Named.{IsLiving}
 use Rattle.qt_runtime.specs.events.Values.{values}
 use Rattle.qt_runtime.proofs.Judged.{then-ends, then-on}
-use Rattle.qt_runtime.proofs.Judging.Naming.{living-ok, living-object}
+use Rattle.qt_runtime.proofs.Judging.Naming.{living-ok}
 
 -- an event that asks something is judged as what it asks
 pub judged-invoking : (p : Loaded) (s : State) {r : Result State Refusal} (a : Invocation) (name called : List ℕ) (inputs : List Input) → invoke p s a name called inputs r → judged p s (invoking a name called inputs) r
@@ -57,8 +56,3 @@ module _ (p : Loaded) (w : World) (a : Invocation) (name called : List ℕ) (inp
 
       pub asks-for : ReadAs p w.store.tree vs m.it.kinds → AsksFor p w o.number m.number vs (invoking a name called inputs)
       asks-for fit = record { effect = λ t begins. judged-invoking p (at w []) a name called inputs (goes_on o (living-ok o lives) (goes_on m (found has) (goes_on vs are (goes_on tt (holds fit) (becomes begins))))) }
-
-      pub arguments-fit : ReadAs p w.store.tree vs m.it.kinds → ArgumentsFit p w.store.tree o.number m.number vs
-      arguments-fit fit =
-          let object = living-object o lives in
-          record { object = object.0; method = m.it; is = record { life = o.it; lives = object.1; is_method = has.is }; typed = fit }

@@ -1,5 +1,5 @@
 -- `loop` and `turn`.
-use Rattle.std.proofs.Common.{ℕ, List, [], ◌∷◌, Option, None, Result, Ok, Err, OnOk, MatchResult, ◌≡◌, ◌-◌, ◌<◌, sym, ap, subst, refl, ◌∙◌}
+use Rattle.std.proofs.Common.{ℕ, List, [], None, Result, Ok, Err, OnOk, MatchResult, ◌≡◌, sym, ap, subst}
 use Rattle.meta_model.specs.Loaded.{Loaded}
 use Rattle.event_loops.specs.Queues.{IsNamed, IsTaken, HasName, with_loop}
 use Rattle.script_lang.specs.declared.event.Event.TheVariants.{Loop, Turn}
@@ -13,7 +13,7 @@ use Rattle.machine_state.specs.Worlds.{at, begun_turn, accepting_turn}
 use Rattle.object_tree.specs.Typed.{AreTyped}
 use Rattle.machine_rules.specs.Reaches.{Ends}
 use Rattle.machine_rules.specs.Judgement.{found, missing, holds, fails, gives, goes_on, ends}
-use Rattle.qt_runtime.specs.Takes.{judged, Takes, accepts}
+use Rattle.qt_runtime.specs.Takes.{judged, accepts}
 use Rattle.qt_runtime.specs.Taking.{Took, Halted}
 use Rattle.qt_runtime.proofs.Taken.{idle, Ready, good-quiet, took-turn}
 

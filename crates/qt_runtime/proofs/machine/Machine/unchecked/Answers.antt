@@ -1,7 +1,4 @@
-use Rattle.std.proofs.Common.{◌≡◌, refl, sym, subst, arith}
-use Rattle.machine_state.specs.declared.world.World.{World}
-use Rattle.machine_state.specs.Worlds.{untouched}
-use Rattle.qt_runtime.specs.Taking.{MachineInvariant}
+use Rattle.std.proofs.Common.{refl, arith}
 use Rattle.qt_runtime.proofs.Keeping.{untouched-sound}
 use Rattle.qt_runtime.proofs.machine.Machine.unchecked.Goals as goal
 
