@@ -160,7 +160,7 @@ heard-kinds {p} objects o g {a} {b} x y heard = by_life (life_of objects o) refl
         sym first.takes ∙ ap (λ (k : MetaMethod). k.kinds) (method-unique first.is second.is) ∙ second.takes
 
 -- what lives has a life
-has-life : (objects : List Object) (o : ℕ) → is_living objects o ≡ true → (x : Object) × (l : Life) × Lives objects o x l
+pub has-life : (objects : List Object) (o : ℕ) → is_living objects o ≡ true → (x : Object) × (l : Life) × Lives objects o x l
 has-life objects o e = by_life (life_of objects o) refl e
   where
     by_life : (there : Option Life) → life_of objects o ≡ there → is_some there ≡ true → (x : Object) × (l : Life) × Lives objects o x l

@@ -57,8 +57,8 @@ emission-sends {objects = objects} {o = o} sound (of_dead gone is typed) = recor
 
 -- ---- what a living object's method takes
 
-pub taken-fits : {p : Loaded} {objects : List Object} {o m : ℕ} {x : Object} {l : Life} {arguments : List Value} → Lives objects o x l → TakesThese p objects o m arguments → ArgumentsFit p objects o m arguments
-taken-fits {p} {objects} {x = x} {l = l} {arguments = arguments} lives t =
+pub living-fits : {p : Loaded} {objects : List Object} {o m : ℕ} {x : Object} {l : Life} {arguments : List Value} → Lives objects o x l → TakesThese p objects o m arguments → ArgumentsFit p objects o m arguments
+living-fits {p} {objects} {x = x} {l = l} {arguments = arguments} lives t =
     let d = t.takes.living x l lives in
     record {
       object = x;

@@ -1,6 +1,6 @@
 -- How deletions are carried out.
 use Rattle.std.proofs.Common.{◌≡◌, ◌≢◌, ⊎_elim, ◌⊎◌, inl, inr, ℕ, zero, suc, ◌+◌, ◌-◌, ◌<◌, ◌≤◌, Bool, true, false, IsTrue, List, [], ◌∷◌, ◌++◌, length, take, reverse, cond, Result, Ok, Err, Option, Some, None, slice_get, refl, sym, ap, ◌∙◌, subst, arith, length-append}
-use Rattle.std.specs.Prelude.{is_some, MatchOption}
+use Rattle.std.specs.Prelude.{is_some, MatchOption, OnOk}
 use Rattle.std.specs.List.{find}
 use Rattle.std.specs.Option.{option_map}
 use Rattle.std.specs.Result.{IsErrAnd}
@@ -36,7 +36,10 @@ use Rattle.machine_rules.specs.Reaches.{Reaches, StopsIn, Ends, Deletes, Kills, 
 use Rattle.machine_rules.specs.Rules.{Rule}
 use Rattle.machine_rules.specs.There.{IsDead, NoneDied}
 use Rattle.machine_rules.proofs.Dying.{living-not-dead, dead-no-life, died-dead, other-seen}
-use Rattle.machine_rules.proofs.Beginning.{one-more}
+use Rattle.machine_rules.proofs.Beginning.{one-more, has-life}
+use Rattle.machine_rules.proofs.Declared.{emission-sends}
+use Rattle.machine_rules.specs.Sound.{SendsThese}
+use Rattle.meta_model.specs.Sound.{IsSound}
 use Rattle.machine_rules.proofs.Frames.{high, has-shown}
 use Rattle.machine_rules.proofs.Reaching.{none-spared, reaches-low, reaches-high, reaches-then, stops-after, stops-as, stops-memory, stops-steps, stops-deep, stops-fatal, ends-after, ends-left, ends-lifted, not-idle}
 
@@ -133,19 +136,32 @@ module _ {p : Loaded} {d : ℕ} {active : List (Option ℕ)} {w : World} {next :
       (t, died-next below kills named refl, well, unbodied-spared w.store.tree x (Destroy next before ∷ below) (bodiless x below e none), omega (arith, high below e, deep)))
 
 -- what lives has a name
-pub living-named : (objects : List Object) (o : ℕ) → is_living objects o ≡ true → None ≡ name_of objects o → ⊥
-living-named objects o lives none = by_object (slice_get objects o) refl none
-  where
-    by_object : (there : Option Object) → slice_get objects o ≡ there → None ≡ option_map (λ (x : Object). x.name) there → ⊥
-    by_object None is e =
-        let no : is_some (life_of objects o) ≡ false = ap (λ (there : Option Object). is_some (life_in there)) is in
-        let both : true ≡ false = sym lives ∙ no in
-        absurd (cc both)
-      where
-        life_in : Option Object → Option Life
-        life_in None = None
-        life_in (Some x) = x.life
-    by_object (Some x) is e = absurd (cc e)
+pub living-name : (objects : List Object) (o : ℕ) → is_living objects o ≡ true → (name : List ℕ) × (name_of objects o ≡ Some name)
+living-name objects o lives =
+    let there = has-life objects o lives in
+    (there.0.name, ap (option_map (λ (x : Object). x.name)) there.2.is)
+
+-- a fact that needs no answer
+pub on-ok : {P : Type 0} (r : Result (Unit {0}) Fault) → P → OnOk r P
+on-ok (Ok _) p = p
+on-ok (Err f) p = tt
+
+-- the lines that are written down where it dies
+pub died-as : {v : World} {n m k : ℕ} {name a : List ℕ} {line : Entry} (w : World) (x : ℕ) → v ≡ dying w (At n (Died a) ∷ line ∷ []) x → a ≡ name → line ≡ entry_of_destroyed (m + 1) name → n ≡ k → m ≡ k → v ≡ died_world w k x name
+died-as {v} {n} {m} {k} {name} {a} {line} w x v_is a_is line_is n_is m_is =
+    v_is
+    ∙ ap (λ (l : List ℕ). dying w (At n (Died l) ∷ line ∷ []) x) a_is
+    ∙ ap (λ (e : Entry). dying w (At n (Died name) ∷ e ∷ []) x) line_is
+    ∙ ap (λ (i : ℕ). dying w (At i (Died name) ∷ entry_of_destroyed (m + 1) name ∷ []) x) n_is
+    ∙ ap (λ (i : ℕ). dying w (At k (Died name) ∷ entry_of_destroyed (i + 1) name ∷ []) x) m_is
+
+-- .. in a world that is known to be that one
+pub died-emits : {p : Loaded} {v : World} (w : World) (n x : ℕ) {name : List ℕ} → IsSound p → name_of w.store.tree x ≡ Some name → v ≡ died_world w n x name → SendsThese p v.store.tree x DESTROYED (value.Ref None ∷ [])
+died-emits {p} w n x program named v_is =
+    subst (λ (u : World). SendsThese p u.store.tree x DESTROYED (value.Ref None ∷ [])) (sym v_is) (emission-sends program (death-fits p w.store.tree x named))
+
+pub died-gone : {v : World} (w : World) (n x : ℕ) {name : List ℕ} → name_of w.store.tree x ≡ Some name → v ≡ died_world w n x name → IsDead v.store.tree x
+died-gone w n x named v_is = subst (λ (u : World). IsDead u.store.tree x) (sym v_is) (died-dead w.store.tree x named)
 
 -- what has died stays dead
 pub dead-after : {p : Loaded} {w v : World} (x : ℕ) → IsDead w.store.tree x → KeepsWorld p w v → is_living v.store.tree x ≡ false
@@ -186,6 +202,12 @@ module _ {p : Loaded} {d : ℕ} {active : List (Option ℕ)} {w v : World} (room
       subst Family (sym ticks.1) (reaches-low {b = Destroy None torn ∷ []}
       (λ below e. let Next : Option ℕ → Type 0 = λ c. ChildRule (at w (Destroy None (parent ∷ torn) ∷ below)) below (at (ticked w) (Destroy None torn ∷ below)) parent torn c in subst Next (sym none) refl)
       (λ o dead. dead) (omega arith) (omega (arith, room)) typed refl ticks.0)
+
+-- no rule is left
+pub stops-ticked : {p : Loaded} {d : ℕ} {active : List (Option ℕ)} {w v : World} {a : Activation} (f : Fault) → Ticks w v (Err f) → StopsIn p d active w (a ∷ []) v f
+stops-ticked {p} {d} {active} {w} {v} {a} f ticks =
+    let Family : World → Type 0 = λ u. StopsIn p d active w (a ∷ []) u f in
+    subst Family (sym ticks.2) (stops-as ticks.1 (stops-steps ticks.0))
 
 -- it isn't forgotten, since no rule is left or memory was refused
 pub stops-forgetting : {p : Loaded} {d : ℕ} {active : List (Option ℕ)} {w v : World} {a : Activation} (x : ℕ) (torn after : List ℕ) (f : Fault) → Forgets w torn x v after (Err f) → StopsIn p d active w (a ∷ []) v f
@@ -242,7 +264,7 @@ found-first test (x ∷ xs) first e passes =
     let At : Bool → Type 0 = λ b. cond b (Some x) (find test xs) ≡ first in
     subst At (sym here) (sym e)
 
-child-lives : (objects : List Object) (parent o : ℕ) → IsChild objects parent o → is_living objects o ≡ true
+pub child-lives : (objects : List Object) (parent o : ℕ) → IsChild objects parent o → is_living objects o ≡ true
 child-lives objects parent o child = ap (λ (life : Option Life). is_some life) (life-of-lives child.lives)
 
 -- what the code finds is the first living child of the latest that is torn down
@@ -257,3 +279,35 @@ next-child objects torn front parent found e is lives =
     by_found (Some y) some last x k =
         let same : y ≡ x = cc k in
         subst (λ (o : ℕ). is_living objects o ≡ true) same (child-lives objects some.parent y some.child)
+
+pub next-lives : (objects : List Object) (torn : List ℕ) (found : Option ℕ) (child : ℕ) → MatchOption found (NoneIsNext objects torn) (IsNext objects torn) → found ≡ Some child → is_living objects child ≡ true
+next-lives objects torn None child none e = absurd (cc e)
+next-lives objects torn (Some y) child next e =
+    let same : y ≡ child = cc e in
+    subst (λ (o : ℕ). is_living objects o ≡ true) same (child-lives objects next.parent y next.child)
+
+module _ {p : Loaded} (w : World) (torn : List ℕ) (some : 0 < length torn) (found : Option ℕ) (is : found ≡ next_in w.store.tree torn) (lives : MatchOption found (NoneIsNext w.store.tree torn) (IsNext w.store.tree torn)) where
+  -- .. it may die by the next rule
+  pub kills-next : (child : ℕ) → found ≡ Some child → Kills p w None (reverse torn) (reverse torn) child
+  kills-next child e =
+      let q = ends-with torn some in
+      let Over : List ℕ → Type 0 = λ l. Kills p w None l l child in
+      subst Over (sym (turned torn q.0 q.1 q.2)) (kills-child w q.1 child (reverse q.0) (next-child w.store.tree torn q.0 q.1 found q.2 is lives ∙ e))
+
+  -- .. or the latest has none left
+  pub reaches-next : {d : ℕ} {active : List (Option ℕ)} {v : World} (rest : List ℕ) → length active < d → AreTyped p w.store.tree → found ≡ None → rest ≡ take (length torn - 1) torn → Ticks w v (Ok tt) → Reaches p d active w (Destroy None (reverse torn) ∷ []) v (Destroy None (reverse rest) ∷ [])
+  reaches-next {d} {active} {v} rest room typed e rest_is ticks =
+      let q = ends-with torn some in
+      let From : List ℕ → List ℕ → Type 0 = λ l m. Reaches p d active w (Destroy None l ∷ []) v (Destroy None (reverse m) ∷ []) in
+      let went : From (q.1 ∷ reverse q.0) q.0 = reaches-torn room typed q.1 (reverse q.0) (next-child w.store.tree torn q.0 q.1 found q.2 is lives ∙ e) ticks in
+      subst (λ (l : List ℕ). From l rest) (sym (turned torn q.0 q.1 q.2)) (subst (λ (m : List ℕ). From (q.1 ∷ reverse q.0) m) (sym (popped-is torn rest q.0 q.1 q.2 rest_is)) went)
+
+-- a dead object is forgotten, and is the latest that is torn down
+pub reaches-latest : {p : Loaded} {d : ℕ} {active : List (Option ℕ)} {w v : World} (x : ℕ) (torn after : List ℕ) → length active < d → AreTyped p w.store.tree → is_living w.store.tree x ≡ false → Forgets w torn x v after (Ok tt) → Reaches p d active w (Destroy (Some x) (reverse torn) ∷ []) v (Destroy None (reverse after) ∷ [])
+reaches-latest {p} {d} {active} {w} {v} x torn after room typed gone forgets =
+    let To : List ℕ → Type 0 = λ l. Reaches p d active w (Destroy (Some x) (reverse torn) ∷ []) v (Destroy None l ∷ []) in
+    subst To (sym (turned after torn x forgets.2)) (reaches-forgotten room typed x (reverse torn) gone forgets.0 forgets.1)
+
+-- by which a rule is used
+pub forgets-fewer : {v : World} (w : World) (x : ℕ) (torn after : List ℕ) → Forgets w torn x v after (Ok tt) → v.left < w.left
+forgets-fewer w x torn after forgets = omega (arith, forgets.0, ap (λ (u : World). u.left) forgets.1)

@@ -2,7 +2,8 @@
 use Rattle.std.proofs.Common.{◌≡◌, ◌≢◌, ⊎_elim, ◌⊎◌, inl, inr, ℕ, zero, suc, ◌<◌, ◌≤◌, eqb, ◌||◌, Bool, true, false, IsTrue, List, [], ◌∷◌, length, Option, None, Some, slice_get, refl, sym, ap, ◌∙◌, subst, arith}
 use Rattle.std.specs.Prelude.{is_some}
 use Rattle.std.specs.List.{find}
-use Rattle.std.specs.Option.{option_map, option_and_then}
+use Rattle.std.specs.Option.{option_map, option_and_then, option_copied}
+use denote.Bor.{Bor}
 use Rattle.std.proofs.lemmas.Bool.{cases_eq, eqb-true}
 use Rattle.std.proofs.lemmas.Option.{slice_get_within}
 use Rattle.object_tree.specs.declared.life.Life.{Life}
@@ -69,6 +70,15 @@ dead-created objects o gone = by_object (slice_get objects o) refl gone
 -- .. and so was what lives
 pub lives-created : {objects : List Object} {o : ℕ} {x : Object} {l : Life} → Lives objects o x l → o < length objects
 lives-created {objects} {o} {x} lives = slice_get_within objects o x lives.is
+
+-- what isn't found is none, behind a test
+pub copied-none : {X : Type 0} (found : Option (Bor X)) (b : Bool) → b ≡ is_some found → b ≡ false → None ≡ option_copied found
+copied-none None b e f = refl
+copied-none (Some x) b e f = let no : true ≡ false = sym e ∙ f in absurd (cc no)
+
+pub copied-living : (objects : List Object) (o : ℕ) (found : Option (Bor Life)) (b : Bool) → b ≡ is_some found → b ≡ true → option_copied found ≡ life_of objects o → is_living objects o ≡ true
+copied-living objects o None b e f is = let no : false ≡ true = sym e ∙ f in absurd (cc no)
+copied-living objects o (Some x) b e f is = ap (λ (life : Option Life). is_some life) (sym is)
 
 -- ---- one dies
 

@@ -22,7 +22,7 @@ use Rattle.machine_state.specs.Worlds.{at, with_queues, taking, taking_unwritten
 use Rattle.machine_rules.specs.Active.{shows}
 use Rattle.machine_rules.specs.Good.{ArgumentsFit}
 use Rattle.object_tree.specs.Typed.{AreTyped}
-use Rattle.machine_rules.specs.Reaches.{Reaches, StopsIn, Ends, Advances, IsBegun, IsBarred, top_of}
+use Rattle.machine_rules.specs.Reaches.{IsCalled, Reaches, StopsIn, Ends, Advances, IsBegun, IsBarred, top_of}
 use Rattle.machine_rules.specs.Rules.{Rule, TurnRule, Serves, Delivers, Begins, BeginsIf}
 use Rattle.machine_rules.specs.Runs.{done}
 use Rattle.machine_rules.specs.Sound.{Waits, IsSoundWorld}
@@ -30,6 +30,9 @@ use Rattle.machine_rules.proofs.Beginning.{begun_world, begins-there, top-fits}
 use Rattle.machine_rules.proofs.Keeps.{reaches-keeps}
 use Rattle.machine_rules.proofs.Reaching.{none-spared, reaches-low, reaches-high, reaches-then, stops-after, ends-unchanged}
 use Rattle.machine_rules.proofs.Bodies.{advances-left}
+use Rattle.machine_state.specs.Connections.{is_living}
+use Rattle.machine_rules.proofs.Beginning.{has-life}
+use Rattle.machine_rules.proofs.Declared.{living-fits}
 use Rattle.machine_rules.proofs.Waiting.{length-change, housed-same, all-taken, first-waits}
 
 -- ---- while a turn goes on
@@ -137,6 +140,28 @@ pub first-fits : {p : Loaded} {w : World} {q : Posted} (home number : ℕ) (item
 first-fits {p} {w} {q} home number item sound found item_is =
     let Fit : Item → Type 0 = λ i. Waits p w.store.tree i in
     subst Fit item_is (first-waits p w.store.tree w.store.loops.loops home number q sound.is.waiting (sym found))
+
+-- .. which is a call of a living object
+same-first : {w : World} {turn : Turn} {q : Posted} (called : IsCalled w turn) → Some q ≡ find (is_before turn.limit) (items_at w.store.loops.loops turn.home) → q ≡ called.first
+same-first {q = q} called found = let both : Some q ≡ Some called.first = found ∙ called.found in cc both
+
+pub called-there : {w : World} {turn : Turn} → IsCalled w turn → None ≡ find (is_before turn.limit) (items_at w.store.loops.loops turn.home) → ⊥
+called-there called none = let both : None ≡ Some called.first = none ∙ called.found in absurd (cc both)
+
+called-item : {w : World} {turn : Turn} {q : Posted} {item : Item} (called : IsCalled w turn) → Some q ≡ find (is_before turn.limit) (items_at w.store.loops.loops turn.home) → q.item ≡ item → item ≡ Call called.object called.method called.arguments
+called-item called found item_is = sym item_is ∙ ap (λ (r : Posted). r.item) (same-first called found) ∙ called.is
+
+pub called-is : {w : World} {turn : Turn} {q : Posted} {o : ℕ} → IsCalled w turn → Some q ≡ find (is_before turn.limit) (items_at w.store.loops.loops turn.home) → q.item ≡ Deletion o → ⊥
+called-is {o = o} called found item_is =
+    let both : Deletion o ≡ Call called.object called.method called.arguments = called-item called found item_is in
+    absurd (cc both)
+
+pub called-fits : {p : Loaded} {w : World} {turn : Turn} {q : Posted} {o m : ℕ} {arguments : List Value} → IsCalled w turn → IsSoundWorld p w → Some q ≡ find (is_before turn.limit) (items_at w.store.loops.loops turn.home) → q.item ≡ Call o m arguments → ArgumentsFit p w.store.tree o m arguments
+called-fits {w = w} {turn = turn} {o = o} {m = m} {arguments = arguments} called sound found item_is =
+    let both : Call o m arguments ≡ Call called.object called.method called.arguments = called-item called found item_is in
+    let same : o ≡ called.object = cc both in
+    let there = has-life w.store.tree o (ap (is_living w.store.tree) same ∙ called.lives) in
+    living-fits there.2 (first-fits turn.home turn.limit (Call o m arguments) sound found item_is)
 
 -- the world without the first item stays sound
 pub taken-sound : {p : Loaded} {v : World} (w : World) (entries : List Entry) (home number : ℕ) → v ≡ taking w entries home number → IsSoundWorld p w → IsSoundWorld p v

@@ -1,5 +1,5 @@
 -- What a call of the machine's code does, whatever activations are below (docs/machine.md, "Runs").
-use Rattle.std.specs.Prelude.{◌≡◌, ◌≢◌, ℕ, ◌+◌, ◌-◌, ◌<◌, ◌≤◌, ◌⊎◌, List, ◌++◌, length, Result, Ok, Err, MatchResult, Bool, Option, Some, ◌∷◌, [], false}
+use Rattle.std.specs.Prelude.{◌≡◌, ◌≢◌, ℕ, ◌+◌, ◌-◌, ◌<◌, ◌≤◌, ◌⊎◌, List, ◌++◌, length, Result, Ok, Err, MatchResult, Bool, Option, Some, ◌∷◌, [], true, false}
 use Rattle.meta_model.specs.Loaded.{Loaded}
 use Rattle.signatures.specs.declared.value.Value.{Value}
 use Rattle.signatures.specs.declared.value.Value.TheVariants as value
@@ -10,7 +10,10 @@ use Rattle.expressions.specs.declared.evaluation.EvalFault.{EvalFault}
 use Rattle.expressions.specs.declared.evaluation.EvalFault.TheVariants.{BadType, Memory as NoMemory}
 use Rattle.connections.specs.declared.connection.Connection.{Connection}
 use Rattle.event_loops.specs.declared.item.Item.TheVariants.{Call}
-use Rattle.event_loops.specs.Queues.{HasName}
+use Rattle.event_loops.specs.declared.item.Posted.{Posted}
+use Rattle.event_loops.specs.Queues.{HasName, items_at, is_before}
+use Rattle.machine_state.specs.declared.turn.Turn.{Turn}
+use Rattle.std.specs.List.{find}
 use Rattle.machine_state.specs.declared.entry.Entry.{Entry}
 use Rattle.machine_state.specs.declared.entry.Entry.TheVariants.{At}
 use Rattle.machine_state.specs.declared.entry.Happening.TheVariants as happening
@@ -19,7 +22,7 @@ use Rattle.object_tree.specs.declared.object.Object.{Object}
 use Rattle.machine_state.specs.declared.fault.Fault.{Fault}
 use Rattle.machine_state.specs.declared.fault.Fault.TheVariants.{BadType as IllTyped, TooDeep, Steps, Memory}
 use Rattle.machine_state.specs.declared.world.World.{World}
-use Rattle.machine_state.specs.Connections.{is_silent}
+use Rattle.machine_state.specs.Connections.{is_silent, is_living}
 use Rattle.machine_state.specs.State.{State, Activation, Body, Emit, Destroy, IsIdle}
 use Rattle.machine_state.specs.Objects.{all_shown, home_of}
 use Rattle.texts.specs.declared.connection.ConnectionType.{ConnectionType}
@@ -230,3 +233,13 @@ SchedulesIn w depth x v result =
 abbrev pub Forgets : World → List ℕ → ℕ → World → List ℕ → Result (Unit {0}) Fault → Type 0
 Forgets w torn x v after (Ok went) = (0 < w.left) × (v ≡ ending w x) × (after ≡ torn ++ x ∷ [])
 Forgets w torn x v after (Err fault) = (v ≡ w) × ((w.left ≡ 0) × (fault ≡ Steps) ⊎ (0 < w.left) × (fault ≡ Memory))
+
+-- the first item that a turn may deliver is a call of a living object
+pub record IsCalled (w : World) (turn : Turn) : Type 0 where
+  pub first : Posted
+  pub found : find (is_before turn.limit) (items_at w.store.loops.loops turn.home) ≡ Some first
+  pub object : ℕ
+  pub method : ℕ
+  pub arguments : List Value
+  pub is : first.item ≡ Call object method arguments
+  pub lives : is_living w.store.tree object ≡ true

@@ -2,7 +2,7 @@
 
 ghost use Rattle.std.specs.Prelude.{◌≡◌, ◌<◌, [], Some, None, OnOk};
 ghost use Rattle.machine_rules.specs.Sound.{IsSoundWorld};
-ghost use Rattle.machine_rules.specs.Reaches.{Ends, Advances};
+ghost use Rattle.machine_rules.specs.Reaches.{Ends, Advances, IsCalled};
 
 use crate::active::Active;
 use crate::method_call::MethodCall;
@@ -38,37 +38,54 @@ impl Setting {
             world.end_turn();
             return Ok(());
         };
-        let below = Active::nothing();
-        let call = match &first.item {
-            Item::Call {
-                object,
-                method,
-                arguments,
-            } => MethodCall {
-                object: *object,
-                method: *method,
-                arguments: arguments.as_slice(),
-            },
+        match &first.item {
+            Item::Call { object, .. } => {
+                if world.store.tree.life(*object).is_some() {
+                    return self.serve_call(world, turn);
+                }
+                world.take_unwritten(turn.home, turn.limit);
+                Ok(())
+            }
             Item::Deletion { object } => {
                 let object = *object;
                 world.take_unwritten(turn.home, turn.limit);
-                return self.run_deletion(world, &below, object);
+                self.run_deletion(world, &Active::nothing(), object)
             }
+        }
+    }
+
+    /// Delivers the first item, which is a call of a living object, and runs it to its end.
+    fn serve_call(&self, world: &mut World, turn: Turn) -> Result<(), Fault>
+        requires room { 0 < self.now.depth }
+        requires sound { IsSoundWorld self.now.meta world.old }
+        requires goes_on { world.old.turn ≡ Some turn }
+        requires left { 0 < world.old.left }
+        requires first { IsCalled world.old turn }
+        ensures { Advances self.now.meta self.now.depth [] world.old [] world.new [] result }
+    {
+        let Some(first) = world.store.loops.first_before(turn.home, turn.limit) else {
+            unreachable!()
         };
-        let Some(_) = world.store.tree.life(call.object) else {
-            world.take_unwritten(turn.home, turn.limit);
-            return Ok(());
+        let Item::Call {
+            object,
+            method,
+            arguments,
+        } = &first.item
+        else {
+            unreachable!()
+        };
+        let (object, method) = (*object, *method);
+        let below = Active::nothing();
+        let call = MethodCall {
+            object,
+            method,
+            arguments: arguments.as_slice(),
         };
         let (line, begun) = self.begun(world, &below, &call)?;
         let taken = world.take_before(line, turn.home, turn.limit)?;
         let Some(
             Posted {
-                item:
-                    Item::Call {
-                        object,
-                        method,
-                        arguments,
-                    },
+                item: Item::Call { arguments, .. },
                 ..
             },
         ) = taken

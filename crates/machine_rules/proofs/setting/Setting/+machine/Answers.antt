@@ -1,14 +1,16 @@
 use Rattle.std.proofs.Common.{◌∙◌, ℕ, List, [], ◌∷◌, length, refl, sym, ap, subst, arith, Option, Some}
 use Rattle.signatures.specs.declared.value.Value.{Value}
 use Rattle.machine_state.specs.declared.world.World.{World}
-use Rattle.machine_rules.proofs.Reaching.{not-idle, reaches-same, reaches-then, stops-after, stops-as, ends-after, ends-left, ends-undue, ends-short, ends-unchanged, ends-faulted, ends-ticked}
+use Rattle.machine_rules.proofs.Reaching.{not-idle, reaches-same, reaches-then, stops-after, stops-as, ends-after, ends-lifted, ends-left, ends-undue, ends-short, ends-unchanged, ends-faulted, ends-ticked}
 use Rattle.machine_rules.specs.Good.{ArgumentsFit}
 use Rattle.machine_rules.proofs.Keeps.{keeps-same, keeps-then, ends-keeps, reaches-typed, reaches-keeps}
 use Rattle.machine_rules.proofs.Declared.{fit-sends, emission-sends}
 use Rattle.machine_rules.proofs.Soundness.{emitted-still, ends-sound, reaches-sound, sound-used, sound-noted, sound-set, sound-as}
 use Rattle.machine_rules.proofs.Beginning.{ends-begun, stops-barred, stops-no-member, stops-ill-typed, fit-of, next-delivered, delivered-fits, delivery-calls, begun-used, ends-posted, no-home, not-true}
 use Rattle.machine_rules.proofs.Writes.{ends-written, stops-unwritten, announces-written, announces-as, announced-member, announced-value, announced-fits, announcement-calls}
-use Rattle.machine_rules.proofs.Bodies.{does-call, does-call-alone, does-set, does-nothing, does-connect, does-disconnect, does-choose, lacks-read, advances-one, advances-ticked, advances-left}
+use Rattle.machine_rules.proofs.Bodies.{does-call, does-call-alone, does-set, does-nothing, does-connect, does-disconnect, does-delete, does-schedule, does-choose, lacks-read, advances-one, advances-ticked, advances-left}
+use Rattle.machine_rules.proofs.Deleting.{ends-deleting, stops-deleting, reaches-died, stops-in-use, stops-announcing, living-name, on-ok, died-as, died-emits, died-gone, dead-after, kills-first, kills-next, next-lives, reaches-latest, reaches-next, stops-ticked, stops-forgetting, forgets-fewer}
+use Rattle.machine_rules.proofs.Dying.{copied-living}
 use Rattle.machine_rules.proofs.setting.Setting.+machine.Goals as goal
 
 -- ---- emissions
@@ -268,3 +270,82 @@ pub notify-returns : goal.notify-returns
 notify-returns t c = let present = sym c.in-Some-stored.ensures ∙ ap (λ (v : Value). Some v) (sym c.in_ok-copy.ensures) in
     let cut = rw c.as_slice.ensures at c.front-taken.ensures in
     record { ends = c.begin.ensures.ends _ _ _ c.over-over.ensures (announcement-calls c.requires.announces c.in-Some.ensures present cut c.len.ensures) }
+
+-- ---- deletions
+
+pub delete-returns-in_err-may_nest : goal.delete-returns-in_err-may_nest
+delete-returns-in_err-may_nest t c = record {
+  ends = λ from to shown over deletes. ends-left _ (stops-as c.in_err-may_nest.ensures.1 (stops-deleting over deletes c.requires.sound.is.typed c.requires.left c.in_err-may_nest.ensures.0)) c.from_residual.ensures.1;
+}
+
+pub delete-returns : goal.delete-returns
+delete-returns t c = record {
+  ends = λ from to shown over deletes. ends-deleting over deletes c.in_ok-may_nest.ensures c.requires.sound.is.typed c.in_ok-tick.ensures c.run_deletion.ensures.ends;
+}
+
+pub run_begun-run_emission-requires : goal.run_begun-run_emission-requires
+run_begun-run_emission-requires t c = (omega arith, (c.requires.room, (c.requires.sound, fit-sends c.requires.sound.program c.requires.fit)))
+
+pub carry_out-returns-in-Delete : goal.carry_out-returns-in-Delete
+carry_out-returns-in-Delete t c = record { advances = λ m arguments x is. advances-one _ (c.delete.ensures.ends _ _ _ c.over-over.ensures (does-delete m c.args.left.now (rw c.in-Delete.is at is))) }
+
+pub carry_out-returns-in-Schedule : goal.carry_out-returns-in-Schedule
+carry_out-returns-in-Schedule t c = record {
+  advances = λ m arguments x is.
+      let higher = ap (λ (l : List (Option ℕ)). length l) c.over-over.ensures in
+      advances-one _ (does-schedule m c.args.left.now _ _ _ (rw c.in-Schedule.is at is) c.requires.room c.requires.sound.is.typed c.requires.due (omega (arith, c.count-in-Schedule.ensures, higher)) c.schedule.ensures);
+}
+
+pub announce-returns-in_err-require_rule-clause-ends : goal.announce-returns-in_err-require_rule-clause-ends
+announce-returns-in_err-require_rule-clause-ends t c = λ next before torn kills. ends-undue _ c.in_err-require_rule.ensures c.from_residual.ensures.1
+
+pub announce-returns-then-has_body-clause-ends : goal.announce-returns-then-has_body-clause-ends
+announce-returns-then-has_body-clause-ends t c = λ next before torn kills.
+    let named = living-name c.args.world.now.store.tree c.args.object c.requires.lives in
+    record { cases = stops-in-use kills named.1 c.requires.sound.is.typed c.in_ok-require_rule.ensures c.requires.lives (sym c.has_body.ensures ∙ c.if-has_body.true) }
+
+pub announce-returns-in_err-may_nest-clause-ends : goal.announce-returns-in_err-may_nest-clause-ends
+announce-returns-in_err-may_nest-clause-ends t c = λ next before torn kills.
+    let named = living-name c.args.world.now.store.tree c.args.object c.requires.lives in
+    let higher = ap (λ (l : List (Option ℕ)). length l) c.over-over.ensures in
+    ends-left _ (stops-as c.in_err-may_nest.ensures.1 (stops-announcing kills named.1 c.requires.sound.is.typed c.in_ok-require_rule.ensures (sym c.has_body.ensures ∙ c.if-has_body.false) (omega (arith, c.in_err-may_nest.ensures.0, higher)))) c.from_residual-in_err-may_nest.ensures.1
+
+pub announce-returns-in_err-copy-clause-ends : goal.announce-returns-in_err-copy-clause-ends
+announce-returns-in_err-copy-clause-ends t c = λ next before torn kills. ends-short _ (not-idle c.args.world.now _) c.in_ok-require_rule.ensures c.from_residual-in_err-copy.ensures.1
+
+pub announce-returns-in_err-emitted-clause-ends : goal.announce-returns-in_err-emitted-clause-ends
+announce-returns-in_err-emitted-clause-ends t c = λ next before torn kills. ends-short _ (not-idle c.args.world.now _) c.in_ok-require_rule.ensures c.from_residual-in_err-emitted.ensures.1
+
+pub announce-returns-in_err-mark_dead-clause-ends : goal.announce-returns-in_err-mark_dead-clause-ends
+announce-returns-in_err-mark_dead-clause-ends t c = λ next before torn kills. ends-unchanged _ (not-idle c.args.world.now _) c.in_ok-require_rule.ensures c.in_err-mark_dead.ensures c.from_residual-in_err-mark_dead.ensures.1
+
+pub announce-run_emission-requires : goal.announce-run_emission-requires
+announce-run_emission-requires t c =
+    let w = c.args.world.now in
+    let named = sym c.in-Some.ensures in
+    let came = died-as c.args.world.now c.args.object c.in_ok-mark_dead.ensures c.in_ok-copy.ensures c.in_ok-emitted.ensures c.count.ensures c.count-2.ensures in
+    let higher = ap (λ (l : List (Option ℕ)). length l) c.over-over.ensures in
+    let went = reaches-died {d = c.args.self.now.depth} {active = c.args.active.now} {torn = []} (kills-first w c.args.object [] c.requires.lives) named c.requires.sound.is.typed c.in_ok-require_rule.ensures (sym c.has_body.ensures ∙ c.if-has_body.false) (omega (arith, c.in_ok-may_nest.ensures, higher)) (omega (arith, higher)) c.last-last.ensures came in
+    (omega (arith, ap (λ (u : World). u.left) c.in_ok-mark_dead.ensures, c.in_ok-require_rule.ensures), (c.in_ok-may_nest.ensures, (reaches-sound (tt, tt) c.requires.sound went, died-emits w _ c.args.object c.requires.sound.program named came)))
+
+pub announce-returns-clause-ends : goal.announce-returns-clause-ends
+announce-returns-clause-ends t c = λ next before torn kills.
+    let named = sym c.in-Some.ensures in
+    let came = died-as c.args.world.now c.args.object c.in_ok-mark_dead.ensures c.in_ok-copy.ensures c.in_ok-emitted.ensures c.count.ensures c.count-2.ensures in
+    let higher = ap (λ (l : List (Option ℕ)). length l) c.over-over.ensures in
+    let went = reaches-died kills named c.requires.sound.is.typed c.in_ok-require_rule.ensures (sym c.has_body.ensures ∙ c.if-has_body.false) (omega (arith, c.in_ok-may_nest.ensures, higher)) (omega (arith, higher)) c.last-last.ensures came in
+    ends-after went (ends-lifted c.over-over.ensures c.run_emission.ensures.ends)
+
+pub announce-returns-clause-dead : goal.announce-returns-clause-dead
+announce-returns-clause-dead t c =
+    let named = sym c.in-Some.ensures in
+    let came = died-as c.args.world.now c.args.object c.in_ok-mark_dead.ensures c.in_ok-copy.ensures c.in_ok-emitted.ensures c.count.ensures c.count-2.ensures in
+    on-ok _ (dead-after c.args.object (died-gone c.args.world.now _ c.args.object named came) c.run_emission.ensures.keeps)
+
+pub announce_living-returns-then-is_some-clause-ends : goal.announce_living-returns-then-is_some-clause-ends
+announce_living-returns-then-is_some-clause-ends t c =
+    let lives = copied-living c.args.world.now.store.tree c.args.object _ _ c.is_some.ensures c.if-is_some.true c.life.ensures in
+    c.announce.ensures.ends _ _ _ (kills-first c.args.world.now c.args.object [] lives)
+
+pub announce_living-returns-else-is_some-clause-ends : goal.announce_living-returns-else-is_some-clause-ends
+announce_living-returns-else-is_some-clause-ends t c = record { cases = reaches-same }

@@ -53,7 +53,7 @@ decreases-announce l = 6 * l.world.now.left + 0
 abbrev pub invariant-run_deletion-loop-world : goal.invariant-run_deletion-loop-world
 invariant-run_deletion-loop-world l =
     record {
-      reaches : Reaches l.self.meta l.self.depth l.active l.fn.world (Destroy (Some l.object) [] ∷ []) l.world (Destroy None (reverse l.torn.items) ∷ []);
+      reaches : Reaches l.self.meta l.self.depth l.active l.fn.world (Destroy (Some l.fn.object) [] ∷ []) l.world (Destroy None (reverse l.torn.items) ∷ []);
       fewer : l.world.left ≤ l.fn.world.left;
       sound : IsSoundWorld l.self.meta l.world;
     }

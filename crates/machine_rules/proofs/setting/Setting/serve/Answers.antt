@@ -1,8 +1,8 @@
 use Rattle.std.proofs.Common.{◌≡◌, List, ◌∙◌, ap, arith}
-use Rattle.signatures.specs.declared.value.Value.{Value}
-use Rattle.event_loops.specs.declared.item.Item.TheVariants.{Call, Deletion}
 use Rattle.machine_state.specs.declared.world.World.{World}
-use Rattle.machine_rules.proofs.Turning.{reaches-ended, reaches-served, advances-served, advances-barred, advances-unchanged, first-fits, taken-sound, taken-fits}
+use Rattle.machine_rules.proofs.Turning.{reaches-ended, reaches-passed, reaches-deleting, advances-served}
+use Rattle.machine_rules.proofs.Dying.{copied-none}
+use Rattle.machine_rules.proofs.Soundness.{reaches-sound}
 use Rattle.machine_rules.proofs.setting.Setting.serve.Goals as goal
 
 pub returns-in_default : goal.returns-in_default
@@ -11,35 +11,20 @@ returns-in_default c =
     let less = ap (λ (u : World). u.left) c.end_turn.ensures in
     record { cases = (went, omega (arith, less, c.requires.left)) }
 
-pub unreachable-requires : goal.unreachable-requires
-unreachable-requires c = first-fits c.args.turn.home c.args.turn.limit (Deletion c.in_default-item.field-0) c.requires.sound c.in-Some.ensures c.in_default-item.is
+pub run_deletion-requires-clause-sound : goal.run_deletion-requires-clause-sound
+run_deletion-requires-clause-sound c =
+    let went = reaches-deleting c.requires.goes_on c.in-Some.ensures c.in-Deletion.is c.requires.room c.requires.sound.is.typed c.requires.left c.take_unwritten-in-Deletion.ensures.rest in
+    reaches-sound tt c.requires.sound went
 
-pub begun-requires : goal.begun-requires
-begun-requires c = record { fit = rw c.as_slice.ensures (first-fits c.args.turn.home c.args.turn.limit (Call c.in-Call.object c.in-Call.method c.in-Call.arguments) c.requires.sound c.in-Some.ensures c.in-Call.is) }
+pub returns-else-is_some : goal.returns-else-is_some
+returns-else-is_some c =
+    let gone = copied-none _ _ c.is_some.ensures c.if-is_some.false ∙ c.life.ensures in
+    let went = reaches-passed c.requires.goes_on c.in-Some.ensures c.in-Call.is gone c.requires.sound.is.typed c.requires.left c.take_unwritten.ensures.rest in
+    let less = ap (λ (u : World). u.left) c.take_unwritten.ensures.rest in
+    record { cases = (went, omega (arith, less, c.requires.left)) }
 
-pub returns-in_err-line : goal.returns-in_err-line
-returns-in_err-line c = advances-barred c.from_residual.result c.requires.goes_on c.nothing-below.ensures c.requires.room c.requires.left c.in_err-line.ensures.err c.from_residual.ensures.1
-
-pub returns-in_err-taken : goal.returns-in_err-taken
-returns-in_err-taken c = advances-unchanged c.from_residual-in_err-taken.result c.requires.goes_on c.requires.left c.in_err-taken.ensures c.from_residual-in_err-taken.ensures.1
-
-pub run_begun-requires-clause-sound : goal.run_begun-requires-clause-sound
-run_begun-requires-clause-sound c = taken-sound c.args.world.now _ _ _ c.in_ok-taken.ensures.1 c.requires.sound
-
-pub run_begun-requires-clause-fit : goal.run_begun-requires-clause-fit
-run_begun-requires-clause-fit c =
-    let fit = first-fits c.args.turn.home c.args.turn.limit (Call c.in-Call.object c.in-Call.method c.in-Call.arguments) c.requires.sound c.in-Some.ensures c.in-Call.is in
-    let same : c.in-Some-Call.arguments ≡ c.in-Call.arguments = cc (c.in-Some-Call.is, c.in_ok-taken.ensures.0, c.in-Some.ensures, c.in-Call.is) in
-    let given : c.as_slice-2.result.now ≡ c.in-Call.arguments = c.as_slice-2.ensures ∙ same in
-    rw given (taken-fits c.args.world.now _ _ _ c.in_ok-taken.ensures.1 fit)
-
-pub returns : goal.returns
-returns c =
-    let fit = first-fits c.args.turn.home c.args.turn.limit (Call c.in-Call.object c.in-Call.method c.in-Call.arguments) c.requires.sound c.in-Some.ensures c.in-Call.is in
-    let same : c.in-Some-Call.arguments ≡ c.in-Call.arguments = cc (c.in-Some-Call.is, c.in_ok-taken.ensures.0, c.in-Some.ensures, c.in-Call.is) in
-    let given : c.as_slice-2.result.now ≡ c.in-Call.arguments = c.as_slice-2.ensures ∙ same in
-    let begun = rw c.as_slice.ensures at c.in_ok-line.ensures.ok in
-    let ends = rw given at c.run_begun.ensures.ends in
-    let less = ap (λ (u : World). u.left) c.in_ok-taken.ensures.1 in
-    let went = reaches-served c.requires.goes_on c.in-Some.ensures c.in-Call.is c.nothing-below.ensures begun fit c.requires.sound.is.typed c.requires.left c.in_ok-taken.ensures.1 in
-    advances-served c.run_begun.result c.nothing-below.ensures went less c.requires.left ends
+pub returns-in-Deletion : goal.returns-in-Deletion
+returns-in-Deletion c =
+    let went = reaches-deleting c.requires.goes_on c.in-Some.ensures c.in-Deletion.is c.requires.room c.requires.sound.is.typed c.requires.left c.take_unwritten-in-Deletion.ensures.rest in
+    let less = ap (λ (u : World). u.left) c.take_unwritten-in-Deletion.ensures.rest in
+    advances-served c.run_deletion.result c.nothing.ensures went less c.requires.left c.run_deletion.ensures.ends
