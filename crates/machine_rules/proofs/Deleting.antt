@@ -1,10 +1,10 @@
 -- How deletions are carried out.
-use Rattle.std.proofs.Common.{◌≡◌, ◌≢◌, ⊎_elim, ◌⊎◌, inl, inr, ℕ, zero, suc, ◌+◌, ◌-◌, ◌<◌, ◌≤◌, Bool, true, false, IsTrue, List, [], ◌∷◌, ◌++◌, length, take, reverse, cond, Result, Ok, Err, Option, Some, None, slice_get, refl, sym, ap, ◌∙◌, subst, arith, length-append}
+use Rattle.std.proofs.Common.{◌≡◌, ◌≢◌, ⊎_elim, ◌⊎◌, inl, inr, ℕ, zero, suc, ◌+◌, ◌-◌, ◌<◌, ◌≤◌, eqb, Bool, true, false, IsTrue, List, [], ◌∷◌, ◌++◌, length, take, reverse, cond, Result, Ok, Err, Option, Some, None, slice_get, refl, sym, ap, ◌∙◌, subst, arith, length-append}
 use Rattle.std.specs.Prelude.{is_some, MatchOption, OnOk}
 use Rattle.std.specs.List.{find}
 use Rattle.std.specs.Option.{option_map}
 use Rattle.std.specs.Result.{IsErrAnd}
-use Rattle.std.proofs.lemmas.Bool.{cases_eq}
+use Rattle.std.proofs.lemmas.Bool.{cases_eq, eqb-true}
 use Rattle.std.proofs.lemmas.List.{reverse-append}
 use Rattle.signatures.specs.declared.value.Value.{Value}
 use Rattle.signatures.specs.declared.value.Value.TheVariants as value
@@ -311,3 +311,13 @@ reaches-latest {p} {d} {active} {w} {v} x torn after room typed gone forgets =
 -- by which a rule is used
 pub forgets-fewer : {v : World} (w : World) (x : ℕ) (torn after : List ℕ) → Forgets w torn x v after (Ok tt) → v.left < w.left
 forgets-fewer w x torn after forgets = omega (arith, forgets.0, ap (λ (u : World). u.left) forgets.1)
+
+-- ---- the end of the list
+
+pub nonempty : (b : Bool) (n : ℕ) (xs : List ℕ) → b ≡ eqb n 0 → b ≡ false → n ≡ length xs → 0 < length xs
+nonempty b zero xs e f long = let no : true ≡ false = sym e ∙ f in absurd (cc no)
+nonempty b (suc n) xs e f long = omega (arith, long)
+
+pub none-left : (b : Bool) (n : ℕ) (xs : List ℕ) → b ≡ eqb n 0 → b ≡ true → n ≡ length xs → reverse xs ≡ []
+none-left b n [] e f long = refl
+none-left b n (x ∷ xs) e f long = let none : n ≡ 0 = eqb-true n 0 (sym e ∙ f) in absurd (omega (arith, long, none))

@@ -9,7 +9,7 @@ use Rattle.machine_rules.proofs.Soundness.{emitted-still, ends-sound, reaches-so
 use Rattle.machine_rules.proofs.Beginning.{ends-begun, stops-barred, stops-no-member, stops-ill-typed, fit-of, next-delivered, delivered-fits, delivery-calls, begun-used, ends-posted, no-home, not-true}
 use Rattle.machine_rules.proofs.Writes.{ends-written, stops-unwritten, announces-written, announces-as, announced-member, announced-value, announced-fits, announcement-calls}
 use Rattle.machine_rules.proofs.Bodies.{does-call, does-call-alone, does-set, does-nothing, does-connect, does-disconnect, does-delete, does-schedule, does-choose, lacks-read, advances-one, advances-ticked, advances-left}
-use Rattle.machine_rules.proofs.Deleting.{ends-deleting, stops-deleting, reaches-died, stops-in-use, stops-announcing, living-name, on-ok, died-as, died-emits, died-gone, dead-after, kills-first, kills-next, next-lives, reaches-latest, reaches-next, stops-ticked, stops-forgetting, forgets-fewer}
+use Rattle.machine_rules.proofs.Deleting.{ends-deleting, stops-deleting, reaches-died, stops-in-use, stops-announcing, living-name, on-ok, died-as, died-emits, died-gone, dead-after, kills-first, kills-next, next-lives, reaches-latest, reaches-next, stops-forgetting, forgets-fewer, nonempty, none-left}
 use Rattle.machine_rules.proofs.Dying.{copied-living}
 use Rattle.machine_rules.proofs.setting.Setting.+machine.Goals as goal
 
@@ -349,3 +349,70 @@ announce_living-returns-then-is_some-clause-ends t c =
 
 pub announce_living-returns-else-is_some-clause-ends : goal.announce_living-returns-else-is_some-clause-ends
 announce_living-returns-else-is_some-clause-ends t c = record { cases = reaches-same }
+
+pub run_deletion-loop-world-init : goal.run_deletion-loop-world-init
+run_deletion-loop-world-init t c =
+    let died = c.in_ok-announce_living.ensures.ends.cases in
+    let sound = reaches-sound (tt, tt) c.requires.sound died in
+    let forgets = rw c.new-torn.ensures.items at c.in_ok-forget.ensures in
+    let went = reaches-latest c.args.object [] c.forget.new.torn.items c.requires.room sound.is.typed c.in_ok-announce_living.ensures.dead forgets in
+    record { reaches = reaches-then died went; fewer = (reaches-keeps (reaches-then died went)).fewer; sound = reaches-sound (tt, tt) sound went }
+
+pub run_deletion-returns-in_err-announce-in-Some : goal.run_deletion-returns-in_err-announce-in-Some
+run_deletion-returns-in_err-announce-in-Some t c =
+    let now = c.loop-world.world in
+    let some = nonempty _ _ c.loop-world.torn.items c.is_empty.ensures c.loop-world-test.true c.loop-world.torn.ok.0 in
+    let next = rw c.as_slice.ensures.value at c.next_to_end.ensures.next in
+    let lives = rw c.as_slice.ensures.value at c.next_to_end.ensures.lives in
+    let kills = kills-next now c.loop-world.torn.items some c.next_to_end.result next lives c.in-Some.child c.in-Some.is in
+    record { ends = ends-left _ (stops-after c.loop-world.invariant.reaches (c.in_err-announce-in-Some.ensures.ends _ _ _ kills).cases) c.from_residual-in_err-announce-in-Some.ensures.1 }
+
+pub run_deletion-loop-world-smaller-in-Continue-branch-4 : goal.run_deletion-loop-world-smaller-in-Continue-branch-4
+run_deletion-loop-world-smaller-in-Continue-branch-4 t c =
+    let now = c.loop-world.world in
+    let some = nonempty _ _ c.loop-world.torn.items c.is_empty.ensures c.loop-world-test.true c.loop-world.torn.ok.0 in
+    let next = rw c.as_slice.ensures.value at c.next_to_end.ensures.next in
+    let lives = rw c.as_slice.ensures.value at c.next_to_end.ensures.lives in
+    let kills = kills-next now c.loop-world.torn.items some c.next_to_end.result next lives c.in-Some.child c.in-Some.is in
+    let died = (c.in_ok-announce-in-Some.ensures.ends _ _ _ kills).cases in
+    omega (arith, (reaches-keeps died).fewer, forgets-fewer c.announce.new.world c.in-Some.child c.loop-world.torn.items c.forget-in-Some.new.torn.items c.in_ok-forget-in-Some.ensures)
+
+pub run_deletion-loop-world-preserved-in-Continue-branch-4 : goal.run_deletion-loop-world-preserved-in-Continue-branch-4
+run_deletion-loop-world-preserved-in-Continue-branch-4 t c =
+    let now = c.loop-world.world in
+    let some = nonempty _ _ c.loop-world.torn.items c.is_empty.ensures c.loop-world-test.true c.loop-world.torn.ok.0 in
+    let next = rw c.as_slice.ensures.value at c.next_to_end.ensures.next in
+    let lives = rw c.as_slice.ensures.value at c.next_to_end.ensures.lives in
+    let kills = kills-next now c.loop-world.torn.items some c.next_to_end.result next lives c.in-Some.child c.in-Some.is in
+    let died = (c.in_ok-announce-in-Some.ensures.ends _ _ _ kills).cases in
+    let sound = reaches-sound (tt, tt) c.loop-world.invariant.sound died in
+    let went = reaches-latest c.in-Some.child c.loop-world.torn.items c.forget-in-Some.new.torn.items c.requires.room sound.is.typed c.in_ok-announce-in-Some.ensures.dead c.in_ok-forget-in-Some.ensures in
+    let came = reaches-then c.loop-world.invariant.reaches (reaches-then died went) in
+    record { reaches = came; fewer = (reaches-keeps came).fewer; sound = reaches-sound (tt, tt) sound went }
+
+pub run_deletion-returns-in_err-forget-in-Some : goal.run_deletion-returns-in_err-forget-in-Some
+run_deletion-returns-in_err-forget-in-Some t c =
+    let now = c.loop-world.world in
+    let some = nonempty _ _ c.loop-world.torn.items c.is_empty.ensures c.loop-world-test.true c.loop-world.torn.ok.0 in
+    let next = rw c.as_slice.ensures.value at c.next_to_end.ensures.next in
+    let lives = rw c.as_slice.ensures.value at c.next_to_end.ensures.lives in
+    let kills = kills-next now c.loop-world.torn.items some c.next_to_end.result next lives c.in-Some.child c.in-Some.is in
+    let died = (c.in_ok-announce-in-Some.ensures.ends _ _ _ kills).cases in
+    record { ends = ends-left _ (stops-after (reaches-then c.loop-world.invariant.reaches died) (stops-forgetting c.in-Some.child c.loop-world.torn.items c.forget-in-Some.new.torn.items _ c.in_err-forget-in-Some.ensures)) c.from_residual-in_err-forget-in-Some.ensures.1 }
+
+pub run_deletion-loop-world-preserved : goal.run_deletion-loop-world-preserved
+run_deletion-loop-world-preserved t c =
+    let now = c.loop-world.world in
+    let some = nonempty _ _ c.loop-world.torn.items c.is_empty.ensures c.loop-world-test.true c.loop-world.torn.ok.0 in
+    let next = rw c.as_slice.ensures.value at c.next_to_end.ensures.next in
+    let lives = rw c.as_slice.ensures.value at c.next_to_end.ensures.lives in
+    let shorter = rw c.loop-world.torn.ok.0 at c.pop.ensures.rest in
+    let went = reaches-next now c.loop-world.torn.items some c.next_to_end.result next lives c.pop.new.self.items c.requires.room c.loop-world.invariant.sound.is.typed c.in-None.is shorter c.in_ok-tick-in-None.ensures in
+    let came = reaches-then c.loop-world.invariant.reaches went in
+    record { reaches = came; fewer = (reaches-keeps came).fewer; sound = reaches-sound (tt, tt) c.loop-world.invariant.sound went }
+
+pub run_deletion-returns : goal.run_deletion-returns
+run_deletion-returns t c =
+    let empty = none-left _ _ c.loop-world.torn.items c.is_empty.ensures c.loop-world-test.false c.loop-world.torn.ok.0 in
+    let came = rw empty at c.loop-world.invariant.reaches in
+    record { ends = ends-after came (ends-ticked {b = []} _ (λ below e. refl) (omega arith) c.requires.room c.loop-world.invariant.sound.is.typed c.tick-2.ensures) }
