@@ -13,7 +13,6 @@ use Rattle.machine_state.specs.declared.entry.Entry.{Entry}
 use Rattle.machine_state.specs.declared.fault.Fault.{Fault}
 use Rattle.machine_state.specs.declared.fault.Fault.TheVariants.{BadType, TooDeep, Memory}
 use Rattle.event_loops.specs.declared.item.Item.TheVariants.{Call}
-use Rattle.event_loops.specs.Queues.{HasName}
 use Rattle.std.specs.Option.{option_map}
 use Rattle.std.specs.Prelude.{is_some}
 use Rattle.std.proofs.lemmas.Bool.{eqb-true}

@@ -22,7 +22,6 @@ use Rattle.machine_rules.specs.Rules.{Rule, StatementRule, Does, told, Connects,
 use Rattle.machine_rules.specs.Destroying.{Schedules}
 use Rattle.object_tree.specs.Objects.{life_of}
 use Rattle.object_tree.specs.Typed.{AreTyped}
-use Rattle.machine_rules.specs.Good.{}
 use Rattle.machine_rules.specs.Runs.{Rules, done, then}
 use Rattle.machine_state.specs.Worlds.{at, noted, Ticks, Becomes}
 use Rattle.machine_rules.specs.Reaches.{StopsIn, Ends, Advances, Calls, OnlyCalls, Sets, Deletes, Went, Stays, ConnectsIn, DisconnectsIn, SchedulesIn}

@@ -1,6 +1,6 @@
 -- Whether connections are made and removed, by events and by statements (docs/machine.md, "Connections"; Qt 6,
 -- `QObject::connect` and `QObject::disconnect`).
-use Rattle.std.specs.Prelude.{◌≢◌, ◌&&◌, ℕ, eqb, if◌then◌else◌, IsTrue, List, Result}
+use Rattle.std.specs.Prelude.{◌&&◌, ℕ, eqb, if◌then◌else◌, IsTrue, List, Result}
 use Rattle.signatures.specs.declared.sig.Sig.{Sig}
 use Rattle.signatures.specs.Types.{Fits}
 use Rattle.texts.specs.declared.connection.ConnectionType.{ConnectionType}

@@ -30,6 +30,8 @@ use Rattle.texts.specs.declared.connection.Endpoints.{Endpoints as Named}
 use Rattle.machine_state.specs.declared.endpoints.Endpoints.{Endpoints}
 use Rattle.machine_state.specs.declared.refusal.Refusal.{Refusal}
 use Rattle.machine_rules.specs.Connecting.{AreThere, may_connect, found_ends, names_of}
+use Rattle.machine_rules.specs.declared.method_call.MethodCall.{MethodCall}
+use Rattle.machine_rules.specs.Good.{ArgumentsFit}
 use Rattle.machine_rules.specs.Rules.{Rule, Begins, Writes, Connects, Disconnects}
 use Rattle.meta_model.specs.Outlines.{destroyed}
 use Rattle.object_tree.specs.Objects.{life_of}
@@ -128,6 +130,10 @@ pub record Kills (p : Loaded) (w : World) (next : Option ℕ) (before torn : Lis
   pub gives :
       (below : List Activation) (t : State) →
       Dies (at w (Destroy next before ∷ below)) (Destroy (Some x) torn ∷ below) x t → Rule p (at w (Destroy next before ∷ below)) t
+
+-- the arguments of a call are those that its method declares
+abbrev pub CallFits : Loaded → List Object → MethodCall → Type 0
+CallFits p objects call = ArgumentsFit p objects call.object call.method call.arguments.now
 
 -- the entry of a method that begins
 abbrev pub begin_entry : ℕ → Object → ℕ → List ℕ → List Shown → Work → Entry

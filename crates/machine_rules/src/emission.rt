@@ -1,11 +1,10 @@
 //! Emissions, and the beginning of methods.
 
 ghost use Rattle.std.specs.Prelude.{◌<◌, length};
-ghost use Rattle.machine_rules.specs.Good.{ArgumentsFit};
 ghost use Rattle.machine_rules.specs.Sound.{IsSoundWorld, SendsThese, IsDelivered};
 ghost use Rattle.machine_state.specs.State.{Emit};
 ghost use Rattle.machine_rules.specs.Calls.{Finishes, Delivers, EndsCall, EndsUse, EndsOnlyCall};
-ghost use Rattle.machine_rules.specs.Reaches.{top_of};
+ghost use Rattle.machine_rules.specs.Reaches.{CallFits, top_of};
 ghost use Rattle.machine_rules.specs.Keeps.{KeepsWorld};
 
 use crate::active::Active;
@@ -31,7 +30,8 @@ impl Setting {
         requires emitted { SendsThese self.now.meta world.old.store.tree
             call.now.object call.now.method call.now.arguments.now }
         ensures ends { Finishes self.now active.now
-            (Emit call.now.object call.now.method call.now.arguments.now 0 last) world.old world.new result }
+            (Emit call.now.object call.now.method call.now.arguments.now 0 last)
+            world.old world.new result }
         ensures keeps { KeepsWorld self.now.meta world.old world.new }
         ensures sound { IsSoundWorld self.now.meta world.new }
     {
@@ -91,8 +91,7 @@ impl Setting {
     ) -> Result<(), Fault>
         requires sound { IsSoundWorld self.now.meta world.old }
         requires left { 0 < world.old.left }
-        requires fit { ArgumentsFit self.now.meta world.old.store.tree
-            call.now.object call.now.method call.now.arguments.now }
+        requires fit { CallFits self.now.meta world.old.store.tree call.now }
         ensures ends { EndsUse self.now active.now
             connection.now call.now world.old world.new result }
     {
@@ -137,8 +136,7 @@ impl Setting {
     ) -> Result<(), Fault>
         requires sound { IsSoundWorld self.now.meta world.old }
         requires left { 0 < world.old.left }
-        requires fit { ArgumentsFit self.now.meta world.old.store.tree
-            call.now.object call.now.method call.now.arguments.now }
+        requires fit { CallFits self.now.meta world.old.store.tree call.now }
         ensures ends { EndsCall self.now active.now call.now world.old world.new result }
     {
         let (line, begun) = self.begun(world, active, call)?;
@@ -157,10 +155,10 @@ impl Setting {
     ) -> Result<(), Fault>
         requires room { length active.now < self.now.depth }
         requires sound { IsSoundWorld self.now.meta world.old }
-        requires fit { ArgumentsFit self.now.meta world.old.store.tree
-            call.now.object call.now.method call.now.arguments.now }
+        requires fit { CallFits self.now.meta world.old.store.tree call.now }
         ensures ends { Finishes self.now active.now
-            (top_of call.now.object call.now.method call.now.arguments.now begun.now.last begun.now.work.now)
+            (top_of call.now.object call.now.method call.now.arguments.now
+            begun.now.last begun.now.work.now)
             world.old world.new result }
     {
         match begun.work {

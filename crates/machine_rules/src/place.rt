@@ -1,3 +1,5 @@
+//! Properties of objects.
+
 use signatures::ObjectId;
 
 /// A property of an object.

@@ -1,9 +1,8 @@
 //! Calls that are posted to event loops.
 
 ghost use Rattle.std.specs.Prelude.{◌≡◌, ◌<◌, IfOk};
-ghost use Rattle.machine_rules.specs.Good.{ArgumentsFit};
 ghost use Rattle.machine_rules.specs.Sound.{IsSoundWorld};
-ghost use Rattle.machine_rules.specs.Reaches.{PostsCall, entry_of_post};
+ghost use Rattle.machine_rules.specs.Reaches.{CallFits, PostsCall, entry_of_post};
 
 use crate::method_call::MethodCall;
 use crate::setting::Setting;
@@ -27,8 +26,7 @@ impl Setting {
     ) -> Result<(), Fault>
         requires sound { IsSoundWorld self.now.meta world.old }
         requires left { 0 < world.old.left }
-        requires fit { ArgumentsFit self.now.meta world.old.store.tree
-            call.now.object call.now.method call.now.arguments.now }
+        requires fit { CallFits self.now.meta world.old.store.tree call.now }
         ensures { PostsCall self.now.meta world.old depth connection.now
             call.now.object call.now.method call.now.arguments.now world.new result }
     {

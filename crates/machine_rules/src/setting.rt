@@ -1,8 +1,7 @@
 //! A program with its natives, and what its numbers lead to.
 
 ghost use Rattle.std.specs.Prelude.{◌≡◌, ◌≤◌, IfSome, IfOk, IfErr, MatchOption};
-ghost use Rattle.machine_rules.specs.Reaches.{entry_of_call, MayNest, IsBegun, IsBarred};
-ghost use Rattle.machine_rules.specs.Good.{ArgumentsFit};
+ghost use Rattle.machine_rules.specs.Reaches.{CallFits, entry_of_call, MayNest, IsBegun, IsBarred};
 ghost use Rattle.machine_rules.specs.Sound.{IsSoundIn};
 ghost use Rattle.machine_rules.specs.There.{IsMember, IsField, LacksMember, LacksField};
 
@@ -114,10 +113,10 @@ impl Setting {
         active: &Active<'_>,
         call: &MethodCall<'_>,
     ) -> Result<(Entry, Begun<'s>), Fault>
-        requires fit { ArgumentsFit self.now.meta world.now.store.tree
-            call.now.object call.now.method call.now.arguments.now }
+        requires fit { CallFits self.now.meta world.now.store.tree call.now }
         ensures ok { IfOk result (λ b. IsBegun self.now.meta self.now.depth active.now world.now
-            call.now.object call.now.method call.now.arguments.now b.0 b.1.work.now b.1.last) }
+            call.now.object call.now.method call.now.arguments.now
+            b.0 b.1.work.now b.1.last) }
         ensures err { IfErr result (IsBarred self.now.depth active.now) }
     {
         let Some((found, declared)) = self.member(world, call.object, call.method) else {
@@ -142,7 +141,8 @@ impl Setting {
         call: &MethodCall<'_>,
     ) -> Result<Entry, AllocError>
         ensures { IfOk result (λ entry. entry ≡
-            entry_of_call world.now depth object.now call.now.method method.now call.now.arguments.now) }
+            entry_of_call world.now depth object.now
+            call.now.method method.now call.now.arguments.now) }
     {
         let name = object.name.copy()?;
         let called = method.sig.name.copy()?;

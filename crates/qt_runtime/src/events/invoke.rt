@@ -2,6 +2,7 @@
 
 ghost use Rattle.std.specs.Prelude.{◌≡◌, ◌↔◌, ◌<◌, [], Ok, length, IfOk, IfErr, IsTrue, MatchOption, None};
 ghost use Rattle.machine_state.specs.Worlds.{at};
+ghost use Rattle.machine_rules.specs.Reaches.{CallFits};
 ghost use Rattle.machine_rules.specs.Good.{ArgumentsFit};
 ghost use Rattle.machine_rules.specs.Judgement.{NothingIs, numbered};
 ghost use Rattle.qt_runtime.specs.Judgement.{IsNotAccepted};
@@ -153,8 +154,7 @@ fn begin(setting: &Setting, world: &mut World, call: &MethodCall<'_>) -> Result<
     requires left { 0 < world.old.left }
     requires idle { world.old.turn ≡ None }
     requires keeps { WorldInvariant setting.now.meta world.old }
-    requires fit { ArgumentsFit setting.now.meta world.old.store.tree
-        call.now.object call.now.method call.now.arguments.now }
+    requires fit { CallFits setting.now.meta world.old.store.tree call.now }
     ensures { (e : AnEvent) →
         AsksFor setting.now.meta world.old call.now.object call.now.method call.now.arguments.now e →
         Answers setting.now e world.old world.new result }

@@ -1,4 +1,4 @@
-use Rattle.std.proofs.Common.{◌∙◌, ℕ, List, [], ◌∷◌, length, refl, sym, ap, subst, arith, Option, Some}
+use Rattle.std.proofs.Common.{◌∙◌, ℕ, List, [], length, refl, sym, ap, subst, arith, Option, Some}
 use Rattle.signatures.specs.declared.value.Value.{Value}
 use Rattle.machine_state.specs.declared.world.World.{World}
 use Rattle.machine_rules.proofs.Reaching.{not-idle, reaches-same, reaches-then, stops-after, stops-as, ends-after, ends-lifted, ends-left, ends-undue, ends-short, ends-unchanged, ends-faulted, ends-ticked}

@@ -1,4 +1,3 @@
-use Rattle.std.proofs.Common.{sym}
 use Rattle.machine_rules.proofs.Fields.{member-at}
 use Rattle.machine_rules.proofs.setting.Setting.member.Goals as goal
 

@@ -1,5 +1,4 @@
-use Rattle.machine_state.specs.declared.fault.Fault.{Fault}
-use Rattle.machine_rules.specs.Writing.{IsUnwritten, missing, ill, deep, short}
+use Rattle.machine_rules.specs.Writing.{missing, ill, deep, short}
 use Rattle.machine_rules.proofs.Beginning.{not-true}
 use Rattle.machine_rules.proofs.Writes.{altered, unwritten-as, unwritten-err}
 use Rattle.machine_rules.proofs.setting.Setting.writing.Goals as goal
