@@ -20,8 +20,8 @@ use Rattle.object_tree.specs.Adopting.{IsAdopted}
 use Rattle.object_tree.specs.Creating.{begun as begun_life, fresh, initial_values}
 use Rattle.object_tree.specs.Family.{moved}
 use Rattle.object_tree.specs.Family.{without_life}
-use Rattle.object_tree.specs.Objects.{Lives, life_of, change_life, with_life, written, blocked, scheduled}
-use Rattle.object_tree.proofs.Changing.{life-of-lives, length-change}
+use Rattle.object_tree.specs.Objects.{life_of, change_life, with_life, written, blocked}
+use Rattle.object_tree.proofs.Changing.{length-change}
 use Rattle.object_tree.specs.Typed.{AreTyped, ReadAs}
 use Rattle.object_tree.proofs.TypedObjects.{class-more, seen-appended, seen-written, shape_in, class-same, seen-same, shape-change, shape-moved}
 use Rattle.std.specs.Prelude.{Result, Err}
@@ -53,7 +53,6 @@ use Rattle.qt_runtime.specs.declared.events.invoke.Invocation.TheVariants.{Emit 
 use Rattle.machine_rules.specs.Judgement.{found as finds, holds as so, becomes, gives as just, goes_on}
 use Rattle.qt_runtime.specs.Takes.{judged, Takes, accepts, refuses}
 use Rattle.qt_runtime.specs.events.Block.{block}
-use Rattle.qt_runtime.specs.events.Later.{later}
 use Rattle.machine_rules.specs.declared.ends.FoundEnds.{FoundEnds}
 use Rattle.qt_runtime.specs.events.Ends.{find_ends}
 use Rattle.machine_state.specs.Connections.{joins_these}

@@ -33,7 +33,7 @@ use Rattle.event_loops.specs.declared.item.Item.TheVariants.{Call, Deletion}
 use Rattle.event_loops.specs.declared.item.Posted.{Posted}
 use Rattle.event_loops.specs.Queues.{Queues, HasName, items_at, is_before, taken_before}
 use Rattle.object_tree.specs.declared.life.Life.{Life}
-use Rattle.object_tree.specs.Objects.{Lives, life_of, name_of}
+use Rattle.object_tree.specs.Objects.{life_of}
 use Rattle.object_tree.proofs.Changing.{life-of-lives, lives-of-life}
 use Rattle.machine_state.specs.Objects.{home_of}
 use Rattle.machine_state.specs.declared.turn.Turn.{Turn}
@@ -49,7 +49,7 @@ use Rattle.machine_rules.proofs.Fields.{old-there}
 use Rattle.qt_runtime.proofs.Possible.{IsPossible, possible}
 use Rattle.qt_runtime.proofs.Standing.{BodyStands, PlaceStands, Stands, Invariant}
 use Rattle.machine_rules.specs.Sound.{IsDelivered, Waits}
-use Rattle.machine_rules.proofs.Soundness.{Fits, AllFit}
+use Rattle.machine_rules.proofs.Soundness.{AllFit}
 use Rattle.machine_rules.proofs.Waiting.{loop-named, first-waits}
 
 -- whether the value has changed or not, something may be notified
