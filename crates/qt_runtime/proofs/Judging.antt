@@ -9,3 +9,4 @@ pub mod Connecting
 pub mod Assigning
 pub mod Invoking
 pub mod Blocking
+pub mod Deleting

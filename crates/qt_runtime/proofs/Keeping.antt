@@ -1,8 +1,8 @@
 -- What every machine's world keeps.
-use Rattle.std.proofs.Common.{◌≡◌, ℕ, ◌+◌, ◌≤◌, List, [], Bool, true, false, ◌<◌, ◌^◌, None, Result, Ok, Err, refl, sym, ap, subst, arith}
+use Rattle.std.proofs.Common.{◌≡◌, ℕ, ◌+◌, ◌≤◌, List, [], Bool, true, false, ◌<◌, ◌^◌, None, Some, Result, Ok, Err, refl, sym, ap, subst, arith}
 use Rattle.std.specs.Result.{is_err}
 use Rattle.script_lang.specs.declared.event.Event.{Event}
-use Rattle.script_lang.specs.declared.event.Event.TheVariants.{Loop, Turn, New, Adopt, Connect, Disconnect, Set, Emit, Call, Block, Unblock}
+use Rattle.script_lang.specs.declared.event.Event.TheVariants.{Loop, Turn, New, Adopt, Connect, Disconnect, Set, Emit, Call, Block, Unblock, Delete, Later}
 use Rattle.script_lang.specs.declared.event.Input.{Input}
 use Rattle.meta_model.specs.Loaded.{Loaded}
 use Rattle.meta_model.specs.Sound.{IsSound}
@@ -14,7 +14,7 @@ use Rattle.machine_state.specs.State.{State, Activation}
 use Rattle.machine_state.specs.Worlds.{at, untouched}
 use Rattle.machine_rules.specs.Sound.{IsSoundWorld}
 use Rattle.machine_rules.specs.Keeps.{Grows, Keeps}
-use Rattle.machine_rules.proofs.Keeps.{grows-by, grows-same, grows-then, begins-kept, writes-kept, rules-kept}
+use Rattle.machine_rules.proofs.Keeps.{grows-by, grows-same, grows-then, begins-kept, writes-kept, schedules-kept, rules-kept}
 use Rattle.qt_runtime.specs.declared.events.invoke.Invocation.{Invocation}
 use Rattle.qt_runtime.specs.declared.events.invoke.Invocation.TheVariants.{Emit as EmitIt, Call as CallIt}
 use Rattle.machine_rules.specs.Judgement.{becomes, gives, goes_on}
@@ -66,6 +66,8 @@ counts-judged p (Emit name signal inputs) x = counts-invoked p EmitIt name signa
 counts-judged p (Call name slot inputs) x = counts-invoked p CallIt name slot inputs x
 counts-judged p (Block name) x = counts-blocked name true x
 counts-judged p (Unblock name) x = counts-blocked name false x
+counts-judged p (Delete name) (goes_on _ lives gives) = record { events = refl; connected = omega arith; posted = omega arith; grows = grows-by _ }
+counts-judged p {s} {t} (Later name) (goes_on o lives (becomes x)) = counts-kept (schedules-kept p (accepted s) s.stack o.number t (Some o.it) x)
 
 counts-takes : {p : Loaded} {s t : State} {e : Event} → Takes p e s t → Counts s t
 counts-takes {p = p} {e = e} (accepts idle x) = counts-judged p e x

@@ -14,7 +14,7 @@ use Rattle.script_lang.specs.declared.event.Input.{Input}
 use Rattle.machine_state.specs.declared.refusal.Refusal.{Refusal}
 use Rattle.machine_state.specs.Accepting.{accepted, refused}
 use Rattle.machine_state.specs.State.{State}
-use Rattle.machine_rules.proofs.OneRule.{begins-one, writes-one}
+use Rattle.machine_rules.proofs.OneRule.{begins-one, writes-one, schedules-one}
 use Rattle.qt_runtime.specs.declared.events.invoke.Invocation.{Invocation}
 use Rattle.qt_runtime.specs.declared.events.invoke.Invocation.TheVariants.{Emit, Call}
 use Rattle.machine_rules.specs.Judgement.{Numbered}
@@ -24,6 +24,8 @@ use Rattle.qt_runtime.specs.Takes.{accepts, refuses}
 use Rattle.qt_runtime.specs.events.Adopt.{adopt, Adopts}
 use Rattle.qt_runtime.specs.events.Assign.{assign}
 use Rattle.qt_runtime.specs.events.Block.{block}
+use Rattle.qt_runtime.specs.events.Delete.{delete}
+use Rattle.qt_runtime.specs.events.Later.{later}
 use Rattle.qt_runtime.specs.events.Connect.{connect}
 use Rattle.qt_runtime.specs.events.Disconnect.{disconnect}
 use Rattle.qt_runtime.specs.events.Ends.{find_ends, IsMethodOf}
@@ -87,6 +89,12 @@ one-disconnect p s e sound = one-then (one-ends p s.objects e sound) (λ f. one-
 one-block : (s : State) (name : List ℕ) (on : _) → HasOneAnswer (block s name on)
 one-block s name on = one-then (one-living s.objects name) (λ o. one-gives _)
 
+one-delete : (s : State) (name : List ℕ) → HasOneAnswer (delete s name)
+one-delete s name = one-then (one-living s.objects name) (λ o. one-gives _)
+
+one-later : (s : State) (name : List ℕ) → HasOneAnswer (later s name)
+one-later s name = one-then (one-living s.objects name) (λ o. one-becomes (λ t u f g. schedules-one (accepted s) t u s.stack o.number (Some o.it) f g))
+
 -- ---- events
 
 one-assign : (p : Loaded) (s : State) (name property : List ℕ) (i : Input) → IsSound p → HasOneAnswer (assign p s name property i)
@@ -111,6 +119,8 @@ one_judgement p s (event.Emit name signal inputs) sound = one-invoke p s Emit na
 one_judgement p s (event.Call name slot inputs) sound = one-invoke p s Call name slot inputs sound
 one_judgement p s (event.Block name) sound = one-block s name true
 one_judgement p s (event.Unblock name) sound = one-block s name false
+one_judgement p s (event.Delete name) sound = one-delete s name
+one_judgement p s (event.Later name) sound = one-later s name
 
 pub one_taking : OneTaking
 one_taking p e s t u sound (accepts f a) (accepts g b) =

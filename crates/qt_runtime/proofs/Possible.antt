@@ -12,14 +12,15 @@ use Rattle.meta_model.specs.declared.object.Statement.TheViews.{out-Statement}
 use Rattle.meta_model.specs.declared.object.ValueType.{ValueType}
 use Rattle.meta_model.specs.Loaded.{Loaded}
 use Rattle.meta_model.specs.Members.{Below}
-use Rattle.meta_model.specs.Sound.{IsSound, AreSound, AreSoundEnds, IsSoundStatement, next_sound, set_sound, emit_sound, call_sound, if_sound, connect_sound, disconnect_sound}
+use Rattle.meta_model.specs.declared.object.MetaPath.{MetaPath}
+use Rattle.meta_model.specs.Sound.{LeadsToClass, IsSound, AreSound, AreSoundEnds, IsSoundStatement, next_sound, set_sound, emit_sound, call_sound, if_sound, connect_sound, disconnect_sound, delete_sound, later_sound}
 use Rattle.object_tree.specs.declared.life.Life.{Life}
 use Rattle.object_tree.specs.declared.object.Object.{Object}
 use Rattle.object_tree.specs.Objects.{Lives}
 use Rattle.meta_model.specs.declared.object.MetaEndpoints.{MetaEndpoints}
 use Rattle.machine_state.specs.declared.endpoints.Endpoints.{Endpoints}
 use Rattle.machine_rules.specs.Connecting.{AreThere}
-use Rattle.machine_rules.specs.Doings.{Doing, Write, Begin, Choose, Connect, Disconnect, Nothing, on_object, on_ends, chosen_by, doing}
+use Rattle.machine_rules.specs.Doings.{Doing, Write, Begin, Choose, Connect, Disconnect, Delete, Schedule, Nothing, on_object, on_ends, chosen_by, doing}
 use Rattle.object_tree.specs.Typed.{AreTyped}
 use Rattle.machine_rules.specs.Paths.{path_value, value_of, values_of}
 use Rattle.machine_rules.specs.There.{IsMember, IsField}
@@ -34,6 +35,8 @@ IsPossible p objects me kinds (Begin x n given) = (object : Object) × (method :
 IsPossible p objects me kinds (Choose block) = AreSound p me kinds block
 IsPossible p objects me kinds (Connect ends how) = AreThere p objects ends
 IsPossible p objects me kinds (Disconnect ends) = AreThere p objects ends
+IsPossible p objects me kinds (Delete x) = Unit {0}
+IsPossible p objects me kinds (Schedule x) = Unit {0}
 IsPossible p objects me kinds Nothing = Unit {0}
 
 -- ---- what is so of all that may be found
@@ -80,6 +83,12 @@ module _ {p : Loaded} {objects : List Object} (sound : IsSound p) (typed : AreTy
           receives = record { life = l; lives = receives; is_method = method-below sound under is.connects.to };
         })))
 
+    -- what is done with the object that a path leads to needs nothing of it
+    object-alone : (act : ℕ → Doing) (path : MetaPath) {class : ℕ} → LeadsToClass p body.declaring body.kinds path class → ((y : ℕ) → Possible (act y)) → IfSome (on_object (λ y. Some (act y)) (path_value objects o arguments path)) Possible
+    object-alone act path leads so =
+        let reaches = path-reaches objects o body.declaring body.object body.life arguments body.kinds path sound typed body.lives body.below body.typed leads in
+        object-so Possible (λ y. Some (act y)) (path_value objects o arguments path) reaches tt (λ y z l lives beneath. so y)
+
     statement-so : (f : layer.Statement-F Statement) → IsSoundStatement p body.declaring body.kinds f → IfSome (doing objects o arguments f) Possible
     statement-so f (set_sound {path = path} {q = q} {e = e} is) =
         let reaches = path-reaches objects o body.declaring body.object body.life arguments body.kinds path sound typed body.lives body.below body.typed is.leads in
@@ -98,6 +107,8 @@ module _ {p : Loaded} {objects : List Object} (sound : IsSound p) (typed : AreTy
         chosen-so Possible block other (value_of objects o arguments e) first second
     statement-so f (connect_sound {ends = ends} {type = how} is) = ends-so (λ between. Connect between how) ends is (λ between there. there)
     statement-so f (disconnect_sound {ends = ends} is) = ends-so Disconnect ends is (λ between there. there)
+    statement-so f (delete_sound {path = path} leads) = object-alone Delete path leads (λ y. tt)
+    statement-so f (later_sound {path = path} leads) = object-alone Schedule path leads (λ y. tt)
 
 -- the first statement of what is left of a body
 pub possible : {p : Loaded} {objects : List Object} {o : ℕ} {arguments : List Value} {x : Statement} {rest : List Statement} → IsSound p → AreTyped p objects → (body : BodyStands p objects o arguments (x ∷ rest)) → (d : Doing) → doing objects o arguments (out-Statement x) ≡ Some d → IsPossible p objects body.declaring body.kinds d

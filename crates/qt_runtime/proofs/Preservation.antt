@@ -1,9 +1,9 @@
--- Why what is going on goes on: its objects, members and statements are there.
-use Rattle.std.proofs.Common.{◌≡◌, ℕ, suc, ◌+◌, ◌<◌, Bool, List, [], ◌∷◌, ◌++◌, length, take, true, false, Option, Some, None, slice_get, refl, sym, ◌∙◌, subst, Ok, arith}
+-- Why what is going on goes on: its members and statements are there, and the objects whose bodies are active live.
+use Rattle.std.proofs.Common.{◌≡◌, ℕ, suc, ◌+◌, ◌<◌, Bool, List, [], ◌∷◌, ◌++◌, length, take, true, false, Option, Some, None, slice_get, refl, sym, ap, IsTrue, inl, length-append, ◌∙◌, subst, Ok, arith}
 use Rattle.std.specs.List.{AllByRecursion, find}
 use Rattle.signatures.specs.declared.value.Value.{Value}
 use Rattle.script_lang.specs.declared.event.Event.{Event}
-use Rattle.script_lang.specs.declared.event.Event.TheVariants.{Loop, Turn, New, Adopt, Connect, Disconnect, Set, Emit as EmitEvent, Call as CallEvent, Block, Unblock}
+use Rattle.script_lang.specs.declared.event.Event.TheVariants.{Loop, Turn, New, Adopt, Connect, Disconnect, Set, Emit as EmitEvent, Call as CallEvent, Block, Unblock, Delete as DeleteEvent, Later as LaterEvent}
 use Rattle.meta_model.specs.declared.object.MetaMethod.{MetaMethod}
 use Rattle.meta_model.specs.declared.object.MetaProperty.{MetaProperty}
 use Rattle.meta_model.specs.declared.object.Statement.{Statement}
@@ -19,26 +19,29 @@ use Rattle.object_tree.specs.declared.object.Object.{Object}
 use Rattle.object_tree.specs.Adopting.{IsAdopted}
 use Rattle.object_tree.specs.Creating.{begun as begun_life, fresh, initial_values}
 use Rattle.object_tree.specs.Family.{moved}
-use Rattle.object_tree.specs.Objects.{change_life, written, blocked}
+use Rattle.object_tree.specs.Family.{without_life}
+use Rattle.object_tree.specs.Objects.{life_of, change_life, with_life, written, blocked}
+use Rattle.object_tree.proofs.Changing.{length-change}
 use Rattle.object_tree.specs.Typed.{AreTyped, ReadAs}
-use Rattle.object_tree.proofs.TypedObjects.{class-more, seen-appended, shape_in, class-same, seen-same, shape-change, shape-moved}
+use Rattle.object_tree.proofs.TypedObjects.{class-more, seen-appended, seen-written, shape_in, class-same, seen-same, shape-change, shape-moved}
 use Rattle.std.specs.Prelude.{Result, Err}
 use Rattle.machine_state.specs.declared.endpoints.Endpoints.{Endpoints}
 use Rattle.machine_state.specs.declared.refusal.Refusal.{Refusal}
 use Rattle.machine_rules.specs.Connecting.{AreThere, kept_ends, names_of}
-use Rattle.machine_rules.specs.Doings.{Doing, Write, Begin, Choose, Connect as Link, Disconnect as Unlink, Nothing, doing}
+use Rattle.machine_rules.specs.Doings.{Doing, Write, Begin, Choose, Connect as Link, Disconnect as Unlink, Delete, Schedule, Nothing, doing}
+use Rattle.machine_rules.specs.Destroying.{Dies, NextRule, ChildRule, DestroyRule, living_child, DefersOnce, Schedules}
 use Rattle.qt_runtime.proofs.Possible.{possible}
-use Rattle.qt_runtime.proofs.Standing.{BodyStands, PlaceStands, Stands, Invariant, AllStand, stands-still}
-use Rattle.machine_state.specs.State.{State, IsIdle, Place, Activation, Body, Emit, Update}
-use Rattle.machine_rules.specs.Rules.{Rule, RuleAt, BodyRule, Does, EmitRule, UpdateRule, Begins, Writes, Changes, places_of, changed, unchanged, silent, begun, with_used, linked, unlinked, TurnRule, Serves, Delivers, Arrives}
+use Rattle.qt_runtime.proofs.Standing.{BodyStands, IsNotified, PlaceStands, Stands, Invariant, AllStand, SparedIn, all-stand-still}
+use Rattle.machine_state.specs.State.{State, IsIdle, Place, Activation, Body, Emit, Update, Destroy}
+use Rattle.machine_rules.specs.Rules.{Rule, RuleAt, BodyRule, Does, EmitRule, UpdateRule, Begins, Writes, Changes, places_of, changed, unchanged, silent, begun, with_used, linked, unlinked, TurnRule, Serves, Delivers, Arrives, BeginsIf, NotifiesIf}
 use Rattle.machine_state.specs.Objects.{home_of}
 use Rattle.event_loops.specs.declared.item.Item.{Item}
 use Rattle.event_loops.specs.declared.item.Item.TheVariants.{Call, Deletion}
 use Rattle.event_loops.specs.declared.item.Posted.{Posted}
-use Rattle.event_loops.specs.Queues.{Loop as ALoop, items_at, is_before, taken_before, with_loop}
+use Rattle.event_loops.specs.Queues.{Loop as ALoop, Queues, items_at, is_before, taken_before, with_loop}
 use Rattle.machine_state.specs.declared.turn.Turn.{Turn as ATurn}
 use Rattle.machine_state.specs.Turns.{running, reaches_at_once}
-use Rattle.machine_state.specs.Connections.{next_used}
+use Rattle.machine_state.specs.Connections.{is_living, next_used}
 use Rattle.signatures.specs.declared.sig.Sig.{Sig}
 use Rattle.signatures.specs.Types.{Fits}
 use Rattle.texts.specs.declared.connection.ConnectionType.{ConnectionType}
@@ -57,19 +60,20 @@ use Rattle.machine_state.proofs.Due.{all-removed}
 use Rattle.qt_runtime.proofs.Judged.{given-is}
 use Rattle.qt_runtime.specs.events.Invoke.{invoke}
 use Rattle.qt_runtime.proofs.Judging.Naming.{living-is, living-object}
-use Rattle.machine_rules.specs.Good.{ArgumentsFit, TopFits, IsWell}
+use Rattle.machine_rules.specs.Good.{has_body, ArgumentsFit, TopFits, IsWell, Spares}
 use Rattle.qt_runtime.specs.Runs.{Runs, done, rules, takes}
 use Rattle.machine_rules.specs.Runs.{Rules}
 use Rattle.machine_rules.specs.Runs as of_rules
 use Rattle.machine_rules.specs.Sound.{Joined, AreHoused}
 use Rattle.machine_rules.specs.Keeps.{StayThere, Keeps}
-use Rattle.machine_rules.specs.There.{IsMember, IsField}
-use Rattle.machine_rules.proofs.Fields.{member-method, field-written}
-use Rattle.qt_runtime.proofs.Changes.{adopted-by}
-use Rattle.machine_rules.proofs.Lists.{all-snoc, all-weaken}
-use Rattle.machine_rules.proofs.Keeps.{all-stay, written-stay, all-joined-still, rule-kept, begins-kept, writes-kept, joined-by}
+use Rattle.machine_rules.specs.There.{IsDead, IsMember, IsField}
+use Rattle.machine_rules.proofs.Dying.{lives-created, died-stay, scheduled-stay, scheduled-seen}
+use Rattle.machine_rules.proofs.Fields.{life-unique, member-method, field-written}
+use Rattle.qt_runtime.proofs.Changes.{adopted-by, length-moved}
+use Rattle.machine_rules.proofs.Lists.{all-snoc}
+use Rattle.machine_rules.proofs.Keeps.{all-stay, written-stay, all-joined-still, rule-kept, begins-kept, writes-kept, schedules-kept, joined-by}
 use Rattle.qt_runtime.proofs.Homes.{housed-more, housed-loop, waiting-loop, home-there, home-moved}
-use Rattle.machine_rules.proofs.Soundness.{AllFit, Fair, rule-fair, begins-fair, writes-fair, all-wait-still}
+use Rattle.machine_rules.proofs.Soundness.{AllFit, Fair, rule-fair, begins-fair, writes-fair, schedules-fair, all-wait-still}
 use Rattle.machine_rules.proofs.Waiting.{housed-same, home-change}
 
 -- ---- statements
@@ -115,7 +119,15 @@ module _ {p : Loaded} {s t : State} (sound : IsSound p) (well : IsWell p s t) wh
   begins-stands {below} {o} {m} {arguments} b higher lower = begun-stands p s below o b.object m b.method arguments b.method.work t sound b.is refl b.gives higher well lower
 
   notified-stands : {objects : List Object} {old new : Value} {o q : ℕ} {x : Object} {property : MetaProperty} {notify signal : Option ℕ} → IsField p objects o q x property → property.notify ≡ notify → Changes old new notify signal → AllByRecursion (PlaceStands p objects) (places_of o q signal)
-  notified-stands {x = x} {property = property} f e (changed {signal = signal} h) = (record { object = x; property = property; is = f; signal = signal; notifies = e }, tt)
+  notified-stands {q = q} {property = property} f e (changed {signal = signal} h) = (
+    record {
+      created = lives-created f.lives;
+      living = λ y life lives.
+          let Notified : ℕ → Type 0 = λ class. IsNotified p class q in
+          subst Notified (ap (λ (l : Life). l.class) (life-unique f.lives lives)) (record { property = property; is = record { class = f.class; is_class = f.is_class; is = f.is_property }; signal = signal; notifies = e });
+    },
+    tt,
+  )
   notified-stands f e (unchanged h) = tt
   notified-stands f e silent = tt
 
@@ -124,7 +136,7 @@ module _ {p : Loaded} {s t : State} (sound : IsSound p) (well : IsWell p s t) wh
       let after : List Object = change_life o (written q new) s.objects in
       let places : AllByRecursion (PlaceStands p after) (places_of o q w.signal) = notified-stands (field-written new w.is) refl w.changes in
       let Family : State → Type 0 = λ u. AllStand p u in
-      subst Family (sym w.gives) (places, all-weaken (Stands p s.objects) (Stands p after) below (stands-still p s.objects after (written-stay s.objects o q new)) lower)
+      subst Family (sym w.gives) (places, all-stand-still p s.objects after below (written-stay s.objects o q new) (λ k body gone. sym (seen-written o q new s.objects k) ∙ gone) lower)
 
   -- the stack is another one, and the objects are the same
   as-is : {u : State} → t ≡ u → AllStand p u → AllStand p t
@@ -139,6 +151,15 @@ module _ {p : Loaded} {s t : State} (sound : IsSound p) (well : IsWell p s t) wh
   unlinked-stands stack ends names (Ok _) all = all
   unlinked-stands stack ends names (Err k) all = all
 
+  -- an object is scheduled to be deleted
+  schedules-stands : (stack : List Activation) (x : ℕ) (life : Option Life) → AllByRecursion (Stands p s.objects) stack → Schedules s stack x t life → AllStand p t
+  schedules-stands stack x None all r = as-is r all
+  schedules-stands stack x (Some l) all r = by_mark l.scheduled r
+    where
+      by_mark : (b : Bool) → DefersOnce s stack l.home x t b → AllStand p t
+      by_mark true e = as-is e all
+      by_mark false d = as-is d.gives (all-stand-still p s.objects _ stack (scheduled-stay s.objects x) (λ o body gone. sym (scheduled-seen s.objects x o) ∙ gone) all)
+
   -- what a statement does, over what stands
   does-stands : AreTyped p s.objects → (o m : ℕ) (arguments : List Value) (x : Statement) (rest : List Statement) (below : List Activation) (d : Doing) → BodyStands p s.objects o arguments (x ∷ rest) → doing s.objects o arguments (out-Statement x) ≡ Some d → AllByRecursion (Stands p s.objects) below → length s.stack ≡ suc (length below) → Does p s o m arguments rest below d t → AllStand p t
   does-stands typed o m arguments x rest below (Write y q new) body is lower high does = writes-stands does (body-rest body, lower)
@@ -149,6 +170,8 @@ module _ {p : Loaded} {s t : State} (sound : IsSound p) (well : IsWell p s t) wh
       as-is does.gives (linked-stands (Body o m arguments rest ∷ below) (kept_ends ends) how (names_of does.kept) does.answer (body-rest body, lower))
   does-stands typed o m arguments x rest below (Unlink ends) body is lower high does =
       as-is does.gives (unlinked-stands (Body o m arguments rest ∷ below) (kept_ends ends) (names_of does.kept) does.answer (body-rest body, lower))
+  does-stands typed o m arguments x rest below (Delete y) body is lower high does = as-is does (tt, (body-rest body, lower))
+  does-stands typed o m arguments x rest below (Schedule y) body is lower high does = schedules-stands (Body o m arguments rest ∷ below) y (life_of s.objects y) (body-rest body, lower) does
   does-stands typed o m arguments x rest below Nothing body is lower high does = as-is does (body-rest body, lower)
 
   body-stands : AreTyped p s.objects → (o m : ℕ) (arguments : List Value) (below : List Activation) (left : List Statement) → BodyStands p s.objects o arguments left → AllByRecursion (Stands p s.objects) below → length s.stack ≡ suc (length below) → BodyRule p s o m arguments below t left → AllStand p t
@@ -168,13 +191,41 @@ module _ {p : Loaded} {s t : State} (sound : IsSound p) (well : IsWell p s t) wh
 
   update-stands : (below : List Activation) (places : List Place) → AllByRecursion (PlaceStands p s.objects) places → AllByRecursion (Stands p s.objects) below → UpdateRule p s below t places → AllStand p t
   update-stands below [] there lower r = as-is r lower
-  update-stands below (place ∷ places) there lower r = as-is r.gives (tt, (there.1, lower))
+  update-stands below (place ∷ places) there lower r = by_life (life_of s.objects place.object) r
+    where
+      by_life : (life : Option Life) → NotifiesIf p s (Update places ∷ below) place t life → AllStand p t
+      by_life None e = as-is e (there.1, lower)
+      by_life (Some l) n = as-is n.gives (tt, (there.1, lower))
+
+  -- an object dies, which has no body
+  dies-stands : (stack : List Activation) (x : ℕ) → SparedIn stack s.objects t.objects → AllByRecursion (Stands p s.objects) stack → Dies s stack x t → AllStand p t
+  dies-stands stack x spared all d =
+      let after : List Object = without_life x s.objects in
+      let died_so : SparedIn stack s.objects after = λ o body gone. spared o body (subst (λ (u : State). IsDead u.objects o) (sym d.gives) gone) in
+      as-is d.gives (tt, all-stand-still p s.objects after stack (died-stay s.objects x d.named) died_so all)
+
+  destroy-stands : (below : List Activation) (next : Option ℕ) (torn : List ℕ) → SparedIn below s.objects t.objects → AllByRecursion (Stands p s.objects) below → DestroyRule s below t next torn → AllStand p t
+  destroy-stands below (Some x) torn spared lower r = by_life (is_living s.objects x) r
+    where
+      by_life : (b : Bool) → NextRule s below t x torn b → AllStand p t
+      by_life true d = dies-stands (Destroy (Some x) torn ∷ below) x spared (tt, lower) d
+      by_life false e = as-is e (tt, lower)
+  destroy-stands below None [] spared lower r = as-is r lower
+  destroy-stands below None (parent ∷ torn) spared lower r = by_child (living_child s parent) r
+    where
+      by_child : (child : Option ℕ) → ChildRule s below t parent torn child → AllStand p t
+      by_child (Some x) d = dies-stands (Destroy (Some x) (parent ∷ torn) ∷ below) x spared (tt, lower) d
+      by_child None e = as-is e (tt, lower)
 
   -- an item is delivered, or a turn ends
-  delivers-stands : (turn : ATurn) (item : Item) → length s.stack ≡ 0 → Delivers p (record s { queues = taken_before turn.home turn.limit s.queues }) t item → AllStand p t
-  delivers-stands turn (Call o m arguments) low b =
-      begun-stands p (record s { queues = taken_before turn.home turn.limit s.queues }) [] o b.object m b.method arguments b.method.work t sound b.is refl b.gives (omega (arith, low)) (record { arguments = well.arguments; values = well.values }) tt
-  delivers-stands turn (Deletion o) low b = absurd b
+  delivers-stands : (queues : Queues) (item : Item) → length s.stack ≡ 0 → AllStand p s → Delivers p (record s { queues = queues }) t item → AllStand p t
+  delivers-stands queues (Call o m arguments) low all r = by_life (life_of s.objects o) r
+    where
+      by_life : (life : Option Life) → BeginsIf p (record s { queues = queues }) o m arguments t life → AllStand p t
+      by_life None e = as-is e all
+      by_life (Some l) b =
+          begun-stands p (record s { queues = queues }) [] o b.object m b.method arguments b.method.work t sound b.is refl b.gives (omega (arith, low)) (record { arguments = well.arguments; values = well.values }) tt
+  delivers-stands queues (Deletion o) low all r = as-is r (tt, tt)
 
   turn-stands : (found : Option ATurn) → length s.stack ≡ 0 → AllStand p s → TurnRule p s t found → AllStand p t
   turn-stands None low all r = absurd r
@@ -182,20 +233,23 @@ module _ {p : Loaded} {s t : State} (sound : IsSound p) (well : IsWell p s t) wh
     where
       by_first : (first : Option Posted) → Serves p s t turn first → AllStand p t
       by_first None e = as-is e all
-      by_first (Some q) d = delivers-stands turn q.item low d
+      by_first (Some q) d = delivers-stands (taken_before turn.home turn.limit s.queues) q.item low all d
 
-  rule-stands : AreTyped p s.objects → (stack : List Activation) → AllStand p s → AllByRecursion (Stands p s.objects) stack → length s.stack ≡ length stack → RuleAt p s t stack → AllStand p t
-  rule-stands typed [] here all high r = turn-stands s.turn high here r
-  rule-stands typed (Body o m arguments left ∷ below) here all high r = body-stands typed o m arguments below left all.0 all.1 high r
-  rule-stands typed (Emit o g arguments used last ∷ below) here all high r = emission-stands o g arguments last below (next_used s.objects s.connected.connections o g used last) all.1 high r
-  rule-stands typed (Update places ∷ below) here all high r = update-stands below places all.0 all.1 r
+  rule-stands : AreTyped p s.objects → Spares s t → (stack : List Activation) → s.stack ≡ stack → AllStand p s → AllByRecursion (Stands p s.objects) stack → RuleAt p s t stack → AllStand p t
+  rule-stands typed spares [] is here all r = turn-stands s.turn (ap (λ (l : List Activation). length l) is) here r
+  rule-stands typed spares (Body o m arguments left ∷ below) is here all r = body-stands typed o m arguments below left all.0 all.1 (ap (λ (l : List Activation). length l) is) r
+  rule-stands typed spares (Emit o g arguments used last ∷ below) is here all r =
+      emission-stands o g arguments last below (next_used s.objects s.connected.connections o g used last) all.1 (ap (λ (l : List Activation). length l) is) r
+  rule-stands typed spares (Update places ∷ below) is here all r = update-stands below places all.0 all.1 r
+  rule-stands typed spares (Destroy next torn ∷ below) is here all r =
+      destroy-stands below next torn (λ o body gone. spares o (subst (λ (l : List Activation). IsTrue (has_body o l)) (sym is) body) gone) all.1 r
 
   -- what is going on stands where the stack does
   kept-invariant : Invariant p s → Keeps p s 1 t 0 → AllStand p t → Fair p t → Invariant p t
   kept-invariant up kept stands fair = record { sound = record { typed = well.values; joined = kept.joined sound up.sound.joined; housed = kept.housed up.sound.housed; waiting = fair.waiting }; stands = stands; emitted = fair.emitted }
 
-  rule-invariant : Invariant p s → Rule p s t → Invariant p t
-  rule-invariant up r = kept-invariant up (rule-kept p s t s.stack r) (rule-stands up.sound.typed s.stack up.stands up.stands refl r) (rule-fair well up.sound.waiting s.stack up.sound.joined up.emitted up.emitted refl r)
+  rule-invariant : Spares s t → Invariant p s → Rule p s t → Invariant p t
+  rule-invariant spares up r = kept-invariant up (rule-kept p s t s.stack r) (rule-stands up.sound.typed spares s.stack refl up.stands up.stands r) (rule-fair sound well up.sound.waiting s.stack up.sound.joined up.emitted up.emitted refl r)
 
 -- ---- events
 
@@ -221,7 +275,11 @@ changed-invariant {p} {s} objects idle up typed stay housed = record {
 
 -- an object is added
 created-stay : (objects : List Object) (x : Object) (l : Life) → x.life ≡ Some l → StayThere objects (objects ++ x ∷ [])
-created-stay objects x l alive = record { living = λ o class is. class-more objects x o class is; dead = λ o is. seen-appended objects x l o o alive ∙ is }
+created-stay objects x l alive = record {
+  living = λ o class is. inl (class-more objects x o class is);
+  dead = λ o is. seen-appended objects x l o o alive ∙ is;
+  created = omega (arith, length-append objects (x ∷ []));
+}
 
 -- an event loop is added
 loop-invariant : {p : Loaded} {s : State} (name : List ℕ) → Invariant p s → Invariant p (record (accepted s) { queues = with_loop name s.queues })
@@ -232,11 +290,11 @@ loop-invariant {p} {s} name up = record {
 }
 
 -- .. where each of them shows the same
-same-stay : (old new : List Object) → ((o : ℕ) → shape_in (slice_get new o) ≡ shape_in (slice_get old o)) → StayThere old new
-same-stay old new same = record { living = λ o class is. class-same old new o (same o) ∙ is; dead = λ o is. seen-same old new o (same o) ∙ is }
+same-stay : (old new : List Object) → length new ≡ length old → ((o : ℕ) → shape_in (slice_get new o) ≡ shape_in (slice_get old o)) → StayThere old new
+same-stay old new many same = record { living = λ o class is. inl (class-same old new o (same o) ∙ is); dead = λ o is. seen-same old new o (same o) ∙ is; created = omega (arith, many) }
 
 adopted-stay : {a c : ℕ} {y : Life} {old new : List Object} → IsAdopted a c y old new → StayThere old new
-adopted-stay {a} {c} {old = old} is = adopted-by (λ (l : List Object). StayThere old l) (all-stay old) (same-stay old (moved a c old) (shape-moved a c old)) is
+adopted-stay {a} {c} {old = old} is = adopted-by (λ (l : List Object). StayThere old l) (all-stay old) (same-stay old (moved a c old) (length-moved a c old) (shape-moved a c old)) is
 
 -- .. and lives where it lived
 adopted-housed : {a c : ℕ} {y : Life} {old new : List Object} (loops : List ALoop) → IsAdopted a c y old new → AreHoused old loops → AreHoused new loops
@@ -271,11 +329,11 @@ accepted-well well = record { arguments = well.arguments; values = well.values }
 
 invoked-invariant : {p : Loaded} {s t : State} (a : Invocation) (name called : List ℕ) (inputs : List Input) → IsSound p → Invariant p s → IsWell p s t → invoke p s a name called inputs (Ok t) → Invariant p t
 invoked-invariant {p} {s} a name called inputs sound up well (goes_on _ o (goes_on _ m (goes_on _ vs (goes_on _ fit (becomes begins))))) =
-    kept-invariant sound (accepted-well well) (accepted-invariant up) (begins-kept begins) (begins-stands sound (accepted-well well) begins (omega arith) up.stands) (begins-fair (accepted-well well) up.sound.waiting begins (omega arith) up.emitted)
+    kept-invariant sound (accepted-well well) (accepted-invariant up) (begins-kept begins) (begins-stands sound (accepted-well well) begins (omega arith) up.stands) (begins-fair sound (accepted-well well) up.sound.waiting begins (omega arith) up.emitted)
 
 blocked-invariant : {p : Loaded} {s t : State} (name : List ℕ) (on : Bool) → IsIdle s → Invariant p s → IsWell p s t → block s name on (Ok t) → Invariant p t
 blocked-invariant {p} {s} name on idle up well (goes_on o lives just) =
-    changed-invariant (change_life o.number (blocked on) s.objects) idle up well.values (same-stay s.objects _ (shape-change o.number (blocked on) s.objects (λ l. refl)))
+    changed-invariant (change_life o.number (blocked on) s.objects) idle up well.values (same-stay s.objects _ (length-change o.number (with_life (blocked on)) s.objects) (shape-change o.number (blocked on) s.objects (λ l. refl)))
     (housed-same s.objects _ s.queues.loops s.queues.loops (home-change o.number (blocked on) s.objects (λ l. refl)) refl up.sound.housed)
 
 judged-invariant : {p : Loaded} {s t : State} (e : Event) → IsSound p → IsIdle s → Invariant p s → judged p s e (Ok t) → IsWell p s t → Invariant p t
@@ -310,11 +368,19 @@ judged-invariant {p} {s} (Disconnect e) sound idle up (goes_on f named (goes_on 
       emitted = up.emitted;
     })
 judged-invariant {p} {s} (Set name property i) sound idle up (goes_on _ o (goes_on _ q (goes_on _ v (goes_on _ fits (becomes writes))))) well =
-    kept-invariant sound (accepted-well well) (accepted-invariant up) (writes-kept writes) (writes-stands sound (accepted-well well) writes up.stands) (writes-fair (accepted-well well) up.sound.waiting writes up.emitted)
+    kept-invariant sound (accepted-well well) (accepted-invariant up) (writes-kept writes) (writes-stands sound (accepted-well well) writes up.stands) (writes-fair sound (accepted-well well) up.sound.waiting writes up.emitted)
 judged-invariant (EmitEvent name signal inputs) sound idle up x well = invoked-invariant EmitIt name signal inputs sound up well x
 judged-invariant (CallEvent name slot inputs) sound idle up x well = invoked-invariant CallIt name slot inputs sound up well x
 judged-invariant (Block name) sound idle up x well = blocked-invariant name true idle up well x
 judged-invariant (Unblock name) sound idle up x well = blocked-invariant name false idle up well x
+judged-invariant (DeleteEvent name) sound idle up (goes_on o lives just) well = record {
+  sound = record { typed = up.sound.typed; joined = up.sound.joined; housed = up.sound.housed; waiting = up.sound.waiting };
+  stands = (tt, up.stands);
+  emitted = (tt, up.emitted);
+}
+judged-invariant {p} {s} {t} (LaterEvent name) sound idle up (goes_on o lives (becomes x)) well =
+    kept-invariant sound (accepted-well well) (accepted-invariant up) (schedules-kept p (accepted s) s.stack o.number t (Some o.it) x)
+    (schedules-stands sound (accepted-well well) s.stack o.number (Some o.it) up.stands x) (schedules-fair sound (accepted-well well) up.sound.waiting s.stack o.number (Some o.it) x up.emitted)
 
 takes-invariant : {p : Loaded} {s t : State} {e : Event} → IsSound p → Invariant p s → Takes p e s t → IsWell p s t → Invariant p t
 takes-invariant {e = e} sound up (accepts idle x) well = judged-invariant e sound idle up x well
@@ -323,7 +389,7 @@ takes-invariant sound up (refuses k idle x) well = record { sound = record { typ
 -- every state that rules lead to stands
 rules-invariant : {p : Loaded} {d : ℕ} {s t : State} {n k : ℕ} → IsSound p → Rules p d s n t k → Invariant p s → Invariant p t
 rules-invariant sound of_rules.done up = up
-rules-invariant sound (of_rules.then r good rest) up = rules-invariant sound rest (rule-invariant sound good.well up r)
+rules-invariant sound (of_rules.then r good rest) up = rules-invariant sound rest (rule-invariant sound good.well good.spared up r)
 
 -- every state of a run keeps it
 pub runs-invariant : {p : Loaded} {d : ℕ} {s t : State} {n k : ℕ} {es : List Event} → IsSound p → Runs p d s n es t k → Invariant p s → Invariant p t

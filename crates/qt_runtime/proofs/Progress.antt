@@ -1,5 +1,5 @@
 -- What goes on in a run lacks a next rule only for want of a value.
-use Rattle.std.proofs.Common.{◌≡◌, ◌≢◌, ℕ, true, false, List, [], ◌∷◌, Option, Some, None, Result, Ok, Err, refl, Bool, length, take, ap}
+use Rattle.std.proofs.Common.{◌≡◌, ◌≢◌, ℕ, true, false, List, [], ◌∷◌, Option, Some, None, Result, Ok, Err, refl, subst, Bool, cond, length, take, ap}
 use Rattle.std.specs.List.{AllByRecursion}
 use Rattle.signatures.specs.declared.value.Value.{Value}
 use Rattle.script_lang.specs.declared.event.Event.{Event}
@@ -20,31 +20,36 @@ use Rattle.connections.specs.declared.connection.Connection.{Connection}
 use Rattle.machine_state.specs.declared.fault.Fault.{Fault}
 use Rattle.object_tree.specs.declared.object.Object.{Object}
 use Rattle.object_tree.specs.Seen.{seen}
-use Rattle.machine_state.specs.State.{State, IsIdle, Place, Activation, Body, Emit, Update}
-use Rattle.machine_rules.specs.Rules.{RuleAt, StatementRule, Does, EmitRule, UpdateRule, Writes, Changes, changed, unchanged, silent, Connects, Disconnects, TurnRule, Serves, Delivers, Arrives, with_used}
-use Rattle.machine_rules.specs.Doings.{Doing, Write, Begin, Choose, Connect, Disconnect, Nothing, doing}
+use Rattle.machine_state.specs.State.{State, IsIdle, Place, Activation, Body, Emit, Update, Destroy}
+use Rattle.machine_rules.specs.Rules.{RuleAt, StatementRule, Does, EmitRule, UpdateRule, Writes, Changes, changed, unchanged, silent, Connects, Disconnects, TurnRule, Serves, Delivers, Arrives, with_used, BeginsIf, NotifiesIf}
+use Rattle.machine_rules.specs.Destroying.{Dies, NextRule, ChildRule, DestroyRule, living_child, DefersOnce, Schedules}
+use Rattle.machine_rules.specs.Doings.{Doing, Write, Begin, Choose, Connect, Disconnect, Delete, Schedule, Nothing, doing}
+use Rattle.std.specs.Prelude.{is_some}
 use Rattle.std.specs.List.{find}
+use Rattle.object_tree.specs.Family.{children_of}
 use Rattle.std.specs.Option.{option_map}
 use Rattle.event_loops.specs.declared.item.Item.{Item}
 use Rattle.event_loops.specs.declared.item.Item.TheVariants.{Call, Deletion}
 use Rattle.event_loops.specs.declared.item.Posted.{Posted}
-use Rattle.event_loops.specs.Queues.{HasName, items_at, is_before, taken_before}
+use Rattle.event_loops.specs.Queues.{Queues, HasName, items_at, is_before, taken_before}
 use Rattle.object_tree.specs.declared.life.Life.{Life}
-use Rattle.object_tree.proofs.Changing.{life-of-lives}
+use Rattle.object_tree.specs.Objects.{life_of}
+use Rattle.object_tree.proofs.Changing.{life-of-lives, lives-of-life}
 use Rattle.machine_state.specs.Objects.{home_of}
 use Rattle.machine_state.specs.declared.turn.Turn.{Turn}
 use Rattle.machine_state.specs.Turns.{running, reaches_at_once}
-use Rattle.machine_state.specs.Connections.{next_used}
+use Rattle.machine_state.specs.Connections.{is_living, next_used}
 use Rattle.machine_rules.specs.Runs.{IsStuck}
 use Rattle.machine_rules.proofs.Reaching.{reason-more}
 use Rattle.qt_runtime.specs.Runs.{RunStops}
 use Rattle.qt_runtime.specs.Causes.{LacksValue, Cause}
 use Rattle.machine_rules.specs.There.{IsField}
-use Rattle.machine_rules.proofs.Beginning.{next-joined}
+use Rattle.machine_rules.proofs.Beginning.{next-delivered}
 use Rattle.machine_rules.proofs.Fields.{old-there}
 use Rattle.qt_runtime.proofs.Possible.{IsPossible, possible}
 use Rattle.qt_runtime.proofs.Standing.{BodyStands, PlaceStands, Stands, Invariant}
-use Rattle.machine_rules.specs.Sound.{Joined, Waits}
+use Rattle.machine_rules.specs.Sound.{IsDelivered, Waits}
+use Rattle.machine_rules.proofs.Soundness.{AllFit}
 use Rattle.machine_rules.proofs.Waiting.{loop-named, first-waits}
 
 -- whether the value has changed or not, something may be notified
@@ -70,6 +75,39 @@ arrives-somehow : (s : State) (stack : List Activation) (home o : ℕ) (x : Obje
 arrives-somehow s stack home o x m method given true named none = none _ refl
 arrives-somehow s stack home o x m method given false named none = none _ (record { name = named.0; is_loop = named.1; gives = refl })
 
+-- what is found as living lives
+found-lives : (objects : List Object) (os : List ℕ) (x : ℕ) → find (is_living objects) os ≡ Some x → is_living objects x ≡ true
+found-lives objects [] x e = absurd (cc e)
+found-lives objects (o ∷ os) x e =
+    (elim (is_living objects o) as (λ b. is_living objects o ≡ b → cond b (Some o) (find (is_living objects) os) ≡ Some x → is_living objects x ≡ true) [
+      | true ↦ λ lives is. let same : o ≡ x = cc is in subst (λ (k : ℕ). is_living objects k ≡ true) same lives
+      | false ↦ λ not is. found-lives objects os x is
+    ]) refl e
+
+-- a living object dies somehow, since it has a name
+dies-somehow : (s : State) (stack : List Activation) (x : ℕ) → is_living s.objects x ≡ true → ((t : State) → ¬ Dies s stack x t) → ⊥
+dies-somehow s stack x lives none = by_life (life_of s.objects x) refl lives
+  where
+    by_life : (life : Option Life) → life_of s.objects x ≡ life → is_some life ≡ true → ⊥
+    by_life None is b = absurd (cc b)
+    by_life (Some l) is b =
+        let there = lives-of-life s.objects x l is in
+        none _ (record { name = there.0.name; named = ap (option_map (λ (y : Object). y.name)) there.1.is; gives = refl })
+
+-- .. so a deletion has a next rule
+destroy-somehow : (s : State) (below : List Activation) (next : Option ℕ) (torn : List ℕ) → ((t : State) → ¬ DestroyRule s below t next torn) → ⊥
+destroy-somehow s below (Some x) torn none = by_life (is_living s.objects x) refl none
+  where
+    by_life : (b : Bool) → is_living s.objects x ≡ b → ((t : State) → ¬ NextRule s below t x torn b) → ⊥
+    by_life true is stuck = dies-somehow s (Destroy (Some x) torn ∷ below) x is stuck
+    by_life false is stuck = stuck _ refl
+destroy-somehow s below None [] none = none _ refl
+destroy-somehow s below None (parent ∷ torn) none = by_child (living_child s parent) refl none
+  where
+    by_child : (child : Option ℕ) → living_child s parent ≡ child → ((t : State) → ¬ ChildRule s below t parent torn child) → ⊥
+    by_child None is stuck = stuck _ refl
+    by_child (Some x) is stuck = dies-somehow s (Destroy (Some x) (parent ∷ torn) ∷ below) x (found-lives s.objects (children_of s.objects parent) x is) stuck
+
 module _ {p : Loaded} {s : State} (sound : IsSound p) (up : Invariant p s) where
   -- a property that is there may be written
   no-write : {o q : ℕ} {x : Object} {property : MetaProperty} {new : Value} {below : List Activation} → IsField p s.objects o q x property → ((t : State) → ¬ Writes p s below o q new t) → ⊥
@@ -86,6 +124,19 @@ module _ {p : Loaded} {s : State} (sound : IsSound p) (up : Invariant p s) where
   no-disconnect : {ends : Endpoints} {stack : List Activation} → AreThere p s.objects ends → ((t : State) → ¬ Disconnects p s stack ends t) → ⊥
   no-disconnect spelled none = check-somehow (λ answer judged. none _ (record { kept = kept-there spelled; answer = answer; judged = judged; gives = refl }))
 
+  -- an object may be scheduled to be deleted, since its loop has a name
+  no-schedule : (stack : List Activation) (x : ℕ) (life : Option Life) → life_of s.objects x ≡ life → ((t : State) → ¬ Schedules s stack x t life) → ⊥
+  no-schedule stack x None is none = none _ refl
+  no-schedule stack x (Some l) is none = by_mark l.scheduled none
+    where
+      by_mark : (b : Bool) → ((t : State) → ¬ DefersOnce s stack l.home x t b) → ⊥
+      by_mark true stays = stays _ refl
+      by_mark false stays =
+          let there = lives-of-life s.objects x l is in
+          let lives : home_of s.objects x ≡ Some l.home = ap (option_map (λ (k : Life). k.home)) is in
+          let named = loop-named s.queues.loops l.home (up.sound.housed.each x l.home lives) in
+          stays _ (record { loop = named.0; is_loop = named.1; name = there.0.name; named = ap (option_map (λ (y : Object). y.name)) there.1.is; gives = refl })
+
   -- what is possible is done by some rule
   possible-goes : (o m : ℕ) (arguments : List Value) (rest : List Statement) (below : List Activation) (me : ℕ) (kinds : List ValueType) (d : Doing) → IsPossible p s.objects me kinds d → ((t : State) → ¬ Does p s o m arguments rest below d t) → ⊥
   possible-goes o m arguments rest below me kinds (Write x q new) may none = no-write {new = new} {below = Body o m arguments rest ∷ below} may.2 none
@@ -93,6 +144,8 @@ module _ {p : Loaded} {s : State} (sound : IsSound p) (up : Invariant p s) where
   possible-goes o m arguments rest below me kinds (Choose block) may none = none _ refl
   possible-goes o m arguments rest below me kinds (Connect ends how) may none = no-connect may none
   possible-goes o m arguments rest below me kinds (Disconnect ends) may none = no-disconnect may none
+  possible-goes o m arguments rest below me kinds (Delete x) may none = none _ refl
+  possible-goes o m arguments rest below me kinds (Schedule x) may none = no-schedule (Body o m arguments rest ∷ below) x (life_of s.objects x) refl none
   possible-goes o m arguments rest below me kinds Nothing may none = none _ refl
 
   -- a statement that has no next rule lacks a value
@@ -104,61 +157,76 @@ module _ {p : Loaded} {s : State} (sound : IsSound p) (up : Invariant p s) where
       by_found (Some d) is = absurd (possible-goes o m arguments rest below body.declaring body.kinds d (possible sound up.sound.typed body d is) (λ t does. stuck t (record { what = d; is = is; does = does })))
 
   -- an emission has a next rule
-  emission-goes : (o g : ℕ) (arguments : List Value) (last : ℕ) (below : List Activation) (found : Option Connection) → ((c : Connection) → found ≡ Some c → Joined p s.objects c) → ((t : State) → ¬ EmitRule p s o g arguments last below t found) → ⊥
+  emission-goes : (o g : ℕ) (arguments : List Value) (last : ℕ) (below : List Activation) (found : Option Connection) → ((c : Connection) → found ≡ Some c → IsDelivered p s.objects c arguments) → ((t : State) → ¬ EmitRule p s o g arguments last below t found) → ⊥
   emission-goes o g arguments last below None delivers stuck = stuck _ refl
   emission-goes o g arguments last below (Some c) delivers stuck =
       let d = delivers c refl in
-      let home : ℕ = d.receives.life.home in
-      let lives : home_of s.objects c.receiver ≡ Some home = ap (λ (there : Option Life). option_map (λ (l : Life). l.home) there) (life-of-lives d.receives.lives) in
+      let home : ℕ = d.is.life.home in
+      let lives : home_of s.objects c.receiver ≡ Some home = ap (λ (there : Option Life). option_map (λ (l : Life). l.home) there) (life-of-lives d.is.lives) in
       let named = loop-named s.queues.loops home (up.sound.housed.each c.receiver home lives) in
       arrives-somehow (with_used s c) (Emit o g arguments c.number last ∷ below) home c.receiver d.receiver c.method d.method (take (length d.method.kinds) arguments) (reaches_at_once c.kind home (running s.turn)) named
-      (λ t r. stuck t (record { receiver = d.receiver; method = d.method; is = d.receives; home = home; lives_in = lives; arrives = r }))
+      (λ t r. stuck t (record { receiver = d.receiver; method = d.method; is = d.is; home = home; lives_in = lives; arrives = r }))
+
+  -- a call that waits begins, if its object lives
+  delivers-goes : (queues : Queues) (item : Item) → Waits p s.objects item → ((t : State) → ¬ Delivers p (record s { queues = queues }) t item) → ⊥
+  delivers-goes queues (Call o m arguments) waits none = by_life (life_of s.objects o) refl none
+    where
+      by_life : (life : Option Life) → life_of s.objects o ≡ life → ((t : State) → ¬ BeginsIf p (record s { queues = queues }) o m arguments t life) → ⊥
+      by_life None is stays = stays _ refl
+      by_life (Some l) is stays =
+          let there = lives-of-life s.objects o l is in
+          let declared = waits.takes.living there.0 l there.1 in
+          stays _ (record { object = there.0; method = declared.method; is = record { life = l; lives = there.1; is_method = declared.is }; gives = refl })
+  delivers-goes queues (Deletion o) waits none = none _ refl
 
   -- .. and so has a turn
   turn-goes : (turn : Turn) (first : Option Posted) → ((q : Posted) → first ≡ Some q → Waits p s.objects q.item) → ((t : State) → ¬ Serves p s t turn first) → ⊥
   turn-goes turn None waits stuck = stuck _ refl
-  turn-goes turn (Some q) waits stuck = delivers q.item (waits q refl) stuck
-    where
-      delivers : (item : Item) → Waits p s.objects item → ((t : State) → ¬ Delivers p (record s { queues = taken_before turn.home turn.limit s.queues }) t item) → ⊥
-      delivers (Call o m arguments) fit none = none _ (record { object = fit.object; method = fit.method; is = fit.is; gives = refl })
-      delivers (Deletion o) fit none = fit
+  turn-goes turn (Some q) waits stuck = delivers-goes (taken_before turn.home turn.limit s.queues) q.item (waits q refl) stuck
 
   -- .. and so has an update
   update-goes : (below : List Activation) (places : List Place) → AllByRecursion (PlaceStands p s.objects) places → ((t : State) → ¬ UpdateRule p s below t places) → ⊥
   update-goes below [] all stuck = stuck _ refl
-  update-goes below (place ∷ places) all stuck =
-      let x = all.0 in
-      let notifier = ((sound.classes x.is.life.class x.is.class x.is.is_class).properties place.property x.property x.is.is_property).notifies x.signal x.notifies in
-      let present = old-there x.is up.sound.typed in
-      stuck _ (record {
-        object = x.object;
-        property = x.property;
-        is = x.is;
-        signal = x.signal;
-        is_signal = x.notifies;
-        present = present.0;
-        is_present = present.1;
-        method = notifier.signal;
-        is_method = record { class = x.is.class; is_class = x.is.is_class; is = notifier.is };
-        gives = refl;
-      })
+  update-goes below (place ∷ places) all stuck = by_life (life_of s.objects place.object) refl stuck
+    where
+      by_life : (life : Option Life) → life_of s.objects place.object ≡ life → ((t : State) → ¬ NotifiesIf p s (Update places ∷ below) place t life) → ⊥
+      by_life None is stays = stays _ refl
+      by_life (Some l) is stays =
+          let there = lives-of-life s.objects place.object l is in
+          let x = all.0.living there.0 l there.1 in
+          let field : IsField p s.objects place.object place.property there.0 x.property = record { life = l; lives = there.1; class = x.is.class; is_class = x.is.is_class; is_property = x.is.is } in
+          let notifier = ((sound.classes l.class x.is.class x.is.is_class).properties place.property x.property x.is.is).notifies x.signal x.notifies in
+          let present = old-there field up.sound.typed in
+          stays _ (record {
+            object = there.0;
+            property = x.property;
+            is = field;
+            signal = x.signal;
+            is_signal = x.notifies;
+            present = present.0;
+            is_present = present.1;
+            method = notifier.signal;
+            is_method = record { class = x.is.class; is_class = x.is.is_class; is = notifier.is };
+            gives = refl;
+          })
 
-  stack-lacks : (stack : List Activation) → s.stack ≡ stack → (¬ IsIdle s) → AllByRecursion (Stands p s.objects) stack → ((t : State) → ¬ RuleAt p s t stack) → LacksValue s
-  stack-lacks [] e goes_on all stuck = by_turn s.turn refl stuck
+  stack-lacks : (stack : List Activation) → s.stack ≡ stack → (¬ IsIdle s) → AllByRecursion (Stands p s.objects) stack → AllFit p s.objects stack → ((t : State) → ¬ RuleAt p s t stack) → LacksValue s
+  stack-lacks [] e goes_on all fit stuck = by_turn s.turn refl stuck
     where
       by_turn : (found : Option Turn) → s.turn ≡ found → ((t : State) → ¬ TurnRule p s t found) → LacksValue s
       by_turn None none stays = absurd (goes_on (record { empty = e; no_turn = none }))
       by_turn (Some turn) is stays = absurd (turn-goes turn (find (is_before turn.limit) (items_at s.queues.loops turn.home)) (λ q found. first-waits p s.objects s.queues.loops turn.home turn.limit q up.sound.waiting found) stays)
-  stack-lacks (Body o m arguments [] ∷ below) e goes_on all stuck = absurd (stuck _ refl)
-  stack-lacks (Body o m arguments (x ∷ rest) ∷ below) e goes_on all stuck =
+  stack-lacks (Body o m arguments [] ∷ below) e goes_on all fit stuck = absurd (stuck _ refl)
+  stack-lacks (Body o m arguments (x ∷ rest) ∷ below) e goes_on all fit stuck =
       record { object = o; method = m; arguments = arguments; statement = x; rest = rest; below = below; is_next = e; lacks = statement-lacks o m arguments x rest below all.0 stuck }
-  stack-lacks (Emit o g arguments used last ∷ below) e goes_on all stuck =
-      absurd (emission-goes o g arguments last below (next_used s.objects s.connected.connections o g used last) (λ c found. next-joined s.objects s.connected.connections o g used last c up.sound.joined found) stuck)
-  stack-lacks (Update places ∷ below) e goes_on all stuck = absurd (update-goes below places all.0 stuck)
+  stack-lacks (Emit o g arguments used last ∷ below) e goes_on all fit stuck =
+      absurd (emission-goes o g arguments last below (next_used s.objects s.connected.connections o g used last) (λ c found. next-delivered s.connected.connections o g used last c up.sound.joined fit.0 found) stuck)
+  stack-lacks (Update places ∷ below) e goes_on all fit stuck = absurd (update-goes below places all.0 stuck)
+  stack-lacks (Destroy next torn ∷ below) e goes_on all fit stuck = absurd (destroy-somehow s below next torn stuck)
 
   -- what goes on without a next rule lacks a value
   pub stuck-lacks : IsStuck p s → LacksValue s
-  stuck-lacks x = stack-lacks s.stack refl x.goes_on up.stands x.stuck
+  stuck-lacks x = stack-lacks s.stack refl x.goes_on up.stands up.emitted x.stuck
 
   pub cause-of : (d left : ℕ) (es : List Event) (f : Fault) → RunStops p d s left es f → Cause p d s left es f
   cause-of d left es f r = reason-more p d s left f (λ stuck. (stuck, stuck-lacks stuck)) (λ t follows. follows) (λ due. due) r

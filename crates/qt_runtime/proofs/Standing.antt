@@ -1,23 +1,27 @@
--- What stands in a run: the objects that activations name live, their properties are there, and bodies are sound.
-use Rattle.std.proofs.Common.{◌≡◌, ℕ, List, Some, sym, subst}
+-- What stands in a run: an object lives as long as a body of it is active, the properties that are to be notified are
+-- there as long as their objects live, and bodies are sound.
+use Rattle.std.proofs.Common.{◌≡◌, ℕ, ◌<◌, eqb, ◌||◌, Bool, true, false, IsTrue, List, [], ◌∷◌, length, Some, sym, subst, refl, arith}
 use Rattle.std.specs.List.{AllByRecursion}
+use Rattle.std.proofs.lemmas.Bool.{eq-eqb}
 use Rattle.signatures.specs.declared.value.Value.{Value}
 use Rattle.meta_model.specs.declared.object.MetaProperty.{MetaProperty}
 use Rattle.meta_model.specs.declared.object.Statement.{Statement}
 use Rattle.meta_model.specs.declared.object.ValueType.{ValueType}
 use Rattle.meta_model.specs.Loaded.{Loaded}
-use Rattle.meta_model.specs.Members.{IsClass, Below}
+use Rattle.meta_model.specs.Members.{IsProperty, Below}
 use Rattle.meta_model.specs.Sound.{AreSound}
 use Rattle.object_tree.specs.declared.life.Life.{Life}
 use Rattle.object_tree.specs.declared.object.Object.{Object}
 use Rattle.object_tree.specs.Objects.{Lives}
 use Rattle.object_tree.specs.Typed.{ReadAs}
-use Rattle.machine_state.specs.State.{State, Place, Activation, Body, Emit, Update}
+use Rattle.machine_state.specs.State.{State, Place, Activation, Body, Emit, Update, Destroy}
+use Rattle.machine_rules.specs.Good.{has_body}
 use Rattle.machine_rules.specs.Keeps.{StayThere}
 use Rattle.machine_rules.proofs.Soundness.{AllFit}
 use Rattle.machine_rules.specs.Sound.{Sound}
-use Rattle.machine_rules.specs.There.{IsField}
-use Rattle.machine_rules.proofs.Keeps.{stays, values-stay}
+use Rattle.machine_rules.specs.There.{IsDead}
+use Rattle.machine_rules.proofs.Dying.{lives-not-dead}
+use Rattle.machine_rules.proofs.Keeps.{lived, lives-on, values-stay}
 use Rattle.machine_rules.proofs.Lists.{all-weaken}
 
 -- ---- what stands
@@ -33,18 +37,23 @@ pub record BodyStands (p : Loaded) (objects : List Object) (o : ℕ) (arguments 
   pub typed : ReadAs p objects arguments kinds
   pub sound : AreSound p declaring kinds left
 
--- a property that is to be notified is there, and has a notify signal
-pub record PlaceStands (p : Loaded) (objects : List Object) (place : Place) : Type 0 where
-  pub object : Object
+-- a property of a class that has a notify signal
+pub record IsNotified (p : Loaded) (class q : ℕ) : Type 0 where
   pub property : MetaProperty
-  pub is : IsField p objects place.object place.property object property
+  pub is : IsProperty p class q property
   pub signal : ℕ
   pub notifies : property.notify ≡ Some signal
+
+-- a property that is to be notified is one as long as its object lives
+pub record PlaceStands (p : Loaded) (objects : List Object) (place : Place) : Type 0 where
+  pub created : place.object < length objects
+  pub living : (x : Object) (life : Life) → Lives objects place.object x life → IsNotified p life.class place.property
 
 abbrev pub Stands : Loaded → List Object → Activation → Type 0
 Stands p objects (Body o m arguments left) = BodyStands p objects o arguments left
 Stands p objects (Emit o g arguments used last) = Unit {0}
 Stands p objects (Update places) = AllByRecursion (PlaceStands p objects) places
+Stands p objects (Destroy next torn) = Unit {0}
 
 -- the world is sound, what is going on stands, and emissions have the arguments of their signals
 pub record Invariant (p : Loaded) (s : State) : Type 0 where
@@ -52,23 +61,19 @@ pub record Invariant (p : Loaded) (s : State) : Type 0 where
   pub stands : AllByRecursion (Stands p s.objects) s.stack
   pub emitted : AllFit p s.objects s.stack
 
--- ---- it stands as long as the objects are those that they were
+-- ---- it stands as long as no object dies that has a body
 
 pub place-still : {p : Loaded} (old new : List Object) → StayThere old new → (place : Place) → PlaceStands p old place → PlaceStands p new place
-place-still {p} old new stay place x =
-    let y = stays old new place.object stay x.is.lives in
-    let Classes : ℕ → Type 0 = λ k. IsClass p k x.is.class in
+place-still {p} old new stay place stands =
+    let Notified : ℕ → Type 0 = λ class. IsNotified p class place.property in
     record {
-      object = y.0;
-      property = x.property;
-      is = record { life = y.1; lives = y.2; class = x.is.class; is_class = subst Classes (sym y.3) x.is.is_class; is_property = x.is.is_property };
-      signal = x.signal;
-      notifies = x.notifies;
+      created = omega (arith, stands.created, stay.created);
+      living = λ x life lives. let before = lived old new place.object stay stands.created lives in subst Notified before.3 (stands.living before.0 before.1 before.2);
     }
 
-pub stands-still : (p : Loaded) (old new : List Object) → StayThere old new → (a : Activation) → Stands p old a → Stands p new a
-stands-still p old new stay (Body o m arguments left) x =
-    let y = stays old new o stay x.lives in
+body-still : (p : Loaded) (old new : List Object) → StayThere old new → (o : ℕ) (arguments : List Value) (left : List Statement) → (IsDead new o → IsDead old o) → BodyStands p old o arguments left → BodyStands p new o arguments left
+body-still p old new stay o arguments left spared x =
+    let y = lives-on old new o stay (λ gone. lives-not-dead x.lives (spared gone)) x.lives in
     let Classes : ℕ → Type 0 = λ k. Below p k x.declaring in
     record {
       object = y.0;
@@ -80,8 +85,32 @@ stands-still p old new stay (Body o m arguments left) x =
       typed = values-stay p stay arguments x.kinds x.typed;
       sound = x.sound;
     }
-stands-still p old new stay (Emit o g arguments used last) x = tt
-stands-still p old new stay (Update places) x = all-weaken (PlaceStands p old) (PlaceStands p new) places (place-still old new stay) x
+
+-- no object has died that has a body among these
+abbrev pub SparedIn : List Activation → List Object → List Object → Type 0
+SparedIn stack old new = (o : ℕ) → IsTrue (has_body o stack) → IsDead new o → IsDead old o
+
+own-body : (o : ℕ) (other : Bool) → IsTrue (eqb o o || other)
+own-body o other = by_test (eqb o o) (eq-eqb o o refl)
+  where
+    by_test : (b : Bool) → b ≡ true → IsTrue (b || other)
+    by_test true e = refl
+    by_test false e = absurd (cc e)
+
+lower-body : (one other : Bool) → IsTrue other → IsTrue (one || other)
+lower-body true other h = refl
+lower-body false other h = h
+
+pub all-stand-still : (p : Loaded) (old new : List Object) (stack : List Activation) → StayThere old new → SparedIn stack old new → AllByRecursion (Stands p old) stack → AllByRecursion (Stands p new) stack
+all-stand-still p old new [] stay spared all = tt
+all-stand-still p old new (Body o m arguments left ∷ below) stay spared all = (
+  body-still p old new stay o arguments left (spared o (own-body o (has_body o below))) all.0,
+  all-stand-still p old new below stay (λ k body. spared k (lower-body (eqb o k) (has_body k below) body)) all.1,
+)
+all-stand-still p old new (Emit o g arguments used last ∷ below) stay spared all = (tt, all-stand-still p old new below stay spared all.1)
+all-stand-still p old new (Update places ∷ below) stay spared all =
+    (all-weaken (PlaceStands p old) (PlaceStands p new) places (place-still old new stay) all.0, all-stand-still p old new below stay spared all.1)
+all-stand-still p old new (Destroy next torn ∷ below) stay spared all = (tt, all-stand-still p old new below stay spared all.1)
 
 -- what stands in a state
 abbrev pub AllStand : Loaded → State → Type 0

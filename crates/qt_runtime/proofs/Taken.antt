@@ -34,12 +34,12 @@ runs-taken {p} {d} {s} {m} {t} {n} {j} {k} e x good some less rest =
     subst Family suc_is (takes x good (rules rest done))
 
 -- an event that pushes nothing is good where the objects are typed
-pub good-quiet : {p : Loaded} {d : ℕ} (w v : World) → AreTyped p v.objects → IsGood p d (at w []) (at v [])
-good-quiet w v typed = record { well = record { arguments = λ more. absurd (omega (arith, more)); values = typed }; shallow = omega arith }
+pub good-quiet : {p : Loaded} {d : ℕ} (w v : World) → AreTyped p v.store.tree → IsGood p d (at w []) (at v [])
+good-quiet w v typed = record { well = record { arguments = λ more. absurd (omega (arith, more)); values = typed }; spared = λ o body gone. absurd (cc body); shallow = omega arith }
 
 -- .. and one that pushes an activation where its arguments fit too
-pub good-pushed : {p : Loaded} {d : ℕ} {top : Activation} (w v : World) → AreTyped p v.objects → TopFits p v.objects (top ∷ []) → 1 ≤ d → IsGood p d (at w []) (at v (top ∷ []))
-good-pushed w v typed fit room = record { well = record { arguments = λ more. fit; values = typed }; shallow = omega (arith, room) }
+pub good-pushed : {p : Loaded} {d : ℕ} {top : Activation} (w v : World) → AreTyped p v.store.tree → TopFits p v.store.tree (top ∷ []) → 1 ≤ d → IsGood p d (at w []) (at v (top ∷ []))
+good-pushed w v typed fit room = record { well = record { arguments = λ more. fit; values = typed }; spared = λ o body gone. absurd (cc body); shallow = omega (arith, room) }
 
 -- nothing is going on where no activation is and no turn goes on
 pub idle : (w : World) → w.turn ≡ None → IsIdle (at w [])
@@ -81,7 +81,7 @@ pub took-halted : {p : Loaded} {d : ℕ} {w v : World} {f : Fault} (e : Event) (
 took-halted {p} {d} {w} {v} e r halted same is = subst (λ (u : World). Took p d w e u r) (sym same) (took-stopped e r halted is)
 
 -- the event is refused
-pub took-refused : {p : Loaded} {d : ℕ} {w v : World} (k : Refusal) (e : Event) (r : Result Answer Fault) → AreTyped p w.objects → judged p (at w []) e (Err k) → Ready w → Refuses w k v r → Took p d w e v r
+pub took-refused : {p : Loaded} {d : ℕ} {w v : World} (k : Refusal) (e : Event) (r : Result Answer Fault) → AreTyped p w.store.tree → judged p (at w []) e (Err k) → Ready w → Refuses w k v r → Took p d w e v r
 took-refused {p} {d} {w} {v} k e (Ok a) typed judged some x =
     let target : World = after w (refused (at w []) k) in
     let Family : World → Type 0 = λ u. RunsWhole p d (at w []) w.left (e ∷ []) (at u []) u.left in
@@ -91,13 +91,13 @@ took-refused {p} {d} {w} {v} k e (Ok a) typed judged some x =
 took-refused k e (Err f) typed judged some x = took-unchanged e (Err f) some x refl
 
 -- .. from a world in which nothing had changed
-pub took-refused-from : {p : Loaded} {d : ℕ} {w u v : World} (k : Refusal) (e : Event) (r : Result Answer Fault) → AreTyped p w.objects → judged p (at w []) e (Err k) → Ready w → u ≡ w → Refuses u k v r → Took p d w e v r
+pub took-refused-from : {p : Loaded} {d : ℕ} {w u v : World} (k : Refusal) (e : Event) (r : Result Answer Fault) → AreTyped p w.store.tree → judged p (at w []) e (Err k) → Ready w → u ≡ w → Refuses u k v r → Took p d w e v r
 took-refused-from {v = v} k e r typed judged some same x =
     let From : World → Type 0 = λ z. Refuses z k v r in
     took-refused k e r typed judged some (subst From same x)
 
 -- the event isn't accepted
-pub took-not-accepted : {p : Loaded} {d : ℕ} {w v : World} {n : NotAccepted} (e : Event) (r : Result Answer Fault) → AreTyped p w.objects → IsNotAccepted (judged p (at w []) e) n → Ready w → IsRefused w n v r → Took p d w e v r
+pub took-not-accepted : {p : Loaded} {d : ℕ} {w v : World} {n : NotAccepted} (e : Event) (r : Result Answer Fault) → AreTyped p w.store.tree → IsNotAccepted (judged p (at w []) e) n → Ready w → IsRefused w n v r → Took p d w e v r
 took-not-accepted e r typed (not_accepted.refused {k = k} not) some x = took-refused k e r typed not some x
 took-not-accepted {p} {d} {w} e r typed not_accepted.short some x =
     let Answers : Result Answer Fault → Type 0 = λ a. Took p d w e w a in

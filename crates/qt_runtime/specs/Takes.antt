@@ -16,6 +16,8 @@ use Rattle.qt_runtime.specs.events.Disconnect.{disconnect}
 use Rattle.qt_runtime.specs.events.Assign.{assign}
 use Rattle.qt_runtime.specs.events.Invoke.{invoke}
 use Rattle.qt_runtime.specs.events.Block.{block}
+use Rattle.qt_runtime.specs.events.Delete.{delete}
+use Rattle.qt_runtime.specs.events.Later.{later}
 
 -- what becomes of an event: a state, or a refusal
 abbrev pub judged : Loaded → State → Event → Result State Refusal → Type 0
@@ -30,6 +32,8 @@ judged p s (event.Emit name signal inputs) = invoke p s Emit name signal inputs
 judged p s (event.Call name slot inputs) = invoke p s Call name slot inputs
 judged p s (event.Block name) = block s name true
 judged p s (event.Unblock name) = block s name false
+judged p s (event.Delete name) = delete s name
+judged p s (event.Later name) = later s name
 
 -- the event is accepted or refused, where nothing is going on
 pub data Takes (p : Loaded) (e : Event) : State → State → Type 0 where

@@ -43,7 +43,7 @@ use Rattle.qt_runtime.specs.events.Disconnect.{disconnect}
 pub record WorldInvariant (p : Loaded) (w : World) : Type 0 where
   pub sound : IsSoundWorld p w
   pub events : w.events + w.left < 2 ^ 63
-  pub connected : w.connected.last + w.left < 2 ^ 63
+  pub connected : w.store.connections.last + w.left < 2 ^ 63
 
 -- the machine stopped before or after it took the event
 pub record Halted (p : Loaded) (depth : ℕ) (w : World) (e : Event) (v : World) (f : Fault) : Type 0 where

@@ -11,3 +11,5 @@ pub mod Values
 pub mod Assign
 pub mod Invoke
 pub mod Block
+pub mod Delete
+pub mod Later

@@ -63,10 +63,10 @@ impl Machine {
 
     /// Applies an event: takes it, and runs until nothing is going on. `Refused` tells the first of the event's
     /// conditions that doesn't hold; then only its line is written. A fault stops the machine: `BadType` where the next
-    /// statement lacks a value that it needs, or the next rule would give a value of a wrong type; `TooDeep` where it
-    /// would nest activations deeper than the depth; `Steps` where a rule is due and none is left; `Memory` where a
-    /// growth of memory was refused. The trace then ends with the last whole rule. On a machine that has stopped the
-    /// answer is `Stopped`, and nothing changes.
+    /// statement lacks a value that it needs, or the next rule would give a value of a wrong type; `InUse` where by it an
+    /// object would die while a body of it is active; `TooDeep` where it would nest activations deeper than the depth;
+    /// `Steps` where a rule is due and none is left; `Memory` where a growth of memory was refused. The trace then ends
+    /// with the last whole rule. On a machine that has stopped the answer is `Stopped`, and nothing changes.
     pub fn apply(&mut self, event: &Event) -> Result<Answer, Fault>
         ensures done { OnDone result (Accepts self.old event.now self.new) }
         ensures refused { OnRefused result (λ number. Refuses self.old event.now number self.new) }

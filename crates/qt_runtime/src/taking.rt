@@ -9,8 +9,10 @@ use crate::events::assign::assign;
 use crate::events::block::block;
 use crate::events::connect::connect;
 use crate::events::create::create;
+use crate::events::delete::delete;
 use crate::events::disconnect::disconnect;
 use crate::events::invoke::{Invocation, invoke};
+use crate::events::later::later;
 use crate::events::turn::turn;
 use machine_rules::Setting;
 use machine_state::{Answer, Fault, World};
@@ -44,5 +46,7 @@ pub fn take_event(setting: &Setting, world: &mut World, event: &Event) -> Result
         }
         Event::Block(name) => block(setting, world, name, true),
         Event::Unblock(name) => block(setting, world, name, false),
+        Event::Delete(name) => delete(setting, world, name),
+        Event::Later(name) => later(setting, world, name),
     }
 }

@@ -25,25 +25,25 @@ use Rattle.qt_runtime.proofs.Taken.{Ready, halted-short}
 use Rattle.qt_runtime.proofs.Judging.Naming.{living-ok}
 
 -- the parent's name isn't accepted
-pub no-parent : (p : Loaded) (w : World) (parent child : List ℕ) {n : NotAccepted} → IsNotAccepted (living w.objects parent) n → IsNotAccepted (adopt p (at w []) parent child) n
+pub no-parent : (p : Loaded) (w : World) (parent child : List ℕ) {n : NotAccepted} → IsNotAccepted (living w.store.tree parent) n → IsNotAccepted (adopt p (at w []) parent child) n
 no-parent p w parent child x = then-ends x
 
 pub typed-adopted : {p : Loaded} {a c : ℕ} {y : Life} {old new : List Object} → AreTyped p old → IsAdopted a c y old new → AreTyped p new
 typed-adopted {p} {a} {c} {old = old} typed is = adopted-by (λ (l : List Object). AreTyped p l) typed (typed-moved p a c old typed) is
 
-module _ (p : Loaded) (w : World) (parent child : List ℕ) (a : Numbered Life) (above : IsLiving w.objects parent a) where
+module _ (p : Loaded) (w : World) (parent child : List ℕ) (a : Numbered Life) (above : IsLiving w.store.tree parent a) where
   -- .. nor the child's
-  pub no-child : {n : NotAccepted} → IsNotAccepted (living w.objects child) n → IsNotAccepted (adopt p (at w []) parent child) n
+  pub no-child : {n : NotAccepted} → IsNotAccepted (living w.store.tree child) n → IsNotAccepted (adopt p (at w []) parent child) n
   no-child x = then-on a (living-ok a above) (then-ends x)
 
-  module _ (c : Numbered Life) (below : IsLiving w.objects child c) where
-    pub adopts : {new : List Object} → MayAdopt p w.objects a.number c.number a.it c.it → IsAdopted a.number c.number c.it w.objects new → adopt p (at w []) parent child (Ok (record (accepted (at w [])) { objects = new }))
+  module _ (c : Numbered Life) (below : IsLiving w.store.tree child c) where
+    pub adopts : {new : List Object} → MayAdopt p w.store.tree a.number c.number a.it c.it → IsAdopted a.number c.number c.it w.store.tree new → adopt p (at w []) parent child (Ok (record (accepted (at w [])) { objects = new }))
     adopts {new} may is =
         goes_on a (living-ok a above) (goes_on c (living-ok c below)
         (goes_on tt (holds may.owns) (goes_on tt (holds may.no_cycle) (goes_on tt (holds may.one_loop) (becomes (record { objects = new; is = is; gives = refl }))))))
 
     -- the object isn't adopted
-    pub not-adopted : (d : ℕ) {f : AdoptFault} → IsNotAdopted p w.objects a.number c.number a.it c.it f → Ready w → MatchResult (adoption_reason f) (λ k. adopt p (at w []) parent child (Err k)) (λ g. Halted p d w (Adopt parent child) w g)
+    pub not-adopted : (d : ℕ) {f : AdoptFault} → IsNotAdopted p w.store.tree a.number c.number a.it c.it f → Ready w → MatchResult (adoption_reason f) (λ k. adopt p (at w []) parent child (Err k)) (λ g. Halted p d w (Adopt parent child) w g)
     not-adopted d (not_owned none) some = goes_on a (living-ok a above) (goes_on c (living-ok c below) (ends (fails none)))
     not-adopted d (cycle owns over) some =
         goes_on a (living-ok a above) (goes_on c (living-ok c below) (goes_on tt (holds owns) (ends (fails (λ free. free over)))))
@@ -51,12 +51,12 @@ module _ (p : Loaded) (w : World) (parent child : List ℕ) (a : Numbered Life) 
         goes_on a (living-ok a above) (goes_on c (living-ok c below) (goes_on tt (holds owns) (goes_on tt (holds free) (ends (fails apart)))))
     not-adopted d no_memory some = halted-short (Adopt parent child) some
 
-    pub adoption-stops : (d : ℕ) {f : AdoptFault} {g : Fault} → IsNotAdopted p w.objects a.number c.number a.it c.it f → Ready w → Err g ≡ adoption_reason f → Halted p d w (Adopt parent child) w g
+    pub adoption-stops : (d : ℕ) {f : AdoptFault} {g : Fault} → IsNotAdopted p w.store.tree a.number c.number a.it c.it f → Ready w → Err g ≡ adoption_reason f → Halted p d w (Adopt parent child) w g
     adoption-stops d is some e =
         let Decides : Result Refusal Fault → Type 0 = λ r. MatchResult r (λ k. adopt p (at w []) parent child (Err k)) (λ h. Halted p d w (Adopt parent child) w h) in
         subst Decides (sym e) (not-adopted d is some)
 
-    pub adoption-refuses : {f : AdoptFault} {k : Refusal} → IsNotAdopted p w.objects a.number c.number a.it c.it f → Ready w → Ok k ≡ adoption_reason f → adopt p (at w []) parent child (Err k)
+    pub adoption-refuses : {f : AdoptFault} {k : Refusal} → IsNotAdopted p w.store.tree a.number c.number a.it c.it f → Ready w → Ok k ≡ adoption_reason f → adopt p (at w []) parent child (Err k)
     adoption-refuses is some e =
         let Decides : Result Refusal Fault → Type 0 = λ r. MatchResult r (λ k. adopt p (at w []) parent child (Err k)) (λ h. Halted p 0 w (Adopt parent child) w h) in
         subst Decides (sym e) (not-adopted 0 is some)

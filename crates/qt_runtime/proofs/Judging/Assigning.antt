@@ -29,17 +29,17 @@ fits-field {p} {objects} {o} {q} {v} {x} {property} fits f =
     let In : MetaProperty → Type 0 = λ k. ReadsAs p objects v k.kind in
     subst In (field-property fits.is f) fits.reads
 
-module _ (p : Loaded) (w : World) (name property : List ℕ) (i : Input) (o : Numbered Life) (lives : IsLiving w.objects name o) where
+module _ (p : Loaded) (w : World) (name property : List ℕ) (i : Input) (o : Numbered Life) (lives : IsLiving w.store.tree name o) where
   pub no-property : ((q : Numbered MetaProperty) → ¬ IsPropertyOf p o.it.class property q) → assign p (at w []) name property i (Err NoMember)
   no-property none = goes_on o (living-ok o lives) (ends (missing none))
 
   module _ (q : Numbered MetaProperty) (has : IsPropertyOf p o.it.class property q) where
-    pub no-value : {n : NotAccepted} → IsNotAccepted (value w.objects i) n → IsNotAccepted (assign p (at w []) name property i) n
+    pub no-value : {n : NotAccepted} → IsNotAccepted (value w.store.tree i) n → IsNotAccepted (assign p (at w []) name property i) n
     no-value x = then-on o (living-ok o lives) (then-on q (found has) (then-ends x))
 
-    module _ (v : Value) (is : value w.objects i (Ok v)) where
-      pub bad-value : (¬ ReadsAs p w.objects v q.it.kind) → assign p (at w []) name property i (Err BadArgs)
+    module _ (v : Value) (is : value w.store.tree i (Ok v)) where
+      pub bad-value : (¬ ReadsAs p w.store.tree v q.it.kind) → assign p (at w []) name property i (Err BadArgs)
       bad-value ill = goes_on o (living-ok o lives) (goes_on q (found has) (goes_on v is (ends (fails ill))))
 
-      pub writes-to : ReadsAs p w.objects v q.it.kind → WritesTo p w o.number q.number v (Set name property i)
+      pub writes-to : ReadsAs p w.store.tree v q.it.kind → WritesTo p w o.number q.number v (Set name property i)
       writes-to fits = record { effect = λ t writes. goes_on o (living-ok o lives) (goes_on q (found has) (goes_on v is (goes_on tt (holds fits) (becomes writes)))) }

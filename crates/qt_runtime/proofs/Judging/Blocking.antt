@@ -25,11 +25,11 @@ judged-blocking p s name true x = x
 judged-blocking p s name false x = x
 
 -- the name isn't accepted
-pub not-blocking : (p : Loaded) (w : World) {n : NotAccepted} (name : List ℕ) (on : Bool) → IsNotAccepted (living w.objects name) n → IsNotAccepted (judged p (at w []) (blocking on name)) n
+pub not-blocking : (p : Loaded) (w : World) {n : NotAccepted} (name : List ℕ) (on : Bool) → IsNotAccepted (living w.store.tree name) n → IsNotAccepted (judged p (at w []) (blocking on name)) n
 not-blocking p w name on (refused x) = refused (judged-blocking p (at w []) name on (ends x))
 not-blocking p w name on short = short
 
-pub blocks : (p : Loaded) (w : World) (name : List ℕ) (on : Bool) (o : Numbered Life) → IsLiving w.objects name o → judged p (at w []) (blocking on name) (Ok (record (accepted (at w [])) { objects = change_life o.number (blocked on) w.objects }))
+pub blocks : (p : Loaded) (w : World) (name : List ℕ) (on : Bool) (o : Numbered Life) → IsLiving w.store.tree name o → judged p (at w []) (blocking on name) (Ok (record (accepted (at w [])) { objects = change_life o.number (blocked on) w.store.tree }))
 blocks p w name on o lives = judged-blocking p (at w []) name on (goes_on o (living-ok o lives) gives)
 
 pub typed-blocked : {p : Loaded} {objects : List Object} (o : ℕ) (on : Bool) → AreTyped p objects → AreTyped p (change_life o (blocked on) objects)

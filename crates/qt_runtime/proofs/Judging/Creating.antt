@@ -35,27 +35,27 @@ class-of named is = record { is = is; named = ap (λ (k : MetaObject). k.name) (
 abbrev pub made : List ℕ → ℕ → ℕ → MetaObject → Object
 made name home number kind = fresh name number home (initial_values kind)
 
-module _ (p : Loaded) (w : World) (name class : List ℕ) (loop : Option (List ℕ)) (home : ℕ) (lives : IsHome w.queues.loops loop home) where
-  creates : {number : ℕ} {kind : MetaObject} → IsFree w.objects name → IsClassNamed p class number → IsClass p number kind → length w.objects < most_objects → create p (at w []) name class loop (Ok (record (accepted (at w [])) { objects = w.objects ++ made name home number kind ∷ [] }))
+module _ (p : Loaded) (w : World) (name class : List ℕ) (loop : Option (List ℕ)) (home : ℕ) (lives : IsHome w.store.loops.loops loop home) where
+  creates : {number : ℕ} {kind : MetaObject} → IsFree w.store.tree name → IsClassNamed p class number → IsClass p number kind → length w.store.tree < most_objects → create p (at w []) name class loop (Ok (record (accepted (at w [])) { objects = w.store.tree ++ made name home number kind ∷ [] }))
   creates {number} {kind} free named is room =
       goes_on tt (holds free) (goes_on (record { number = number; it = kind }) (found (class-of named is)) (goes_on home (found lives) (goes_on tt (holds room) gives)))
 
-  pub created : {o : ℕ} {new : List Object} → IsCreated p w.objects name class home o new → create p (at w []) name class loop (Ok (record (accepted (at w [])) { objects = new }))
+  pub created : {o : ℕ} {new : List Object} → IsCreated p w.store.tree name class home o new → create p (at w []) name class loop (Ok (record (accepted (at w [])) { objects = new }))
   created is =
       let Family : List Object → Type 0 = λ l. create p (at w []) name class loop (Ok (record (accepted (at w [])) { objects = l })) in
       subst Family (sym is.appended) (creates is.may.free is.may.named is.may.is is.may.room)
 
-  pub typed-created : {o : ℕ} {new : List Object} → AreTyped p w.objects → IsCreated p w.objects name class home o new → AreTyped p new
+  pub typed-created : {o : ℕ} {new : List Object} → AreTyped p w.store.tree → IsCreated p w.store.tree name class home o new → AreTyped p new
   typed-created typed is =
       let Family : List Object → Type 0 = λ l. AreTyped p l in
-      subst Family (sym is.appended) (typed-made p w.objects name is.number home is.kind is.may.is is.may.begins typed)
+      subst Family (sym is.appended) (typed-made p w.store.tree name is.number home is.kind is.may.is is.may.begins typed)
 
   -- an initial value isn't of its property's type
-  halted-ill : {d number : ℕ} {kind : MetaObject} → Ready w → IsFree w.objects name → IsClassNamed p class number → IsClass p number kind → length w.objects < most_objects → (¬ BeginsWell p w.objects number kind) → Halted p d w (New name class loop) w BadType
+  halted-ill : {d number : ℕ} {kind : MetaObject} → Ready w → IsFree w.store.tree name → IsClassNamed p class number → IsClass p number kind → length w.store.tree < most_objects → (¬ BeginsWell p w.store.tree number kind) → Halted p d w (New name class loop) w BadType
   halted-ill {number = number} {kind = kind} some free named is room ill =
-      let after : State = record (accepted (at w [])) { objects = w.objects ++ made name home number kind ∷ [] } in
+      let after : State = record (accepted (at w [])) { objects = w.store.tree ++ made name home number kind ∷ [] } in
       let not_well : IsWell p (at w []) after → ⊥ = λ well.
-      ill (typed-fresh p w.objects name number home kind is (well.values (length w.objects) (made name home number kind) (begun number home (initial_values kind)) (record { is = get-last w.objects (made name home number kind); lives = refl }))) in
+      ill (typed-fresh p w.store.tree name number home kind is (well.values (length w.store.tree) (made name home number kind) (begun number home (initial_values kind)) (record { is = get-last w.store.tree (made name home number kind); lives = refl }))) in
       record {
         stack = [];
         front = record { taken = []; rest = New name class loop ∷ []; split = refl; runs = done };
@@ -63,7 +63,7 @@ module _ (p : Loaded) (w : World) (name class : List ℕ) (loop : Option (List �
       }
 
   -- no object is created
-  pub not-created : (d : ℕ) {f : CreateFault} → Ready w → IsNotCreated p w.objects name class f → MatchResult (creation_reason f) (λ k. create p (at w []) name class loop (Err k)) (λ g. Halted p d w (New name class loop) w g)
+  pub not-created : (d : ℕ) {f : CreateFault} → Ready w → IsNotCreated p w.store.tree name class f → MatchResult (creation_reason f) (λ k. create p (at w []) name class loop (Err k)) (λ g. Halted p d w (New name class loop) w g)
   not-created d some (name_used is) = ends (fails (λ free. free _ is.named))
   not-created d some (no_class free none) = goes_on tt (holds free) (ends (missing (λ c is. none c.number (record { class = c.it; is = is.is; named = is.named }))))
   not-created d some (too_many {c = c} free named many) =
@@ -71,22 +71,22 @@ module _ (p : Loaded) (w : World) (name class : List ℕ) (loop : Option (List �
   not-created d some (bad_type free named is room ill) = halted-ill some free named is room ill
   not-created d some no_memory = halted-short (New name class loop) some
 
-  pub creation-stops : (d : ℕ) {f : CreateFault} {g : Fault} → Ready w → IsNotCreated p w.objects name class f → Err g ≡ creation_reason f → Halted p d w (New name class loop) w g
+  pub creation-stops : (d : ℕ) {f : CreateFault} {g : Fault} → Ready w → IsNotCreated p w.store.tree name class f → Err g ≡ creation_reason f → Halted p d w (New name class loop) w g
   creation-stops d some is e =
       let Decides : Result Refusal Fault → Type 0 = λ r. MatchResult r (λ k. create p (at w []) name class loop (Err k)) (λ h. Halted p d w (New name class loop) w h) in
       subst Decides (sym e) (not-created d some is)
 
-  pub creation-refuses : {f : CreateFault} {k : Refusal} → Ready w → IsNotCreated p w.objects name class f → Ok k ≡ creation_reason f → create p (at w []) name class loop (Err k)
+  pub creation-refuses : {f : CreateFault} {k : Refusal} → Ready w → IsNotCreated p w.store.tree name class f → Ok k ≡ creation_reason f → create p (at w []) name class loop (Err k)
   creation-refuses some is e =
       let Decides : Result Refusal Fault → Type 0 = λ r. MatchResult r (λ k. create p (at w []) name class loop (Err k)) (λ h. Halted p 0 w (New name class loop) w h) in
       subst Decides (sym e) (not-created 0 some is)
 
 -- there is no such loop
-pub no-home : (p : Loaded) (w : World) (name class : List ℕ) (loop : Option (List ℕ)) {number : ℕ} → IsFree w.objects name → IsClassNamed p class number → NothingIs (IsHome w.queues.loops loop) → create p (at w []) name class loop (Err NoLoop)
+pub no-home : (p : Loaded) (w : World) (name class : List ℕ) (loop : Option (List ℕ)) {number : ℕ} → IsFree w.store.tree name → IsClassNamed p class number → NothingIs (IsHome w.store.loops.loops loop) → create p (at w []) name class loop (Err NoLoop)
 no-home p w name class loop free named none = goes_on tt (holds free) (goes_on (record { number = _; it = named.class }) (found (record { is = named.is; named = named.named })) (ends (missing none)))
 
-pub name-taken : (p : Loaded) (w : World) (name class : List ℕ) (loop : Option (List ℕ)) {o : ℕ} → IsNamed w.objects name o → create p (at w []) name class loop (Err NameUsed)
+pub name-taken : (p : Loaded) (w : World) (name class : List ℕ) (loop : Option (List ℕ)) {o : ℕ} → IsNamed w.store.tree name o → create p (at w []) name class loop (Err NameUsed)
 name-taken p w name class loop is = ends (fails (λ free. free _ is.named))
 
-pub no-such-class : (p : Loaded) (w : World) (name class : List ℕ) (loop : Option (List ℕ)) → IsFree w.objects name → ((number : ℕ) → ¬ IsClassNamed p class number) → create p (at w []) name class loop (Err NoClass)
+pub no-such-class : (p : Loaded) (w : World) (name class : List ℕ) (loop : Option (List ℕ)) → IsFree w.store.tree name → ((number : ℕ) → ¬ IsClassNamed p class number) → create p (at w []) name class loop (Err NoClass)
 no-such-class p w name class loop free none = goes_on tt (holds free) (ends (missing (λ c is. none c.number (record { class = c.it; is = is.is; named = is.named }))))

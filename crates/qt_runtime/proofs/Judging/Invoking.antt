@@ -42,17 +42,17 @@ none-asked {p} {class} {number} {count} {name} {it} a only at unlike m is =
     let there_too : IsMethod p class number m.it = subst (λ (k : ℕ). IsMethod p class k m.it) number_is is.is in
     unlike (subst (λ (k : MetaMethod). May a number k) (method-unique there_too at) (subst (λ (k : ℕ). May a k m.it) number_is is.may))
 
-module _ (p : Loaded) (w : World) (a : Invocation) (name called : List ℕ) (inputs : List Input) (o : Numbered Life) (lives : IsLiving w.objects name o) where
+module _ (p : Loaded) (w : World) (a : Invocation) (name called : List ℕ) (inputs : List Input) (o : Numbered Life) (lives : IsLiving w.store.tree name o) where
   pub no-method : ((m : Numbered MetaMethod) → ¬ IsAskedOf p o.it.class a called (length inputs) m) → invoke p (at w []) a name called inputs (Err NoMember)
   no-method none = goes_on o (living-ok o lives) (ends (missing none))
 
   module _ (m : Numbered MetaMethod) (has : IsAskedOf p o.it.class a called (length inputs) m) where
-    pub no-values : {n : NotAccepted} → IsNotAccepted (values w.objects inputs) n → IsNotAccepted (invoke p (at w []) a name called inputs) n
+    pub no-values : {n : NotAccepted} → IsNotAccepted (values w.store.tree inputs) n → IsNotAccepted (invoke p (at w []) a name called inputs) n
     no-values x = then-on o (living-ok o lives) (then-on m (found has) (then-ends x))
 
-    module _ (vs : List Value) (are : values w.objects inputs (Ok vs)) where
-      pub bad-values : (¬ ReadAs p w.objects vs m.it.kinds) → invoke p (at w []) a name called inputs (Err BadArgs)
+    module _ (vs : List Value) (are : values w.store.tree inputs (Ok vs)) where
+      pub bad-values : (¬ ReadAs p w.store.tree vs m.it.kinds) → invoke p (at w []) a name called inputs (Err BadArgs)
       bad-values ill = goes_on o (living-ok o lives) (goes_on m (found has) (goes_on vs are (ends (fails ill))))
 
-      pub asks-for : ReadAs p w.objects vs m.it.kinds → AsksFor p w o.number m.number vs (invoking a name called inputs)
+      pub asks-for : ReadAs p w.store.tree vs m.it.kinds → AsksFor p w o.number m.number vs (invoking a name called inputs)
       asks-for fit = record { effect = λ t begins. judged-invoking p (at w []) a name called inputs (goes_on o (living-ok o lives) (goes_on m (found has) (goes_on vs are (goes_on tt (holds fit) (becomes begins))))) }

@@ -18,22 +18,22 @@ use Rattle.qt_runtime.specs.Taking.{Took, Halted}
 use Rattle.qt_runtime.proofs.Taken.{idle, Ready, good-quiet, took-turn}
 
 module _ (p : Loaded) (w : World) (name : List ℕ) where
-  pub loop-exists : (home : ℕ) → HasName w.queues.loops name home → judged p (at w []) (Loop name) (Err LoopExists)
+  pub loop-exists : (home : ℕ) → HasName w.store.loops.loops name home → judged p (at w []) (Loop name) (Err LoopExists)
   loop-exists home has = ends (fails (λ free. free (home, has)))
 
-  pub loop-added : (¬ IsTaken w.queues.loops name) → judged p (at w []) (Loop name) (Ok (record (accepted (at w [])) { queues = with_loop name w.queues }))
+  pub loop-added : (¬ IsTaken w.store.loops.loops name) → judged p (at w []) (Loop name) (Ok (record (accepted (at w [])) { queues = with_loop name w.store.loops }))
   loop-added free = goes_on tt (holds free) gives
 
-  pub no-loop : (¬ IsTaken w.queues.loops name) → judged p (at w []) (Turn name) (Err NoLoop)
+  pub no-loop : (¬ IsTaken w.store.loops.loops name) → judged p (at w []) (Turn name) (Err NoLoop)
   no-loop none = ends (missing (λ home is. none (home, is.has)))
 
   -- a turn begins, and is carried to its end, or stops on the way
-  pub turned : {d home : ℕ} {v u : World} {r : Result (Unit {0}) Fault} → IsNamed w.queues.loops name home → AreTyped p w.objects → Ready w → v ≡ accepting_turn w home → Ends p d [] v [] u [] r → OnOk r (u.turn ≡ None) →
+  pub turned : {d home : ℕ} {v u : World} {r : Result (Unit {0}) Fault} → IsNamed w.store.loops.loops name home → AreTyped p w.store.tree → Ready w → v ≡ accepting_turn w home → Ends p d [] v [] u [] r → OnOk r (u.turn ≡ None) →
       MatchResult r (λ _. Took p d w (Turn name) u (Ok answer.Done)) (λ f. Halted p d w (Turn name) u f)
   turned {home = home} {v = v} is typed some v_is went over =
       let target : State = begun_turn (accepted (at w [])) home in
       let begins : judged p (at w []) (Turn name) (Ok target) = goes_on home (found is) gives in
       let Effect : World → Type 0 = λ z. judged p (at w []) (Turn name) (Ok (at z [])) in
-      let Typed : World → Type 0 = λ z. AreTyped p z.objects in
+      let Typed : World → Type 0 = λ z. AreTyped p z.store.tree in
       let effect : judged p (at w []) (Turn name) (Ok (at v [])) = subst Effect (sym v_is) begins in
       took-turn (Turn name) (accepts (idle w some.no_turn) effect) (good-quiet w v (subst Typed (sym v_is) typed)) (record { effect = _; why = effect }) some.some (ap (λ (z : World). z.left) v_is) went over

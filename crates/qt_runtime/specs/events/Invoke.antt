@@ -2,7 +2,7 @@
 use Rattle.std.specs.Prelude.{◌≡◌, ◌≢◌, ℕ, ◌<◌, List, length, Result}
 use Rattle.meta_model.specs.declared.object.MetaMethod.{MetaMethod}
 use Rattle.meta_model.specs.declared.object.Work.TheVariants.{Signal}
-use Rattle.meta_model.specs.declared.qobject.TheConstants.{OBJECT_NAME_CHANGED, DELETE_LATER}
+use Rattle.meta_model.specs.declared.qobject.TheConstants.{OBJECT_NAME_CHANGED}
 use Rattle.meta_model.specs.Loaded.{Loaded}
 use Rattle.meta_model.specs.Members.{IsMethod}
 use Rattle.object_tree.specs.Typed.{ReadAs}
@@ -18,11 +18,10 @@ use Rattle.machine_rules.specs.Judgement.{Numbered, Find, Check, Becomes, ◌>>=
 use Rattle.qt_runtime.specs.events.Named.{living}
 use Rattle.qt_runtime.specs.events.Values.{values}
 
--- What an event may ask of a method. `QObject`'s own methods come first in every class: only the runtime emits its
--- signals, and its slot isn't called by events.
+-- What an event may ask of a method. `QObject`'s own signals come first in every class: only the runtime emits these.
 abbrev pub May : Invocation → ℕ → MetaMethod → Type 0
 May Emit m method = (OBJECT_NAME_CHANGED < m) × (method.work ≡ Signal)
-May Call m method = (DELETE_LATER < m) × (method.work ≢ Signal)
+May Call m method = method.work ≢ Signal
 
 -- the class's method of this name and number of parameters, of which the event may ask this
 pub record IsAskedOf (p : Loaded) (class : ℕ) (invocation : Invocation) (name : List ℕ) (count : ℕ)

@@ -16,7 +16,7 @@ pub fn add(setting: &Setting, world: &mut World, name: &Name) -> Result<Answer, 
     ensures { Answers setting.now (Loop name.now) world.old world.new result }
 {
     let _setting = setting;
-    match world.queues.find(name) {
+    match world.store.loops.find(name) {
         Some(_) => world.refuse(Refusal::LoopExists),
         None => {
             world.accept_loop(name)?;

@@ -56,7 +56,7 @@ fn judge(
 ) -> Result<Assignment, NotAccepted>
     ensures accepted { IfOk result (λ a. WritesTo setting.now.meta world.now
         a.place.object a.place.property a.value (Set name.now property.now input.now)) }
-    ensures fits { IfOk result (λ a. ValueFits setting.now.meta world.now.objects
+    ensures fits { IfOk result (λ a. ValueFits setting.now.meta world.now.store.tree
         a.place.object a.place.property a.value) }
     ensures refused { IfErr result (IsNotAccepted
         (assign setting.now.meta (at world.now []) name.now property.now input.now)) }
@@ -66,7 +66,11 @@ fn judge(
         return Err(NotAccepted::Refused(Refusal::NoMember));
     };
     let value = read_input(world, input)?;
-    if world.objects.has_type(&setting.meta, &value, declared.kind) {
+    if world
+        .store
+        .tree
+        .has_type(&setting.meta, &value, declared.kind)
+    {
         let place = Place {
             object: ObjectId::new(object),
             property,
@@ -96,7 +100,7 @@ fn write(setting: &Setting, world: &mut World, place: &Place, value: Value) -> R
     requires left { 0 < world.old.left }
     requires idle { world.old.turn ≡ None }
     requires keeps { WorldInvariant setting.now.meta world.old }
-    requires fits { ValueFits setting.now.meta world.old.objects
+    requires fits { ValueFits setting.now.meta world.old.store.tree
         place.now.object place.now.property value }
     ensures { (e : AnEvent) →
         WritesTo setting.now.meta world.old place.now.object place.now.property value e →

@@ -41,18 +41,18 @@ pub fn create(
 
 /// The event loop of this name; where none is named, `main`.
 fn home_of(world: &World, name: &Option<Name>) -> Option<LoopId>
-    ensures { MatchOption result (NothingIs (IsHome world.now.queues.loops name.now))
-        (IsHome world.now.queues.loops name.now) }
+    ensures { MatchOption result (NothingIs (IsHome world.now.store.loops.loops name.now))
+        (IsHome world.now.store.loops.loops name.now) }
 {
     match name {
         None => Some(LoopId::new(MAIN)),
-        Some(name) => world.queues.find(name),
+        Some(name) => world.store.loops.find(name),
     }
 }
 
 /// Why the event is refused where there is no such event loop.
 fn refusal_without_loop(setting: &Setting, world: &World, name: &Name, class: &Name) -> Refusal
-    ensures { (home : Option (List ℕ)) → NothingIs (IsHome world.now.queues.loops home) →
+    ensures { (home : Option (List ℕ)) → NothingIs (IsHome world.now.store.loops.loops home) →
         create setting.now.meta (at world.now []) name.now class.now home (Err result) }
 {
     match world.find(name) {

@@ -42,7 +42,7 @@ fn judge(
     named: &texts::Endpoints<Name>,
 ) -> Result<Endpoints, NotAccepted>
     ensures accepted { IfOk result (DisconnectsThese setting.now.meta world.now named.now) }
-    ensures joined { IfOk result (λ ends. IsTrue (are_joined ends world.now.connected)) }
+    ensures joined { IfOk result (λ ends. IsTrue (are_joined ends world.now.store.connections)) }
     ensures refused { IfErr result (IsNotAccepted
         (disconnect setting.now.meta (at world.now []) named.now)) }
 {

@@ -20,9 +20,9 @@ pub fn find_ends(
     world: &World,
     named: &texts::Endpoints<Name>,
 ) -> Result<FoundEnds, NotAccepted>
-    ensures found { IfOk result (λ f. FindsEnds setting.now.meta world.now.objects named.now f) }
+    ensures found { IfOk result (λ f. FindsEnds setting.now.meta world.now.store.tree named.now f) }
     ensures refused { IfErr result (IsNotAccepted
-        (find_ends setting.now.meta world.now.objects named.now)) }
+        (find_ends setting.now.meta world.now.store.tree named.now)) }
 {
     let (sender, from) = find_living(world, &named.sender)?;
     let (receiver, to) = find_living(world, &named.receiver)?;

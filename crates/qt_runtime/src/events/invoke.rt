@@ -16,7 +16,7 @@ use crate::events::values::read_inputs;
 use crate::judgement::{NotAccepted, refuse};
 use machine_rules::{Active, MethodCall, Setting};
 use machine_state::{Answer, Fault, Refusal, World};
-use meta_model::{DELETE_LATER, OBJECT_NAME_CHANGED};
+use meta_model::OBJECT_NAME_CHANGED;
 use meta_objects::{Meta, MetaMethod};
 use script_lang::Input;
 use signatures::{Arguments, Name, ObjectId};
@@ -31,13 +31,13 @@ pub enum Invocation {
 }
 
 impl Invocation {
-    /// Whether an event may ask this of the method of this number. `QObject`'s own methods come first.
+    /// Whether an event may ask this of the method of this number. `QObject`'s own signals come first.
     fn may(self, number: usize, method: &MetaMethod) -> bool
         ensures { IsTrue result ↔ May self number method.now }
     {
         match self {
             Invocation::Emit => number > OBJECT_NAME_CHANGED && is_signal(method),
-            Invocation::Call => number > DELETE_LATER && !is_signal(method),
+            Invocation::Call => !is_signal(method),
         }
     }
 }
@@ -96,7 +96,7 @@ fn judge(
 ) -> Result<Invoked, NotAccepted>
     ensures accepted { IfOk result (λ i. AsksFor setting.now.meta world.now
         i.object i.method i.values (invoking invocation name.now called.now inputs.now)) }
-    ensures fits { IfOk result (λ i. ArgumentsFit setting.now.meta world.now.objects
+    ensures fits { IfOk result (λ i. ArgumentsFit setting.now.meta world.now.store.tree
         i.object i.method i.values) }
     ensures refused { IfErr result (IsNotAccepted
         (invoke setting.now.meta (at world.now []) invocation name.now called.now inputs.now)) }
@@ -112,7 +112,7 @@ fn judge(
         return Err(NotAccepted::Refused(Refusal::NoMember));
     };
     let values = read_inputs(setting.alloc, world, inputs)?;
-    if world.objects.have_types(&setting.meta, values.as_slice(), declared.kinds.as_slice()) {
+    if world.store.tree.have_types(&setting.meta, values.as_slice(), declared.kinds.as_slice()) {
         Ok(Invoked {
             object: ObjectId::new(object),
             method,
@@ -154,7 +154,7 @@ fn begin(setting: &Setting, world: &mut World, call: &MethodCall<'_>) -> Result<
     requires left { 0 < world.old.left }
     requires idle { world.old.turn ≡ None }
     requires keeps { WorldInvariant setting.now.meta world.old }
-    requires fit { CallFits setting.now.meta world.old.objects call.now }
+    requires fit { CallFits setting.now.meta world.old.store.tree call.now }
     ensures { (e : AnEvent) →
         AsksFor setting.now.meta world.old call.now.object call.now.method call.now.arguments.now e →
         Answers setting.now e world.old world.new result }

@@ -16,7 +16,7 @@ pub fn turn(setting: &Setting, world: &mut World, name: &Name) -> Result<Answer,
     requires keeps { WorldInvariant setting.now.meta world.old }
     ensures { Answers setting.now (Turn name.now) world.old world.new result }
 {
-    let Some(home) = world.queues.find(name) else {
+    let Some(home) = world.store.loops.find(name) else {
         return world.refuse(Refusal::NoLoop);
     };
     world.accept_turn(home)?;

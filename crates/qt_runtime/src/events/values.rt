@@ -13,8 +13,8 @@ use std::alloc::Global;
 
 /// The value that a script writes: a literal, or a reference to the living object of a name.
 pub fn read_input(world: &World, input: &Input) -> Result<Value, NotAccepted>
-    ensures value { IfOk result (λ v. value world.now.objects input.now (Ok v)) }
-    ensures refused { IfErr result (IsNotAccepted (value world.now.objects input.now)) }
+    ensures value { IfOk result (λ v. value world.now.store.tree input.now (Ok v)) }
+    ensures refused { IfErr result (IsNotAccepted (value world.now.store.tree input.now)) }
 {
     match input {
         Input::Literal(literal) => {
@@ -30,8 +30,8 @@ pub fn read_input(world: &World, input: &Input) -> Result<Value, NotAccepted>
 
 /// The values that a script writes.
 pub fn read_inputs(alloc: Global, world: &World, inputs: &[Input]) -> Result<Arguments, NotAccepted>
-    ensures values { IfOk result (λ vs. values world.now.objects inputs.now (Ok vs)) }
-    ensures refused { IfErr result (IsNotAccepted (values world.now.objects inputs.now)) }
+    ensures values { IfOk result (λ vs. values world.now.store.tree inputs.now (Ok vs)) }
+    ensures refused { IfErr result (IsNotAccepted (values world.now.store.tree inputs.now)) }
 {
     let mut values = Arguments::new(alloc);
     for input in inputs {

@@ -16,5 +16,5 @@ returns-in_err-accept_loop-in-None c = took-unchanged _ _ (ready c.requires.left
 
 pub returns-in_ok-accept_loop-in-None : goal.returns-in_ok-accept_loop-in-None
 returns-in_ok-accept_loop-in-None c =
-    took-quiet (record (accepted (at c.args.world.now [])) { queues = with_loop c.args.name.now c.args.world.now.queues }) _ (loop-added c.args.setting.now.meta c.args.world.now c.args.name.now c.in-None.ensures.value) refl
+    took-quiet (record (accepted (at c.args.world.now [])) { queues = with_loop c.args.name.now c.args.world.now.store.loops }) _ (loop-added c.args.setting.now.meta c.args.world.now c.args.name.now c.in-None.ensures.value) refl
     c.requires.keeps.sound.is.typed (ready c.requires.left c.requires.idle) c.requires.idle c.in_ok-accept_loop-in-None.ensures

@@ -27,7 +27,7 @@ returns-in-Ok-adopt c =
     let owner = living-object a above in
     let owned = living-object b below in
     let is = (rw (c.new-parent.ensures, c.new-child.ensures) at c.in-Ok-adopt.ensures.objects) owner.0 owned.0 a.it b.it owner.1 owned.1 in
-    took-quiet (record (accepted (at c.args.world.now [])) { objects = c.adopt.new.self.objects }) _ (adopts c.args.setting.now.meta c.args.world.now c.args.parent.now c.args.child.now a above b below is.0 is.1) refl
+    took-quiet (record (accepted (at c.args.world.now [])) { objects = c.adopt.new.self.store.tree }) _ (adopts c.args.setting.now.meta c.args.world.now c.args.parent.now c.args.child.now a above b below is.0 is.1) refl
     (typed-adopted c.requires.keeps.sound.is.typed is.1) (ready c.requires.left c.requires.idle) c.requires.idle c.in-Ok-adopt.ensures.ok
 
 pub returns-in_err-refusal-in-Err-adopt : goal.returns-in_err-refusal-in-Err-adopt

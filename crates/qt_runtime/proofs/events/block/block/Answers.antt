@@ -18,5 +18,5 @@ returns-in_err-accept_block c = took-unchanged _ _ (ready c.requires.left c.requ
 pub returns : goal.returns
 returns c =
     let o : Numbered Life = record { number = c.in-Ok.number; it = c.in-Ok.field-0-1.now } in
-    took-quiet (record (accepted (at c.args.world.now [])) { objects = change_life c.in-Ok.number (blocked c.args.on) c.args.world.now.objects }) _ (blocks c.args.setting.now.meta c.args.world.now c.args.name.now c.args.on o c.in-Ok.ensures.found) refl
+    took-quiet (record (accepted (at c.args.world.now [])) { objects = change_life c.in-Ok.number (blocked c.args.on) c.args.world.now.store.tree }) _ (blocks c.args.setting.now.meta c.args.world.now c.args.name.now c.args.on o c.in-Ok.ensures.found) refl
     (typed-blocked c.in-Ok.number c.args.on c.requires.keeps.sound.is.typed) (ready c.requires.left c.requires.idle) c.requires.idle (rw c.new-object.ensures at c.in_ok-accept_block.ensures)

@@ -7,7 +7,7 @@ use Rattle.qt_runtime.proofs.events.create.create.Goals as goal
 
 pub returns-in-Ok : goal.returns-in-Ok
 returns-in-Ok c =
-    took-quiet (record (accepted (at c.args.world.now [])) { objects = c.create.new.self.objects }) _ (created c.args.setting.now.meta c.args.world.now c.args.name.now c.args.class.now c.args.home.now c.in-Some.home c.in-Some.ensures c.in-Ok.ensures.objects) refl
+    took-quiet (record (accepted (at c.args.world.now [])) { objects = c.create.new.self.store.tree }) _ (created c.args.setting.now.meta c.args.world.now c.args.name.now c.args.class.now c.args.home.now c.in-Some.home c.in-Some.ensures c.in-Ok.ensures.objects) refl
     (typed-created c.args.setting.now.meta c.args.world.now c.args.name.now c.args.class.now c.args.home.now c.in-Some.home c.in-Some.ensures c.requires.keeps.sound.is.typed c.in-Ok.ensures.objects) (ready c.requires.left c.requires.idle) c.requires.idle c.in-Ok.ensures.ok
 
 pub returns-in_err-refusal-in-Err : goal.returns-in_err-refusal-in-Err

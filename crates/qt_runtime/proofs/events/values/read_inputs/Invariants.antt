@@ -4,4 +4,4 @@ use Rattle.qt_runtime.proofs.events.values.read_inputs.Given as goal
 
 -- the values of the inputs so far
 abbrev pub invariant-loop-input : goal.invariant-loop-input
-invariant-loop-input l = values l.world.objects (take l.input-index l.inputs) (Ok l.values)
+invariant-loop-input l = values l.world.store.tree (take l.input-index l.inputs) (Ok l.values)

@@ -1,0 +1,29 @@
+//! `delete`: an object is destroyed, and all its children.
+
+ghost use Rattle.std.specs.Prelude.{◌<◌, ◌≡◌, None};
+ghost use Rattle.script_lang.specs.declared.event.Event.TheVariants.{Delete};
+ghost use Rattle.qt_runtime.specs.Taking.{WorldInvariant, Answers};
+
+use crate::events::named::find_living;
+use crate::judgement::refuse;
+use machine_rules::{Active, Setting};
+use machine_state::{Answer, Fault, World};
+use signatures::{Name, ObjectId};
+
+/// Begins the deletion of an object, and carries it out.
+pub fn delete(setting: &Setting, world: &mut World, name: &Name) -> Result<Answer, Fault>
+    requires depth { 0 < setting.now.depth }
+    requires left { 0 < world.old.left }
+    requires idle { world.old.turn ≡ None }
+    requires keeps { WorldInvariant setting.now.meta world.old }
+    ensures { Answers setting.now (Delete name.now) world.old world.new result }
+{
+    let object = match find_living(world, name) {
+        Ok((number, _)) => ObjectId::new(number),
+        Err(reason) => return refuse(world, reason),
+    };
+    world.accept()?;
+    let below = Active::nothing();
+    setting.run_deletion(world, &below, object)?;
+    Ok(Answer::Done)
+}
