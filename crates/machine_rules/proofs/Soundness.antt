@@ -190,7 +190,7 @@ module _ {p : Loaded} {s t : State} (program : IsSound p) (well : IsWell p s t) 
         emitted = all-fit-still p s.objects after stack stay lower;
       })
 
-  schedules-fair : (stack : List Activation) (x : ℕ) (life : Option Life) → Schedules s stack x t life → AllFit p s.objects stack → Fair p t
+  pub schedules-fair : (stack : List Activation) (x : ℕ) (life : Option Life) → Schedules s stack x t life → AllFit p s.objects stack → Fair p t
   schedules-fair stack x None e lower = quiet-fair e lower
   schedules-fair stack x (Some l) r lower = by_mark l.scheduled r
     where
