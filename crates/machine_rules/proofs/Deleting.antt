@@ -201,12 +201,6 @@ module _ {p : Loaded} {d : ℕ} {active : List (Option ℕ)} {w v : World} (room
       (λ below e. let Next : Option ℕ → Type 0 = λ c. ChildRule (at w (Destroy None (parent ∷ torn) ∷ below)) below (at (ticked w) (Destroy None torn ∷ below)) parent torn c in subst Next (sym none) refl)
       (λ o dead. dead) (omega arith) (omega (arith, room)) typed refl ticks.0)
 
--- no rule is left
-pub stops-ticked : {p : Loaded} {d : ℕ} {active : List (Option ℕ)} {w v : World} {a : Activation} (f : Fault) → Ticks w v (Err f) → StopsIn p d active w (a ∷ []) v f
-stops-ticked {p} {d} {active} {w} {v} {a} f ticks =
-    let Family : World → Type 0 = λ u. StopsIn p d active w (a ∷ []) u f in
-    subst Family (sym ticks.2) (stops-as ticks.1 (stops-steps ticks.0))
-
 -- it isn't forgotten, since no rule is left or memory was refused
 pub stops-forgetting : {p : Loaded} {d : ℕ} {active : List (Option ℕ)} {w v : World} {a : Activation} (x : ℕ) (torn after : List ℕ) (f : Fault) → Forgets w torn x v after (Err f) → StopsIn p d active w (a ∷ []) v f
 stops-forgetting {p} {d} {active} {w} {v} {a} x torn after f forgets =
@@ -277,12 +271,6 @@ next-child objects torn front parent found e is lives =
     by_found (Some y) some last x k =
         let same : y ≡ x = cc k in
         subst (λ (o : ℕ). is_living objects o ≡ true) same (child-lives objects some.parent y some.child)
-
-pub next-lives : (objects : List Object) (torn : List ℕ) (found : Option ℕ) (child : ℕ) → MatchOption found (NoneIsNext objects torn) (IsNext objects torn) → found ≡ Some child → is_living objects child ≡ true
-next-lives objects torn None child none e = absurd (cc e)
-next-lives objects torn (Some y) child next e =
-    let same : y ≡ child = cc e in
-    subst (λ (o : ℕ). is_living objects o ≡ true) same (child-lives objects next.parent y next.child)
 
 module _ {p : Loaded} (w : World) (torn : List ℕ) (some : 0 < length torn) (found : Option ℕ) (is : found ≡ next_in w.store.tree torn) (lives : MatchOption found (NoneIsNext w.store.tree torn) (IsNext w.store.tree torn)) where
   -- .. it may die by the next rule
