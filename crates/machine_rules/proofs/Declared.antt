@@ -1,5 +1,5 @@
 -- What methods of objects take, which may be dead by now.
-use Rattle.std.proofs.Common.{◌≡◌, ℕ, List, ◌++◌, length, take, Some, slice_get, refl, sym, ap, ◌∙◌, subst}
+use Rattle.std.proofs.Common.{◌≡◌, ℕ, List, ◌++◌, Some, slice_get, refl, sym, ap, ◌∙◌, subst}
 use Rattle.std.proofs.lemmas.Option.{same_Some}
 use Rattle.signatures.specs.declared.value.Value.{Value}
 use Rattle.meta_model.specs.declared.object.MetaMethod.{MetaMethod}
@@ -14,7 +14,7 @@ use Rattle.object_tree.specs.declared.object.Object.{Object}
 use Rattle.object_tree.specs.Objects.{Lives}
 use Rattle.object_tree.specs.Typed.{ReadAs}
 use Rattle.machine_rules.specs.Good.{ArgumentsFit, EmissionFits, of_living, of_dead, destroyed_kinds}
-use Rattle.machine_rules.specs.Sound.{IsDeclared, Takes, Sends, TakesThese, SendsThese}
+use Rattle.machine_rules.specs.Sound.{Takes, Sends, TakesThese, SendsThese}
 use Rattle.machine_rules.specs.There.{IsMember}
 use Rattle.machine_rules.proofs.Dying.{lives-created, dead-created, lives-not-dead}
 use Rattle.machine_rules.proofs.Fields.{life-unique}

@@ -1,12 +1,10 @@
 -- How deletions are carried out.
-use Rattle.std.proofs.Common.{◌≡◌, ◌≢◌, ⊎_elim, ◌⊎◌, inl, inr, ℕ, zero, suc, ◌+◌, ◌-◌, ◌<◌, ◌≤◌, eqb, Bool, true, false, IsTrue, List, [], ◌∷◌, ◌++◌, length, take, reverse, cond, Result, Ok, Err, Option, Some, None, slice_get, refl, sym, ap, ◌∙◌, subst, arith, length-append}
+use Rattle.std.proofs.Common.{◌≡◌, ◌≢◌, ⊎_elim, inl, inr, ℕ, zero, suc, ◌+◌, ◌-◌, ◌<◌, ◌≤◌, eqb, Bool, true, false, IsTrue, List, [], ◌∷◌, ◌++◌, length, take, reverse, cond, Result, Ok, Err, Option, Some, None, slice_get, refl, sym, ap, ◌∙◌, subst, arith, length-append}
 use Rattle.std.specs.Prelude.{is_some, MatchOption, OnOk}
 use Rattle.std.specs.List.{find}
 use Rattle.std.specs.Option.{option_map}
-use Rattle.std.specs.Result.{IsErrAnd}
 use Rattle.std.proofs.lemmas.Bool.{cases_eq, eqb-true}
 use Rattle.std.proofs.lemmas.List.{reverse-append}
-use Rattle.signatures.specs.declared.value.Value.{Value}
 use Rattle.signatures.specs.declared.value.Value.TheVariants as value
 use Rattle.meta_model.specs.declared.qobject.TheConstants.{DESTROYED}
 use Rattle.meta_model.specs.Loaded.{Loaded}
@@ -14,34 +12,34 @@ use Rattle.meta_model.specs.Values.{null_has}
 use Rattle.object_tree.specs.declared.life.Life.{Life}
 use Rattle.object_tree.specs.declared.object.Object.{Object}
 use Rattle.object_tree.specs.Family.{children_of, IsChild, without_life}
-use Rattle.object_tree.specs.Objects.{Lives, life_of, name_of}
+use Rattle.object_tree.specs.Objects.{life_of, name_of}
 use Rattle.object_tree.specs.Typed.{AreTyped}
-use Rattle.object_tree.proofs.Changing.{life-of-lives, lives-of-life}
+use Rattle.object_tree.proofs.Changing.{life-of-lives}
 use Rattle.object_tree.proofs.TypedObjects.{typed-died}
 use Rattle.delete_later.specs.Ending.{last_of, next_in, first_child_of, IsNext, NoneIsNext}
 use Rattle.machine_state.specs.declared.entry.Entry.{Entry}
 use Rattle.machine_state.specs.declared.entry.Entry.TheVariants.{At}
 use Rattle.machine_state.specs.declared.entry.Happening.TheVariants.{Died}
 use Rattle.machine_state.specs.declared.fault.Fault.{Fault}
-use Rattle.machine_state.specs.declared.fault.Fault.TheVariants.{TooDeep, InUse, Steps, Memory}
+use Rattle.machine_state.specs.declared.fault.Fault.TheVariants.{TooDeep, InUse}
 use Rattle.machine_state.specs.declared.world.World.{World}
 use Rattle.machine_state.specs.Connections.{is_living}
 use Rattle.machine_state.specs.State.{State, Activation, Emit, Destroy}
 use Rattle.machine_state.specs.Worlds.{at, ticked, dying, ending, Ticks}
 use Rattle.machine_rules.specs.Active.{shows, shows_body}
-use Rattle.machine_rules.specs.Destroying.{deleting, Dies, NextRule, ChildRule, living_child}
-use Rattle.machine_rules.specs.Good.{EmissionFits, of_dead, TopFits, has_body, IsWell, Spares}
+use Rattle.machine_rules.specs.Destroying.{deleting, Dies, NextRule, ChildRule}
+use Rattle.machine_rules.specs.Good.{EmissionFits, of_dead, has_body, IsWell, Spares}
 use Rattle.machine_rules.specs.Keeps.{KeepsWorld}
 use Rattle.machine_rules.specs.Reaches.{Reaches, StopsIn, Ends, Deletes, Kills, entry_of_destroyed, Forgets}
 use Rattle.machine_rules.specs.Rules.{Rule}
-use Rattle.machine_rules.specs.There.{IsDead, NoneDied}
-use Rattle.machine_rules.proofs.Dying.{living-not-dead, dead-no-life, died-dead, other-seen}
+use Rattle.machine_rules.specs.There.{IsDead}
+use Rattle.machine_rules.proofs.Dying.{dead-no-life, died-dead, other-seen}
 use Rattle.machine_rules.proofs.Beginning.{one-more, has-life}
 use Rattle.machine_rules.proofs.Declared.{emission-sends}
 use Rattle.machine_rules.specs.Sound.{SendsThese}
 use Rattle.meta_model.specs.Sound.{IsSound}
 use Rattle.machine_rules.proofs.Frames.{high, has-shown}
-use Rattle.machine_rules.proofs.Reaching.{none-spared, reaches-low, reaches-high, reaches-then, stops-after, stops-as, stops-memory, stops-steps, stops-deep, stops-fatal, ends-after, ends-left, ends-lifted, not-idle}
+use Rattle.machine_rules.proofs.Reaching.{none-spared, reaches-low, reaches-high, stops-as, stops-memory, stops-steps, stops-deep, stops-fatal, ends-after, ends-lifted, not-idle}
 
 -- ---- a deletion begins
 
@@ -203,12 +201,6 @@ module _ {p : Loaded} {d : ℕ} {active : List (Option ℕ)} {w v : World} (room
       (λ below e. let Next : Option ℕ → Type 0 = λ c. ChildRule (at w (Destroy None (parent ∷ torn) ∷ below)) below (at (ticked w) (Destroy None torn ∷ below)) parent torn c in subst Next (sym none) refl)
       (λ o dead. dead) (omega arith) (omega (arith, room)) typed refl ticks.0)
 
--- no rule is left
-pub stops-ticked : {p : Loaded} {d : ℕ} {active : List (Option ℕ)} {w v : World} {a : Activation} (f : Fault) → Ticks w v (Err f) → StopsIn p d active w (a ∷ []) v f
-stops-ticked {p} {d} {active} {w} {v} {a} f ticks =
-    let Family : World → Type 0 = λ u. StopsIn p d active w (a ∷ []) u f in
-    subst Family (sym ticks.2) (stops-as ticks.1 (stops-steps ticks.0))
-
 -- it isn't forgotten, since no rule is left or memory was refused
 pub stops-forgetting : {p : Loaded} {d : ℕ} {active : List (Option ℕ)} {w v : World} {a : Activation} (x : ℕ) (torn after : List ℕ) (f : Fault) → Forgets w torn x v after (Err f) → StopsIn p d active w (a ∷ []) v f
 stops-forgetting {p} {d} {active} {w} {v} {a} x torn after f forgets =
@@ -279,12 +271,6 @@ next-child objects torn front parent found e is lives =
     by_found (Some y) some last x k =
         let same : y ≡ x = cc k in
         subst (λ (o : ℕ). is_living objects o ≡ true) same (child-lives objects some.parent y some.child)
-
-pub next-lives : (objects : List Object) (torn : List ℕ) (found : Option ℕ) (child : ℕ) → MatchOption found (NoneIsNext objects torn) (IsNext objects torn) → found ≡ Some child → is_living objects child ≡ true
-next-lives objects torn None child none e = absurd (cc e)
-next-lives objects torn (Some y) child next e =
-    let same : y ≡ child = cc e in
-    subst (λ (o : ℕ). is_living objects o ≡ true) same (child-lives objects next.parent y next.child)
 
 module _ {p : Loaded} (w : World) (torn : List ℕ) (some : 0 < length torn) (found : Option ℕ) (is : found ≡ next_in w.store.tree torn) (lives : MatchOption found (NoneIsNext w.store.tree torn) (IsNext w.store.tree torn)) where
   -- .. it may die by the next rule

@@ -1,17 +1,16 @@
 -- Objects that die.
-use Rattle.std.proofs.Common.{◌≡◌, ◌≢◌, ⊎_elim, ◌⊎◌, inl, inr, ℕ, zero, suc, ◌<◌, ◌≤◌, eqb, ◌||◌, Bool, true, false, IsTrue, List, [], ◌∷◌, length, Option, None, Some, slice_get, refl, sym, ap, ◌∙◌, subst, arith}
+use Rattle.std.proofs.Common.{◌≡◌, ◌≢◌, ⊎_elim, ◌⊎◌, inl, inr, ℕ, zero, suc, ◌<◌, ◌≤◌, Bool, true, false, List, [], ◌∷◌, length, Option, None, Some, slice_get, refl, sym, ap, ◌∙◌, subst, arith}
 use Rattle.std.specs.Prelude.{is_some}
-use Rattle.std.specs.List.{find}
 use Rattle.std.specs.Option.{option_map, option_and_then, option_copied}
 use denote.Bor.{Bor}
-use Rattle.std.proofs.lemmas.Bool.{cases_eq, eqb-true}
+use Rattle.std.proofs.lemmas.Bool.{cases_eq}
 use Rattle.std.proofs.lemmas.Option.{slice_get_within}
 use Rattle.object_tree.specs.declared.life.Life.{Life}
 use Rattle.object_tree.specs.declared.object.Object.{Object}
 use Rattle.object_tree.specs.Objects.{Lives, life_of, class_of, name_of, change_life, with_life, scheduled}
-use Rattle.object_tree.specs.Family.{parent_of, children_of, leaves, left_by, dead, without_life}
+use Rattle.object_tree.specs.Family.{parent_of, leaves, left_by, dead, without_life}
 use Rattle.object_tree.specs.Seen.{seen_object, seen_reference}
-use Rattle.object_tree.proofs.Changing.{get-change_same, get-change_other, length-change, part-change, life-part, life-of-lives, lives-of-life}
+use Rattle.object_tree.proofs.Changing.{get-change_same, get-change_other, length-change, part-change, life-part, life-of-lives}
 use Rattle.object_tree.proofs.Families.{leaves-part}
 use Rattle.machine_state.specs.Connections.{is_living}
 use Rattle.machine_rules.specs.There.{IsDead}

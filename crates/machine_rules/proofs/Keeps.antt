@@ -1,5 +1,5 @@
 -- What each rule leaves as it was.
-use Rattle.std.proofs.Common.{◌≡◌, ◌⊎◌, inl, inr, ℕ, suc, ◌+◌, List, [], ◌∷◌, ◌++◌, Option, Some, None, slice_get, refl, sym, ap, ◌∙◌, subst, arith, Result, Ok, Err, append_assoc, append-nil, ◌<◌, ◌≤◌, Bool, true, false, length, map}
+use Rattle.std.proofs.Common.{◌≡◌, ◌⊎◌, inl, inr, ℕ, suc, ◌+◌, List, [], ◌∷◌, ◌++◌, Option, Some, None, refl, sym, ap, ◌∙◌, subst, arith, Result, Ok, Err, append_assoc, append-nil, ◌<◌, ◌≤◌, Bool, true, false, length, map}
 use Rattle.signatures.specs.declared.value.Value.{Value}
 use Rattle.meta_model.specs.Loaded.{Loaded}
 use Rattle.meta_model.specs.declared.object.Statement.{Statement}
@@ -19,7 +19,7 @@ use Rattle.machine_state.specs.declared.world.World.{World}
 use Rattle.machine_state.specs.Worlds.{at}
 use Rattle.machine_state.proofs.Due.{last-used, all-used, all-removed}
 use Rattle.machine_state.specs.State.{State, Place, Activation, Body, Emit, Update, Destroy}
-use Rattle.machine_rules.specs.Destroying.{Dies, died, forgotten, deferred, NextRule, ChildRule, DestroyRule, living_child, DefersOnce, Schedules}
+use Rattle.machine_rules.specs.Destroying.{Dies, forgotten, deferred, NextRule, ChildRule, DestroyRule, living_child, DefersOnce, Schedules}
 use Rattle.machine_rules.specs.Rules.{RuleAt, BodyRule, Does, EmitRule, UpdateRule, NotifiesIf, Begins, BeginsIf, Writes, begun, with_used, linked, unlinked, TurnRule, Serves, Delivers, Arrives}
 use Rattle.machine_rules.specs.Doings.{Doing, Write, Begin, Choose, Connect, Disconnect, Delete, Schedule, Nothing}
 use Rattle.machine_state.specs.Connections.{is_living, next_used, joins_these}
@@ -34,8 +34,6 @@ use Rattle.object_tree.proofs.Changing.{life-of-lives, lives-of-life, length-cha
 use Rattle.object_tree.specs.Typed.{AreTyped, ReadAs}
 use Rattle.machine_state.specs.declared.entry.Entry.{Entry}
 use Rattle.machine_rules.specs.There.{IsMember, IsDead}
-use Rattle.machine_rules.proofs.Fields.{typed-written}
-use Rattle.meta_model.specs.declared.object.MetaProperty.{MetaProperty}
 use Rattle.signatures.specs.Types.{Fits}
 use Rattle.texts.specs.declared.connection.ConnectionType.{ConnectionType}
 use Rattle.texts.specs.declared.connection.Endpoints.{Endpoints as Named}
@@ -55,7 +53,6 @@ use Rattle.machine_rules.specs.Reaches.{Reaches, StopsIn, Ends}
 use Rattle.machine_rules.specs.Keeps.{StayThere, AllJoined, Grows, Keeps, KeepsWorld}
 use Rattle.object_tree.proofs.TypedObjects.{Follow, read-still, class-written, seen-written}
 use Rattle.std.specs.Option.{option_map}
-use Rattle.meta_model.specs.Members.{IsMethod}
 
 -- ---- objects that stay
 

@@ -1,5 +1,5 @@
 -- Connections that statements make and remove.
-use Rattle.std.proofs.Common.{◌≡◌, ◌&&◌, Bool, true, false, IsTrue, if◌then◌else◌, Option, Some, ℕ, ◌-◌, List, [], ◌∷◌, length, Result, Ok, Err, MatchResult, refl, sym, ap, ◌∙◌, subst, inr}
+use Rattle.std.proofs.Common.{◌≡◌, ◌&&◌, Bool, true, false, IsTrue, Option, Some, ℕ, ◌-◌, List, [], ◌∷◌, length, Result, Ok, Err, MatchResult, refl, sym, ap, ◌∙◌, subst, inr}
 use Rattle.texts.specs.declared.connection.ConnectionType.{ConnectionType}
 use Rattle.texts.specs.declared.connection.Endpoints.{Endpoints as Named}
 use Rattle.meta_model.specs.Loaded.{Loaded}
@@ -11,7 +11,8 @@ use Rattle.object_tree.specs.Objects.{Lives}
 use Rattle.object_tree.specs.Typed.{StayTyped}
 use Rattle.machine_rules.specs.There.{IsDead, NoneDied}
 use Rattle.delete_later.specs.declared.store.Store.{Store}
-use Rattle.delete_later.specs.Scheduling.{deferred_to, scheduled_with, scheduled_in}
+use Rattle.delete_later.specs.Scheduling.{deferred_to, scheduled_in}
+use Rattle.machine_state.proofs.Deferring.{scheduled-now}
 use Rattle.event_loops.specs.Queues.{name_at}
 use Rattle.object_tree.specs.Typed.{AreTyped}
 use Rattle.object_tree.specs.Objects.{life_of, scheduled}
@@ -30,7 +31,7 @@ use Rattle.machine_state.specs.declared.world.World.{World}
 use Rattle.machine_state.specs.Refusals.{refusal_number}
 use Rattle.machine_state.specs.State.{State, Activation}
 use Rattle.machine_state.specs.Worlds.{at, noted, connecting, disconnecting, scheduling, Becomes}
-use Rattle.machine_rules.specs.Connecting.{AreThere, kept_ends, names_of, may_disconnect}
+use Rattle.machine_rules.specs.Connecting.{AreThere, kept_ends, may_disconnect}
 use Rattle.machine_rules.specs.Reaches.{IsJudged, LacksEnds, NamesEnds, Went, Stays, ConnectsIn, DisconnectsIn, SchedulesIn}
 use Rattle.machine_rules.specs.Rules.{Connects, Disconnects}
 use Rattle.machine_rules.proofs.Fields.{member-at}
@@ -92,8 +93,7 @@ module _ (What : State → List Activation → State → Type 0) (w v : World) (
 pub schedule-made : (w v : World) (depth x : ℕ) {y : Object} {l : Life} {loop : List ℕ} (r : Result (Unit {0}) Fault) → Lives w.store.tree x y l → l.scheduled ≡ false → Some loop ≡ name_at w.store.loops.loops l.home → Becomes w (scheduling w (At depth (Scheduled loop y.name) ∷ []) x) v r → SchedulesIn w depth x v r
 schedule-made w v depth x {y} {l} {loop} r lives unmarked named becomes =
     let life_is : life_of w.store.tree x ≡ Some l = life-of-lives lives in
-    let With : Bool → Store = λ b. if b then w.store else deferred_to l.home x w.store in
-    let made : scheduled_in x w.store ≡ deferred_to l.home x w.store = ap (λ (life : Option Life). scheduled_with life x w.store) life_is ∙ ap With unmarked in
+    let made : scheduled_in x w.store ≡ deferred_to l.home x w.store = scheduled-now x w.store l life_is unmarked in
     let target : ℕ → World = λ n. scheduling w (At n (Scheduled loop y.name) ∷ []) x in
     came (λ s stack t. Schedules s stack x t (life_of s.objects x)) w v depth target r
     (λ old stack.

@@ -1,5 +1,5 @@
 -- What stays sound: items that wait and emissions have arguments that fit.
-use Rattle.std.proofs.Common.{◌≡◌, ℕ, suc, ◌+◌, ◌-◌, ◌<◌, Bool, true, false, List, [], ◌∷◌, ◌++◌, length, take, Result, Ok, Err, Option, Some, None, slice_get, refl, sym, ap, subst, arith}
+use Rattle.std.proofs.Common.{◌≡◌, ℕ, suc, ◌+◌, ◌<◌, Bool, true, false, List, [], ◌∷◌, ◌++◌, length, take, Result, Ok, Err, Option, Some, None, slice_get, refl, sym, subst, arith}
 use Rattle.std.specs.List.{AllByRecursion, find}
 use Rattle.std.specs.Option.{option_map}
 use Rattle.std.proofs.lemmas.Option.{slice_get_within}
@@ -29,17 +29,17 @@ use Rattle.machine_state.specs.Turns.{running, reaches_at_once}
 use Rattle.machine_state.specs.Worlds.{using, set_in, noted}
 use Rattle.machine_state.proofs.Due.{all-used, last-used}
 use Rattle.machine_rules.specs.Doings.{Doing, Write, Begin, Choose, Nothing, Connect, Disconnect, Delete, Schedule}
-use Rattle.machine_rules.specs.Good.{ArgumentsFit, EmissionFits, TopFits, IsWell}
+use Rattle.machine_rules.specs.Good.{ArgumentsFit, TopFits, IsWell}
 use Rattle.machine_rules.specs.Keeps.{StayThere, AllJoined, KeepsWorld}
 use Rattle.machine_rules.specs.Reaches.{Reaches, StopsIn, Ends}
-use Rattle.machine_rules.specs.Rules.{RuleAt, BodyRule, Does, EmitRule, UpdateRule, NotifiesIf, TurnRule, Serves, Delivers, Arrives, Posts, Begins, BeginsIf, Writes, begun, with_used, linked, unlinked}
+use Rattle.machine_rules.specs.Rules.{RuleAt, BodyRule, Does, EmitRule, UpdateRule, NotifiesIf, TurnRule, Serves, Delivers, Arrives, Begins, BeginsIf, Writes, begun, with_used, linked, unlinked}
 use Rattle.machine_rules.specs.Runs.{Rules, done, then}
-use Rattle.machine_rules.specs.Sound.{TakesThese, SendsThese, IsDelivered, Joined, Waits, AllWait, Sound, IsSoundWorld}
-use Rattle.machine_rules.specs.Destroying.{deleting, Dies, forgotten, deferred, NextRule, ChildRule, DestroyRule, living_child, DefersOnce, Schedules}
+use Rattle.machine_rules.specs.Sound.{SendsThese, IsDelivered, Joined, Waits, AllWait, Sound, IsSoundWorld}
+use Rattle.machine_rules.specs.Destroying.{Dies, forgotten, deferred, NextRule, ChildRule, DestroyRule, living_child, DefersOnce, Schedules}
 use Rattle.machine_rules.proofs.Beginning.{next-delivered, delivered-fits}
 use Rattle.machine_rules.proofs.Declared.{fit-takes, emission-sends}
 use Rattle.machine_rules.proofs.Dying.{died-stay, scheduled-stay}
-use Rattle.machine_rules.proofs.Keeps.{takes-still, sends-still, values-stay, written-stay, all-joined-still, rule-kept, some-top, some-stack, some-all, reaches-keeps, stops-keeps, ends-keeps, reaches-typed, ends-typed}
+use Rattle.machine_rules.proofs.Keeps.{takes-still, sends-still, values-stay, written-stay, all-joined-still, rule-kept, some-top, some-stack, some-all, reaches-keeps, ends-keeps, reaches-typed, ends-typed}
 use Rattle.machine_rules.proofs.Fields.{typed-written}
 use Rattle.machine_rules.specs.There.{IsField}
 use Rattle.meta_model.specs.declared.object.MetaProperty.{MetaProperty}

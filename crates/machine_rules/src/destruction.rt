@@ -110,7 +110,12 @@ impl Setting {
         let Some(name) = world.store.tree.name(object) else {
             unreachable!()
         };
-        let died = Entry::At(over.count(), Happening::Died { object: name.copy()? });
+        let died = Entry::At(
+            over.count(),
+            Happening::Died {
+                object: name.copy()?,
+            },
+        );
         let emitted = self.destroyed_entry(over.count() + 1, name)?;
         let last = world.store.connections.last();
         world.mark_dead([died, emitted], object)?;
@@ -139,12 +144,7 @@ impl Setting {
 
     /// Schedules an object for deletion by a statement, where `depth` activations are on the stack. An object that is
     /// scheduled already, or doesn't live, changes nothing; nor does want of memory.
-    pub fn schedule(
-        &self,
-        world: &mut World,
-        depth: usize,
-        object: ObjectId,
-    ) -> Result<(), Fault>
+    pub fn schedule(&self, world: &mut World, depth: usize, object: ObjectId) -> Result<(), Fault>
         requires sound { IsSoundWorld self.now.meta world.old }
         requires left { 0 < world.old.left }
         ensures { SchedulesIn world.old depth object world.new result }

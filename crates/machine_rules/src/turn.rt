@@ -63,7 +63,8 @@ impl Setting {
         requires first { IsCalled world.old turn }
         ensures { Advances self.now.meta self.now.depth [] world.old [] world.new [] result }
     {
-        let Some(first) = world.store.loops.first_before(turn.home, turn.limit) else {
+        let Turn { home, limit } = turn;
+        let Some(first) = world.store.loops.first_before(home, limit) else {
             unreachable!()
         };
         let Item::Call {
@@ -82,7 +83,7 @@ impl Setting {
             arguments: arguments.as_slice(),
         };
         let (line, begun) = self.begun(world, &below, &call)?;
-        let taken = world.take_before(line, turn.home, turn.limit)?;
+        let taken = world.take_before(line, home, limit)?;
         let Some(
             Posted {
                 item: Item::Call { arguments, .. },

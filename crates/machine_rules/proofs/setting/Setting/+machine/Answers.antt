@@ -4,12 +4,12 @@ use Rattle.machine_state.specs.declared.world.World.{World}
 use Rattle.machine_rules.proofs.Reaching.{not-idle, reaches-same, reaches-then, stops-after, stops-as, ends-after, ends-lifted, ends-left, ends-undue, ends-short, ends-unchanged, ends-faulted, ends-ticked}
 use Rattle.machine_rules.specs.Good.{ArgumentsFit}
 use Rattle.machine_rules.proofs.Keeps.{keeps-same, keeps-then, ends-keeps, reaches-typed, reaches-keeps}
-use Rattle.machine_rules.proofs.Declared.{fit-sends, emission-sends}
+use Rattle.machine_rules.proofs.Declared.{fit-sends}
 use Rattle.machine_rules.proofs.Soundness.{emitted-still, ends-sound, reaches-sound, sound-used, sound-noted, sound-set, sound-as}
 use Rattle.machine_rules.proofs.Beginning.{ends-begun, stops-barred, stops-no-member, stops-ill-typed, fit-of, next-delivered, delivered-fits, delivery-calls, begun-used, ends-posted, no-home, not-true}
 use Rattle.machine_rules.proofs.Writes.{ends-written, stops-unwritten, announces-written, announces-as, announced-member, announced-value, announced-fits, announcement-calls}
 use Rattle.machine_rules.proofs.Bodies.{does-call, does-call-alone, does-set, does-nothing, does-connect, does-disconnect, does-delete, does-schedule, does-choose, lacks-read, advances-one, advances-ticked, advances-left}
-use Rattle.machine_rules.proofs.Deleting.{ends-deleting, stops-deleting, reaches-died, stops-in-use, stops-announcing, living-name, on-ok, died-as, died-emits, died-gone, dead-after, kills-first, kills-next, next-lives, reaches-latest, reaches-next, stops-forgetting, forgets-fewer, nonempty, none-left}
+use Rattle.machine_rules.proofs.Deleting.{ends-deleting, stops-deleting, reaches-died, stops-in-use, stops-announcing, living-name, on-ok, died-as, died-emits, died-gone, dead-after, kills-first, kills-next, reaches-latest, reaches-next, stops-forgetting, forgets-fewer, nonempty, none-left}
 use Rattle.machine_rules.proofs.Dying.{copied-living}
 use Rattle.machine_rules.proofs.setting.Setting.+machine.Goals as goal
 

@@ -1,4 +1,4 @@
-use Rattle.std.proofs.Common.{◌≡◌, Option, ap, sym}
+use Rattle.std.proofs.Common.{ap}
 use Rattle.std.specs.Option.{option_map}
 use Rattle.object_tree.specs.declared.life.Life.{Life}
 use Rattle.object_tree.proofs.Changing.{life-of-lives}

@@ -1,4 +1,4 @@
-use Rattle.std.proofs.Common.{◌≡◌, List, ◌∙◌, ap, arith}
+use Rattle.std.proofs.Common.{◌∙◌, ap, arith}
 use Rattle.machine_state.specs.declared.world.World.{World}
 use Rattle.machine_rules.proofs.Turning.{reaches-ended, reaches-passed, reaches-deleting, advances-served}
 use Rattle.machine_rules.proofs.Dying.{copied-none}

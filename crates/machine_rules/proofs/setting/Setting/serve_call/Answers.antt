@@ -1,6 +1,4 @@
-use Rattle.std.proofs.Common.{◌≡◌, List, ◌∙◌, ap}
-use Rattle.signatures.specs.declared.value.Value.{Value}
-use Rattle.event_loops.specs.declared.item.Item.TheVariants.{Call, Deletion}
+use Rattle.std.proofs.Common.{◌≡◌, ◌∙◌, ap}
 use Rattle.machine_state.specs.declared.world.World.{World}
 use Rattle.machine_rules.proofs.Turning.{reaches-served, advances-served, advances-barred, advances-unchanged, called-fits, called-there, called-is, taken-sound, taken-fits}
 use Rattle.machine_rules.proofs.setting.Setting.serve_call.Goals as goal
