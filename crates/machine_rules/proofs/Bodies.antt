@@ -109,10 +109,7 @@ does-schedule m rest y n r is room typed some n_is went =
 
 -- .. or deleted
 pub does-delete : {p : Loaded} {w : World} {o : ℕ} {arguments : List Value} {x : Statement} (m : ℕ) (rest : List Statement) {y : ℕ} → doing w.store.tree o arguments (out-Statement x) ≡ Some (Delete y) → Deletes p w (Body o m arguments (x ∷ rest) ∷ []) (Body o m arguments rest ∷ []) y
-does-delete {p} {w} {o} {arguments} {x} m rest {y} is = record {
-  goes_on = λ below. not-idle w _ below;
-  gives = λ below. does-rule p w o m arguments x rest (Delete y) below _ is refl;
-}
+does-delete {p} {w} {o} {arguments} {x} m rest {y} is = record { gives = λ below. does-rule p w o m arguments x rest (Delete y) below _ is refl }
 
 -- a block comes next
 pub does-choose : {p : Loaded} {w : World} {o : ℕ} {arguments : List Value} {x : Statement} (m : ℕ) (rest : List Statement) {d : ℕ} {h : List (Option ℕ)} {v : World} (r : Result (Unit {0}) Fault) (block : List Statement) → doing w.store.tree o arguments (out-Statement x) ≡ Some (Choose block) → length h < d → AreTyped p w.store.tree → Ticks w v r → Ends p d h w (Body o m arguments (x ∷ rest) ∷ []) v (Body o m arguments (block ++ rest) ∷ []) r

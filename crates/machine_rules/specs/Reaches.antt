@@ -122,7 +122,6 @@ pub record Sets (p : Loaded) (w : World) (from to : List Activation) (o q : ℕ)
 
 -- by the next rule the deletion of an object begins
 pub record Deletes (p : Loaded) (w : World) (from to : List Activation) (x : ℕ) : Type 0 where
-  pub goes_on : (below : List Activation) → ¬ IsIdle (at w (from ++ below))
   pub gives : (below : List Activation) → Rule p (at w (from ++ below)) (deleting (at w (from ++ below)) (to ++ below) x)
 
 -- by the next rule of a deletion an object may die, and is then the one whose `destroyed` goes on
