@@ -1,0 +1,45 @@
+//! Properties of objects.
+
+ghost use Rattle.std.specs.Prelude.{◌≡◌};
+ghost use Rattle.std.specs.Option.{option_copied};
+ghost use Rattle.prop_bindings.specs.Places.{same_place, is_in, values_in};
+
+use object_tree::Tree;
+use signatures::{ObjectId, Value};
+
+/// A property of an object.
+#[derive(Clone, Copy, Debug, PartialEq, Eq)]
+pub struct Place {
+    /// The object.
+    pub object: ObjectId,
+    /// The property's number in the object's class.
+    pub property: usize,
+}
+
+impl Place {
+    /// Whether both are one property of one object.
+    pub fn is_same(self, other: Place) -> bool
+        ensures { result ≡ same_place self other }
+    {
+        self.object == other.object && self.property == other.property
+    }
+}
+
+/// Whether the property is among these.
+pub fn contains(places: &[Place], place: Place) -> bool
+    ensures { result ≡ is_in places.now place }
+{
+    for each in places {
+        if each.is_same(place) {
+            return true;
+        }
+    }
+    false
+}
+
+/// The value of a living object's property.
+pub fn stored(objects: &Tree, place: Place) -> Option<&Value>
+    ensures { option_copied result ≡ values_in objects.now place }
+{
+    objects.life(place.object)?.values.get(place.property)
+}
