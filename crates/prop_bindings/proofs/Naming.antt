@@ -1,5 +1,5 @@
 -- What expressions name, and that their values depend on that alone.
-use Rattle.std.proofs.Common.{◌≡◌, Bool, true, false, ◌||◌, List, [], ◌∷◌, ◌++◌, ◌⊎◌, inl, inr, filter_map, Option, Some, None, refl, ap, sym, ◌∙◌, subst}
+use Rattle.std.proofs.Common.{◌≡◌, ℕ, Bool, true, false, ◌||◌, List, [], ◌∷◌, ◌++◌, ◌⊎◌, inl, inr, filter_map, Option, Some, None, refl, ap, sym, ◌∙◌, subst}
 use Rattle.std.specs.List.{list_any}
 use Rattle.std.specs.Option.{option_and_then}
 use Rattle.std.proofs.lemmas.Bool.{false≢true, cases_Bool, or_parts}
@@ -9,9 +9,8 @@ use Rattle.texts.specs.declared.syntax.Binary.{Binary}
 use Rattle.texts.specs.declared.syntax.Expr.{Expr}
 use Rattle.texts.specs.declared.syntax.Expr.TheVariants as e
 use Rattle.texts.specs.declared.syntax.Expr.TheOpen as layer
-use Rattle.texts.specs.declared.syntax.Expr.TheOpen.{map-Expr}
 use Rattle.texts.specs.declared.syntax.Expr.TheViews.{roll-Expr}
-use Rattle.texts.specs.declared.syntax.Expr.TheFolds.{fold-Expr, fold-roll-Expr, ind-Expr}
+use Rattle.texts.specs.declared.syntax.Expr.TheFolds.{fold-Expr, fold-roll-Expr, ind-Expr, map-Expr}
 use Rattle.expressions.specs.Operators.{unary, binary}
 use Rattle.expressions.specs.Evaluation.{value, value_step}
 use Rattle.prop_bindings.specs.declared.site.SourceProperty.{SourceProperty}
