@@ -33,10 +33,13 @@ order-more F t b order o apart =
     let w = halve F t b order [] [] order (halved-none F (bound F t b) t order o.ordered) in
     elim (cases_Bool (reads_any b (t ∷ w.reached))) [
       | inl closes ↦ absurd (apart (halved-loop F (bound F t b) t order w.reached w.sooner [] b w.halved (bound-same F t b) closes))
-      | inr free ↦ (w.sooner ++ t ∷ w.reached, record {
+      | inr free ↦ (
+        w.sooner ++ t ∷ w.reached,
+        record {
           ordered = halved-ordered F (bound F t b) t order w.reached w.sooner [] b w.halved (bound-same F t b) free;
           covers = halved-covers F t b order w.reached w.sooner w.halved o.covers;
-        })
+        },
+      )
     ]
 
 -- fewer bindings have fewer chains

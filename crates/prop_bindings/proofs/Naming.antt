@@ -34,8 +34,8 @@ pub named-Binary : (op : Binary) (x y : Expr SourceProperty) → named_in (e.Bin
 named-Binary op x y = ap named_in (sym (e.rolls-Binary op x y)) ∙ fold-roll-Expr SourceProperty (List SourceProperty) named_step (layer.Binary op x y)
 
 pub filter_map-append : {A B : Type 0} (f : A → Option B) (xs ys : List A) → filter_map f (xs ++ ys) ≡ filter_map f xs ++ filter_map f ys
-filter_map-append f [] ys = refl
-filter_map-append f (x ∷ xs) ys = joined (f x) (filter_map-append f xs ys)
+filter_map-append {A} {B} f [] ys = refl
+filter_map-append {A} {B} f (x ∷ xs) ys = joined (f x) (filter_map-append f xs ys) refl
   where
     joined : (o : Option B) → filter_map f (xs ++ ys) ≡ filter_map f xs ++ filter_map f ys → f x ≡ o → filter_map f (x ∷ xs ++ ys) ≡ filter_map f (x ∷ xs) ++ filter_map f ys
     joined None is at = rw at is

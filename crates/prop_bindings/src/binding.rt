@@ -71,11 +71,7 @@ fn is_source(sources: &[ObjectId], object: ObjectId) -> bool
 
 #[tactic(auto, using(crate::proofs::Naming::named_equations))]
 /// Whether the expression names one of these properties, over these sources.
-fn names_any(
-    expression: &Expr<SourceProperty>,
-    sources: &[ObjectId],
-    places: &[Place],
-) -> bool
+fn names_any(expression: &Expr<SourceProperty>, sources: &[ObjectId], places: &[Place]) -> bool
     ensures { result ≡ list_any (is_in places.now) (filter_map (place_of sources.now) (named_in expression.now)) }
 {
     match expression {

@@ -9,7 +9,7 @@ ghost use Rattle.prop_bindings.specs.Laws.{Determines};
 use crate::binding::Binding;
 use crate::changes::settle;
 use crate::fault::{BindFault, WriteFault};
-use crate::order::{Walk, walk};
+use crate::order::{Walked, walk};
 use crate::place::Place;
 use crate::preparing::{Prepared, fits, prepare};
 use crate::site::MetaSite;
@@ -30,6 +30,8 @@ pub struct Bindings {
 }
 
 impl Model for Bindings {
+    ghost use Rattle.std.specs.Coded.{coded_list};
+    ghost use Rattle.prop_bindings.specs.contracts.binding.Binding as binding;
     ghost use Rattle.std.specs.Prelude.{List};
     ghost use Rattle.prop_bindings.specs.declared.binding.Binding.{Binding};
     ghost use Rattle.prop_bindings.specs.Bindings.{binding_at};
@@ -37,6 +39,8 @@ impl Model for Bindings {
     ghost use Rattle.prop_bindings.specs.Orders.{IsOrder};
 
     ghost Value = { List Binding };
+
+    ghost coded = { coded_list binding.the_row.coded };
 
     ghost view = { λ b. b.installed.items };
 
@@ -121,24 +125,27 @@ impl Bindings {
 
     /// Installs a binding whose expression has this value. `BindingLoop` where it would close a chain, `Memory` only
     /// where a growth was refused; then nothing changes.
-    fn install(
-        &mut self,
-        tree: &mut Tree,
-        prepared: Prepared,
-    ) -> Result<Items<Place>, BindFault>
+    fn install(&mut self, tree: &mut Tree, prepared: Prepared) -> Result<Items<Place>, BindFault>
         requires agree { AgreesWith tree.old self.old prepared.binding prepared.value }
         ensures value { Installs prepared.binding self.old tree.old result self.new tree.new }
         ensures agree { StayAgreeing tree.old tree.new self.old self.new prepared.binding }
     {
         let Prepared { binding, value } = prepared;
         let target = binding.target;
-        let Walk { mut sooner, later } = walk(self.alloc, &self.installed, &self.order, target)?;
+        let Walked { mut sooner, later } = walk(self.alloc, &self.installed, &self.order, target)?;
         if binding.reads_any(&later) {
             return Err(BindFault::BindingLoop);
         }
         sooner.extend_from_slice(&later)?;
         self.installed.reserve(1)?;
-        let changed = settle(self.alloc, &self.installed, &later[1..], tree, target, value)?;
+        let changed = settle(
+            self.alloc,
+            &self.installed,
+            &later[1..],
+            tree,
+            target,
+            value,
+        )?;
         replace(&mut self.installed, binding);
         self.order = sooner;
         Ok(changed)

@@ -65,11 +65,7 @@ fn others(alloc: Global, installed: &[Binding], place: Place) -> Result<Vec<Plac
 }
 
 /// The values of these properties.
-fn values_at(
-    alloc: Global,
-    places: &[Place],
-    tree: &Tree,
-) -> Result<Vec<Option<Value>>, AllocError>
+fn values_at(alloc: Global, places: &[Place], tree: &Tree) -> Result<Vec<Option<Value>>, AllocError>
     ensures { IfOk result (λ found. found.items ≡ map (values_in tree.now) places.now) }
 {
     let mut found = Vec::new(alloc);

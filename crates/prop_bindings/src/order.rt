@@ -16,7 +16,7 @@ use std::alloc::{AllocError, Global};
 
 /// What a walk over an order of evaluation finds.
 #[derive(Drop)]
-pub struct Walk {
+pub struct Walked {
     /// What isn't reached, in the order of evaluation.
     pub sooner: Vec<Place>,
     /// The property where the walk began, and what chains of bindings lead to from it, each once, in that order.
@@ -42,7 +42,7 @@ pub fn walk(
     installed: &[Binding],
     order: &[Place],
     from: Place,
-) -> Result<Walk, AllocError>
+) -> Result<Walked, AllocError>
     requires { IsOrder (binding_at installed.now) order.now }
     ensures { IfOk result (λ walk. IsWalked (binding_at installed.now) from order.now walk.sooner.items walk.later.items) }
 {
@@ -59,7 +59,7 @@ pub fn walk(
         }
         sooner.push(*place)?;
     }
-    Ok(Walk { sooner, later })
+    Ok(Walked { sooner, later })
 }
 
 /// Whether a property's binding reads one of these.

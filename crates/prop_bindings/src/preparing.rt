@@ -77,13 +77,7 @@ pub fn fits(meta: &Meta, tree: &Tree, place: Place, value: &Value) -> bool
 }
 
 /// Whether the site covers the target and the sources.
-fn covers(
-    meta: &Meta,
-    tree: &Tree,
-    site: &MetaSite,
-    target: ObjectId,
-    sources: &[ObjectId],
-) -> bool
+fn covers(meta: &Meta, tree: &Tree, site: &MetaSite, target: ObjectId, sources: &[ObjectId]) -> bool
     ensures { IsTrue result ↔ CoversBinding meta.now tree.now site.now target sources.now }
 {
     is_of(meta, tree, target, site.class) && are_of(meta, tree, sources, site.formals.as_slice())

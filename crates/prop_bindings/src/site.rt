@@ -25,7 +25,6 @@ pub struct Formula {
 }
 
 impl Model for Formula {
-    ghost use Rattle.std.specs.Coded.{codes};
     ghost use Rattle.texts.specs.contracts.syntax.Expr as expr;
     ghost use Rattle.texts.specs.declared.syntax.Expr.{Expr};
     ghost use Rattle.prop_bindings.specs.contracts.site.SourceProperty as source;
@@ -33,7 +32,7 @@ impl Model for Formula {
 
     ghost Value = { Expr SourceProperty };
 
-    ghost coded = { Prim.hlevel (codes, expr.the_row.coded, source.the_row.coded) };
+    ghost coded = { (expr.the_row source.the_row).coded };
 
     ghost view = { λ formula. formula.expression.value };
 }
