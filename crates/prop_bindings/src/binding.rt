@@ -94,7 +94,7 @@ fn names_one(named: SourceProperty, sources: &[ObjectId], places: &[Place]) -> b
                 object: *object,
                 property: named.property,
             };
-            contains(places, place)
+            contains(places, &place)
         }
         None => false,
     }

@@ -81,19 +81,19 @@ impl Bindings {
         &mut self,
         meta: &Meta,
         tree: &mut Tree,
-        place: Place,
+        place: &Place,
         value: Value,
     ) -> Result<Items<Place>, WriteFault>
-        requires there { IsThere meta.now tree.old place }
+        requires there { IsThere meta.now tree.old place.now }
         requires agree { Agree meta.now tree.old self.old }
-        ensures value { Writes meta.now place value self.old tree.old result self.new tree.new }
+        ensures value { Writes meta.now place.now value self.old tree.old result self.new tree.new }
         ensures agree { Agree meta.now tree.new self.new }
     {
         if !fits(meta, tree, place, &value) {
             return Err(WriteFault::BadType);
         }
-        let walk = walk(self.alloc, &self.installed, &self.order, place)?;
-        let followers = &walk.later[1..];
+        let walked = walk(self.alloc, &self.installed, &self.order, place)?;
+        let followers = &walked.later[1..];
         let changed = settle(self.alloc, &self.installed, followers, tree, place, value)?;
         remove(&mut self.installed, place);
         Ok(changed)
@@ -131,7 +131,7 @@ impl Bindings {
         ensures agree { StayAgreeing tree.old tree.new self.old self.new prepared.binding }
     {
         let Prepared { binding, value } = prepared;
-        let target = binding.target;
+        let target = &binding.target;
         let Walked { mut sooner, later } = walk(self.alloc, &self.installed, &self.order, target)?;
         if binding.reads_any(&later) {
             return Err(BindFault::BindingLoop);
@@ -160,8 +160,8 @@ impl Bindings {
 }
 
 /// Removes the binding of a property.
-fn remove(installed: &mut Vec<Binding>, place: Place)
-    ensures items { installed.new.items ≡ without place installed.old.items }
+fn remove(installed: &mut Vec<Binding>, place: &Place)
+    ensures items { installed.new.items ≡ without place.now installed.old.items }
     ensures len { vec_len installed.new ≤ vec_len installed.old }
     ensures capacity { vec_capacity installed.new ≡ vec_capacity installed.old }
 {
@@ -173,7 +173,7 @@ fn replace(installed: &mut Vec<Binding>, binding: Binding)
     requires { vec_len installed.old < vec_capacity installed.old }
     ensures { installed.new.items ≡ replaced installed.old.items binding }
 {
-    remove(installed, binding.target);
+    remove(installed, &binding.target);
     match installed.push(binding) {
         Ok(()) => {}
         Err(_) => unreachable!(),

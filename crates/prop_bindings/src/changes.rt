@@ -27,13 +27,13 @@ pub fn settle(
     installed: &[Binding],
     followers: &[Place],
     tree: &mut Tree,
-    place: Place,
+    place: &Place,
     value: Value,
 ) -> Result<Items<Place>, AllocError>
-    requires sound { IsSoundWith tree.old installed.now place value }
+    requires sound { IsSoundWith tree.old installed.now place.now value }
     ensures values { OnOk result ((q : Place) → values_in tree.new q
-        ≡ pass (binding_at installed.now) followers.now (update (values_in tree.old) place (Some value)) q) }
-    ensures changed { IfOk result (λ changed. AreChanged tree.old tree.new (in_order place installed.now) changed) }
+        ≡ pass (binding_at installed.now) followers.now (update (values_in tree.old) place.now (Some value)) q) }
+    ensures changed { IfOk result (λ changed. AreChanged tree.old tree.new (in_order place.now installed.now) changed) }
     ensures objects { DifferInValues tree.old tree.new }
     ensures sound { StaySound tree.old tree.new installed.now }
     ensures err { OnErr result (tree.new ≡ tree.old) }
@@ -50,11 +50,11 @@ pub fn settle(
 }
 
 /// A property, and then the targets of all other bindings.
-fn others(alloc: Global, installed: &[Binding], place: Place) -> Result<Vec<Place>, AllocError>
-    ensures { IfOk result (λ places. places.items ≡ in_order place installed.now) }
+fn others(alloc: Global, installed: &[Binding], place: &Place) -> Result<Vec<Place>, AllocError>
+    ensures { IfOk result (λ places. places.items ≡ in_order place.now installed.now) }
 {
     let mut places = Vec::new(alloc);
-    places.push(place)?;
+    places.push(*place)?;
     for binding in installed {
         if binding.target.is_same(place) {
             continue;
@@ -70,7 +70,7 @@ fn values_at(alloc: Global, places: &[Place], tree: &Tree) -> Result<Vec<Option<
 {
     let mut found = Vec::new(alloc);
     for place in places {
-        let value = match stored(tree, *place) {
+        let value = match stored(tree, place) {
             Some(value) => Some(value.copy()?),
             None => None,
         };
@@ -102,19 +102,18 @@ fn keep_changed(places: &mut Vec<Place>, before: &[Option<Value>], tree: &Tree)
 {
     let mut kept = 0;
     for i in 0..places.len() {
-        let place = places[i];
-        if reads_as(tree, place, &before[i]) {
+        if reads_as(tree, &places[i], &before[i]) {
             continue;
         }
-        places[kept] = place;
+        places.swap(kept, i);
         kept += 1;
     }
     places.truncate(kept);
 }
 
 /// Whether the property reads as this value, or none, would.
-fn reads_as(tree: &Tree, place: Place, before: &Option<Value>) -> bool
-    ensures { IsTrue result ↔ (option_map (seen tree.now) (values_in tree.now place) ≡ option_map (seen tree.now) before.now) }
+fn reads_as(tree: &Tree, place: &Place, before: &Option<Value>) -> bool
+    ensures { IsTrue result ↔ (option_map (seen tree.now) (values_in tree.now place.now) ≡ option_map (seen tree.now) before.now) }
 {
     match (stored(tree, place), before) {
         (Some(now), Some(value)) => tree.is_same(now, value),

@@ -24,8 +24,8 @@ pub struct Walked {
 }
 
 /// The binding of a property.
-pub fn binding_of<'a>(installed: &'a [Binding], place: Place) -> Option<&'a Binding>
-    ensures { MatchOption result (binding_at installed.now place ≡ None) (λ b. binding_at installed.now place ≡ Some b.now) }
+pub fn binding_of<'a>(installed: &'a [Binding], place: &Place) -> Option<&'a Binding>
+    ensures { MatchOption result (binding_at installed.now place.now ≡ None) (λ b. binding_at installed.now place.now ≡ Some b.now) }
 {
     for binding in installed {
         if binding.target.is_same(place) {
@@ -41,19 +41,19 @@ pub fn walk(
     alloc: Global,
     installed: &[Binding],
     order: &[Place],
-    from: Place,
+    from: &Place,
 ) -> Result<Walked, AllocError>
     requires { IsOrder (binding_at installed.now) order.now }
-    ensures { IfOk result (λ walk. IsWalked (binding_at installed.now) from order.now walk.sooner.items walk.later.items) }
+    ensures { IfOk result (λ walk. IsWalked (binding_at installed.now) from.now order.now walk.sooner.items walk.later.items) }
 {
     let mut sooner = Vec::new(alloc);
     let mut later = Vec::new(alloc);
-    later.push(from)?;
+    later.push(*from)?;
     for place in order {
-        if contains(&later, *place) {
+        if contains(&later, place) {
             continue;
         }
-        if is_reached(installed, *place, &later) {
+        if is_reached(installed, place, &later) {
             later.push(*place)?;
             continue;
         }
@@ -63,8 +63,8 @@ pub fn walk(
 }
 
 /// Whether a property's binding reads one of these.
-fn is_reached(installed: &[Binding], place: Place, later: &[Place]) -> bool
-    ensures { result ≡ reached_by (binding_at installed.now place) later.now }
+fn is_reached(installed: &[Binding], place: &Place, later: &[Place]) -> bool
+    ensures { result ≡ reached_by (binding_at installed.now place.now) later.now }
 {
     match binding_of(installed, place) {
         Some(binding) => binding.reads_any(later),
@@ -87,7 +87,7 @@ pub fn evaluate_all(
     ensures sound { StaySound tree.old tree.new installed.now }
 {
     for place in order {
-        evaluate(alloc, installed, *place, tree)?;
+        evaluate(alloc, installed, place, tree)?;
     }
     Ok(())
 }
@@ -96,11 +96,11 @@ pub fn evaluate_all(
 fn evaluate(
     alloc: Global,
     installed: &[Binding],
-    place: Place,
+    place: &Place,
     tree: &mut Tree,
 ) -> Result<(), AllocError>
     requires { IsSoundBySome tree.old installed.now }
-    ensures values { OnOk result ((q : Place) → values_in tree.new q ≡ evaluated (binding_at installed.now) place (values_in tree.old) q) }
+    ensures values { OnOk result ((q : Place) → values_in tree.new q ≡ evaluated (binding_at installed.now) place.now (values_in tree.old) q) }
     ensures objects { DifferInValues tree.old tree.new }
     ensures kept { (q : Place) → binding_at installed.now q ≡ None → values_in tree.new q ≡ values_in tree.old q }
     ensures sound { StaySound tree.old tree.new installed.now }

@@ -18,16 +18,16 @@ pub struct Place {
 
 impl Place {
     /// Whether both are one property of one object.
-    pub fn is_same(self, other: Place) -> bool
-        ensures { result ≡ same_place self other }
+    pub fn is_same(&self, other: &Place) -> bool
+        ensures { result ≡ same_place self.now other.now }
     {
         self.object == other.object && self.property == other.property
     }
 }
 
 /// Whether the property is among these.
-pub fn contains(places: &[Place], place: Place) -> bool
-    ensures { result ≡ is_in places.now place }
+pub fn contains(places: &[Place], place: &Place) -> bool
+    ensures { result ≡ is_in places.now place.now }
 {
     for each in places {
         if each.is_same(place) {
@@ -38,8 +38,8 @@ pub fn contains(places: &[Place], place: Place) -> bool
 }
 
 /// The value of a living object's property.
-pub fn stored(objects: &Tree, place: Place) -> Option<&Value>
-    ensures { option_copied result ≡ values_in objects.now place }
+pub fn stored<'t>(objects: &'t Tree, place: &Place) -> Option<&'t Value>
+    ensures { option_copied result ≡ values_in objects.now place.now }
 {
     objects.life(place.object)?.values.get(place.property)
 }

@@ -54,15 +54,15 @@ pub fn prepare(
         formula: site.formula.copy()?,
     };
     let value = binding.value(alloc, tree)?;
-    if !fits(meta, tree, binding.target, &value) {
+    if !fits(meta, tree, &binding.target, &value) {
         return Err(BindFault::BadType);
     }
     Ok(Prepared { binding, value })
 }
 
 /// Whether the value is of the type of a living object's property.
-pub fn fits(meta: &Meta, tree: &Tree, place: Place, value: &Value) -> bool
-    ensures { IsTrue result ↔ FitsAt meta.now tree.now place value.now }
+pub fn fits(meta: &Meta, tree: &Tree, place: &Place, value: &Value) -> bool
+    ensures { IsTrue result ↔ FitsAt meta.now tree.now place.now value.now }
 {
     let Some(life) = tree.life(place.object) else {
         return false;

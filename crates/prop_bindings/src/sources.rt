@@ -30,7 +30,7 @@ impl<'w> expressions::World<SourceProperty> for Sources<'w> {
                     object: *object,
                     property: named.property,
                 };
-                copy_found(stored(self.objects, place))
+                copy_found(stored(self.objects, &place))
             }
             None => Err(EvalFault::BadType),
         }
