@@ -4,9 +4,10 @@ ghost use Rattle.std.specs.Prelude.{◌≡◌, ◌↔◌, IsTrue, Any};
 ghost use Rattle.meta_model.specs.Twice.{StandsTwice};
 ghost use Rattle.meta_model.specs.Conditions.{IsTaken, DuplicateClass};
 ghost use Rattle.meta_model.specs.Conditions.{RepeatsParameter, RepeatsName, AreOneParameter};
+ghost use Rattle.meta_model.specs.Sites.{RepeatsSite};
 
 use signatures::Name;
-use texts::{Class, Parameter, Program, Signal, Slot};
+use texts::{Class, Formal, Parameter, Program, Signal, Site, Slot};
 
 /// What may not stand twice in a list.
 trait Alike {
@@ -33,6 +34,22 @@ impl Alike for Parameter {
             (Some(name), Some(others)) => name.is_same(others),
             _ => false,
         }
+    }
+}
+
+impl Alike for Formal {
+    ghost alike = { λ a b. a.name ≡ b.name };
+
+    fn is_alike(&self, other: &Formal) -> bool {
+        self.name.is_same(&other.name)
+    }
+}
+
+impl Alike for Site {
+    ghost alike = { λ a b. a.name ≡ b.name };
+
+    fn is_alike(&self, other: &Site) -> bool {
+        self.name.is_same(&other.name)
     }
 }
 
@@ -108,4 +125,15 @@ fn repeats_slot_parameter(slots: &[Slot]) -> bool
     slots
         .iter()
         .any(|slot| stands_twice(slot.parameters.as_slice()))
+}
+
+/// Whether two binding sites have one name, or two formal sources of one.
+pub fn has_repeated_site(program: &Program) -> bool
+    ensures { IsTrue result ↔ RepeatsSite program.now }
+{
+    let sites = program.sites.as_slice();
+    stands_twice(sites)
+        || sites
+            .iter()
+            .any(|site| stands_twice(site.formals.as_slice()))
 }

@@ -3,7 +3,7 @@
 ghost use Rattle.std.specs.Prelude.{◌≡◌, ◌↔◌, ℕ, List, IsTrue, IfOk, Any};
 ghost use Rattle.std.specs.List.{AllZip};
 ghost use Rattle.meta_model.specs.Kinds.{IsKindIn, LacksType, IsReadAs};
-ghost use Rattle.meta_model.specs.Conditions.{LacksPropertyType, LacksParameterType, LacksTypes, NoType};
+ghost use Rattle.meta_model.specs.Conditions.{LacksPropertyType, LacksParameterType, LacksTypes, LacksAnyType};
 ghost use Rattle.meta_model.specs.LookUps.{LooksUp};
 ghost use Rattle.signatures.specs.Types.{value_type};
 
@@ -78,7 +78,7 @@ fn lacks_type(outlines: &[IndexedOutline], declared: &QType) -> bool
 
 /// Whether the type of a property or a parameter isn't there.
 pub fn has_no_type(outlines: &[IndexedOutline]) -> bool
-    ensures { IsTrue result ↔ NoType outlines.now }
+    ensures { IsTrue result ↔ LacksAnyType outlines.now }
 {
     outlines
         .iter()

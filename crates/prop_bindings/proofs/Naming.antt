@@ -13,7 +13,7 @@ use Rattle.texts.specs.declared.syntax.Expr.TheViews.{roll-Expr}
 use Rattle.texts.specs.declared.syntax.Expr.TheFolds.{fold-Expr, fold-roll-Expr, ind-Expr, map-Expr}
 use Rattle.expressions.specs.Operators.{unary, binary}
 use Rattle.expressions.specs.Evaluation.{value, value_step}
-use Rattle.prop_bindings.specs.declared.site.SourceProperty.{SourceProperty}
+use Rattle.meta_model.specs.declared.site.SourceProperty.{SourceProperty}
 use Rattle.prop_bindings.specs.declared.place.Place.{Place}
 use Rattle.prop_bindings.specs.declared.binding.Binding.{Binding}
 use Rattle.prop_bindings.specs.Places.{is_in, In}

@@ -9,7 +9,7 @@ use Rattle.texts.specs.declared.syntax.Expr.TheOpen as layer
 use Rattle.texts.specs.declared.syntax.Expr.TheFolds.{fold-Expr}
 use Rattle.expressions.specs.Evaluation.{value}
 use Rattle.object_tree.specs.Children.{is_among}
-use Rattle.prop_bindings.specs.declared.site.SourceProperty.{SourceProperty}
+use Rattle.meta_model.specs.declared.site.SourceProperty.{SourceProperty}
 use Rattle.prop_bindings.specs.declared.place.Place.{Place}
 use Rattle.prop_bindings.specs.declared.binding.Binding.{Binding}
 use Rattle.prop_bindings.specs.Places.{property_of, same_place, is_in, In}

@@ -9,7 +9,7 @@ use Rattle.meta_model.specs.Members.{Below}
 use Rattle.object_tree.specs.declared.life.Life.{Life}
 use Rattle.object_tree.specs.declared.object.Object.{Object}
 use Rattle.object_tree.specs.Objects.{life_of, class_of}
-use Rattle.prop_bindings.specs.declared.site.MetaSite.{MetaSite}
+use Rattle.meta_model.specs.declared.site.MetaSite.{MetaSite}
 use Rattle.prop_bindings.specs.declared.place.Place.{Place}
 use Rattle.prop_bindings.specs.declared.binding.Binding.{Binding}
 use Rattle.prop_bindings.specs.declared.fault.BindFault.{BindFault}
@@ -47,10 +47,10 @@ pub record CoversBinding (p : Loaded) (objects : List Object) (site : MetaSite) 
   pub of_sources : AllZip (IsOf p objects) sources site.formals
 
 -- the site of this number covers them
-pub record IsSited (p : Loaded) (sites : List MetaSite) (objects : List Object) (number target : ℕ) (sources : List ℕ)
+pub record IsSited (p : Loaded) (objects : List Object) (number target : ℕ) (sources : List ℕ)
     : Type 0 where
   pub site : MetaSite
-  pub is : slice_get sites number ≡ Some site
+  pub is : slice_get p.sites number ≡ Some site
   pub covers : CoversBinding p objects site target sources
 
 -- the event loop in which a living object lives
@@ -67,58 +67,58 @@ binding_of site number target sources =
     record { site = number; target = property_of target site.property; sources = sources; formula = site.formula }
 
 -- a site covers the binding, which joins objects of one event loop
-pub record MayBind (p : Loaded) (sites : List MetaSite) (objects : List Object) (number target : ℕ) (sources : List ℕ)
+pub record MayBind (p : Loaded) (objects : List Object) (number target : ℕ) (sources : List ℕ)
     : Type 0 where
-  pub sited : IsSited p sites objects number target sources
+  pub sited : IsSited p objects number target sources
   pub one_loop : InOneLoop objects target sources
 
-abbrev pub new_binding : {p : Loaded} {sites : List MetaSite} {objects : List Object} {number target : ℕ} {sources : List ℕ}
-    → MayBind p sites objects number target sources → Binding
+abbrev pub new_binding : {p : Loaded} {objects : List Object} {number target : ℕ} {sources : List ℕ}
+    → MayBind p objects number target sources → Binding
 new_binding {number = number} {target = target} {sources = sources} may = binding_of may.sited.site number target sources
 
 -- why a binding isn't installed: the first of these that holds; or memory was refused
-pub data IsNotBound (p : Loaded) (sites : List MetaSite) (objects : List Object) (bs : List Binding)
+pub data IsNotBound (p : Loaded) (objects : List Object) (bs : List Binding)
     (number target : ℕ) (sources : List ℕ) : BindFault → Type 0 where
-  bad_source : (¬ IsSited p sites objects number target sources)
-      → IsNotBound p sites objects bs number target sources bind.BadSource
-  other_loop : IsSited p sites objects number target sources → (¬ InOneLoop objects target sources)
-      → IsNotBound p sites objects bs number target sources bind.OtherLoop
-  bad_type : (may : MayBind p sites objects number target sources) → (¬ IsFit p objects (new_binding may))
-      → IsNotBound p sites objects bs number target sources bind.BadType
-  closes : (may : MayBind p sites objects number target sources) → IsFit p objects (new_binding may)
+  bad_source : (¬ IsSited p objects number target sources)
+      → IsNotBound p objects bs number target sources bind.BadSource
+  other_loop : IsSited p objects number target sources → (¬ InOneLoop objects target sources)
+      → IsNotBound p objects bs number target sources bind.OtherLoop
+  bad_type : (may : MayBind p objects number target sources) → (¬ IsFit p objects (new_binding may))
+      → IsNotBound p objects bs number target sources bind.BadType
+  closes : (may : MayBind p objects number target sources) → IsFit p objects (new_binding may)
       → Loop (binding_at (replaced bs (new_binding may)))
-      → IsNotBound p sites objects bs number target sources bind.BindingLoop
-  no_memory : IsNotBound p sites objects bs number target sources bind.Memory
+      → IsNotBound p objects bs number target sources bind.BindingLoop
+  no_memory : IsNotBound p objects bs number target sources bind.Memory
 
 -- the binding is installed
-pub record IsBound (p : Loaded) (sites : List MetaSite) (bs : List Binding) (old : List Object)
+pub record IsBound (p : Loaded) (bs : List Binding) (old : List Object)
     (number target : ℕ) (sources : List ℕ) (cs : List Binding) (new : List Object) (changed : List Place) : Type 0 where
-  pub may : MayBind p sites old number target sources
+  pub may : MayBind p old number target sources
   pub fit : IsFit p old (new_binding may)
   pub installs : IsInstalled bs cs old new (new_binding may) changed
 
-abbrev pub Binds : Loaded → List MetaSite → ℕ → ℕ → List ℕ → List Binding → List Object
+abbrev pub Binds : Loaded → ℕ → ℕ → List ℕ → List Binding → List Object
     → Result (List Place) BindFault → List Binding → List Object → Type 0
-Binds p sites number target sources bs old (Ok changed) cs new =
-    IsBound p sites bs old number target sources cs new changed
-Binds p sites number target sources bs old (Err fault) cs new =
-    IsNotBound p sites old bs number target sources fault × (cs ≡ bs) × (new ≡ old)
+Binds p number target sources bs old (Ok changed) cs new =
+    IsBound p bs old number target sources cs new changed
+Binds p number target sources bs old (Err fault) cs new =
+    IsNotBound p old bs number target sources fault × (cs ≡ bs) × (new ≡ old)
 
 -- ---- the two parts of `bind`
 -- a binding that may be installed if it closes no chain, with its expression's value
-pub record IsPrepared (p : Loaded) (sites : List MetaSite) (objects : List Object) (number target : ℕ)
+pub record IsPrepared (p : Loaded) (objects : List Object) (number target : ℕ)
     (sources : List ℕ) (b : Binding) (v : Value) : Type 0 where
-  pub may : MayBind p sites objects number target sources
+  pub may : MayBind p objects number target sources
   pub is : b ≡ new_binding may
   pub fit : IsFit p objects b
   pub has : value_of b (values_in objects) ≡ Some v
 
 -- whatever is installed already
-abbrev pub Prepares : Loaded → List MetaSite → ℕ → ℕ → List ℕ → List Object → Result Prepared BindFault → Type 0
-Prepares p sites number target sources objects (Ok found) =
-    IsPrepared p sites objects number target sources found.binding found.value
-Prepares p sites number target sources objects (Err fault) =
-    (bs : List Binding) → IsNotBound p sites objects bs number target sources fault
+abbrev pub Prepares : Loaded → ℕ → ℕ → List ℕ → List Object → Result Prepared BindFault → Type 0
+Prepares p number target sources objects (Ok found) =
+    IsPrepared p objects number target sources found.binding found.value
+Prepares p number target sources objects (Err fault) =
+    (bs : List Binding) → IsNotBound p objects bs number target sources fault
 
 -- why one that may be isn't
 pub data IsNotInstalled (bs : List Binding) (b : Binding) : BindFault → Type 0 where

@@ -8,9 +8,9 @@ ghost use Rattle.prop_bindings.specs.Places.{is_in, values_in};
 ghost use Rattle.prop_bindings.specs.Bindings.{named_in, place_of, reads_any, value_of, touches};
 
 use crate::place::{Place, contains};
-use crate::site::{Formula, SourceProperty};
 use crate::sources::Sources;
 use expressions::{EvalFault, eval};
+use meta_objects::{Formula, SourceProperty};
 use object_tree::Tree;
 use signatures::{ObjectId, Value};
 use sqlite_items::Items;

@@ -12,7 +12,6 @@ use crate::fault::{BindFault, WriteFault};
 use crate::order::{Walked, walk};
 use crate::place::Place;
 use crate::preparing::{Prepared, fits, prepare};
-use crate::site::MetaSite;
 use meta_objects::Meta;
 use object_tree::Tree;
 use signatures::{ObjectId, Value};
@@ -109,17 +108,16 @@ impl Bindings {
     pub fn bind(
         &mut self,
         meta: &Meta,
-        sites: &[MetaSite],
         tree: &mut Tree,
         site: usize,
         target: ObjectId,
         sources: &[ObjectId],
     ) -> Result<Items<Place>, BindFault>
         requires agree { Agree meta.now tree.old self.old }
-        ensures value { Binds meta.now sites.now site target sources.now self.old tree.old result self.new tree.new }
+        ensures value { Binds meta.now site target sources.now self.old tree.old result self.new tree.new }
         ensures agree { Agree meta.now tree.new self.new }
     {
-        let prepared = prepare(self.alloc, meta, sites, tree, site, target, sources)?;
+        let prepared = prepare(self.alloc, meta, tree, site, target, sources)?;
         self.install(tree, prepared)
     }
 

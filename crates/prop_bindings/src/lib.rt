@@ -9,7 +9,6 @@ mod laws;
 mod order;
 mod place;
 mod preparing;
-mod site;
 mod sources;
 
 pub use binding::Binding;
@@ -17,4 +16,3 @@ pub use bindings::Bindings;
 pub use fault::{BindFault, WriteFault};
 pub use laws::acyclic_determine;
 pub use place::Place;
-pub use site::{Formula, MetaSite, SourceProperty};

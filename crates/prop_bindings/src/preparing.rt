@@ -8,8 +8,7 @@ ghost use Rattle.prop_bindings.specs.Calls.{Prepares, IsOf, CoversBinding, InOne
 use crate::binding::Binding;
 use crate::fault::BindFault;
 use crate::place::Place;
-use crate::site::MetaSite;
-use meta_objects::Meta;
+use meta_objects::{Meta, MetaSite};
 use object_tree::Tree;
 use signatures::{LoopId, ObjectId, Value};
 use sqlite_items::Items;
@@ -27,15 +26,14 @@ pub struct Prepared {
 pub fn prepare(
     alloc: Global,
     meta: &Meta,
-    sites: &[MetaSite],
     tree: &Tree,
     number: usize,
     target: ObjectId,
     sources: &[ObjectId],
 ) -> Result<Prepared, BindFault>
-    ensures { Prepares meta.now sites.now number target sources.now tree.now result }
+    ensures { Prepares meta.now number target sources.now tree.now result }
 {
-    let Some(site) = sites.get(number) else {
+    let Some(site) = meta.site_at(number) else {
         return Err(BindFault::BadSource);
     };
     if !covers(meta, tree, site, target, sources) {

@@ -4,8 +4,8 @@ ghost use Rattle.std.specs.Option.{option_copied};
 ghost use Rattle.expressions.specs.Evaluation.{Evaluates};
 
 use crate::place::{Place, stored};
-use crate::site::SourceProperty;
 use expressions::{self, EvalFault};
+use meta_objects::SourceProperty;
 use object_tree::Tree;
 use signatures::{ObjectId, Value};
 

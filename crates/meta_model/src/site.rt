@@ -27,8 +27,8 @@ pub struct Formula {
 impl Model for Formula {
     ghost use Rattle.texts.specs.contracts.syntax.Expr as expr;
     ghost use Rattle.texts.specs.declared.syntax.Expr.{Expr};
-    ghost use Rattle.prop_bindings.specs.contracts.site.SourceProperty as source;
-    ghost use Rattle.prop_bindings.specs.declared.site.SourceProperty.{SourceProperty};
+    ghost use Rattle.meta_model.specs.contracts.site.SourceProperty as source;
+    ghost use Rattle.meta_model.specs.declared.site.SourceProperty.{SourceProperty};
 
     ghost Value = { Expr SourceProperty };
 
