@@ -1,11 +1,10 @@
 -- When a value may be a property's (docs/machine.md, "Bindings").
-use Rattle.std.specs.Prelude.{◌≡◌, ◌≢◌, ℕ, Bool, List, All, Some}
+use Rattle.std.specs.Prelude.{◌≡◌, List, All, Some}
 use Rattle.signatures.specs.declared.value.Value.{Value}
 use Rattle.meta_model.specs.declared.object.MetaProperty.{MetaProperty}
-use Rattle.meta_model.specs.declared.object.ValueType.{ValueType}
-use Rattle.meta_model.specs.declared.object.ValueType.TheVariants.{Reference}
 use Rattle.meta_model.specs.Loaded.{Loaded}
 use Rattle.meta_model.specs.Members.{IsProperty}
+use Rattle.meta_model.specs.Sound.{IsPlain}
 use Rattle.object_tree.specs.declared.life.Life.{Life}
 use Rattle.object_tree.specs.declared.object.Object.{Object}
 use Rattle.object_tree.specs.Objects.{Lives}
@@ -26,10 +25,6 @@ pub record IsThere (p : Loaded) (objects : List Object) (at : Place) : Type 0 wh
 -- the value is of the type of a living object's property
 abbrev pub FitsAt : Loaded → List Object → Place → Value → Type 0
 FitsAt p objects at v = FitsProperty objects at.object at.property v p
-
--- no reference
-abbrev pub IsPlain : ValueType → Type 0
-IsPlain kind = (class : ℕ) (constant : Bool) → kind ≢ Reference class constant
 
 -- Over the present values the expression has a value, of the type of the target, which is a value type. As each property
 -- has a value of its type at any time, this is a matter of types alone: it stands whatever is written.
