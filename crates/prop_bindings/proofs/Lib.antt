@@ -6,3 +6,5 @@ pub mod Walks
 pub mod Installed
 pub mod Acyclic
 pub mod Walking
+pub mod Values
+pub mod Changed
