@@ -8,3 +8,4 @@ pub mod Acyclic
 pub mod Walking
 pub mod Values
 pub mod Changed
+pub mod Kinds
