@@ -9,3 +9,4 @@ pub mod Walking
 pub mod Values
 pub mod Changed
 pub mod Kinds
+pub mod Fitting
