@@ -10,3 +10,5 @@ pub mod Values
 pub mod Changed
 pub mod Kinds
 pub mod Fitting
+pub mod Apart
+pub mod Settling
