@@ -34,7 +34,7 @@ without-fewer p bs q b g = elim (decide_place p q) [
   | inr f ↦ sym (without-other p bs q f) ∙ g
 ]
 
-push-none : (bs : List Binding) (b : Binding) (q : Place) → binding_at bs q ≡ None → binding_at (bs ++ b ∷ []) q ≡ cond (same_place b.target q) (Some b) None
+pub push-none : (bs : List Binding) (b : Binding) (q : Place) → binding_at bs q ≡ None → binding_at (bs ++ b ∷ []) q ≡ cond (same_place b.target q) (Some b) None
 push-none [] b q h = refl
 push-none (x ∷ bs) b q h = elim (cases_Bool (same_place x.target q)) [
   | inl t ↦ let some : cond (same_place x.target q) (Some x) (binding_at bs q) ≡ Some x = ap (λ (y : Bool). cond y (Some x) (binding_at bs q)) t in cc

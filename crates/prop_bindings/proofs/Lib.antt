@@ -6,3 +6,9 @@ pub mod Walks
 pub mod Installed
 pub mod Acyclic
 pub mod Walking
+pub mod Values
+pub mod Changed
+pub mod Kinds
+pub mod Fitting
+pub mod Apart
+pub mod Settling

@@ -1,26 +1,14 @@
 -- When a value may be a property's (docs/machine.md, "Bindings").
 use Rattle.std.specs.Prelude.{◌≡◌, List, All, Some}
 use Rattle.signatures.specs.declared.value.Value.{Value}
-use Rattle.meta_model.specs.declared.object.MetaProperty.{MetaProperty}
 use Rattle.meta_model.specs.Loaded.{Loaded}
-use Rattle.meta_model.specs.Members.{IsProperty}
 use Rattle.meta_model.specs.Sound.{IsPlain}
-use Rattle.object_tree.specs.declared.life.Life.{Life}
 use Rattle.object_tree.specs.declared.object.Object.{Object}
-use Rattle.object_tree.specs.Objects.{Lives}
 use Rattle.object_tree.specs.Typed.{AreTyped, FitsProperty}
 use Rattle.prop_bindings.specs.declared.place.Place.{Place}
 use Rattle.prop_bindings.specs.declared.binding.Binding.{Binding}
 use Rattle.prop_bindings.specs.Places.{values_in}
 use Rattle.prop_bindings.specs.Bindings.{value_of, binding_at, Settled}
-
--- the object lives, and its class has the property
-pub record IsThere (p : Loaded) (objects : List Object) (at : Place) : Type 0 where
-  pub object : Object
-  pub life : Life
-  pub lives : Lives objects at.object object life
-  pub property : MetaProperty
-  pub is_property : IsProperty p life.class at.property property
 
 -- the value is of the type of a living object's property
 abbrev pub FitsAt : Loaded → List Object → Place → Value → Type 0

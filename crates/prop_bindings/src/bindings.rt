@@ -2,7 +2,7 @@
 
 ghost use Rattle.std.specs.Prelude.{◌≡◌, [], vec_len, vec_capacity, ◌<◌, ◌≤◌};
 ghost use Rattle.prop_bindings.specs.Bindings.{binding_at, without, replaced, dropped};
-ghost use Rattle.prop_bindings.specs.Fits.{Agree, AgreesWith, IsThere, StayAgreeing};
+ghost use Rattle.prop_bindings.specs.Fits.{Agree, AgreesWith, StayAgreeing};
 ghost use Rattle.prop_bindings.specs.Calls.{Writes, Binds, Installs};
 ghost use Rattle.prop_bindings.specs.Laws.{Determines};
 
@@ -74,7 +74,7 @@ impl Bindings {
 
     /// Writes a property of a living object, which ends its binding; the values that follow from it change with it. It
     /// answers the properties that no longer read as they did: this one, if it changed, then the others in the order in
-    /// which their bindings were installed. `BadType` where the value isn't of the property's type, `Memory` only where
+    /// which their bindings were installed. `BadType` where no such object lives, it has no such property, or the value isn't of its type, `Memory` only where
     /// a growth was refused; then nothing changes.
     pub fn write(
         &mut self,
@@ -83,7 +83,6 @@ impl Bindings {
         place: &Place,
         value: Value,
     ) -> Result<Items<Place>, WriteFault>
-        requires there { IsThere meta.now tree.old place.now }
         requires agree { Agree meta.now tree.old self.old }
         ensures value { Writes meta.now place.now value self.old tree.old result self.new tree.new }
         ensures agree { Agree meta.now tree.new self.new }
