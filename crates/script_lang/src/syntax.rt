@@ -2,7 +2,7 @@
 
 ghost use Rattle.std.specs.Prelude.{ℕ, List, ◌<◌, length, OnOk};
 ghost use Rattle.script_lang.specs.Grammar.{InputReading, spell_input, tree_of_input, spell_verb, spell_member, spell_invocation, tree_of_invocation, ReadsFollow, ReadsEvent};
-ghost use Rattle.script_lang.specs.declared.verb.Verb.TheVariants.{Loop, Turn, New, Adopt, Connect, Disconnect, Set, Emit, Call, Block, Unblock, Delete, Later};
+ghost use Rattle.script_lang.specs.declared.verb.Verb.TheVariants.{Loop, Turn, New, Adopt, Connect, Disconnect, Set, Emit, Call, Bind, Block, Unblock, Delete, Later};
 ghost use Rattle.texts.specs.Reading.{Reads, EndsAnywhere, spell_name};
 
 use crate::event::{Event, Input};
@@ -44,6 +44,7 @@ fn follow(cursor: &mut Cursor, verb: Verb) -> Result<Event, ParseFault>
         Verb::Set => set(cursor),
         Verb::Emit => emit(cursor),
         Verb::Call => call(cursor),
+        Verb::Bind => bind(cursor),
         Verb::Block => block(cursor),
         Verb::Unblock => unblock(cursor),
         Verb::Delete => delete(cursor),
@@ -126,6 +127,20 @@ fn call(cursor: &mut Cursor) -> Result<Event, ParseFault>
 {
     let (object, method, arguments) = invocation(cursor)?;
     Ok(Event::Call(object, method, arguments))
+}
+
+/// `N O X ..`, after `bind`.
+fn bind(cursor: &mut Cursor) -> Result<Event, ParseFault>
+    ensures { ReadsFollow Bind cursor.old result cursor.new }
+{
+    let site = cursor.name()?;
+    let target = cursor.name()?;
+    let mut sources = Items::new(cursor.alloc());
+    while !cursor.is_empty() {
+        let source = cursor.name()?;
+        sources.push(source)?;
+    }
+    Ok(Event::Bind(site, target, sources))
 }
 
 /// `O`, after `block`.
