@@ -39,11 +39,13 @@ impl Model for Meta {
     ghost use Rattle.meta_model.specs.Loaded.{Loaded};
     ghost use Rattle.meta_model.specs.Sound.{IsSound};
     ghost use Rattle.meta_model.specs.contracts.object.Statement as statement;
+    ghost use Rattle.meta_model.specs.contracts.site.SourceProperty as source;
+    ghost use Rattle.texts.specs.contracts.syntax.Expr as expr;
     ghost use Rattle.std.specs.Coded.{codes};
 
     ghost Value = { Loaded };
 
-    ghost coded = { Prim.hlevel (codes, statement.the_row.coded) };
+    ghost coded = { Prim.hlevel (codes, statement.the_row.coded, (expr.the_row source.the_row).coded) };
 
     ghost view = { λ meta. record { classes = meta.classes; wires = meta.wires; owns = meta.owns; sites = meta.sites } };
 
