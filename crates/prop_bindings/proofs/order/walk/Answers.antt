@@ -9,9 +9,9 @@ use Rattle.prop_bindings.proofs.order.walk.Goals as goal
 pub loop-place-init : goal.loop-place-init
 loop-place-init c = record {
   reached = [];
-  later = c.in_ok-push.ensures.items ∙ ap (λ (xs : List Place). xs ++ c.args.from ∷ []) c.new-later.ensures.items;
-  distinct = subst _ (sym (c.in_ok-push.ensures.items ∙ ap (λ (xs : List Place). xs ++ c.args.from ∷ []) c.new-later.ensures.items)) ((λ h. h), tt);
-  at = at-first _ c.args.from c.args.order.now c.requires.ordered;
+  later = c.in_ok-push.ensures.items ∙ ap (λ (xs : List Place). xs ++ c.args.from.now ∷ []) c.new-later.ensures.items;
+  distinct = subst _ (sym (c.in_ok-push.ensures.items ∙ ap (λ (xs : List Place). xs ++ c.args.from.now ∷ []) c.new-later.ensures.items)) ((λ h. h), tt);
+  at = at-first _ c.args.from.now c.args.order.now c.requires.ordered;
 }
 
 pub loop-place-preserved-then-contains : goal.loop-place-preserved-then-contains
@@ -53,5 +53,5 @@ returns c = record {
   reached = c.loop-place.invariant.reached;
   is_later = c.loop-place.invariant.later;
   distinct = c.loop-place.invariant.distinct;
-  halved = subst (λ (xs : List Place). At (binding_at c.args.installed.now) c.args.from c.args.order.now c.loop-place.invariant.reached c.loop-place.sooner.items xs) (drop_of_length-le c.args.order.now c.loop-place-test.false) c.loop-place.invariant.at;
+  halved = subst (λ (xs : List Place). At (binding_at c.args.installed.now) c.args.from.now c.args.order.now c.loop-place.invariant.reached c.loop-place.sooner.items xs) (drop_of_length-le c.args.order.now c.loop-place-test.false) c.loop-place.invariant.at;
 }
