@@ -4,7 +4,7 @@ use Rattle.std.specs.Prelude.{slice_get}
 use Rattle.std.specs.Option.{option_map, option_and_then}
 use Rattle.std.proofs.lemmas.Option.{same_Some}
 use Rattle.signatures.specs.declared.value.Value.{Value}
-use Rattle.signatures.specs.declared.value.Value.TheVariants as value
+use Rattle.signatures.specs.declared.value.Value.TheVariants as variant
 use Rattle.meta_model.specs.declared.object.MetaObject.{MetaObject}
 use Rattle.meta_model.specs.declared.object.MetaProperty.{MetaProperty}
 use Rattle.meta_model.specs.declared.object.ValueType.{ValueType}
@@ -73,11 +73,11 @@ seen-valueless o None = refl
 seen-valueless o (Some x) = seen-life o x.life
 
 pub seen-same : (old new : List Object) → DifferInValues old new → (v : Value) → seen new v ≡ seen old v
-seen-same old new differ (value.Int n) = refl
-seen-same old new differ (value.Bool b) = refl
-seen-same old new differ (value.Text t) = refl
-seen-same old new differ (value.Ref None) = refl
-seen-same old new differ (value.Ref (Some o)) = ap value.Ref (
+seen-same old new differ (variant.Int n) = refl
+seen-same old new differ (variant.Bool b) = refl
+seen-same old new differ (variant.Text t) = refl
+seen-same old new differ (variant.Ref None) = refl
+seen-same old new differ (variant.Ref (Some o)) = ap variant.Ref (
     sym (seen-valueless o (slice_get new o))
     ∙ ap (λ (there : Option Object). seen_object there o) (sym (get-map valueless new o) ∙ ap (λ (zs : List Object). slice_get zs o) differ ∙ get-map valueless old o)
     ∙ seen-valueless o (slice_get old o))
