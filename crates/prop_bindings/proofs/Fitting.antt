@@ -4,6 +4,7 @@ use Rattle.std.specs.Prelude.{slice_get}
 use Rattle.std.specs.Option.{option_map, option_and_then}
 use Rattle.std.proofs.lemmas.Option.{same_Some}
 use Rattle.signatures.specs.declared.value.Value.{Value}
+use Rattle.signatures.specs.declared.value.Value.TheVariants as variant
 use Rattle.meta_model.specs.declared.object.MetaObject.{MetaObject}
 use Rattle.meta_model.specs.declared.object.MetaProperty.{MetaProperty}
 use Rattle.meta_model.specs.declared.object.ValueType.{ValueType}
@@ -12,6 +13,7 @@ use Rattle.meta_model.specs.Members.{IsProperty}
 use Rattle.object_tree.specs.declared.life.Life.{Life}
 use Rattle.object_tree.specs.declared.object.Object.{Object}
 use Rattle.object_tree.specs.Objects.{Lives, life_of}
+use Rattle.object_tree.specs.Seen.{seen, seen_object}
 use Rattle.object_tree.specs.Typed.{AreTyped, IsTyped, ReadAs, FitsProperty}
 use Rattle.object_tree.proofs.Changing.{life-of-lives, lives-of-life}
 use Rattle.meta_model.specs.declared.site.SourceProperty.{SourceProperty}
@@ -60,6 +62,25 @@ lives-on old new differ o l is = by-life (life_of new o) refl (lives-alike old n
     by-life (Some m) at e =
         let found = lives-of-life new o m at in
         record { object = found.0; life = m; lives = found.1; same = ap (λ (z : Life). z.class) (same_Some (emptied m) (emptied l) e) }
+
+-- ---- values read as they did
+seen-life : (o : ℕ) (there : Option Life) → option_map (λ (l : Life). o) (option_map emptied there) ≡ option_map (λ (l : Life). o) there
+seen-life o None = refl
+seen-life o (Some l) = refl
+
+seen-valueless : (o : ℕ) (there : Option Object) → seen_object (option_map valueless there) o ≡ seen_object there o
+seen-valueless o None = refl
+seen-valueless o (Some x) = seen-life o x.life
+
+pub seen-same : (old new : List Object) → DifferInValues old new → (v : Value) → seen new v ≡ seen old v
+seen-same old new differ (variant.Int n) = refl
+seen-same old new differ (variant.Bool b) = refl
+seen-same old new differ (variant.Text t) = refl
+seen-same old new differ (variant.Ref None) = refl
+seen-same old new differ (variant.Ref (Some o)) = ap variant.Ref (
+    sym (seen-valueless o (slice_get new o))
+    ∙ ap (λ (there : Option Object). seen_object there o) (sym (get-map valueless new o) ∙ ap (λ (zs : List Object). slice_get zs o) differ ∙ get-map valueless old o)
+    ∙ seen-valueless o (slice_get old o))
 
 -- ---- the values stay of their sorts
 module _ (p : Loaded) (old new : List Object) (before : AreTyped p old) (after : AreTyped p new) (differ : DifferInValues old new) where

@@ -1,11 +1,12 @@
 -- The installed bindings as a function from properties.
-use Rattle.std.proofs.Common.{◌≡◌, Bool, true, false, not, cond, List, [], ◌∷◌, ◌++◌, ◌⊎◌, inl, inr, Option, Some, None, refl, ap, sym, ◌∙◌, subst}
+use Rattle.std.proofs.Common.{◌≡◌, Bool, true, false, not, cond, map, List, [], ◌∷◌, ◌++◌, ◌⊎◌, inl, inr, Option, Some, None, refl, ap, sym, ◌∙◌, subst}
 use Rattle.std.proofs.lemmas.Bool.{false≢true, cases_Bool}
 use Rattle.std.proofs.Math.Path.{fun_ext}
 use Rattle.prop_bindings.specs.declared.place.Place.{Place}
 use Rattle.prop_bindings.specs.declared.binding.Binding.{Binding}
-use Rattle.prop_bindings.specs.Places.{same_place}
+use Rattle.prop_bindings.specs.Places.{same_place, In}
 use Rattle.prop_bindings.specs.Bindings.{binding_at, without, replaced, Loop}
+use Rattle.prop_bindings.specs.Changes.{in_order}
 use Rattle.prop_bindings.specs.Orders.{Ordered, Covers, IsOrder, bound}
 use Rattle.prop_bindings.proofs.Places.{decide_place, same_place-true, same_place-refl}
 use Rattle.prop_bindings.proofs.Passes.{none_or_some}
@@ -78,3 +79,24 @@ order-installed bs b order o = record {
 
 pub loop-installed : (bs : List Binding) (b : Binding) → Loop (bound (binding_at bs) b.target b) → Loop (binding_at (without b.target bs ++ b ∷ []))
 loop-installed bs b l = subst (λ (F : Place → Option Binding). Loop F) (sym (installed-is bs b)) l
+
+-- ---- the properties that a change looks at
+target-in : (bs : List Binding) (q : Place) (z : Binding) → binding_at bs q ≡ Some z → In q (map (λ (b : Binding). b.target) bs)
+target-in [] q z some = absurd (cc)
+target-in (b ∷ bs) q z some = elim (decide_place b.target q) [
+  | inl e ↦ inl e
+  | inr f ↦ inr (target-in bs q z (sym (ap (λ (x : Bool). cond x (Some b) (binding_at bs q)) f) ∙ some))
+]
+
+-- whatever isn't among them is another property than p, and unbound
+pub out-of-order : (p : Place) (bs : List Binding) (q : Place) → (In q (in_order p bs) → ⊥) → (p ≡ q → ⊥) × (binding_at bs q ≡ None)
+out-of-order p bs q out = (
+  (λ e. out (inl e)),
+  elim (none_or_some (binding_at bs q)) [
+    | inl none ↦ none
+    | inr some ↦ elim (decide_place p q) [
+      | inl e ↦ absurd (out (inl e))
+      | inr f ↦ absurd (out (inr (target-in (without p bs) q some.0 (without-other p bs q f ∙ some.1))))
+    ]
+  ],
+)
