@@ -12,3 +12,4 @@ pub mod Kinds
 pub mod Fitting
 pub mod Apart
 pub mod Settling
+pub mod There
