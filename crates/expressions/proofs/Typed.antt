@@ -106,27 +106,27 @@ module _ (class : ℕ → Option (List ℕ)) (below : List ℕ → List ℕ → 
       let h = has t refl in
       (h.0, h.1, same_Some (value_sort h.0) s (sym (has_sort h.0 t h.2) ∙ is))
 
-  unary_typed : (op : Unary) (found : Option Value) (kind : Option ExprType) (t : ExprType) → ((s : ExprType) → kind ≡ Some s → HasValueOf class below s found) → option_map type_of_sort (option_and_then (unary_sort op) (option_and_then sort_of kind)) ≡ Some t → HasValueOf class below t (option_and_then (unary op) found)
+  pub unary_typed : (op : Unary) (found : Option Value) (kind : Option ExprType) (t : ExprType) → ((s : ExprType) → kind ≡ Some s → HasValueOf class below s found) → option_map type_of_sort (option_and_then (unary_sort op) (option_and_then sort_of kind)) ≡ Some t → HasValueOf class below t (option_and_then (unary op) found)
   unary_typed op found kind t has is =
       let s = one_sort (unary_sort op) (option_and_then sort_of kind) t is in
       let v = part found kind s.0 has s.1 in
       rw v.1 (unary_has op v.0 t (rw v.2 s.2))
 
-  binary_typed : (op : Binary) (left right : Option Value) (kind type : Option ExprType) (t : ExprType) → ((s : ExprType) → kind ≡ Some s → HasValueOf class below s left) → ((s : ExprType) → type ≡ Some s → HasValueOf class below s right) → option_map type_of_sort (option_and_then (λ a. option_and_then (binary_sort op a) (option_and_then sort_of type)) (option_and_then sort_of kind)) ≡ Some t → HasValueOf class below t (option_and_then (λ a. option_and_then (binary op a) right) left)
+  pub binary_typed : (op : Binary) (left right : Option Value) (kind type : Option ExprType) (t : ExprType) → ((s : ExprType) → kind ≡ Some s → HasValueOf class below s left) → ((s : ExprType) → type ≡ Some s → HasValueOf class below s right) → option_map type_of_sort (option_and_then (λ a. option_and_then (binary_sort op a) (option_and_then sort_of type)) (option_and_then sort_of kind)) ≡ Some t → HasValueOf class below t (option_and_then (λ a. option_and_then (binary op a) right) left)
   binary_typed op left right kind type t first second is =
       let s = two_sorts (binary_sort op) (option_and_then sort_of kind) (option_and_then sort_of type) t is in
       let v = part left kind s.0 first s.2 in
       let w = part right type s.1 second s.3 in
       rw (v.1, w.1) (binary_has op v.0 w.0 t (rw (v.2, w.2) s.4))
 
-  literal_typed : (v : Value) (t : ExprType) → literal_type v ≡ Some t → IsOf class below v t
+  pub literal_typed : (v : Value) (t : ExprType) → literal_type v ≡ Some t → IsOf class below v t
   literal_typed (value.Int z) t is = subst (λ s. IsOf class below (value.Int z) s) (same_Some (type_of_sort sort.Int) t is) number_has
   literal_typed (value.Bool b) t is = subst (λ s. IsOf class below (value.Bool b) s) (same_Some (type_of_sort sort.Bool) t is) truth_has
   literal_typed (value.Text s) t is = subst (λ u. IsOf class below (value.Text s) u) (same_Some (type_of_sort sort.Text) t is) text_has
   literal_typed (value.Ref None) t is = subst (λ s. IsOf class below (value.Ref None) s) (same_Some (type_of_sort sort.Reference) t is) refl
   literal_typed (value.Ref (Some o)) t is = cc
 
-  path_typed : (found : Option Value) (kind : Option QType) (t : ExprType) → ((s : QType) → kind ≡ Some s → HasValueOf class below (Of s) found) → option_map (λ s. Of s) kind ≡ Some t → HasValueOf class below t found
+  pub path_typed : (found : Option Value) (kind : Option QType) (t : ExprType) → ((s : QType) → kind ≡ Some s → HasValueOf class below (Of s) found) → option_map (λ s. Of s) kind ≡ Some t → HasValueOf class below t found
   path_typed found None t has is = cc
   path_typed found (Some s) t has is = subst (λ u. HasValueOf class below u found) (same_Some (Of s) t is) (has s refl)
 

@@ -6,6 +6,7 @@ use meta_objects::Meta;
 use std::alloc::Global;
 use std::str;
 use std::test::Fail;
+use typing::{Spot, unfit_wire, untyped};
 
 /// A program, and its edges but for those of `objectName` and of destructions to the same class, a line each.
 struct Row {
@@ -33,6 +34,52 @@ const ROWS: &[Row] = &[
     Row {
         program: "class Cell { property int x; } class Sub : Cell { } class Adder { property int sum; } binding b Adder.sum (Cell c, Cell d) = c.x + d.x * c.x; owns Adder Cell; owns Cell Adder;",
         edges: "Cell.x Adder.sum\n~Cell Sub.destroyed(QObject*)\n~Cell Adder.destroyed(QObject*)\nSub.x Adder.sum\n~Sub Cell.destroyed(QObject*)\n~Sub Adder.destroyed(QObject*)\n~Adder Cell.destroyed(QObject*)\n~Adder Sub.destroyed(QObject*)\n",
+    },
+];
+
+/// A program, the place of its first wire that doesn't fit, and what its first part that isn't typed is called.
+struct Judged {
+    program: &'static str,
+    wire: Option<usize>,
+    untyped: &'static str,
+}
+
+const JUDGED: &[Judged] = &[
+    // all is typed
+    Judged {
+        program: "class Lamp { property int level = -1; signal pressed(int); slot show(int v) { set this.level = v + 1; } } wire Lamp pressed(int) -> Lamp show(int) direct;",
+        wire: None,
+        untyped: "",
+    },
+    // a slot may take fewer of the signal's values, and no others
+    Judged {
+        program: "class A { signal s(int, QString); } class B { slot p() { } slot q(int i) { } slot r(QString t) { } } wire A s(int,QString) -> B p() direct; wire A s(int,QString) -> B q(int) direct; wire A s(int,QString) -> B r(QString) direct;",
+        wire: Some(2),
+        untyped: "",
+    },
+    // a first value of another type
+    Judged {
+        program: "class A { property int p = \"x\"; }",
+        wire: None,
+        untyped: "A.p",
+    },
+    // the second block of an `if`, found where the slot is declared
+    Judged {
+        program: "class A { property int n; slot f(bool b) { if (b) { } else { set this.n = b; } } } class B : A { }",
+        wire: None,
+        untyped: "A.f(bool)",
+    },
+    // what is const isn't written
+    Judged {
+        program: "class V { property int n; slot g(const V* v) { set v.n = 1; } }",
+        wire: None,
+        untyped: "V.g(const V*)",
+    },
+    // a binding's expression is of its target's type
+    Judged {
+        program: "class A { property int x; property bool b; } binding s A.b (A a) = a.x;",
+        wire: None,
+        untyped: "binding",
     },
 ];
 
@@ -140,6 +187,39 @@ fn edges_are_those_of_the_page(rt: HostRuntime) -> Result<(), Fail> {
             "in {}",
             row.program
         );
+    }
+    Ok(())
+}
+
+/// What the first part of the loaded program that isn't typed is called, or nothing.
+fn show_untyped(alloc: Global, meta: &Meta, text: &mut Vec<u8>) -> Result<(), Fail> {
+    match untyped(alloc, meta)? {
+        Some(Spot::Node(node)) => show(alloc, meta, &node, text)?,
+        Some(Spot::Binding(_)) => text.extend_from_slice(b"binding")?,
+        None => {}
+    }
+    Ok(())
+}
+
+/// The place of the program's first wire that doesn't fit; and what its first part that isn't typed is called.
+fn judge(alloc: Global, program: &str, text: &mut Vec<u8>) -> Result<Option<usize>, Fail> {
+    let meta = load(alloc, program)?;
+    show_untyped(alloc, &meta, text)?;
+    Ok(unfit_wire(&meta))
+}
+
+#[test]
+fn ill_typed_parts_are_found(rt: HostRuntime) -> Result<(), Fail> {
+    for row in JUDGED {
+        let mut text = Vec::new(rt.alloc());
+        let wire = judge(rt.alloc(), row.program, &mut text)?;
+        assert_eq!(rt;
+            str::from_utf8(text.as_slice())?,
+            row.untyped,
+            "in {}",
+            row.program
+        );
+        assert_eq!(rt; wire, row.wire, "in {}", row.program);
     }
     Ok(())
 }

@@ -1,0 +1,89 @@
+-- Typed bodies, one statement after another.
+use Rattle.std.proofs.Common.{◌≡◌, ◌↔◌, inl, inr, ℕ, zero, suc, ◌+◌, ◌<◌, ◌≤◌, Bool, IsTrue, List, [], ◌∷◌, ◌++◌, length, get_or, take, slice_get, Some, refl, sym, ap, ◌∙◌, subst}
+use Rattle.std.proofs.lemmas.List.{take_more, take_all}
+use Rattle.std.proofs.lemmas.Option.{none-some, same_Some, slice_get_read}
+use Rattle.texts.specs.declared.syntax.Expr.{Expr}
+use Rattle.meta_model.specs.declared.object.ValueType.{ValueType}
+use Rattle.meta_model.specs.declared.object.MetaPath.{MetaPath}
+use Rattle.meta_model.specs.declared.object.Statement.{Statement}
+use Rattle.meta_model.specs.declared.object.Statement.TheOpen as layer
+use Rattle.meta_model.specs.declared.object.Statement.TheViews.{out-Statement, roll-Statement, roll-out-Statement}
+use Rattle.meta_model.specs.declared.object.Statement.TheVariants as whole
+use Rattle.meta_model.specs.Loaded.{Loaded}
+use Rattle.effect_scan.specs.Effects.{Occurs, here, after, chosen, otherwise}
+use Rattle.effect_scan.proofs.Occurring.{occurs_left, occurs_either}
+use Rattle.typing.specs.Bodies.{IsTypedStatement, IsTypedBody}
+
+occurs_at : (body : List Statement) (i : ℕ) (t s : Statement) → slice_get body i ≡ Some t → Occurs s (t ∷ []) → Occurs s body
+occurs_at [] i t s e o = absurd (none-some t e)
+occurs_at (x ∷ xs) zero t s e o = occurs_left s (x ∷ []) xs (subst (λ (y : Statement). Occurs s (y ∷ [])) (sym (same_Some _ _ e)) o)
+occurs_at (x ∷ xs) (suc i) t s e o = after (occurs_at xs i t s e o)
+
+module _ (p : Loaded) (me : ℕ) (kinds : List ValueType) where
+  -- one statement more
+  pub body_more : (body : List Statement) (i : ℕ) (t : Statement) → i < length body → t ≡ get_or body i t → IsTypedBody p me kinds (take i body) → IsTypedBody p me kinds (t ∷ [])
+      → IsTypedBody p me kinds (take (i + 1) body)
+  body_more body i t inside is before one s o =
+      let more : take (i + 1) body ≡ take i body ++ t ∷ [] = take_more body i t inside ∙ ap (λ (y : Statement). take i body ++ y ∷ []) (sym is) in
+      elim (occurs_either s (take i body) (t ∷ []) (subst (λ (l : List Statement). Occurs s l) more o)) [ inl l ↦ before s l | inr r ↦ one s r ]
+
+  pub body_all : (body : List Statement) (i : ℕ) → length body ≤ i → IsTypedBody p me kinds (take i body) → IsTypedBody p me kinds body
+  body_all body i past typed = subst (λ (l : List Statement). IsTypedBody p me kinds l) (take_all i body past) typed
+
+  -- each statement of a typed body is typed
+  pub body_at : (body : List Statement) (i : ℕ) (t : Statement) → i < length body → t ≡ get_or body i t → IsTypedBody p me kinds body → IsTypedBody p me kinds (t ∷ [])
+  body_at body i t inside is typed s o = typed s (occurs_at body i t s (slice_get_read body (length body) i t refl inside is) o)
+
+  -- ---- one statement
+  abbrev Whole : Statement → Type 0
+  Whole t = IsTypedStatement p me kinds (out-Statement t)
+
+  pub whole_of : (t : Statement) → IsTypedBody p me kinds (t ∷ []) → IsTypedStatement p me kinds (out-Statement t)
+  whole_of t typed = typed t here
+
+  -- without blocks
+  pub plain : (t : Statement) → ((x : Expr MetaPath) (block other : List Statement) → ¬ (t ≡ whole.If x block other)) → IsTypedStatement p me kinds (out-Statement t) → IsTypedBody p me kinds (t ∷ [])
+  plain t no_if typed s here = typed
+  plain t no_if typed s (after o) = elim o [ ]
+  plain t no_if typed s (chosen {e = x} {block = block} {other = other} at o) = absurd (no_if x block other (rolled t x block other at))
+    where
+      rolled : (t : Statement) (x : Expr MetaPath) (block other : List Statement) → out-Statement t ≡ layer.If x block other → t ≡ whole.If x block other
+      rolled t x block other at = sym (roll-out-Statement t) ∙ ap roll-Statement (at ∙ sym (whole.outs-If x block other)) ∙ roll-out-Statement (whole.If x block other)
+  plain t no_if typed s (otherwise {e = x} {block = block} {other = other} at o) =
+      absurd (no_if x block other (sym (roll-out-Statement t) ∙ ap roll-Statement (at ∙ sym (whole.outs-If x block other)) ∙ roll-out-Statement (whole.If x block other)))
+
+  -- an `if`
+  module _ (t : Statement) (x : Expr MetaPath) (block other : List Statement) (is : t ≡ whole.If x block other) where
+    open_if : out-Statement t ≡ layer.If x block other
+    open_if = ap out-Statement is ∙ whole.outs-If x block other
+
+    pub first_block : IsTypedBody p me kinds (t ∷ []) → IsTypedBody p me kinds block
+    first_block typed s o = typed s (chosen open_if o)
+
+    pub second_block : IsTypedBody p me kinds (t ∷ []) → IsTypedBody p me kinds other
+    second_block typed s o = typed s (otherwise open_if o)
+
+    pub both_blocks : IsTypedStatement p me kinds (out-Statement t) → IsTypedBody p me kinds block → IsTypedBody p me kinds other → IsTypedBody p me kinds (t ∷ [])
+    both_blocks typed first second s here = typed
+    both_blocks typed first second s (after o) = elim o [ ]
+    both_blocks typed first second s (chosen {e = y} {block = b} {other = c} at o) = first s (subst (λ (l : List Statement). Occurs s l) (sym (same_first y b c (sym open_if ∙ at))) o)
+      where
+        same_first : (y : Expr MetaPath) (b c : List Statement) → layer.If x block other ≡ layer.If y b c → block ≡ b
+        same_first y b c e = cc
+    both_blocks typed first second s (otherwise {e = y} {block = b} {other = c} at o) = second s (subst (λ (l : List Statement). Occurs s l) (sym (same_second y b c (sym open_if ∙ at))) o)
+      where
+        same_second : (y : Expr MetaPath) (b c : List Statement) → layer.If x block other ≡ layer.If y b c → other ≡ c
+        same_second y b c e = cc
+
+  -- what the code tells of an `if`
+  pub if_told : (t : Statement) (x : Expr MetaPath) (block other left right : List Statement) (r : Bool) → t ≡ whole.If x block other → left ≡ block → right ≡ other
+      → IsTypedStatement p me kinds (out-Statement t) → IsTypedBody p me kinds left → (IsTrue r ↔ IsTypedBody p me kinds right) → IsTrue r ↔ IsTypedBody p me kinds (t ∷ [])
+  if_told t x block other left right r is l e typed first second = (
+    λ h.
+        both_blocks t x block other is typed (subst (λ (b : List Statement). IsTypedBody p me kinds b) l first)
+        (subst (λ (b : List Statement). IsTypedBody p me kinds b) e (second.0 h)),
+    λ h. second.1 (subst (λ (b : List Statement). IsTypedBody p me kinds b) (sym e) (second_block t x block other is h)),
+  )
+
+  pub if_first : (t : Statement) (x : Expr MetaPath) (block other left : List Statement) → t ≡ whole.If x block other → left ≡ block → IsTypedBody p me kinds (t ∷ []) → IsTypedBody p me kinds left
+  if_first t x block other left is l h = subst (λ (b : List Statement). IsTypedBody p me kinds b) (sym l) (first_block t x block other is h)

@@ -1,0 +1,7 @@
+pub mod Firsts
+pub mod Properties
+pub mod Blocks
+pub mod Methods
+pub mod Statements
+pub mod Ordered
+pub mod Values

@@ -1,0 +1,20 @@
+use Rattle.std.proofs.Common.{List, map, ap, ◌∙◌}
+use Rattle.meta_model.specs.declared.object.MetaObject.{MetaObject}
+use Rattle.meta_model.proofs.Searches.{read_at}
+use Rattle.effect_scan.specs.Nodes.{shape_of, nodes_from}
+use Rattle.typing.proofs.Firsts.{have_more}
+use Rattle.typing.proofs.Ordered.{all_nodes, first_node}
+use Rattle.typing.proofs.first.untyped_node.Goals as goal
+
+pub returns-then-not-branch : goal.returns-then-not-branch
+returns-then-not-branch c =
+    let are = c.nodes-node-items.ensures ∙ c.in_ok-numbering.ensures ∙ ap (λ (cs : List MetaObject). nodes_from 0 (map shape_of cs)) c.classes.ensures.value in
+    first_node c.args.meta.now c.classes.ensures.sound _ are _ _ c.loop-node.invariant c.loop-node-test.true (read_at _ _ _ c.loop-node-test.true) (λ h. let t = c.in_ok-is_typed_node.ensures.1 h in cc)
+
+pub loop-node-preserved : goal.loop-node-preserved
+loop-node-preserved c = have_more _ _ _ _ c.loop-node.invariant c.loop-node-test.true (read_at _ _ _ c.loop-node-test.true) (c.in_ok-is_typed_node.ensures.0 (cc))
+
+pub returns : goal.returns
+returns c =
+    let are = c.nodes-node-items.ensures ∙ c.in_ok-numbering.ensures ∙ ap (λ (cs : List MetaObject). nodes_from 0 (map shape_of cs)) c.classes.ensures.value in
+    all_nodes c.args.meta.now c.classes.ensures.sound _ are _ c.loop-node.invariant c.loop-node-test.false
