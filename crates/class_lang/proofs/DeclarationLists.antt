@@ -5,7 +5,7 @@ use Rattle.texts.specs.Lists.{spell_each}
 use Rattle.texts.specs.Reading.{Found, Reads, IsAtEnd}
 use Rattle.texts.specs.declared.fault.ParseFault.{ParseFault}
 use Rattle.texts.specs.declared.token.Token.{Token}
-use Rattle.class_lang.specs.Declarations.{DeclarationReading, a_class, a_wire, an_owns, spell_declaration, tree_of_declaration, tree_of_program, with_declarations, EndsDeclaration, IsProgram}
+use Rattle.class_lang.specs.Declarations.{DeclarationReading, a_class, a_wire, an_owns, a_site, spell_declaration, tree_of_declaration, tree_of_program, with_declarations, EndsDeclaration, IsProgram}
 use Rattle.class_lang.specs.declared.declarations.Declaration.{Declaration}
 use Rattle.class_lang.specs.declared.declarations.Declaration.TheVariants as declaration
 use Rattle.texts.specs.declared.program.Program.{Program}
@@ -18,12 +18,14 @@ no_declarations program =
     let c = append-nil program.classes in
     let w = append-nil program.wires in
     let o = append-nil program.owns in
-    rw (c, w, o) refl
+    let s = append-nil program.sites in
+    rw (c, w, o, s) refl
 
 pub one_declaration_more : (program : Program) (d : Declaration) (ds : List Declaration) → with_declarations program (d ∷ ds) ≡ with_declarations (with_declarations program (d ∷ [])) ds
 one_declaration_more program (declaration.Class c) ds = simp (append_assoc, append-nil)
 one_declaration_more program (declaration.Wire w) ds = simp (append_assoc, append-nil)
 one_declaration_more program (declaration.Owns o) ds = simp (append_assoc, append-nil)
+one_declaration_more program (declaration.Site s) ds = simp (append_assoc, append-nil)
 
 -- ---- {declaration}
 
@@ -36,6 +38,7 @@ ends_next [] rest at_end after e = cc
 ends_next (a_class c ∷ ds) rest at_end after e = cc
 ends_next (a_wire w ∷ ds) rest at_end after e = cc
 ends_next (an_owns o ∷ ds) rest at_end after e = cc
+ends_next (a_site s ∷ ds) rest at_end after e = cc
 
 after_declaration : (ds : List DeclarationReading) (now after rest : List Token) {d : Declaration} → IsAtEnd rest → ¬ (now ≡ []) → Found spell_declaration tree_of_declaration EndsDeclaration now d after → now ≡ spell_each spell_declaration ds rest → (more : List DeclarationReading) × (after ≡ spell_each spell_declaration more rest)
 after_declaration [] now after rest at_end some f g = absurd (some cc)

@@ -1,4 +1,5 @@
 pub mod Parts
+pub mod BindingSites
 pub mod Sequences
 pub mod MemberLists
 pub mod DeclarationLists

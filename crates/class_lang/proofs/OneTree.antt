@@ -1,7 +1,7 @@
 -- No two readings with the same tokens stand for different trees.
 use Rattle.std.proofs.Common.{◌≡◌, ◌∙◌, ℕ, List, [], ◌∷◌, refl, sym, ap, map, Option, Some, None, option_map}
 use Rattle.signatures.specs.declared.word.Word.TheVariants as word
-use Rattle.slot_lang.specs.Grammar.{spell_block}
+use Rattle.slot_lang.specs.Grammar.{spell_block, spell_value}
 use Rattle.texts.specs.Lists.{spell_each}
 use Rattle.texts.specs.Literals.{spell_literal, tree_of_literal}
 use Rattle.texts.specs.Reading.{EndsAnywhere, spell_name}
@@ -10,14 +10,15 @@ use Rattle.texts.specs.declared.symbol.Symbol.TheVariants.{Semicolon, Arrow, Ass
 use Rattle.texts.specs.declared.token.Token.{Token}
 use Rattle.texts.specs.declared.token.Token.TheVariants as token
 use Rattle.texts.proofs.OneTree.{one_tree_of_optional_name, HasOneTree, one_tree_of_listed, one_tree_of_type, one_tree_of_sig, one_tree_of_kind, one_tree_of_literal}
-use Rattle.slot_lang.proofs.Unique.{unique_block}
+use Rattle.slot_lang.proofs.Unique.{unique_block, one_value}
 use Rattle.texts.specs.Optional.{spell_optional, EndsWithout, spell_optional_name}
 use Rattle.class_lang.specs.Parameters.{signal_parameter, spell_signal_parameter, tree_of_signal_parameter, slot_parameter, spell_slot_parameter, tree_of_slot_parameter, EndsSignalParameter}
 use Rattle.class_lang.specs.Members.{spell_notify, spell_initial, property, spell_property, tree_of_property, signal, spell_signal, tree_of_signal, slot, spell_slot, tree_of_slot, MemberReading, a_property, a_signal, a_slot, spell_member, tree_of_member}
-use Rattle.class_lang.specs.Declarations.{Ending, bare, semicolon, spell_ending, spell_members, class, spell_class, tree_of_class, class_of, end, spell_end, tree_of_end, wire, spell_wire, tree_of_wire, owns, spell_owns, tree_of_owns, DeclarationReading, a_class, a_wire, an_owns, spell_declaration, tree_of_declaration, tree_of_program, EndsDeclaration, IsProgram}
+use Rattle.class_lang.specs.Sites.{formal, spell_formal, tree_of_formal, site, spell_site, tree_of_site}
+use Rattle.class_lang.specs.Declarations.{Ending, bare, semicolon, spell_ending, spell_members, class, spell_class, tree_of_class, class_of, end, spell_end, tree_of_end, wire, spell_wire, tree_of_wire, owns, spell_owns, tree_of_owns, DeclarationReading, a_class, a_wire, an_owns, a_site, spell_declaration, tree_of_declaration, tree_of_program, EndsDeclaration, IsProgram}
 use Rattle.texts.specs.declared.program.Program.{Program}
 use Rattle.class_lang.proofs.DeclarationLists.{ends_next}
-use Rattle.class_lang.proofs.Parts.{type_ends_at_name, type_ends_at_optional_name, signal_parameters_are_parts, slot_parameters_are_parts}
+use Rattle.class_lang.proofs.Parts.{type_ends_at_name, type_ends_at_optional_name, signal_parameters_are_parts, slot_parameters_are_parts, formals_are_parts}
 use Rattle.class_lang.proofs.Sequences.{initial_ends_at_notify}
 
 -- ---- optional parts
@@ -129,6 +130,15 @@ one_tree_of_wire (wire a b i) (wire c d j) r s er es e =
 one_tree_of_owns : HasOneTree spell_owns tree_of_owns EndsAnywhere
 one_tree_of_owns (owns x y) (owns v w) r s er es e = (cc, cc)
 
+one_tree_of_formal : HasOneTree spell_formal tree_of_formal EndsAnywhere
+one_tree_of_formal (formal c x) (formal d y) r s er es e = (cc, cc)
+
+one_tree_of_site : HasOneTree spell_site tree_of_site EndsAnywhere
+one_tree_of_site (site x c p fs a i) (site y d q gs b j) r s er es e =
+    let h : (map tree_of_formal fs ≡ map tree_of_formal gs) × (spell_value a r ≡ spell_value b s) = one_tree_of_listed spell_formal tree_of_formal EndsAnywhere formals_are_parts one_tree_of_formal fs gs (spell_value a r) (spell_value b s) tt tt cc in
+    let k = one_value a b r s h.1 in
+    (cc, k.1)
+
 one_tree_of_declaration : HasOneTree spell_declaration tree_of_declaration EndsDeclaration
 one_tree_of_declaration (a_class c) (a_class d) r s er es e =
     let h : (tree_of_class c ≡ tree_of_class d) × (r ≡ s) = one_tree_of_class c d r s er es cc in (cc, h.1)
@@ -136,6 +146,8 @@ one_tree_of_declaration (a_wire v) (a_wire w) r s er es e =
     let h : (tree_of_wire v ≡ tree_of_wire w) × (r ≡ s) = one_tree_of_wire v w r s tt tt cc in (cc, h.1)
 one_tree_of_declaration (an_owns v) (an_owns w) r s er es e =
     let h : (tree_of_owns v ≡ tree_of_owns w) × (r ≡ s) = one_tree_of_owns v w r s tt tt cc in (cc, h.1)
+one_tree_of_declaration (a_site v) (a_site w) r s er es e =
+    let h : (tree_of_site v ≡ tree_of_site w) × (r ≡ s) = one_tree_of_site v w r s tt tt cc in (cc, h.1)
 one_tree_of_declaration _ _ r s er es e = cc
 
 one_tree_of_declarations : (as_ bs : List DeclarationReading) → spell_each spell_declaration as_ [] ≡ spell_each spell_declaration bs [] → map tree_of_declaration as_ ≡ map tree_of_declaration bs
@@ -143,9 +155,11 @@ one_tree_of_declarations [] [] e = refl
 one_tree_of_declarations [] (a_class d ∷ bs) e = cc
 one_tree_of_declarations [] (a_wire w ∷ bs) e = cc
 one_tree_of_declarations [] (an_owns o ∷ bs) e = cc
+one_tree_of_declarations [] (a_site w ∷ bs) e = cc
 one_tree_of_declarations (a_class c ∷ as_) [] e = cc
 one_tree_of_declarations (a_wire v ∷ as_) [] e = cc
 one_tree_of_declarations (an_owns o ∷ as_) [] e = cc
+one_tree_of_declarations (a_site v ∷ as_) [] e = cc
 one_tree_of_declarations (a ∷ as_) (b ∷ bs) e =
     let h = one_tree_of_declaration a b (spell_each spell_declaration as_ []) (spell_each spell_declaration bs []) (ends_next as_ [] refl) (ends_next bs [] refl) e in
     let k = one_tree_of_declarations as_ bs h.1 in

@@ -9,6 +9,7 @@ use Rattle.texts.specs.Lists.{IsPart}
 use Rattle.texts.proofs.Signatures.{types_are_parts}
 use Rattle.texts.specs.Optional.{spell_optional_name}
 use Rattle.class_lang.specs.Parameters.{SignalParameter, signal_parameter, spell_signal_parameter, SlotParameter, slot_parameter, spell_slot_parameter, EndsSignalParameter}
+use Rattle.class_lang.specs.Sites.{FormalReading, formal, spell_formal}
 
 -- ---- what may follow types
 
@@ -36,3 +37,9 @@ slot_unclosed (slot_parameter kind name) rest after e = types_are_parts.unclosed
 
 pub slot_parameters_are_parts : IsPart spell_slot_parameter EndsAnywhere
 slot_parameters_are_parts = record { at_comma = λ rest. tt; at_close = λ rest. tt; unclosed = slot_unclosed }
+
+formal_unclosed : (r : FormalReading) (rest after : List Token) → spell_formal r rest ≡ token.Symbol Close ∷ after → ⊥
+formal_unclosed (formal class name) rest after e = cc
+
+pub formals_are_parts : IsPart spell_formal EndsAnywhere
+formals_are_parts = record { at_comma = λ rest. tt; at_close = λ rest. tt; unclosed = formal_unclosed }

@@ -18,7 +18,8 @@ use Rattle.texts.specs.declared.token.Token.TheVariants as token
 use Rattle.texts.specs.Optional.{spell_optional, EndsWithout, spell_optional_name, EndsWithoutName}
 use Rattle.class_lang.specs.Parameters.{SignalParameter, signal_parameter, spell_signal_parameter, tree_of_signal_parameter, SlotParameter, slot_parameter, spell_slot_parameter, tree_of_slot_parameter, EndsSignalParameter}
 use Rattle.class_lang.specs.Members.{spell_initial, spell_notify, PropertyReading, property, spell_property, tree_of_property, SignalReading, signal, spell_signal, tree_of_signal, SlotReading, slot, spell_slot, tree_of_slot, MemberReading, a_property, a_signal, a_slot, spell_member, tree_of_member}
-use Rattle.class_lang.specs.Declarations.{Ending, bare, semicolon, spell_ending, spell_members, spell_base, ClassReading, class, spell_class, tree_of_class, class_of, EndReading, end, spell_end, tree_of_end, WireReading, wire, spell_wire, tree_of_wire, OwnsReading, owns, spell_owns, tree_of_owns, DeclarationReading, a_class, a_wire, an_owns, spell_declaration, tree_of_declaration, EndsDeclaration}
+use Rattle.class_lang.specs.Declarations.{Ending, bare, semicolon, spell_ending, spell_members, spell_base, ClassReading, class, spell_class, tree_of_class, class_of, EndReading, end, spell_end, tree_of_end, WireReading, wire, spell_wire, tree_of_wire, OwnsReading, owns, spell_owns, tree_of_owns, DeclarationReading, a_class, a_wire, an_owns, a_site, spell_declaration, tree_of_declaration, EndsDeclaration}
+use Rattle.class_lang.specs.Sites.{SiteReading, spell_site, tree_of_site}
 use Rattle.class_lang.specs.declared.declarations.Declaration.TheVariants as declaration
 use Rattle.class_lang.specs.declared.members.Member.TheVariants as member
 use Rattle.texts.specs.declared.program.Class.{Class}
@@ -26,6 +27,7 @@ use Rattle.texts.specs.declared.program.Owns.{Owns}
 use Rattle.texts.specs.declared.program.Parameter.{Parameter}
 use Rattle.texts.specs.declared.program.Property.{Property}
 use Rattle.texts.specs.declared.program.Signal.{Signal}
+use Rattle.texts.specs.declared.program.Site.{Site}
 use Rattle.texts.specs.declared.program.Slot.{Slot}
 use Rattle.texts.specs.declared.program.Wire.{Wire}
 use Rattle.class_lang.proofs.Parts.{type_ends_at_name, type_ends_at_optional_name}
@@ -174,6 +176,7 @@ other_than_class : (r : DeclarationReading) (between rest : List Token) → toke
 other_than_class (a_class c) between rest g = (c, cc)
 other_than_class (a_wire w) between rest g = cc
 other_than_class (an_owns o) between rest g = cc
+other_than_class (a_site s) between rest g = cc
 
 pub class_declaration : {before between after : List Token} {c : Class} → before ≡ token.Word word.Class ∷ between → Found spell_class tree_of_class EndsDeclaration between c after → Found spell_declaration tree_of_declaration EndsDeclaration before (declaration.Class c) after
 class_declaration {before} {between} {after} {c} e f =
@@ -184,6 +187,7 @@ other_than_wire : (r : DeclarationReading) (between rest : List Token) → token
 other_than_wire (a_class c) between rest g = cc
 other_than_wire (a_wire w) between rest g = (w, cc)
 other_than_wire (an_owns o) between rest g = cc
+other_than_wire (a_site s) between rest g = cc
 
 pub wire_declaration : {before between after : List Token} {w : Wire} → before ≡ token.Word word.Wire ∷ between → Found spell_wire tree_of_wire EndsAnywhere between w after → Found spell_declaration tree_of_declaration EndsDeclaration before (declaration.Wire w) after
 wire_declaration {before} {between} {after} {w} e f =
@@ -194,11 +198,23 @@ other_than_owns : (r : DeclarationReading) (between rest : List Token) → token
 other_than_owns (a_class c) between rest g = cc
 other_than_owns (a_wire w) between rest g = cc
 other_than_owns (an_owns o) between rest g = (o, cc)
+other_than_owns (a_site s) between rest g = cc
 
 pub owns_declaration : {before between after : List Token} {o : Owns} → before ≡ token.Word word.Owns ∷ between → Found spell_owns tree_of_owns EndsAnywhere between o after → Found spell_declaration tree_of_declaration EndsDeclaration before (declaration.Owns o) after
 owns_declaration {before} {between} {after} {o} e f =
     let a = f.spelled in
     record { reading = an_owns f.reading; spelled = cc; tree_is = ap (λ x. declaration.Owns x) f.tree_is; only = λ r rest ends g. let v = other_than_owns r between rest (sym e ∙ g) in f.only v.0 rest tt v.1 }
+
+other_than_site : (r : DeclarationReading) (between rest : List Token) → token.Word word.Binding ∷ between ≡ spell_declaration r rest → (s : SiteReading) × (between ≡ spell_site s rest)
+other_than_site (a_class c) between rest g = cc
+other_than_site (a_wire w) between rest g = cc
+other_than_site (an_owns o) between rest g = cc
+other_than_site (a_site s) between rest g = (s, cc)
+
+pub site_declaration : {before between after : List Token} {s : Site} → before ≡ token.Word word.Binding ∷ between → Found spell_site tree_of_site EndsAnywhere between s after → Found spell_declaration tree_of_declaration EndsDeclaration before (declaration.Site s) after
+site_declaration {before} {between} {after} {s} e f =
+    let a = f.spelled in
+    record { reading = a_site f.reading; spelled = cc; tree_is = ap (λ x. declaration.Site x) f.tree_is; only = λ r rest ends g. let v = other_than_site r between rest (sym e ∙ g) in f.only v.0 rest tt v.1 }
 
 -- ---- wires and classes
 

@@ -2,7 +2,7 @@
 -- (docs/language.md, "Programs").
 --
 --   program     = {declaration}
---   declaration = "class" class | "wire" wire | "owns" owns
+--   declaration = "class" class | "wire" wire | "owns" owns | "binding" binding
 --   class       = Name [":" Name] "{" {member} "}" [";"]
 --   wire        = end "->" end kind ";"
 --   end         = Name sig
@@ -21,11 +21,13 @@ use Rattle.texts.specs.declared.token.Token.TheVariants as token
 use Rattle.signatures.specs.declared.word.Word.TheVariants as word
 use Rattle.texts.specs.Optional.{spell_optional}
 use Rattle.class_lang.specs.Members.{MemberReading, spell_member, tree_of_member, properties_in, signals_in, slots_in}
+use Rattle.class_lang.specs.Sites.{SiteReading, spell_site, tree_of_site}
 use Rattle.class_lang.specs.declared.declarations.Declaration.{Declaration}
 use Rattle.class_lang.specs.declared.declarations.Declaration.TheVariants as declaration
 use Rattle.texts.specs.declared.program.Class.{Class}
 use Rattle.texts.specs.declared.program.Wire.{Wire}
 use Rattle.texts.specs.declared.program.Owns.{Owns}
+use Rattle.texts.specs.declared.program.Site.{Site}
 use Rattle.texts.specs.declared.program.Program.{Program}
 
 -- [";"]
@@ -105,16 +107,19 @@ pub data DeclarationReading : Type 0 where
   a_class : ClassReading → DeclarationReading
   a_wire : WireReading → DeclarationReading
   an_owns : OwnsReading → DeclarationReading
+  a_site : SiteReading → DeclarationReading
 
 abbrev pub spell_declaration : DeclarationReading → List Token → List Token
 spell_declaration (a_class c) after = token.Word word.Class ∷ spell_class c after
 spell_declaration (a_wire w) after = token.Word word.Wire ∷ spell_wire w after
 spell_declaration (an_owns o) after = token.Word word.Owns ∷ spell_owns o after
+spell_declaration (a_site s) after = token.Word word.Binding ∷ spell_site s after
 
 abbrev pub tree_of_declaration : DeclarationReading → Declaration
 tree_of_declaration (a_class c) = declaration.Class (tree_of_class c)
 tree_of_declaration (a_wire w) = declaration.Wire (tree_of_wire w)
 tree_of_declaration (an_owns o) = declaration.Owns (tree_of_owns o)
+tree_of_declaration (a_site s) = declaration.Site (tree_of_site s)
 
 -- no semicolon comes next, with which a class would go on
 abbrev pub EndsDeclaration : List Token → Type 0
@@ -127,18 +132,28 @@ classes_in [] = []
 classes_in (declaration.Class c ∷ declarations) = c ∷ classes_in declarations
 classes_in (declaration.Wire w ∷ declarations) = classes_in declarations
 classes_in (declaration.Owns o ∷ declarations) = classes_in declarations
+classes_in (declaration.Site s ∷ declarations) = classes_in declarations
 
 abbrev pub wires_in : List Declaration → List Wire
 wires_in [] = []
 wires_in (declaration.Class c ∷ declarations) = wires_in declarations
 wires_in (declaration.Wire w ∷ declarations) = w ∷ wires_in declarations
 wires_in (declaration.Owns o ∷ declarations) = wires_in declarations
+wires_in (declaration.Site s ∷ declarations) = wires_in declarations
 
 abbrev pub owns_in : List Declaration → List Owns
 owns_in [] = []
 owns_in (declaration.Class c ∷ declarations) = owns_in declarations
 owns_in (declaration.Wire w ∷ declarations) = owns_in declarations
 owns_in (declaration.Owns o ∷ declarations) = o ∷ owns_in declarations
+owns_in (declaration.Site s ∷ declarations) = owns_in declarations
+
+abbrev pub sites_in : List Declaration → List Site
+sites_in [] = []
+sites_in (declaration.Class c ∷ declarations) = sites_in declarations
+sites_in (declaration.Wire w ∷ declarations) = sites_in declarations
+sites_in (declaration.Owns o ∷ declarations) = sites_in declarations
+sites_in (declaration.Site s ∷ declarations) = s ∷ sites_in declarations
 
 -- the program, with these declarations after its own
 abbrev pub with_declarations : Program → List Declaration → Program
@@ -146,6 +161,7 @@ with_declarations program declarations = record {
   classes = program.classes ++ classes_in declarations;
   wires = program.wires ++ wires_in declarations;
   owns = program.owns ++ owns_in declarations;
+  sites = program.sites ++ sites_in declarations;
 }
 
 abbrev pub tree_of_program : List DeclarationReading → Program
@@ -153,6 +169,7 @@ tree_of_program declarations = record {
   classes = classes_in (map tree_of_declaration declarations);
   wires = wires_in (map tree_of_declaration declarations);
   owns = owns_in (map tree_of_declaration declarations);
+  sites = sites_in (map tree_of_declaration declarations);
 }
 
 -- ---- what the readers answer

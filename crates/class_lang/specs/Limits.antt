@@ -6,6 +6,7 @@ use Rattle.slot_lang.specs.Bodies.{signatures_in}
 use Rattle.texts.specs.declared.program.Class.{Class}
 use Rattle.texts.specs.declared.program.Slot.{Slot}
 use Rattle.texts.specs.declared.program.Wire.{Wire}
+use Rattle.texts.specs.declared.program.Site.{Site}
 use Rattle.texts.specs.declared.program.Program.{Program}
 
 -- bytes of a text
@@ -32,6 +33,10 @@ most_wires = 1000
 abbrev pub most_owns : ℕ
 most_owns = 1000
 
+-- bindings of a program
+abbrev pub most_sites : ℕ
+most_sites = 1000
+
 -- nor have the signatures in a slot's body more than a signature may have
 pub record SlotHasFewParameters (slot : Slot) : Type 0 where
   pub own : length slot.parameters ≤ most_parameters
@@ -48,10 +53,14 @@ pub record WireHasFewParameters (wire : Wire) : Type 0 where
   pub signal : HasFewTypes wire.signal
   pub method : HasFewTypes wire.method
 
--- nor has one of the program
+abbrev pub SiteHasFewFormals : Site → Type 0
+SiteHasFewFormals site = length site.formals ≤ most_parameters
+
+-- nor has one of the program, and no binding has more formal sources
 pub record HasFewParameters (program : Program) : Type 0 where
   pub classes : All ClassHasFewParameters program.classes
   pub wires : All WireHasFewParameters program.wires
+  pub sites : All SiteHasFewFormals program.sites
 
 pub record ClassIsWithinLimits (class : Class) : Type 0 where
   pub methods : length class.signals + length class.slots ≤ most_methods
@@ -62,3 +71,4 @@ pub record IsWithinLimits (program : Program) : Type 0 where
   pub each_class : All ClassIsWithinLimits program.classes
   pub wires : length program.wires ≤ most_wires
   pub owns : length program.owns ≤ most_owns
+  pub sites : length program.sites ≤ most_sites

@@ -7,9 +7,10 @@ ghost use Rattle.texts.specs.declared.symbol.Symbol.TheVariants.{Colon};
 ghost use Rattle.class_lang.specs.Declarations.{ReadsMembers, ReadsDeclaration, ReadsDeclarations, spell_class, tree_of_class, spell_base, spell_end, tree_of_end, spell_wire, tree_of_wire, spell_owns, tree_of_owns, with_declarations, EndsDeclaration};
 
 use crate::members::{add_member, next_member};
+use crate::sites::site;
 use signatures::{Name, Sig};
 use std::alloc::AllocError;
-use texts::{Class, Cursor, Owns, ParseFault, Program, Symbol, Wire, Word};
+use texts::{Class, Cursor, Owns, ParseFault, Program, Site, Symbol, Wire, Word};
 
 /// A declaration of a program.
 #[derive(Drop)]
@@ -17,6 +18,7 @@ pub enum Declaration {
     Class(Class),
     Wire(Wire),
     Owns(Owns),
+    Site(Site),
 }
 
 /// Adds a declaration to the program, after those of its sort.
@@ -27,6 +29,7 @@ fn add(program: &mut Program, declaration: Declaration) -> Result<(), AllocError
         Declaration::Class(class) => program.classes.push(class),
         Declaration::Wire(wire) => program.wires.push(wire),
         Declaration::Owns(owns) => program.owns.push(owns),
+        Declaration::Site(site) => program.sites.push(site),
     }
 }
 
@@ -109,7 +112,7 @@ fn owns(cursor: &mut Cursor) -> Result<Owns, ParseFault>
     Ok(Owns { parent, child })
 }
 
-/// `"class" class | "wire" wire | "owns" owns`
+/// `"class" class | "wire" wire | "owns" owns | "binding" binding`
 fn next_declaration(cursor: &mut Cursor) -> Result<Declaration, ParseFault>
     ensures reads { ReadsDeclaration cursor.old result cursor.new }
     ensures shorter { OnOk result (length cursor.new < length cursor.old) }
@@ -120,6 +123,8 @@ fn next_declaration(cursor: &mut Cursor) -> Result<Declaration, ParseFault>
         Ok(Declaration::Wire(wire(cursor)?))
     } else if cursor.eat_word(Word::Owns) {
         Ok(Declaration::Owns(owns(cursor)?))
+    } else if cursor.eat_word(Word::Binding) {
+        Ok(Declaration::Site(site(cursor)?))
     } else {
         Err(ParseFault::Syntax)
     }

@@ -7,6 +7,7 @@ mod limits;
 mod members;
 mod parameters;
 mod reader;
+mod sites;
 
 pub use fault::TextFault;
 pub use reader::{one_answer, one_reading, read_program};

@@ -20,6 +20,8 @@ const MOST_PROPERTIES: usize = 32;
 const MOST_WIRES: usize = 1000;
 /// Declarations of ownership of a program.
 const MOST_OWNS: usize = 1000;
+/// Bindings of a program.
+const MOST_SITES: usize = 1000;
 
 /// Whether its signal's signature has at most 8 parameters, if it names one.
 fn property_has_few_parameters(property: &Property) -> bool
@@ -73,7 +75,7 @@ fn wire_has_few_parameters(wire: &Wire) -> bool
     has_few_types(&wire.signal) && has_few_types(&wire.method)
 }
 
-/// Whether no signature of the program has more than 8 parameters.
+/// Whether no signature of the program has more than 8 parameters, and no binding more than 8 formal sources.
 pub fn has_few_parameters(program: &Program) -> bool
     ensures { IsTrue result ↔ HasFewParameters program.now }
 {
@@ -87,15 +89,22 @@ pub fn has_few_parameters(program: &Program) -> bool
             .as_slice()
             .iter()
             .all(|wire| wire_has_few_parameters(wire))
+        && program
+            .sites
+            .as_slice()
+            .iter()
+            .all(|site| site.formals.len() <= MOST_PARAMETERS)
 }
 
-/// Whether the program has at most 64 classes, 64 methods and 32 properties in each, 1,000 wires and 1,000 owns.
+/// Whether the program has at most 64 classes, 64 methods and 32 properties in each, 1,000 wires, 1,000 owns and
+/// 1,000 bindings.
 pub fn is_within_limits(program: &Program) -> bool
     ensures { IsTrue result ↔ IsWithinLimits program.now }
 {
     program.classes.len() <= MOST_CLASSES
         && program.wires.len() <= MOST_WIRES
         && program.owns.len() <= MOST_OWNS
+        && program.sites.len() <= MOST_SITES
         && program
             .classes
             .as_slice()

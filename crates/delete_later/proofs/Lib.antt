@@ -1,2 +1,3 @@
 pub mod Scheduled
 pub mod Forgotten
+pub mod Agreeing

@@ -2,10 +2,19 @@
 -- disconnected, pending events for it are removed from the queue, and its children are deleted).
 use Rattle.std.specs.Prelude.{◌≡◌, ℕ, ◌-◌, List, length, Option, None, Some, slice_get}
 use Rattle.object_tree.specs.declared.object.Object.{Object}
-use Rattle.object_tree.specs.Family.{children_of, IsChild, IsChildless}
+use Rattle.object_tree.specs.Family.{children_of, IsChild, IsChildless, without_life}
 use Rattle.connections.specs.Connected.{touches, removed}
 use Rattle.event_loops.specs.Queues.{dropped}
+use Rattle.prop_bindings.specs.Bindings.{dropped as unbound}
 use Rattle.delete_later.specs.declared.store.Store.{Store}
+
+-- the object lives no more, and the bindings are gone whose target or source it is; the properties that they bound keep
+-- their values
+abbrev pub died_in : ℕ → Store → Store
+died_in object s = record s {
+  tree = without_life object s.tree;
+  bindings = unbound object s.bindings;
+}
 
 -- the connections from and to the object are gone, and so is what waits for it, calls and deletions; all else is as it was
 abbrev pub ended_in : ℕ → Store → Store

@@ -8,9 +8,9 @@ use Rattle.event_loops.specs.declared.item.Item.TheVariants.{Deletion}
 use Rattle.event_loops.specs.Queues.{start, posted_to}
 use Rattle.delete_later.specs.declared.store.Store.{Store}
 
--- no objects and no connections, and nothing waits in the only loop, `main`
+-- no objects, connections and bindings, and nothing waits in the only loop, `main`
 abbrev pub empty : Store
-empty = record { tree = []; connections = unconnected; loops = start }
+empty = record { tree = []; connections = unconnected; loops = start; bindings = [] }
 
 -- an object that lives does so in a loop that is there
 abbrev pub IsHoused : ℕ → Store → Type 0

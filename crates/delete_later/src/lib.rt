@@ -1,5 +1,5 @@
-//! Objects, connections and event loops as one state, in which an object's deletion is scheduled and what is left of a dead
-//! object goes.
+//! Objects, connections, event loops and bindings as one state, in which an object's deletion is scheduled, an object dies
+//! and what is left of a dead object goes.
 #![tactic(auto)]
 
 mod laws;

@@ -3,11 +3,12 @@ ghost use Rattle.object_tree.specs.Typed.{StayTyped};
 ghost use Rattle.event_loops.specs.Queues.{posted_to};
 ghost use Rattle.event_loops.specs.declared.item.Item.TheVariants.{Deletion};
 ghost use Rattle.delete_later.specs.Scheduling.{empty, IsHoused, scheduled_in};
-ghost use Rattle.delete_later.specs.Ending.{ended_in, next_in, IsNext, NoneIsNext};
+ghost use Rattle.delete_later.specs.Ending.{died_in, ended_in, next_in, IsNext, NoneIsNext};
 
 use connections::Connections;
 use event_loops::{Item, Loops, PostFault};
 use object_tree::Tree;
+use prop_bindings::Bindings;
 use signatures::{LoopId, ObjectId};
 use std::alloc::{AllocError, Global};
 
@@ -20,10 +21,12 @@ pub struct Store {
     pub connections: Connections,
     /// The event loops, with the items that wait in them.
     pub loops: Loops,
+    /// The bindings of the objects' properties.
+    pub bindings: Bindings,
 }
 
 impl Store {
-    /// No objects and no connections; `main` is the only loop, and nothing waits in it.
+    /// No objects, connections and bindings; `main` is the only loop, and nothing waits in it.
     pub fn new(alloc: Global) -> Result<Store, AllocError>
         ensures { IfOk result (λ store. store ≡ empty) }
     {
@@ -32,6 +35,7 @@ impl Store {
             tree: Tree::new(alloc),
             connections: Connections::new(alloc),
             loops,
+            bindings: Bindings::new(alloc),
         })
     }
 
@@ -53,6 +57,15 @@ impl Store {
         post_deletion(&mut self.loops, life.home, object)?;
         self.tree.mark_scheduled(object);
         Ok(())
+    }
+
+    /// An object lives no more: it leaves its parent's children, and the bindings go whose target or source it is; the
+    /// properties that they bound keep their values. Its own children, its connections and what waits for it stay.
+    pub fn mark_dead(&mut self, object: ObjectId)
+        ensures { self.new ≡ died_in object self.old }
+    {
+        self.tree.mark_dead(object);
+        self.bindings.drop_object(object);
     }
 
     /// Ends a dead object: all connections from and to it go, and all items that wait for it, calls and its deletion.

@@ -17,21 +17,21 @@ use Rattle.std.specs.Option.{option_map}
 use Rattle.std.specs.Prelude.{is_some}
 use Rattle.std.proofs.lemmas.Bool.{eqb-true}
 use Rattle.meta_model.specs.declared.qobject.TheConstants.{DESTROYED}
-use Rattle.object_tree.specs.Objects.{Lives, life_of}
+use Rattle.object_tree.specs.Objects.{Lives, life_of, home_of}
 use Rattle.object_tree.proofs.Changing.{life-of-lives, lives-of-life}
 use Rattle.object_tree.specs.declared.life.Life.{Life}
 use Rattle.object_tree.specs.declared.object.Object.{Object}
 use Rattle.machine_state.specs.declared.world.World.{World}
-use Rattle.machine_state.specs.Objects.{all_shown, home_of}
+use Rattle.machine_state.specs.Objects.{all_shown}
 use Rattle.machine_state.specs.State.{State, Activation, Emit}
 use Rattle.machine_state.specs.Turns.{running, reaches_at_once}
 use Rattle.machine_rules.specs.Rules.{Begins, begun, with_used, posted, EmitRule, Uses, Arrives}
 use Rattle.machine_state.specs.Connections.{silences, is_living, next_used}
 use Rattle.machine_state.proofs.Due.{used-among, used-due, used-living, used-heard, last-used}
-use Rattle.object_tree.specs.Typed.{AreTyped, ReadAs}
+use Rattle.object_tree.specs.Typed.{ReadAs}
 use Rattle.machine_rules.specs.Good.{ArgumentsFit, EmissionFits, of_living, of_dead, TopFits, IsWell}
-use Rattle.machine_rules.specs.Sound.{Sends, SendsThese, Joined, IsDelivered}
-use Rattle.machine_state.specs.Worlds.{at, noted, having_used, posting, Becomes}
+use Rattle.machine_rules.specs.Sound.{Sends, SendsThese, Joined, IsDelivered, AgreeIn}
+use Rattle.machine_state.specs.Worlds.{at, noted, having_used, posting, GoesTo}
 use Rattle.machine_rules.specs.Reaches.{Reaches, StopsIn, Ends, CallsIn, Calls, OnlyCalls, begin_entry, entry_of_post, top_of, IsBegun, IsBarred, PostsCall}
 use Rattle.machine_rules.specs.Active.{shows}
 use Rattle.machine_rules.proofs.Frames.{high, shows-over}
@@ -78,47 +78,49 @@ fits-top last Signal below is fit = emission-fits is fit
 fits-top last (Slot statements) below is fit = fit
 
 reaches-begun : {p : Loaded} {d o m : ℕ} {h active : List (Option ℕ)} {w u v : World} {from to : List Activation} {arguments : List Value} {line : Entry} {work : Work} {last : ℕ} →
-    active ≡ shows to ++ h → CallsIn p w u from to o m arguments → IsBegun p d active u o m arguments line work last → ArgumentsFit p u.store.tree o m arguments → AreTyped p u.store.tree → 0 < w.left → u.left ≡ w.left → v ≡ noted u (line ∷ []) →
+    active ≡ shows to ++ h → CallsIn p w u from to o m arguments → IsBegun p d active u o m arguments line work last → ArgumentsFit p u.store.tree o m arguments → AgreeIn p u → 0 < w.left → u.left ≡ w.left → v ≡ noted u (line ∷ []) →
     Reaches p d h w from v (top_of o m arguments last work ∷ to)
-reaches-begun {p} {d} {o} {m} {h} {active} {w} {u} {v} {from} {to} {arguments} {line} {work} {last} over calls is fit typed some same v_is =
+reaches-begun {p} {d} {o} {m} {h} {active} {w} {u} {v} {from} {to} {arguments} {line} {work} {last} over calls is fit agree some same v_is =
     let Pushed : World → Work → ℕ → Type 0 = λ z k l. Reaches p d h w from z (top_of o m arguments l k ∷ to) in
     let target : World = begun_world u (length active + 1) is.object m is.method arguments in
     let target_is : v ≡ target = v_is ∙ ap (λ (y : Entry). noted u (y ∷ [])) is.is_line in
     let went : Pushed target is.method.work u.store.connections.last =
-    reaches-high over (λ below e. calls.gives below _ (begins-there u arguments (from ++ below) (to ++ below) is.is (one-more to below over e))) (λ below e. none-spared w.store.tree u.store.tree (from ++ below) (same-spared calls.objects)) (λ below. top-fits u.store.connections.last is.method.work (to ++ below) fit) is.room typed (ap (λ (n : ℕ). n - 1) same) some in
+    reaches-high over (λ below e. calls.gives below _ (begins-there u arguments (from ++ below) (to ++ below) is.is (one-more to below over e))) (λ below e. none-spared w.store.tree u.store.tree (from ++ below) (same-spared calls.objects)) (λ below. top-fits u.store.connections.last is.method.work (to ++ below) fit) is.room agree (ap (λ (n : ℕ). n - 1) same) some in
     subst (λ (z : World). Pushed z work last) (sym target_is) (subst (λ (k : Work). Pushed target k last) (sym is.is_work) (subst (λ (l : ℕ). Pushed target is.method.work l) (sym is.is_last) went))
 
 -- a method begins, and what it pushed runs
 pub ends-begun : {p : Loaded} {d o m : ℕ} {h active : List (Option ℕ)} {w u v z : World} {from to : List Activation} {arguments : List Value} {line : Entry} {work : Work} {last : ℕ} {r : Result (Unit {0}) Fault} →
-    active ≡ shows to ++ h → CallsIn p w u from to o m arguments → IsBegun p d active u o m arguments line work last → ArgumentsFit p u.store.tree o m arguments → AreTyped p u.store.tree → 0 < w.left → u.left ≡ w.left → v ≡ noted u (line ∷ []) →
+    active ≡ shows to ++ h → CallsIn p w u from to o m arguments → IsBegun p d active u o m arguments line work last → ArgumentsFit p u.store.tree o m arguments → AgreeIn p u → 0 < w.left → u.left ≡ w.left → v ≡ noted u (line ∷ []) →
     Ends p d active v (top_of o m arguments last work ∷ []) z [] r → Ends p d h w from z to r
-ends-begun over calls is fit typed some same v_is x = ends-after (reaches-begun over calls is fit typed some same v_is) (ends-lifted over x)
+ends-begun over calls is fit agree some same v_is x = ends-after (reaches-begun over calls is fit agree some same v_is) (ends-lifted over x)
 
 -- activations would nest too deep
 stops-begin : {p : Loaded} {d o m : ℕ} {h active : List (Option ℕ)} {w u : World} {from to : List Activation} {arguments : List Value} →
-    active ≡ shows to ++ h → CallsIn p w u from to o m arguments → ArgumentsFit p u.store.tree o m arguments → AreTyped p u.store.tree → 0 < w.left → d ≤ length active → StopsIn p d h w from w TooDeep
-stops-begin {o = o} {m = m} {active = active} {w = w} {u = u} {from = from} {to = to} {arguments = arguments} over calls fit typed some deep =
+    active ≡ shows to ++ h → CallsIn p w u from to o m arguments → ArgumentsFit p u.store.tree o m arguments → AgreeIn p u → 0 < w.left → d ≤ length active → StopsIn p d h w from w TooDeep
+stops-begin {o = o} {m = m} {active = active} {w = w} {u = u} {from = from} {to = to} {arguments = arguments} over calls fit agree some deep =
     let target : World = begun_world u (length active + 1) fit.object m fit.method arguments in
     stops-deep some (λ below e. (
       at target (top_of o m arguments u.store.connections.last fit.method.work ∷ to ++ below),
       calls.gives below _ (begins-there u arguments (from ++ below) (to ++ below) fit.is (one-more to below over e)),
-      record { arguments = λ higher. top-fits u.store.connections.last fit.method.work (to ++ below) fit; values = typed },
+      record { arguments = λ higher. top-fits u.store.connections.last fit.method.work (to ++ below) fit; values = agree.typed },
       none-spared w.store.tree u.store.tree (from ++ below) (same-spared calls.objects),
+      agree,
       omega (arith, one-more to below over e, deep),
     ))
 
 -- a method that fits doesn't begin
 pub stops-barred : {p : Loaded} {d o m : ℕ} {h active : List (Option ℕ)} {w u : World} {from to : List Activation} {arguments : List Value} {f : Fault} →
-    active ≡ shows to ++ h → CallsIn p w u from to o m arguments → ArgumentsFit p u.store.tree o m arguments → AreTyped p u.store.tree → 0 < w.left → IsBarred d active f → StopsIn p d h w from w f
-stops-barred over calls fit typed some why = elim why [
-  | inl deep ↦ stops-as deep.1 (stops-begin over calls fit typed some deep.0)
+    active ≡ shows to ++ h → CallsIn p w u from to o m arguments → ArgumentsFit p u.store.tree o m arguments → AgreeIn p u → 0 < w.left → IsBarred d active f → StopsIn p d h w from w f
+stops-barred over calls fit agree some why = elim why [
+  | inl deep ↦ stops-as deep.1 (stops-begin over calls fit agree some deep.0)
   | inr short ↦ stops-as short (stops-memory calls.goes_on some)
 ]
 
 -- there is no such method
 pub stops-no-member : {p : Loaded} {d o m : ℕ} {h : List (Option ℕ)} {w : World} {from to : List Activation} {arguments : List Value} →
     Calls p w from to o m arguments → OnlyCalls p w from to o m arguments → ((x : Object) (method : MetaMethod) → ¬ IsMember p w.store.tree o m x method) → 0 < w.left → StopsIn p d h w from w BadType
-stops-no-member calls only none some = stops-stuck calls.goes_on some (λ below t r. let b = only.begins below t r in none b.object b.method b.is)
+stops-no-member calls only none some =
+    stops-stuck calls.goes_on some (λ below t r. let b = only.begins below t r in none b.object b.method b.is) (λ below x q new next. absurd (only.writes_none below x q new next))
 
 -- the arguments that fit are of the method's types
 fit-typed : {p : Loaded} {objects : List Object} {o m : ℕ} {x : Object} {method : MetaMethod} {arguments : List Value} → IsMember p objects o m x method → ArgumentsFit p objects o m arguments → ReadAs p objects arguments method.kinds
@@ -199,7 +201,7 @@ pub begun-used : {p : Loaded} {d o m : ℕ} {active : List (Option ℕ)} {w : Wo
 begun-used {w = w} c x = record { room = x.room; object = x.object; method = x.method; is = x.is; is_line = x.is_line; is_work = x.is_work; is_last = x.is_last ∙ sym (last-used c w.store.connections) }
 
 -- memory was refused, behind a `?`
-pub becomes-short : (w target : World) (r : Result (Unit {0}) Fault) → IsErrAnd r (λ y. y ≡ Memory) → Becomes w target w r
+pub becomes-short : (w target : World) (r : Result (Unit {0}) Fault) → IsErrAnd r (λ y. y ≡ Memory) → GoesTo w target w r
 becomes-short w target (Ok _) is = absurd is
 becomes-short w target (Err f) is = (is, refl)
 
@@ -236,8 +238,8 @@ delivery-calls {p} {w} {c} {x} {method} {arguments} {taken} {count} o g used las
 }
 
 -- .. and else posts a call of it
-pub ends-posted : {p : Loaded} {d : ℕ} {h : List (Option ℕ)} {w v : World} {c : Connection} {x : Object} {method : MetaMethod} {arguments taken : List Value} {count : ℕ} (o g used last n : ℕ) (r : Result (Unit {0}) Fault) → next_used w.store.tree w.store.connections.connections o g used last ≡ Some c → IsMember p w.store.tree c.receiver c.method x method → taken ≡ take count arguments → count ≡ length method.kinds → {home : ℕ} → home_of w.store.tree c.receiver ≡ Some home → reaches_at_once c.kind home (running w.turn) ≡ false → length h < d → AreTyped p w.store.tree → 0 < w.left → n ≡ length h + 1 → PostsCall p w n c c.receiver c.method taken v r → Ends p d h w (Emit o g arguments used last ∷ []) v (Emit o g arguments c.number last ∷ []) r
-ends-posted {p} {w = w} {v = v} {c = c} {x = x} {method = method} {arguments = arguments} {taken = taken} o g used last n r found is cut count_is {home} lives later room typed some n_is posts =
+pub ends-posted : {p : Loaded} {d : ℕ} {h : List (Option ℕ)} {w v : World} {c : Connection} {x : Object} {method : MetaMethod} {arguments taken : List Value} {count : ℕ} (o g used last n : ℕ) (r : Result (Unit {0}) Fault) → next_used w.store.tree w.store.connections.connections o g used last ≡ Some c → IsMember p w.store.tree c.receiver c.method x method → taken ≡ take count arguments → count ≡ length method.kinds → {home : ℕ} → home_of w.store.tree c.receiver ≡ Some home → reaches_at_once c.kind home (running w.turn) ≡ false → length h < d → AgreeIn p w → 0 < w.left → n ≡ length h + 1 → PostsCall p w n c c.receiver c.method taken v r → Ends p d h w (Emit o g arguments used last ∷ []) v (Emit o g arguments c.number last ∷ []) r
+ends-posted {p} {w = w} {v = v} {c = c} {x = x} {method = method} {arguments = arguments} {taken = taken} o g used last n r found is cut count_is {home} lives later room agree some n_is posts =
     let target : World = posting (having_used w c) (entry_of_post w n posts.name posts.object posts.method taken ∷ []) posts.home (Call c.receiver c.method taken) in
     ends-noted target r
     (λ below k.
@@ -263,7 +265,7 @@ ends-posted {p} {w = w} {v = v} {c = c} {x = x} {method = method} {arguments = a
     } in
     let Next : Option Connection → Type 0 = λ y. EmitRule p s o g arguments last below to y in
     subst Next (sym found) uses)
-    (λ o gone. gone) room typed refl some posts.becomes
+    (λ o gone. gone) room agree refl some posts.becomes
 
 -- ---- tests
 

@@ -21,10 +21,10 @@ use Rattle.machine_rules.specs.Coded.{Yields}
 use Rattle.machine_rules.specs.Rules.{Rule, StatementRule, Does, told, Connects, Disconnects}
 use Rattle.machine_rules.specs.Destroying.{Schedules}
 use Rattle.object_tree.specs.Objects.{life_of}
-use Rattle.object_tree.specs.Typed.{AreTyped}
-use Rattle.machine_rules.specs.Runs.{Rules, done, then}
-use Rattle.machine_state.specs.Worlds.{at, noted, Ticks, Becomes}
-use Rattle.machine_rules.specs.Reaches.{StopsIn, Ends, Advances, Calls, OnlyCalls, Sets, Deletes, Went, Stays, ConnectsIn, DisconnectsIn, SchedulesIn}
+use Rattle.machine_rules.specs.Sound.{AgreeIn}
+use Rattle.machine_rules.specs.Runs.{Rules, done, then, WritesNext}
+use Rattle.machine_state.specs.Worlds.{at, noted, Ticks, GoesTo}
+use Rattle.machine_rules.specs.Reaches.{StopsIn, Ends, Advances, Calls, OnlyCalls, Sets, Deletes, Went, Stalls, ConnectsIn, DisconnectsIn, SchedulesIn}
 use Rattle.machine_rules.proofs.Reaching.{not-idle, reaches-low, stops-as, stops-memory, stops-stuck, ends-noted, ends-ticked}
 use Rattle.machine_rules.proofs.Frames.{high}
 use Rattle.machine_rules.proofs.Keeps.{some-stack, rules-kept}
@@ -48,73 +48,91 @@ rule-does p w o m arguments x rest d below t is rule =
     let Done : Doing → Type 0 = λ e. Does p (next w o m arguments x rest below) o m arguments rest below e t in
     subst Done same r.does
 
+-- what was read is what the state has
+pub moved : {a b : List Object} {n o : ℕ} {k l : List Value} (F : List Object → ℕ → List Value → Type 0) → a ≡ b → n ≡ o → k ≡ l → F a n k → F b o l
+moved {a} {b} {n} {o} {k} {l} F objects this arguments x =
+    subst (λ (i : List Value). F b o i) arguments (subst (λ (i : ℕ). F b i k) this (subst (λ (i : List Object). F i n k) objects x))
+
+-- what it writes next is what the statement does
+next-writes : (w : World) {o m : ℕ} {arguments : List Value} {x : Statement} {rest : List Statement} {below : List Activation} {a b : ℕ} {new : Value} → WritesNext (next w o m arguments x rest below) a b new → doing w.store.tree o arguments (out-Statement x) ≡ Some (Write a b new)
+next-writes w {o} {m} {arguments} {x} {rest} {below} {a} {b} {new} n =
+    let stacks : (Body o m arguments (x ∷ rest) ∷ below) ≡ (Body n.object n.method n.arguments (n.statement ∷ n.rest) ∷ n.below) = n.is_next in
+    let o_is : n.object ≡ o = cc stacks in
+    let arguments_is : n.arguments ≡ arguments = cc stacks in
+    let x_is : n.statement ≡ x = cc stacks in
+    let By : Statement → Type 0 = λ y. doing w.store.tree o arguments (out-Statement y) ≡ Some (Write a b new) in
+    subst By x_is (moved (λ objects k l. doing objects k l (out-Statement n.statement) ≡ Some (Write a b new)) refl o_is arguments_is n.writes)
+
 -- a method begins
 pub does-call : {p : Loaded} {w : World} {o : ℕ} {arguments : List Value} {x : Statement} (m : ℕ) (rest : List Statement) {y n : ℕ} {given : List Value} → doing w.store.tree o arguments (out-Statement x) ≡ Some (Begin y n given) → Calls p w (Body o m arguments (x ∷ rest) ∷ []) (Body o m arguments rest ∷ []) y n given
 does-call {p} {w} {o} {arguments} {x} m rest {y} {n} {given} is = record { no_lower = omega arith; objects = refl; goes_on = λ below. not-idle w _ below; gives = λ below t b. does-rule p w o m arguments x rest (Begin y n given) below t is b }
 
 pub does-call-alone : {p : Loaded} {w : World} {o : ℕ} {arguments : List Value} {x : Statement} (m : ℕ) (rest : List Statement) {y n : ℕ} {given : List Value} → doing w.store.tree o arguments (out-Statement x) ≡ Some (Begin y n given) → OnlyCalls p w (Body o m arguments (x ∷ rest) ∷ []) (Body o m arguments rest ∷ []) y n given
-does-call-alone {p} {w} {o} {arguments} {x} m rest {y} {n} {given} is = record { begins = λ below t r. rule-does p w o m arguments x rest (Begin y n given) below t is r }
+does-call-alone {p} {w} {o} {arguments} {x} m rest {y} {n} {given} is = record { writes_none = λ below a b new writes. let both : Some (Begin y n given) ≡ Some (Write a b new) = sym is ∙ next-writes w writes in absurd (cc both); begins = λ below t r. rule-does p w o m arguments x rest (Begin y n given) below t is r }
 
 -- a property is written
 pub does-set : {p : Loaded} {w : World} {o : ℕ} {arguments : List Value} {x : Statement} (m : ℕ) (rest : List Statement) {y q : ℕ} {new : Value} → doing w.store.tree o arguments (out-Statement x) ≡ Some (Write y q new) → Sets p w (Body o m arguments (x ∷ rest) ∷ []) (Body o m arguments rest ∷ []) y q new
 does-set {p} {w} {o} {arguments} {x} m rest {y} {q} {new} is = record {
+  as_high = refl;
+  next = λ below. record { object = o; method = m; arguments = arguments; statement = x; rest = rest; below = below; is_next = refl; writes = is };
   goes_on = λ below. not-idle w _ below;
   gives = λ below t b. does-rule p w o m arguments x rest (Write y q new) below t is b;
   only = λ below t r. rule-does p w o m arguments x rest (Write y q new) below t is r;
 }
 
 -- nothing is done
-pub does-nothing : {p : Loaded} {w : World} {o : ℕ} {arguments : List Value} {x : Statement} (m : ℕ) (rest : List Statement) {d : ℕ} {h : List (Option ℕ)} {v : World} (n : ℕ) (r : Result (Unit {0}) Fault) → doing w.store.tree o arguments (out-Statement x) ≡ Some Nothing → length h < d → AreTyped p w.store.tree → 0 < w.left → n ≡ length h + 1 → Becomes w (noted w (At n OnNull ∷ [])) v r → Ends p d h w (Body o m arguments (x ∷ rest) ∷ []) v (Body o m arguments rest ∷ []) r
-does-nothing {p} {w} {o} {arguments} {x} m rest {d} {h} {v} n r is room typed some n_is notes =
+pub does-nothing : {p : Loaded} {w : World} {o : ℕ} {arguments : List Value} {x : Statement} (m : ℕ) (rest : List Statement) {d : ℕ} {h : List (Option ℕ)} {v : World} (n : ℕ) (r : Result (Unit {0}) Fault) → doing w.store.tree o arguments (out-Statement x) ≡ Some Nothing → length h < d → AgreeIn p w → 0 < w.left → n ≡ length h + 1 → GoesTo w (noted w (At n OnNull ∷ [])) v r → Ends p d h w (Body o m arguments (x ∷ rest) ∷ []) v (Body o m arguments rest ∷ []) r
+does-nothing {p} {w} {o} {arguments} {x} m rest {d} {h} {v} n r is room agree some n_is notes =
     ends-noted (noted w (At n OnNull ∷ [])) r
     (λ below k.
     let t : State = at (noted w (At n OnNull ∷ [])) (Body o m arguments rest ∷ below) in
     let depth_is : n ≡ suc (length below) = omega (arith, n_is, high below k) in
     let null_is : t ≡ told (next w o m arguments x rest below) (Body o m arguments rest ∷ below) OnNull = ap (λ (i : ℕ). at (noted w (At i OnNull ∷ [])) (Body o m arguments rest ∷ below)) depth_is in
     does-rule p w o m arguments x rest Nothing below t is null_is)
-    (λ k gone. gone) room typed refl some notes
+    (λ k gone. gone) room agree refl some notes
 
 -- what this relation tells of is done, and nothing is pushed
 does-told : {p : Loaded} {w v : World} {o : ℕ} {arguments : List Value} {x : Statement} (m : ℕ) (rest : List Statement) {d : ℕ} {h : List (Option ℕ)} (what : Doing) (What : State → List Activation → State → Type 0) (n : ℕ) (r : Result (Unit {0}) Fault) → doing w.store.tree o arguments (out-Statement x) ≡ Some what →
+    ((a b : ℕ) (new : Value) → what ≢ Write a b new) →
     ((below : List Activation) (t : State) → What (next w o m arguments x rest below) (Body o m arguments rest ∷ below) t → Does p (next w o m arguments x rest below) o m arguments rest below what t) →
     ((below : List Activation) (t : State) → Does p (next w o m arguments x rest below) o m arguments rest below what t → What (next w o m arguments x rest below) (Body o m arguments rest ∷ below) t) →
-    length h < d → AreTyped p w.store.tree → 0 < w.left → n ≡ length h + 1 → MatchResult r (λ _. Went What w n v) (Stays What w v) → Ends p d h w (Body o m arguments (x ∷ rest) ∷ []) v (Body o m arguments rest ∷ []) r
-does-told {p} {w} {v} {o} {arguments} {x} m rest {d} {h} what What n (Ok _) is does told_by room typed some n_is went =
+    length h < d → AgreeIn p w → 0 < w.left → n ≡ length h + 1 → MatchResult r (λ _. Went What w n v) (Stalls What w v) → Ends p d h w (Body o m arguments (x ∷ rest) ∷ []) v (Body o m arguments rest ∷ []) r
+does-told {p} {w} {v} {o} {arguments} {x} m rest {d} {h} what What n (Ok _) is other does told_by room agree some n_is went =
     record {
       cases = reaches-low {b = Body o m arguments rest ∷ []} (λ below k. does-rule p w o m arguments x rest what below _ is (does below _ (went.tells (Body o m arguments (x ∷ rest) ∷ below) (Body o m arguments rest ∷ below) (omega (arith, n_is, high below k)))))
-          went.spared (omega arith) (omega (arith, room)) (went.typed p typed) went.left some;
+          went.spared (omega arith) (omega (arith, room)) (went.agree p agree) went.left some;
     }
-does-told {p} {w} {v} {o} {arguments} {x} m rest {d} {h} what What n (Err f) is does told_by room typed some n_is stays =
+does-told {p} {w} {v} {o} {arguments} {x} m rest {d} {h} what What n (Err f) is other does told_by room agree some n_is stays =
     let At : World → Type 0 = λ u. StopsIn p d h w (Body o m arguments (x ∷ rest) ∷ []) u f in
     let stops : StopsIn p d h w (Body o m arguments (x ∷ rest) ∷ []) w f = elim stays.why [
-      | inl none ↦ stops-as none.1 (stops-stuck (not-idle w (Body o m arguments (x ∷ rest))) some (λ below t rule. none.0 (Body o m arguments (x ∷ rest) ∷ below) (Body o m arguments rest ∷ below) t (told_by below t (rule-does p w o m arguments x rest what below t is rule))))
+      | inl none ↦ stops-as none.1 (stops-stuck (not-idle w (Body o m arguments (x ∷ rest))) some (λ below t rule. none.0 (Body o m arguments (x ∷ rest) ∷ below) (Body o m arguments rest ∷ below) t (told_by below t (rule-does p w o m arguments x rest what below t is rule))) (λ below a b new writes. let both : Some what ≡ Some (Write a b new) = sym is ∙ next-writes w writes in let same : what ≡ Write a b new = cc both in absurd (other a b new same)))
       | inr short ↦ stops-as short (stops-memory (not-idle w (Body o m arguments (x ∷ rest))) some)
     ] in
     record { cases = subst At (sym stays.same) stops }
 
 -- a connection is made
-pub does-connect : {p : Loaded} {w v : World} {o : ℕ} {arguments : List Value} {x : Statement} (m : ℕ) (rest : List Statement) {d : ℕ} {h : List (Option ℕ)} (ends : Endpoints) (how : ConnectionType) (n : ℕ) (r : Result (Unit {0}) Fault) → doing w.store.tree o arguments (out-Statement x) ≡ Some (Connect ends how) → length h < d → AreTyped p w.store.tree → 0 < w.left → n ≡ length h + 1 → ConnectsIn p w n ends how v r → Ends p d h w (Body o m arguments (x ∷ rest) ∷ []) v (Body o m arguments rest ∷ []) r
-does-connect {p} m rest ends how n r is room typed some n_is went =
-    does-told m rest (Connect ends how) (λ s stack t. Connects p s stack ends how t) n r is (λ below t does. does) (λ below t does. does) room typed some n_is went
+pub does-connect : {p : Loaded} {w v : World} {o : ℕ} {arguments : List Value} {x : Statement} (m : ℕ) (rest : List Statement) {d : ℕ} {h : List (Option ℕ)} (ends : Endpoints) (how : ConnectionType) (n : ℕ) (r : Result (Unit {0}) Fault) → doing w.store.tree o arguments (out-Statement x) ≡ Some (Connect ends how) → length h < d → AgreeIn p w → 0 < w.left → n ≡ length h + 1 → ConnectsIn p w n ends how v r → Ends p d h w (Body o m arguments (x ∷ rest) ∷ []) v (Body o m arguments rest ∷ []) r
+does-connect {p} m rest ends how n r is room agree some n_is went =
+    does-told m rest (Connect ends how) (λ s stack t. Connects p s stack ends how t) n r is (λ a b new e. absurd (cc e)) (λ below t does. does) (λ below t does. does) room agree some n_is went
 
 -- .. or removed
-pub does-disconnect : {p : Loaded} {w v : World} {o : ℕ} {arguments : List Value} {x : Statement} (m : ℕ) (rest : List Statement) {d : ℕ} {h : List (Option ℕ)} (ends : Endpoints) (n : ℕ) (r : Result (Unit {0}) Fault) → doing w.store.tree o arguments (out-Statement x) ≡ Some (Disconnect ends) → length h < d → AreTyped p w.store.tree → 0 < w.left → n ≡ length h + 1 → DisconnectsIn p w n ends v r → Ends p d h w (Body o m arguments (x ∷ rest) ∷ []) v (Body o m arguments rest ∷ []) r
-does-disconnect {p} m rest ends n r is room typed some n_is went =
-    does-told m rest (Disconnect ends) (λ s stack t. Disconnects p s stack ends t) n r is (λ below t does. does) (λ below t does. does) room typed some n_is went
+pub does-disconnect : {p : Loaded} {w v : World} {o : ℕ} {arguments : List Value} {x : Statement} (m : ℕ) (rest : List Statement) {d : ℕ} {h : List (Option ℕ)} (ends : Endpoints) (n : ℕ) (r : Result (Unit {0}) Fault) → doing w.store.tree o arguments (out-Statement x) ≡ Some (Disconnect ends) → length h < d → AgreeIn p w → 0 < w.left → n ≡ length h + 1 → DisconnectsIn p w n ends v r → Ends p d h w (Body o m arguments (x ∷ rest) ∷ []) v (Body o m arguments rest ∷ []) r
+does-disconnect {p} m rest ends n r is room agree some n_is went =
+    does-told m rest (Disconnect ends) (λ s stack t. Disconnects p s stack ends t) n r is (λ a b new e. absurd (cc e)) (λ below t does. does) (λ below t does. does) room agree some n_is went
 
 -- an object is scheduled for deletion
-pub does-schedule : {p : Loaded} {w v : World} {o : ℕ} {arguments : List Value} {x : Statement} (m : ℕ) (rest : List Statement) {d : ℕ} {h : List (Option ℕ)} (y : ℕ) (n : ℕ) (r : Result (Unit {0}) Fault) → doing w.store.tree o arguments (out-Statement x) ≡ Some (Schedule y) → length h < d → AreTyped p w.store.tree → 0 < w.left → n ≡ length h + 1 → SchedulesIn w n y v r → Ends p d h w (Body o m arguments (x ∷ rest) ∷ []) v (Body o m arguments rest ∷ []) r
-does-schedule m rest y n r is room typed some n_is went =
-    does-told m rest (Schedule y) (λ s stack t. Schedules s stack y t (life_of s.objects y)) n r is (λ below t does. does) (λ below t does. does) room typed some n_is went
+pub does-schedule : {p : Loaded} {w v : World} {o : ℕ} {arguments : List Value} {x : Statement} (m : ℕ) (rest : List Statement) {d : ℕ} {h : List (Option ℕ)} (y : ℕ) (n : ℕ) (r : Result (Unit {0}) Fault) → doing w.store.tree o arguments (out-Statement x) ≡ Some (Schedule y) → length h < d → AgreeIn p w → 0 < w.left → n ≡ length h + 1 → SchedulesIn w n y v r → Ends p d h w (Body o m arguments (x ∷ rest) ∷ []) v (Body o m arguments rest ∷ []) r
+does-schedule m rest y n r is room agree some n_is went =
+    does-told m rest (Schedule y) (λ s stack t. Schedules s stack y t (life_of s.objects y)) n r is (λ a b new e. absurd (cc e)) (λ below t does. does) (λ below t does. does) room agree some n_is went
 
 -- .. or deleted
 pub does-delete : {p : Loaded} {w : World} {o : ℕ} {arguments : List Value} {x : Statement} (m : ℕ) (rest : List Statement) {y : ℕ} → doing w.store.tree o arguments (out-Statement x) ≡ Some (Delete y) → Deletes p w (Body o m arguments (x ∷ rest) ∷ []) (Body o m arguments rest ∷ []) y
 does-delete {p} {w} {o} {arguments} {x} m rest {y} is = record { gives = λ below. does-rule p w o m arguments x rest (Delete y) below _ is refl }
 
 -- a block comes next
-pub does-choose : {p : Loaded} {w : World} {o : ℕ} {arguments : List Value} {x : Statement} (m : ℕ) (rest : List Statement) {d : ℕ} {h : List (Option ℕ)} {v : World} (r : Result (Unit {0}) Fault) (block : List Statement) → doing w.store.tree o arguments (out-Statement x) ≡ Some (Choose block) → length h < d → AreTyped p w.store.tree → Ticks w v r → Ends p d h w (Body o m arguments (x ∷ rest) ∷ []) v (Body o m arguments (block ++ rest) ∷ []) r
-does-choose {p} {w} {o} {arguments} {x} m rest r block is room typed ticks =
-    ends-ticked {b = Body o m arguments (block ++ rest) ∷ []} r (λ below k. does-rule p w o m arguments x rest (Choose block) below _ is refl) (omega arith) room typed ticks
+pub does-choose : {p : Loaded} {w : World} {o : ℕ} {arguments : List Value} {x : Statement} (m : ℕ) (rest : List Statement) {d : ℕ} {h : List (Option ℕ)} {v : World} (r : Result (Unit {0}) Fault) (block : List Statement) → doing w.store.tree o arguments (out-Statement x) ≡ Some (Choose block) → length h < d → AgreeIn p w → Ticks w v r → Ends p d h w (Body o m arguments (x ∷ rest) ∷ []) v (Body o m arguments (block ++ rest) ∷ []) r
+does-choose {p} {w} {o} {arguments} {x} m rest r block is room agree ticks =
+    ends-ticked {b = Body o m arguments (block ++ rest) ∷ []} r (λ below k. does-rule p w o m arguments x rest (Choose block) below _ is refl) (omega arith) room agree ticks
 
 -- a statement that lacks a value has no rule
 pub lacks-rule : {p : Loaded} {w : World} {o : ℕ} {arguments : List Value} {x : Statement} (m : ℕ) (rest : List Statement) {d : ℕ} {h : List (Option ℕ)} → 0 < w.left → doing w.store.tree o arguments (out-Statement x) ≡ None → StopsIn p d h w (Body o m arguments (x ∷ rest) ∷ []) w BadType
@@ -123,11 +141,7 @@ lacks-rule {p} {w} {o} {arguments} {x} m rest some none =
     let r : StatementRule p (next w o m arguments x rest below) o m arguments x rest below t = rule in
     let both : None ≡ Some r.what = sym none ∙ r.is in
     absurd (cc both))
-
--- what was read is what the state has
-pub moved : {a b : List Object} {n o : ℕ} {k l : List Value} (F : List Object → ℕ → List Value → Type 0) → a ≡ b → n ≡ o → k ≡ l → F a n k → F b o l
-moved {a} {b} {n} {o} {k} {l} F objects this arguments x =
-    subst (λ (i : List Value). F b o i) arguments (subst (λ (i : ℕ). F b i k) this (subst (λ (i : List Object). F i n k) objects x))
+    (λ below a b new writes. let both : None ≡ Some (Write a b new) = sym none ∙ next-writes w writes in absurd (cc both))
 
 pub lacks-read : {p : Loaded} {d o : ℕ} {h : List (Option ℕ)} {w : World} {arguments : List Value} {x : Statement} {f : EvalFault} {a : List Object} {i : ℕ} {l : List Value} (m : ℕ) (rest : List Statement) → 0 < w.left → a ≡ w.store.tree → i ≡ o → l ≡ arguments → Yields (doing a i l (out-Statement x)) (Err f) → f ≡ eval.BadType → StopsIn p d h w (Body o m arguments (x ∷ rest) ∷ []) w BadType
 lacks-read {p} {o = o} {w = w} {arguments = arguments} {x = x} {a = a} {i = i} {l = l} m rest some objects this given yields is =

@@ -1,6 +1,6 @@
 -- How deletions are carried out.
 use Rattle.std.proofs.Common.{◌≡◌, ◌≢◌, ⊎_elim, inl, inr, ℕ, zero, suc, ◌+◌, ◌-◌, ◌<◌, ◌≤◌, eqb, Bool, true, false, IsTrue, List, [], ◌∷◌, ◌++◌, length, take, reverse, cond, Result, Ok, Err, Option, Some, None, slice_get, refl, sym, ap, ◌∙◌, subst, arith, length-append}
-use Rattle.std.specs.Prelude.{is_some, MatchOption, OnOk}
+use Rattle.std.specs.Prelude.{is_some, MatchOption}
 use Rattle.std.specs.List.{find}
 use Rattle.std.specs.Option.{option_map}
 use Rattle.std.proofs.lemmas.Bool.{cases_eq, eqb-true}
@@ -13,9 +13,9 @@ use Rattle.object_tree.specs.declared.life.Life.{Life}
 use Rattle.object_tree.specs.declared.object.Object.{Object}
 use Rattle.object_tree.specs.Family.{children_of, IsChild, without_life}
 use Rattle.object_tree.specs.Objects.{life_of, name_of}
-use Rattle.object_tree.specs.Typed.{AreTyped}
+use Rattle.machine_rules.specs.Sound.{AgreeIn}
 use Rattle.object_tree.proofs.Changing.{life-of-lives}
-use Rattle.object_tree.proofs.TypedObjects.{typed-died}
+use Rattle.prop_bindings.proofs.Leaving.{left_agree}
 use Rattle.delete_later.specs.Ending.{last_of, next_in, first_child_of, IsNext, NoneIsNext}
 use Rattle.machine_state.specs.declared.entry.Entry.{Entry}
 use Rattle.machine_state.specs.declared.entry.Entry.TheVariants.{At}
@@ -44,21 +44,22 @@ use Rattle.machine_rules.proofs.Reaching.{none-spared, reaches-low, reaches-high
 -- ---- a deletion begins
 
 -- .. and is carried out
-pub ends-deleting : {p : Loaded} {d x : ℕ} {h active : List (Option ℕ)} {w v u : World} {from to : List Activation} {r : Result (Unit {0}) Fault} → active ≡ shows to ++ h → Deletes p w from to x → length active < d → AreTyped p w.store.tree → Ticks w v (Ok tt) → Ends p d active v (Destroy (Some x) [] ∷ []) u [] r → Ends p d h w from u to r
-ends-deleting {p} {d} {x} {h} {active} {w} {v} {u} {from} {to} over deletes room typed ticks rest =
+pub ends-deleting : {p : Loaded} {d x : ℕ} {h active : List (Option ℕ)} {w v u : World} {from to : List Activation} {r : Result (Unit {0}) Fault} → active ≡ shows to ++ h → Deletes p w from to x → length active < d → AgreeIn p w → Ticks w v (Ok tt) → Ends p d active v (Destroy (Some x) [] ∷ []) u [] r → Ends p d h w from u to r
+ends-deleting {p} {d} {x} {h} {active} {w} {v} {u} {from} {to} over deletes room agree ticks rest =
     let Family : World → Type 0 = λ k. Reaches p d h w from k (Destroy (Some x) [] ∷ to) in
     let went : Reaches p d h w from (ticked w) (Destroy (Some x) [] ∷ to) =
-    reaches-high over (λ below e. deletes.gives below) (λ below e. none-spared w.store.tree w.store.tree (from ++ below) (λ o gone. gone)) (λ below. tt) room typed refl ticks.0 in
+    reaches-high over (λ below e. deletes.gives below) (λ below e. none-spared w.store.tree w.store.tree (from ++ below) (λ o gone. gone)) (λ below. tt) room agree refl ticks.0 in
     ends-after (subst Family (sym ticks.1) went) (ends-lifted over rest)
 
 -- .. or activations would nest too deep
-pub stops-deleting : {p : Loaded} {d x : ℕ} {h active : List (Option ℕ)} {w : World} {from to : List Activation} → active ≡ shows to ++ h → Deletes p w from to x → AreTyped p w.store.tree → 0 < w.left → d ≤ length active → StopsIn p d h w from w TooDeep
-stops-deleting {p} {d} {x} {h} {active} {w} {from} {to} over deletes typed some deep =
+pub stops-deleting : {p : Loaded} {d x : ℕ} {h active : List (Option ℕ)} {w : World} {from to : List Activation} → active ≡ shows to ++ h → Deletes p w from to x → AgreeIn p w → 0 < w.left → d ≤ length active → StopsIn p d h w from w TooDeep
+stops-deleting {p} {d} {x} {h} {active} {w} {from} {to} over deletes agree some deep =
     stops-deep some (λ below e. (
       deleting (at w (from ++ below)) (to ++ below) x,
       deletes.gives below,
-      record { arguments = λ higher. tt; values = typed },
+      record { arguments = λ higher. tt; values = agree.typed },
       none-spared w.store.tree w.store.tree (from ++ below) (λ o gone. gone),
+      agree,
       omega (arith, one-more to below over e, deep),
     ))
 
@@ -98,7 +99,7 @@ bodiless x below e none = has-shown x below ∙ ap (shows_body x) e ∙ none
 died-next : {p : Loaded} {w : World} {next : Option ℕ} {before torn : List ℕ} {x n : ℕ} {name : List ℕ} (below : List Activation) → Kills p w next before torn x → name_of w.store.tree x ≡ Some name → n ≡ suc (length below) → Rule p (at w (Destroy next before ∷ below)) (at (died_world w n x name) (announced w x ∷ Destroy (Some x) torn ∷ below))
 died-next {p} {w} {next} {before} {torn} {x} below kills named depth_is = kills.gives below _ (dies-there w (Destroy next before ∷ below) (Destroy (Some x) torn ∷ below) named depth_is)
 
-module _ {p : Loaded} {d : ℕ} {active : List (Option ℕ)} {w : World} {next : Option ℕ} {before torn : List ℕ} {x : ℕ} {name : List ℕ} (kills : Kills p w next before torn x) (named : name_of w.store.tree x ≡ Some name) (typed : AreTyped p w.store.tree) (some : 0 < w.left) where
+module _ {p : Loaded} {d : ℕ} {active : List (Option ℕ)} {w : World} {next : Option ℕ} {before torn : List ℕ} {x : ℕ} {name : List ℕ} (kills : Kills p w next before torn x) (named : name_of w.store.tree x ≡ Some name) (agree : AgreeIn p w) (some : 0 < w.left) where
   -- it dies by one rule
   pub reaches-died : {v : World} {n last : ℕ} → shows_body x active ≡ false → suc (length active) < d → n ≡ suc (length active) → last ≡ w.store.connections.last → v ≡ died_world w n x name → Reaches p d active w (Destroy next before ∷ []) v (Emit x DESTROYED (value.Ref None ∷ []) 0 last ∷ Destroy (Some x) torn ∷ [])
   reaches-died {v} {n} {last} none room n_is last_is v_is =
@@ -109,7 +110,7 @@ module _ {p : Loaded} {d : ℕ} {active : List (Option ℕ)} {w : World} {next :
       (λ below e. died-next below kills named (omega (arith, n_is, high below e)))
       (λ below e. unbodied-spared w.store.tree x (Destroy next before ∷ below) (bodiless x below e none))
       (λ below. death-fits p w.store.tree x named)
-      (omega (arith, room)) (typed-died p x w.store.tree typed) refl some in
+      (omega (arith, room)) (left_agree p w.store.bindings w.store.tree x agree) refl some in
       subst (λ (u : World). Family u last) (sym v_is) (subst (λ (l : ℕ). Family target l) (sym last_is) went)
 
   -- a body of it is active
@@ -117,7 +118,7 @@ module _ {p : Loaded} {d : ℕ} {active : List (Option ℕ)} {w : World} {next :
   stops-in-use lives bodied = stops-fatal some (λ below e.
       let s : State = at w (Destroy next before ∷ below) in
       let t : State = at (died_world w (suc (length below)) x name) (announced w x ∷ Destroy (Some x) torn ∷ below) in
-      let well : IsWell p s t = record { arguments = λ higher. death-fits p w.store.tree x named; values = typed-died p x w.store.tree typed } in
+      let well : IsWell p s t = record { arguments = λ higher. death-fits p w.store.tree x named; values = (left_agree p w.store.bindings w.store.tree x agree).typed } in
       let body : has_body x below ≡ true = has-shown x below ∙ ap (shows_body x) e ∙ bodied in
       let fatal : ¬ Spares s t = λ spares. living-dead w.store.tree x lives (spares x body (died-dead w.store.tree x named)) in
       (t, died-next below kills named refl, well, fatal))
@@ -130,19 +131,14 @@ module _ {p : Loaded} {d : ℕ} {active : List (Option ℕ)} {w : World} {next :
   stops-announcing none deep = stops-deep some (λ below e.
       let s : State = at w (Destroy next before ∷ below) in
       let t : State = at (died_world w (suc (length below)) x name) (announced w x ∷ Destroy (Some x) torn ∷ below) in
-      let well : IsWell p s t = record { arguments = λ higher. death-fits p w.store.tree x named; values = typed-died p x w.store.tree typed } in
-      (t, died-next below kills named refl, well, unbodied-spared w.store.tree x (Destroy next before ∷ below) (bodiless x below e none), omega (arith, high below e, deep)))
+      let well : IsWell p s t = record { arguments = λ higher. death-fits p w.store.tree x named; values = (left_agree p w.store.bindings w.store.tree x agree).typed } in
+      (t, died-next below kills named refl, well, unbodied-spared w.store.tree x (Destroy next before ∷ below) (bodiless x below e none), left_agree p w.store.bindings w.store.tree x agree, omega (arith, high below e, deep)))
 
 -- what lives has a name
 pub living-name : (objects : List Object) (o : ℕ) → is_living objects o ≡ true → (name : List ℕ) × (name_of objects o ≡ Some name)
 living-name objects o lives =
     let there = has-life objects o lives in
     (there.0.name, ap (option_map (λ (x : Object). x.name)) there.2.is)
-
--- a fact that needs no answer
-pub on-ok : {P : Type 0} (r : Result (Unit {0}) Fault) → P → OnOk r P
-on-ok (Ok _) p = p
-on-ok (Err f) p = tt
 
 -- the lines that are written down where it dies
 pub died-as : {v : World} {n m k : ℕ} {name a : List ℕ} {line : Entry} (w : World) (x : ℕ) → v ≡ dying w (At n (Died a) ∷ line ∷ []) x → a ≡ name → line ≡ entry_of_destroyed (m + 1) name → n ≡ k → m ≡ k → v ≡ died_world w k x name
@@ -183,7 +179,7 @@ kills-child w parent child torn found = record {
       subst Next (sym found) dies;
 }
 
-module _ {p : Loaded} {d : ℕ} {active : List (Option ℕ)} {w v : World} (room : length active < d) (typed : AreTyped p w.store.tree) where
+module _ {p : Loaded} {d : ℕ} {active : List (Option ℕ)} {w v : World} (room : length active < d) (agree : AgreeIn p w) where
   -- a dead object is forgotten
   pub reaches-forgotten : (x : ℕ) (torn : List ℕ) → is_living w.store.tree x ≡ false → 0 < w.left → v ≡ ending w x → Reaches p d active w (Destroy (Some x) torn ∷ []) v (Destroy None (x ∷ torn) ∷ [])
   reaches-forgotten x torn gone some v_is =
@@ -191,7 +187,7 @@ module _ {p : Loaded} {d : ℕ} {active : List (Option ℕ)} {w v : World} (room
       let Family : World → Type 0 = λ u. Reaches p d active w (Destroy (Some x) torn ∷ []) u (Destroy None (x ∷ torn) ∷ []) in
       subst Family (sym v_is) (reaches-low {b = Destroy None (x ∷ torn) ∷ []}
       (λ below e. let Next : Bool → Type 0 = λ b. NextRule (at w (Destroy (Some x) torn ∷ below)) below (at target (Destroy None (x ∷ torn) ∷ below)) x torn b in subst Next (sym gone) refl)
-      (λ o dead. dead) (omega arith) (omega (arith, room)) typed refl some)
+      (λ o dead. dead) (omega arith) (omega (arith, room)) agree refl some)
 
   -- one without children left isn't torn down any more
   pub reaches-torn : (parent : ℕ) (torn : List ℕ) → find (is_living w.store.tree) (children_of w.store.tree parent) ≡ None → Ticks w v (Ok tt) → Reaches p d active w (Destroy None (parent ∷ torn) ∷ []) v (Destroy None torn ∷ [])
@@ -199,7 +195,7 @@ module _ {p : Loaded} {d : ℕ} {active : List (Option ℕ)} {w v : World} (room
       let Family : World → Type 0 = λ u. Reaches p d active w (Destroy None (parent ∷ torn) ∷ []) u (Destroy None torn ∷ []) in
       subst Family (sym ticks.1) (reaches-low {b = Destroy None torn ∷ []}
       (λ below e. let Next : Option ℕ → Type 0 = λ c. ChildRule (at w (Destroy None (parent ∷ torn) ∷ below)) below (at (ticked w) (Destroy None torn ∷ below)) parent torn c in subst Next (sym none) refl)
-      (λ o dead. dead) (omega arith) (omega (arith, room)) typed refl ticks.0)
+      (λ o dead. dead) (omega arith) (omega (arith, room)) agree refl ticks.0)
 
 -- it isn't forgotten, since no rule is left or memory was refused
 pub stops-forgetting : {p : Loaded} {d : ℕ} {active : List (Option ℕ)} {w v : World} {a : Activation} (x : ℕ) (torn after : List ℕ) (f : Fault) → Forgets w torn x v after (Err f) → StopsIn p d active w (a ∷ []) v f
@@ -281,18 +277,18 @@ module _ {p : Loaded} (w : World) (torn : List ℕ) (some : 0 < length torn) (fo
       subst Over (sym (turned torn q.0 q.1 q.2)) (kills-child w q.1 child (reverse q.0) (next-child w.store.tree torn q.0 q.1 found q.2 is lives ∙ e))
 
   -- .. or the latest has none left
-  pub reaches-next : {d : ℕ} {active : List (Option ℕ)} {v : World} (rest : List ℕ) → length active < d → AreTyped p w.store.tree → found ≡ None → rest ≡ take (length torn - 1) torn → Ticks w v (Ok tt) → Reaches p d active w (Destroy None (reverse torn) ∷ []) v (Destroy None (reverse rest) ∷ [])
-  reaches-next {d} {active} {v} rest room typed e rest_is ticks =
+  pub reaches-next : {d : ℕ} {active : List (Option ℕ)} {v : World} (rest : List ℕ) → length active < d → AgreeIn p w → found ≡ None → rest ≡ take (length torn - 1) torn → Ticks w v (Ok tt) → Reaches p d active w (Destroy None (reverse torn) ∷ []) v (Destroy None (reverse rest) ∷ [])
+  reaches-next {d} {active} {v} rest room agree e rest_is ticks =
       let q = ends-with torn some in
       let From : List ℕ → List ℕ → Type 0 = λ l m. Reaches p d active w (Destroy None l ∷ []) v (Destroy None (reverse m) ∷ []) in
-      let went : From (q.1 ∷ reverse q.0) q.0 = reaches-torn room typed q.1 (reverse q.0) (next-child w.store.tree torn q.0 q.1 found q.2 is lives ∙ e) ticks in
+      let went : From (q.1 ∷ reverse q.0) q.0 = reaches-torn room agree q.1 (reverse q.0) (next-child w.store.tree torn q.0 q.1 found q.2 is lives ∙ e) ticks in
       subst (λ (l : List ℕ). From l rest) (sym (turned torn q.0 q.1 q.2)) (subst (λ (m : List ℕ). From (q.1 ∷ reverse q.0) m) (sym (popped-is torn rest q.0 q.1 q.2 rest_is)) went)
 
 -- a dead object is forgotten, and is the latest that is torn down
-pub reaches-latest : {p : Loaded} {d : ℕ} {active : List (Option ℕ)} {w v : World} (x : ℕ) (torn after : List ℕ) → length active < d → AreTyped p w.store.tree → is_living w.store.tree x ≡ false → Forgets w torn x v after (Ok tt) → Reaches p d active w (Destroy (Some x) (reverse torn) ∷ []) v (Destroy None (reverse after) ∷ [])
-reaches-latest {p} {d} {active} {w} {v} x torn after room typed gone forgets =
+pub reaches-latest : {p : Loaded} {d : ℕ} {active : List (Option ℕ)} {w v : World} (x : ℕ) (torn after : List ℕ) → length active < d → AgreeIn p w → is_living w.store.tree x ≡ false → Forgets w torn x v after (Ok tt) → Reaches p d active w (Destroy (Some x) (reverse torn) ∷ []) v (Destroy None (reverse after) ∷ [])
+reaches-latest {p} {d} {active} {w} {v} x torn after room agree gone forgets =
     let To : List ℕ → Type 0 = λ l. Reaches p d active w (Destroy (Some x) (reverse torn) ∷ []) v (Destroy None l ∷ []) in
-    subst To (sym (turned after torn x forgets.2)) (reaches-forgotten room typed x (reverse torn) gone forgets.0 forgets.1)
+    subst To (sym (turned after torn x forgets.2)) (reaches-forgotten room agree x (reverse torn) gone forgets.0 forgets.1)
 
 -- by which a rule is used
 pub forgets-fewer : {v : World} (w : World) (x : ℕ) (torn after : List ℕ) → Forgets w torn x v after (Ok tt) → v.left < w.left

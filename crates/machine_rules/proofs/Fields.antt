@@ -1,5 +1,5 @@
--- Values of lists of types, and objects whose properties are written.
-use Rattle.std.proofs.Common.{◌≡◌, ℕ, zero, suc, List, [], ◌∷◌, ◌++◌, length, take, map, Option, Some, slice_get, slice_set, refl, sym, ap, ◌∙◌, subst}
+-- Values of lists of types, and those of properties.
+use Rattle.std.proofs.Common.{◌≡◌, ℕ, zero, suc, List, [], ◌∷◌, ◌++◌, length, take, map, Option, Some, slice_get, refl, sym, ap, ◌∙◌, subst}
 use Rattle.std.specs.Option.{option_map, option_and_then}
 use Rattle.signatures.specs.declared.value.Value.{Value}
 use Rattle.meta_model.specs.declared.object.ValueType.{ValueType}
@@ -10,11 +10,9 @@ use Rattle.meta_model.specs.Loaded.{Loaded}
 use Rattle.meta_model.specs.Members.{IsClass, IsMethod}
 use Rattle.object_tree.specs.declared.life.Life.{Life}
 use Rattle.object_tree.specs.declared.object.Object.{Object}
-use Rattle.object_tree.specs.Objects.{Lives, change_life, with_life, written}
+use Rattle.object_tree.specs.Objects.{Lives, stored}
 use Rattle.object_tree.specs.Typed.{AreTyped, ReadsAs, ReadAs}
-use Rattle.object_tree.proofs.Changing.{get-change_same, life-of-lives, one-life}
-use Rattle.object_tree.proofs.TypedObjects.{typed-written as written-well, reads-still, follow-unwritten}
-use Rattle.machine_state.specs.Objects.{stored}
+use Rattle.object_tree.proofs.Changing.{life-of-lives, one-life}
 use Rattle.machine_rules.specs.There.{IsMember, IsField}
 
 -- ---- what numbers lead to is unique
@@ -82,19 +80,12 @@ read-there p objects (u ∷ vs) [] q k h b = absurd h
 read-there p objects (u ∷ vs) (j ∷ ks) zero k h b = (u, refl)
 read-there p objects (u ∷ vs) (j ∷ ks) (suc q) k h b = read-there p objects vs ks q k h.1 b
 
--- ---- a list with a place set
-
-pub set-get : {X : Type 0} (xs : List X) (k : ℕ) (x y : X) → slice_get xs k ≡ Some x → slice_get (slice_set xs k y) k ≡ Some y
-set-get [] k x y e = absurd (cc e)
-set-get (z ∷ zs) zero x y e = refl
-set-get (z ∷ zs) (suc k) x y e = set-get zs k x y e
-
 pub map-get : {X Y : Type 0} (f : X → Y) (xs : List X) (k : ℕ) (x : X) → slice_get xs k ≡ Some x → slice_get (map f xs) k ≡ Some (f x)
 map-get f [] k x e = absurd (cc e)
 map-get f (y ∷ ys) zero x e = let same : y ≡ x = cc e in ap (λ z. Some (f z)) same
 map-get f (y ∷ ys) (suc k) x e = map-get f ys k x e
 
--- ---- a property that is written
+-- ---- a property that has a value
 
 abbrev pub kind_of : MetaProperty → ValueType
 kind_of q = q.kind
@@ -114,42 +105,3 @@ old-there {p} {objects} {q = q} {property = property} f typed =
 pub stored-reads : {p : Loaded} {objects : List Object} {o q : ℕ} {x : Object} {property : MetaProperty} {v : Value} → IsField p objects o q x property → AreTyped p objects → stored objects o q ≡ Some v → ReadsAs p objects v property.kind
 stored-reads {p} {objects} {q = q} {property = property} {v = v} f typed is =
     read-get p objects _ _ q v property.kind (field-typed f typed) (sym (stored-is q f.lives) ∙ is) (map-get kind_of f.class.properties q property f.is_property)
-
-pub typed-written : {p : Loaded} {objects : List Object} {o q : ℕ} {x : Object} {property : MetaProperty} (new : Value) → IsField p objects o q x property → AreTyped p objects → ReadsAs p objects new property.kind → AreTyped p (change_life o (written q new) objects)
-typed-written {p} {objects} {o} {q} {x} {property} new f typed reads =
-    written-well p objects o q new (record {
-      object = x;
-      life = f.life;
-      lives = f.lives;
-      property = property;
-      is_property = record { class = f.class; is_class = f.is_class; is = f.is_property };
-      reads = reads;
-    }) typed
-
--- the object lives on
-pub lives-written : {objects : List Object} {o : ℕ} {x : Object} {l : Life} (q : ℕ) (new : Value) → Lives objects o x l → Lives (change_life o (written q new) objects) o (with_life (written q new) x) (written q new l)
-lives-written {objects} {o} q new lives = record {
-  is = get-change_same o (with_life (written q new)) objects ∙ ap (option_map (with_life (written q new))) lives.is;
-  lives = ap (option_map (written q new)) lives.lives;
-}
-
--- a value that is written and stays of its type had it
-pub written-typed : {p : Loaded} {objects : List Object} {o q : ℕ} {x : Object} {property : MetaProperty} (new : Value) → IsField p objects o q x property → AreTyped p objects → AreTyped p (change_life o (written q new) objects) → ReadsAs p objects new property.kind
-written-typed {p} {objects} {o} {q} {x} {property} new f typed after =
-    let old = read-there p objects _ _ q property.kind (field-typed f typed) (map-get kind_of f.class.properties q property f.is_property) in
-    let later : List Object = change_life o (written q new) objects in
-    let t = after o (with_life (written q new) x) (written q new f.life) (lives-written q new f.lives) in
-    let kinds : ReadAs p later (slice_set f.life.values q new) (map kind_of f.class.properties) =
-    subst (λ (c : MetaObject). ReadAs p later (slice_set f.life.values q new) (map kind_of c.properties)) (class-unique t.is_class f.is_class) t.typed in
-    let reads = read-get p later _ _ q new property.kind kinds (set-get f.life.values q old.0 new old.1) (map-get kind_of f.class.properties q property f.is_property) in
-    reads-still p later objects (follow-unwritten o q new objects) new property.kind reads
-
--- the property is there after the write
-abbrev pub field-written : {p : Loaded} {objects : List Object} {o q : ℕ} {x : Object} {property : MetaProperty} (new : Value) → IsField p objects o q x property → IsField p (change_life o (written q new) objects) o q (with_life (written q new) x) property
-field-written {q = q} new f = record {
-  life = written q new f.life;
-  lives = lives-written q new f.lives;
-  class = f.class;
-  is_class = f.is_class;
-  is_property = f.is_property;
-}

@@ -14,13 +14,13 @@ use Rattle.event_loops.specs.Queues.{Loop, Queues, items_at, is_before, posted_t
 use Rattle.object_tree.specs.declared.life.Life.{Life}
 use Rattle.object_tree.specs.declared.object.Object.{Object}
 use Rattle.connections.specs.declared.connection.Connection.{Connection}
-use Rattle.machine_state.specs.declared.fault.Fault.{Fault}
 use Rattle.machine_state.specs.declared.world.World.{World}
 use Rattle.machine_state.specs.Worlds.{at}
 use Rattle.machine_state.proofs.Due.{last-used, all-used, all-removed}
-use Rattle.machine_state.specs.State.{State, Place, Activation, Body, Emit, Update, Destroy}
+use Rattle.prop_bindings.specs.declared.place.Place.{Place}
+use Rattle.machine_state.specs.State.{State, Activation, Body, Emit, Update, Destroy}
 use Rattle.machine_rules.specs.Destroying.{Dies, forgotten, deferred, NextRule, ChildRule, DestroyRule, living_child, DefersOnce, Schedules}
-use Rattle.machine_rules.specs.Rules.{RuleAt, BodyRule, Does, EmitRule, UpdateRule, NotifiesIf, Begins, BeginsIf, Writes, begun, with_used, linked, unlinked, TurnRule, Serves, Delivers, Arrives}
+use Rattle.machine_rules.specs.Rules.{RuleAt, BodyRule, Does, EmitRule, UpdateRule, NotifiesIf, Begins, BeginsIf, begun, with_used, linked, unlinked, TurnRule, Serves, Delivers, Arrives}
 use Rattle.machine_rules.specs.Doings.{Doing, Write, Begin, Choose, Connect, Disconnect, Delete, Schedule, Nothing}
 use Rattle.machine_state.specs.Connections.{is_living, next_used, joins_these}
 use Rattle.connections.specs.Connected.{touches}
@@ -28,10 +28,10 @@ use Rattle.machine_state.specs.declared.turn.Turn.{Turn}
 use Rattle.machine_state.specs.Turns.{running, reaches_at_once}
 use Rattle.machine_rules.proofs.Waiting.{length-change, housed-same, home-change}
 use Rattle.meta_model.specs.declared.object.ValueType.{ValueType}
-use Rattle.object_tree.specs.Objects.{Lives, life_of, class_of, change_life, with_life, written, scheduled}
+use Rattle.object_tree.specs.Objects.{Lives, life_of, class_of, change_life, scheduled}
 use Rattle.object_tree.specs.Family.{without_life}
-use Rattle.object_tree.proofs.Changing.{life-of-lives, lives-of-life, length-change as same-length}
-use Rattle.object_tree.specs.Typed.{AreTyped, ReadAs}
+use Rattle.object_tree.proofs.Changing.{life-of-lives, lives-of-life}
+use Rattle.object_tree.specs.Typed.{ReadAs}
 use Rattle.machine_state.specs.declared.entry.Entry.{Entry}
 use Rattle.machine_rules.specs.There.{IsMember, IsDead}
 use Rattle.signatures.specs.Types.{Fits}
@@ -47,11 +47,17 @@ use Rattle.machine_rules.proofs.Lists.{all-snoc}
 use Rattle.machine_rules.proofs.Declared.{member-takes, member-sends}
 use Rattle.machine_rules.proofs.Dying.{lives-or-dead, lives-not-dead, died-stay, died-home, scheduled-stay}
 use Rattle.machine_rules.specs.Runs.{Rules, done, then}
-use Rattle.machine_rules.specs.Sound.{IsDeclared, Takes, Sends, Joined}
+use Rattle.machine_rules.specs.Sound.{IsDeclared, Takes, Sends, Joined, AgreeIn}
 use Rattle.machine_rules.specs.Active.{whose, shows}
-use Rattle.machine_rules.specs.Reaches.{Reaches, StopsIn, Ends}
+use Rattle.machine_rules.specs.Reaches.{Reaches}
+use Rattle.machine_rules.specs.Settling.{Settles, Writes, Installs}
+use Rattle.machine_rules.proofs.Differing.{differ-stay, differ-home}
+use Rattle.machine_state.specs.declared.telling.Cause.{Cause}
+use Rattle.prop_bindings.specs.declared.binding.Binding.{Binding}
+use Rattle.prop_bindings.specs.Changes.{DifferInValues}
+use Rattle.prop_bindings.specs.Fits.{Agree}
 use Rattle.machine_rules.specs.Keeps.{StayThere, AllJoined, Grows, Keeps, KeepsWorld}
-use Rattle.object_tree.proofs.TypedObjects.{Follow, read-still, class-written, seen-written}
+use Rattle.object_tree.proofs.TypedObjects.{Follow, read-still}
 use Rattle.std.specs.Option.{option_map}
 
 -- ---- objects that stay
@@ -117,14 +123,6 @@ stay-then {a} {b} {c} x y = record {
   ];
   dead = λ o is. y.dead o (x.dead o is);
   created = omega (arith, x.created, y.created);
-}
-
--- objects of which one is written
-pub written-stay : (objects : List Object) (o q : ℕ) (new : Value) → StayThere objects (change_life o (written q new) objects)
-written-stay objects o q new = record {
-  living = λ k class is. inl (class-written o q new objects k ∙ is);
-  dead = λ k is. seen-written o q new objects k ∙ is;
-  created = omega (arith, same-length o (with_life (written q new)) objects);
 }
 
 -- ---- connections join what they joined
@@ -211,21 +209,28 @@ begun-kept p s below o x m method arguments (Slot statements) t e = keeps-is e (
 pub begins-kept : {p : Loaded} {s : State} {below : List Activation} {o m : ℕ} {arguments : List Value} {t : State} → Begins p s below o m arguments t → Keeps p s 1 t 0
 begins-kept {p = p} {s = s} {below = below} {o = o} {m = m} {arguments = arguments} {t = t} x = begun-kept p s below o x.object m x.method arguments x.method.work t x.gives
 
-pub writes-kept : {p : Loaded} {s : State} {below : List Activation} {o q : ℕ} {new : Value} {t : State} → Writes p s below o q new t → Keeps p s 1 t 0
-writes-kept {p = p} {s = s} {o = o} {q = q} {new = new} x =
-    let stay : StayThere s.objects (change_life o (written q new) s.objects) = written-stay s.objects o q new in
+-- properties change, and nothing else of the objects
+settles-kept : {p : Loaded} {s : State} {below : List Activation} {cause : Cause} {at : Place} {objects : List Object} {bindings : List Binding} {changed : List Place} {t : State} → DifferInValues s.objects objects → Settles p s below cause at objects bindings changed t → Keeps p s 1 t 0
+settles-kept {p = p} {s = s} {objects = objects} differ x =
+    let stay : StayThere s.objects objects = differ-stay s.objects objects differ in
     keeps-is x.gives (record {
       objects = stay;
-      joined = λ program all. all-joined-still p s.objects _ s.connected.connections stay all;
+      joined = λ program all. all-joined-still p s.objects objects s.connected.connections stay all;
       connected = omega arith;
       paid = omega arith;
-      housed = housed-same s.objects _ s.queues.loops s.queues.loops (home-change o (written q new) s.objects (λ l. refl)) refl;
+      housed = housed-same s.objects objects s.queues.loops s.queues.loops (differ-home s.objects objects differ) refl;
       posted = omega arith;
       no_turn = λ e. e;
       events = refl;
       fewer = omega arith;
-      grows = grows-by _;
+      grows = grows-by x.lines;
     })
+
+pub writes-kept : {p : Loaded} {s : State} {below : List Activation} {o q : ℕ} {new : Value} {t : State} → Writes p s below o q new t → Keeps p s 1 t 0
+writes-kept x = settles-kept x.written.objects x.settles
+
+pub installs-kept : {p : Loaded} {s : State} {below : List Activation} {b : Binding} {t : State} → Installs p s below b t → Keeps p s 1 t 0
+installs-kept x = settles-kept x.differ x.settles
 
 -- a connection is made, or refused
 linked-kept : (p : Loaded) (s : State) (stack : List Activation) (ends : Endpoints) (how : ConnectionType) (names : Named (List ℕ)) (spelled : AreThere p s.objects ends) (answer : Result (Unit {0}) Refusal) → may_connect p s.connected (found_ends spelled) spelled.signal.sig spelled.method.sig how answer → Keeps p s 1 (linked s stack (kept_ends ends) how names answer) 0
@@ -432,10 +437,10 @@ pub rules-kept : {p : Loaded} {d : ℕ} {s t : State} {n k : ℕ} → Rules p d 
 rules-kept done = keeps-same
 rules-kept {p} (then {s = s} {m = m} {n = n} r good rest) = keeps-then (one-kept n (rule-kept p s m s.stack r)) (rules-kept rest)
 
--- .. and properties have values of their types after each
-pub rules-typed : {p : Loaded} {d : ℕ} {s t : State} {n k : ℕ} → Rules p d s n t k → AreTyped p s.objects → AreTyped p t.objects
-rules-typed done typed = typed
-rules-typed (then r good rest) typed = rules-typed rest good.well.values
+-- .. and properties and bindings agree after each
+pub rules-agree : {p : Loaded} {d : ℕ} {s t : State} {n k : ℕ} → Rules p d s n t k → Agree p s.objects s.bindings → Agree p t.objects t.bindings
+rules-agree done agree = agree
+rules-agree (then r good rest) agree = rules-agree rest good.agree
 
 -- a stack that shows this
 abbrev pub some-top : Option ℕ → Activation
@@ -465,17 +470,5 @@ keeps-world x = record { objects = x.objects; joined = x.joined; connected = x.c
 pub reaches-keeps : {p : Loaded} {d : ℕ} {h : List (Option ℕ)} {w v : World} {a b : List Activation} → Reaches p d h w a v b → KeepsWorld p w v
 reaches-keeps {h = h} x = let q = some-stack h in keeps-world (rules-kept (x.runs q.0 q.1))
 
-pub stops-keeps : {p : Loaded} {d : ℕ} {h : List (Option ℕ)} {w v : World} {a : List Activation} {f : Fault} → StopsIn p d h w a v f → KeepsWorld p w v
-stops-keeps {h = h} x = let q = some-stack h in keeps-world (rules-kept ((x.stops q.0 q.1).1))
-
--- whatever a call does, it keeps these
-pub ends-keeps : {p : Loaded} {d : ℕ} {h : List (Option ℕ)} {w v : World} {a b : List Activation} (r : Result (Unit {0}) Fault) → Ends p d h w a v b r → KeepsWorld p w v
-ends-keeps (Ok _) x = reaches-keeps x.cases
-ends-keeps (Err f) x = stops-keeps x.cases
-
-pub reaches-typed : {p : Loaded} {d : ℕ} {h : List (Option ℕ)} {w v : World} {a b : List Activation} → Reaches p d h w a v b → AreTyped p w.store.tree → AreTyped p v.store.tree
-reaches-typed {h = h} x typed = let q = some-stack h in rules-typed (x.runs q.0 q.1) typed
-
-pub ends-typed : {p : Loaded} {d : ℕ} {h : List (Option ℕ)} {w v : World} {a b : List Activation} (r : Result (Unit {0}) Fault) → Ends p d h w a v b r → AreTyped p w.store.tree → AreTyped p v.store.tree
-ends-typed (Ok _) x typed = reaches-typed x.cases typed
-ends-typed {h = h} (Err f) x typed = let q = some-stack h in rules-typed ((x.cases.stops q.0 q.1).1) typed
+pub reaches-agree : {p : Loaded} {d : ℕ} {h : List (Option ℕ)} {w v : World} {a b : List Activation} → Reaches p d h w a v b → AgreeIn p w → AgreeIn p v
+reaches-agree {h = h} x agree = let q = some-stack h in rules-agree (x.runs q.0 q.1) agree

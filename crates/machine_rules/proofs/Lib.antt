@@ -4,12 +4,14 @@ pub mod OneAnswer
 pub mod Frames
 pub mod Dying
 pub mod Waiting
+pub mod Differing
 pub mod Declared
 pub mod Keeps
 pub mod Reaching
 pub mod Fields
 pub mod Beginning
 pub mod Writes
+pub mod Notifying
 pub mod Linking
 pub mod Bodies
 pub mod Reading
@@ -17,5 +19,6 @@ pub mod Yielding
 pub mod Blocks
 pub mod Deleting
 pub mod Soundness
+pub mod Agreeing
 pub mod Turning
 pub mod OneRule

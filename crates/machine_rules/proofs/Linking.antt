@@ -8,19 +8,19 @@ use Rattle.meta_model.specs.Members.{IsMethod}
 use Rattle.object_tree.specs.declared.life.Life.{Life}
 use Rattle.object_tree.specs.declared.object.Object.{Object}
 use Rattle.object_tree.specs.Objects.{Lives}
-use Rattle.object_tree.specs.Typed.{StayTyped}
 use Rattle.machine_rules.specs.There.{IsDead, NoneDied}
 use Rattle.delete_later.specs.declared.store.Store.{Store}
 use Rattle.delete_later.specs.Scheduling.{deferred_to, scheduled_in}
 use Rattle.machine_state.proofs.Deferring.{scheduled-now}
 use Rattle.event_loops.specs.Queues.{name_at}
-use Rattle.object_tree.specs.Typed.{AreTyped}
+use Rattle.prop_bindings.specs.Fits.{Agree}
+use Rattle.machine_rules.specs.Sound.{AgreeIn}
 use Rattle.object_tree.specs.Objects.{life_of, scheduled}
 use Rattle.object_tree.proofs.Changing.{life-of-lives}
-use Rattle.object_tree.proofs.TypedObjects.{typed-change}
 use Rattle.std.specs.Option.{option_map}
 use Rattle.machine_rules.specs.Destroying.{Defers, DefersOnce, Schedules}
 use Rattle.machine_rules.proofs.Dying.{scheduled-seen}
+use Rattle.machine_rules.proofs.Differing.{scheduled-agree}
 use Rattle.machine_state.specs.declared.endpoints.Endpoints.{Endpoints}
 use Rattle.machine_state.specs.declared.entry.Entry.TheVariants.{At}
 use Rattle.machine_state.specs.declared.entry.Happening.TheVariants.{Connected, Disconnected, Refused, Scheduled}
@@ -30,9 +30,9 @@ use Rattle.machine_state.specs.declared.refusal.Refusal.TheVariants.{NoConnectio
 use Rattle.machine_state.specs.declared.world.World.{World}
 use Rattle.machine_state.specs.Refusals.{refusal_number}
 use Rattle.machine_state.specs.State.{State, Activation}
-use Rattle.machine_state.specs.Worlds.{at, noted, connecting, disconnecting, scheduling, Becomes}
+use Rattle.machine_state.specs.Worlds.{at, noted, connecting, disconnecting, scheduling, GoesTo}
 use Rattle.machine_rules.specs.Connecting.{AreThere, kept_ends, may_disconnect}
-use Rattle.machine_rules.specs.Reaches.{IsJudged, LacksEnds, NamesEnds, Went, Stays, ConnectsIn, DisconnectsIn, SchedulesIn}
+use Rattle.machine_rules.specs.Reaches.{IsJudged, LacksEnds, NamesEnds, Went, Stalls, ConnectsIn, DisconnectsIn, SchedulesIn}
 use Rattle.machine_rules.specs.Rules.{Connects, Disconnects}
 use Rattle.machine_rules.proofs.Fields.{member-at}
 use Rattle.machine_rules.proofs.Fitting.{named-there}
@@ -76,21 +76,21 @@ second-fails false b e h = absurd (cc h)
 
 module _ (What : State → List Activation → State → Type 0) (w v : World) (depth : ℕ) where
   -- one rule was carried out, to this world where so many activations are on the stack, or memory was refused
-  came : (target : ℕ → World) (r : Result (Unit {0}) Fault) → ((old stack : List Activation) → What (at w old) stack (at (target (length stack)) stack)) → ((n : ℕ) → StayTyped w.store.tree (target n).store.tree) → ((n : ℕ) → NoneDied w.store.tree (target n).store.tree) → ((n : ℕ) → (target n).left ≡ w.left - 1) →
-      Becomes w (target depth) v r → MatchResult r (λ _. Went What w depth v) (Stays What w v)
-  came target (Ok _) tells typed spared left v_is = record {
+  came : (target : ℕ → World) (r : Result (Unit {0}) Fault) → ((old stack : List Activation) → What (at w old) stack (at (target (length stack)) stack)) → ((n : ℕ) (p : Loaded) → AgreeIn p w → AgreeIn p (target n)) → ((n : ℕ) → NoneDied w.store.tree (target n).store.tree) → ((n : ℕ) → (target n).left ≡ w.left - 1) →
+      GoesTo w (target depth) v r → MatchResult r (λ _. Went What w depth v) (Stalls What w v)
+  came target (Ok _) tells agree spared left v_is = record {
     tells = λ old stack e.
         let In : World → Type 0 = λ u. What (at w old) stack (at u stack) in
         let High : ℕ → Type 0 = λ n. What (at w old) stack (at (target n) stack) in
         subst In (sym v_is) (subst High e (tells old stack));
-    typed = subst (λ (u : World). StayTyped w.store.tree u.store.tree) (sym v_is) (typed depth);
+    agree = λ p before. subst (λ (u : World). AgreeIn p u) (sym v_is) (agree depth p before);
     spared = subst (λ (u : World). NoneDied w.store.tree u.store.tree) (sym v_is) (spared depth);
     left = ap (λ (u : World). u.left) v_is ∙ left depth;
   }
-  came target (Err f) tells typed spared left short = record { same = short.1; why = inr short.0 }
+  came target (Err f) tells agree spared left short = record { same = short.1; why = inr short.0 }
 
 -- an object is scheduled for deletion
-pub schedule-made : (w v : World) (depth x : ℕ) {y : Object} {l : Life} {loop : List ℕ} (r : Result (Unit {0}) Fault) → Lives w.store.tree x y l → l.scheduled ≡ false → Some loop ≡ name_at w.store.loops.loops l.home → Becomes w (scheduling w (At depth (Scheduled loop y.name) ∷ []) x) v r → SchedulesIn w depth x v r
+pub schedule-made : (w v : World) (depth x : ℕ) {y : Object} {l : Life} {loop : List ℕ} (r : Result (Unit {0}) Fault) → Lives w.store.tree x y l → l.scheduled ≡ false → Some loop ≡ name_at w.store.loops.loops l.home → GoesTo w (scheduling w (At depth (Scheduled loop y.name) ∷ []) x) v r → SchedulesIn w depth x v r
 schedule-made w v depth x {y} {l} {loop} r lives unmarked named becomes =
     let life_is : life_of w.store.tree x ≡ Some l = life-of-lives lives in
     let made : scheduled_in x w.store ≡ deferred_to l.home x w.store = scheduled-now x w.store l life_is unmarked in
@@ -109,35 +109,35 @@ schedule-made w v depth x {y} {l} {loop} r lives unmarked named becomes =
     let Once : Bool → Type 0 = λ b. DefersOnce s stack l.home x t b in
     let Life_is : Option Life → Type 0 = λ life. Schedules s stack x t life in
     subst Life_is (sym life_is) (subst Once (sym unmarked) defers))
-    (λ n p typed. subst (λ (store : Store). AreTyped p store.tree) (sym made) (typed-change p x scheduled w.store.tree (λ k. refl) typed))
+    (λ n p before. subst (λ (store : Store). Agree p store.tree store.bindings) (sym made) (scheduled-agree p w.store.tree w.store.bindings x before))
     (λ n o gone. sym (scheduled-seen w.store.tree x o) ∙ subst (λ (store : Store). IsDead store.tree o) made gone)
     (λ n. refl) becomes
 
 module _ (p : Loaded) (w v : World) (depth : ℕ) (ends : Endpoints) where
   -- the connect is refused
-  pub connect-refused : {how : ConnectionType} {k : Refusal} (r : Result (Unit {0}) Fault) → IsJudged p w ends how (Err k) → Becomes w (noted w (At depth (Refused (refusal_number k)) ∷ [])) v r → ConnectsIn p w depth ends how v r
+  pub connect-refused : {how : ConnectionType} {k : Refusal} (r : Result (Unit {0}) Fault) → IsJudged p w ends how (Err k) → GoesTo w (noted w (At depth (Refused (refusal_number k)) ∷ [])) v r → ConnectsIn p w depth ends how v r
   connect-refused {how = how} {k = k} r j becomes =
       came (λ s stack t. Connects p s stack ends how t) w v depth (λ n. noted w (At n (Refused (refusal_number k)) ∷ [])) r
       (λ old stack. record { spelled = j.spelled; kept = kept-there j.spelled; answer = Err k; judged = j.is; gives = refl })
-      (λ n p typed. typed) (λ n o gone. gone) (λ n. refl) becomes
+      (λ n p before. before) (λ n o gone. gone) (λ n. refl) becomes
 
   -- .. made
-  pub connect-made : {how : ConnectionType} {done : Unit {0}} {names : Named (List ℕ)} (r : Result (Unit {0}) Fault) → IsJudged p w ends how (Ok done) → NamesEnds p w.store.tree (kept_ends ends) names → Becomes w (connecting w (At depth (Connected names how) ∷ []) (kept_ends ends) how) v r → ConnectsIn p w depth ends how v r
+  pub connect-made : {how : ConnectionType} {done : Unit {0}} {names : Named (List ℕ)} (r : Result (Unit {0}) Fault) → IsJudged p w ends how (Ok done) → NamesEnds p w.store.tree (kept_ends ends) names → GoesTo w (connecting w (At depth (Connected names how) ∷ []) (kept_ends ends) how) v r → ConnectsIn p w depth ends how v r
   connect-made {how = how} {done = done} {names = names} r j named becomes =
       came (λ s stack t. Connects p s stack ends how t) w v depth (λ n. connecting w (At n (Connected names how) ∷ []) (kept_ends ends) how) r
       (λ old stack. record { spelled = j.spelled; kept = named.there; answer = Ok done; judged = j.is; gives = ap (λ (l : Named (List ℕ)). at (connecting w (At (length stack) (Connected l how) ∷ []) (kept_ends ends) how) stack) named.is })
-      (λ n p typed. typed) (λ n o gone. gone) (λ n. refl) becomes
+      (λ n p before. before) (λ n o gone. gone) (λ n. refl) becomes
 
   -- there is nothing to be removed
-  pub disconnect-refused : {names : Named (List ℕ)} (r : Result (Unit {0}) Fault) → NamesEnds p w.store.tree (kept_ends ends) names → may_disconnect w.store.connections (kept_ends ends) (Err NoConnection) → Becomes w (noted w (At depth (Refused (refusal_number NoConnection)) ∷ [])) v r → DisconnectsIn p w depth ends v r
+  pub disconnect-refused : {names : Named (List ℕ)} (r : Result (Unit {0}) Fault) → NamesEnds p w.store.tree (kept_ends ends) names → may_disconnect w.store.connections (kept_ends ends) (Err NoConnection) → GoesTo w (noted w (At depth (Refused (refusal_number NoConnection)) ∷ [])) v r → DisconnectsIn p w depth ends v r
   disconnect-refused r named judged becomes =
       came (λ s stack t. Disconnects p s stack ends t) w v depth (λ n. noted w (At n (Refused (refusal_number NoConnection)) ∷ [])) r
       (λ old stack. record { kept = named.there; answer = Err NoConnection; judged = judged; gives = refl })
-      (λ n p typed. typed) (λ n o gone. gone) (λ n. refl) becomes
+      (λ n p before. before) (λ n o gone. gone) (λ n. refl) becomes
 
   -- .. it is removed
-  pub disconnect-made : {names : Named (List ℕ)} (r : Result (Unit {0}) Fault) → NamesEnds p w.store.tree (kept_ends ends) names → may_disconnect w.store.connections (kept_ends ends) (Ok tt) → Becomes w (disconnecting w (At depth (Disconnected names) ∷ []) (kept_ends ends)) v r → DisconnectsIn p w depth ends v r
+  pub disconnect-made : {names : Named (List ℕ)} (r : Result (Unit {0}) Fault) → NamesEnds p w.store.tree (kept_ends ends) names → may_disconnect w.store.connections (kept_ends ends) (Ok tt) → GoesTo w (disconnecting w (At depth (Disconnected names) ∷ []) (kept_ends ends)) v r → DisconnectsIn p w depth ends v r
   disconnect-made {names = names} r named judged becomes =
       came (λ s stack t. Disconnects p s stack ends t) w v depth (λ n. disconnecting w (At n (Disconnected names) ∷ []) (kept_ends ends)) r
       (λ old stack. record { kept = named.there; answer = Ok tt; judged = judged; gives = ap (λ (l : Named (List ℕ)). at (disconnecting w (At (length stack) (Disconnected l) ∷ []) (kept_ends ends)) stack) named.is })
-      (λ n p typed. typed) (λ n o gone. gone) (λ n. refl) becomes
+      (λ n p before. before) (λ n o gone. gone) (λ n. refl) becomes

@@ -1,5 +1,5 @@
 -- From one state at most one follows by a rule.
-use Rattle.std.proofs.Common.{◌≡◌, ℕ, List, [], ◌∷◌, length, take, Option, Some, None, Result, refl, sym, ap, ◌∙◌, subst, Bool, true, false}
+use Rattle.std.proofs.Common.{◌≡◌, ℕ, suc, List, [], ◌∷◌, ◌++◌, length, take, Option, Some, None, Result, refl, sym, ap, ◌∙◌, subst, Bool, true, false}
 use Rattle.signatures.specs.declared.value.Value.{Value}
 use Rattle.meta_model.specs.declared.object.MetaMethod.{MetaMethod}
 use Rattle.meta_model.specs.declared.object.MetaProperty.{MetaProperty}
@@ -14,16 +14,23 @@ use Rattle.event_loops.specs.declared.item.Item.TheVariants.{Call, Deletion}
 use Rattle.event_loops.specs.declared.item.Posted.{Posted}
 use Rattle.event_loops.specs.Queues.{items_at, is_before, taken_before}
 use Rattle.object_tree.specs.declared.object.Object.{Object}
-use Rattle.object_tree.specs.Objects.{change_life, written, life_of}
-use Rattle.object_tree.specs.Seen.{seen}
+use Rattle.object_tree.specs.Objects.{life_of}
 use Rattle.connections.specs.declared.connection.Connection.{Connection}
-use Rattle.machine_state.specs.declared.entry.Entry.TheVariants.{At}
-use Rattle.machine_state.specs.declared.entry.Happening.TheVariants.{Written}
+use Rattle.machine_state.specs.declared.entry.Entry.{Entry}
+use Rattle.machine_state.specs.declared.telling.Cause.{Cause}
+use Rattle.machine_state.specs.Telling.{AreTold}
+use Rattle.machine_state.proofs.Told.{told-once}
+use Rattle.prop_bindings.specs.declared.binding.Binding.{Binding}
+use Rattle.prop_bindings.specs.Places.{property_of}
+use Rattle.prop_bindings.specs.Bindings.{binding_at, without, replaced, Loop}
+use Rattle.prop_bindings.specs.Changes.{IsInstalled}
+use Rattle.prop_bindings.specs.Fits.{Agree}
+use Rattle.prop_bindings.proofs.Once.{written_once, installed_once}
 use Rattle.machine_state.specs.Connections.{is_living, next_used}
-use Rattle.machine_state.specs.Objects.{shown}
 use Rattle.machine_state.specs.declared.turn.Turn.{Turn}
 use Rattle.machine_state.specs.Turns.{running, reaches_at_once}
-use Rattle.machine_state.specs.State.{State, Place, Activation, Body, Emit, Update, Destroy}
+use Rattle.prop_bindings.specs.declared.place.Place.{Place}
+use Rattle.machine_state.specs.State.{State, Activation, Body, Emit, Update, Destroy}
 use Rattle.signatures.specs.declared.sig.Sig.{Sig}
 use Rattle.texts.specs.declared.connection.ConnectionType.{ConnectionType}
 use Rattle.texts.specs.declared.connection.Endpoints.{Endpoints as Named}
@@ -36,7 +43,8 @@ use Rattle.machine_rules.specs.Judgement.{HasOneAnswer}
 use Rattle.machine_rules.proofs.OneAnswer.{one-check, one-then}
 use Rattle.machine_rules.specs.Destroying.{Dies, died, NextRule, ChildRule, DestroyRule, living_child, Defers, deferred, DefersOnce, Schedules}
 use Rattle.machine_rules.specs.Doings.{Doing, Write, Begin, Choose, Connect, Disconnect, Delete, Schedule, Nothing}
-use Rattle.machine_rules.specs.Rules.{Rule, RuleAt, BodyRule, Does, EmitRule, Uses, UpdateRule, Notifies, NotifiesIf, Begins, BeginsIf, Writes, Changes, places_of, changed, unchanged, silent, begun, pushed, with_used, Connects, Disconnects, linked, unlinked, Arrives, posted, TurnRule, Serves, Delivers}
+use Rattle.machine_rules.specs.Rules.{Rule, RuleAt, BodyRule, Does, EmitRule, Uses, UpdateRule, Notifies, NotifiesIf, Begins, BeginsIf, begun, with_used, Connects, Disconnects, linked, unlinked, Arrives, posted, TurnRule, Serves, Delivers}
+use Rattle.machine_rules.specs.Settling.{Settles, Writes, Installs, notified}
 use Rattle.machine_rules.proofs.Fields.{some-is, life-unique, method-unique, member-object, member-method, field-property}
 
 -- two methods of one number of one life's class
@@ -55,27 +63,35 @@ begins-one {s = s} {below = below} {o = o} {m = m} {arguments = arguments} a b =
     ∙ ap (λ (k : MetaMethod). begun s below o b.object m k arguments k.work) method_is
     ∙ sym b.gives
 
-changes-one : {old new : Value} {notify a b : Option ℕ} → Changes old new notify a → Changes old new notify b → a ≡ b
-changes-one (changed h) (changed g) = refl
-changes-one (changed h) (unchanged g) = absurd (h g)
-changes-one (unchanged h) (changed g) = absurd (g h)
-changes-one (unchanged h) (unchanged g) = refl
-changes-one silent silent = refl
-
-pub writes-one : {p : Loaded} {s t u : State} {below : List Activation} {o q : ℕ} {new : Value} → Writes p s below o q new t → Writes p s below o q new u → t ≡ u
-writes-one {s = s} {below = below} {o = o} {q = q} {new = new} a b =
-    let object_is : a.object ≡ b.object = some-is a.is.lives.is b.is.lives.is in
-    let property_is : a.property ≡ b.property = field-property a.is b.is in
-    let old_is : a.old ≡ b.old = some-is a.is_old b.is_old in
-    let Of : Value → MetaProperty → Type 0 = λ v k. Changes (seen s.objects v) (seen s.objects new) k.notify b.signal in
-    let changes : Of a.old a.property = subst (λ (v : Value). Of v a.property) (sym old_is) (subst (λ (k : MetaProperty). Of b.old k) (sym property_is) b.changes) in
-    let signal_is : a.signal ≡ b.signal = changes-one a.changes changes in
-    let state_of : Object → MetaProperty → Option ℕ → State = λ x k g. pushed (record s { objects = change_life o (written q new) s.objects }) (Update (places_of o q g)) below (λ d. At d (Written x.name k.name (shown s.objects new)) ∷ []) in
+-- what changes with a property is written down in one way
+settles-one : {p : Loaded} {s t u : State} {below : List Activation} {cause : Cause} {at : Place} {bindings : List Binding} {objects others : List Object} {changed more : List Place} → objects ≡ others → changed ≡ more → Settles p s below cause at objects bindings changed t → Settles p s below cause at others bindings more u → t ≡ u
+settles-one {p} {s} {below = below} {cause} {at} {bindings} {objects} {others} {changed} {more} objects_are changed_are a b =
+    let Told : List Object → List Place → Type 0 = λ xs places. AreTold p xs (suc (length below)) cause at places b.lines in
+    let told : Told objects changed = subst (λ (xs : List Object). Told xs changed) (sym objects_are) (subst (λ (places : List Place). Told others places) (sym changed_are) b.told) in
+    let lines_are : a.lines ≡ b.lines = told-once p objects (suc (length below)) cause at changed a.lines b.lines a.told told in
+    let state_of : List Object → List Place → List Entry → State = λ xs places lines.
+    record s { objects = xs; bindings = bindings; stack = Update (notified p xs places) ∷ below; trace = s.trace ++ lines } in
     a.gives
-    ∙ ap (λ (x : Object). state_of x a.property a.signal) object_is
-    ∙ ap (λ (k : MetaProperty). state_of b.object k a.signal) property_is
-    ∙ ap (λ (g : Option ℕ). state_of b.object b.property g) signal_is
+    ∙ ap (λ (xs : List Object). state_of xs changed a.lines) objects_are
+    ∙ ap (λ (places : List Place). state_of others places a.lines) changed_are
+    ∙ ap (λ (lines : List Entry). state_of others more lines) lines_are
     ∙ sym b.gives
+
+pub writes-one : {p : Loaded} {s t u : State} {below : List Activation} {o q : ℕ} {new : Value} → Agree p s.objects s.bindings → Writes p s below o q new t → Writes p s below o q new u → t ≡ u
+writes-one {p} {s} {o = o} {q = q} {new = new} agree a b =
+    let cs : List Binding = without (property_of o q) s.bindings in
+    let one = written_once p s.bindings s.objects (property_of o q) new agree cs cs a.objects b.objects a.changed b.changed a.written b.written in
+    settles-one one.1 one.2 a.settles b.settles
+
+-- .. and so it is with a binding that is installed, unless it closes a chain
+abbrev installed-is : {p : Loaded} {s t : State} {below : List Activation} {b : Binding} → (¬ Loop (binding_at (replaced s.bindings b))) → (x : Installs p s below b t) → IsInstalled s.bindings (replaced s.bindings b) s.objects x.objects b x.changed
+installed-is acyclic x = record { bindings = refl; acyclic = acyclic; objects = x.differ; settled = x.settled; kept = x.kept; changes = x.changes }
+
+pub installs-one : {p : Loaded} {s t u : State} {below : List Activation} {b : Binding} → Agree p s.objects s.bindings → (¬ Loop (binding_at (replaced s.bindings b))) → Installs p s below b t → Installs p s below b u → t ≡ u
+installs-one {p} {s} {b = b} agree acyclic x y =
+    let cs : List Binding = replaced s.bindings b in
+    let one = installed_once p s.bindings s.objects b agree cs cs x.objects y.objects x.changed y.changed (installed-is acyclic x) (installed-is acyclic y) in
+    settles-one one.1 one.2 x.settles y.settles
 
 -- the names at two ends
 names-one : {p : Loaded} {objects : List Object} {ends : Endpoints} (a b : AreThere p objects ends) → names_of a ≡ names_of b
@@ -148,23 +164,23 @@ schedules-one s t u stack x (Some l) a b = by_mark l.scheduled a b
 
 -- ---- bodies
 
-does-one : (p : Loaded) (s : State) (o m : ℕ) (arguments : List Value) (rest : List Statement) (below : List Activation) (d : Doing) (t u : State) → Does p s o m arguments rest below d t → Does p s o m arguments rest below d u → t ≡ u
-does-one p s o m arguments rest below (Write x q new) t u a b = writes-one a b
-does-one p s o m arguments rest below (Begin x n given) t u a b = begins-one a b
-does-one p s o m arguments rest below (Choose block) t u a b = a ∙ sym b
-does-one p s o m arguments rest below (Connect ends how) t u a b = connects-one a b
-does-one p s o m arguments rest below (Disconnect ends) t u a b = disconnects-one a b
-does-one p s o m arguments rest below (Delete x) t u a b = a ∙ sym b
-does-one p s o m arguments rest below (Schedule x) t u a b = schedules-one s t u (Body o m arguments rest ∷ below) x (life_of s.objects x) a b
-does-one p s o m arguments rest below Nothing t u a b = a ∙ sym b
+does-one : (p : Loaded) (s : State) (o m : ℕ) (arguments : List Value) (rest : List Statement) (below : List Activation) (d : Doing) (t u : State) → Agree p s.objects s.bindings → Does p s o m arguments rest below d t → Does p s o m arguments rest below d u → t ≡ u
+does-one p s o m arguments rest below (Write x q new) t u agree a b = writes-one agree a b
+does-one p s o m arguments rest below (Begin x n given) t u agree a b = begins-one a b
+does-one p s o m arguments rest below (Choose block) t u agree a b = a ∙ sym b
+does-one p s o m arguments rest below (Connect ends how) t u agree a b = connects-one a b
+does-one p s o m arguments rest below (Disconnect ends) t u agree a b = disconnects-one a b
+does-one p s o m arguments rest below (Delete x) t u agree a b = a ∙ sym b
+does-one p s o m arguments rest below (Schedule x) t u agree a b = schedules-one s t u (Body o m arguments rest ∷ below) x (life_of s.objects x) a b
+does-one p s o m arguments rest below Nothing t u agree a b = a ∙ sym b
 
-body-one : (p : Loaded) (s : State) (o m : ℕ) (arguments : List Value) (below : List Activation) (t u : State) (left : List Statement) → BodyRule p s o m arguments below t left → BodyRule p s o m arguments below u left → t ≡ u
-body-one p s o m arguments below t u [] a b = a ∙ sym b
-body-one p s o m arguments below t u (x ∷ rest) a b =
+body-one : (p : Loaded) (s : State) (o m : ℕ) (arguments : List Value) (below : List Activation) (t u : State) (left : List Statement) → Agree p s.objects s.bindings → BodyRule p s o m arguments below t left → BodyRule p s o m arguments below u left → t ≡ u
+body-one p s o m arguments below t u [] agree a b = a ∙ sym b
+body-one p s o m arguments below t u (x ∷ rest) agree a b =
     let both : Some a.what ≡ Some b.what = sym a.is ∙ b.is in
     let same : a.what ≡ b.what = cc both in
     let Done : Doing → Type 0 = λ d. Does p s o m arguments rest below d u in
-    does-one p s o m arguments rest below a.what t u a.does (subst Done (sym same) b.does)
+    does-one p s o m arguments rest below a.what t u agree a.does (subst Done (sym same) b.does)
 
 arrives-one : {t u : State} (s : State) (stack : List Activation) (home o : ℕ) (x : Object) (m : ℕ) (method : MetaMethod) (arguments : List Value) (b : Bool) → Arrives s stack home o x m method arguments t b → Arrives s stack home o x m method arguments u b → t ≡ u
 arrives-one s stack home o x m method arguments true a b = a ∙ sym b
@@ -229,12 +245,12 @@ turn-one : (p : Loaded) (s t u : State) (turn : Option Turn) → TurnRule p s t 
 turn-one p s t u None a b = absurd a
 turn-one p s t u (Some turn) a b = serves-one p s t u turn (find (is_before turn.limit) (items_at s.queues.loops turn.home)) a b
 
-stack-one : (p : Loaded) (s t u : State) (stack : List Activation) → RuleAt p s t stack → RuleAt p s u stack → t ≡ u
-stack-one p s t u [] a b = turn-one p s t u s.turn a b
-stack-one p s t u (Body o m arguments left ∷ below) a b = body-one p s o m arguments below t u left a b
-stack-one p s t u (Emit o g arguments used last ∷ below) a b = emit-one p s o g arguments last below t u (next_used s.objects s.connected.connections o g used last) a b
-stack-one p s t u (Update places ∷ below) a b = update-one p s below t u places a b
-stack-one p s t u (Destroy next torn ∷ below) a b = destroy-one s below t u next torn a b
+stack-one : (p : Loaded) (s t u : State) (stack : List Activation) → Agree p s.objects s.bindings → RuleAt p s t stack → RuleAt p s u stack → t ≡ u
+stack-one p s t u [] agree a b = turn-one p s t u s.turn a b
+stack-one p s t u (Body o m arguments left ∷ below) agree a b = body-one p s o m arguments below t u left agree a b
+stack-one p s t u (Emit o g arguments used last ∷ below) agree a b = emit-one p s o g arguments last below t u (next_used s.objects s.connected.connections o g used last) a b
+stack-one p s t u (Update places ∷ below) agree a b = update-one p s below t u places a b
+stack-one p s t u (Destroy next torn ∷ below) agree a b = destroy-one s below t u next torn a b
 
-pub rule-one : (p : Loaded) (s t u : State) → Rule p s t → Rule p s u → t ≡ u
-rule-one p s t u a b = stack-one p s t u s.stack a b
+pub rule-one : (p : Loaded) (s t u : State) → Agree p s.objects s.bindings → Rule p s t → Rule p s u → t ≡ u
+rule-one p s t u agree a b = stack-one p s t u s.stack agree a b

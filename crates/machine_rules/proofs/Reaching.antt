@@ -1,22 +1,25 @@
 -- How runs are put together.
 use Rattle.std.proofs.Common.{◌≡◌, ℕ, suc, ◌+◌, ◌-◌, ◌<◌, ◌≤◌, inl, inr, Option, IsTrue, List, [], ◌∷◌, ◌++◌, length, Result, Ok, Err, refl, sym, subst, arith, length-append}
+use Rattle.std.specs.Prelude.{OnOk}
 use Rattle.std.specs.Result.{IsErrAnd}
 use Rattle.meta_model.specs.Loaded.{Loaded}
 use Rattle.expressions.specs.declared.evaluation.EvalFault.{EvalFault}
 use Rattle.expressions.specs.declared.evaluation.EvalFault.TheVariants as eval
 use Rattle.machine_state.specs.declared.fault.Fault.{Fault}
-use Rattle.machine_state.specs.declared.fault.Fault.TheVariants.{BadType, TooDeep, InUse, Steps, Memory, Stopped}
+use Rattle.machine_state.specs.declared.fault.Fault.TheVariants.{BadType, TooDeep, BindingLoop, InUse, Steps, Memory, Stopped}
 use Rattle.machine_state.specs.declared.world.World.{World}
 use Rattle.machine_state.specs.State.{State, Activation, IsIdle}
 use Rattle.machine_rules.specs.Rules.{Rule}
-use Rattle.object_tree.specs.Typed.{AreTyped}
+use Rattle.signatures.specs.declared.value.Value.{Value}
+use Rattle.prop_bindings.specs.Fits.{Agree}
 use Rattle.object_tree.specs.declared.object.Object.{Object}
-use Rattle.machine_rules.specs.There.{IsDead, NoneDied}
+use Rattle.machine_rules.specs.There.{IsDead, NoneDied, LacksField}
+use Rattle.machine_rules.specs.Sound.{AgreeIn}
 use Rattle.machine_rules.specs.Good.{has_body, IsWell, Spares, IsGood, TopFits}
-use Rattle.machine_rules.specs.Runs.{Rules, done, then, IsStuck, GoesIll, GoesFatal, GoesDeep, Reason}
-use Rattle.machine_state.specs.Worlds.{at, Ticks, Becomes}
+use Rattle.machine_rules.specs.Runs.{Rules, done, then, WritesNext, WritesIll, WritesDeep, IsStuck, GoesIll, GoesFatal, GoesDeep, Reason}
+use Rattle.machine_state.specs.Worlds.{at, KeepsTheRest, Ticks, GoesTo}
 use Rattle.machine_rules.specs.Active.{shows}
-use Rattle.machine_rules.specs.Reaches.{Reaches, StopsIn, Ends}
+use Rattle.machine_rules.specs.Reaches.{Reaches, Leaves, StopsIn, Ends}
 use Rattle.machine_rules.proofs.Frames.{high, shows-over}
 use Rattle.machine_state.specs.Faults.{IsFaultOf}
 
@@ -37,7 +40,7 @@ pub reaches-then : {p : Loaded} {d : ℕ} {h : List (Option ℕ)} {w v u : World
 reaches-then x y = record { runs = λ below e. rules-trans (x.runs below e) (y.runs below e) }
 
 pub stops-after : {p : Loaded} {d : ℕ} {h : List (Option ℕ)} {w v u : World} {a b : List Activation} {f : Fault} → Reaches p d h w a v b → StopsIn p d h v b u f → StopsIn p d h w a u f
-stops-after x y = record { stops = λ below e. let q = y.stops below e in (q.0, rules-trans (x.runs below e) q.1, q.2) }
+stops-after x y = record { stops = λ below e. let q = y.stops below e in (q.0, q.1, q.2, rules-trans (x.runs below e) q.3, q.4) }
 
 -- a call that goes on from where another run came
 pub ends-after : {p : Loaded} {d : ℕ} {h : List (Option ℕ)} {w v u : World} {a b c : List Activation} {r : Result (Unit {0}) Fault} → Reaches p d h w a v b → Ends p d h v b u c r → Ends p d h w a u c r
@@ -52,21 +55,21 @@ pub same-spared : {old new : List Object} → new ≡ old → NoneDied old new
 same-spared e o gone = subst (λ (objects : List Object). IsDead objects o) e gone
 
 -- one rule that pushes nothing, to a world with one rule fewer left
-pub reaches-low : {p : Loaded} {d : ℕ} {h : List (Option ℕ)} {w v : World} {a b : List Activation} → ((below : List Activation) → shows below ≡ h → Rule p (at w (a ++ below)) (at v (b ++ below))) → NoneDied w.store.tree v.store.tree → length b ≤ length a → length b + length h ≤ d → AreTyped p v.store.tree → v.left ≡ w.left - 1 → 0 < w.left → Reaches p d h w a v b
-reaches-low {p} {d} {h} {w} {v} {a} {b} step none low fits typed less some = record {
+pub reaches-low : {p : Loaded} {d : ℕ} {h : List (Option ℕ)} {w v : World} {a b : List Activation} → ((below : List Activation) → shows below ≡ h → Rule p (at w (a ++ below)) (at v (b ++ below))) → NoneDied w.store.tree v.store.tree → length b ≤ length a → length b + length h ≤ d → AgreeIn p v → v.left ≡ w.left - 1 → 0 < w.left → Reaches p d h w a v b
+reaches-low {p} {d} {h} {w} {v} {a} {b} step none low fits agree less some = record {
   runs = λ below e.
       let shallow : length (b ++ below) ≤ d = omega (arith, length-append b below, high below e, fits) in
       let no_higher : length (b ++ below) ≤ length (a ++ below) = omega (arith, length-append b below, length-append a below, low) in
-      let good : IsGood p d (at w (a ++ below)) (at v (b ++ below)) = record { well = record { arguments = λ higher. absurd (omega (arith, higher, no_higher)); values = typed }; spared = none-spared w.store.tree v.store.tree (a ++ below) none; shallow = shallow } in
+      let good : IsGood p d (at w (a ++ below)) (at v (b ++ below)) = record { well = record { arguments = λ higher. absurd (omega (arith, higher, no_higher)); values = agree.typed }; spared = none-spared w.store.tree v.store.tree (a ++ below) none; agree = agree; shallow = shallow } in
       rules-one (step below e) good some less;
 }
 
 -- one rule that pushes an activation, over a stack that shows `active`
-pub reaches-high : {p : Loaded} {d : ℕ} {h active : List (Option ℕ)} {w v : World} {from : List Activation} {top : Activation} {to : List Activation} → active ≡ shows to ++ h → ((below : List Activation) → shows below ≡ h → Rule p (at w (from ++ below)) (at v (top ∷ to ++ below))) → ((below : List Activation) → shows below ≡ h → Spares (at w (from ++ below)) (at v (top ∷ to ++ below))) → ((below : List Activation) → TopFits p v.store.tree (top ∷ to ++ below)) → length active < d → AreTyped p v.store.tree → v.left ≡ w.left - 1 → 0 < w.left → Reaches p d h w from v (top ∷ to)
-reaches-high {p} {d} {h} {active} {w} {v} {from} {top} {to} over step spared fit room typed less some = record {
+pub reaches-high : {p : Loaded} {d : ℕ} {h active : List (Option ℕ)} {w v : World} {from : List Activation} {top : Activation} {to : List Activation} → active ≡ shows to ++ h → ((below : List Activation) → shows below ≡ h → Rule p (at w (from ++ below)) (at v (top ∷ to ++ below))) → ((below : List Activation) → shows below ≡ h → Spares (at w (from ++ below)) (at v (top ∷ to ++ below))) → ((below : List Activation) → TopFits p v.store.tree (top ∷ to ++ below)) → length active < d → AgreeIn p v → v.left ≡ w.left - 1 → 0 < w.left → Reaches p d h w from v (top ∷ to)
+reaches-high {p} {d} {h} {active} {w} {v} {from} {top} {to} over step spared fit room agree less some = record {
   runs = λ below e.
       let shallow : length (top ∷ to ++ below) ≤ d = omega (arith, high (to ++ below) (shows-over to below over e), room) in
-      let good : IsGood p d (at w (from ++ below)) (at v (top ∷ to ++ below)) = record { well = record { arguments = λ higher. fit below; values = typed }; spared = spared below e; shallow = shallow } in
+      let good : IsGood p d (at w (from ++ below)) (at v (top ∷ to ++ below)) = record { well = record { arguments = λ higher. fit below; values = agree.typed }; spared = spared below e; agree = agree; shallow = shallow } in
       rules-one (step below e) good some less;
 }
 
@@ -76,22 +79,30 @@ reaches-high {p} {d} {h} {active} {w} {v} {from} {top} {to} over step spared fit
 pub not-idle : (w : World) (a : Activation) (below : List Activation) → ¬ IsIdle (at w (a ∷ below))
 not-idle w a below idle = let none : (a ∷ below) ≡ [] = idle.empty in absurd (cc none)
 
+-- the world is as it was
+pub left-same : (w : World) (f : Fault) → Leaves w w f
+left-same w f = (refl, λ other. refl)
+
 -- no rule is left where one is due
 pub stops-steps : {p : Loaded} {d : ℕ} {h : List (Option ℕ)} {w : World} {a : Activation} → w.left ≡ 0 → StopsIn p d h w (a ∷ []) w Steps
-stops-steps {w = w} {a = a} none = record { stops = λ below e. (a ∷ below, done, (none, not-idle w a below)) }
+stops-steps {w = w} {a = a} none = record { stops = λ below e. (w, a ∷ below, left-same w Steps, done, (none, not-idle w a below)) }
 
 -- what is going on where a run stops
 module _ {p : Loaded} {d : ℕ} {h : List (Option ℕ)} {w : World} {from : List Activation} (goes_on : (below : List Activation) → ¬ IsIdle (at w (from ++ below))) (some : 0 < w.left) where
   -- memory was refused
   pub stops-memory : StopsIn p d h w from w Memory
-  stops-memory = record { stops = λ below e. (from ++ below, done, (some, goes_on below)) }
+  stops-memory = record { stops = λ below e. (w, from ++ below, left-same w Memory, done, (some, goes_on below)) }
+
+  -- .. once objects and bindings had changed
+  pub stops-lost : {v : World} → KeepsTheRest w v → StopsIn p d h w from v Memory
+  stops-lost rest = record { stops = λ below e. (w, from ++ below, (rest, λ other. absurd (other refl)), done, (some, goes_on below)) }
 
   -- no rule leads on
-  pub stops-stuck : ((below : List Activation) (t : State) → ¬ Rule p (at w (from ++ below)) t) → StopsIn p d h w from w BadType
-  stops-stuck stuck = record {
+  pub stops-stuck : ((below : List Activation) (t : State) → ¬ Rule p (at w (from ++ below)) t) → ((below : List Activation) (o q : ℕ) (new : Value) → WritesNext (at w (from ++ below)) o q new → LacksField p w.store.tree o q) → StopsIn p d h w from w BadType
+  stops-stuck stuck lacks = record {
     stops = λ below e.
-        let is : IsStuck p (at w (from ++ below)) = record { goes_on = goes_on below; stuck = stuck below } in
-        (from ++ below, done, (some, inl is));
+        let is : IsStuck p (at w (from ++ below)) = record { goes_on = goes_on below; stuck = stuck below; lacks = lacks below } in
+        (w, from ++ below, left-same w BadType, done, (some, inl is));
   }
 
 -- the next rule gives a value that is not of its type
@@ -100,8 +111,12 @@ stops-ill {p} {w = w} {from = from} some next = record {
   stops = λ below e.
       let q = next below in
       let is : GoesIll p (at w (from ++ below)) (λ t. Rule p (at w (from ++ below)) t) = record { t = q.0; follows = q.1; ill = q.2 } in
-      (from ++ below, done, (some, inr is));
+      (w, from ++ below, left-same w BadType, done, (some, inr (inr is)));
 }
+
+-- .. the next statement writes one
+pub stops-ill-write : {p : Loaded} {d : ℕ} {h : List (Option ℕ)} {w : World} {from : List Activation} → 0 < w.left → ((below : List Activation) → WritesIll p (at w (from ++ below))) → StopsIn p d h w from w BadType
+stops-ill-write {w = w} {from = from} some ill = record { stops = λ below e. (w, from ++ below, left-same w BadType, done, (some, inr (inl (ill below)))) }
 
 -- by the next rule an object dies while a body of it is active
 pub stops-fatal : {p : Loaded} {d : ℕ} {h : List (Option ℕ)} {w : World} {from : List Activation} → 0 < w.left → ((below : List Activation) → shows below ≡ h → (t : State) × Rule p (at w (from ++ below)) t × IsWell p (at w (from ++ below)) t × (¬ Spares (at w (from ++ below)) t)) → StopsIn p d h w from w InUse
@@ -109,32 +124,53 @@ stops-fatal {p} {w = w} {from = from} some next = record {
   stops = λ below e.
       let q = next below e in
       let is : GoesFatal p (at w (from ++ below)) (λ t. Rule p (at w (from ++ below)) t) = record { t = q.0; follows = q.1; well = q.2; fatal = q.3 } in
-      (from ++ below, done, (some, is));
+      (w, from ++ below, left-same w InUse, done, (some, is));
 }
 
 -- the next rule nests too deep
-pub stops-deep : {p : Loaded} {d : ℕ} {h : List (Option ℕ)} {w : World} {from : List Activation} → 0 < w.left → ((below : List Activation) → shows below ≡ h → (t : State) × Rule p (at w (from ++ below)) t × IsWell p (at w (from ++ below)) t × Spares (at w (from ++ below)) t × (d < length t.stack)) → StopsIn p d h w from w TooDeep
+pub stops-deep : {p : Loaded} {d : ℕ} {h : List (Option ℕ)} {w : World} {from : List Activation} → 0 < w.left → ((below : List Activation) → shows below ≡ h → (t : State) × Rule p (at w (from ++ below)) t × IsWell p (at w (from ++ below)) t × Spares (at w (from ++ below)) t × Agree p t.objects t.bindings × (d < length t.stack)) → StopsIn p d h w from w TooDeep
 stops-deep {p} {d} {w = w} {from = from} some next = record {
   stops = λ below e.
       let q = next below e in
-      let is : GoesDeep p d (at w (from ++ below)) (λ t. Rule p (at w (from ++ below)) t) = record { t = q.0; follows = q.1; well = q.2; spared = q.3; deep = q.4 } in
-      (from ++ below, done, (some, is));
+      let is : GoesDeep p d (at w (from ++ below)) (λ t. Rule p (at w (from ++ below)) t) = record { t = q.0; follows = q.1; well = q.2; spared = q.3; agree = q.4; deep = q.5 } in
+      (w, from ++ below, left-same w TooDeep, done, (some, inr is));
 }
 
+-- .. the next statement writes, and what that notifies would
+pub stops-deep-write : {p : Loaded} {d : ℕ} {h : List (Option ℕ)} {w : World} {from : List Activation} → 0 < w.left → ((below : List Activation) → shows below ≡ h → WritesDeep p d (at w (from ++ below))) → StopsIn p d h w from w TooDeep
+stops-deep-write {w = w} {from = from} some deep = record { stops = λ below e. (w, from ++ below, left-same w TooDeep, done, (some, inl (deep below e))) }
+
 -- a reason that stays one where more may follow
-pub reason-more : {Stuck Held : Type 0} {Follows Comes : State → Type 0} {Due Owed : Type 0} (p : Loaded) (d : ℕ) (s : State) (left : ℕ) (f : Fault) → (Stuck → Held) → ((t : State) → Follows t → Comes t) → (Due → Owed) → Reason Stuck Follows Due p d s left f → Reason Held Comes Owed p d s left f
-reason-more p d s left BadType stuck follows due r =
+pub reason-more : {Stuck Held Closes Shuts : Type 0} {Follows Comes : State → Type 0} {Due Owed : Type 0} (p : Loaded) (d : ℕ) (s : State) (left : ℕ) (f : Fault) → (Stuck → Held) → (Closes → Shuts) → ((t : State) → Follows t → Comes t) → (Due → Owed) → Reason Stuck Closes Follows Due p d s left f → Reason Held Shuts Comes Owed p d s left f
+reason-more p d s left BadType stuck closes follows due r =
     elim r.1 [
       | inl none ↦ (r.0, inl (stuck none))
-      | inr ill ↦ (r.0, inr (record { t = ill.t; follows = follows ill.t ill.follows; ill = ill.ill }))
+      | inr ill ↦ elim ill [
+        | inl write ↦ (r.0, inr (inl write))
+        | inr goes ↦ (r.0, inr (inr (record { t = goes.t; follows = follows goes.t goes.follows; ill = goes.ill })))
+      ]
     ]
-reason-more p d s left TooDeep stuck follows due r = let deep = r.1 in (r.0, record { t = deep.t; follows = follows deep.t deep.follows; well = deep.well; spared = deep.spared; deep = deep.deep })
-reason-more p d s left InUse stuck follows due r = let fatal = r.1 in (r.0, record { t = fatal.t; follows = follows fatal.t fatal.follows; well = fatal.well; fatal = fatal.fatal })
-reason-more p d s left Steps stuck follows due r = (r.0, due r.1)
-reason-more p d s left Memory stuck follows due r = (r.0, due r.1)
-reason-more p d s left Stopped stuck follows due r = absurd r
+reason-more p d s left TooDeep stuck closes follows due r =
+    elim r.1 [
+      | inl write ↦ (r.0, inl write)
+      | inr deep ↦ (r.0, inr (record { t = deep.t; follows = follows deep.t deep.follows; well = deep.well; spared = deep.spared; agree = deep.agree; deep = deep.deep }))
+    ]
+reason-more p d s left BindingLoop stuck closes follows due r = (r.0, closes r.1)
+reason-more p d s left InUse stuck closes follows due r = let fatal = r.1 in (r.0, record { t = fatal.t; follows = follows fatal.t fatal.follows; well = fatal.well; fatal = fatal.fatal })
+reason-more p d s left Steps stuck closes follows due r = (r.0, due r.1)
+reason-more p d s left Memory stuck closes follows due r = (r.0, due r.1)
+reason-more p d s left Stopped stuck closes follows due r = absurd r
 
 -- ---- what is left behind a `?`
+
+-- nothing is said of a call that failed
+pub ok-err : (P : Type 0) {p : Loaded} {d : ℕ} {h : List (Option ℕ)} {w v : World} {a : List Activation} {f : Fault} (r : Result (Unit {0}) Fault) → StopsIn p d h w a v f → IsErrAnd r (λ y. y ≡ f) → OnOk r P
+ok-err P (Ok _) x is = absurd is
+ok-err P (Err y) x is = tt
+
+pub ok-map : (P Q : Type 0) (r : Result (Unit {0}) Fault) → OnOk r P → (P → Q) → OnOk r Q
+ok-map P Q (Ok _) p f = f p
+ok-map P Q (Err _) p f = tt
 
 -- what a call that failed leaves
 pub ends-left : {p : Loaded} {d : ℕ} {h : List (Option ℕ)} {w v : World} {a b : List Activation} {f : Fault} (r : Result (Unit {0}) Fault) → StopsIn p d h w a v f → IsErrAnd r (λ y. y ≡ f) → Ends p d h w a v b r
@@ -159,6 +195,10 @@ ends-unchanged {p} {d} {h} {w} {v} {from} {to} {f} r goes_on some same is =
     let Family : World → Type 0 = λ u. StopsIn p d h w from u f in
     ends-left r (subst Family (sym same.1) (stops-as same.0 (stops-memory goes_on some))) is
 
+-- .. to one that left objects and bindings changed
+pub ends-lost : {p : Loaded} {d : ℕ} {h : List (Option ℕ)} {w v : World} {from to : List Activation} {f : Fault} (r : Result (Unit {0}) Fault) → ((below : List Activation) → ¬ IsIdle (at w (from ++ below))) → 0 < w.left → (f ≡ Memory) × KeepsTheRest w v → IsErrAnd r (λ y. y ≡ f) → Ends p d h w from v to r
+ends-lost r goes_on some lost is = ends-left r (stops-as lost.0 (stops-lost goes_on some lost.1)) is
+
 -- an expression had no value, or memory was refused
 pub stops-faulted : {p : Loaded} {d : ℕ} {h : List (Option ℕ)} {w : World} {a : Activation} {f : Fault} (e : EvalFault) → 0 < w.left → (e ≡ eval.BadType → StopsIn p d h w (a ∷ []) w BadType) → IsFaultOf e f → StopsIn p d h w (a ∷ []) w f
 stops-faulted eval.BadType some ill is = stops-as is (ill refl)
@@ -171,23 +211,23 @@ ends-faulted {e = e} (Err f) some ill is = record { cases = stops-faulted e some
 -- ---- calls that carry out one rule
 
 -- .. which writes nothing down
-pub reaches-ticked : {p : Loaded} {d : ℕ} {h : List (Option ℕ)} {w v : World} {a : Activation} {b : List Activation} → ((below : List Activation) → shows below ≡ h → Rule p (at w (a ∷ below)) (at w (b ++ below))) → length b ≤ 1 → length h < d → AreTyped p w.store.tree → Ticks w v (Ok tt) → Reaches p d h w (a ∷ []) v b
-reaches-ticked {p} {d} {h} {w} {v} {a} {b} step low room typed x =
+pub reaches-ticked : {p : Loaded} {d : ℕ} {h : List (Option ℕ)} {w v : World} {a : Activation} {b : List Activation} → ((below : List Activation) → shows below ≡ h → Rule p (at w (a ∷ below)) (at w (b ++ below))) → length b ≤ 1 → length h < d → AgreeIn p w → Ticks w v (Ok tt) → Reaches p d h w (a ∷ []) v b
+reaches-ticked {p} {d} {h} {w} {v} {a} {b} step low room agree x =
     let Family : World → Type 0 = λ u. Reaches p d h w (a ∷ []) u b in
-    subst Family (sym x.1) (reaches-low step (λ o gone. gone) low (omega (arith, low, room)) typed refl x.0)
+    subst Family (sym x.1) (reaches-low step (λ o gone. gone) low (omega (arith, low, room)) agree refl x.0)
 
-pub ends-ticked : {p : Loaded} {d : ℕ} {h : List (Option ℕ)} {w v : World} {a : Activation} {b : List Activation} (r : Result (Unit {0}) Fault) → ((below : List Activation) → shows below ≡ h → Rule p (at w (a ∷ below)) (at w (b ++ below))) → length b ≤ 1 → length h < d → AreTyped p w.store.tree → Ticks w v r → Ends p d h w (a ∷ []) v b r
-ends-ticked (Ok _) step low room typed x = record { cases = reaches-ticked step low room typed x }
-ends-ticked {p} {d} {h} {w} {v} {a} {b} (Err f) step low room typed x =
+pub ends-ticked : {p : Loaded} {d : ℕ} {h : List (Option ℕ)} {w v : World} {a : Activation} {b : List Activation} (r : Result (Unit {0}) Fault) → ((below : List Activation) → shows below ≡ h → Rule p (at w (a ∷ below)) (at w (b ++ below))) → length b ≤ 1 → length h < d → AgreeIn p w → Ticks w v r → Ends p d h w (a ∷ []) v b r
+ends-ticked (Ok _) step low room agree x = record { cases = reaches-ticked step low room agree x }
+ends-ticked {p} {d} {h} {w} {v} {a} {b} (Err f) step low room agree x =
     let Family : World → Type 0 = λ u. StopsIn p d h w (a ∷ []) u f in
     record { cases = subst Family (sym x.2) (stops-as x.1 (stops-steps x.0)) }
 
 -- .. which writes an entry down, and leaves the stack as high as it was
-pub ends-noted : {p : Loaded} {d : ℕ} {h : List (Option ℕ)} {w v : World} {a b : Activation} (target : World) (r : Result (Unit {0}) Fault) → ((below : List Activation) → shows below ≡ h → Rule p (at w (a ∷ below)) (at target (b ∷ below))) → NoneDied w.store.tree target.store.tree → length h < d → AreTyped p target.store.tree → target.left ≡ w.left - 1 → 0 < w.left → Becomes w target v r → Ends p d h w (a ∷ []) v (b ∷ []) r
-ends-noted {p} {d} {h} {w} {v} {a} {b} target (Ok _) step none room typed less some x =
+pub ends-noted : {p : Loaded} {d : ℕ} {h : List (Option ℕ)} {w v : World} {a b : Activation} (target : World) (r : Result (Unit {0}) Fault) → ((below : List Activation) → shows below ≡ h → Rule p (at w (a ∷ below)) (at target (b ∷ below))) → NoneDied w.store.tree target.store.tree → length h < d → AgreeIn p target → target.left ≡ w.left - 1 → 0 < w.left → GoesTo w target v r → Ends p d h w (a ∷ []) v (b ∷ []) r
+ends-noted {p} {d} {h} {w} {v} {a} {b} target (Ok _) step none room agree less some x =
     let Family : World → Type 0 = λ u. Reaches p d h w (a ∷ []) u (b ∷ []) in
-    record { cases = subst Family (sym x) (reaches-low {b = b ∷ []} step none (omega arith) (omega (arith, room)) typed less some) }
-ends-noted {p} {d} {h} {w} {v} {a} {b} target (Err f) step none room typed less some x =
+    record { cases = subst Family (sym x) (reaches-low {b = b ∷ []} step none (omega arith) (omega (arith, room)) agree less some) }
+ends-noted {p} {d} {h} {w} {v} {a} {b} target (Err f) step none room agree less some x =
     let Family : World → Type 0 = λ u. StopsIn p d h w (a ∷ []) u f in
     record { cases = subst Family (sym x.1) (stops-as x.0 (stops-memory (not-idle w a) some)) }
 

@@ -17,33 +17,36 @@ use Rattle.event_loops.specs.Queues.{Loop, items_at, is_before, taken_before}
 use Rattle.object_tree.specs.declared.object.Object.{Object}
 use Rattle.object_tree.specs.declared.life.Life.{Life}
 use Rattle.object_tree.specs.Family.{without_life}
-use Rattle.object_tree.specs.Objects.{life_of, name_of, change_life, written, scheduled}
-use Rattle.object_tree.specs.Typed.{AreTyped, ReadsAs}
+use Rattle.object_tree.specs.Objects.{life_of, name_of, change_life, scheduled}
+use Rattle.prop_bindings.specs.declared.binding.Binding.{Binding}
+use Rattle.prop_bindings.specs.Changes.{DifferInValues}
+use Rattle.prop_bindings.specs.Fits.{Agree}
+use Rattle.machine_state.specs.declared.telling.Cause.{Cause}
 use Rattle.machine_state.specs.declared.entry.Entry.{Entry}
 use Rattle.machine_state.specs.declared.fault.Fault.{Fault}
 use Rattle.machine_state.specs.declared.turn.Turn.{Turn}
 use Rattle.machine_state.specs.declared.world.World.{World}
 use Rattle.machine_state.specs.Connections.{is_living, next_used}
-use Rattle.machine_state.specs.State.{State, Place, Activation, Body, Emit, Update, Destroy}
+use Rattle.prop_bindings.specs.declared.place.Place.{Place}
+use Rattle.machine_state.specs.State.{State, Activation, Body, Emit, Update, Destroy}
 use Rattle.machine_state.specs.Turns.{running, reaches_at_once}
-use Rattle.machine_state.specs.Worlds.{using, set_in, noted}
+use Rattle.machine_state.specs.Worlds.{using, noted, HasWritten}
 use Rattle.machine_state.proofs.Due.{all-used, last-used}
 use Rattle.machine_rules.specs.Doings.{Doing, Write, Begin, Choose, Nothing, Connect, Disconnect, Delete, Schedule}
 use Rattle.machine_rules.specs.Good.{ArgumentsFit, TopFits, IsWell}
 use Rattle.machine_rules.specs.Keeps.{StayThere, AllJoined, KeepsWorld}
-use Rattle.machine_rules.specs.Reaches.{Reaches, StopsIn, Ends}
-use Rattle.machine_rules.specs.Rules.{RuleAt, BodyRule, Does, EmitRule, UpdateRule, NotifiesIf, TurnRule, Serves, Delivers, Arrives, Begins, BeginsIf, Writes, begun, with_used, linked, unlinked}
+use Rattle.machine_rules.specs.Reaches.{Reaches}
+use Rattle.machine_rules.specs.Settling.{Settles, Writes, Installs}
+use Rattle.machine_rules.specs.Rules.{RuleAt, BodyRule, Does, EmitRule, UpdateRule, NotifiesIf, TurnRule, Serves, Delivers, Arrives, Begins, BeginsIf, begun, with_used, linked, unlinked}
 use Rattle.machine_rules.specs.Runs.{Rules, done, then}
-use Rattle.machine_rules.specs.Sound.{SendsThese, IsDelivered, Joined, Waits, AllWait, Sound, IsSoundWorld}
+use Rattle.machine_rules.specs.Sound.{SendsThese, IsDelivered, Joined, Waits, AllWait, Sound, AgreeIn, IsSoundWorld}
 use Rattle.machine_rules.specs.Destroying.{Dies, forgotten, deferred, NextRule, ChildRule, DestroyRule, living_child, DefersOnce, Schedules}
 use Rattle.machine_rules.proofs.Beginning.{next-delivered, delivered-fits}
 use Rattle.machine_rules.proofs.Declared.{fit-takes, emission-sends}
 use Rattle.machine_rules.proofs.Dying.{died-stay, scheduled-stay}
-use Rattle.machine_rules.proofs.Keeps.{takes-still, sends-still, values-stay, written-stay, all-joined-still, rule-kept, some-top, some-stack, some-all, reaches-keeps, ends-keeps, reaches-typed, ends-typed}
-use Rattle.machine_rules.proofs.Fields.{typed-written}
-use Rattle.machine_rules.specs.There.{IsField}
-use Rattle.meta_model.specs.declared.object.MetaProperty.{MetaProperty}
-use Rattle.machine_rules.proofs.Waiting.{all-posted, all-taken, all-dropped, housed-same, home-change}
+use Rattle.machine_rules.proofs.Keeps.{takes-still, sends-still, values-stay, all-joined-still, rule-kept, some-top, some-stack, some-all, reaches-keeps, reaches-agree}
+use Rattle.machine_rules.proofs.Differing.{differ-stay, differ-home}
+use Rattle.machine_rules.proofs.Waiting.{all-posted, all-taken, all-dropped, housed-same}
 use Rattle.machine_rules.proofs.Lists.{all-append, all-weaken}
 use Rattle.machine_rules.specs.Connecting.{kept_ends, names_of}
 use Rattle.machine_state.specs.declared.endpoints.Endpoints.{Endpoints}
@@ -126,12 +129,17 @@ module _ {p : Loaded} {s t : State} (program : IsSound p) (well : IsWell p s t) 
   pub begins-fair : {below : List Activation} {o m : ℕ} {arguments : List Value} → Begins p s below o m arguments t → length s.stack < suc (length below) → AllFit p s.objects below → Fair p t
   begins-fair {below} {o} {m} {arguments} b higher lower = begun-fair p program s t (length s.stack) below o b.object m b.method arguments b.method.work b.gives higher well.arguments waiting lower
 
-  pub writes-fair : {below : List Activation} {o q : ℕ} {new : Value} → Writes p s below o q new t → AllFit p s.objects below → Fair p t
-  writes-fair {below} {o} {q} {new} w lower =
-      let after : List Object = change_life o (written q new) s.objects in
-      let stay : StayThere s.objects after = written-stay s.objects o q new in
+  pub settles-fair : {below : List Activation} {cause : Cause} {at : Place} {objects : List Object} {bindings : List Binding} {changed : List Place} → DifferInValues s.objects objects → Settles p s below cause at objects bindings changed t → AllFit p s.objects below → Fair p t
+  settles-fair {below} {objects = objects} differ x lower =
+      let stay : StayThere s.objects objects = differ-stay s.objects objects differ in
       let Family : State → Type 0 = λ v. Fair p v in
-      subst Family (sym w.gives) (record { waiting = all-wait-still p s.objects after s.queues.loops stay waiting; emitted = (tt, all-fit-still p s.objects after below stay lower) })
+      subst Family (sym x.gives) (record { waiting = all-wait-still p s.objects objects s.queues.loops stay waiting; emitted = (tt, all-fit-still p s.objects objects below stay lower) })
+
+  pub writes-fair : {below : List Activation} {o q : ℕ} {new : Value} → Writes p s below o q new t → AllFit p s.objects below → Fair p t
+  writes-fair w lower = settles-fair w.written.objects w.settles lower
+
+  pub installs-fair : {below : List Activation} {b : Binding} → Installs p s below b t → AllFit p s.objects below → Fair p t
+  installs-fair x lower = settles-fair x.differ x.settles lower
 
   -- the stack is another one, and all else that matters is the same
   quiet-fair : {stack : List Activation} {trace : List Entry} → t ≡ record s { stack = stack; trace = trace } → AllFit p s.objects stack → Fair p t
@@ -279,10 +287,10 @@ some-fits p objects (Some o) = tt
 fit-over : (p : Loaded) (objects : List Object) (a : List Activation) (shown : List (Option ℕ)) → AllFit p objects a → AllFit p objects (a ++ (some-stack shown).0)
 fit-over p objects a shown fits = all-append (Fits p objects) a ((some-stack shown).0) fits (some-all (Fits p objects) (some-fits p objects) shown)
 
-keeps-sound : {p : Loaded} {w v : World} → IsSoundWorld p w → KeepsWorld p w v → AreTyped p v.store.tree → AllWait p v.store.tree v.store.loops.loops → IsSoundWorld p v
-keeps-sound sound keeps typed waiting = record {
+keeps-sound : {p : Loaded} {w v : World} → IsSoundWorld p w → KeepsWorld p w v → AgreeIn p v → AllWait p v.store.tree v.store.loops.loops → IsSoundWorld p v
+keeps-sound sound keeps agree waiting = record {
   program = sound.program;
-  is = record { typed = typed; joined = keeps.joined sound.program sound.is.joined; housed = keeps.housed sound.is.housed; waiting = waiting };
+  is = record { agree = agree; joined = keeps.joined sound.program sound.is.joined; housed = keeps.housed sound.is.housed; waiting = waiting };
   numbers = omega (arith, keeps.paid, sound.numbers);
   room = omega (arith, keeps.posted, sound.room);
 }
@@ -291,19 +299,9 @@ module _ {p : Loaded} {d : ℕ} {h : List (Option ℕ)} {w v : World} {a : List 
   reaches-waiting : {b : List Activation} → Reaches p d h w a v b → AllWait p v.store.tree v.store.loops.loops
   reaches-waiting x = let q = some-stack h in (rules-fair sound.program (x.runs q.0 q.1) sound.is.joined (record { waiting = sound.is.waiting; emitted = fit-over p w.store.tree a h fits })).waiting
 
-  stops-waiting : {f : Fault} → StopsIn p d h w a v f → AllWait p v.store.tree v.store.loops.loops
-  stops-waiting x = let q = some-stack h in (rules-fair sound.program ((x.stops q.0 q.1).1) sound.is.joined (record { waiting = sound.is.waiting; emitted = fit-over p w.store.tree a h fits })).waiting
-
-  ends-waiting : {b : List Activation} (r : Result (Unit {0}) Fault) → Ends p d h w a v b r → AllWait p v.store.tree v.store.loops.loops
-  ends-waiting (Ok _) x = reaches-waiting x.cases
-  ends-waiting (Err f) x = stops-waiting x.cases
-
-  -- whatever a call does, the machine stays sound
-  pub ends-sound : {b : List Activation} (r : Result (Unit {0}) Fault) → Ends p d h w a v b r → IsSoundWorld p v
-  ends-sound r x = keeps-sound sound (ends-keeps r x) (ends-typed r x sound.is.typed) (ends-waiting r x)
-
+  -- wherever a run of rules leads, the machine stays sound
   pub reaches-sound : {b : List Activation} → Reaches p d h w a v b → IsSoundWorld p v
-  reaches-sound x = keeps-sound sound (reaches-keeps x) (reaches-typed x sound.is.typed) (reaches-waiting x)
+  reaches-sound x = keeps-sound sound (reaches-keeps x) (reaches-agree x sound.is.agree) (reaches-waiting x)
 
 -- .. after a rule that uses a connection
 pub sound-used : {p : Loaded} {v : World} (w : World) (entries : List Entry) (c : Connection) → v ≡ using w entries c → IsSoundWorld p w → IsSoundWorld p v
@@ -311,7 +309,7 @@ sound-used {p} w entries c e sound =
     let Family : World → Type 0 = λ u. IsSoundWorld p u in
     subst Family (sym e) (record {
       program = sound.program;
-      is = record { typed = sound.is.typed; joined = all-used (Joined p w.store.tree) c w.store.connections sound.is.joined; housed = sound.is.housed; waiting = sound.is.waiting };
+      is = record { agree = sound.is.agree; joined = all-used (Joined p w.store.tree) c w.store.connections sound.is.joined; housed = sound.is.housed; waiting = sound.is.waiting };
       numbers = omega (arith, last-used c w.store.connections, sound.numbers);
       room = omega (arith, sound.room);
     })
@@ -322,25 +320,32 @@ sound-noted {p} w entries e sound =
     let Family : World → Type 0 = λ u. IsSoundWorld p u in
     subst Family (sym e) (record {
       program = sound.program;
-      is = record { typed = sound.is.typed; joined = sound.is.joined; housed = sound.is.housed; waiting = sound.is.waiting };
+      is = record { agree = sound.is.agree; joined = sound.is.joined; housed = sound.is.housed; waiting = sound.is.waiting };
       numbers = omega (arith, sound.numbers);
       room = omega (arith, sound.room);
     })
 
--- .. after a write
-pub sound-written : {p : Loaded} {objects : List Object} {connections : List Connection} {loops : List Loop} {o q : ℕ} {x : Object} {property : MetaProperty} (new : Value) → IsField p objects o q x property → ReadsAs p objects new property.kind → Sound p objects connections loops → Sound p (change_life o (written q new) objects) connections loops
-sound-written {p} {objects} {connections} {loops} {o} {q} new f reads sound =
-    let stay = written-stay objects o q new in
+-- .. after a write or a bind: these objects differ in values alone, and they agree with the bindings
+pub sound-settled : {p : Loaded} {old new : List Object} {bindings : List Binding} (after : List Binding) {connections : List Connection} {loops : List Loop} → DifferInValues old new → Agree p new after → Sound p old bindings connections loops → Sound p new after connections loops
+sound-settled {p} {old} {new} after {connections} {loops} differ agree sound =
+    let stay = differ-stay old new differ in
     record {
-      typed = typed-written new f sound.typed reads;
-      joined = all-joined-still p objects _ connections stay sound.joined;
-      housed = housed-same objects _ loops loops (home-change o (written q new) objects (λ l. refl)) refl sound.housed;
-      waiting = all-wait-still p objects _ loops stay sound.waiting;
+      agree = agree;
+      joined = all-joined-still p old new connections stay sound.joined;
+      housed = housed-same old new loops loops (differ-home old new differ) refl sound.housed;
+      waiting = all-wait-still p old new loops stay sound.waiting;
     }
 
 -- .. in a world
-pub sound-set : {p : Loaded} {o q : ℕ} {x : Object} {property : MetaProperty} (w : World) (entries : List Entry) (new : Value) → IsField p w.store.tree o q x property → ReadsAs p w.store.tree new property.kind → IsSoundWorld p w → IsSoundWorld p (set_in w entries o q new)
-sound-set w entries new f reads sound = record { program = sound.program; is = sound-written new f reads sound.is; numbers = omega (arith, sound.numbers); room = omega (arith, sound.room) }
+pub sound-set : {p : Loaded} {d : ℕ} {place : Place} {new : Value} {changed : List Place} {v : World} (w : World) → HasWritten p d place new w (noted w) changed v → AgreeIn p v → IsSoundWorld p w → IsSoundWorld p v
+sound-set {p} {v = v} w written agree sound =
+    let Family : World → Type 0 = λ u. IsSoundWorld p u in
+    subst Family (sym written.gives) (record {
+      program = sound.program;
+      is = sound-settled v.store.bindings written.writes.objects agree sound.is;
+      numbers = omega (arith, sound.numbers);
+      room = omega (arith, sound.room);
+    })
 
 -- a world that is known to be another one
 pub sound-as : {p : Loaded} {w v : World} → v ≡ w → IsSoundWorld p w → IsSoundWorld p v

@@ -21,14 +21,13 @@ use Rattle.machine_state.specs.State.{State, Activation, Destroy, IsIdle}
 use Rattle.machine_state.specs.Worlds.{at, with_queues, taking, taking_unwritten, turn_ended}
 use Rattle.machine_rules.specs.Active.{shows}
 use Rattle.machine_rules.specs.Good.{ArgumentsFit}
-use Rattle.object_tree.specs.Typed.{AreTyped}
 use Rattle.machine_rules.specs.Reaches.{IsCalled, Reaches, StopsIn, Ends, Advances, IsBegun, IsBarred, top_of}
 use Rattle.machine_rules.specs.Rules.{Rule, TurnRule, Serves, Delivers, Begins, BeginsIf}
 use Rattle.machine_rules.specs.Runs.{done}
-use Rattle.machine_rules.specs.Sound.{Waits, IsSoundWorld}
+use Rattle.machine_rules.specs.Sound.{Waits, IsSoundWorld, AgreeIn}
 use Rattle.machine_rules.proofs.Beginning.{begun_world, begins-there, top-fits}
 use Rattle.machine_rules.proofs.Keeps.{reaches-keeps}
-use Rattle.machine_rules.proofs.Reaching.{none-spared, reaches-low, reaches-high, reaches-then, stops-after, ends-unchanged}
+use Rattle.machine_rules.proofs.Reaching.{left-same, none-spared, reaches-low, reaches-high, reaches-then, stops-after, ends-unchanged}
 use Rattle.machine_rules.proofs.Bodies.{advances-left}
 use Rattle.machine_state.specs.Connections.{is_living}
 use Rattle.machine_rules.proofs.Beginning.{has-life}
@@ -43,7 +42,7 @@ turn-goes-on {turn} w is below idle = let both : Some turn ≡ None = sym is ∙
 
 -- .. and no rule is left
 pub stops-turn : {p : Loaded} {d : ℕ} {w : World} {turn : Turn} → w.turn ≡ Some turn → w.left ≡ 0 → StopsIn p d [] w [] w Steps
-stops-turn {w = w} is none = record { stops = λ below e. (below, done, (none, turn-goes-on w is below)) }
+stops-turn {w = w} is none = record { stops = λ below e. (w, below, left-same w Steps, done, (none, turn-goes-on w is below)) }
 
 -- .. or its next call doesn't begin
 pub advances-barred : {p : Loaded} {d : ℕ} {active : List (Option ℕ)} {w : World} {turn : Turn} {f : Fault} (r : Result (Unit {0}) Fault) → w.turn ≡ Some turn → active ≡ [] → 0 < d → 0 < w.left → IsBarred d active f → IsErrAnd r (λ y. y ≡ f) → Advances p d [] w [] w [] r
@@ -71,19 +70,19 @@ turn-rule p w t {turn} first is found serves =
 -- ---- its rules
 
 -- with nothing left the turn ends
-pub reaches-ended : {p : Loaded} {d : ℕ} {w v : World} {turn : Turn} → w.turn ≡ Some turn → None ≡ find (is_before turn.limit) (items_at w.store.loops.loops turn.home) → AreTyped p w.store.tree → 0 < w.left → v ≡ turn_ended w → Reaches p d [] w [] v []
-reaches-ended {p} {d} {w} {v} is none typed some v_is =
+pub reaches-ended : {p : Loaded} {d : ℕ} {w v : World} {turn : Turn} → w.turn ≡ Some turn → None ≡ find (is_before turn.limit) (items_at w.store.loops.loops turn.home) → AgreeIn p w → 0 < w.left → v ≡ turn_ended w → Reaches p d [] w [] v []
+reaches-ended {p} {d} {w} {v} is none agree some v_is =
     let target : World = turn_ended w in
     let Over : List Activation → Type 0 = λ l. Rule p (at w l) (at target l) in
     let Family : World → Type 0 = λ u. Reaches p d [] w [] u [] in
     let ends : Rule p (at w []) (at target []) = turn-rule p w (at target []) None is none refl in
-    subst Family (sym v_is) (reaches-low {a = []} {b = []} (λ below e. subst Over (sym (none-below below e)) ends) (λ o gone. gone) (omega arith) (omega arith) typed refl some)
+    subst Family (sym v_is) (reaches-low {a = []} {b = []} (λ below e. subst Over (sym (none-below below e)) ends) (λ o gone. gone) (omega arith) (omega arith) agree refl some)
 
 -- the first item that the turn may deliver is taken, and its call begins
 pub reaches-served : {p : Loaded} {d o m : ℕ} {active : List (Option ℕ)} {w v : World} {turn : Turn} {q : Posted} {arguments : List Value} {line : Entry} {work : Work} {last : ℕ} →
-    w.turn ≡ Some turn → Some q ≡ find (is_before turn.limit) (items_at w.store.loops.loops turn.home) → q.item ≡ Call o m arguments → active ≡ [] → IsBegun p d active w o m arguments line work last → ArgumentsFit p w.store.tree o m arguments → AreTyped p w.store.tree → 0 < w.left → v ≡ taking w (line ∷ []) turn.home turn.limit →
+    w.turn ≡ Some turn → Some q ≡ find (is_before turn.limit) (items_at w.store.loops.loops turn.home) → q.item ≡ Call o m arguments → active ≡ [] → IsBegun p d active w o m arguments line work last → ArgumentsFit p w.store.tree o m arguments → AgreeIn p w → 0 < w.left → v ≡ taking w (line ∷ []) turn.home turn.limit →
     Reaches p d [] w [] v (top_of o m arguments last work ∷ [])
-reaches-served {p} {d} {o} {m} {active} {w} {v} {turn} {q} {arguments} {line} {work} {last} is found item_is none begun fit typed some v_is =
+reaches-served {p} {d} {o} {m} {active} {w} {v} {turn} {q} {arguments} {line} {work} {last} is found item_is none begun fit agree some v_is =
     let none_active : length active ≡ 0 = ap (λ (l : List (Option ℕ)). length l) none in
     let took : World = with_queues w (taken_before turn.home turn.limit w.store.loops) in
     let target : World = begun_world took (length active + 1) begun.object m begun.method arguments in
@@ -94,14 +93,14 @@ reaches-served {p} {d} {o} {m} {active} {w} {v} {turn} {q} {arguments} {line} {w
     let rule : Rule p (at w []) (at target stack) = turn-rule p w (at target stack) (Some q) is found (subst Of (sym item_is) (subst If (sym (life-of-lives begun.is.lives)) begins)) in
     let Over : List Activation → Type 0 = λ l. Rule p (at w l) (at target (top_of o m arguments w.store.connections.last begun.method.work ∷ l)) in
     let room : 0 < d = omega (arith, none_active, begun.room) in
-    let went : Reaches p d [] w [] target stack = reaches-high {active = []} {from = []} {to = []} refl (λ below e. subst Over (sym (none-below below e)) rule) (λ below e. none-spared w.store.tree w.store.tree below (λ k gone. gone)) (λ below. top-fits w.store.connections.last begun.method.work below fit) room typed refl some in
+    let went : Reaches p d [] w [] target stack = reaches-high {active = []} {from = []} {to = []} refl (λ below e. subst Over (sym (none-below below e)) rule) (λ below e. none-spared w.store.tree w.store.tree below (λ k gone. gone)) (λ below. top-fits w.store.connections.last begun.method.work below fit) room agree refl some in
     let Pushed : World → Work → ℕ → Type 0 = λ u k l. Reaches p d [] w [] u (top_of o m arguments l k ∷ []) in
     let target_is : v ≡ target = v_is ∙ ap (λ (y : Entry). taking w (y ∷ []) turn.home turn.limit) begun.is_line in
     subst (λ (u : World). Pushed u work last) (sym target_is) (subst (λ (k : Work). Pushed target k last) (sym begun.is_work) (subst (λ (l : ℕ). Pushed target begun.method.work l) (sym begun.is_last) went))
 
 -- .. a call of a dead object begins nothing
-pub reaches-passed : {p : Loaded} {d o m : ℕ} {w v : World} {turn : Turn} {q : Posted} {arguments : List Value} → w.turn ≡ Some turn → Some q ≡ find (is_before turn.limit) (items_at w.store.loops.loops turn.home) → q.item ≡ Call o m arguments → None ≡ life_of w.store.tree o → AreTyped p w.store.tree → 0 < w.left → v ≡ taking_unwritten w turn.home turn.limit → Reaches p d [] w [] v []
-reaches-passed {p} {d} {o} {m} {w} {v} {turn} {q} {arguments} is found item_is gone typed some v_is =
+pub reaches-passed : {p : Loaded} {d o m : ℕ} {w v : World} {turn : Turn} {q : Posted} {arguments : List Value} → w.turn ≡ Some turn → Some q ≡ find (is_before turn.limit) (items_at w.store.loops.loops turn.home) → q.item ≡ Call o m arguments → None ≡ life_of w.store.tree o → AgreeIn p w → 0 < w.left → v ≡ taking_unwritten w turn.home turn.limit → Reaches p d [] w [] v []
+reaches-passed {p} {d} {o} {m} {w} {v} {turn} {q} {arguments} is found item_is gone agree some v_is =
     let took : World = with_queues w (taken_before turn.home turn.limit w.store.loops) in
     let target : World = taking_unwritten w turn.home turn.limit in
     let If : Option Life → Type 0 = λ life. BeginsIf p (at took []) o m arguments (at target []) life in
@@ -109,11 +108,11 @@ reaches-passed {p} {d} {o} {m} {w} {v} {turn} {q} {arguments} is found item_is g
     let rule : Rule p (at w []) (at target []) = turn-rule p w (at target []) (Some q) is found (subst Of (sym item_is) (subst If gone refl)) in
     let Over : List Activation → Type 0 = λ l. Rule p (at w l) (at target l) in
     let Family : World → Type 0 = λ u. Reaches p d [] w [] u [] in
-    subst Family (sym v_is) (reaches-low {a = []} {b = []} (λ below e. subst Over (sym (none-below below e)) rule) (λ k gone. gone) (omega arith) (omega arith) typed refl some)
+    subst Family (sym v_is) (reaches-low {a = []} {b = []} (λ below e. subst Over (sym (none-below below e)) rule) (λ k gone. gone) (omega arith) (omega arith) agree refl some)
 
 -- .. a deletion begins
-pub reaches-deleting : {p : Loaded} {d o : ℕ} {w v : World} {turn : Turn} {q : Posted} → w.turn ≡ Some turn → Some q ≡ find (is_before turn.limit) (items_at w.store.loops.loops turn.home) → q.item ≡ Deletion o → 0 < d → AreTyped p w.store.tree → 0 < w.left → v ≡ taking_unwritten w turn.home turn.limit → Reaches p d [] w [] v (Destroy (Some o) [] ∷ [])
-reaches-deleting {p} {d} {o} {w} {v} {turn} {q} is found item_is room typed some v_is =
+pub reaches-deleting : {p : Loaded} {d o : ℕ} {w v : World} {turn : Turn} {q : Posted} → w.turn ≡ Some turn → Some q ≡ find (is_before turn.limit) (items_at w.store.loops.loops turn.home) → q.item ≡ Deletion o → 0 < d → AgreeIn p w → 0 < w.left → v ≡ taking_unwritten w turn.home turn.limit → Reaches p d [] w [] v (Destroy (Some o) [] ∷ [])
+reaches-deleting {p} {d} {o} {w} {v} {turn} {q} is found item_is room agree some v_is =
     let took : World = with_queues w (taken_before turn.home turn.limit w.store.loops) in
     let target : World = taking_unwritten w turn.home turn.limit in
     let stack : List Activation = Destroy (Some o) [] ∷ [] in
@@ -121,7 +120,7 @@ reaches-deleting {p} {d} {o} {w} {v} {turn} {q} is found item_is room typed some
     let rule : Rule p (at w []) (at target stack) = turn-rule p w (at target stack) (Some q) is found (subst Of (sym item_is) refl) in
     let Over : List Activation → Type 0 = λ l. Rule p (at w l) (at target (Destroy (Some o) [] ∷ l)) in
     let Family : World → Type 0 = λ u. Reaches p d [] w [] u (Destroy (Some o) [] ∷ []) in
-    subst Family (sym v_is) (reaches-high {active = []} {from = []} {to = []} refl (λ below e. subst Over (sym (none-below below e)) rule) (λ below e. none-spared w.store.tree w.store.tree below (λ k gone. gone)) (λ below. tt) room typed refl some)
+    subst Family (sym v_is) (reaches-high {active = []} {from = []} {to = []} refl (λ below e. subst Over (sym (none-below below e)) rule) (λ below e. none-spared w.store.tree w.store.tree below (λ k gone. gone)) (λ below. tt) room agree refl some)
 
 -- .. and is carried out
 pub advances-served : {p : Loaded} {d : ℕ} {active : List (Option ℕ)} {w v u : World} {from : List Activation} (r : Result (Unit {0}) Fault) → active ≡ [] → Reaches p d [] w [] v from → v.left ≡ w.left - 1 → 0 < w.left → Ends p d active v from u [] r → Advances p d [] w [] u [] r
@@ -156,6 +155,11 @@ called-is {o = o} called found item_is =
     let both : Deletion o ≡ Call called.object called.method called.arguments = called-item called found item_is in
     absurd (cc both)
 
+pub called-arguments : {w : World} {turn : Turn} {q : Posted} {o m : ℕ} {arguments : List Value} (called : IsCalled w turn) → Some q ≡ find (is_before turn.limit) (items_at w.store.loops.loops turn.home) → q.item ≡ Call o m arguments → called.arguments ≡ arguments
+called-arguments {o = o} {m = m} {arguments = arguments} called found item_is =
+    let both : Call o m arguments ≡ Call called.object called.method called.arguments = called-item called found item_is in
+    cc both
+
 pub called-fits : {p : Loaded} {w : World} {turn : Turn} {q : Posted} {o m : ℕ} {arguments : List Value} → IsCalled w turn → IsSoundWorld p w → Some q ≡ find (is_before turn.limit) (items_at w.store.loops.loops turn.home) → q.item ≡ Call o m arguments → ArgumentsFit p w.store.tree o m arguments
 called-fits {w = w} {turn = turn} {o = o} {m = m} {arguments = arguments} called sound found item_is =
     let both : Call o m arguments ≡ Call called.object called.method called.arguments = called-item called found item_is in
@@ -171,7 +175,7 @@ taken-sound {p} w entries home number e sound =
     subst Family (sym e) (record {
       program = sound.program;
       is = record {
-        typed = sound.is.typed;
+        agree = sound.is.agree;
         joined = sound.is.joined;
         housed = housed-same w.store.tree w.store.tree w.store.loops.loops target.store.loops.loops (λ o. refl) (length-change home _ w.store.loops.loops) sound.is.housed;
         waiting = all-taken p w.store.tree home number w.store.loops.loops sound.is.waiting;

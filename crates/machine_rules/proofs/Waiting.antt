@@ -9,7 +9,7 @@ use Rattle.object_tree.specs.declared.object.Object.{Object}
 use Rattle.object_tree.specs.declared.life.Life.{Life}
 use Rattle.object_tree.specs.Objects.{change_life, with_life}
 use Rattle.object_tree.proofs.Changing.{part-change, life-part}
-use Rattle.machine_state.specs.Objects.{home_of}
+use Rattle.object_tree.specs.Objects.{home_of}
 use Rattle.machine_state.proofs.Due.{found-among}
 use Rattle.machine_rules.proofs.Lists.{all-snoc, all-filtered}
 use Rattle.machine_rules.specs.Sound.{AreHoused, Waits, AllWait}

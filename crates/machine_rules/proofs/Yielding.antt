@@ -19,7 +19,7 @@ use Rattle.machine_state.specs.declared.endpoints.Endpoints.{Endpoints}
 use Rattle.machine_rules.specs.declared.paths.Scope.{Scope}
 use Rattle.machine_rules.specs.Doings.{Doing, Write, Begin, Choose, Nothing, on_object, on_ends, chosen_by, doing}
 use Rattle.machine_rules.specs.Paths.{path_value, value_of, values_of}
-use Rattle.machine_rules.specs.Coded.{Yields, FindsEnds, chosen_of}
+use Rattle.machine_rules.specs.Coded.{Yields, FindsBetween, chosen_of}
 use Rattle.machine_rules.specs.Scope.{ends_in}
 use Rattle.machine_rules.specs.Reaches.{Finds, Judges}
 
@@ -46,15 +46,15 @@ yields-left found e (Err BadType) lacks is = lacks (sym is)
 yields-left found e (Err Memory) lacks is = tt
 
 -- .. where two ends are looked for
-pub ends-left : (scope : Scope) (ends : MetaEndpoints) (e : EvalFault) (r : Result (Option Endpoints) EvalFault) → (e ≡ BadType → (act : Endpoints → Doing) → ends_in scope act ends ≡ None) → IsErrAnd r (λ y. y ≡ e) → FindsEnds scope ends r
+pub ends-left : (scope : Scope) (ends : MetaEndpoints) (e : EvalFault) (r : Result (Option Endpoints) EvalFault) → (e ≡ BadType → (act : Endpoints → Doing) → ends_in scope act ends ≡ None) → IsErrAnd r (λ y. y ≡ e) → FindsBetween scope ends r
 ends-left scope ends e (Ok d) lacks is = absurd is
 ends-left scope ends e (Err BadType) lacks is = lacks (sym is)
 ends-left scope ends e (Err Memory) lacks is = tt
 
 -- a statement of which nothing is found at its ends
-pub ends-lack : (scope : Scope) (ends : MetaEndpoints) (act : Endpoints → Doing) (e : EvalFault) (r : Result Coded EvalFault) → FindsEnds scope ends (Err e) → IsErrAnd r (λ y. y ≡ e) → Yields (ends_in scope act ends) r
+pub ends-lack : (scope : Scope) (ends : MetaEndpoints) (act : Endpoints → Doing) (e : EvalFault) (r : Result Coded EvalFault) → FindsBetween scope ends (Err e) → IsErrAnd r (λ y. y ≡ e) → Yields (ends_in scope act ends) r
 ends-lack scope ends act e r finds is =
-    let At : EvalFault → Type 0 = λ g. FindsEnds scope ends (Err g) in
+    let At : EvalFault → Type 0 = λ g. FindsBetween scope ends (Err g) in
     yields-left (ends_in scope act ends) e r (λ bad. let none = subst At bad finds in none act) is
 
 -- no value of an expression, or of expressions

@@ -9,25 +9,29 @@ use Rattle.machine_state.specs.declared.fault.Fault.{Fault}
 use Rattle.machine_state.specs.declared.world.World.{World}
 use Rattle.machine_state.specs.Connections.{next_used}
 use Rattle.machine_state.specs.Worlds.{having_used}
-use Rattle.machine_state.specs.State.{Activation, Body, Emit, Destroy}
+use Rattle.machine_state.specs.State.{Activation, Body, Emit, Update, Destroy}
 use Rattle.machine_rules.specs.Active.{shows}
 use Rattle.machine_rules.specs.Doings.{Doing, doing}
 use Rattle.machine_rules.specs.Reaches.{Ends, Advances, CallsIn, Calls, OnlyCalls, Sets, Deletes, Kills}
 use Rattle.machine_rules.specs.declared.method_call.MethodCall.{MethodCall}
-use Rattle.machine_rules.specs.declared.place.Place.{Place}
+use Rattle.prop_bindings.specs.declared.place.Place.{Place}
 use Rattle.machine_rules.specs.declared.setting.Setting.{Setting}
 
 -- one activation on top of the stack leads to another
 abbrev pub Leads : Setting → List (Option ℕ) → Activation → Activation → World → World → Result (Unit {0}) Fault → Type 0
 Leads setting active a b w v result = Ends setting.meta setting.depth active w (a ∷ []) v (b ∷ []) result
 
+-- the first of the properties that an update holds is notified, whatever comes after it
+abbrev pub NotifiesFirst : Setting → List (Option ℕ) → Place → World → World → Result (Unit {0}) Fault → Type 0
+NotifiesFirst setting active place w v result = (rest : List Place) → Leads setting active (Update (place ∷ rest)) (Update rest) w v result
+
 -- an activation on top of the stack is carried out to its end
 abbrev pub Finishes : Setting → List (Option ℕ) → Activation → World → World → Result (Unit {0}) Fault → Type 0
 Finishes setting active a w v result = Ends setting.meta setting.depth active w (a ∷ []) v [] result
 
 -- a connection is used, in every emission of which it is the next
-abbrev pub Delivers : Setting → List (Option ℕ) → Connection → List Value → World → World → Result (Unit {0}) Fault → Type 0
-Delivers setting active c arguments w v result =
+abbrev pub UsesNext : Setting → List (Option ℕ) → Connection → List Value → World → World → Result (Unit {0}) Fault → Type 0
+UsesNext setting active c arguments w v result =
     (o g used last : ℕ) → next_used w.store.tree w.store.connections.connections o g used last ≡ Some c →
     Leads setting active (Emit o g arguments used last) (Emit o g arguments c.number last) w v result
 

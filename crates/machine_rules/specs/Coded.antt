@@ -28,11 +28,11 @@ Yields found (Err BadType) = found ≡ None
 Yields found (Err NoMemory) = Unit {0}
 
 -- the paths of two ends lead to objects, or one of them to null, or to neither
-abbrev pub FindsEnds : Scope → MetaEndpoints → Result (Option Endpoints) EvalFault → Type 0
-FindsEnds scope ends (Ok (Some between)) = (act : Endpoints → Doing) → ends_in scope act ends ≡ Some (act between)
-FindsEnds scope ends (Ok None) = (act : Endpoints → Doing) → ends_in scope act ends ≡ Some Nothing
-FindsEnds scope ends (Err BadType) = (act : Endpoints → Doing) → ends_in scope act ends ≡ None
-FindsEnds scope ends (Err NoMemory) = Unit {0}
+abbrev pub FindsBetween : Scope → MetaEndpoints → Result (Option Endpoints) EvalFault → Type 0
+FindsBetween scope ends (Ok (Some between)) = (act : Endpoints → Doing) → ends_in scope act ends ≡ Some (act between)
+FindsBetween scope ends (Ok None) = (act : Endpoints → Doing) → ends_in scope act ends ≡ Some Nothing
+FindsBetween scope ends (Err BadType) = (act : Endpoints → Doing) → ends_in scope act ends ≡ None
+FindsBetween scope ends (Err NoMemory) = Unit {0}
 
 -- the block that a condition chooses
 abbrev pub chosen_of : Bool → List Statement → List Statement → List Statement

@@ -5,17 +5,18 @@ use Rattle.std.specs.List.{find}
 use Rattle.signatures.specs.declared.value.Value.TheVariants as value
 use Rattle.meta_model.specs.declared.qobject.TheConstants.{DESTROYED}
 use Rattle.meta_model.specs.Outlines.{destroyed}
-use Rattle.connections.specs.Connected.{removed, touches}
-use Rattle.event_loops.specs.declared.item.Item.TheVariants.{Deletion}
-use Rattle.event_loops.specs.Queues.{HasName, posted_to, dropped}
+use Rattle.delete_later.specs.Ending.{died_in, ended_in}
+use Rattle.delete_later.specs.Scheduling.{deferred_to}
+use Rattle.event_loops.specs.Queues.{HasName}
 use Rattle.object_tree.specs.declared.life.Life.{Life}
-use Rattle.object_tree.specs.Family.{children_of, without_life}
-use Rattle.object_tree.specs.Objects.{name_of, change_life, scheduled}
+use Rattle.object_tree.specs.Family.{children_of}
+use Rattle.object_tree.specs.Objects.{name_of}
 use Rattle.machine_state.specs.declared.entry.Entry.TheVariants.{At}
 use Rattle.machine_state.specs.declared.entry.Happening.TheVariants as happening
 use Rattle.machine_state.specs.declared.entry.Shown.TheVariants as show
 use Rattle.machine_state.specs.Connections.{is_living}
 use Rattle.machine_state.specs.State.{State, Activation, Emit, Destroy}
+use Rattle.machine_state.specs.Worlds.{store_of, with_store}
 
 -- ---- an object is deleted
 
@@ -23,11 +24,11 @@ use Rattle.machine_state.specs.State.{State, Activation, Emit, Destroy}
 abbrev pub deleting : State → List Activation → ℕ → State
 deleting s below x = record s { stack = Destroy (Some x) [] ∷ below }
 
--- Object x, of this name, dies, over a stack with the deletion on top: it leaves its parent, and its `destroyed` is emitted,
--- whether it was blocked or not. The signal's argument would be a reference to x, which reads as null from now on.
+-- Object x, of this name, dies, over a stack with the deletion on top: it leaves its parent, the bindings go whose target
+-- or source it is, and its `destroyed` is emitted, whether it was blocked or not. The signal's argument would be a
+-- reference to x, which reads as null from now on.
 abbrev pub died : State → List Activation → ℕ → List ℕ → State
-died s stack x name = record s {
-  objects = without_life x s.objects;
+died s stack x name = record (with_store s (died_in x (store_of s))) {
   stack = Emit x DESTROYED (value.Ref None ∷ []) 0 s.connected.last ∷ stack;
   trace = s.trace ++ At (length stack) (happening.Died name)
       ∷ At (suc (length stack)) (happening.Emitted name destroyed.name (show.Null ∷ []) false) ∷ [];
@@ -41,7 +42,7 @@ pub record Dies (s : State) (stack : List Activation) (x : ℕ) (t : State) : Ty
 
 -- no connection leads from or to the object any more, and nothing waits for it
 abbrev pub forgotten : State → ℕ → State
-forgotten s x = record s { connected = removed (touches x) s.connected; queues = dropped x s.queues }
+forgotten s x = with_store s (ended_in x (store_of s))
 
 -- the object that is deleted next dies, if it lives; it is forgotten when its `destroyed` has ended, and then it is the
 -- latest of those that are torn down
@@ -69,9 +70,7 @@ DestroyRule s below t None (parent ∷ torn) = ChildRule s below t parent torn (
 -- The deletion of object x, of this name, is appended to the items of the event loop in which it lives, and x is scheduled;
 -- the stack stays as it is.
 abbrev pub deferred : State → List Activation → List ℕ → ℕ → ℕ → List ℕ → State
-deferred s stack loop home x name = record s {
-  objects = change_life x scheduled s.objects;
-  queues = posted_to home (Deletion x) s.queues;
+deferred s stack loop home x name = record (with_store s (deferred_to home x (store_of s))) {
   stack = stack;
   trace = s.trace ++ At (length stack) (happening.Scheduled loop name) ∷ [];
 }

@@ -8,6 +8,7 @@ use Rattle.meta_model.specs.declared.qobject.TheConstants.{QOBJECT, DESTROYED}
 use Rattle.meta_model.specs.Loaded.{Loaded}
 use Rattle.object_tree.specs.declared.object.Object.{Object}
 use Rattle.object_tree.specs.Typed.{ReadAs, AreTyped}
+use Rattle.prop_bindings.specs.Fits.{Agree}
 use Rattle.machine_rules.specs.There.{IsMember, IsDead}
 use Rattle.machine_state.specs.State.{State, Activation, Body, Emit, Update, Destroy}
 
@@ -59,8 +60,10 @@ pub record IsWell (p : Loaded) (s t : State) : Type 0 where
 abbrev pub Spares : State → State → Type 0
 Spares s t = (o : ℕ) → IsTrue (has_body o s.stack) → IsDead t.objects o → IsDead s.objects o
 
--- .. and activations nest no deeper than the depth
+-- .. no chain of bindings leads from a property back to itself, and activations nest no deeper than the depth. All bound
+-- properties have their expressions' values then: between any two rules the values are settled.
 pub record IsGood (p : Loaded) (depth : ℕ) (s t : State) : Type 0 where
   pub well : IsWell p s t
   pub spared : Spares s t
+  pub agree : Agree p t.objects t.bindings
   pub shallow : length t.stack ≤ depth

@@ -5,6 +5,7 @@ pub mod There
 pub mod Judgement
 pub mod Connecting
 pub mod Destroying
+pub mod Settling
 pub mod Rules
 pub mod Good
 pub mod Runs

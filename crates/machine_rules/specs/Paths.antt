@@ -13,7 +13,7 @@ use Rattle.meta_model.specs.declared.object.Step.{Step}
 use Rattle.meta_model.specs.Values.{default}
 use Rattle.object_tree.specs.declared.object.Object.{Object}
 use Rattle.object_tree.specs.Seen.{seen}
-use Rattle.machine_state.specs.Objects.{stored}
+use Rattle.object_tree.specs.Objects.{stored}
 
 -- `this` is the object o; a parameter is the argument in its place
 abbrev pub root_value : ℕ → List Value → MetaRoot → Option Value

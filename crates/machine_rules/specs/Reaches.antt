@@ -24,7 +24,7 @@ use Rattle.machine_state.specs.declared.fault.Fault.TheVariants.{BadType as IllT
 use Rattle.machine_state.specs.declared.world.World.{World}
 use Rattle.machine_state.specs.Connections.{is_silent, is_living}
 use Rattle.machine_state.specs.State.{State, Activation, Body, Emit, Destroy, IsIdle}
-use Rattle.machine_state.specs.Objects.{all_shown, home_of}
+use Rattle.machine_state.specs.Objects.{all_shown}
 use Rattle.texts.specs.declared.connection.ConnectionType.{ConnectionType}
 use Rattle.texts.specs.declared.connection.Endpoints.{Endpoints as Named}
 use Rattle.machine_state.specs.declared.endpoints.Endpoints.{Endpoints}
@@ -32,16 +32,17 @@ use Rattle.machine_state.specs.declared.refusal.Refusal.{Refusal}
 use Rattle.machine_rules.specs.Connecting.{AreThere, may_connect, found_ends, names_of}
 use Rattle.machine_rules.specs.declared.method_call.MethodCall.{MethodCall}
 use Rattle.machine_rules.specs.Good.{ArgumentsFit}
-use Rattle.machine_rules.specs.Rules.{Rule, Begins, Writes, Connects, Disconnects}
+use Rattle.machine_rules.specs.Rules.{Rule, Begins, Connects, Disconnects}
+use Rattle.machine_rules.specs.Settling.{Writes}
 use Rattle.meta_model.specs.Outlines.{destroyed}
-use Rattle.object_tree.specs.Objects.{life_of}
-use Rattle.object_tree.specs.Typed.{StayTyped}
+use Rattle.object_tree.specs.Objects.{life_of, home_of}
+use Rattle.prop_bindings.specs.Fits.{Agree}
 use Rattle.machine_state.specs.declared.entry.Shown.TheVariants as show
 use Rattle.machine_rules.specs.Destroying.{deleting, Dies, Schedules}
 use Rattle.machine_rules.specs.There.{IsMember, NoneDied}
 use Rattle.machine_rules.specs.Active.{shows}
-use Rattle.machine_rules.specs.Runs.{Rules, RulesStop}
-use Rattle.machine_state.specs.Worlds.{at, having_used, posting, ending, Becomes}
+use Rattle.machine_rules.specs.Runs.{Rules, RulesStop, WritesNext}
+use Rattle.machine_state.specs.Worlds.{at, having_used, posting, taking, ending, KeepsTheRest, GoesTo}
 
 -- ---- what a body's paths and expressions give to the code
 
@@ -66,13 +67,18 @@ pub record Reaches (p : Loaded) (depth : ℕ) (shown : List (Option ℕ))
       (below : List Activation) → shows below ≡ shown →
       Rules p depth (at w (from ++ below)) w.left (at v (to ++ below)) v.left
 
+-- what is left where a run stops in the world u: that world; where memory was refused, with other objects and bindings, of
+-- which nothing was written down
+abbrev pub Leaves : World → World → Fault → Type 0
+Leaves u v fault = KeepsTheRest u v × (fault ≢ Memory → v ≡ u)
+
 -- over any stack that shows this, the machine comes to a state where it stops
 pub record StopsIn (p : Loaded) (depth : ℕ) (shown : List (Option ℕ))
     (w : World) (from : List Activation) (v : World) (fault : Fault) : Type 0 where
   pub stops :
       (below : List Activation) → shows below ≡ shown →
-      (stack : List Activation) × Rules p depth (at w (from ++ below)) w.left (at v stack) v.left ×
-      RulesStop p depth (at v stack) v.left fault
+      (u : World) × (stack : List Activation) × Leaves u v fault ×
+      Rules p depth (at w (from ++ below)) w.left (at u stack) u.left × RulesStop p depth (at u stack) u.left fault
 
 -- a call went from one top of the stack to another, or stopped on the way
 pub record Ends (p : Loaded) (depth : ℕ) (shown : List (Option ℕ))
@@ -104,15 +110,18 @@ pub record CallsIn (p : Loaded) (w u : World) (from to : List Activation) (o m :
 abbrev pub Calls : Loaded → World → List Activation → List Activation → ℕ → ℕ → List Value → Type 0
 Calls p w from to o m arguments = CallsIn p w w from to o m arguments
 
--- .. and nothing else may
+-- .. and nothing else may; what comes next is no write
 pub record OnlyCalls (p : Loaded) (w : World) (from to : List Activation) (o m : ℕ) (arguments : List Value) : Type 0 where
+  pub writes_none : (below : List Activation) (x q : ℕ) (new : Value) → ¬ WritesNext (at w (from ++ below)) x q new
   pub begins :
       (below : List Activation) (t : State) →
       Rule p (at w (from ++ below)) t → Begins p (at w (from ++ below)) (to ++ below) o m arguments t
 
--- the next rule is that a property of an object is written
+-- the next rule is that a property of an object is written, by a statement
 pub record Sets (p : Loaded) (w : World) (from to : List Activation) (o q : ℕ) (new : Value) : Type 0 where
+  pub as_high : length from ≡ length to
   pub goes_on : (below : List Activation) → ¬ IsIdle (at w (from ++ below))
+  pub next : (below : List Activation) → WritesNext (at w (from ++ below)) o q new
   pub gives :
       (below : List Activation) (t : State) →
       Writes p (at w (from ++ below)) (to ++ below) o q new t → Rule p (at w (from ++ below)) t
@@ -163,7 +172,7 @@ pub record PostsCall (p : Loaded) (w : World) (depth : ℕ) (c : Connection) (o 
   pub lives_in : home_of w.store.tree o ≡ Some home
   pub is_loop : HasName w.store.loops.loops name home
   pub becomes :
-      Becomes w (posting (having_used w c) (entry_of_post w depth name object method arguments ∷ []) home (Call o m arguments)) v result
+      GoesTo w (posting (having_used w c) (entry_of_post w depth name object method arguments ∷ []) home (Call o m arguments)) v result
 
 -- what is pushed where a method begins
 abbrev pub top_of : ℕ → ℕ → List Value → ℕ → Work → Activation
@@ -209,29 +218,29 @@ LacksNames p objects ends fault = LacksEnds p objects ends × (fault ≡ IllType
 -- a rule that pushes nothing was carried out, as this relation tells, where so many activations are on the stack
 pub record Went (What : State → List Activation → State → Type 0) (w : World) (depth : ℕ) (v : World) : Type 0 where
   pub tells : (old stack : List Activation) → length stack ≡ depth → What (at w old) stack (at v stack)
-  pub typed : StayTyped w.store.tree v.store.tree
+  pub agree : (p : Loaded) → Agree p w.store.tree w.store.bindings → Agree p v.store.tree v.store.bindings
   pub spared : NoneDied w.store.tree v.store.tree
   pub left : v.left ≡ w.left - 1
 
 -- .. or there is none of which it tells, or memory was refused; then nothing changed
-pub record Stays (What : State → List Activation → State → Type 0) (w : World) (v : World) (fault : Fault) : Type 0 where
+pub record Stalls (What : State → List Activation → State → Type 0) (w : World) (v : World) (fault : Fault) : Type 0 where
   pub same : v ≡ w
   pub why : ((old stack : List Activation) (t : State) → ¬ What (at w old) stack t) × (fault ≡ IllTyped) ⊎ (fault ≡ Memory)
 
 abbrev pub ConnectsIn : Loaded → World → ℕ → Endpoints → ConnectionType → World → Result (Unit {0}) Fault → Type 0
 ConnectsIn p w depth ends how v result =
     let What : State → List Activation → State → Type 0 = λ s stack t. Connects p s stack ends how t in
-    MatchResult result (λ _. Went What w depth v) (Stays What w v)
+    MatchResult result (λ _. Went What w depth v) (Stalls What w v)
 
 abbrev pub DisconnectsIn : Loaded → World → ℕ → Endpoints → World → Result (Unit {0}) Fault → Type 0
 DisconnectsIn p w depth ends v result =
     let What : State → List Activation → State → Type 0 = λ s stack t. Disconnects p s stack ends t in
-    MatchResult result (λ _. Went What w depth v) (Stays What w v)
+    MatchResult result (λ _. Went What w depth v) (Stalls What w v)
 
 abbrev pub SchedulesIn : World → ℕ → ℕ → World → Result (Unit {0}) Fault → Type 0
 SchedulesIn w depth x v result =
     let What : State → List Activation → State → Type 0 = λ s stack t. Schedules s stack x t (life_of s.objects x) in
-    MatchResult result (λ _. Went What w depth v) (Stays What w v)
+    MatchResult result (λ _. Went What w depth v) (Stalls What w v)
 
 -- .. an object was forgotten, which comes last among those that are torn down then; or no rule was left, or memory was
 -- refused
@@ -248,3 +257,9 @@ pub record IsCalled (w : World) (turn : Turn) : Type 0 where
   pub arguments : List Value
   pub is : first.item ≡ Call object method arguments
   pub lives : is_living w.store.tree object ≡ true
+
+-- it was taken, this is written down, and these are its arguments; or memory was refused, and nothing changed
+abbrev pub TakesCall : World → Turn → Entry → World → Result (List Value) Fault → Type 0
+TakesCall w turn line v (Ok arguments) =
+    (v ≡ taking w (line ∷ []) turn.home turn.limit) × ((called : IsCalled w turn) → arguments ≡ called.arguments)
+TakesCall w turn line v (Err fault) = (fault ≡ Memory) × (v ≡ w)

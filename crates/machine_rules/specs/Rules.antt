@@ -1,7 +1,7 @@
 -- What may follow a state by one rule, beside the taking of events (docs/machine.md, "Rules"). No rule is forbidden
 -- because activations would nest too deep, a value is of a wrong type or an object dies while a body of it is active: those
 -- are faults of a run, and not of a rule.
-use Rattle.std.specs.Prelude.{◌≡◌, ◌≢◌, ℕ, List, [], ◌∷◌, ◌++◌, length, take, Option, None, Some, Result, Ok, Err, Bool, true, false}
+use Rattle.std.specs.Prelude.{◌≡◌, ℕ, List, [], ◌∷◌, ◌++◌, length, take, Option, None, Some, Result, Ok, Err, Bool, true, false}
 use Rattle.std.specs.List.{find}
 use Rattle.signatures.specs.declared.value.Value.{Value}
 use Rattle.texts.specs.declared.connection.ConnectionType.{ConnectionType}
@@ -19,9 +19,8 @@ use Rattle.event_loops.specs.declared.item.Item.TheVariants.{Call, Deletion}
 use Rattle.event_loops.specs.declared.item.Posted.{Posted}
 use Rattle.event_loops.specs.Queues.{HasName, items_at, is_before, posted_to, taken_before}
 use Rattle.object_tree.specs.declared.object.Object.{Object}
-use Rattle.object_tree.specs.Objects.{change_life, written, life_of}
+use Rattle.object_tree.specs.Objects.{life_of, home_of, stored}
 use Rattle.object_tree.specs.declared.life.Life.{Life}
-use Rattle.object_tree.specs.Seen.{seen}
 use Rattle.connections.specs.declared.connection.Connection.{Connection}
 use Rattle.machine_state.specs.declared.entry.Entry.{Entry}
 use Rattle.machine_state.specs.declared.entry.Entry.TheVariants.{At}
@@ -32,12 +31,14 @@ use Rattle.machine_state.specs.declared.refusal.Refusal.{Refusal}
 use Rattle.machine_state.specs.Refusals.{refusal_number}
 use Rattle.machine_state.specs.Worlds.{with_connection, without_connections}
 use Rattle.machine_state.specs.Connections.{is_silent, next_used, after_use}
-use Rattle.machine_state.specs.Objects.{stored, shown, all_shown, home_of}
+use Rattle.machine_state.specs.Objects.{all_shown}
 use Rattle.machine_rules.specs.There.{IsMember, IsField}
 use Rattle.machine_rules.specs.Connecting.{AreThere, kept_ends, names_of, found_ends, may_connect, may_disconnect}
 use Rattle.machine_rules.specs.Destroying.{deleting, DestroyRule, Schedules}
+use Rattle.machine_rules.specs.Settling.{Writes}
 use Rattle.machine_rules.specs.Doings.{Doing, Write, Begin, Choose, Connect, Disconnect, Delete, Schedule, Nothing, doing}
-use Rattle.machine_state.specs.State.{State, Place, Activation, Body, Emit, Update, Destroy}
+use Rattle.prop_bindings.specs.declared.place.Place.{Place}
+use Rattle.machine_state.specs.State.{State, Activation, Body, Emit, Update, Destroy}
 use Rattle.machine_state.specs.Turns.{running, reaches_at_once}
 use Rattle.machine_state.specs.declared.turn.Turn.{Turn}
 
@@ -61,30 +62,7 @@ pub record Begins (p : Loaded) (s : State) (below : List Activation) (o m : ℕ)
   pub is : IsMember p s.objects o m object method
   pub gives : t ≡ begun s below o object m method arguments method.work
 
--- ---- writing a property (Qt 6, "The Property System": a notify signal is emitted when the value has changed)
-
--- the signal to be emitted when a property is written: its notify signal, if it has one and the value has changed
-pub data Changes (old new : Value) : Option ℕ → Option ℕ → Type 0 where
-  changed : {signal : ℕ} → old ≢ new → Changes old new (Some signal) (Some signal)
-  unchanged : {signal : ℕ} → old ≡ new → Changes old new (Some signal) None
-  silent : Changes old new None None
-
--- what is still to be notified of a property: nothing, or this signal of it
-abbrev pub places_of : ℕ → ℕ → Option ℕ → List Place
-places_of o q None = []
-places_of o q (Some signal) = record { object = o; property = q } ∷ []
-
--- a property is written, and what is to be notified is pushed; whether the value has changed is judged as it reads
-pub record Writes (p : Loaded) (s : State) (below : List Activation) (o q : ℕ) (new : Value) (t : State) : Type 0 where
-  pub object : Object
-  pub property : MetaProperty
-  pub is : IsField p s.objects o q object property
-  pub old : Value
-  pub is_old : stored s.objects o q ≡ Some old
-  pub signal : Option ℕ
-  pub changes : Changes (seen s.objects old) (seen s.objects new) property.notify signal
-  pub gives : t ≡ pushed (record s { objects = change_life o (written q new) s.objects }) (Update (places_of o q signal)) below
-      (λ d. At d (happening.Written object.name property.name (shown s.objects new)) ∷ [])
+-- ---- updates (Qt 6, "The Property System")
 
 -- the notify signal of a property is emitted, with its present value if the signal has a parameter
 pub record Notifies (p : Loaded) (s : State) (below : List Activation) (place : Place) (t : State) : Type 0 where

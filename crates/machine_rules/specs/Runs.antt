@@ -1,10 +1,19 @@
 -- Runs of rules, and why they stop (docs/machine.md, "Runs").
-use Rattle.std.specs.Prelude.{◌≡◌, ℕ, suc, ◌<◌, ◌⊎◌, length}
+use Rattle.std.specs.Prelude.{◌≡◌, ℕ, suc, ◌<◌, ◌≤◌, ◌⊎◌, List, ◌∷◌, length, Some}
+use Rattle.signatures.specs.declared.value.Value.{Value}
+use Rattle.meta_model.specs.declared.object.MetaProperty.{MetaProperty}
+use Rattle.meta_model.specs.declared.object.Statement.{Statement}
+use Rattle.meta_model.specs.declared.object.Statement.TheViews.{out-Statement}
 use Rattle.meta_model.specs.Loaded.{Loaded}
+use Rattle.object_tree.specs.declared.object.Object.{Object}
+use Rattle.object_tree.specs.Typed.{ReadsAs}
+use Rattle.prop_bindings.specs.Fits.{Agree}
 use Rattle.machine_state.specs.declared.fault.Fault.{Fault}
-use Rattle.machine_state.specs.declared.fault.Fault.TheVariants.{BadType, TooDeep, InUse, Steps, Memory, Stopped}
-use Rattle.machine_state.specs.State.{State, IsIdle}
+use Rattle.machine_state.specs.declared.fault.Fault.TheVariants.{BadType, TooDeep, BindingLoop, InUse, Steps, Memory, Stopped}
+use Rattle.machine_state.specs.State.{State, Activation, Body, IsIdle}
+use Rattle.machine_rules.specs.Doings.{Write, doing}
 use Rattle.machine_rules.specs.Rules.{Rule}
+use Rattle.machine_rules.specs.There.{IsField, LacksField}
 use Rattle.machine_rules.specs.Good.{IsWell, Spares, IsGood}
 
 -- From s, with so many rules left, to t, with so many left: each state follows the one before it by one rule that
@@ -13,12 +22,50 @@ pub data Rules (p : Loaded) (depth : ℕ) : State → ℕ → State → ℕ → 
   done : {s : State} {n : ℕ} → Rules p depth s n s n
   then : {s m t : State} {n k : ℕ} → Rule p s m → IsGood p depth s m → Rules p depth m n t k → Rules p depth s (suc n) t k
 
--- what is going on has no next rule
+-- ---- a statement that writes
+
+-- what is going on is a body whose next statement writes this value to a property
+pub record WritesNext (s : State) (o q : ℕ) (new : Value) : Type 0 where
+  pub object : ℕ
+  pub method : ℕ
+  pub arguments : List Value
+  pub statement : Statement
+  pub rest : List Statement
+  pub below : List Activation
+  pub is_next : s.stack ≡ Body object method arguments (statement ∷ rest) ∷ below
+  pub writes : doing s.objects object arguments (out-Statement statement) ≡ Some (Write o q new)
+
+-- .. of an object's property, and the value is not of its type. What follows from the property need have no values then, so
+-- this is told of the statement, and not of what it makes.
+pub record WritesIll (p : Loaded) (s : State) : Type 0 where
+  pub object : ℕ
+  pub number : ℕ
+  pub value : Value
+  pub next : WritesNext s object number value
+  pub it : Object
+  pub property : MetaProperty
+  pub is : IsField p s.objects object number it property
+  pub ill : ¬ ReadsAs p s.objects value property.kind
+
+-- .. which is of its type, and one more activation is too many
+pub record WritesDeep (p : Loaded) (depth : ℕ) (s : State) : Type 0 where
+  pub object : ℕ
+  pub number : ℕ
+  pub value : Value
+  pub next : WritesNext s object number value
+  pub it : Object
+  pub property : MetaProperty
+  pub is : IsField p s.objects object number it property
+  pub fits : ReadsAs p s.objects value property.kind
+  pub deep : depth ≤ length s.stack
+
+-- ---- why a run stops
+
+-- what is going on has no next rule; a statement that writes, only where its property isn't there
 pub record IsStuck (p : Loaded) (s : State) : Type 0 where
   pub goes_on : ¬ IsIdle s
   pub stuck : (t : State) → ¬ Rule p s t
-
--- ---- why a run stops, told of what may follow
+  pub lacks : (o q : ℕ) (new : Value) → WritesNext s o q new → LacksField p s.objects o q
 
 -- what follows gives a property or a call a value that is not of its type
 pub record GoesIll (p : Loaded) (s : State) (Follows : State → Type 0) : Type 0 where
@@ -39,19 +86,21 @@ pub record GoesDeep (p : Loaded) (depth : ℕ) (s : State) (Follows : State → 
   pub follows : Follows t
   pub well : IsWell p s t
   pub spared : Spares s t
+  pub agree : Agree p t.objects t.bindings
   pub deep : depth < length t.stack
 
 -- Why a run stops in a state. Nothing follows, or what follows would give a value of a wrong type; an object would die
--- while a body of it is active; it would nest too deep; no rule is left where one is due; memory was refused where a rule
--- is due.
-abbrev pub Reason : Type 0 → (State → Type 0) → Type 0 → Loaded → ℕ → State → ℕ → Fault → Type 0
-Reason Stuck Follows Due p depth s left BadType = (0 < left) × (Stuck ⊎ GoesIll p s Follows)
-Reason Stuck Follows Due p depth s left InUse = (0 < left) × GoesFatal p s Follows
-Reason Stuck Follows Due p depth s left TooDeep = (0 < left) × GoesDeep p depth s Follows
-Reason Stuck Follows Due p depth s left Steps = (left ≡ 0) × Due
-Reason Stuck Follows Due p depth s left Memory = (0 < left) × Due
-Reason Stuck Follows Due p depth s left Stopped = ⊥
+-- while a body of it is active; a chain of bindings would close; activations would nest too deep; no rule is left where one
+-- is due; memory was refused where a rule is due.
+abbrev pub Reason : Type 0 → Type 0 → (State → Type 0) → Type 0 → Loaded → ℕ → State → ℕ → Fault → Type 0
+Reason Stuck Closes Follows Due p depth s left BadType = (0 < left) × (Stuck ⊎ (WritesIll p s ⊎ GoesIll p s Follows))
+Reason Stuck Closes Follows Due p depth s left InUse = (0 < left) × GoesFatal p s Follows
+Reason Stuck Closes Follows Due p depth s left BindingLoop = (0 < left) × Closes
+Reason Stuck Closes Follows Due p depth s left TooDeep = (0 < left) × (WritesDeep p depth s ⊎ GoesDeep p depth s Follows)
+Reason Stuck Closes Follows Due p depth s left Steps = (left ≡ 0) × Due
+Reason Stuck Closes Follows Due p depth s left Memory = (0 < left) × Due
+Reason Stuck Closes Follows Due p depth s left Stopped = ⊥
 
--- why rules stop in a state
+-- why rules stop in a state: none of them binds a property
 abbrev pub RulesStop : Loaded → ℕ → State → ℕ → Fault → Type 0
-RulesStop p depth s left fault = Reason (IsStuck p s) (λ t. Rule p s t) (¬ IsIdle s) p depth s left fault
+RulesStop p depth s left fault = Reason (IsStuck p s) ⊥ (λ t. Rule p s t) (¬ IsIdle s) p depth s left fault

@@ -1,26 +1,25 @@
--- What every machine keeps: properties have values of their types, connections join methods that their objects have or had,
--- what a connection calls takes the first arguments of its signal, each object lives in a loop that is there, and what
--- waits in the loops may begin (docs/machine.md, "What every run keeps").
+-- What every machine keeps: properties have values of their types, bound ones those of their expressions, connections join
+-- methods that their objects have or had, what a connection calls takes the first arguments of its signal, each object
+-- lives in a loop that is there, and what waits in the loops may begin (docs/machine.md, "What every run keeps").
 use Rattle.std.specs.Prelude.{◌≡◌, ℕ, ◌+◌, ◌^◌, ◌<◌, List, ◌++◌, length, take, Some}
 use Rattle.std.specs.List.{AllByRecursion}
 use Rattle.meta_model.specs.declared.object.MetaMethod.{MetaMethod}
-use Rattle.meta_model.specs.declared.object.MetaObject.{MetaObject}
-use Rattle.meta_model.specs.declared.object.MetaProperty.{MetaProperty}
 use Rattle.meta_model.specs.declared.object.ValueType.{ValueType}
 use Rattle.meta_model.specs.Loaded.{Loaded}
-use Rattle.meta_model.specs.Members.{IsClass, IsMethod}
+use Rattle.meta_model.specs.Members.{IsMethod}
 use Rattle.meta_model.specs.declared.qobject.TheConstants.{DESTROYED}
-use Rattle.meta_model.specs.Sound.{IsSound, IsSoundProperty}
+use Rattle.meta_model.specs.Sound.{IsSound}
 use Rattle.connections.specs.declared.connection.Connection.{Connection}
 use Rattle.event_loops.specs.declared.item.Item.{Item}
 use Rattle.event_loops.specs.declared.item.Item.TheVariants.{Call, Deletion}
 use Rattle.event_loops.specs.Queues.{Loop}
 use Rattle.machine_state.specs.declared.world.World.{World}
-use Rattle.machine_state.specs.Objects.{home_of}
 use Rattle.object_tree.specs.declared.life.Life.{Life}
 use Rattle.object_tree.specs.declared.object.Object.{Object}
-use Rattle.object_tree.specs.Objects.{Lives}
-use Rattle.object_tree.specs.Typed.{AreTyped, ReadAs}
+use Rattle.object_tree.specs.Objects.{Lives, home_of}
+use Rattle.object_tree.specs.Typed.{ReadAs}
+use Rattle.prop_bindings.specs.declared.binding.Binding.{Binding}
+use Rattle.prop_bindings.specs.Fits.{Agree}
 use Rattle.signatures.specs.declared.value.Value.{Value}
 use Rattle.machine_rules.specs.There.{IsMember}
 use Rattle.machine_rules.specs.Good.{destroyed_kinds}
@@ -87,21 +86,20 @@ Waits p objects (Deletion o) = o < length objects
 abbrev pub AllWait : Loaded → List Object → List Loop → Type 0
 AllWait p objects loops = AllByRecursion (λ (l : Loop). AllByRecursion (λ q. Waits p objects q.item) l.items) loops
 
-pub record Sound (p : Loaded) (objects : List Object) (connections : List Connection) (loops : List Loop) : Type 0 where
-  pub typed : AreTyped p objects
+pub record Sound (p : Loaded) (objects : List Object) (bindings : List Binding) (connections : List Connection)
+    (loops : List Loop) : Type 0 where
+  pub agree : Agree p objects bindings
   pub joined : AllByRecursion (Joined p objects) connections
   pub housed : AreHoused objects loops
   pub waiting : AllWait p objects loops
 
+-- properties and bindings of a world agree
+abbrev pub AgreeIn : Loaded → World → Type 0
+AgreeIn p w = Agree p w.store.tree w.store.bindings
+
 -- .. in a world, where the program is sound, and with each rule that is left a connection and an item may still be numbered
 pub record IsSoundWorld (p : Loaded) (w : World) : Type 0 where
   pub program : IsSound p
-  pub is : Sound p w.store.tree w.store.connections.connections w.store.loops.loops
+  pub is : Sound p w.store.tree w.store.bindings w.store.connections.connections w.store.loops.loops
   pub numbers : w.store.connections.last + w.left < 2 ^ 63
   pub room : w.store.loops.posted + w.left < 2 ^ 63
-
--- a property is as the class of its object has it in a sound program
-abbrev pub IsSoundIn : Loaded → List Object → ℕ → MetaProperty → Type 0
-IsSoundIn p objects o property =
-    (x : Object) (life : Life) (class : MetaObject) →
-    Lives objects o x life → IsClass p life.class class → IsSoundProperty p class property

@@ -76,7 +76,7 @@ impl Setting {
             Doing::Disconnect(ends) => self.disconnect(world, over.count(), ends),
             Doing::Delete(target) => self.delete(world, &over, target),
             Doing::Schedule(target) => self.schedule(world, over.count(), target),
-            Doing::Nothing => world.note([Entry::At(over.count(), Happening::OnNull)]),
+            Doing::Nothing => world.note(Entry::At(over.count(), Happening::OnNull)),
         }
     }
 

@@ -33,7 +33,7 @@ impl Setting {
             return Err(Fault::BadType);
         };
         if let Err(refusal) = answer {
-            return world.note([refused(depth, refusal)]);
+            return world.note(refused(depth, refusal));
         }
         let kept = kept_ends(&ends);
         let names = self.names(world, &kept)?;
@@ -50,7 +50,7 @@ impl Setting {
         let kept = kept_ends(&ends);
         let names = self.names(world, &kept)?;
         if !world.are_joined(&kept) {
-            return world.note([refused(depth, Refusal::NoConnection)]);
+            return world.note(refused(depth, Refusal::NoConnection));
         }
         let line = Entry::At(depth, Happening::Disconnected(names));
         world.disconnect(line, &kept)

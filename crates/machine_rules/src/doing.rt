@@ -4,13 +4,13 @@ ghost use Rattle.std.specs.Prelude.{◌≡◌};
 ghost use Rattle.meta_model.specs.declared.object.Statement.TheOpen.{Set, Emit, Call, If, Connect, Disconnect, Delete, Later};
 ghost use Rattle.meta_model.specs.declared.object.Statement.TheViews.{out-Statement};
 ghost use Rattle.machine_rules.specs.Scope.{doing_in};
-ghost use Rattle.machine_rules.specs.Coded.{Yields, FindsEnds, chosen_of};
+ghost use Rattle.machine_rules.specs.Coded.{Yields, FindsBetween, chosen_of};
 
 use crate::paths::Scope;
-use crate::place::Place;
 use expressions::EvalFault;
 use machine_state::Endpoints;
 use meta_objects::{MetaEndpoints, MetaPath, Statement};
+use prop_bindings::Place;
 use signatures::{Arguments, ObjectId, Value};
 use texts::{ConnectionType, Expr};
 
@@ -144,7 +144,7 @@ impl<'w> Scope<'w> {
 
     /// The ends whose objects two paths lead to, or `None` where one leads to null.
     fn ends_at(&self, ends: &MetaEndpoints) -> Result<Option<Endpoints>, EvalFault>
-        ensures { FindsEnds self.now ends.now result }
+        ensures { FindsBetween self.now ends.now result }
     {
         let Some(sender) = self.object_at(&ends.sender)? else {
             return Ok(None);

@@ -1,9 +1,9 @@
 //! Emissions, and the beginning of methods.
 
-ghost use Rattle.std.specs.Prelude.{◌<◌, length};
+ghost use Rattle.std.specs.Prelude.{◌<◌, length, OnOk};
 ghost use Rattle.machine_rules.specs.Sound.{IsSoundWorld, SendsThese, IsDelivered};
 ghost use Rattle.machine_state.specs.State.{Emit};
-ghost use Rattle.machine_rules.specs.Calls.{Finishes, Delivers, EndsCall, EndsUse, EndsOnlyCall};
+ghost use Rattle.machine_rules.specs.Calls.{Finishes, UsesNext, EndsCall, EndsUse, EndsOnlyCall};
 ghost use Rattle.machine_rules.specs.Reaches.{CallFits, top_of};
 ghost use Rattle.machine_rules.specs.Keeps.{KeepsWorld};
 
@@ -32,8 +32,8 @@ impl Setting {
         ensures ends { Finishes self.now active.now
             (Emit call.now.object call.now.method call.now.arguments.now 0 last)
             world.old world.new result }
-        ensures keeps { KeepsWorld self.now.meta world.old world.new }
-        ensures sound { IsSoundWorld self.now.meta world.new }
+        ensures keeps { OnOk result (KeepsWorld self.now.meta world.old world.new) }
+        ensures sound { OnOk result (IsSoundWorld self.now.meta world.new) }
     {
         let mut used = 0;
         while let Some(connection) = world.next_used(call.object, call.method, used, last) {
@@ -55,7 +55,7 @@ impl Setting {
         requires room { length active.now < self.now.depth }
         requires sound { IsSoundWorld self.now.meta world.old }
         requires takes { IsDelivered self.now.meta world.old.store.tree connection arguments.now }
-        ensures ends { Delivers self.now active.now
+        ensures ends { UsesNext self.now active.now
             connection arguments.now world.old world.new result }
     {
         world.require_rule()?;
@@ -96,7 +96,7 @@ impl Setting {
             connection.now call.now world.old world.new result }
     {
         let (line, begun) = self.begun(world, active, call)?;
-        world.use_connection([line], connection)?;
+        world.use_connection(line, connection)?;
         self.run_begun(world, active, call, &begun)
     }
 
@@ -140,7 +140,7 @@ impl Setting {
         ensures ends { EndsCall self.now active.now call.now world.old world.new result }
     {
         let (line, begun) = self.begun(world, active, call)?;
-        world.note([line])?;
+        world.note(line)?;
         self.run_begun(world, active, call, &begun)
     }
 

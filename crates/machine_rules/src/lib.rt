@@ -1,5 +1,5 @@
-//! The rules of a run: emissions, bodies of slots, connections that these make, writes of properties, deletions of objects
-//! and turns of event loops.
+//! The rules of a run: emissions, bodies of slots, connections that these make, writes of properties and what follows from
+//! them, deletions of objects and turns of event loops.
 #![tactic(auto)]
 
 mod active;
@@ -12,7 +12,6 @@ mod ends;
 mod laws;
 mod method_call;
 mod paths;
-mod place;
 mod posting;
 mod remaining;
 mod setting;
@@ -21,8 +20,6 @@ mod update;
 
 pub use active::Active;
 pub use ends::{FoundEnds, named_signal};
-pub use laws::one_rule;
+pub use laws::{one_rule, rule_settles, stays_settled};
 pub use method_call::MethodCall;
-pub use place::Place;
 pub use setting::{Begun, Setting};
-pub use update::Writing;

@@ -7,7 +7,6 @@ ghost use Rattle.machine_rules.specs.Paths.{root_value, step_value};
 ghost use Rattle.machine_rules.specs.Scope.{path_in, value_in, values_in};
 
 use expressions::{self, EvalFault};
-use machine_state::stored;
 use meta_objects::{MetaPath, MetaRoot, Step};
 use object_tree::Tree;
 use signatures::{Arguments, ObjectId, Value};
@@ -93,7 +92,7 @@ impl<'w> Scope<'w> {
                 Ok(value)
             }
             Value::Ref(Some(object)) => {
-                let found = copy_found(stored(self.objects, *object, step.property))?;
+                let found = copy_found(self.objects.value(*object, step.property))?;
                 Ok(self.objects.seen(found))
             }
             _ => Err(EvalFault::BadType),

@@ -1,8 +1,7 @@
 //! A program with its natives, and what its numbers lead to.
 
-ghost use Rattle.std.specs.Prelude.{◌≡◌, ◌≤◌, IfSome, IfOk, IfErr, MatchOption};
+ghost use Rattle.std.specs.Prelude.{◌≡◌, ◌≤◌, IfOk, IfErr, MatchOption};
 ghost use Rattle.machine_rules.specs.Reaches.{CallFits, entry_of_call, MayNest, IsBegun, IsBarred};
-ghost use Rattle.machine_rules.specs.Sound.{IsSoundIn};
 ghost use Rattle.machine_rules.specs.There.{IsMember, IsField, LacksMember, LacksField};
 
 use crate::active::Active;
@@ -41,6 +40,7 @@ impl Setting {
     pub fn new(alloc: Global, meta: Meta, natives: Natives, depth: usize) -> Setting
         requires { depth ≤ 256 }
         ensures meta { result.meta ≡ meta }
+        ensures natives { result.natives ≡ natives }
         ensures depth { result.depth ≡ depth }
     {
         Setting {
@@ -77,11 +77,9 @@ impl Setting {
         object: ObjectId,
         property: usize,
     ) -> Option<(&'w Object, &'s MetaProperty)>
-        ensures value { MatchOption result
+        ensures { MatchOption result
             (LacksField self.now.meta world.now.store.tree object property)
             (λ f. IsField self.now.meta world.now.store.tree object property f.0.now f.1.now) }
-        ensures sound { IfSome result (λ f.
-            IsSoundIn self.now.meta world.now.store.tree object f.1.now) }
     {
         let Some((found, life)) = world.store.tree.get(object) else {
             return None;

@@ -2,13 +2,14 @@
 
 ghost use Rattle.std.specs.Prelude.{◌≡◌, ◌<◌, [], Some, None, OnOk};
 ghost use Rattle.machine_rules.specs.Sound.{IsSoundWorld};
-ghost use Rattle.machine_rules.specs.Reaches.{Ends, Advances, IsCalled};
+ghost use Rattle.machine_rules.specs.Reaches.{Ends, Advances, IsCalled, TakesCall};
 
 use crate::active::Active;
 use crate::method_call::MethodCall;
 use crate::setting::Setting;
 use event_loops::{Item, Posted};
-use machine_state::{Fault, Turn, World};
+use machine_state::{Entry, Fault, Turn, World};
+use signatures::Arguments;
 
 impl Setting {
     /// Carries the turn that goes on to its end, if one does.
@@ -83,21 +84,33 @@ impl Setting {
             arguments: arguments.as_slice(),
         };
         let (line, begun) = self.begun(world, &below, &call)?;
-        let taken = world.take_before(line, home, limit)?;
-        let Some(
-            Posted {
-                item: Item::Call { arguments, .. },
-                ..
-            },
-        ) = taken
-        else {
-            unreachable!()
-        };
+        let given = take_call(world, line, turn)?;
         let call = MethodCall {
             object,
             method,
-            arguments: arguments.as_slice(),
+            arguments: given.as_slice(),
         };
         self.run_begun(world, &below, &call, &begun)
     }
+}
+
+/// Takes the first item of a turn, which is a call of a living object, writes this entry down, and gives the call's
+/// arguments; without memory nothing changes.
+fn take_call(world: &mut World, line: Entry, turn: Turn) -> Result<Arguments, Fault>
+    requires left { 0 < world.old.left }
+    requires first { IsCalled world.old turn }
+    ensures { TakesCall world.old turn line world.new result }
+{
+    let Turn { home, limit } = turn;
+    let taken = world.take_before(line, home, limit)?;
+    let Some(
+        Posted {
+            item: Item::Call { arguments, .. },
+            ..
+        },
+    ) = taken
+    else {
+        unreachable!()
+    };
+    Ok(arguments)
 }

@@ -1,3 +1,6 @@
 pub mod Due
 pub mod Passing
 pub mod Deferring
+pub mod Changed
+pub mod Told
+pub mod Bound

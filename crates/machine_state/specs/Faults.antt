@@ -3,11 +3,12 @@ use Rattle.std.specs.Prelude.{◌≡◌, ℕ}
 use Rattle.expressions.specs.declared.evaluation.EvalFault.{EvalFault}
 use Rattle.expressions.specs.declared.evaluation.EvalFault.TheVariants.{BadType as HasNone, Memory as NoMemory}
 use Rattle.machine_state.specs.declared.fault.Fault.{Fault}
-use Rattle.machine_state.specs.declared.fault.Fault.TheVariants.{BadType, TooDeep, InUse, Steps, Memory, Stopped}
+use Rattle.machine_state.specs.declared.fault.Fault.TheVariants.{BadType, TooDeep, BindingLoop, InUse, Steps, Memory, Stopped}
 
 abbrev pub number_of : Fault → ℕ
 number_of BadType = 60
 number_of TooDeep = 61
+number_of BindingLoop = 62
 number_of InUse = 63
 number_of Steps = 64
 number_of Memory = 65

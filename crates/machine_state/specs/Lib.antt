@@ -3,6 +3,7 @@ pub mod Refusals
 pub mod State
 pub mod Turns
 pub mod Objects
+pub mod Telling
 pub mod Connections
 pub mod Accepting
 pub mod Worlds

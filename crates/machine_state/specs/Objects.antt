@@ -1,22 +1,12 @@
--- Objects' properties, and how values are written down (docs/machine.md, "Objects").
-use Rattle.std.specs.Prelude.{ℕ, List, map, Option, None, Some, slice_get}
-use Rattle.std.specs.Option.{option_and_then, option_map}
+-- How values are written down (docs/machine.md, "Objects").
+use Rattle.std.specs.Prelude.{ℕ, List, map, Option, None, Some}
 use Rattle.signatures.specs.declared.value.Value.{Value}
 use Rattle.signatures.specs.declared.value.Value.TheVariants as value
-use Rattle.object_tree.specs.declared.life.Life.{Life}
 use Rattle.object_tree.specs.declared.object.Object.{Object}
-use Rattle.object_tree.specs.Objects.{name_of, life_of}
+use Rattle.object_tree.specs.Objects.{name_of}
 use Rattle.object_tree.specs.Seen.{seen_reference}
 use Rattle.machine_state.specs.declared.entry.Shown.{Shown}
 use Rattle.machine_state.specs.declared.entry.Shown.TheVariants as show
-
--- the value of a living object's property
-abbrev pub stored : List Object → ℕ → ℕ → Option Value
-stored objects o q = option_and_then (λ (l : Life). slice_get l.values q) (life_of objects o)
-
--- the event loop in which a living object lives
-abbrev pub home_of : List Object → ℕ → Option ℕ
-home_of objects o = option_map (λ (l : Life). l.home) (life_of objects o)
 
 -- a name, or null where there is none
 abbrev pub shown_name : Option (List ℕ) → Shown

@@ -3,15 +3,12 @@ use Rattle.std.specs.Prelude.{◌≡◌, ℕ, List, [], Option, None}
 use Rattle.signatures.specs.declared.value.Value.{Value}
 use Rattle.meta_model.specs.declared.object.Statement.{Statement}
 use Rattle.object_tree.specs.declared.object.Object.{Object}
-use Rattle.connections.specs.Connected.{Connected, unconnected}
-use Rattle.event_loops.specs.Queues.{Queues, start as only_main}
+use Rattle.connections.specs.Connected.{Connected}
+use Rattle.event_loops.specs.Queues.{Queues}
+use Rattle.prop_bindings.specs.declared.binding.Binding.{Binding}
+use Rattle.prop_bindings.specs.declared.place.Place.{Place}
 use Rattle.machine_state.specs.declared.entry.Entry.{Entry}
 use Rattle.machine_state.specs.declared.turn.Turn.{Turn}
-
--- a property of an object, both by number
-pub record Place : Type 0 where
-  pub object : ℕ
-  pub property : ℕ
 
 -- What is going on. Objects are named by their creation number, methods by their number in the object's class. A deletion
 -- ends an object and then its children, one by one (Qt 6, "Object Trees & Ownership").
@@ -20,7 +17,7 @@ pub data Activation : Type 0 where
   Body : (object method : ℕ) (arguments : List Value) (left : List Statement) → Activation
   -- an emission, with the last connection used and the last one made when it began
   Emit : (object signal : ℕ) (arguments : List Value) (used last : ℕ) → Activation
-  -- the notifications that follow a write, with the properties that are still to be notified
+  -- the notifications that follow a write or a bind, with the properties that are still to be notified
   Update : (notify : List Place) → Activation
   -- a deletion, with the object that is deleted next or whose `destroyed` goes on, if there is one, and the objects that
   -- are torn down: they are dead, and their children are deleted; the latest first
@@ -34,6 +31,8 @@ pub record State : Type 0 where
   -- the event loops in the order in which they were added, with the items that wait in them, and how many items were ever
   -- numbered
   pub queues : Queues
+  -- the bindings in the order in which they were installed
+  pub bindings : List Binding
   -- the turn of an event loop that goes on, if one does
   pub turn : Option Turn
   -- the latest first
@@ -46,7 +45,3 @@ pub record State : Type 0 where
 pub record IsIdle (s : State) : Type 0 where
   pub empty : s.stack ≡ []
   pub no_turn : s.turn ≡ None
-
--- nothing has happened
-abbrev pub start : State
-start = record { objects = []; connected = unconnected; queues = only_main; turn = None; stack = []; trace = []; events = 0 }

@@ -1,5 +1,5 @@
 -- What the world's functions do, and what a world says of the machine's state (docs/machine.md, "The state").
-use Rattle.std.specs.Prelude.{◌≡◌, ℕ, Bool, ◌+◌, ◌-◌, ◌<◌, List, [], ◌++◌, Option, None, Some, Result, Ok, Err}
+use Rattle.std.specs.Prelude.{◌≡◌, ◌≢◌, ℕ, Bool, false, ◌+◌, ◌-◌, ◌<◌, List, [], ◌++◌, Option, None, Some, Result, Ok, Err}
 use Rattle.std.specs.List.{find}
 use Rattle.signatures.specs.declared.value.Value.{Value}
 use Rattle.texts.specs.declared.connection.ConnectionType.{ConnectionType}
@@ -8,11 +8,18 @@ use Rattle.connections.specs.Connected.{Connected}
 use Rattle.event_loops.specs.declared.item.Item.{Item}
 use Rattle.event_loops.specs.declared.item.Posted.{Posted}
 use Rattle.event_loops.specs.Queues.{Queues, items_at, is_before, posted_to, taken_before, with_loop}
+use Rattle.meta_model.specs.Loaded.{Loaded}
+use Rattle.object_tree.specs.declared.life.Life.{Life}
 use Rattle.object_tree.specs.declared.object.Object.{Object}
-use Rattle.object_tree.specs.Family.{without_life}
-use Rattle.object_tree.specs.Objects.{change_life, blocked, written}
+use Rattle.object_tree.specs.Objects.{life_of, change_life, blocked}
+use Rattle.prop_bindings.specs.declared.binding.Binding.{Binding}
+use Rattle.prop_bindings.specs.declared.fault.BindFault.{BindFault}
+use Rattle.prop_bindings.specs.declared.fault.BindFault.TheVariants as bind
+use Rattle.prop_bindings.specs.declared.place.Place.{Place}
+use Rattle.prop_bindings.specs.Calls.{IsBound, IsNotBound, new_binding}
+use Rattle.prop_bindings.specs.Changes.{IsWritten}
 use Rattle.delete_later.specs.declared.store.Store.{Store}
-use Rattle.delete_later.specs.Ending.{ended_in}
+use Rattle.delete_later.specs.Ending.{died_in, ended_in}
 use Rattle.delete_later.specs.Scheduling.{empty, scheduled_in}
 use Rattle.machine_state.specs.declared.entry.Entry.{Entry}
 use Rattle.machine_state.specs.declared.fault.Answer.{Answer}
@@ -20,28 +27,31 @@ use Rattle.machine_state.specs.declared.fault.Answer.TheVariants as answer
 use Rattle.machine_state.specs.declared.fault.Fault.{Fault}
 use Rattle.machine_state.specs.declared.fault.Fault.TheVariants.{Steps, Memory}
 use Rattle.machine_state.specs.declared.refusal.Refusal.{Refusal}
+use Rattle.machine_state.specs.declared.telling.Cause.{Cause}
+use Rattle.machine_state.specs.declared.telling.Cause.TheVariants.{Write, Bind}
 use Rattle.machine_state.specs.declared.world.World.{World}
 use Rattle.machine_state.specs.Refusals.{refusal_number}
 use Rattle.machine_state.specs.Connections.{after_use, joined_by, parted}
 use Rattle.machine_state.specs.Accepting.{accepted, refused, with_entries}
 use Rattle.machine_state.specs.declared.endpoints.Endpoints.{Endpoints}
 use Rattle.machine_state.specs.State.{State, Activation}
+use Rattle.machine_state.specs.Telling.{AreTold}
 
 -- a world's state with a stack
 abbrev pub at : World → List Activation → State
-at w stack = record { objects = w.store.tree; connected = w.store.connections; queues = w.store.loops; turn = w.turn; stack = stack; trace = w.trace; events = w.events }
+at w stack = record { objects = w.store.tree; connected = w.store.connections; queues = w.store.loops; bindings = w.store.bindings; turn = w.turn; stack = stack; trace = w.trace; events = w.events }
 
--- a state's objects, connections and event loops, and a state with others
+-- a state's objects, connections, event loops and bindings, and a state with others
 abbrev pub store_of : State → Store
-store_of s = record { tree = s.objects; connections = s.connected; loops = s.queues }
+store_of s = record { tree = s.objects; connections = s.connected; loops = s.queues; bindings = s.bindings }
 
 abbrev pub with_store : State → Store → State
-with_store s store = record s { objects = store.tree; connected = store.connections; queues = store.loops }
+with_store s store = record s { objects = store.tree; connected = store.connections; queues = store.loops; bindings = store.bindings }
 
 -- the world was changed so, or memory was refused and nothing changed
-abbrev pub Becomes : World → World → World → Result (Unit {0}) Fault → Type 0
-Becomes w target v (Ok done) = v ≡ target
-Becomes w target v (Err fault) = (fault ≡ Memory) × (v ≡ w)
+abbrev pub GoesTo : World → World → World → Result (Unit {0}) Fault → Type 0
+GoesTo w target v (Ok done) = v ≡ target
+GoesTo w target v (Err fault) = (fault ≡ Memory) × (v ≡ w)
 
 -- nothing has happened, and so many rules may be used
 abbrev pub untouched : ℕ → World
@@ -57,6 +67,10 @@ with_connected w connected = record w { store = record w.store { connections = c
 abbrev pub with_queues : World → Queues → World
 with_queues w queues = record w { store = record w.store { loops = queues } }
 
+-- .. with other objects and bindings
+abbrev pub with_bound : World → List Object → List Binding → World
+with_bound w objects bindings = record w { store = record w.store { tree = objects; bindings = bindings } }
+
 -- ---- rules
 
 -- a world after a rule that writes nothing down, and after one that writes these entries down
@@ -65,10 +79,6 @@ ticked w = record w { left = w.left - 1 }
 
 abbrev pub noted : World → List Entry → World
 noted w entries = record w { left = w.left - 1; trace = w.trace ++ entries }
-
--- .. that also writes a property of an object, if it lives
-abbrev pub set_in : World → List Entry → ℕ → ℕ → Value → World
-set_in w entries o q new = with_objects (noted w entries) (change_life o (written q new) w.store.tree)
 
 -- .. that also uses a connection
 abbrev pub having_used : World → Connection → World
@@ -106,17 +116,76 @@ connecting w entries ends how = with_connected (noted w entries) (joined_by ends
 abbrev pub disconnecting : World → List Entry → Endpoints → World
 disconnecting w entries ends = with_connected (noted w entries) (parted ends w.store.connections)
 
+-- the object lives, and its deletion isn't scheduled yet
+pub record IsUnscheduled (objects : List Object) (o : ℕ) : Type 0 where
+  pub life : Life
+  pub lives : life_of objects o ≡ Some life
+  pub unmarked : life.scheduled ≡ false
+
 -- .. that also schedules an object's deletion, and that ends an object's life
 abbrev pub scheduling : World → List Entry → ℕ → World
 scheduling w entries o = record (noted w entries) { store = scheduled_in o w.store }
 
 abbrev pub dying : World → List Entry → ℕ → World
-dying w entries o = with_objects (noted w entries) (without_life o w.store.tree)
+dying w entries o = record (noted w entries) { store = died_in o w.store }
 
 -- a rule that writes nothing down, by which a dead object's connections and what waits for it go
 abbrev pub ending : World → ℕ → World
 ending w o = record (ticked w) { store = ended_in o w.store }
 
+-- ---- properties that change
+-- nothing differs but objects and bindings
+abbrev pub KeepsTheRest : World → World → Type 0
+KeepsTheRest w v = v ≡ with_bound w v.store.tree v.store.bindings
+
+-- A property was written, and this is written down, which leads to the world `told lines` but for objects and bindings.
+pub record HasWritten (p : Loaded) (depth : ℕ) (at : Place) (value : Value) (w : World) (told : List Entry → World)
+    (changed : List Place) (v : World) : Type 0 where
+  pub writes : IsWritten w.store.bindings v.store.bindings w.store.tree v.store.tree at value changed
+  pub lines : List Entry
+  pub are_told : AreTold p v.store.tree depth Write at changed lines
+  pub gives : v ≡ with_bound (told lines) v.store.tree v.store.bindings
+
+-- .. what is to be written down of it, before that
+pub record IsSet (p : Loaded) (depth : ℕ) (at : Place) (value : Value) (w : World) (changed : List Place)
+    (lines : List Entry) (v : World) : Type 0 where
+  pub writes : IsWritten w.store.bindings v.store.bindings w.store.tree v.store.tree at value changed
+  pub are_told : AreTold p v.store.tree depth Write at changed lines
+  pub keeps : KeepsTheRest w v
+
+-- .. or memory was refused; then nothing is written down, and nothing changed but objects and bindings
+abbrev pub WritesIn : Loaded → ℕ → Place → Value → World → (List Entry → World) → Result (List Place) Fault → World → Type 0
+WritesIn p depth at value w told (Ok changed) v = HasWritten p depth at value w told changed v
+WritesIn p depth at value w told (Err fault) v = (fault ≡ Memory) × KeepsTheRest w v
+
+-- the binding of a site was installed, and this is written down
+pub record HasBound (p : Loaded) (site target : ℕ) (sources : List ℕ) (w : World) (told : List Entry → World)
+    (changed : List Place) (v : World) : Type 0 where
+  pub binds : IsBound p w.store.bindings w.store.tree site target sources v.store.bindings v.store.tree changed
+  pub lines : List Entry
+  pub are_told : AreTold p v.store.tree 1 Bind (new_binding binds.may).target changed lines
+  pub gives : v ≡ with_bound (told lines) v.store.tree v.store.bindings
+
+-- .. what is to be written down of it, before that
+pub record IsInstalledIn (p : Loaded) (site target : ℕ) (sources : List ℕ) (w : World) (changed : List Place)
+    (lines : List Entry) (v : World) : Type 0 where
+  pub binds : IsBound p w.store.bindings w.store.tree site target sources v.store.bindings v.store.tree changed
+  pub are_told : AreTold p v.store.tree 1 Bind (new_binding binds.may).target changed lines
+  pub keeps : KeepsTheRest w v
+
+-- why it wasn't installed: then nothing changed; where memory was refused, nothing but objects and bindings
+pub record IsUnbound (p : Loaded) (site target : ℕ) (sources : List ℕ) (w : World) (fault : BindFault) (v : World)
+    : Type 0 where
+  pub cause : IsNotBound p w.store.tree w.store.bindings site target sources fault
+  pub keeps : KeepsTheRest w v
+  pub unchanged : fault ≢ bind.Memory → v ≡ w
+
+-- the binding of a site was installed, or it wasn't
+abbrev pub BindsIn : Loaded → ℕ → ℕ → List ℕ → World → (List Entry → World) → Result (List Place) BindFault → World → Type 0
+BindsIn p site target sources w told (Ok changed) v = HasBound p site target sources w told changed v
+BindsIn p site target sources w told (Err fault) v = IsUnbound p site target sources w fault v
+
+-- ---- the limit of rules
 -- a rule that writes nothing down was carried out, or none was left
 abbrev pub Ticks : World → World → Result (Unit {0}) Fault → Type 0
 Ticks w v (Ok went) = (0 < w.left) × (v ≡ ticked w)
@@ -153,10 +222,6 @@ accepting_block w o on = accepting_objects w (change_life o (blocked on) w.store
 abbrev pub accepting_entries : World → List Entry → World
 accepting_entries w entries = after w (with_entries (accepted (at w [])) entries)
 
--- .. and a property of an object is written, if it lives
-abbrev pub accepting_write : World → List Entry → ℕ → ℕ → Value → World
-accepting_write w entries o q value = with_objects (accepting_entries w entries) (change_life o (written q value) w.store.tree)
-
 -- a state in which an object's deletion is scheduled
 abbrev pub with_scheduled : State → ℕ → State
 with_scheduled s o = with_store s (scheduled_in o (store_of s))
@@ -166,9 +231,9 @@ abbrev pub accepting_schedule : World → List Entry → ℕ → World
 accepting_schedule w entries o = after w (with_scheduled (with_entries (accepted (at w [])) entries) o)
 
 -- the event was refused for this reason, or memory was
-abbrev pub Refuses : World → Refusal → World → Result Answer Fault → Type 0
-Refuses w r v (Ok a) = (a ≡ answer.Refused (refusal_number r)) × (v ≡ after w (refused (at w []) r))
-Refuses w r v (Err fault) = (fault ≡ Memory) × (v ≡ w)
+abbrev pub Rejects : World → Refusal → World → Result Answer Fault → Type 0
+Rejects w r v (Ok a) = (a ≡ answer.Refused (refusal_number r)) × (v ≡ after w (refused (at w []) r))
+Rejects w r v (Err fault) = (fault ≡ Memory) × (v ≡ w)
 
 -- a state with a connection more, which has the next number
 abbrev pub with_connection : State → Endpoints → ConnectionType → State

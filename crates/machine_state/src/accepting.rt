@@ -7,7 +7,7 @@ ghost use Rattle.object_tree.specs.Adopting.{AdoptsLiving, MayBeGone};
 ghost use Rattle.object_tree.specs.Creating.{Creates};
 ghost use Rattle.object_tree.specs.Objects.{IsGone};
 ghost use Rattle.machine_state.specs.Connections.{are_joined};
-ghost use Rattle.machine_state.specs.Worlds.{counted, accepting, accepting_objects, accepting_block, accepting_entries, accepting_write, accepting_connection, accepting_disconnection, accepting_loop, accepting_schedule, accepting_turn, Becomes, Refuses};
+ghost use Rattle.machine_state.specs.Worlds.{IsUnscheduled, counted, accepting, accepting_objects, accepting_block, accepting_entries, accepting_connection, accepting_disconnection, accepting_loop, accepting_schedule, accepting_turn, GoesTo, Rejects};
 
 use crate::connecting::{join, part};
 use crate::endpoints::Endpoints;
@@ -18,7 +18,7 @@ use crate::turn::Turn;
 use crate::world::World;
 use meta_objects::Meta;
 use object_tree::{AdoptFault, CreateFault};
-use signatures::{LoopId, Name, ObjectId, Value};
+use signatures::{LoopId, Name, ObjectId};
 use texts::ConnectionType;
 
 impl World {
@@ -26,7 +26,7 @@ impl World {
     pub fn refuse(&mut self, refusal: Refusal) -> Result<Answer, Fault>
         requires left { 0 < self.old.left }
         requires few { self.old.events < 2 ^ 63 }
-        ensures { Refuses self.old refusal self.new result }
+        ensures { Rejects self.old refusal self.new result }
     {
         let number = refusal.number();
         self.trace
@@ -36,7 +36,7 @@ impl World {
     }
 
     /// Counts an event that is taken, which is one rule.
-    fn count_event(&mut self)
+    pub(crate) fn count_event(&mut self)
         requires left { 0 < self.old.left }
         requires few { self.old.events < 2 ^ 63 }
         ensures { self.new ≡ counted self.old }
@@ -114,7 +114,7 @@ impl World {
         requires left { 0 < self.old.left }
         requires few { self.old.events < 2 ^ 63 }
         requires free { ¬ IsTaken self.old.store.loops.loops name.now }
-        ensures { Becomes self.old (accepting_loop self.old name.now) self.new result }
+        ensures { GoesTo self.old (accepting_loop self.old name.now) self.new result }
     {
         self.trace.accept(self.events + 1, [])?;
         match self.store.loops.add(name) {
@@ -133,7 +133,7 @@ impl World {
     pub fn accept_turn(&mut self, home: LoopId) -> Result<(), Fault>
         requires left { 0 < self.old.left }
         requires few { self.old.events < 2 ^ 63 }
-        ensures { Becomes self.old (accepting_turn self.old home) self.new result }
+        ensures { GoesTo self.old (accepting_turn self.old home) self.new result }
     {
         self.trace.accept(self.events + 1, [])?;
         let limit = self.store.loops.next_number();
@@ -146,7 +146,7 @@ impl World {
     pub fn accept_block(&mut self, object: ObjectId, on: bool) -> Result<(), Fault>
         requires left { 0 < self.old.left }
         requires few { self.old.events < 2 ^ 63 }
-        ensures { Becomes self.old (accepting_block self.old object on) self.new result }
+        ensures { GoesTo self.old (accepting_block self.old object on) self.new result }
     {
         self.trace.accept(self.events + 1, [])?;
         self.store.tree.block(object, on);
@@ -158,53 +158,32 @@ impl World {
     pub fn accept(&mut self) -> Result<(), Fault>
         requires left { 0 < self.old.left }
         requires few { self.old.events < 2 ^ 63 }
-        ensures { Becomes self.old (accepting self.old) self.new result }
+        ensures { GoesTo self.old (accepting self.old) self.new result }
     {
         self.trace.accept(self.events + 1, [])?;
         self.count_event();
         Ok(())
     }
 
-    /// Writes down that the event is accepted, and then these entries; without memory nothing changes.
-    pub fn accept_with<const N: usize>(&mut self, entries: [Entry; N]) -> Result<(), Fault>
+    /// Writes down that the event is accepted, and then this entry; without memory nothing changes.
+    pub fn accept_with(&mut self, entry: Entry) -> Result<(), Fault>
         requires left { 0 < self.old.left }
         requires few { self.old.events < 2 ^ 63 }
-        requires few_entries { N < 2 ^ 32 }
-        ensures { Becomes self.old (accepting_entries self.old entries.entry) self.new result }
+        ensures { GoesTo self.old (accepting_entries self.old (entry ∷ [])) self.new result }
     {
-        self.trace.accept(self.events + 1, entries)?;
+        self.trace.accept(self.events + 1, [entry])?;
         self.count_event();
         Ok(())
     }
 
-    /// Writes a living object's property for an accepted event, and writes these entries down; without memory nothing
-    /// changes. A number of no living object or of no property writes nothing.
-    pub fn accept_write<const N: usize>(
-        &mut self,
-        entries: [Entry; N],
-        object: ObjectId,
-        property: usize,
-        value: Value,
-    ) -> Result<(), Fault>
-        requires left { 0 < self.old.left }
-        requires few { self.old.events < 2 ^ 63 }
-        requires few_entries { N < 2 ^ 32 }
-        ensures { let target = accepting_write self.old entries.entry object property value in
-            Becomes self.old target self.new result }
-    {
-        self.accept_with(entries)?;
-        self.store.tree.set_value(object, property, value);
-        Ok(())
-    }
-
     /// Schedules an object for deletion for an accepted event, and writes this entry down; without memory nothing changes.
-    /// Of an object that is scheduled already, or doesn't live, only the entry is written.
     pub fn accept_schedule(&mut self, entry: Entry, object: ObjectId) -> Result<(), Fault>
         requires left { 0 < self.old.left }
         requires few { self.old.events < 2 ^ 63 }
+        requires unscheduled { IsUnscheduled self.old.store.tree object }
         requires home { IsHoused object self.old.store }
         requires few_posted { self.old.store.loops.posted < 2 ^ 63 - 1 }
-        ensures { Becomes self.old (accepting_schedule self.old (entry ∷ []) object) self.new result }
+        ensures { GoesTo self.old (accepting_schedule self.old (entry ∷ []) object) self.new result }
     {
         self.trace.accept(self.events + 1, [entry])?;
         match self.store.schedule(object) {
@@ -225,7 +204,7 @@ impl World {
         requires left { 0 < self.old.left }
         requires few { self.old.events < 2 ^ 63 }
         requires few_connected { self.old.store.connections.last < 2 ^ 63 - 1 }
-        ensures { Becomes self.old (accepting_connection self.old ends how) self.new result }
+        ensures { GoesTo self.old (accepting_connection self.old ends how) self.new result }
     {
         self.trace.accept(self.events + 1, [])?;
         match join(&mut self.store.connections, &ends, how) {
@@ -245,7 +224,7 @@ impl World {
         requires left { 0 < self.old.left }
         requires few { self.old.events < 2 ^ 63 }
         requires joined { IsTrue (are_joined ends self.old.store.connections) }
-        ensures { Becomes self.old (accepting_disconnection self.old ends) self.new result }
+        ensures { GoesTo self.old (accepting_disconnection self.old ends) self.new result }
     {
         self.trace.accept(self.events + 1, [])?;
         part(&mut self.store.connections, &ends);

@@ -2,7 +2,7 @@
 
 ghost use Rattle.std.specs.Prelude.{◌≡◌, ◌∷◌, [], ◌<◌, ◌^◌, ◌-◌, OnOk, IfErr, IsTrue};
 ghost use Rattle.machine_state.specs.Connections.{are_joined, joined_by, parted};
-ghost use Rattle.machine_state.specs.Worlds.{connecting, disconnecting, Becomes};
+ghost use Rattle.machine_state.specs.Worlds.{connecting, disconnecting, GoesTo};
 ghost use Rattle.machine_state.specs.declared.fault.Fault.TheVariants.{Memory};
 
 use crate::endpoints::Endpoints;
@@ -33,7 +33,7 @@ impl World {
         requires left { 0 < self.old.left }
         requires few { self.old.store.connections.last < 2 ^ 63 - 1 }
         ensures { let target = connecting self.old (entry ∷ []) ends.now how in
-            Becomes self.old target self.new result }
+            GoesTo self.old target self.new result }
     {
         self.trace.append([entry])?;
         match join(&mut self.store.connections, ends, how) {
@@ -54,9 +54,9 @@ impl World {
         requires left { 0 < self.old.left }
         requires joined { IsTrue (are_joined ends.now self.old.store.connections) }
         ensures { let target = disconnecting self.old (entry ∷ []) ends.now in
-            Becomes self.old target self.new result }
+            GoesTo self.old target self.new result }
     {
-        self.note([entry])?;
+        self.note(entry)?;
         part(&mut self.store.connections, ends);
         Ok(())
     }

@@ -2,7 +2,7 @@
 
 ghost use Rattle.std.specs.Prelude.{◌≡◌, ◌∷◌, [], ◌<◌, ◌-◌, ◌^◌};
 ghost use Rattle.delete_later.specs.Scheduling.{IsHoused};
-ghost use Rattle.machine_state.specs.Worlds.{Becomes, dying, ending, scheduling};
+ghost use Rattle.machine_state.specs.Worlds.{GoesTo, IsUnscheduled, dying, ending, scheduling};
 
 use crate::entry::Entry;
 use crate::fault::Fault;
@@ -10,19 +10,16 @@ use crate::world::World;
 use signatures::ObjectId;
 
 impl World {
-    /// A rule by which an object lives no more and leaves its parent's children, and which writes these entries down;
-    /// without memory nothing changes. Its own children, its connections and what waits for it stay.
-    pub fn mark_dead<const N: usize>(
-        &mut self,
-        entries: [Entry; N],
-        object: ObjectId,
-    ) -> Result<(), Fault>
+    /// A rule by which an object lives no more and leaves its parent's children, the bindings go whose target or source it
+    /// is, and both entries are written down, of its death and of its `destroyed`; without memory nothing changes. Its own
+    /// children, its connections and what waits for it stay.
+    pub fn mark_dead(&mut self, entries: [Entry; 2], object: ObjectId) -> Result<(), Fault>
         requires left { 0 < self.old.left }
-        requires few { N < 2 ^ 32 }
-        ensures { Becomes self.old (dying self.old entries.entry object) self.new result }
+        ensures { GoesTo self.old (dying self.old entries object) self.new result }
     {
-        self.note(entries)?;
-        self.store.tree.mark_dead(object);
+        self.trace.append(entries)?;
+        self.store.mark_dead(object);
+        self.left -= 1;
         Ok(())
     }
 
@@ -36,13 +33,13 @@ impl World {
         self.left -= 1;
     }
 
-    /// A rule that schedules an object for deletion, and writes this entry down; without memory nothing changes. Of an
-    /// object that is scheduled already, or doesn't live, only the entry is written.
+    /// A rule that schedules an object for deletion, and writes this entry down; without memory nothing changes.
     pub fn schedule(&mut self, entry: Entry, object: ObjectId) -> Result<(), Fault>
         requires left { 0 < self.old.left }
+        requires unscheduled { IsUnscheduled self.old.store.tree object }
         requires home { IsHoused object self.old.store }
         requires few { self.old.store.loops.posted < 2 ^ 63 - 1 }
-        ensures { Becomes self.old (scheduling self.old (entry ∷ []) object) self.new result }
+        ensures { GoesTo self.old (scheduling self.old (entry ∷ []) object) self.new result }
     {
         self.trace.append([entry])?;
         match self.store.schedule(object) {

@@ -1,6 +1,6 @@
 //! What a run writes down.
 
-ghost use Rattle.std.specs.Prelude.{◌≡◌, [], ◌∷◌, ◌++◌, ◌+◌, ◌<◌, ◌≤◌, ◌^◌, OnOk, OnErr, vec_len, vec_capacity};
+ghost use Rattle.std.specs.Prelude.{◌≡◌, [], ◌∷◌, ◌++◌, ◌+◌, ◌<◌, ◌≤◌, ◌^◌, OnOk, OnErr, length, vec_len, vec_capacity};
 ghost use Rattle.object_tree.specs.Lists.{LosesLast};
 ghost use Rattle.machine_state.specs.declared.entry.Entry.TheVariants.{Accepted};
 
@@ -50,6 +50,24 @@ pub enum Happening {
     },
     /// A property is written.
     Written {
+        /// Whose property.
+        object: Name,
+        /// The property.
+        property: Name,
+        /// Its new value.
+        value: Shown,
+    },
+    /// A property is bound.
+    Bound {
+        /// Whose property.
+        object: Name,
+        /// The property.
+        property: Name,
+        /// Its new value.
+        value: Shown,
+    },
+    /// A property changes by its binding.
+    Followed {
         /// Whose property.
         object: Name,
         /// The property.
@@ -161,11 +179,48 @@ impl Trace {
         Ok(())
     }
 
+    /// Adds the entries of a list in their order; without memory for all of them the trace stays as it was.
+    pub fn append_all(&mut self, entries: Vec<Entry>) -> Result<(), AllocError>
+        ensures ok { OnOk result (self.new ≡ self.old ++ entries.items) }
+        ensures err { OnErr result (self.new ≡ self.old) }
+    {
+        self.entries.reserve(entries.len())?;
+        push_list(&mut self.entries, entries);
+        Ok(())
+    }
+
+    /// Adds the entry of an accepted event, and then those of a list; without memory for all of them the trace stays as it
+    /// was.
+    pub fn accept_all(&mut self, event: u64, entries: Vec<Entry>) -> Result<(), AllocError>
+        ensures ok { OnOk result (self.new ≡ self.old ++ Accepted event ∷ [] ++ entries.items) }
+        ensures err { OnErr result (self.new ≡ self.old) }
+    {
+        self.entries.reserve(entries.len() + 1)?;
+        self.entries.push_reserved(Entry::Accepted(event));
+        push_list(&mut self.entries, entries);
+        Ok(())
+    }
+
+    /// The allocator from which the trace takes its memory.
+    pub fn allocator(&self) -> Global {
+        *self.entries.allocator()
+    }
+
     /// Takes the last entry off again.
     pub fn pop(&mut self)
         ensures { LosesLast self.old self.new }
     {
         let _last = self.entries.pop();
+    }
+}
+
+/// Adds the entries of a list in their order to one that has room for them.
+fn push_list(list: &mut Vec<Entry>, entries: Vec<Entry>)
+    requires room { vec_len list.old + length entries.items ≤ vec_capacity list.old }
+    ensures { list.new.items ≡ list.old.items ++ entries.items }
+{
+    for entry in entries {
+        list.push_reserved(entry);
     }
 }
 

@@ -23,6 +23,9 @@ pub enum Fault {
     /// The stack of activations would pass the depth.
     #[error("activations nest too deep")]
     TooDeep,
+    /// A chain of bindings would lead from a property back to itself.
+    #[error("a chain of bindings would close")]
+    BindingLoop,
     /// An object would die while a body of it is active.
     #[error("an object would die while a body of it is active")]
     InUse,
@@ -45,6 +48,7 @@ impl Fault {
         match self {
             Fault::BadType => 60,
             Fault::TooDeep => 61,
+            Fault::BindingLoop => 62,
             Fault::InUse => 63,
             Fault::Steps => 64,
             Fault::Memory => 65,

@@ -1,7 +1,8 @@
-//! The machine's state but the stack: objects, connections, event loops and the trace.
+//! The machine's state but the stack: objects, connections, event loops, bindings and the trace.
 #![tactic(auto)]
 
 mod accepting;
+mod binding;
 mod connecting;
 mod deleting;
 mod endpoints;
@@ -10,6 +11,7 @@ mod fault;
 mod natives;
 mod refusal;
 mod showing;
+mod telling;
 mod turn;
 mod world;
 
@@ -18,6 +20,7 @@ pub use entry::{Entry, Happening, Shown, Trace};
 pub use fault::{Answer, Fault};
 pub use natives::Natives;
 pub use refusal::Refusal;
-pub use showing::{show, show_all, stored};
+pub use showing::{show, show_all};
+pub use telling::Cause;
 pub use turn::{MAIN, Turn, reaches_at_once};
 pub use world::{World, is_silent};

@@ -34,6 +34,8 @@ pub enum Refusal {
     NoLoop,
     /// The event loop is there.
     LoopExists,
+    /// There is no such binding site, it has another number of sources, or it doesn't cover the objects' classes.
+    BadSource,
     /// A value isn't of the type of the property or the parameter that it is for.
     BadArgs,
     /// The object's class has no such signal, slot or property.
@@ -60,6 +62,7 @@ impl Refusal {
             Refusal::NoConnection => 41,
             Refusal::NoLoop => 42,
             Refusal::LoopExists => 43,
+            Refusal::BadSource => 44,
             Refusal::BadArgs => 45,
             Refusal::NoMember => 46,
         }

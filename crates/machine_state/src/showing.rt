@@ -1,21 +1,13 @@
-//! What is read of objects, and how values are written down.
+//! How values are written down.
 
 ghost use Rattle.std.specs.Prelude.{◌≡◌, IfOk};
-ghost use Rattle.std.specs.Option.{option_copied};
-ghost use Rattle.machine_state.specs.Objects.{stored, shown, shown_reference, all_shown};
+ghost use Rattle.machine_state.specs.Objects.{shown, shown_reference, all_shown};
 
 use crate::entry::Shown;
 use object_tree::Tree;
 use signatures::{ObjectId, Value};
 use sqlite_items::Items;
 use std::alloc::{AllocError, Global};
-
-/// The value of a living object's property.
-pub fn stored(objects: &Tree, object: ObjectId, property: usize) -> Option<&Value>
-    ensures { option_copied result ≡ stored objects.now object property }
-{
-    objects.life(object)?.values.get(property)
-}
 
 /// A value as it is written down: a reference, as it reads, by the object's name, or as null.
 pub fn show(objects: &Tree, value: &Value) -> Result<Shown, AllocError>

@@ -1,11 +1,9 @@
 //! Turns of event loops: which loop runs, what is posted and what is taken.
 
 ghost use Rattle.std.specs.Prelude.{◌≡◌, ◌<◌, ◌-◌, ◌^◌, ◌∷◌, [], length};
-ghost use Rattle.std.specs.List.{find};
-ghost use Rattle.event_loops.specs.Queues.{is_before, items_at};
-ghost use Rattle.machine_state.specs.Objects.{home_of};
+ghost use Rattle.object_tree.specs.Objects.{home_of};
 ghost use Rattle.machine_state.specs.Turns.{running, reaches_at_once};
-ghost use Rattle.machine_state.specs.Worlds.{Becomes, TakesFirst, having_used, posting, taking_unwritten, turn_ended};
+ghost use Rattle.machine_state.specs.Worlds.{GoesTo, TakesFirst, having_used, posting, taking_unwritten, turn_ended};
 
 use crate::entry::Entry;
 use crate::fault::Fault;
@@ -31,10 +29,7 @@ impl World {
     pub fn home(&self, object: ObjectId) -> Option<LoopId>
         ensures { result ≡ home_of self.now.store.tree object }
     {
-        match self.store.tree.life(object) {
-            Some(life) => Some(life.home),
-            None => None,
-        }
+        self.store.tree.home(object)
     }
 
     /// The loop that runs: that of the turn that goes on, and outside a turn `main`.
@@ -60,7 +55,7 @@ impl World {
         requires there { home < length self.old.store.loops.loops }
         requires few { self.old.store.loops.posted < 2 ^ 63 - 1 }
         ensures { let target = posting (having_used self.old connection.now) (entry ∷ []) home item in
-            Becomes self.old target self.new result }
+            GoesTo self.old target self.new result }
     {
         self.trace.append([entry])?;
         match self.store.loops.post(home, item) {
@@ -89,19 +84,18 @@ impl World {
         requires left { 0 < self.old.left }
         ensures { TakesFirst self.old (entry ∷ []) home number self.new result }
     {
-        self.note([entry])?;
+        self.note(entry)?;
         Ok(self.store.loops.take_before(home, number))
     }
 
-    /// A rule that takes the first item of an event loop that was posted before the one of this number, and gives it.
+    /// A rule that takes the first item of an event loop that was posted before the one of this number, if there is one.
     /// Nothing is written down.
-    pub fn take_unwritten(&mut self, home: LoopId, number: u64) -> Option<Posted>
+    pub fn take_unwritten(&mut self, home: LoopId, number: u64)
         requires left { 0 < self.old.left }
-        ensures taken { result ≡ find (is_before number) (items_at self.old.store.loops.loops home) }
-        ensures rest { self.new ≡ taking_unwritten self.old home number }
+        ensures { self.new ≡ taking_unwritten self.old home number }
     {
         self.left -= 1;
-        self.store.loops.take_before(home, number)
+        let _taken = self.store.loops.take_before(home, number);
     }
 
     /// A rule that ends the turn.

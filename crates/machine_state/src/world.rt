@@ -1,11 +1,11 @@
 //! All of the machine's state but the stack.
 
-ghost use Rattle.std.specs.Prelude.{◌≡◌, ◌<◌, ◌≤◌, ◌^◌, length, IfOk, IfSome, IsTrue, MatchOption};
+ghost use Rattle.std.specs.Prelude.{◌≡◌, ◌<◌, ◌≤◌, [], ◌∷◌, IfOk, IfSome, MatchOption};
 ghost use Rattle.std.specs.List.{find};
 ghost use Rattle.std.specs.Option.{option_copied};
 ghost use Rattle.object_tree.specs.Objects.{IsFree, IsNamed, life_of};
 ghost use Rattle.machine_state.specs.Connections.{next_used, can_be_used, silences, is_silent};
-ghost use Rattle.machine_state.specs.Worlds.{untouched, Ticks, IsLeft, Becomes, noted, using, set_in};
+ghost use Rattle.machine_state.specs.Worlds.{untouched, Ticks, IsLeft, GoesTo, noted, using};
 
 use crate::entry::{Entry, Trace};
 use crate::fault::Fault;
@@ -14,13 +14,13 @@ use connections::Connection;
 use delete_later::Store;
 use meta_model::DESTROYED;
 use object_tree::{Life, Object};
-use signatures::{Name, ObjectId, Value};
+use signatures::{Name, ObjectId};
 use std::alloc::{AllocError, Global};
 
 /// All of a machine's state but the stack, and how many rules are left.
 #[derive(Drop)]
 pub struct World {
-    /// The objects, the connections between them, and the event loops.
+    /// The objects, the connections between them, the event loops, and the bindings of the objects' properties.
     pub store: Store,
     /// The turn that goes on, if one does.
     pub turn: Option<Turn>,
@@ -128,51 +128,26 @@ impl World {
         }
     }
 
-    /// A rule that writes these entries down; without memory nothing changes.
-    pub fn note<const N: usize>(&mut self, entries: [Entry; N]) -> Result<(), Fault>
+    /// A rule that writes this entry down; without memory nothing changes.
+    pub fn note(&mut self, entry: Entry) -> Result<(), Fault>
         requires left { 0 < self.old.left }
-        requires few { N < 2 ^ 32 }
-        ensures { Becomes self.old (noted self.old entries.entry) self.new result }
+        ensures { GoesTo self.old (noted self.old (entry ∷ [])) self.new result }
     {
-        self.trace.append(entries)?;
+        self.trace.append([entry])?;
         self.left -= 1;
         Ok(())
     }
 
-    /// A rule that uses a connection, so that a single-shot one is removed, and writes these entries down; without memory
+    /// A rule that uses a connection, so that a single-shot one is removed, and writes this entry down; without memory
     /// nothing changes.
-    pub fn use_connection<const N: usize>(
-        &mut self,
-        entries: [Entry; N],
-        connection: &Connection,
-    ) -> Result<(), Fault>
+    pub fn use_connection(&mut self, entry: Entry, connection: &Connection) -> Result<(), Fault>
         requires left { 0 < self.old.left }
-        requires few { N < 2 ^ 32 }
-        ensures { Becomes self.old (using self.old entries.entry connection.now) self.new result }
+        ensures { GoesTo self.old (using self.old (entry ∷ []) connection.now) self.new result }
     {
-        self.note(entries)?;
+        self.note(entry)?;
         if connection.single {
             self.store.connections.cut(connection.number);
         }
-        Ok(())
-    }
-
-    /// A rule that writes a living object's property, and these entries down; without memory nothing changes. A number of
-    /// no living object or of no property writes nothing.
-    pub fn write<const N: usize>(
-        &mut self,
-        entries: [Entry; N],
-        object: ObjectId,
-        property: usize,
-        value: Value,
-    ) -> Result<(), Fault>
-        requires left { 0 < self.old.left }
-        requires few { N < 2 ^ 32 }
-        ensures { let target = set_in self.old entries.entry object property value in
-            Becomes self.old target self.new result }
-    {
-        self.note(entries)?;
-        self.store.tree.set_value(object, property, value);
         Ok(())
     }
 }

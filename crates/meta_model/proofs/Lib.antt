@@ -12,3 +12,6 @@ pub mod Outlined
 pub mod Roots
 pub mod Indexing
 pub mod OneMember
+pub mod PathsIn
+pub mod Anys
+pub mod SiteProperties

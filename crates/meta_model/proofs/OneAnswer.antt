@@ -7,6 +7,7 @@ use Rattle.meta_model.specs.declared.object.MetaMethod.{MetaMethod}
 use Rattle.meta_model.specs.declared.object.MetaObject.{MetaObject}
 use Rattle.meta_model.specs.Loaded.{Loaded}
 use Rattle.meta_model.specs.Members.{IsClassNamed, IsMethod, IsMethodNamed, IsPropertyNamed, base_of, Below, same, under}
+use Rattle.meta_model.specs.Sites.{IsSiteNamed}
 use Rattle.meta_model.specs.Sound.{IsSound, IsSoundClass}
 
 pub only_of : (N : Type 0) (Q : ℕ → Type 0) → ((i j : ℕ) → Q i → Q j → j ≡ i) → (r : Option ℕ) → MatchOption r N Q → IfSome r (λ i. (j : ℕ) → Q j → j ≡ i)
@@ -33,6 +34,9 @@ module _ (p : Loaded) (is : IsSound p) where
 
   pub one_class : (name : List ℕ) (i j : ℕ) → IsClassNamed p name i → IsClassNamed p name j → j ≡ i
   one_class name i j h k = sym (is.distinct_classes i j h.class k.class h.is.is k.is.is (h.named ∙ sym k.named))
+
+  pub one_site : (name : List ℕ) (i j : ℕ) → IsSiteNamed p name i → IsSiteNamed p name j → j ≡ i
+  one_site name i j h k = sym (is.distinct_sites i j h.is.item k.is.item h.is.is k.is.is (h.is.has ∙ sym k.is.has))
 
 module _ (p : Loaded) where
   -- a class that isn't the other is below it where its base is

@@ -16,6 +16,7 @@ use Rattle.meta_model.specs.Places.{StandsFirst}
 use Rattle.meta_model.specs.Twice.{StandsTwice}
 use Rattle.meta_model.specs.Outlines.{base_name}
 use Rattle.meta_model.specs.Kinds.{LacksType}
+use Rattle.meta_model.specs.Sites.{RepeatsSite, UsesReference}
 
 -- ---- names of classes
 -- no class may have this name
@@ -61,8 +62,12 @@ RepeatsParameter class =
     Any (λ (signal : Signal). RepeatsName signal.parameters) class.signals
     ⊎ Any (λ (slot : Slot). RepeatsName slot.parameters) class.slots
 
+-- two parameters of a method, two binding sites or two formal sources of one have one name
+abbrev pub RepeatsDeclared : Program → Type 0
+RepeatsDeclared program = Any RepeatsParameter program.classes ⊎ RepeatsSite program.sites
+
 abbrev pub DuplicateMember : Program → List Outline → Type 0
-DuplicateMember program outlines = Any HasTwoMembers outlines ⊎ Any RepeatsParameter program.classes
+DuplicateMember program outlines = Any HasTwoMembers outlines ⊎ RepeatsDeclared program
 
 -- ---- notify signals
 abbrev pub IsSignalOf : Sig → Heading → Type 0
@@ -102,5 +107,9 @@ abbrev pub LacksTypes : List Outline → Outline → Type 0
 LacksTypes outlines outline =
     Any (LacksPropertyType outlines) outline.properties ⊎ Any (LacksParameterType outlines) outline.methods
 
-abbrev pub NoType : List Outline → Type 0
-NoType outlines = Any (LacksTypes outlines) outlines
+abbrev pub LacksAnyType : List Outline → Type 0
+LacksAnyType outlines = Any (LacksTypes outlines) outlines
+
+-- .. or a binding's target, or a property that a binding reads, is a reference
+abbrev pub NoType : Program → List Outline → Type 0
+NoType program outlines = LacksAnyType outlines ⊎ Any (UsesReference outlines) program.sites

@@ -12,6 +12,7 @@ pub mod Twice
 pub mod Outlines
 pub mod Kinds
 pub mod Ends
+pub mod Sites
 pub mod Conditions
 pub mod Indexed
 pub mod FaultNumbers

@@ -1,7 +1,7 @@
 -- What every loaded program keeps: class 0 is `QObject`, which is above all others; numbers are those of members, and no
 -- two members are alike; a body speaks of objects of the class that declares its slot; literals hold no object
 -- (docs/machine.md, "Loading").
-use Rattle.std.specs.Prelude.{◌≡◌, ℕ, ◌<◌, ◌⊎◌, Bool, true, false, List, [], ◌∷◌, ◌++◌, length, None, Some, slice_get, codes}
+use Rattle.std.specs.Prelude.{◌≡◌, ◌≢◌, All, ℕ, ◌<◌, ◌⊎◌, Bool, true, false, List, [], ◌∷◌, ◌++◌, length, None, Some, slice_get, codes}
 use Rattle.std.specs.List.{AllZip}
 use Rattle.signatures.specs.declared.qtype.QType.{QType}
 use Rattle.signatures.specs.declared.value.Value.{Value}
@@ -29,11 +29,14 @@ use Rattle.meta_model.specs.declared.object.MetaMethod.{MetaMethod}
 use Rattle.meta_model.specs.declared.object.MetaProperty.{MetaProperty}
 use Rattle.meta_model.specs.declared.object.MetaWire.{MetaWire}
 use Rattle.meta_model.specs.declared.object.MetaOwns.{MetaOwns}
+use Rattle.meta_model.specs.declared.site.SourceProperty.{SourceProperty}
+use Rattle.meta_model.specs.declared.site.MetaSite.{MetaSite}
 use Rattle.meta_model.specs.Loaded.{Loaded}
 use Rattle.meta_model.specs.declared.qobject.TheConstants.{QOBJECT, OBJECT_NAME_CHANGED}
 use Rattle.meta_model.specs.Members.{IsClass, IsClassNamed, IsMethod, IsProperty, Below, Declares, IsIn}
 use Rattle.meta_model.specs.Literals.{HoldsNoObject}
 use Rattle.meta_model.specs.Root.{root_class, BeginsAsRoot}
+use Rattle.meta_model.specs.Sites.{paths_in, literals_in}
 
 -- ---- types
 -- a declared type, its class replaced by its number
@@ -106,8 +109,8 @@ pub record IsSoundCall (p : Loaded) (me : ℕ) (kinds : List ValueType) (path : 
   pub counted : length slot.kinds ≡ length es
   pub values : AreSoundExprs p me kinds es
 
--- signal g of class c may be connected to method m of class d, which isn't one that the runtime emits
-pub record MayConnect (p : Loaded) (c g d m : ℕ) : Type 0 where
+-- signal g of class c can be connected to method m of class d, which isn't one that the runtime emits
+pub record AreConnectable (p : Loaded) (c g d m : ℕ) : Type 0 where
   pub signal : MetaMethod
   pub from : IsMethod p c g signal
   pub signals : signal.work ≡ Signal
@@ -121,7 +124,7 @@ pub record AreSoundEnds (p : Loaded) (me : ℕ) (kinds : List ValueType) (ends :
   pub sender : LeadsToClass p me kinds ends.sender from_class
   pub to_class : ℕ
   pub receiver : LeadsToClass p me kinds ends.receiver to_class
-  pub connects : MayConnect p from_class ends.signal to_class ends.method
+  pub connects : AreConnectable p from_class ends.signal to_class ends.method
 
 mutual
   -- the members and paths of one statement, by its parts, are there
@@ -212,11 +215,39 @@ pub record IsSoundClass (p : Loaded) (c : ℕ) (class : MetaObject) : Type 0 whe
 -- ---- the program
 -- a wire leads from a signal to a method that isn't one that the runtime emits
 abbrev pub IsSoundWire : Loaded → MetaWire → Type 0
-IsSoundWire p wire = MayConnect p wire.sender wire.signal wire.receiver wire.method
+IsSoundWire p wire = AreConnectable p wire.sender wire.signal wire.receiver wire.method
 
 pub record IsSoundOwns (p : Loaded) (owns : MetaOwns) : Type 0 where
   pub parent : owns.parent < length p.classes
   pub child : owns.child < length p.classes
+
+-- no reference
+abbrev pub IsPlain : ValueType → Type 0
+IsPlain kind = (class : ℕ) (constant : Bool) → kind ≢ type.Reference class constant
+
+-- property q of class c is there, and is of a value type
+pub record IsPlainProperty (p : Loaded) (c q : ℕ) : Type 0 where
+  pub property : MetaProperty
+  pub is : IsProperty p c q property
+  pub plain : IsPlain property.kind
+
+-- the name stands for a property of a value type, in the class that the formal source is declared with
+pub record IsSoundSource (p : Loaded) (formals : List ℕ) (s : SourceProperty) : Type 0 where
+  pub class : ℕ
+  pub formal : slice_get formals s.source ≡ Some class
+  pub is_plain : IsPlainProperty p class s.property
+
+-- the target's property and those that the expression names are of value types, and literals hold no object
+pub record IsSoundSite (p : Loaded) (site : MetaSite) : Type 0 where
+  pub target : IsPlainProperty p site.class site.property
+  pub formals : All (λ (c : ℕ). c < length p.classes) site.formals
+  pub sources : All (IsSoundSource p site.formals) (paths_in site.formula)
+  pub literals : All HoldsNoObject (literals_in site.formula)
+
+-- no two of the sites have one name
+abbrev pub AreDistinctSites : List MetaSite → Type 0
+AreDistinctSites sites =
+    (i j : ℕ) (a b : MetaSite) → slice_get sites i ≡ Some a → slice_get sites j ≡ Some b → a.name ≡ b.name → i ≡ j
 
 -- no two of the classes have one name
 abbrev pub AreDistinctClasses : List MetaObject → Type 0
@@ -229,3 +260,5 @@ pub record IsSound (p : Loaded) : Type 0 where
   pub distinct_classes : AreDistinctClasses p.classes
   pub wires : (wire : MetaWire) → IsIn wire p.wires → IsSoundWire p wire
   pub owns : (owns : MetaOwns) → IsIn owns p.owns → IsSoundOwns p owns
+  pub sites : (i : ℕ) (site : MetaSite) → slice_get p.sites i ≡ Some site → IsSoundSite p site
+  pub distinct_sites : AreDistinctSites p.sites

@@ -3,10 +3,11 @@
 ghost use Rattle.std.specs.Prelude.{◌≡◌, ◌↔◌, IsTrue, Any};
 ghost use Rattle.meta_model.specs.Twice.{StandsTwice};
 ghost use Rattle.meta_model.specs.Conditions.{IsTaken, DuplicateClass};
-ghost use Rattle.meta_model.specs.Conditions.{RepeatsParameter, RepeatsName, AreOneParameter};
+ghost use Rattle.meta_model.specs.Conditions.{RepeatsParameter, RepeatsName, AreOneParameter, RepeatsDeclared};
+ghost use Rattle.meta_model.specs.Sites.{RepeatsSite, RepeatsFormal};
 
 use signatures::Name;
-use texts::{Class, Parameter, Program, Signal, Slot};
+use texts::{Class, Formal, Parameter, Program, Signal, Site, Slot};
 
 /// What may not stand twice in a list.
 trait Alike {
@@ -33,6 +34,22 @@ impl Alike for Parameter {
             (Some(name), Some(others)) => name.is_same(others),
             _ => false,
         }
+    }
+}
+
+impl Alike for Formal {
+    ghost alike = { λ a b. a.name ≡ b.name };
+
+    fn is_alike(&self, other: &Formal) -> bool {
+        self.name.is_same(&other.name)
+    }
+}
+
+impl Alike for Site {
+    ghost alike = { λ a b. a.name ≡ b.name };
+
+    fn is_alike(&self, other: &Site) -> bool {
+        self.name.is_same(&other.name)
     }
 }
 
@@ -76,8 +93,17 @@ fn is_taken(name: &Name) -> bool
         || bytes == b"QString".as_slice()
 }
 
+/// Whether two parameters of a method, two binding sites or two formal sources of one have one name.
+pub fn has_repeated_name(program: &Program) -> bool
+    ensures { IsTrue result ↔ RepeatsDeclared program.now }
+{
+    let classes = program.classes.as_slice();
+    let sites = program.sites.as_slice();
+    has_repeated_parameter(classes) || has_repeated_site(sites)
+}
+
 /// Whether a parameter stands twice in a method of one of the classes.
-pub fn has_repeated_parameter(classes: &[Class]) -> bool
+fn has_repeated_parameter(classes: &[Class]) -> bool
     ensures { IsTrue result ↔ Any RepeatsParameter classes.now }
 {
     classes.iter().any(|class| repeats_parameter(class))
@@ -108,4 +134,25 @@ fn repeats_slot_parameter(slots: &[Slot]) -> bool
     slots
         .iter()
         .any(|slot| stands_twice(slot.parameters.as_slice()))
+}
+
+/// Whether two binding sites have one name, or two formal sources of one.
+fn has_repeated_site(sites: &[Site]) -> bool
+    ensures { IsTrue result ↔ RepeatsSite sites.now }
+{
+    stands_twice(sites) || has_repeated_formal(sites)
+}
+
+/// Whether two formal sources of one of the sites have one name.
+fn has_repeated_formal(sites: &[Site]) -> bool
+    ensures { IsTrue result ↔ Any RepeatsFormal sites.now }
+{
+    sites.iter().any(|site| repeats_formal(site))
+}
+
+/// Whether two formal sources of the site have one name.
+fn repeats_formal(site: &Site) -> bool
+    ensures { IsTrue result ↔ RepeatsFormal site.now }
+{
+    stands_twice(site.formals.as_slice())
 }

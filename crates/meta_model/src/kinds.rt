@@ -3,7 +3,7 @@
 ghost use Rattle.std.specs.Prelude.{◌≡◌, ◌↔◌, ℕ, List, IsTrue, IfOk, Any};
 ghost use Rattle.std.specs.List.{AllZip};
 ghost use Rattle.meta_model.specs.Kinds.{IsKindIn, LacksType, IsReadAs};
-ghost use Rattle.meta_model.specs.Conditions.{LacksPropertyType, LacksParameterType, LacksTypes, NoType};
+ghost use Rattle.meta_model.specs.Conditions.{LacksPropertyType, LacksParameterType, LacksTypes, LacksAnyType, NoType};
 ghost use Rattle.meta_model.specs.LookUps.{LooksUp};
 ghost use Rattle.signatures.specs.Types.{value_type};
 
@@ -11,10 +11,11 @@ use crate::indexed::IndexedOutline;
 use crate::object::ValueType;
 use crate::outline::Heading;
 use crate::places::place_of;
+use crate::site_properties::has_reference;
 use signatures::QType;
 use sqlite_items::Items;
 use std::alloc::{AllocError, Global};
-use texts::Property;
+use texts::{Program, Property};
 
 /// What the type stands for, or `None` where there is no such type.
 pub fn kind_of(outlines: &[IndexedOutline], declared: &QType) -> Option<ValueType>
@@ -76,9 +77,18 @@ fn lacks_type(outlines: &[IndexedOutline], declared: &QType) -> bool
     kind_of(outlines, declared).is_none()
 }
 
+/// Whether the type of a property or a parameter isn't there, or a binding's target or a property that it reads is a
+/// reference.
+pub fn has_no_type(program: &Program, outlines: &[IndexedOutline]) -> bool
+    ensures { IsTrue result ↔ NoType program.now outlines.now }
+{
+    let sites = program.sites.as_slice();
+    lacks_any_type(outlines) || has_reference(outlines, sites)
+}
+
 /// Whether the type of a property or a parameter isn't there.
-pub fn has_no_type(outlines: &[IndexedOutline]) -> bool
-    ensures { IsTrue result ↔ NoType outlines.now }
+fn lacks_any_type(outlines: &[IndexedOutline]) -> bool
+    ensures { IsTrue result ↔ LacksAnyType outlines.now }
 {
     outlines
         .iter()

@@ -6,7 +6,7 @@ ghost use Rattle.meta_model.specs.Places.{IsPlace, IsFirst};
 use crate::indexed::IndexedOutline;
 use crate::outline::Outline;
 use signatures::Name;
-use texts::Parameter;
+use texts::{Formal, Parameter};
 
 /// What may have a name.
 pub trait Named {
@@ -30,6 +30,14 @@ impl Named for IndexedOutline {
 
     fn is_named(&self, name: &Name) -> bool {
         name.is_same(self.name())
+    }
+}
+
+impl Named for Formal {
+    ghost has_name = { λ formal name. formal.name ≡ name };
+
+    fn is_named(&self, name: &Name) -> bool {
+        name.is_same(&self.name)
     }
 }
 

@@ -31,7 +31,7 @@ use Rattle.meta_model.specs.Ends.{IsSigned}
 use Rattle.meta_model.specs.Literals.{literal}
 use Rattle.meta_objects.specs.Bodies.{Scope, IsRoot, this_root, parameter_root, PointsTo, HasMember, IsStep, AreSteps, IsPath, IsExpr, literal_is, path_is, unary_is, binary_is, AreExprs, IsObjectPath, IsReferencePath, IsPropertyOfName, IsCallOf, IsSet, IsEmit, IsCall, AreEnds, IsStatement, set_is, emit_is, call_is, if_is, connect_is, disconnect_is, delete_is, later_is, AreStatements, none_are, next_is, IsStatementOf}
 use Rattle.meta_model.proofs.Searches.{same_first}
-use Rattle.meta_model.proofs.Firsts.{first_item}
+use Rattle.meta_model.proofs.Firsts.{first_item, same_in}
 use Rattle.meta_model.proofs.ReadTypes.{same_read}
 
 -- a value is what it is made of
@@ -50,13 +50,6 @@ path_of r ss = record { root = r; steps = ss }
 
 abbrev ends_of : MetaPath → ℕ → MetaPath → ℕ → MetaEndpoints
 ends_of sender signal receiver method = record { sender = sender; signal = signal; receiver = receiver; method = method }
-
--- the first in one outline's list is that in an equal outline's
-module _ {X : Type 0} (list : Outline → List X) (P : X → Type 0) where
-  pub same_in : (o u : Outline) → o ≡ u → (q r : ℕ) (h : StandsFirst P (list o) q) (k : StandsFirst P (list u) r) → (q ≡ r) × (h.at.item ≡ k.at.item)
-  same_in o u e q r h k =
-      let same : q ≡ r = same_first P (list o) q r h (subst (λ (v : Outline). StandsFirst P (list v) r) (sym e) k) in
-      (same, same_Some _ _ (sym h.at.is ∙ ap (λ n. slice_get (list o) n) same ∙ ap (λ v. slice_get (list v) r) e ∙ k.at.is))
 
 pub same_named : (outlines : List Outline) (a b : List ℕ) → a ≡ b → (c d : ℕ) (h : IsOutlineNamed outlines a c) (k : IsOutlineNamed outlines b d) → h.at.item ≡ k.at.item
 same_named outlines a b e c d h k =

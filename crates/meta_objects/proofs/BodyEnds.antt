@@ -17,7 +17,8 @@ use Rattle.meta_model.specs.Places.{StandsFirst, NoneStands, StandsAt}
 use Rattle.meta_model.specs.Conditions.{IsSignalOf}
 use Rattle.meta_model.specs.Ends.{IsSigned}
 use Rattle.meta_objects.specs.Bodies.{Scope, IsObjectPath, AreEnds, IsStatement, connect_is, disconnect_is, IsStatementOf}
-use Rattle.meta_objects.proofs.Bodies.{same_in, same_object}
+use Rattle.meta_model.proofs.Firsts.{same_in}
+use Rattle.meta_objects.proofs.Bodies.{same_object}
 use Rattle.meta_objects.proofs.BodyPieces.{by_parts, parts_of}
 
 module _ (s : Scope) where

@@ -1,16 +1,19 @@
--- Looking up in an index of classes.
+-- Looking up in indexes of classes and of binding sites.
 use Rattle.std.proofs.Common.{◌≡◌, ℕ, List, length, slice_get, Option, Some, None, MatchOption, refl, sym, ap, ◌∙◌}
 use Rattle.std.specs.Option.{option_and_then}
 use Rattle.std.proofs.lemmas.Option.{none-some}
 use Rattle.meta_model.specs.NamePlaces.{place_in}
-use Rattle.meta_model.specs.CallPlaces.{place_by}
+use Rattle.meta_model.specs.CallPlaces.{Index, place_by}
 use Rattle.signatures.specs.declared.sig.Sig.{Sig}
 use Rattle.meta_model.specs.declared.object.MetaObject.{MetaObject}
 use Rattle.meta_objects.specs.declared.class_index.MemberIndex.{MemberIndex}
 use Rattle.meta_objects.specs.declared.class_index.ClassIndex.{ClassIndex}
 use Rattle.meta_model.specs.Loaded.{Loaded}
 use Rattle.meta_model.specs.Members.{IsClassNamed, HasSig, IsMethodNamed, IsPropertyNamed}
-use Rattle.meta_objects.specs.Indexes.{IndexesMembers, IsIndexOf, property_in, method_in}
+use Rattle.meta_model.specs.declared.site.MetaSite.{MetaSite}
+use Rattle.meta_model.specs.Sites.{IsSiteNamed}
+use Rattle.meta_objects.specs.Indexes.{IndexesMembers, IsIndexOf, IndexesSites, property_in, method_in}
+use Rattle.meta_model.proofs.Searches.{answer_of}
 use Rattle.meta_objects.proofs.LookUps.{class_answer, method_answer, property_answer}
 use Rattle.meta_model.proofs.Zips.{zip_left, zip_right}
 
@@ -22,6 +25,11 @@ named_of p c sig count e m h = record {
   named = ap (λ (s : Sig). s.name) h.signed;
   counted = ap (λ (s : Sig). length s.types) h.signed ∙ sym e;
 }
+
+-- the site of a name
+pub site_found : (p : Loaded) (index : Index) → IndexesSites p.sites index → (name : List ℕ) → MatchOption (place_in index name) ((i : ℕ) → ¬ IsSiteNamed p name i) (λ i. IsSiteNamed p name i)
+site_found p index is name =
+    answer_of (λ (site : MetaSite). site.name ≡ name) p.sites (IsSiteNamed p name) (λ i at. record { is = at }) (λ i n. n.is) (place_in index name) (is name)
 
 module _ (p : Loaded) (index : ClassIndex) (is : IsIndexOf p.classes index) where
   pub class_found : (name : List ℕ) → MatchOption (place_in index.classes name) ((c : ℕ) → ¬ IsClassNamed p name c) (λ c. IsClassNamed p name c)

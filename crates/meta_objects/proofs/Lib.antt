@@ -13,3 +13,6 @@ pub mod Whole
 pub mod Refusals
 pub mod Indexing
 pub mod OnlyAnswer
+pub mod SitePieces
+pub mod OneSite
+pub mod Sited

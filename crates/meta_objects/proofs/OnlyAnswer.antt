@@ -49,7 +49,7 @@ module _ (program : Program) where
   Condition (suc (suc zero)) = (o : List Outline) × HasOutlines program o × DuplicateMember program o
   Condition (suc (suc (suc zero))) = (o : List Outline) × HasOutlines program o × LacksMember program o
   Condition (suc (suc (suc (suc zero)))) = (o : List Outline) × HasOutlines program o × BadNotify o
-  Condition (suc (suc (suc (suc (suc zero))))) = (o : List Outline) × HasOutlines program o × NoType o
+  Condition (suc (suc (suc (suc (suc zero))))) = (o : List Outline) × HasOutlines program o × NoType program o
   Condition (suc (suc (suc (suc (suc (suc n)))))) = Unit {0}
 
   record IsFirst (k : ℕ) : Type 0 where
@@ -91,8 +91,8 @@ module _ (program : Program) where
     none_5 members names notifiers (suc (suc (suc zero))) less c = none_4 members names 3 (omega arith) c
     none_5 members names notifiers (suc (suc (suc (suc (suc j))))) less c = absurd (omega arith)
 
-    none_6 : (¬ DuplicateMember program o) → (¬ LacksMember program o) → (¬ BadNotify o) → (¬ NoType o) → (j : ℕ) → j < 6 → ¬ Condition j
-    none_6 members names notifiers types (suc (suc (suc (suc (suc zero))))) less c = types (subst NoType (same_all program c.0 o c.1.are has.are) c.2)
+    none_6 : (¬ DuplicateMember program o) → (¬ LacksMember program o) → (¬ BadNotify o) → (¬ NoType program o) → (j : ℕ) → j < 6 → ¬ Condition j
+    none_6 members names notifiers types (suc (suc (suc (suc (suc zero))))) less c = types (subst (NoType program) (same_all program c.0 o c.1.are has.are) c.2)
     none_6 members names notifiers types zero less c = has.distinct c
     none_6 members names notifiers types (suc zero) less c = has.based c
     none_6 members names notifiers types (suc (suc zero)) less c = none_5 members names notifiers 2 (omega arith) c

@@ -6,12 +6,14 @@ use Rattle.meta_model.specs.declared.fault.MetaFault.TheVariants as fault
 use Rattle.meta_model.specs.declared.object.Statement.{Statement}
 use Rattle.meta_model.specs.declared.object.MetaWire.{MetaWire}
 use Rattle.meta_model.specs.declared.object.MetaOwns.{MetaOwns}
+use Rattle.meta_model.specs.declared.site.MetaSite.{MetaSite}
 use Rattle.meta_model.specs.declared.outline.Outline.{Outline}
 use Rattle.meta_model.specs.Loaded.{Loaded}
 use Rattle.meta_model.specs.Outlines.{Outlines, qobject}
-use Rattle.meta_model.specs.Conditions.{DuplicateClass, NoBase, HasTwoMembers, RepeatsParameter, DuplicateMember}
+use Rattle.meta_model.specs.Conditions.{DuplicateClass, NoBase, HasTwoMembers, RepeatsDeclared, DuplicateMember}
 use Rattle.meta_model.specs.Indexed.{AreIndexed}
 use Rattle.meta_objects.specs.Bodies.{IsBody, AreBodies, LacksInSlot, LacksInClass}
+use Rattle.meta_objects.specs.Sites.{IsSite, LacksInSite}
 use Rattle.meta_objects.specs.Loading.{IsWire, LacksEnd, IsOwns, LacksClass, LacksMember, HasUses}
 use Rattle.meta_model.specs.PartAnswers.{Loads}
 use Rattle.meta_objects.specs.Builds.{HasOutlines, Builds}
@@ -22,14 +24,16 @@ pub outlined : (program : Program) (o : List Outline) → (¬ DuplicateClass pro
 outlined program o distinct are = record { distinct = distinct; based = none_lack program.classes (qobject ∷ []) 0 o are; are = are }
 
 -- what is resolved lacks no member
-pub nothing_lacks : (program : Program) (o : List Outline) (bodies : List (List (List Statement))) (wires : List MetaWire) (owns : List MetaOwns) → HasUses program o bodies wires owns → ¬ LacksMember program o
-nothing_lacks program o bodies wires owns h (inl any) =
+pub nothing_lacks : (program : Program) (o : List Outline) (bodies : List (List (List Statement))) (wires : List MetaWire) (owns : List MetaOwns) (sites : List MetaSite) → HasUses program o bodies wires owns sites → ¬ LacksMember program o
+nothing_lacks program o bodies wires owns sites h (inl any) =
     none_of_zip (AreBodies o) (LacksInClass o) program.classes bodies h.are_bodies
     (λ class bs are. none_of_zip (IsBody o class) (LacksInSlot o class) class.slots bs are (λ slot b is lacks. lacks b is)) any
-nothing_lacks program o bodies wires owns h (inr (inl any)) =
+nothing_lacks program o bodies wires owns sites h (inr (inl any)) =
     none_of_zip (IsWire o) (LacksEnd o) program.wires wires h.wired (λ wire w is lacks. lacks w is) any
-nothing_lacks program o bodies wires owns h (inr (inr any)) =
+nothing_lacks program o bodies wires owns sites h (inr (inr (inl any))) =
     none_of_zip (IsOwns o) (LacksClass o) program.owns owns h.owned (λ one w is lacks. lacks w is) any
+nothing_lacks program o bodies wires owns sites h (inr (inr (inr any))) =
+    none_of_zip (IsSite o) (LacksInSite o) program.sites sites h.sited (λ one w is lacks. lacks w is) any
 
 -- an answer that is this fault
 pub answers : (program : Program) (e : MetaFault) → Builds program (Err e) → (r : Result Loaded MetaFault) → IsErr r → IsErrAnd r (λ x. x ≡ e) → Builds program r
@@ -44,8 +48,8 @@ pub refused_use : (program : Program) (o : List Outline) (e : MetaFault) → Has
 refused_use program o e are members Is (inl m) = subst (λ f. Builds program (Err f)) (sym m) tt
 refused_use program o e are members Is (inr n) = subst (λ f. Builds program (Err f)) (sym n.0) (o, are, members, n.1)
 
--- no member and no parameter stands twice
-pub members_once : (program : Program) (o indexed : List Outline) → AreIndexed o indexed → (¬ Any RepeatsParameter program.classes) → ¬ DuplicateMember program o
+-- no member, no parameter and no binding site stands twice
+pub members_once : (program : Program) (o indexed : List Outline) → AreIndexed o indexed → (¬ RepeatsDeclared program) → ¬ DuplicateMember program o
 members_once program o indexed are none (inl any) = are.each_once any
 members_once program o indexed are none (inr any) = none any
 

@@ -24,7 +24,7 @@ use Rattle.meta_model.specs.declared.object.Statement.TheViews.{out-Statement}
 use Rattle.meta_model.specs.declared.object.MetaMethod.{MetaMethod}
 use Rattle.meta_model.specs.Loaded.{Loaded}
 use Rattle.meta_model.specs.Members.{IsMethod}
-use Rattle.meta_model.specs.Sound.{HasRoot, this_has, parameter_has, Leads, here, on, LeadsTo, LeadsToClass, IsSoundExpr, literal_sound, path_sound, unary_sound, binary_sound, AreSoundExprs, MayConnect, AreSoundEnds, IsSoundStatement, set_sound, emit_sound, call_sound, if_sound, connect_sound, disconnect_sound, delete_sound, later_sound, AreSound, none_sound, next_sound}
+use Rattle.meta_model.specs.Sound.{HasRoot, this_has, parameter_has, Leads, here, on, LeadsTo, LeadsToClass, IsSoundExpr, literal_sound, path_sound, unary_sound, binary_sound, AreSoundExprs, AreConnectable, AreSoundEnds, IsSoundStatement, set_sound, emit_sound, call_sound, if_sound, connect_sound, disconnect_sound, delete_sound, later_sound, AreSound, none_sound, next_sound}
 use Rattle.meta_model.specs.declared.qobject.TheConstants.{QOBJECT}
 use Rattle.meta_model.specs.Root.{delete_later_body}
 use Rattle.meta_model.specs.Literals.{literal, HoldsNoObject}
@@ -33,13 +33,13 @@ use Rattle.meta_objects.specs.LoadedEnds.{Connects}
 use Rattle.meta_objects.proofs.Soundness.{zip_length}
 
 -- a literal holds no object
-no_object : (v : Value) → HoldsNoObject (literal v)
+pub no_object : (v : Value) → HoldsNoObject (literal v)
 no_object (value.Int n) o e = absurd (cc)
 no_object (value.Bool b) o e = absurd (cc)
 no_object (value.Text t) o e = absurd (cc)
 no_object (value.Ref r) o e = absurd (cc)
 
-pub connects_sound : {p : Loaded} {c : ℕ} {from : Sig} {g d : ℕ} {to : Sig} {m : ℕ} → Connects p c from g d to m → MayConnect p c g d m
+pub connects_sound : {p : Loaded} {c : ℕ} {from : Sig} {g d : ℕ} {to : Sig} {m : ℕ} → Connects p c from g d to m → AreConnectable p c g d m
 connects_sound h = record {
   signal = h.signal.method;
   from = h.signal.is;

@@ -18,6 +18,7 @@ use Rattle.meta_model.specs.declared.object.MetaProperty.{MetaProperty}
 use Rattle.meta_model.specs.declared.object.MetaObject.{MetaObject}
 use Rattle.meta_model.specs.declared.object.MetaWire.{MetaWire}
 use Rattle.meta_model.specs.declared.object.MetaOwns.{MetaOwns}
+use Rattle.meta_model.specs.declared.site.MetaSite.{MetaSite}
 use Rattle.meta_model.specs.declared.outline.Heading.{Heading}
 use Rattle.meta_model.specs.declared.outline.Outline.{Outline}
 use Rattle.meta_model.specs.Loaded.{Loaded}
@@ -27,22 +28,14 @@ use Rattle.meta_model.specs.Kinds.{IsReadAs}
 use Rattle.meta_model.specs.Conditions.{IsSignalOf}
 use Rattle.meta_objects.specs.Bodies.{IsBody, AreBodies, AllBodies}
 use Rattle.meta_objects.specs.Loading.{IsMethodOf, IsNotify, IsPropertyOf, IsObject, IsWire, IsOwns, IsLoaded, initial_of}
+use Rattle.meta_objects.specs.Sites.{IsSite}
 use Rattle.meta_objects.specs.Builds.{OneLoading}
 use Rattle.meta_model.proofs.Searches.{same_first}
 use Rattle.meta_model.proofs.Firsts.{first_item}
 use Rattle.meta_objects.proofs.Ends.{one_end}
 use Rattle.meta_objects.proofs.Bodies.{same_statements}
+use Rattle.meta_objects.proofs.OneSite.{same_zip, same_site}
 use Rattle.meta_model.proofs.ReadTypes.{same_read}
-
--- two lists that relate to one list in the same way are the same
-pub same_zip : {A B : Type 0} (R : A → B → Type 0) (xs : List A) (ys zs : List B) → ((x : A) (y z : B) → R x y → R x z → y ≡ z) → AllZip R xs ys → AllZip R xs zs → ys ≡ zs
-same_zip R [] [] [] f h k = refl
-same_zip R [] [] (z ∷ zs) f h k = absurd k
-same_zip R [] (y ∷ ys) zs f h k = absurd h
-same_zip R (x ∷ xs) [] zs f h k = absurd h
-same_zip R (x ∷ xs) (y ∷ ys) [] f h k = absurd k
-same_zip R (x ∷ xs) (y ∷ ys) (z ∷ zs) f h k =
-    ap (λ v. v ∷ ys) (f x y z h.0 k.0) ∙ ap (λ vs. z ∷ vs) (same_zip R xs ys zs f h.1 k.1)
 
 -- ---- outlines
 abbrev outline_by : ℕ → Class → ℕ → Outline → Outline
@@ -78,8 +71,8 @@ wire_of c s d m k = record { sender = c; signal = s; receiver = d; method = m; k
 abbrev owns_of : ℕ → ℕ → MetaOwns
 owns_of c d = record { parent = c; child = d }
 
-abbrev loaded_of : List MetaObject → List MetaWire → List MetaOwns → Loaded
-loaded_of cs ws os = record { classes = cs; wires = ws; owns = os }
+abbrev loaded_of : List MetaObject → List MetaWire → List MetaOwns → List MetaSite → Loaded
+loaded_of cs ws os ss = record { classes = cs; wires = ws; owns = os; sites = ss }
 
 module _ (outlines : List Outline) where
   pub same_method : (bodies : List (List (List Statement))) (h : Heading) (m n : MetaMethod) → IsMethodOf outlines bodies h m → IsMethodOf outlines bodies h n → m ≡ n
@@ -144,9 +137,10 @@ module _ (outlines : List Outline) where
       let classes =
       same_zip (IsObject outlines h.bodies) outlines a.classes b.classes (same_object h.bodies) h.objects
       (subst (λ bs. AllZip (IsObject outlines bs) outlines b.classes) (sym bodies) k.objects) in
-      ap (λ x. loaded_of x a.wires a.owns) classes
-      ∙ ap (λ x. loaded_of b.classes x a.owns) (same_zip (IsWire outlines) program.wires a.wires b.wires same_wire h.uses.wired k.uses.wired)
-      ∙ ap (λ x. loaded_of b.classes b.wires x) (same_zip (IsOwns outlines) program.owns a.owns b.owns same_owns h.uses.owned k.uses.owned)
+      ap (λ x. loaded_of x a.wires a.owns a.sites) classes
+      ∙ ap (λ x. loaded_of b.classes x a.owns a.sites) (same_zip (IsWire outlines) program.wires a.wires b.wires same_wire h.uses.wired k.uses.wired)
+      ∙ ap (λ x. loaded_of b.classes b.wires x a.sites) (same_zip (IsOwns outlines) program.owns a.owns b.owns same_owns h.uses.owned k.uses.owned)
+      ∙ ap (λ x. loaded_of b.classes b.wires b.owns x) (same_zip (IsSite outlines) program.sites a.sites b.sites (same_site outlines) h.uses.sited k.uses.sited)
 
 pub same_all : (program : Program) (all more : List Outline) → Outlines program.classes all → Outlines program.classes more → all ≡ more
 same_all program all more h k = same_outlines program.classes (qobject ∷ []) 0 all more h k

@@ -14,6 +14,7 @@ use Rattle.texts.specs.declared.program.Slot.{Slot}
 use Rattle.texts.specs.declared.program.Class.{Class}
 use Rattle.texts.specs.declared.program.Wire.{Wire}
 use Rattle.texts.specs.declared.program.Owns.{Owns}
+use Rattle.texts.specs.declared.program.Site.{Site}
 use Rattle.texts.specs.declared.program.Program.{Program}
 use Rattle.meta_model.specs.declared.object.Statement.{Statement}
 use Rattle.meta_model.specs.declared.object.ValueType.{ValueType}
@@ -23,6 +24,7 @@ use Rattle.meta_model.specs.declared.object.MetaProperty.{MetaProperty}
 use Rattle.meta_model.specs.declared.object.MetaObject.{MetaObject}
 use Rattle.meta_model.specs.declared.object.MetaWire.{MetaWire}
 use Rattle.meta_model.specs.declared.object.MetaOwns.{MetaOwns}
+use Rattle.meta_model.specs.declared.site.MetaSite.{MetaSite}
 use Rattle.meta_model.specs.declared.outline.Sort.{Sort}
 use Rattle.meta_model.specs.declared.outline.Sort.TheVariants as sort
 use Rattle.meta_model.specs.declared.outline.Heading.{Heading}
@@ -30,8 +32,9 @@ use Rattle.meta_model.specs.declared.outline.Outline.{Outline}
 use Rattle.meta_model.specs.Loaded.{Loaded}
 use Rattle.meta_model.specs.Places.{StandsAt, StandsFirst}
 use Rattle.meta_model.specs.Members.{IsClass, IsProperty, methods_in, method_count, methods_before, method_offset, Declares, base_of, Below, same, under, IsIn}
-use Rattle.meta_model.specs.Sound.{IsKind, AreSound, IsSoundBody, IsSoundWork, IsSoundMethod, IsNotifier, IsSoundProperty, IsUnder, HasDistinctMethods, HasDistinctProperties, IsSoundClass, IsSoundWire, IsSoundOwns, IsSound}
+use Rattle.meta_model.specs.Sound.{IsKind, AreSound, IsSoundBody, IsSoundWork, IsSoundMethod, IsNotifier, IsSoundProperty, IsUnder, HasDistinctMethods, HasDistinctProperties, IsSoundClass, IsSoundWire, IsSoundOwns, IsSoundSite, AreDistinctSites, IsSound}
 use Rattle.meta_model.specs.Literals.{HoldsNoObject}
+use Rattle.meta_model.specs.Sites.{UsesReference}
 use Rattle.meta_model.specs.Root.{root_methods, root_class, BeginsAsRoot}
 use Rattle.meta_model.specs.Outlines.{IsOutlineNamed, kinds_of, signal_heading, slot_headings, own_methods, heading, destroyed, destroyed_alone, name_changed, qobject}
 use Rattle.meta_model.specs.Kinds.{LacksType, IsReadAs}
@@ -39,6 +42,7 @@ use Rattle.meta_model.specs.Conditions.{AreOneCall, HasTwoMembers, IsSignalOf, L
 use Rattle.meta_objects.specs.Bodies.{IsBody, AreBodies}
 use Rattle.meta_objects.specs.Loading.{body_at, found_body, work_of, initial_of, IsMethodOf, IsNotify, IsPropertyOf, IsObject, IsWire, IsOwns, HasUses, IsLoaded}
 use Rattle.meta_objects.specs.Builds.{HasOutlines, IsClean, IsLoadedForm}
+use Rattle.meta_objects.specs.Sites.{IsSite, IsLoadedSite}
 use Rattle.meta_objects.specs.LoadedBodies.{site, AreLoadedStatements}
 use Rattle.meta_objects.specs.LoadedEnds.{Connects}
 use Rattle.meta_objects.specs.Classes.{IsLoadedSignal, IsLoadedSlot, HasNotifier, IsLoadedProperty, IsLoadedClass, HasLoadedClass, IsLoadedWire, IsLoadedOwns, IsLoadedProgram}
@@ -47,9 +51,11 @@ use Rattle.meta_model.proofs.Searches.{place_in}
 use Rattle.meta_model.proofs.Once.{once, none_at, get_split_at}
 use Rattle.meta_model.proofs.ReadTypes.{same_read}
 use Rattle.meta_objects.proofs.Deciding.{carries}
-use Rattle.meta_objects.proofs.Unique.{same_zip, same_method, same_property_by, same_place, same_object}
+use Rattle.meta_objects.proofs.OneSite.{same_zip}
+use Rattle.meta_objects.proofs.Unique.{same_method, same_property_by, same_place, same_object}
 use Rattle.meta_model.proofs.Outlined.{Declared, Reaches, here, up, HasSlot, outline_of, slot_of, outlines_count, root_at, reaches_root, delete_later_in_root, distinct_outlines}
 use Rattle.meta_objects.proofs.Soundness.{IsTyped, zip_length, object_at, named, kind_in, connects, kinds_counted, statements_load}
+use Rattle.meta_objects.proofs.Sited.{site_loads, site_sound}
 use Rattle.meta_objects.proofs.SoundBodies.{connects_sound, delete_later_sound, statements_sound}
 
 -- an element of a front
@@ -158,7 +164,7 @@ module _ (program : Program) (o : List Outline) (outlined : HasOutlines program 
 
   -- ---- types
   has_types : (c : ℕ) (u : Outline) → slice_get o c ≡ Some u → ¬ LacksTypes o u
-  has_types c u e = none_at (LacksTypes o) o clean.types c u e
+  has_types c u e = none_at (LacksTypes o) o (λ any. clean.types (inl any)) c u e
 
   kind_sound : (T : QType) (k : ValueType) → (¬ LacksType o T) → IsReadAs o T k → IsKind p T k
   kind_sound T k has (inl h) = kind_in o loaded.bodies p loaded.objects T k h
@@ -520,6 +526,18 @@ module _ (program : Program) (o : List Outline) (outlined : HasOutlines program 
       let w = zip_right (IsOwns o) program.owns p.owns loaded.uses.owned at.0 owns at.1 in
       record { parent = class_there w.0.parent owns.parent w.2.parent; child = class_there w.0.child owns.child w.2.child }
 
+  sound_site : (i : ℕ) (site : MetaSite) → slice_get p.sites i ≡ Some site → IsSoundSite p site
+  sound_site i site e =
+      let w = zip_right (IsSite o) program.sites p.sites loaded.uses.sited i site e in
+      site_sound o loaded.bodies p loaded.objects w.0 site w.2 (none_at (UsesReference o) program.sites (λ any. clean.types (inr any)) i w.0 w.1)
+
+  distinct_sites : AreDistinctSites p.sites
+  distinct_sites i j a b ea eb name =
+      let h = zip_right (IsSite o) program.sites p.sites loaded.uses.sited i a ea in
+      let k = zip_right (IsSite o) program.sites p.sites loaded.uses.sited j b eb in
+      let n : h.0.name ≡ k.0.name = sym h.2.named ∙ name ∙ k.2.named in
+      once (λ (x y : Site). x.name ≡ y.name) program.sites (λ t. clean.members (inr (inr (inl t)))) i j h.0 k.0 h.1 k.1 n (sym n)
+
   pub sound : IsSound p
   sound = record {
     root = record { is = root_is };
@@ -530,6 +548,8 @@ module _ (program : Program) (o : List Outline) (outlined : HasOutlines program 
         distinct_outlines program o outlined.are outlined.distinct i j u.outline v.outline u.is v.is (sym u.by.named ∙ named ∙ v.by.named);
     wires = wire_sound;
     owns = owns_sound;
+    sites = sound_site;
+    distinct_sites = distinct_sites;
   }
 
   -- ---- the program as declared
@@ -572,10 +592,11 @@ module _ (program : Program) (o : List Outline) (outlined : HasOutlines program 
     classes = has_loaded;
     wires = zip_also (IsWire o) (IsLoadedWire p) program.wires p.wires wire_loaded loaded.uses.wired;
     owns = zip_also (IsOwns o) (IsLoadedOwns p) program.owns p.owns owns_loaded loaded.uses.owned;
+    sites = zip_also (IsSite o) (IsLoadedSite p) program.sites p.sites (λ d s is. site_loads o loaded.bodies p loaded.objects d s is) loaded.uses.sited;
   }
 
 -- what the resolved parts of a program make
-pub loaded_form : (program : Program) (o : List Outline) (bodies : List (List (List Statement))) (p : Loaded) → HasOutlines program o → IsClean program o → HasUses program o bodies p.wires p.owns → AllZip (IsObject o bodies) o p.classes → IsLoadedForm program p
+pub loaded_form : (program : Program) (o : List Outline) (bodies : List (List (List Statement))) (p : Loaded) → HasOutlines program o → IsClean program o → HasUses program o bodies p.wires p.owns p.sites → AllZip (IsObject o bodies) o p.classes → IsLoadedForm program p
 loaded_form program o bodies p outlined clean uses objects =
     let loaded : IsLoaded program o p = record { bodies = bodies; uses = uses; objects = objects } in
     record { declared = as_declared program o outlined clean p loaded; outlines = o; outlined = outlined; clean = clean; looked_up = loaded }

@@ -21,7 +21,7 @@ pub record IsClean (program : Program) (outlines : List Outline) : Type 0 where
   pub members : ¬ DuplicateMember program outlines
   pub names : ¬ LacksMember program outlines
   pub notifiers : ¬ BadNotify outlines
-  pub types : ¬ NoType outlines
+  pub types : ¬ NoType program outlines
 
 -- What is loaded of a program that no condition refuses: first what it is; then how the names in it were looked up, in the
 -- outlines of its classes, of which there is one way (`OneLoading`).
@@ -43,7 +43,7 @@ Builds program (Err fault.NoMember) =
 Builds program (Err fault.BadNotify) =
     (o : List Outline) × HasOutlines program o × (¬ DuplicateMember program o) × (¬ LacksMember program o) × BadNotify o
 Builds program (Err fault.NoType) =
-    (o : List Outline) × HasOutlines program o × (¬ DuplicateMember program o) × (¬ LacksMember program o) × (¬ BadNotify o) × NoType o
+    (o : List Outline) × HasOutlines program o × (¬ DuplicateMember program o) × (¬ LacksMember program o) × (¬ BadNotify o) × NoType program o
 Builds program (Err fault.Memory) = Unit {0}
 
 -- what is loaded is the program as declared

@@ -26,6 +26,7 @@ use Rattle.meta_model.specs.Sound.{IsKind}
 use Rattle.meta_objects.specs.Loading.{initial_of}
 use Rattle.meta_objects.specs.LoadedBodies.{site, AreLoadedStatements}
 use Rattle.meta_objects.specs.LoadedEnds.{Connects}
+use Rattle.meta_objects.specs.Sites.{IsLoadedSite}
 
 -- ---- members
 -- a signal: its name, and its parameters' types, each resolved
@@ -106,3 +107,4 @@ pub record IsLoadedProgram (program : Program) (p : Loaded) : Type 0 where
   pub classes : (i : ℕ) (declared : Class) → slice_get program.classes i ≡ Some declared → HasLoadedClass p (suc i) declared
   pub wires : AllZip (IsLoadedWire p) program.wires p.wires
   pub owns : AllZip (IsLoadedOwns p) program.owns p.owns
+  pub sites : AllZip (IsLoadedSite p) program.sites p.sites

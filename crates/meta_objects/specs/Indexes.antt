@@ -8,6 +8,7 @@ use Rattle.meta_model.specs.CallPlaces.{Index, place_by, IndexesCalls}
 use Rattle.meta_model.specs.declared.object.MetaObject.{MetaObject}
 use Rattle.meta_model.specs.declared.object.MetaMethod.{MetaMethod}
 use Rattle.meta_model.specs.declared.object.MetaProperty.{MetaProperty}
+use Rattle.meta_model.specs.declared.site.MetaSite.{MetaSite}
 use Rattle.meta_objects.specs.declared.class_index.MemberIndex.{MemberIndex}
 use Rattle.meta_objects.specs.declared.class_index.ClassIndex.{ClassIndex}
 use Rattle.meta_model.specs.Places.{IsPlace}
@@ -39,3 +40,7 @@ property_in members c name = option_and_then (λ (index : MemberIndex). place_in
 
 abbrev pub method_in : List MemberIndex → ℕ → List ℕ → ℕ → Option ℕ
 method_in members c name count = option_and_then (λ (index : MemberIndex). place_by index.methods count name) (slice_get members c)
+
+-- ---- binding sites
+abbrev pub IndexesSites : List MetaSite → Index → Type 0
+IndexesSites sites index = (name : List ℕ) → IsPlace (λ (site : MetaSite). site.name ≡ name) sites (place_in index name)

@@ -33,7 +33,9 @@ use Rattle.meta_model.specs.Kinds.{IsReadAs}
 use Rattle.meta_model.specs.Values.{default}
 use Rattle.meta_model.specs.Conditions.{IsSignalOf}
 use Rattle.meta_model.specs.Ends.{IsSigned, IsEnd}
+use Rattle.meta_model.specs.declared.site.MetaSite.{MetaSite}
 use Rattle.meta_objects.specs.Bodies.{AllBodies, LacksInClass}
+use Rattle.meta_objects.specs.Sites.{IsSite, LacksInSite}
 
 -- ---- methods
 -- the body of slot j of class i
@@ -107,19 +109,21 @@ abbrev pub LacksClass : List Outline → Owns → Type 0
 LacksClass outlines owns = (loaded : MetaOwns) → ¬ IsOwns outlines owns loaded
 
 -- ---- the program
--- a name that is used in a body, a wire or an owns isn't there
+-- a name that is used in a body, a wire, an owns or a binding isn't there
 abbrev pub LacksMember : Program → List Outline → Type 0
 LacksMember program outlines =
     Any (LacksInClass outlines) program.classes ⊎ Any (LacksEnd outlines) program.wires ⊎ Any (LacksClass outlines) program.owns
+    ⊎ Any (LacksInSite outlines) program.sites
 
--- the bodies, the wires and the owns of the program, in its order
-pub record HasUses (program : Program) (outlines : List Outline) (bodies : List (List (List Statement))) (wires : List MetaWire) (owns : List MetaOwns) : Type 0 where
+-- the bodies, the wires, the owns and the binding sites of the program, in its order
+pub record HasUses (program : Program) (outlines : List Outline) (bodies : List (List (List Statement))) (wires : List MetaWire) (owns : List MetaOwns) (sites : List MetaSite) : Type 0 where
   pub are_bodies : AllBodies outlines program.classes bodies
   pub wired : AllZip (IsWire outlines) program.wires wires
   pub owned : AllZip (IsOwns outlines) program.owns owns
+  pub sited : AllZip (IsSite outlines) program.sites sites
 
 -- the program's meta-objects are those of its outlines, with these
 pub record IsLoaded (program : Program) (outlines : List Outline) (loaded : Loaded) : Type 0 where
   pub bodies : List (List (List Statement))
-  pub uses : HasUses program outlines bodies loaded.wires loaded.owns
+  pub uses : HasUses program outlines bodies loaded.wires loaded.owns loaded.sites
   pub objects : AreObjects outlines bodies loaded.classes

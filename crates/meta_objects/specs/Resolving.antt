@@ -80,8 +80,8 @@ abbrev pub ResolvesBodies : List Outline → List Class → Result (List (List (
 ResolvesBodies outlines classes result =
     Loads fault.NoMember (Any (LacksInClass outlines) classes) (AllBodies outlines classes) result
 
--- the bodies, the wires and the owns
+-- the bodies, the wires, the owns and the binding sites
 abbrev pub ResolvesUses : Program → List Outline → Result Uses MetaFault → Type 0
 ResolvesUses program outlines result =
     Loads fault.NoMember (LacksMember program outlines)
-    (λ (uses : Uses). HasUses program outlines uses.bodies uses.wires uses.owns) result
+    (λ (uses : Uses). HasUses program outlines uses.bodies uses.wires uses.owns uses.sites) result

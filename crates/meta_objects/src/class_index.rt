@@ -3,9 +3,9 @@
 ghost use Rattle.std.specs.Prelude.{◌≡◌, IfOk};
 ghost use Rattle.std.specs.List.{AllZip};
 ghost use Rattle.meta_model.specs.NamePlaces.{place_in};
-ghost use Rattle.meta_objects.specs.Indexes.{IndexesClasses, IndexesProperties, IndexesMembers, IsIndexOf, property_in, method_in};
+ghost use Rattle.meta_objects.specs.Indexes.{IndexesClasses, IndexesProperties, IndexesMembers, IsIndexOf, IndexesSites, property_in, method_in};
 
-use meta_model::{MetaObject, MetaProperty, NameIndex, find_call, index_calls};
+use meta_model::{MetaObject, MetaProperty, MetaSite, NameIndex, find_call, index_calls};
 use signatures::Name;
 use sqlite_items::Items;
 use std::alloc::{AllocError, Global};
@@ -105,6 +105,17 @@ fn index_properties(alloc: Global, properties: &[MetaProperty]) -> Result<NameIn
     let mut index = NameIndex::new(alloc);
     for (number, property) in properties.iter().enumerate() {
         index.insert(&property.name, number)?;
+    }
+    Ok(index)
+}
+
+/// The binding sites' numbers, by their names; its error is that memory was refused.
+pub fn index_sites(alloc: Global, sites: &[MetaSite]) -> Result<NameIndex, AllocError>
+    ensures { IfOk result (λ index. IndexesSites sites.now index) }
+{
+    let mut index = NameIndex::new(alloc);
+    for (number, site) in sites.iter().enumerate() {
+        index.insert(&site.name, number)?;
     }
     Ok(index)
 }

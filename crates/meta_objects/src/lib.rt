@@ -7,12 +7,13 @@ mod laws;
 mod literals;
 mod meta;
 mod resolve_object;
+mod resolve_site;
 mod resolve_uses;
 mod resolve_wire;
 
 pub use laws::{loaded_as_declared, one_answer, one_loading};
 pub use meta::{Meta, Wired};
 pub use meta_model::{
-    MetaEndpoints, MetaFault, MetaMethod, MetaObject, MetaOwns, MetaPath, MetaProperty, MetaRoot,
-    MetaWire, SlotBody, Statement, Step, ValueType, Work,
+    Formula, MetaEndpoints, MetaFault, MetaMethod, MetaObject, MetaOwns, MetaPath, MetaProperty,
+    MetaRoot, MetaSite, MetaWire, SlotBody, SourceProperty, Statement, Step, ValueType, Work,
 };

@@ -4,16 +4,18 @@ ghost use Rattle.meta_model.specs.LookUps.{LooksUp, LooksUpRef, FindsOnly};
 ghost use Rattle.meta_model.specs.Members.{IsClassNamed, IsMethod, HasSig, IsMethodNamed, IsPropertyNamed};
 ghost use Rattle.meta_model.specs.Members.{base_of, method_count, method_offset, Below};
 ghost use Rattle.meta_model.specs.Members.{CoversBy, Covers, OwnsBy, Owns};
-ghost use Rattle.meta_model.specs.Sound.{IsSound, IsSoundClass, IsSoundMethod};
+ghost use Rattle.meta_model.specs.Sound.{IsSound, IsSoundClass, IsSoundMethod, IsSoundSite};
+ghost use Rattle.meta_model.specs.Sites.{IsSiteNamed};
 ghost use Rattle.meta_objects.specs.Typed.{TellsType, TellsReference};
 ghost use Rattle.meta_objects.specs.Wiring.{IsWired};
 
-use crate::class_index::ClassIndex;
+use crate::class_index::{ClassIndex, index_sites};
 use crate::resolve_object::resolve_objects;
 use crate::resolve_uses::{Uses, resolve_uses};
 use meta_model::{
-    MetaFault, MetaMethod, MetaObject, MetaOwns, MetaWire, ValueType, has_bad_notify,
-    has_duplicate_class, has_no_type, has_repeated_parameter, index_outlines, outline_classes,
+    MetaFault, MetaMethod, MetaObject, MetaOwns, MetaSite, MetaWire, NameIndex, ValueType,
+    has_bad_notify, has_duplicate_class, has_no_type, has_repeated_name, index_outlines,
+    outline_classes,
 };
 use signatures::{Kind, Name, ObjectId, Sig, Value, fits};
 use sqlite_items::Items;
@@ -27,23 +29,27 @@ pub struct Meta {
     classes: Items<MetaObject>,
     wires: Items<MetaWire>,
     owns: Items<MetaOwns>,
+    sites: Items<MetaSite>,
     index: ClassIndex,
+    site_names: NameIndex,
 }
 
 impl Model for Meta {
-    ghost use Rattle.meta_objects.specs.Indexes.{IsIndexOf};
+    ghost use Rattle.meta_objects.specs.Indexes.{IsIndexOf, IndexesSites};
     ghost use Rattle.meta_model.specs.Loaded.{Loaded};
     ghost use Rattle.meta_model.specs.Sound.{IsSound};
     ghost use Rattle.meta_model.specs.contracts.object.Statement as statement;
+    ghost use Rattle.meta_model.specs.contracts.site.SourceProperty as source;
+    ghost use Rattle.texts.specs.contracts.syntax.Expr as expr;
     ghost use Rattle.std.specs.Coded.{codes};
 
     ghost Value = { Loaded };
 
-    ghost coded = { Prim.hlevel (codes, statement.the_row.coded) };
+    ghost coded = { Prim.hlevel (codes, statement.the_row.coded, (expr.the_row source.the_row).coded) };
 
-    ghost view = { λ meta. record { classes = meta.classes; wires = meta.wires; owns = meta.owns } };
+    ghost view = { λ meta. record { classes = meta.classes; wires = meta.wires; owns = meta.owns; sites = meta.sites } };
 
-    ghost invariant = { λ meta. IsSound (record { classes = meta.classes; wires = meta.wires; owns = meta.owns }) × IsIndexOf meta.classes meta.index };
+    ghost invariant = { λ meta. IsSound (record { classes = meta.classes; wires = meta.wires; owns = meta.owns; sites = meta.sites }) × IsIndexOf meta.classes meta.index × IndexesSites meta.sites meta.site_names };
 }
 
 /// Whether a wire covers a connection, and whether its method fits its signal.
@@ -62,10 +68,11 @@ impl Meta {
     /// `DuplicateClass`, where two classes have one name, or one is called `QObject`, `int`, `bool` or `QString`;
     /// `NoBase`, where a class's base is neither `QObject` nor a class that stands before it; `DuplicateMember`, where
     /// two methods of a class, inherited ones too, have one name and one number of parameters, two of its properties one
-    /// name, or two parameters of a method one name; `NoMember`, where a class, a member or a parameter that a body, a
-    /// wire or an owns uses isn't there; `BadNotify`, where a notify signature isn't a signal of the class or of a user
-    /// base, without parameter or with one of the property's type; `NoType`, where the type of a property or a
-    /// parameter isn't there. `Memory` comes only where a growth of memory was refused.
+    /// name, or two parameters of a method, two binding sites or two formal sources of one site one name; `NoMember`,
+    /// where a class, a member, a parameter or a formal source that a body, a wire, an owns or a site uses isn't there;
+    /// `BadNotify`, where a notify signature isn't a signal of the class or of a user base, without parameter or with
+    /// one of the property's type; `NoType`, where the type of a property or a parameter isn't there, or a site binds or
+    /// reads a reference. `Memory` comes only where a growth of memory was refused.
     pub fn build(alloc: Global, program: &Program) -> Result<Meta, MetaFault>
         ensures { Builds program.now result }
     {
@@ -76,27 +83,31 @@ impl Meta {
         let outlines = outline_classes(alloc, declared)?;
         let indexed = index_outlines(alloc, outlines)?;
         let all = indexed.as_slice();
-        if has_repeated_parameter(declared) {
+        if has_repeated_name(program) {
             return Err(MetaFault::DuplicateMember);
         }
         let Uses {
             bodies,
             wires,
             owns,
+            sites,
         } = resolve_uses(alloc, program, all)?;
         if has_bad_notify(all) {
             return Err(MetaFault::BadNotify);
         }
-        if has_no_type(all) {
+        if has_no_type(program, all) {
             return Err(MetaFault::NoType);
         }
         let classes = resolve_objects(alloc, all, bodies.as_slice())?;
         let index = ClassIndex::new(alloc, classes.as_slice())?;
+        let site_names = index_sites(alloc, sites.as_slice())?;
         Ok(Meta {
             classes,
             wires,
             owns,
+            sites,
             index,
+            site_names,
         })
     }
 
@@ -120,6 +131,31 @@ impl Meta {
         ensures { result.now ≡ self.now.owns }
     {
         self.owns.as_slice()
+    }
+
+    /// The binding sites, as declared; a site's number is its place among them.
+    pub fn sites(&self) -> &[MetaSite]
+        ensures value { result.now ≡ self.now.sites }
+        ensures sound { IsSound self.now }
+    {
+        self.sites.as_slice()
+    }
+
+    /// The number of the binding site of this name, or `None` where there is none.
+    pub fn site(&self, name: &Name) -> Option<usize>
+        ensures value { LooksUp (IsSiteNamed self.now name.now) result }
+        ensures only { FindsOnly (IsSiteNamed self.now name.now) result }
+    {
+        self.site_names.find(name)
+    }
+
+    /// The binding site of this number: its class and property, the classes of its formal sources, its expression; or
+    /// `None` past the last one.
+    pub fn site_at(&self, site: usize) -> Option<&MetaSite>
+        ensures value { option_copied result ≡ slice_get self.now.sites site }
+        ensures sound { IfSome result (λ s. IsSoundSite self.now s.now) }
+    {
+        self.sites.get(site)
     }
 
     /// The number of the class of this name, or `None` where there is none.

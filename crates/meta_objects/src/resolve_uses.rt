@@ -3,21 +3,23 @@
 ghost use Rattle.meta_objects.specs.Resolving.{ResolvesUses};
 
 use crate::body_resolution::resolve_bodies;
+use crate::resolve_site::resolve_sites;
 use crate::resolve_wire::{resolve_owns, resolve_wires};
-use meta_model::{IndexedOutline, MetaFault, MetaOwns, MetaWire, SlotBody};
+use meta_model::{IndexedOutline, MetaFault, MetaOwns, MetaSite, MetaWire, SlotBody};
 use sqlite_items::Items;
 use std::alloc::Global;
 use texts::Program;
 
-/// The slots' bodies by class, the wires and the owns, their names resolved.
+/// The slots' bodies by class, the wires, the owns and the binding sites, their names resolved.
 #[derive(Drop)]
 pub struct Uses {
     pub bodies: Items<Items<SlotBody>>,
     pub wires: Items<MetaWire>,
     pub owns: Items<MetaOwns>,
+    pub sites: Items<MetaSite>,
 }
 
-/// The bodies, the wires and the owns; `NoMember` where a name in one of them isn't there.
+/// The bodies, the wires, the owns and the binding sites; `NoMember` where a name in one of them isn't there.
 pub fn resolve_uses(
     alloc: Global,
     program: &Program,
@@ -28,9 +30,11 @@ pub fn resolve_uses(
     let bodies = resolve_bodies(alloc, outlines, program.classes.as_slice())?;
     let wires = resolve_wires(alloc, outlines, program.wires.as_slice())?;
     let owns = resolve_owns(alloc, outlines, program.owns.as_slice())?;
+    let sites = resolve_sites(alloc, outlines, program.sites.as_slice())?;
     Ok(Uses {
         bodies,
         wires,
         owns,
+        sites,
     })
 }

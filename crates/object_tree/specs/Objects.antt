@@ -36,6 +36,14 @@ life_of objects o = option_and_then (λ (x : Object). x.life) (slice_get objects
 abbrev pub class_of : List Object → ℕ → Option ℕ
 class_of objects o = option_map (λ (l : Life). l.class) (life_of objects o)
 
+-- .. the event loop in which it lives
+abbrev pub home_of : List Object → ℕ → Option ℕ
+home_of objects o = option_map (λ (l : Life). l.home) (life_of objects o)
+
+-- .. the value of one of its properties
+abbrev pub stored : List Object → ℕ → ℕ → Option Value
+stored objects o q = option_and_then (λ (l : Life). slice_get l.values q) (life_of objects o)
+
 -- the classes of the living objects, where one more of this class comes last
 abbrev pub class_with : List Object → ℕ → ℕ → Option ℕ
 class_with [] class zero = Some class

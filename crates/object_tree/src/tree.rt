@@ -4,7 +4,7 @@ ghost use Rattle.object_tree.specs.Adopting.{AdoptsLiving};
 ghost use Rattle.object_tree.specs.Creating.{Creates};
 ghost use Rattle.object_tree.specs.Family.{IsChild, IsChildless, children_of, without_life};
 ghost use Rattle.object_tree.specs.Forest.{Forest};
-ghost use Rattle.object_tree.specs.Objects.{Lives, IsGone, IsNamed, IsFree, name_of, life_of, change_life, blocked, scheduled, written};
+ghost use Rattle.object_tree.specs.Objects.{Lives, IsGone, IsNamed, IsFree, name_of, life_of, home_of, stored, change_life, blocked, scheduled, written};
 ghost use Rattle.object_tree.specs.Seen.{seen, seen_reference};
 ghost use Rattle.object_tree.specs.Typed.{AreTyped, StayTyped, StayTypedIf, FitsProperty, ReadsAs, ReadAs};
 ghost use Rattle.object_tree.specs.declared.fault.AdoptFault.TheVariants.{NotOwned};
@@ -88,6 +88,23 @@ impl Tree {
         ensures { option_copied result ≡ life_of self.now object }
     {
         self.objects.life(object)
+    }
+
+    /// The event loop in which a living object lives.
+    pub fn home(&self, object: ObjectId) -> Option<LoopId>
+        ensures { result ≡ home_of self.now object }
+    {
+        match self.life(object) {
+            Some(life) => Some(life.home),
+            None => None,
+        }
+    }
+
+    /// The value of a living object's property.
+    pub fn value(&self, object: ObjectId, property: usize) -> Option<&Value>
+        ensures { option_copied result ≡ stored self.now object property }
+    {
+        self.life(object)?.values.get(property)
     }
 
     /// A value as it reads: a reference to a dead object is null. It takes no memory.

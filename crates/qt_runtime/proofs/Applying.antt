@@ -6,8 +6,10 @@ use Rattle.meta_model.specs.Loaded.{Loaded}
 use Rattle.machine_state.specs.declared.fault.Fault.{Fault}
 use Rattle.machine_state.specs.State.{State}
 use Rattle.machine_rules.proofs.Reaching.{reason-more}
-use Rattle.qt_runtime.specs.Runs.{done, Follows, by_rule, by_event, IsDue, goes_on, is_next}
-use Rattle.qt_runtime.specs.Causes.{Cause}
+use Rattle.prop_bindings.specs.declared.binding.Binding.{Binding}
+use Rattle.machine_rules.specs.Runs.{IsStuck}
+use Rattle.qt_runtime.specs.Runs.{done, Follows, by_rule, by_event, IsDue, goes_on, is_next, BindsNext, BindsIll}
+use Rattle.qt_runtime.specs.Causes.{LacksValue, Cause}
 use Rattle.qt_runtime.specs.Seen.{Seen, Completes, Halts, Stays, RunsAll}
 use Rattle.machine_state.specs.Worlds.{at}
 use Rattle.qt_runtime.proofs.Running.{runs-trans}
@@ -29,6 +31,8 @@ halts-after {a} {b} {c} {f} {es} {fs} x y =
     record {
       went = x.went;
       same = z.same;
+      world = z.world;
+      leaves = z.leaves;
       stack = z.stack;
       front = record {
         taken = es ++ z.front.taken;
@@ -48,14 +52,24 @@ follows-more : {p : Loaded} {s t : State} {es : List Event} (more : List Event) 
 follows-more more (by_rule x) = by_rule x
 follows-more more (by_event x) = by_event x
 
+-- .. and a bind that is next still is
+next-more : {p : Loaded} {s : State} {es : List Event} {b : Binding} (more : List Event) → BindsNext p s es b → BindsNext p s (es ++ more) b
+next-more more x = record { idle = x.idle; site = x.site; target = x.target; sources = x.sources; rest = x.rest ++ more; is_next = ap (λ (l : List Event). l ++ more) x.is_next; may = x.may }
+
 cause-more : (p : Loaded) (d left : ℕ) (s : State) (es more : List Event) (f : Fault) → Cause p d s left es f → Cause p d s left (es ++ more) f
-cause-more p d left s es more f r = reason-more p d s left f (λ stuck. stuck) (λ t follows. follows-more more follows) (λ due. due-more more due) r
+cause-more p d left s es more f r = reason-more p d s left f held (λ loop. record { binding = loop.binding; next = next-more more loop.next; fit = loop.fit; closes = loop.closes }) (λ t follows. follows-more more follows) (λ due. due-more more due) r
+  where
+    held : IsStuck p s × LacksValue s ⊎ BindsIll p s es → IsStuck p s × LacksValue s ⊎ BindsIll p s (es ++ more)
+    held (inl stuck) = inl stuck
+    held (inr ill) = inr (record { binding = ill.binding; next = next-more more ill.next; ill = ill.ill })
 
 -- a run that stopped takes no further event
 pub halts-more : {a c : Seen} {f : Fault} {es : List Event} (more : List Event) → Halts a es f c → Halts a (es ++ more) f c
 halts-more {a} {c} {f} {es} more x = record {
   went = x.went;
   same = x.same;
+  world = x.world;
+  leaves = x.leaves;
   stack = x.stack;
   front = record {
     taken = x.front.taken;
@@ -63,7 +77,7 @@ halts-more {a} {c} {f} {es} more x = record {
     split = ap (λ (l : List Event). l ++ more) x.front.split ∙ append_assoc x.front.taken x.front.rest more;
     runs = x.front.runs;
   };
-  cause = cause-more a.program a.depth c.world.left (at c.world x.stack) x.front.rest more f x.cause;
+  cause = cause-more a.program a.depth x.world.left (at x.world x.stack) x.front.rest more f x.cause;
 }
 
 -- where a run completed the machine has not stopped

@@ -10,7 +10,7 @@ use Rattle.machine_state.specs.declared.fault.Answer.TheVariants as answer
 use Rattle.machine_state.specs.declared.fault.Fault.{Fault}
 use Rattle.machine_state.specs.declared.world.World.{World}
 use Rattle.machine_rules.specs.Sound.{IsSoundWorld}
-use Rattle.qt_runtime.specs.Seen.{Seen, Completes, Accepts, Refuses, OnDone, OnRefused, Halts, Stays}
+use Rattle.qt_runtime.specs.Seen.{Seen, Completes, AcceptsEvent, RefusesEvent, OnDone, OnRefused, Halts, Stays}
 use Rattle.qt_runtime.specs.Taking.{Took}
 use Rattle.qt_runtime.proofs.Keeping.{invariant-at}
 use Rattle.qt_runtime.proofs.Preservation.{runs-invariant}
@@ -22,12 +22,12 @@ seen p depth w stopped = record { program = p; depth = depth; world = w; stopped
 
 module _ {p : Loaded} {depth : ℕ} {w v : World} {e : Event} {went stopped : Bool} where
   -- what `take_event` did, as what `apply` does
-  pub applied-done : (r : Result Answer Fault) → Took p depth w e v r → went ≡ false → stopped ≡ is_err r → OnDone r (Accepts (seen p depth w went) e (seen p depth v stopped))
+  pub applied-done : (r : Result Answer Fault) → Took p depth w e v r → went ≡ false → stopped ≡ is_err r → OnDone r (AcceptsEvent (seen p depth w went) e (seen p depth v stopped))
   applied-done (Ok answer.Done) took goes is = record { completes = record { went = goes; same = ap (λ (b : Bool). seen p depth v b) (is ∙ sym goes); whole = took.cases.0 }; accepted = took.cases.1 }
   applied-done (Ok (answer.Refused n)) took goes is = tt
   applied-done (Err f) took goes is = tt
 
-  pub applied-refused : (r : Result Answer Fault) → Took p depth w e v r → went ≡ false → stopped ≡ is_err r → OnRefused r (λ n. Refuses (seen p depth w went) e n (seen p depth v stopped))
+  pub applied-refused : (r : Result Answer Fault) → Took p depth w e v r → went ≡ false → stopped ≡ is_err r → OnRefused r (λ n. RefusesEvent (seen p depth w went) e n (seen p depth v stopped))
   applied-refused (Ok answer.Done) took goes is = tt
   applied-refused (Ok (answer.Refused n)) took goes is = record { completes = record { went = goes; same = ap (λ (b : Bool). seen p depth v b) (is ∙ sym goes); whole = took.cases.0 }; refused = took.cases.1 }
   applied-refused (Err f) took goes is = tt
@@ -37,9 +37,17 @@ module _ {p : Loaded} {depth : ℕ} {w v : World} {e : Event} {went stopped : Bo
   applied-stopped (Err f) sound whole took goes is =
       let halted = took.cases in
       let up = runs-invariant sound halted.front.runs (invariant-at w whole) in
-      inl (record { went = goes; same = ap (λ (b : Bool). seen p depth v b) is; stack = halted.stack; front = halted.front; cause = cause-of sound up depth v.left halted.front.rest f halted.reason })
+      inl (record {
+        went = goes;
+        same = ap (λ (b : Bool). seen p depth v b) is;
+        world = halted.u;
+        leaves = halted.leaves;
+        stack = halted.stack;
+        front = halted.front;
+        cause = cause-of sound up depth halted.u.left halted.front.rest f halted.reason;
+      })
 
 -- an event that was answered is taken
-pub completes-of : {a b : Seen} {e : Event} (x : Answer) → OnDone (Ok x) (Accepts a e b) → OnRefused (Ok x) (λ n. Refuses a e n b) → Completes a (e ∷ []) b
+pub completes-of : {a b : Seen} {e : Event} (x : Answer) → OnDone (Ok x) (AcceptsEvent a e b) → OnRefused (Ok x) (λ n. RefusesEvent a e n b) → Completes a (e ∷ []) b
 completes-of answer.Done done refused = done.completes
 completes-of (answer.Refused n) done refused = refused.completes

@@ -8,7 +8,7 @@ use Rattle.object_tree.specs.Family.{moved, put_under}
 use Rattle.object_tree.proofs.Changing.{life-part}
 use Rattle.object_tree.proofs.Families.{moved-part}
 use Rattle.meta_model.specs.Loaded.{Loaded}
-use Rattle.machine_state.specs.Objects.{home_of}
+use Rattle.object_tree.specs.Objects.{home_of}
 use Rattle.machine_rules.specs.Sound.{AreHoused, AllWait}
 use Rattle.qt_runtime.specs.events.Create.{IsHome}
 

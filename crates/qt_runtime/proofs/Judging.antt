@@ -7,6 +7,7 @@ pub mod Adopting
 pub mod Ends
 pub mod Connecting
 pub mod Assigning
+pub mod Binding
 pub mod Invoking
 pub mod Blocking
 pub mod Deleting

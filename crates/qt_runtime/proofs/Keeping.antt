@@ -1,11 +1,17 @@
 -- What every machine's world keeps.
 use Rattle.std.proofs.Common.{◌≡◌, ℕ, ◌+◌, ◌≤◌, List, [], Bool, true, false, ◌<◌, ◌^◌, None, Some, Result, Ok, Err, refl, sym, ap, subst, arith}
+use Rattle.std.specs.Prelude.{IfOk}
+use Rattle.std.proofs.lemmas.List.Elements.{All-from_recursion}
 use Rattle.std.specs.Result.{is_err}
 use Rattle.script_lang.specs.declared.event.Event.{Event}
-use Rattle.script_lang.specs.declared.event.Event.TheVariants.{Loop, Turn, New, Adopt, Connect, Disconnect, Set, Emit, Call, Block, Unblock, Delete, Later}
+use Rattle.script_lang.specs.declared.event.Event.TheVariants.{Loop, Turn, New, Adopt, Connect, Disconnect, Set, Bind, Emit, Call, Block, Unblock, Delete, Later}
 use Rattle.script_lang.specs.declared.event.Input.{Input}
 use Rattle.meta_model.specs.Loaded.{Loaded}
 use Rattle.meta_model.specs.Sound.{IsSound}
+use Rattle.prop_bindings.specs.Bindings.{binding_at, Settled, Chain, direct, further}
+use Rattle.prop_bindings.specs.Fits.{IsFit, Agree}
+use Rattle.prop_bindings.specs.Places.{values_in}
+use Rattle.prop_bindings.specs.declared.place.Place.{Place}
 use Rattle.machine_state.specs.declared.fault.Answer.{Answer}
 use Rattle.machine_state.specs.declared.fault.Fault.{Fault}
 use Rattle.machine_state.specs.declared.world.World.{World}
@@ -14,11 +20,12 @@ use Rattle.machine_state.specs.State.{State, Activation}
 use Rattle.machine_state.specs.Worlds.{at, untouched}
 use Rattle.machine_rules.specs.Sound.{IsSoundWorld}
 use Rattle.machine_rules.specs.Keeps.{Grows, Keeps}
-use Rattle.machine_rules.proofs.Keeps.{grows-by, grows-same, grows-then, begins-kept, writes-kept, schedules-kept, rules-kept}
+use Rattle.machine_rules.proofs.Keeps.{grows-by, grows-same, grows-then, begins-kept, writes-kept, installs-kept, schedules-kept, rules-kept, rules-agree}
 use Rattle.qt_runtime.specs.declared.events.invoke.Invocation.{Invocation}
 use Rattle.qt_runtime.specs.declared.events.invoke.Invocation.TheVariants.{Emit as EmitIt, Call as CallIt}
 use Rattle.machine_rules.specs.Judgement.{becomes, gives, goes_on}
 use Rattle.qt_runtime.proofs.Judged.{given-is}
+use Rattle.qt_runtime.specs.Laws.{AlwaysSettled}
 use Rattle.qt_runtime.specs.Runs.{Runs, done, rules, takes}
 use Rattle.qt_runtime.specs.Takes.{judged, Takes, accepts, refuses}
 use Rattle.qt_runtime.specs.Taking.{WorldInvariant, Took}
@@ -62,6 +69,7 @@ counts-judged p {s = s} (Connect e how) (goes_on f named (goes_on _ judged given
     let Family : State → Type 0 = λ u. Counts s u in
     subst Family (sym (given-is given)) (record { events = refl; connected = omega arith; posted = omega arith; grows = grows-by _ })
 counts-judged p (Set name property i) (goes_on _ o (goes_on _ q (goes_on _ v (goes_on _ fits (becomes writes))))) = counts-kept (writes-kept writes)
+counts-judged p (Bind site target sources) (goes_on _ may (becomes installs)) = counts-kept (installs-kept installs)
 counts-judged p (Emit name signal inputs) x = counts-invoked p EmitIt name signal inputs x
 counts-judged p (Call name slot inputs) x = counts-invoked p CallIt name slot inputs x
 counts-judged p (Block name) x = counts-blocked name true x
@@ -95,7 +103,7 @@ runs-pay (takes x good rest) =
 
 -- where nothing is going on, all that is going on stands
 pub invariant-at : {p : Loaded} (w : World) → IsSoundWorld p w → Invariant p (at w [])
-invariant-at w sound = record { sound = record { typed = sound.is.typed; joined = sound.is.joined; housed = sound.is.housed; waiting = sound.is.waiting }; stands = tt; emitted = tt }
+invariant-at w sound = record { sound = record { agree = sound.is.agree; joined = sound.is.joined; housed = sound.is.housed; waiting = sound.is.waiting }; stands = tt; emitted = tt }
 
 keeps-run : {p : Loaded} {d : ℕ} {w v : World} {stack : List Activation} {es : List Event} → IsSound p → WorldInvariant p w → Runs p d (at w []) w.left es (at v stack) v.left → WorldInvariant p v
 keeps-run {w = w} sound keeps runs =
@@ -104,32 +112,63 @@ keeps-run {w = w} sound keeps runs =
     record {
       sound = record {
         program = sound;
-        is = record { typed = up.sound.typed; joined = up.sound.joined; housed = up.sound.housed; waiting = up.sound.waiting };
-        numbers = omega (arith, keeps.connected, pays.connected);
+        is = record { agree = up.sound.agree; joined = up.sound.joined; housed = up.sound.housed; waiting = up.sound.waiting };
+        numbers = omega (arith, keeps.sound.numbers, pays.connected);
         room = omega (arith, keeps.sound.room, pays.posted);
       };
       events = omega (arith, keeps.events, pays.events);
-      connected = omega (arith, keeps.connected, pays.connected);
     }
 
-pub keeps-took : {p : Loaded} {d : ℕ} {w v : World} {e : Event} (r : Result Answer Fault) → IsSound p → WorldInvariant p w → Took p d w e v r → WorldInvariant p v
-keeps-took (Ok a) sound keeps took = keeps-run sound keeps took.cases.0.runs
-keeps-took (Err f) sound keeps took = keeps-run sound keeps took.cases.front.runs
+pub keeps-took : {p : Loaded} {d : ℕ} {w v : World} {e : Event} (r : Result Answer Fault) → IsSound p → WorldInvariant p w → Took p d w e v r → is_err r ≡ false → WorldInvariant p v
+keeps-took (Ok a) sound keeps took goes = keeps-run sound keeps took.cases.0.runs
+keeps-took (Err f) sound keeps took goes = absurd (cc goes)
+
+-- .. so all values are settled after an event that was answered
+pub settled-took : {p : Loaded} {d : ℕ} {w v : World} {e : Event} (r : Result Answer Fault) → IsSound p → WorldInvariant p w → Took p d w e v r → IfOk r (λ _. Settled (binding_at v.store.bindings) (values_in v.store.tree))
+settled-took (Ok a) sound keeps took = (keeps-took (Ok a) sound keeps took refl).sound.is.agree.settled
+settled-took (Err f) sound keeps took = tt
 
 -- an event that was answered leaves no turn
 pub idle-took : {p : Loaded} {d : ℕ} {w v : World} {e : Event} (r : Result Answer Fault) → Took p d w e v r → is_err r ≡ false → v.turn ≡ None
 idle-took (Ok a) took goes = took.cases.0.ends.no_turn
 idle-took (Err f) took goes = absurd (cc goes)
 
+-- where there is no binding, no chain leads anywhere
+no-chain : {from to : Place} → Chain (binding_at []) from to → ⊥
+no-chain (direct b is reads) = absurd (cc is)
+no-chain (further b chain is reads) = absurd (cc is)
+
+-- .. and all agree where there is no object either
+agree-none : (p : Loaded) → Agree p [] []
+agree-none p = record {
+  typed = λ o x l is. absurd (cc is.is);
+  fit = All-from_recursion (IsFit p []) [] tt;
+  apart = tt;
+  acyclic = λ loop. no-chain loop.1;
+  settled = λ q b is. absurd (cc is);
+}
+
 -- a machine that has done nothing is sound
 pub untouched-sound : (p : Loaded) (steps : ℕ) → IsSound p → steps < 2 ^ 63 → WorldInvariant p (untouched steps)
 untouched-sound p steps program few = record {
   sound = record {
     program = program;
-    is = record { typed = λ o x l is. absurd (cc is.is); joined = tt; housed = record { has_main = omega arith; each = λ o home is. absurd (cc is) }; waiting = (tt, tt) };
+    is = record { agree = agree-none p; joined = tt; housed = record { has_main = omega arith; each = λ o home is. absurd (cc is) }; waiting = (tt, tt) };
     numbers = omega (arith, few);
     room = omega (arith, few);
   };
   events = omega (arith, few);
-  connected = omega (arith, few);
 }
+
+-- ---- values stay settled
+
+-- where objects and bindings agree at the start of a run, they do in every state that it comes to
+pub runs-agree : {p : Loaded} {d : ℕ} {s t : State} {n k : ℕ} {es : List Event} → Runs p d s n es t k → Agree p s.objects s.bindings → Agree p t.objects t.bindings
+runs-agree done agree = agree
+runs-agree (rules r rest) agree = runs-agree rest (rules-agree r agree)
+runs-agree (takes x good rest) agree = runs-agree rest good.agree
+
+pub always_settled : AlwaysSettled
+always_settled p depth steps events t k front =
+    let agree = runs-agree front.runs (agree-none p) in
+    (agree.settled, agree.acyclic)

@@ -15,7 +15,7 @@ use Rattle.script_lang.specs.declared.event.Input.TheVariants as input
 use Rattle.machine_rules.proofs.Fields.{class-unique}
 use Rattle.machine_rules.proofs.OneAnswer.{one-find, one-gives, one-then, numbered-is}
 use Rattle.machine_rules.specs.Judgement.{Numbered, HasOneAnswer}
-use Rattle.qt_runtime.specs.events.Named.{living}
+use Rattle.qt_runtime.specs.events.Named.{living, all_living}
 use Rattle.qt_runtime.specs.events.Values.{value, values}
 
 -- ---- objects and values
@@ -25,6 +25,10 @@ one-life a b f g = let both : Some a ≡ Some b = sym f ∙ g in cc both
 
 pub one-living : (objects : List Object) (name : List ℕ) → HasOneAnswer (living objects name)
 one-living objects name = one-then (one-find (λ a b f g. g.only a f.named)) (λ o. one-then (one-find one-life) (λ l. one-gives _))
+
+pub one-all-living : (objects : List Object) (names : List (List ℕ)) → HasOneAnswer (all_living objects names)
+one-all-living objects [] = one-gives []
+one-all-living objects (name ∷ names) = one-then (one-living objects name) (λ o. one-then (one-all-living objects names) (λ os. one-gives _))
 
 pub one-value : (objects : List Object) (i : Input) → HasOneAnswer (value objects i)
 one-value objects (input.Literal l) = one-gives _

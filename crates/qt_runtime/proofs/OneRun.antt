@@ -8,6 +8,7 @@ use Rattle.machine_rules.specs.Rules.{Rule, RuleAt, TurnRule}
 use Rattle.machine_state.specs.declared.turn.Turn.{Turn}
 use Rattle.machine_rules.specs.Runs as of_rules
 use Rattle.machine_rules.proofs.OneRule.{rule-one}
+use Rattle.prop_bindings.specs.Fits.{Agree}
 use Rattle.machine_rules.specs.Good.{IsGood}
 use Rattle.qt_runtime.specs.Laws.{OneRun, OneFront}
 use Rattle.qt_runtime.specs.Runs.{Runs, done, rules, takes}
@@ -64,30 +65,30 @@ leads-by : {p : Loaded} {d : ℕ} {first second : List Event} {t u : State} {j k
 leads-by {first = first} {e = e} {f = f} same x =
     record { more = x.more; taken = ap (λ (l : List Event). f ∷ l) x.taken ∙ ap (λ (y : Event). y ∷ first ++ x.more) (sym same); runs = x.runs }
 
-fronts : {p : Loaded} {d : ℕ} {s t u : State} {n j k : ℕ} {a b : List Event} (x y : List Event) → IsSound p → a ++ x ≡ b ++ y → Steps p d s n a t j → Steps p d s n b u k → Leads p d a t j b u k ⊎ Leads p d b u k a t j
-fronts {b = b} x y sound same end g = inl (record { more = b; taken = refl; runs = runs-of g })
-fronts {a = a} x y sound same (rule r ok f) end = inr (record { more = a; taken = refl; runs = runs-of (rule r ok f) })
-fronts {a = a} x y sound same (take r ok f) end = inr (record { more = a; taken = refl; runs = runs-of (take r ok f) })
-fronts {p} {d} {s} {u = u} {k = k} {b = b} x y sound same (rule {m = l} {n = n} r ok f) (rule {m = m} q fine g) =
-    let one : l ≡ m = rule-one p s l m r q in
+fronts : {p : Loaded} {d : ℕ} {s t u : State} {n j k : ℕ} {a b : List Event} (x y : List Event) → IsSound p → Agree p s.objects s.bindings → a ++ x ≡ b ++ y → Steps p d s n a t j → Steps p d s n b u k → Leads p d a t j b u k ⊎ Leads p d b u k a t j
+fronts {b = b} x y sound agree same end g = inl (record { more = b; taken = refl; runs = runs-of g })
+fronts {a = a} x y sound agree same (rule r ok f) end = inr (record { more = a; taken = refl; runs = runs-of (rule r ok f) })
+fronts {a = a} x y sound agree same (take r ok f) end = inr (record { more = a; taken = refl; runs = runs-of (take r ok f) })
+fronts {p} {d} {s} {u = u} {k = k} {b = b} x y sound agree same (rule {m = l} {n = n} r ok f) (rule {m = m} q fine g) =
+    let one : l ≡ m = rule-one p s l m agree r q in
     let From : State → Type 0 = λ z. Steps p d z n b u k in
-    fronts x y sound same f (subst From (sym one) g)
-fronts {p} {d} {s} x y sound same (rule {m = l} r ok f) (take q fine g) = absurd (no-rule p s l (taken-idle q) r)
-fronts {p} {d} {s} x y sound same (take r ok f) (rule {m = m} q fine g) = absurd (no-rule p s m (taken-idle r) q)
-fronts {p} {d} {s} {u = u} {k = k} x y sound same (take {m = l} {n = n} {e = e} {es = es} r ok f) (take {m = m} {e = i} {es = is} q fine g) =
+    fronts x y sound ok.agree same f (subst From (sym one) g)
+fronts {p} {d} {s} x y sound agree same (rule {m = l} r ok f) (take q fine g) = absurd (no-rule p s l (taken-idle q) r)
+fronts {p} {d} {s} x y sound agree same (take r ok f) (rule {m = m} q fine g) = absurd (no-rule p s m (taken-idle r) q)
+fronts {p} {d} {s} {u = u} {k = k} x y sound agree same (take {m = l} {n = n} {e = e} {es = es} r ok f) (take {m = m} {e = i} {es = is} q fine g) =
     let first : e ≡ i = cc same in
     let others : es ++ x ≡ is ++ y = cc same in
     let At : Event → Type 0 = λ z. Takes p z s m in
-    let one : l ≡ m = one_taking p e s l m sound r (subst At (sym first) q) in
+    let one : l ≡ m = one_taking p e s l m sound agree r (subst At (sym first) q) ok.agree.acyclic in
     let From : State → Type 0 = λ z. Steps p d z n is u k in
-    elim (fronts x y sound others f (subst From (sym one) g)) [
+    elim (fronts x y sound ok.agree others f (subst From (sym one) g)) [
       | inl leads ↦ inl (leads-by first leads)
       | inr leads ↦ inr (leads-by (sym first) leads)
     ]
 
 pub one_front : OneFront
-one_front p depth s n events t u j k sound a b =
-    elim (fronts a.rest b.rest sound (sym a.split ∙ b.split) (steps-of a.runs) (steps-of b.runs)) [
+one_front p depth s n events t u j k sound agree a b =
+    elim (fronts a.rest b.rest sound agree (sym a.split ∙ b.split) (steps-of a.runs) (steps-of b.runs)) [
       | inl leads ↦ inl (record { more = leads.more; taken = leads.taken; runs = leads.runs; grows = (runs-pay leads.runs).grows })
       | inr leads ↦ inr (record { more = leads.more; taken = leads.taken; runs = leads.runs; grows = (runs-pay leads.runs).grows })
     ]
@@ -104,8 +105,8 @@ one-end : {p : Loaded} {d : ℕ} {t u : State} {j k : ℕ} {es : List Event} →
 one-end {es = es} x idle = stays (nothing-more es x.more x.taken) idle (steps-of x.runs)
 
 pub one_run : OneRun
-one_run p depth s n events t u j k sound a b =
-    elim (fronts [] [] sound refl (steps-of a.runs) (steps-of b.runs)) [
+one_run p depth s n events t u j k sound agree a b =
+    elim (fronts [] [] sound agree refl (steps-of a.runs) (steps-of b.runs)) [
       | inl leads ↦ one-end leads a.ends
       | inr leads ↦ (let back = one-end leads b.ends in (sym back.0, sym back.1))
     ]

@@ -1,12 +1,15 @@
 -- An event has one answer.
-use Rattle.std.proofs.Common.{◌≡◌, ℕ, List, Option, None, Some, slice_get, length, arith, Ok, Err, true, false, sym, ap, ◌∙◌}
+use Rattle.std.proofs.Common.{◌≡◌, ℕ, List, Option, None, Some, slice_get, length, arith, Result, Ok, Err, true, false, sym, ap, ◌∙◌, subst}
 use Rattle.signatures.specs.declared.sig.Sig.{Sig}
 use Rattle.meta_model.specs.declared.object.MetaMethod.{MetaMethod}
 use Rattle.meta_model.specs.declared.object.MetaObject.{MetaObject}
+use Rattle.meta_model.specs.declared.site.MetaSite.{MetaSite}
 use Rattle.meta_model.specs.Loaded.{Loaded}
 use Rattle.meta_model.specs.Sound.{IsSound}
 use Rattle.object_tree.specs.declared.life.Life.{Life}
 use Rattle.object_tree.specs.declared.object.Object.{Object}
+use Rattle.prop_bindings.specs.declared.binding.Binding.{Binding}
+use Rattle.prop_bindings.specs.Fits.{Agree}
 use Rattle.texts.specs.declared.connection.ConnectionType.{ConnectionType}
 use Rattle.texts.specs.declared.connection.Endpoints.{Endpoints as Named}
 use Rattle.script_lang.specs.declared.event.Event.TheVariants as event
@@ -14,29 +17,32 @@ use Rattle.script_lang.specs.declared.event.Input.{Input}
 use Rattle.machine_state.specs.declared.refusal.Refusal.{Refusal}
 use Rattle.machine_state.specs.Accepting.{accepted, refused}
 use Rattle.machine_state.specs.State.{State}
-use Rattle.machine_rules.proofs.OneRule.{begins-one, writes-one, schedules-one}
+use Rattle.machine_rules.proofs.OneRule.{begins-one, writes-one, installs-one, schedules-one}
 use Rattle.qt_runtime.specs.declared.events.invoke.Invocation.{Invocation}
 use Rattle.qt_runtime.specs.declared.events.invoke.Invocation.TheVariants.{Emit, Call}
 use Rattle.machine_rules.specs.Judgement.{Numbered}
 use Rattle.machine_rules.specs.Judgement.{HasOneAnswer}
-use Rattle.qt_runtime.specs.Laws.{OneJudgement, OneTaking}
+use Rattle.machine_rules.specs.Judgement.{becomes, goes_on, ends}
+use Rattle.machine_rules.specs.Settling.{Installs}
+use Rattle.qt_runtime.specs.Laws.{IsAcyclic, IsAcyclicIn, OneJudgement, OneTaking}
 use Rattle.qt_runtime.specs.Takes.{accepts, refuses}
 use Rattle.qt_runtime.specs.events.Adopt.{adopt, Adopts}
 use Rattle.qt_runtime.specs.events.Assign.{assign}
+use Rattle.qt_runtime.specs.events.Bind.{IsSiteOf, may_bind, bind}
 use Rattle.qt_runtime.specs.events.Block.{block}
 use Rattle.qt_runtime.specs.events.Delete.{delete}
 use Rattle.qt_runtime.specs.events.Later.{later}
 use Rattle.qt_runtime.specs.events.Connect.{connect}
 use Rattle.qt_runtime.specs.events.Disconnect.{disconnect}
 use Rattle.qt_runtime.specs.events.Ends.{find_ends, IsMethodOf}
-use Rattle.qt_runtime.specs.events.Add.{add}
+use Rattle.qt_runtime.specs.events.AddLoop.{add_loop}
 use Rattle.qt_runtime.specs.events.Turn.{turn}
 use Rattle.event_loops.specs.Queues.{Loop, IsNamed}
 use Rattle.qt_runtime.specs.events.Create.{create, IsClassOf, IsHome}
 use Rattle.qt_runtime.specs.events.Invoke.{invoke}
 use Rattle.machine_rules.proofs.OneAnswer.{one-find, one-check, one-gives, one-becomes, one-then, numbered-is}
 use Rattle.machine_rules.proofs.OneRule.{may-connect-one}
-use Rattle.qt_runtime.proofs.OneAnswer.{one-living, one-value, one-values, one-method, one-property, one-adopted}
+use Rattle.qt_runtime.proofs.OneAnswer.{one-living, one-all-living, one-value, one-values, one-method, one-property, one-adopted}
 
 one-class : {p : Loaded} {name : List ℕ} → IsSound p → (a b : Numbered MetaObject) → IsClassOf p name a → IsClassOf p name b → a ≡ b
 one-class {p} sound a b f g =
@@ -60,8 +66,8 @@ one-home loops (Some name) a b f g = one-loop a b f g
 one-create : (p : Loaded) (s : State) (name class : List ℕ) (loop : Option (List ℕ)) → IsSound p → HasOneAnswer (create p s name class loop)
 one-create p s name class loop sound = one-then one-check (λ free. one-then (one-find (one-class sound)) (λ c. one-then (one-find (one-home s.queues.loops loop)) (λ home. one-then one-check (λ room. one-gives _))))
 
-one-add : (s : State) (name : List ℕ) → HasOneAnswer (add s name)
-one-add s name = one-then one-check (λ free. one-gives _)
+one-add-loop : (s : State) (name : List ℕ) → HasOneAnswer (add_loop s name)
+one-add-loop s name = one-then one-check (λ free. one-gives _)
 
 one-turn : (s : State) (name : List ℕ) → HasOneAnswer (turn s name)
 one-turn s name = one-then (one-find one-loop) (λ home. one-gives _)
@@ -97,10 +103,36 @@ one-later s name = one-then (one-living s.objects name) (λ o. one-becomes (λ t
 
 -- ---- events
 
-one-assign : (p : Loaded) (s : State) (name property : List ℕ) (i : Input) → IsSound p → HasOneAnswer (assign p s name property i)
-one-assign p s name property i sound =
+one-assign : (p : Loaded) (s : State) (name property : List ℕ) (i : Input) → IsSound p → Agree p s.objects s.bindings → HasOneAnswer (assign p s name property i)
+one-assign p s name property i sound agree =
     one-then (one-living s.objects name) (λ o. one-then (one-find (λ a b f g. one-property sound a b f.is g.is (f.named ∙ sym g.named))) (λ q.
-    one-then (one-value s.objects i) (λ v. one-then one-check (λ fits. one-becomes (λ t u f g. writes-one f g)))))
+    one-then (one-value s.objects i) (λ v. one-then one-check (λ fits. one-becomes (λ t u f g. writes-one agree f g)))))
+
+one-site : {p : Loaded} {name : List ℕ} → IsSound p → (a b : Numbered MetaSite) → IsSiteOf p name a → IsSiteOf p name b → a ≡ b
+one-site {p} sound a b f g =
+    let same : a.number ≡ b.number = sound.distinct_sites a.number b.number a.it b.it f.is g.is (f.named ∙ sym g.named) in
+    let it : Some a.it ≡ Some b.it = sym f.is ∙ ap (λ (n : ℕ). slice_get p.sites n) same ∙ g.is in
+    numbered-is same (cc it)
+
+one-may-bind : (p : Loaded) (s : State) (site target : List ℕ) (sources : List (List ℕ)) → IsSound p → HasOneAnswer (may_bind p s site target sources)
+one-may-bind p s site target sources sound =
+    one-then (one-find (one-site sound)) (λ n. one-then one-check (λ many. one-then (one-living s.objects target) (λ o.
+    one-then (one-all-living s.objects sources) (λ xs. one-then one-check (λ covers. one-then one-check (λ home. one-gives _))))))
+
+-- .. unless it closes a chain of bindings
+one-bind : (p : Loaded) (s : State) (site target : List ℕ) (sources : List (List ℕ)) (a b : Result State Refusal) → IsSound p → Agree p s.objects s.bindings → bind p s site target sources a → bind p s site target sources b → IsAcyclicIn a → a ≡ b
+one-bind p s site target sources a b sound agree (goes_on x may (becomes {x = t} f)) (goes_on y also (becomes {x = u} g)) acyclic =
+    let both : Ok x ≡ Ok y = one-may-bind p s site target sources sound (Ok x) (Ok y) may also in
+    let same : x ≡ y = cc both in
+    let Makes : Binding → Type 0 = λ z. Installs p (accepted s) s.stack z u in
+    let Acyclic : State → Type 0 = λ z. IsAcyclic z in
+    ap (λ (z : State). Ok z) (installs-one agree (subst Acyclic f.settles.gives acyclic) f (subst Makes (sym same) g))
+one-bind p s site target sources a b sound agree (goes_on x may f) (ends {k = k} g) acyclic = let no = one-may-bind p s site target sources sound (Ok x) (Err k) may g in absurd (cc no)
+one-bind p s site target sources a b sound agree (ends {k = k} f) (goes_on y also g) acyclic = let no = one-may-bind p s site target sources sound (Err k) (Ok y) f also in absurd (cc no)
+one-bind p s site target sources a b sound agree (ends {k = k} f) (ends {k = j} g) acyclic =
+    let both : Err k ≡ Err j = one-may-bind p s site target sources sound (Err k) (Err j) f g in
+    let same : k ≡ j = cc both in
+    ap (λ (r : Refusal). Err r) same
 
 one-invoke : (p : Loaded) (s : State) (a : Invocation) (name called : List ℕ) (inputs : List Input) → IsSound p → HasOneAnswer (invoke p s a name called inputs)
 one-invoke p s a name called inputs sound =
@@ -108,27 +140,28 @@ one-invoke p s a name called inputs sound =
     one-then (one-values s.objects inputs) (λ vs. one-then one-check (λ fits. one-becomes (λ t u f g. begins-one f g)))))
 
 pub one_judgement : OneJudgement
-one_judgement p s (event.Loop name) sound = one-add s name
-one_judgement p s (event.Turn name) sound = one-turn s name
-one_judgement p s (event.New name class loop) sound = one-create p s name class loop sound
-one_judgement p s (event.Adopt parent child) sound = one-adopt p s parent child
-one_judgement p s (event.Connect e how) sound = one-connect p s e how sound
-one_judgement p s (event.Disconnect e) sound = one-disconnect p s e sound
-one_judgement p s (event.Set name property i) sound = one-assign p s name property i sound
-one_judgement p s (event.Emit name signal inputs) sound = one-invoke p s Emit name signal inputs sound
-one_judgement p s (event.Call name slot inputs) sound = one-invoke p s Call name slot inputs sound
-one_judgement p s (event.Block name) sound = one-block s name true
-one_judgement p s (event.Unblock name) sound = one-block s name false
-one_judgement p s (event.Delete name) sound = one-delete s name
-one_judgement p s (event.Later name) sound = one-later s name
+one_judgement p s (event.Loop name) a b sound agree f g acyclic = one-add-loop s name a b f g
+one_judgement p s (event.Turn name) a b sound agree f g acyclic = one-turn s name a b f g
+one_judgement p s (event.New name class loop) a b sound agree f g acyclic = one-create p s name class loop sound a b f g
+one_judgement p s (event.Adopt parent child) a b sound agree f g acyclic = one-adopt p s parent child a b f g
+one_judgement p s (event.Connect e how) a b sound agree f g acyclic = one-connect p s e how sound a b f g
+one_judgement p s (event.Disconnect e) a b sound agree f g acyclic = one-disconnect p s e sound a b f g
+one_judgement p s (event.Set name property i) a b sound agree f g acyclic = one-assign p s name property i sound agree a b f g
+one_judgement p s (event.Bind site target sources) a b sound agree f g acyclic = one-bind p s site target sources a b sound agree f g acyclic
+one_judgement p s (event.Emit name signal inputs) a b sound agree f g acyclic = one-invoke p s Emit name signal inputs sound a b f g
+one_judgement p s (event.Call name slot inputs) a b sound agree f g acyclic = one-invoke p s Call name slot inputs sound a b f g
+one_judgement p s (event.Block name) a b sound agree f g acyclic = one-block s name true a b f g
+one_judgement p s (event.Unblock name) a b sound agree f g acyclic = one-block s name false a b f g
+one_judgement p s (event.Delete name) a b sound agree f g acyclic = one-delete s name a b f g
+one_judgement p s (event.Later name) a b sound agree f g acyclic = one-later s name a b f g
 
 pub one_taking : OneTaking
-one_taking p e s t u sound (accepts f a) (accepts g b) =
-    let answers = one_judgement p s e sound (Ok t) (Ok u) a b in
+one_taking p e s t u sound agree (accepts f a) (accepts g b) acyclic =
+    let answers = one_judgement p s e (Ok t) (Ok u) sound agree a b acyclic in
     cc answers
-one_taking p e s t u sound (accepts f a) (refuses k g b) = let no = one_judgement p s e sound (Ok t) (Err k) a b in absurd (cc no)
-one_taking p e s t u sound (refuses k f a) (accepts g b) = let no = one_judgement p s e sound (Err k) (Ok u) a b in absurd (cc no)
-one_taking p e s t u sound (refuses k f a) (refuses j g b) =
-    let answers = one_judgement p s e sound (Err k) (Err j) a b in
+one_taking p e s t u sound agree (accepts f a) (refuses k g b) acyclic = let no = one_judgement p s e (Err k) (Ok t) sound agree b a tt in absurd (cc no)
+one_taking p e s t u sound agree (refuses k f a) (accepts g b) acyclic = let no = one_judgement p s e (Err k) (Ok u) sound agree a b tt in absurd (cc no)
+one_taking p e s t u sound agree (refuses k f a) (refuses j g b) acyclic =
+    let answers = one_judgement p s e (Err k) (Err j) sound agree a b tt in
     let same : k ≡ j = cc answers in
     ap (λ (r : Refusal). refused s r) same

@@ -3,9 +3,8 @@ use Rattle.std.proofs.Common.{◌≡◌, ℕ, suc, ◌+◌, ◌<◌, Bool, List,
 use Rattle.std.specs.List.{AllByRecursion, find}
 use Rattle.signatures.specs.declared.value.Value.{Value}
 use Rattle.script_lang.specs.declared.event.Event.{Event}
-use Rattle.script_lang.specs.declared.event.Event.TheVariants.{Loop, Turn, New, Adopt, Connect, Disconnect, Set, Emit as EmitEvent, Call as CallEvent, Block, Unblock, Delete as DeleteEvent, Later as LaterEvent}
+use Rattle.script_lang.specs.declared.event.Event.TheVariants.{Loop, Turn, New, Adopt, Connect, Disconnect, Set, Bind, Emit as EmitEvent, Call as CallEvent, Block, Unblock, Delete as DeleteEvent, Later as LaterEvent}
 use Rattle.meta_model.specs.declared.object.MetaMethod.{MetaMethod}
-use Rattle.meta_model.specs.declared.object.MetaProperty.{MetaProperty}
 use Rattle.meta_model.specs.declared.object.Statement.{Statement}
 use Rattle.meta_model.specs.declared.object.Statement.TheViews.{out-Statement}
 use Rattle.meta_model.specs.declared.object.ValueType.{ValueType}
@@ -20,10 +19,14 @@ use Rattle.object_tree.specs.Adopting.{IsAdopted}
 use Rattle.object_tree.specs.Creating.{begun as begun_life, fresh, initial_values}
 use Rattle.object_tree.specs.Family.{moved}
 use Rattle.object_tree.specs.Family.{without_life}
-use Rattle.object_tree.specs.Objects.{life_of, change_life, with_life, written, blocked}
+use Rattle.object_tree.specs.Objects.{life_of, change_life, with_life, blocked}
 use Rattle.object_tree.proofs.Changing.{length-change}
 use Rattle.object_tree.specs.Typed.{AreTyped, ReadAs}
-use Rattle.object_tree.proofs.TypedObjects.{class-more, seen-appended, seen-written, shape_in, class-same, seen-same, shape-change, shape-moved}
+use Rattle.prop_bindings.specs.declared.binding.Binding.{Binding}
+use Rattle.prop_bindings.specs.declared.place.Place.{Place}
+use Rattle.prop_bindings.specs.Changes.{DifferInValues}
+use Rattle.prop_bindings.specs.Fits.{Agree}
+use Rattle.object_tree.proofs.TypedObjects.{class-more, seen-appended, shape_in, class-same, seen-same, shape-change, shape-moved}
 use Rattle.std.specs.Prelude.{Result, Err}
 use Rattle.machine_state.specs.declared.endpoints.Endpoints.{Endpoints}
 use Rattle.machine_state.specs.declared.refusal.Refusal.{Refusal}
@@ -31,10 +34,13 @@ use Rattle.machine_rules.specs.Connecting.{AreThere, kept_ends, names_of}
 use Rattle.machine_rules.specs.Doings.{Doing, Write, Begin, Choose, Connect as Link, Disconnect as Unlink, Delete, Schedule, Nothing, doing}
 use Rattle.machine_rules.specs.Destroying.{Dies, NextRule, ChildRule, DestroyRule, living_child, DefersOnce, Schedules}
 use Rattle.qt_runtime.proofs.Possible.{possible}
-use Rattle.qt_runtime.proofs.Standing.{BodyStands, IsNotified, PlaceStands, Stands, Invariant, AllStand, SparedIn, all-stand-still}
-use Rattle.machine_state.specs.State.{State, IsIdle, Place, Activation, Body, Emit, Update, Destroy}
-use Rattle.machine_rules.specs.Rules.{Rule, RuleAt, BodyRule, Does, EmitRule, UpdateRule, Begins, Writes, Changes, places_of, changed, unchanged, silent, begun, with_used, linked, unlinked, TurnRule, Serves, Delivers, Arrives, BeginsIf, NotifiesIf}
-use Rattle.machine_state.specs.Objects.{home_of}
+use Rattle.qt_runtime.proofs.Standing.{BodyStands, Stands, Invariant, AllStand, SparedIn, all-stand-still}
+use Rattle.machine_state.specs.declared.telling.Cause.{Cause}
+use Rattle.machine_state.specs.State.{State, IsIdle, Activation, Body, Emit, Update, Destroy}
+use Rattle.machine_rules.specs.Rules.{Rule, RuleAt, BodyRule, Does, EmitRule, UpdateRule, Begins, begun, with_used, linked, unlinked, TurnRule, Serves, Delivers, Arrives, BeginsIf, NotifiesIf}
+use Rattle.machine_rules.specs.Settling.{Settles, Writes, Installs}
+use Rattle.machine_rules.specs.Writing.{MayNotify}
+use Rattle.object_tree.specs.Objects.{home_of}
 use Rattle.event_loops.specs.declared.item.Item.{Item}
 use Rattle.event_loops.specs.declared.item.Item.TheVariants.{Call, Deletion}
 use Rattle.event_loops.specs.declared.item.Posted.{Posted}
@@ -66,14 +72,16 @@ use Rattle.machine_rules.specs.Runs.{Rules}
 use Rattle.machine_rules.specs.Runs as of_rules
 use Rattle.machine_rules.specs.Sound.{Joined, AreHoused}
 use Rattle.machine_rules.specs.Keeps.{StayThere, Keeps}
-use Rattle.machine_rules.specs.There.{IsDead, IsMember, IsField}
-use Rattle.machine_rules.proofs.Dying.{lives-created, died-stay, scheduled-stay, scheduled-seen}
-use Rattle.machine_rules.proofs.Fields.{life-unique, member-method, field-written}
+use Rattle.machine_rules.specs.There.{IsDead, IsMember}
+use Rattle.machine_rules.proofs.Dying.{died-stay, scheduled-stay, scheduled-seen}
+use Rattle.machine_rules.proofs.Fields.{life-unique, member-method}
+use Rattle.machine_rules.proofs.Differing.{differ-stay, differ-spared}
+use Rattle.machine_rules.proofs.Notifying.{all-notified}
 use Rattle.qt_runtime.proofs.Changes.{adopted-by, length-moved}
 use Rattle.machine_rules.proofs.Lists.{all-snoc}
-use Rattle.machine_rules.proofs.Keeps.{all-stay, written-stay, all-joined-still, rule-kept, begins-kept, writes-kept, schedules-kept, joined-by}
+use Rattle.machine_rules.proofs.Keeps.{all-stay, all-joined-still, rule-kept, begins-kept, writes-kept, installs-kept, schedules-kept, joined-by}
 use Rattle.qt_runtime.proofs.Homes.{housed-more, housed-loop, waiting-loop, home-there, home-moved}
-use Rattle.machine_rules.proofs.Soundness.{AllFit, Fair, rule-fair, begins-fair, writes-fair, schedules-fair, all-wait-still}
+use Rattle.machine_rules.proofs.Soundness.{AllFit, Fair, rule-fair, begins-fair, writes-fair, installs-fair, schedules-fair, all-wait-still}
 use Rattle.machine_rules.proofs.Waiting.{housed-same, home-change}
 
 -- ---- statements
@@ -118,29 +126,20 @@ module _ {p : Loaded} {s t : State} (sound : IsSound p) (well : IsWell p s t) wh
   begins-stands : {below : List Activation} {o m : ℕ} {arguments : List Value} → Begins p s below o m arguments t → length s.stack < suc (length below) → AllByRecursion (Stands p s.objects) below → AllStand p t
   begins-stands {below} {o} {m} {arguments} b higher lower = begun-stands p s below o b.object m b.method arguments b.method.work t sound b.is refl b.gives higher well lower
 
-  notified-stands : {objects : List Object} {old new : Value} {o q : ℕ} {x : Object} {property : MetaProperty} {notify signal : Option ℕ} → IsField p objects o q x property → property.notify ≡ notify → Changes old new notify signal → AllByRecursion (PlaceStands p objects) (places_of o q signal)
-  notified-stands {q = q} {property = property} f e (changed {signal = signal} h) = (
-    record {
-      created = lives-created f.lives;
-      living = λ y life lives.
-          let Notified : ℕ → Type 0 = λ class. IsNotified p class q in
-          subst Notified (ap (λ (l : Life). l.class) (life-unique f.lives lives)) (record { property = property; is = record { class = f.class; is_class = f.is_class; is = f.is_property }; signal = signal; notifies = e });
-    },
-    tt,
-  )
-  notified-stands f e (unchanged h) = tt
-  notified-stands f e silent = tt
-
-  writes-stands : {below : List Activation} {o q : ℕ} {new : Value} → Writes p s below o q new t → AllByRecursion (Stands p s.objects) below → AllStand p t
-  writes-stands {below} {o} {q} {new} w lower =
-      let after : List Object = change_life o (written q new) s.objects in
-      let places : AllByRecursion (PlaceStands p after) (places_of o q w.signal) = notified-stands (field-written new w.is) refl w.changes in
-      let Family : State → Type 0 = λ u. AllStand p u in
-      subst Family (sym w.gives) (places, all-stand-still p s.objects after below (written-stay s.objects o q new) (λ k body gone. sym (seen-written o q new s.objects k) ∙ gone) lower)
-
   -- the stack is another one, and the objects are the same
   as-is : {u : State} → t ≡ u → AllStand p u → AllStand p t
   as-is e lower = let Family : State → Type 0 = λ v. AllStand p v in subst Family (sym e) lower
+
+  -- values change, and those that changed may be notified
+  settles-stands : {below : List Activation} {cause : Cause} {place : Place} {objects : List Object} {bindings : List Binding} {changed : List Place} → DifferInValues s.objects objects → Settles p s below cause place objects bindings changed t → AllByRecursion (Stands p s.objects) below → AllStand p t
+  settles-stands {below} {objects = objects} {changed = changed} differ x lower =
+      as-is x.gives (all-notified p objects changed sound, all-stand-still p s.objects objects below (differ-stay s.objects objects differ) (λ o body gone. differ-spared s.objects objects differ o gone) lower)
+
+  writes-stands : {below : List Activation} {o q : ℕ} {new : Value} → Writes p s below o q new t → AllByRecursion (Stands p s.objects) below → AllStand p t
+  writes-stands w lower = settles-stands w.written.objects w.settles lower
+
+  installs-stands : {below : List Activation} {b : Binding} → Installs p s below b t → AllByRecursion (Stands p s.objects) below → AllStand p t
+  installs-stands x lower = settles-stands x.differ x.settles lower
 
   -- connections are made and removed
   linked-stands : (stack : List Activation) (ends : Endpoints) (how : ConnectionType) (names : Named (List ℕ)) (answer : Result (Unit {0}) Refusal) → AllByRecursion (Stands p s.objects) stack → AllStand p (linked s stack ends how names answer)
@@ -189,7 +188,7 @@ module _ {p : Loaded} {s t : State} (sound : IsSound p) (well : IsWell p s t) wh
       let well_used : IsWell p (with_used s c) t = record { arguments = well.arguments; values = well.values } in
       arrives-stands (with_used s c) (Emit o g arguments c.number last ∷ below) r.home c.receiver r.receiver c.method r.method (take (length r.method.kinds) arguments) (reaches_at_once c.kind r.home (running s.turn)) well_used r.is (omega (arith, high)) (tt, lower) r.arrives
 
-  update-stands : (below : List Activation) (places : List Place) → AllByRecursion (PlaceStands p s.objects) places → AllByRecursion (Stands p s.objects) below → UpdateRule p s below t places → AllStand p t
+  update-stands : (below : List Activation) (places : List Place) → AllByRecursion (MayNotify p s.objects) places → AllByRecursion (Stands p s.objects) below → UpdateRule p s below t places → AllStand p t
   update-stands below [] there lower r = as-is r lower
   update-stands below (place ∷ places) there lower r = by_life (life_of s.objects place.object) r
     where
@@ -245,11 +244,11 @@ module _ {p : Loaded} {s t : State} (sound : IsSound p) (well : IsWell p s t) wh
       destroy-stands below next torn (λ o body gone. spares o (subst (λ (l : List Activation). IsTrue (has_body o l)) (sym is) body) gone) all.1 r
 
   -- what is going on stands where the stack does
-  kept-invariant : Invariant p s → Keeps p s 1 t 0 → AllStand p t → Fair p t → Invariant p t
-  kept-invariant up kept stands fair = record { sound = record { typed = well.values; joined = kept.joined sound up.sound.joined; housed = kept.housed up.sound.housed; waiting = fair.waiting }; stands = stands; emitted = fair.emitted }
+  kept-invariant : Agree p t.objects t.bindings → Invariant p s → Keeps p s 1 t 0 → AllStand p t → Fair p t → Invariant p t
+  kept-invariant agree up kept stands fair = record { sound = record { agree = agree; joined = kept.joined sound up.sound.joined; housed = kept.housed up.sound.housed; waiting = fair.waiting }; stands = stands; emitted = fair.emitted }
 
-  rule-invariant : Spares s t → Invariant p s → Rule p s t → Invariant p t
-  rule-invariant spares up r = kept-invariant up (rule-kept p s t s.stack r) (rule-stands up.sound.typed spares s.stack refl up.stands up.stands r) (rule-fair sound well up.sound.waiting s.stack up.sound.joined up.emitted up.emitted refl r)
+  rule-invariant : Spares s t → Agree p t.objects t.bindings → Invariant p s → Rule p s t → Invariant p t
+  rule-invariant spares agree up r = kept-invariant agree up (rule-kept p s t s.stack r) (rule-stands up.sound.agree.typed spares s.stack refl up.stands up.stands r) (rule-fair sound well up.sound.waiting s.stack up.sound.joined up.emitted up.emitted refl r)
 
 -- ---- events
 
@@ -261,10 +260,10 @@ none-fit : (p : Loaded) {s : State} (objects : List Object) → IsIdle s → All
 none-fit p objects idle = let Family : List Activation → Type 0 = λ l. AllFit p objects l in subst Family (sym idle.empty) tt
 
 -- objects change, the living ones stay of their classes, and each lives in a loop that is there
-changed-invariant : {p : Loaded} {s : State} (objects : List Object) → IsIdle s → Invariant p s → AreTyped p objects → StayThere s.objects objects → AreHoused objects s.queues.loops → Invariant p (record (accepted s) { objects = objects })
-changed-invariant {p} {s} objects idle up typed stay housed = record {
+changed-invariant : {p : Loaded} {s : State} (objects : List Object) → IsIdle s → Invariant p s → Agree p objects s.bindings → StayThere s.objects objects → AreHoused objects s.queues.loops → Invariant p (record (accepted s) { objects = objects })
+changed-invariant {p} {s} objects idle up agree stay housed = record {
   sound = record {
-    typed = typed;
+    agree = agree;
     joined = all-joined-still p s.objects objects s.connected.connections stay up.sound.joined;
     housed = housed;
     waiting = all-wait-still p s.objects objects s.queues.loops stay up.sound.waiting;
@@ -284,7 +283,7 @@ created-stay objects x l alive = record {
 -- an event loop is added
 loop-invariant : {p : Loaded} {s : State} (name : List ℕ) → Invariant p s → Invariant p (record (accepted s) { queues = with_loop name s.queues })
 loop-invariant {p} {s} name up = record {
-  sound = record { typed = up.sound.typed; joined = up.sound.joined; housed = housed-loop s.objects s.queues.loops name up.sound.housed; waiting = waiting-loop p s.objects s.queues.loops name up.sound.waiting };
+  sound = record { agree = up.sound.agree; joined = up.sound.joined; housed = housed-loop s.objects s.queues.loops name up.sound.housed; waiting = waiting-loop p s.objects s.queues.loops name up.sound.waiting };
   stands = up.stands;
   emitted = up.emitted;
 }
@@ -322,37 +321,37 @@ connection-joined {p} {objects} e how n f sound (goes_on a sender (goes_on b rec
 
 -- the state in which an event is taken
 accepted-invariant : {p : Loaded} {s : State} → Invariant p s → Invariant p (accepted s)
-accepted-invariant up = record { sound = record { typed = up.sound.typed; joined = up.sound.joined; housed = up.sound.housed; waiting = up.sound.waiting }; stands = up.stands; emitted = up.emitted }
+accepted-invariant up = record { sound = record { agree = up.sound.agree; joined = up.sound.joined; housed = up.sound.housed; waiting = up.sound.waiting }; stands = up.stands; emitted = up.emitted }
 
 accepted-well : {p : Loaded} {s t : State} → IsWell p s t → IsWell p (accepted s) t
 accepted-well well = record { arguments = well.arguments; values = well.values }
 
-invoked-invariant : {p : Loaded} {s t : State} (a : Invocation) (name called : List ℕ) (inputs : List Input) → IsSound p → Invariant p s → IsWell p s t → invoke p s a name called inputs (Ok t) → Invariant p t
-invoked-invariant {p} {s} a name called inputs sound up well (goes_on _ o (goes_on _ m (goes_on _ vs (goes_on _ fit (becomes begins))))) =
-    kept-invariant sound (accepted-well well) (accepted-invariant up) (begins-kept begins) (begins-stands sound (accepted-well well) begins (omega arith) up.stands) (begins-fair sound (accepted-well well) up.sound.waiting begins (omega arith) up.emitted)
+invoked-invariant : {p : Loaded} {s t : State} (a : Invocation) (name called : List ℕ) (inputs : List Input) → IsSound p → Invariant p s → IsWell p s t → Agree p t.objects t.bindings → invoke p s a name called inputs (Ok t) → Invariant p t
+invoked-invariant {p} {s} a name called inputs sound up well agree (goes_on _ o (goes_on _ m (goes_on _ vs (goes_on _ fit (becomes begins))))) =
+    kept-invariant sound (accepted-well well) agree (accepted-invariant up) (begins-kept begins) (begins-stands sound (accepted-well well) begins (omega arith) up.stands) (begins-fair sound (accepted-well well) up.sound.waiting begins (omega arith) up.emitted)
 
-blocked-invariant : {p : Loaded} {s t : State} (name : List ℕ) (on : Bool) → IsIdle s → Invariant p s → IsWell p s t → block s name on (Ok t) → Invariant p t
-blocked-invariant {p} {s} name on idle up well (goes_on o lives just) =
-    changed-invariant (change_life o.number (blocked on) s.objects) idle up well.values (same-stay s.objects _ (length-change o.number (with_life (blocked on)) s.objects) (shape-change o.number (blocked on) s.objects (λ l. refl)))
+blocked-invariant : {p : Loaded} {s t : State} (name : List ℕ) (on : Bool) → IsIdle s → Invariant p s → Agree p t.objects t.bindings → block s name on (Ok t) → Invariant p t
+blocked-invariant {p} {s} name on idle up agree (goes_on o lives just) =
+    changed-invariant (change_life o.number (blocked on) s.objects) idle up agree (same-stay s.objects _ (length-change o.number (with_life (blocked on)) s.objects) (shape-change o.number (blocked on) s.objects (λ l. refl)))
     (housed-same s.objects _ s.queues.loops s.queues.loops (home-change o.number (blocked on) s.objects (λ l. refl)) refl up.sound.housed)
 
-judged-invariant : {p : Loaded} {s t : State} (e : Event) → IsSound p → IsIdle s → Invariant p s → judged p s e (Ok t) → IsWell p s t → Invariant p t
-judged-invariant (Loop name) sound idle up (goes_on _ free just) well = loop-invariant name up
-judged-invariant (Turn name) sound idle up (goes_on home is just) well = record { sound = record { typed = up.sound.typed; joined = up.sound.joined; housed = up.sound.housed; waiting = up.sound.waiting }; stands = up.stands; emitted = up.emitted }
-judged-invariant {s = s} (New name class loop) sound idle up (goes_on _ free (goes_on c is (goes_on home (finds lives) (goes_on _ room just)))) well =
+judged-invariant : {p : Loaded} {s t : State} (e : Event) → IsSound p → IsIdle s → Invariant p s → judged p s e (Ok t) → IsWell p s t → Agree p t.objects t.bindings → Invariant p t
+judged-invariant (Loop name) sound idle up (goes_on _ free just) well agree = loop-invariant name up
+judged-invariant (Turn name) sound idle up (goes_on home is just) well agree = record { sound = record { agree = up.sound.agree; joined = up.sound.joined; housed = up.sound.housed; waiting = up.sound.waiting }; stands = up.stands; emitted = up.emitted }
+judged-invariant {s = s} (New name class loop) sound idle up (goes_on _ free (goes_on c is (goes_on home (finds lives) (goes_on _ room just)))) well agree =
     let x : Object = fresh name c.number home (initial_values c.it) in
     let l : Life = begun_life c.number home (initial_values c.it) in
-    changed-invariant _ idle up well.values (created-stay _ x l refl)
+    changed-invariant _ idle up agree (created-stay _ x l refl)
     (housed-more s.objects x l s.queues.loops refl up.sound.housed (home-there s.queues.loops home loop up.sound.housed.has_main lives))
-judged-invariant {p} {s} (Adopt parent child) sound idle up (goes_on _ a (goes_on _ c (goes_on _ owns (goes_on _ over (goes_on _ home (becomes x)))))) well =
+judged-invariant {p} {s} (Adopt parent child) sound idle up (goes_on _ a (goes_on _ c (goes_on _ owns (goes_on _ over (goes_on _ home (becomes x)))))) well agree =
     let Family : State → Type 0 = λ u. Invariant p u in
-    let Typed : State → Type 0 = λ u. AreTyped p u.objects in
-    subst Family (sym x.gives) (changed-invariant x.objects idle up (subst Typed x.gives well.values) (adopted-stay x.is) (adopted-housed s.queues.loops x.is up.sound.housed))
-judged-invariant {p} {s} (Connect e how) sound idle up (goes_on f named (goes_on _ (goes_on _ covers (goes_on _ (so fits) new)) given)) well =
+    let Agrees : State → Type 0 = λ u. Agree p u.objects u.bindings in
+    subst Family (sym x.gives) (changed-invariant x.objects idle up (subst Agrees x.gives agree) (adopted-stay x.is) (adopted-housed s.queues.loops x.is up.sound.housed))
+judged-invariant {p} {s} (Connect e how) sound idle up (goes_on f named (goes_on _ (goes_on _ covers (goes_on _ (so fits) new)) given)) well agree =
     let Family : State → Type 0 = λ u. Invariant p u in
     subst Family (sym (given-is given)) (record {
       sound = record {
-        typed = up.sound.typed;
+        agree = up.sound.agree;
         joined = all-snoc (Joined p s.objects) s.connected.connections _ up.sound.joined (connection-joined e how (s.connected.last + 1) f sound named fits);
         housed = up.sound.housed;
         waiting = up.sound.waiting;
@@ -360,39 +359,41 @@ judged-invariant {p} {s} (Connect e how) sound idle up (goes_on f named (goes_on
       stands = up.stands;
       emitted = up.emitted;
     })
-judged-invariant {p} {s} (Disconnect e) sound idle up (goes_on f named (goes_on _ is given)) well =
+judged-invariant {p} {s} (Disconnect e) sound idle up (goes_on f named (goes_on _ is given)) well agree =
     let Family : State → Type 0 = λ u. Invariant p u in
     subst Family (sym (given-is given)) (record {
-      sound = record { typed = up.sound.typed; joined = all-removed (Joined p s.objects) (joins_these f.ends) s.connected up.sound.joined; housed = up.sound.housed; waiting = up.sound.waiting };
+      sound = record { agree = up.sound.agree; joined = all-removed (Joined p s.objects) (joins_these f.ends) s.connected up.sound.joined; housed = up.sound.housed; waiting = up.sound.waiting };
       stands = up.stands;
       emitted = up.emitted;
     })
-judged-invariant {p} {s} (Set name property i) sound idle up (goes_on _ o (goes_on _ q (goes_on _ v (goes_on _ fits (becomes writes))))) well =
-    kept-invariant sound (accepted-well well) (accepted-invariant up) (writes-kept writes) (writes-stands sound (accepted-well well) writes up.stands) (writes-fair sound (accepted-well well) up.sound.waiting writes up.emitted)
-judged-invariant (EmitEvent name signal inputs) sound idle up x well = invoked-invariant EmitIt name signal inputs sound up well x
-judged-invariant (CallEvent name slot inputs) sound idle up x well = invoked-invariant CallIt name slot inputs sound up well x
-judged-invariant (Block name) sound idle up x well = blocked-invariant name true idle up well x
-judged-invariant (Unblock name) sound idle up x well = blocked-invariant name false idle up well x
-judged-invariant (DeleteEvent name) sound idle up (goes_on o lives just) well = record {
-  sound = record { typed = up.sound.typed; joined = up.sound.joined; housed = up.sound.housed; waiting = up.sound.waiting };
+judged-invariant {p} {s} (Set name property i) sound idle up (goes_on _ o (goes_on _ q (goes_on _ v (goes_on _ fits (becomes writes))))) well agree =
+    kept-invariant sound (accepted-well well) agree (accepted-invariant up) (writes-kept writes) (writes-stands sound (accepted-well well) writes up.stands) (writes-fair sound (accepted-well well) up.sound.waiting writes up.emitted)
+judged-invariant {p} {s} (Bind site target sources) sound idle up (goes_on b may (becomes installs)) well agree =
+    kept-invariant sound (accepted-well well) agree (accepted-invariant up) (installs-kept installs) (installs-stands sound (accepted-well well) installs up.stands) (installs-fair sound (accepted-well well) up.sound.waiting installs up.emitted)
+judged-invariant (EmitEvent name signal inputs) sound idle up x well agree = invoked-invariant EmitIt name signal inputs sound up well agree x
+judged-invariant (CallEvent name slot inputs) sound idle up x well agree = invoked-invariant CallIt name slot inputs sound up well agree x
+judged-invariant (Block name) sound idle up x well agree = blocked-invariant name true idle up agree x
+judged-invariant (Unblock name) sound idle up x well agree = blocked-invariant name false idle up agree x
+judged-invariant (DeleteEvent name) sound idle up (goes_on o lives just) well agree = record {
+  sound = record { agree = up.sound.agree; joined = up.sound.joined; housed = up.sound.housed; waiting = up.sound.waiting };
   stands = (tt, up.stands);
   emitted = (tt, up.emitted);
 }
-judged-invariant {p} {s} {t} (LaterEvent name) sound idle up (goes_on o lives (becomes x)) well =
-    kept-invariant sound (accepted-well well) (accepted-invariant up) (schedules-kept p (accepted s) s.stack o.number t (Some o.it) x)
+judged-invariant {p} {s} {t} (LaterEvent name) sound idle up (goes_on o lives (becomes x)) well agree =
+    kept-invariant sound (accepted-well well) agree (accepted-invariant up) (schedules-kept p (accepted s) s.stack o.number t (Some o.it) x)
     (schedules-stands sound (accepted-well well) s.stack o.number (Some o.it) up.stands x) (schedules-fair sound (accepted-well well) up.sound.waiting s.stack o.number (Some o.it) x up.emitted)
 
-takes-invariant : {p : Loaded} {s t : State} {e : Event} → IsSound p → Invariant p s → Takes p e s t → IsWell p s t → Invariant p t
-takes-invariant {e = e} sound up (accepts idle x) well = judged-invariant e sound idle up x well
-takes-invariant sound up (refuses k idle x) well = record { sound = record { typed = up.sound.typed; joined = up.sound.joined; housed = up.sound.housed; waiting = up.sound.waiting }; stands = up.stands; emitted = up.emitted }
+takes-invariant : {p : Loaded} {s t : State} {e : Event} → IsSound p → Invariant p s → Takes p e s t → IsWell p s t → Agree p t.objects t.bindings → Invariant p t
+takes-invariant {e = e} sound up (accepts idle x) well agree = judged-invariant e sound idle up x well agree
+takes-invariant sound up (refuses k idle x) well agree = record { sound = record { agree = up.sound.agree; joined = up.sound.joined; housed = up.sound.housed; waiting = up.sound.waiting }; stands = up.stands; emitted = up.emitted }
 
 -- every state that rules lead to stands
 rules-invariant : {p : Loaded} {d : ℕ} {s t : State} {n k : ℕ} → IsSound p → Rules p d s n t k → Invariant p s → Invariant p t
 rules-invariant sound of_rules.done up = up
-rules-invariant sound (of_rules.then r good rest) up = rules-invariant sound rest (rule-invariant sound good.well good.spared up r)
+rules-invariant sound (of_rules.then r good rest) up = rules-invariant sound rest (rule-invariant sound good.well good.spared good.agree up r)
 
 -- every state of a run keeps it
 pub runs-invariant : {p : Loaded} {d : ℕ} {s t : State} {n k : ℕ} {es : List Event} → IsSound p → Runs p d s n es t k → Invariant p s → Invariant p t
 runs-invariant sound done up = up
 runs-invariant sound (rules r rest) up = runs-invariant sound rest (rules-invariant sound r up)
-runs-invariant sound (takes x good rest) up = runs-invariant sound rest (takes-invariant sound up x good.well)
+runs-invariant sound (takes x good rest) up = runs-invariant sound rest (takes-invariant sound up x good.well good.agree)

@@ -1,11 +1,10 @@
 -- What goes on in a run lacks a next rule only for want of a value.
-use Rattle.std.proofs.Common.{◌≡◌, ◌≢◌, ℕ, true, false, List, [], ◌∷◌, Option, Some, None, Result, Ok, Err, refl, subst, Bool, cond, length, take, ap}
+use Rattle.std.proofs.Common.{◌≡◌, ◌⊎◌, inl, inr, ◌∙◌, ℕ, true, false, List, [], ◌∷◌, Option, Some, None, Result, Ok, Err, refl, subst, Bool, cond, length, take, ap}
 use Rattle.std.specs.List.{AllByRecursion}
 use Rattle.signatures.specs.declared.value.Value.{Value}
 use Rattle.script_lang.specs.declared.event.Event.{Event}
 use Rattle.meta_model.specs.declared.object.ValueType.{ValueType}
 use Rattle.meta_model.specs.declared.object.MetaMethod.{MetaMethod}
-use Rattle.meta_model.specs.declared.object.MetaProperty.{MetaProperty}
 use Rattle.meta_model.specs.declared.object.Statement.{Statement}
 use Rattle.meta_model.specs.declared.object.Statement.TheViews.{out-Statement}
 use Rattle.meta_model.specs.Loaded.{Loaded}
@@ -19,9 +18,8 @@ use Rattle.meta_model.specs.Sound.{IsSound}
 use Rattle.connections.specs.declared.connection.Connection.{Connection}
 use Rattle.machine_state.specs.declared.fault.Fault.{Fault}
 use Rattle.object_tree.specs.declared.object.Object.{Object}
-use Rattle.object_tree.specs.Seen.{seen}
-use Rattle.machine_state.specs.State.{State, IsIdle, Place, Activation, Body, Emit, Update, Destroy}
-use Rattle.machine_rules.specs.Rules.{RuleAt, StatementRule, Does, EmitRule, UpdateRule, Writes, Changes, changed, unchanged, silent, Connects, Disconnects, TurnRule, Serves, Delivers, Arrives, with_used, BeginsIf, NotifiesIf}
+use Rattle.machine_state.specs.State.{State, Activation, Body, Emit, Update, Destroy}
+use Rattle.machine_rules.specs.Rules.{RuleAt, StatementRule, Does, EmitRule, UpdateRule, Connects, Disconnects, TurnRule, Serves, Delivers, Arrives, with_used, BeginsIf, NotifiesIf}
 use Rattle.machine_rules.specs.Destroying.{Dies, NextRule, ChildRule, DestroyRule, living_child, DefersOnce, Schedules}
 use Rattle.machine_rules.specs.Doings.{Doing, Write, Begin, Choose, Connect, Disconnect, Delete, Schedule, Nothing, doing}
 use Rattle.std.specs.Prelude.{is_some}
@@ -35,29 +33,24 @@ use Rattle.event_loops.specs.Queues.{Queues, HasName, items_at, is_before, taken
 use Rattle.object_tree.specs.declared.life.Life.{Life}
 use Rattle.object_tree.specs.Objects.{life_of}
 use Rattle.object_tree.proofs.Changing.{life-of-lives, lives-of-life}
-use Rattle.machine_state.specs.Objects.{home_of}
+use Rattle.object_tree.specs.Objects.{home_of}
+use Rattle.prop_bindings.specs.declared.place.Place.{Place}
 use Rattle.machine_state.specs.declared.turn.Turn.{Turn}
 use Rattle.machine_state.specs.Turns.{running, reaches_at_once}
 use Rattle.machine_state.specs.Connections.{is_living, next_used}
 use Rattle.machine_rules.specs.Runs.{IsStuck}
 use Rattle.machine_rules.proofs.Reaching.{reason-more}
-use Rattle.qt_runtime.specs.Runs.{RunStops}
+use Rattle.qt_runtime.specs.Runs.{BindsIll, RunStops}
 use Rattle.qt_runtime.specs.Causes.{LacksValue, Cause}
-use Rattle.machine_rules.specs.There.{IsField}
+use Rattle.machine_rules.specs.There.{IsField, LacksField}
+use Rattle.machine_rules.specs.Writing.{MayNotify}
 use Rattle.machine_rules.proofs.Beginning.{next-delivered}
 use Rattle.machine_rules.proofs.Fields.{old-there}
 use Rattle.qt_runtime.proofs.Possible.{IsPossible, possible}
-use Rattle.qt_runtime.proofs.Standing.{BodyStands, PlaceStands, Stands, Invariant}
+use Rattle.qt_runtime.proofs.Standing.{BodyStands, Stands, Invariant}
 use Rattle.machine_rules.specs.Sound.{IsDelivered, Waits}
 use Rattle.machine_rules.proofs.Soundness.{AllFit}
 use Rattle.machine_rules.proofs.Waiting.{loop-named, first-waits}
-
--- whether the value has changed or not, something may be notified
-notified-somehow : (old new : Value) (notify : Option ℕ) → ((signal : Option ℕ) → ¬ Changes old new notify signal) → ⊥
-notified-somehow old new None none = none None silent
-notified-somehow old new (Some signal) none =
-    let differs : old ≢ new = λ same. none None (unchanged same) in
-    none (Some signal) (changed differs)
 
 -- a judgement has some answer
 check-somehow : {k : Refusal} {Holds : Type 0} → ((r : Result (Unit {0}) Refusal) → ¬ Check k Holds r) → ⊥
@@ -109,12 +102,6 @@ destroy-somehow s below None (parent ∷ torn) none = by_child (living_child s p
     by_child (Some x) is stuck = dies-somehow s (Destroy (Some x) (parent ∷ torn) ∷ below) x (found-lives s.objects (children_of s.objects parent) x is) stuck
 
 module _ {p : Loaded} {s : State} (sound : IsSound p) (up : Invariant p s) where
-  -- a property that is there may be written
-  no-write : {o q : ℕ} {x : Object} {property : MetaProperty} {new : Value} {below : List Activation} → IsField p s.objects o q x property → ((t : State) → ¬ Writes p s below o q new t) → ⊥
-  no-write {x = x} {property = property} {new = new} field none =
-      let old = old-there field up.sound.typed in
-      notified-somehow (seen s.objects old.0) (seen s.objects new) property.notify (λ signal changes. none _ (record { object = x; property = property; is = field; old = old.0; is_old = old.1; signal = signal; changes = changes; gives = refl }))
-
   -- ends that are there may be connected, or that is refused
   no-connect : {ends : Endpoints} {how : ConnectionType} {stack : List Activation} → AreThere p s.objects ends → ((t : State) → ¬ Connects p s stack ends how t) → ⊥
   no-connect {how = how} spelled none =
@@ -138,23 +125,26 @@ module _ {p : Loaded} {s : State} (sound : IsSound p) (up : Invariant p s) where
           stays _ (record { loop = named.0; is_loop = named.1; name = there.0.name; named = ap (option_map (λ (y : Object). y.name)) there.1.is; gives = refl })
 
   -- what is possible is done by some rule
-  possible-goes : (o m : ℕ) (arguments : List Value) (rest : List Statement) (below : List Activation) (me : ℕ) (kinds : List ValueType) (d : Doing) → IsPossible p s.objects me kinds d → ((t : State) → ¬ Does p s o m arguments rest below d t) → ⊥
-  possible-goes o m arguments rest below me kinds (Write x q new) may none = no-write {new = new} {below = Body o m arguments rest ∷ below} may.2 none
-  possible-goes o m arguments rest below me kinds (Begin x n given) may none = none _ (record { object = may.0; method = may.1; is = may.2; gives = refl })
-  possible-goes o m arguments rest below me kinds (Choose block) may none = none _ refl
-  possible-goes o m arguments rest below me kinds (Connect ends how) may none = no-connect may none
-  possible-goes o m arguments rest below me kinds (Disconnect ends) may none = no-disconnect may none
-  possible-goes o m arguments rest below me kinds (Delete x) may none = none _ refl
-  possible-goes o m arguments rest below me kinds (Schedule x) may none = no-schedule (Body o m arguments rest ∷ below) x (life_of s.objects x) refl none
-  possible-goes o m arguments rest below me kinds Nothing may none = none _ refl
+  possible-goes : (o m : ℕ) (arguments : List Value) (rest : List Statement) (below : List Activation) (me : ℕ) (kinds : List ValueType) (d : Doing) → IsPossible p s.objects me kinds d → ((x q : ℕ) (new : Value) → d ≡ Write x q new → LacksField p s.objects x q) → ((t : State) → ¬ Does p s o m arguments rest below d t) → ⊥
+  possible-goes o m arguments rest below me kinds (Write x q new) may lacks none = lacks x q new refl may.0 may.1 may.2
+  possible-goes o m arguments rest below me kinds (Begin x n given) may lacks none = none _ (record { object = may.0; method = may.1; is = may.2; gives = refl })
+  possible-goes o m arguments rest below me kinds (Choose block) may lacks none = none _ refl
+  possible-goes o m arguments rest below me kinds (Connect ends how) may lacks none = no-connect may none
+  possible-goes o m arguments rest below me kinds (Disconnect ends) may lacks none = no-disconnect may none
+  possible-goes o m arguments rest below me kinds (Delete x) may lacks none = none _ refl
+  possible-goes o m arguments rest below me kinds (Schedule x) may lacks none = no-schedule (Body o m arguments rest ∷ below) x (life_of s.objects x) refl none
+  possible-goes o m arguments rest below me kinds Nothing may lacks none = none _ refl
 
   -- a statement that has no next rule lacks a value
-  statement-lacks : (o m : ℕ) (arguments : List Value) (x : Statement) (rest : List Statement) (below : List Activation) → BodyStands p s.objects o arguments (x ∷ rest) → ((t : State) → ¬ StatementRule p s o m arguments x rest below t) → doing s.objects o arguments (out-Statement x) ≡ None
-  statement-lacks o m arguments x rest below body stuck = by_found (doing s.objects o arguments (out-Statement x)) refl
+  statement-lacks : (o m : ℕ) (arguments : List Value) (x : Statement) (rest : List Statement) (below : List Activation) → s.stack ≡ Body o m arguments (x ∷ rest) ∷ below → IsStuck p s → BodyStands p s.objects o arguments (x ∷ rest) → ((t : State) → ¬ StatementRule p s o m arguments x rest below t) → doing s.objects o arguments (out-Statement x) ≡ None
+  statement-lacks o m arguments x rest below e halts body stuck = by_found (doing s.objects o arguments (out-Statement x)) refl
     where
       by_found : (found : Option Doing) → doing s.objects o arguments (out-Statement x) ≡ found → doing s.objects o arguments (out-Statement x) ≡ None
       by_found None is = is
-      by_found (Some d) is = absurd (possible-goes o m arguments rest below body.declaring body.kinds d (possible sound up.sound.typed body d is) (λ t does. stuck t (record { what = d; is = is; does = does })))
+      by_found (Some d) is =
+          absurd (possible-goes o m arguments rest below body.declaring body.kinds d (possible sound up.sound.agree.typed body d is)
+          (λ y q new same. halts.lacks y q new (record { object = o; method = m; arguments = arguments; statement = x; rest = rest; below = below; is_next = e; writes = is ∙ ap (λ (k : Doing). Some k) same }))
+          (λ t does. stuck t (record { what = d; is = is; does = does })))
 
   -- an emission has a next rule
   emission-goes : (o g : ℕ) (arguments : List Value) (last : ℕ) (below : List Activation) (found : Option Connection) → ((c : Connection) → found ≡ Some c → IsDelivered p s.objects c arguments) → ((t : State) → ¬ EmitRule p s o g arguments last below t found) → ⊥
@@ -185,7 +175,7 @@ module _ {p : Loaded} {s : State} (sound : IsSound p) (up : Invariant p s) where
   turn-goes turn (Some q) waits stuck = delivers-goes (taken_before turn.home turn.limit s.queues) q.item (waits q refl) stuck
 
   -- .. and so has an update
-  update-goes : (below : List Activation) (places : List Place) → AllByRecursion (PlaceStands p s.objects) places → ((t : State) → ¬ UpdateRule p s below t places) → ⊥
+  update-goes : (below : List Activation) (places : List Place) → AllByRecursion (MayNotify p s.objects) places → ((t : State) → ¬ UpdateRule p s below t places) → ⊥
   update-goes below [] all stuck = stuck _ refl
   update-goes below (place ∷ places) all stuck = by_life (life_of s.objects place.object) refl stuck
     where
@@ -193,40 +183,44 @@ module _ {p : Loaded} {s : State} (sound : IsSound p) (up : Invariant p s) where
       by_life None is stays = stays _ refl
       by_life (Some l) is stays =
           let there = lives-of-life s.objects place.object l is in
-          let x = all.0.living there.0 l there.1 in
-          let field : IsField p s.objects place.object place.property there.0 x.property = record { life = l; lives = there.1; class = x.is.class; is_class = x.is.is_class; is_property = x.is.is } in
-          let notifier = ((sound.classes l.class x.is.class x.is.is_class).properties place.property x.property x.is.is).notifies x.signal x.notifies in
-          let present = old-there field up.sound.typed in
+          let n = all.0.living there.0 l there.1 in
+          let by = n.is in
+          let field : IsField p s.objects place.object place.property there.0 by.property = record { life = l; lives = there.1; class = by.object; is_class = by.is_class; is_property = by.is } in
+          let present = old-there field up.sound.agree.typed in
           stays _ (record {
             object = there.0;
-            property = x.property;
+            property = by.property;
             is = field;
-            signal = x.signal;
-            is_signal = x.notifies;
+            signal = n.signal;
+            is_signal = by.is_signal;
             present = present.0;
             is_present = present.1;
-            method = notifier.signal;
-            is_method = record { class = x.is.class; is_class = x.is.is_class; is = notifier.is };
+            method = by.sound.signal;
+            is_method = record { class = by.object; is_class = by.is_class; is = by.sound.is };
             gives = refl;
           })
 
-  stack-lacks : (stack : List Activation) → s.stack ≡ stack → (¬ IsIdle s) → AllByRecursion (Stands p s.objects) stack → AllFit p s.objects stack → ((t : State) → ¬ RuleAt p s t stack) → LacksValue s
-  stack-lacks [] e goes_on all fit stuck = by_turn s.turn refl stuck
+  stack-lacks : (stack : List Activation) → s.stack ≡ stack → IsStuck p s → AllByRecursion (Stands p s.objects) stack → AllFit p s.objects stack → ((t : State) → ¬ RuleAt p s t stack) → LacksValue s
+  stack-lacks [] e halts all fit stuck = by_turn s.turn refl stuck
     where
       by_turn : (found : Option Turn) → s.turn ≡ found → ((t : State) → ¬ TurnRule p s t found) → LacksValue s
-      by_turn None none stays = absurd (goes_on (record { empty = e; no_turn = none }))
+      by_turn None none stays = absurd (halts.goes_on (record { empty = e; no_turn = none }))
       by_turn (Some turn) is stays = absurd (turn-goes turn (find (is_before turn.limit) (items_at s.queues.loops turn.home)) (λ q found. first-waits p s.objects s.queues.loops turn.home turn.limit q up.sound.waiting found) stays)
-  stack-lacks (Body o m arguments [] ∷ below) e goes_on all fit stuck = absurd (stuck _ refl)
-  stack-lacks (Body o m arguments (x ∷ rest) ∷ below) e goes_on all fit stuck =
-      record { object = o; method = m; arguments = arguments; statement = x; rest = rest; below = below; is_next = e; lacks = statement-lacks o m arguments x rest below all.0 stuck }
-  stack-lacks (Emit o g arguments used last ∷ below) e goes_on all fit stuck =
+  stack-lacks (Body o m arguments [] ∷ below) e halts all fit stuck = absurd (stuck _ refl)
+  stack-lacks (Body o m arguments (x ∷ rest) ∷ below) e halts all fit stuck =
+      record { object = o; method = m; arguments = arguments; statement = x; rest = rest; below = below; is_next = e; lacks = statement-lacks o m arguments x rest below e halts all.0 stuck }
+  stack-lacks (Emit o g arguments used last ∷ below) e halts all fit stuck =
       absurd (emission-goes o g arguments last below (next_used s.objects s.connected.connections o g used last) (λ c found. next-delivered s.connected.connections o g used last c up.sound.joined fit.0 found) stuck)
-  stack-lacks (Update places ∷ below) e goes_on all fit stuck = absurd (update-goes below places all.0 stuck)
-  stack-lacks (Destroy next torn ∷ below) e goes_on all fit stuck = absurd (destroy-somehow s below next torn stuck)
+  stack-lacks (Update places ∷ below) e halts all fit stuck = absurd (update-goes below places all.0 stuck)
+  stack-lacks (Destroy next torn ∷ below) e halts all fit stuck = absurd (destroy-somehow s below next torn stuck)
 
   -- what goes on without a next rule lacks a value
   pub stuck-lacks : IsStuck p s → LacksValue s
-  stuck-lacks x = stack-lacks s.stack refl x.goes_on up.stands up.emitted x.stuck
+  stuck-lacks x = stack-lacks s.stack refl x up.stands up.emitted x.stuck
 
   pub cause-of : (d left : ℕ) (es : List Event) (f : Fault) → RunStops p d s left es f → Cause p d s left es f
-  cause-of d left es f r = reason-more p d s left f (λ stuck. (stuck, stuck-lacks stuck)) (λ t follows. follows) (λ due. due) r
+  cause-of d left es f r = reason-more p d s left f held (λ closes. closes) (λ t follows. follows) (λ due. due) r
+    where
+      held : IsStuck p s ⊎ BindsIll p s es → IsStuck p s × LacksValue s ⊎ BindsIll p s es
+      held (inl stuck) = inl (stuck, stuck-lacks stuck)
+      held (inr ill) = inr ill

@@ -1,5 +1,5 @@
 -- How runs with events are put together.
-use Rattle.std.proofs.Common.{ℕ, List, ◌++◌}
+use Rattle.std.proofs.Common.{ℕ, List, ◌++◌, inl}
 use Rattle.script_lang.specs.declared.event.Event.{Event}
 use Rattle.meta_model.specs.Loaded.{Loaded}
 use Rattle.machine_state.specs.declared.fault.Fault.{Fault}
@@ -15,4 +15,4 @@ runs-trans (takes x ok rest) r = takes x ok (runs-trans rest r)
 
 -- why rules stop is why the run stops, whatever events are left
 pub reason-of : (p : Loaded) (d : ℕ) (s : State) (left : ℕ) (es : List Event) (f : Fault) → RulesStop p d s left f → RunStops p d s left es f
-reason-of p d s left es f r = reason-more p d s left f (λ stuck. stuck) (λ t rule. by_rule rule) (λ due. goes_on due) r
+reason-of p d s left es f r = reason-more p d s left f (λ stuck. inl stuck) (λ closes. absurd closes) (λ t rule. by_rule rule) (λ due. goes_on due) r

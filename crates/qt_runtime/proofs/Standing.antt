@@ -1,28 +1,28 @@
 -- What stands in a run: an object lives as long as a body of it is active, the properties that are to be notified are
 -- there as long as their objects live, and bodies are sound.
-use Rattle.std.proofs.Common.{◌≡◌, ℕ, ◌<◌, eqb, ◌||◌, Bool, true, false, IsTrue, List, [], ◌∷◌, length, Some, sym, subst, refl, arith}
+use Rattle.std.proofs.Common.{◌≡◌, ℕ, eqb, ◌||◌, Bool, true, false, IsTrue, List, [], ◌∷◌, sym, subst, refl}
 use Rattle.std.specs.List.{AllByRecursion}
 use Rattle.std.proofs.lemmas.Bool.{eq-eqb}
 use Rattle.signatures.specs.declared.value.Value.{Value}
-use Rattle.meta_model.specs.declared.object.MetaProperty.{MetaProperty}
 use Rattle.meta_model.specs.declared.object.Statement.{Statement}
 use Rattle.meta_model.specs.declared.object.ValueType.{ValueType}
 use Rattle.meta_model.specs.Loaded.{Loaded}
-use Rattle.meta_model.specs.Members.{IsProperty, Below}
+use Rattle.meta_model.specs.Members.{Below}
 use Rattle.meta_model.specs.Sound.{AreSound}
 use Rattle.object_tree.specs.declared.life.Life.{Life}
 use Rattle.object_tree.specs.declared.object.Object.{Object}
 use Rattle.object_tree.specs.Objects.{Lives}
 use Rattle.object_tree.specs.Typed.{ReadAs}
-use Rattle.machine_state.specs.State.{State, Place, Activation, Body, Emit, Update, Destroy}
+use Rattle.machine_state.specs.State.{State, Activation, Body, Emit, Update, Destroy}
 use Rattle.machine_rules.specs.Good.{has_body}
 use Rattle.machine_rules.specs.Keeps.{StayThere}
 use Rattle.machine_rules.proofs.Soundness.{AllFit}
 use Rattle.machine_rules.specs.Sound.{Sound}
 use Rattle.machine_rules.specs.There.{IsDead}
+use Rattle.machine_rules.specs.Writing.{MayNotify}
 use Rattle.machine_rules.proofs.Dying.{lives-not-dead}
-use Rattle.machine_rules.proofs.Keeps.{lived, lives-on, values-stay}
-use Rattle.machine_rules.proofs.Lists.{all-weaken}
+use Rattle.machine_rules.proofs.Keeps.{lives-on, values-stay}
+use Rattle.machine_rules.proofs.Notifying.{all-may-still}
 
 -- ---- what stands
 
@@ -37,39 +37,19 @@ pub record BodyStands (p : Loaded) (objects : List Object) (o : ℕ) (arguments 
   pub typed : ReadAs p objects arguments kinds
   pub sound : AreSound p declaring kinds left
 
--- a property of a class that has a notify signal
-pub record IsNotified (p : Loaded) (class q : ℕ) : Type 0 where
-  pub property : MetaProperty
-  pub is : IsProperty p class q property
-  pub signal : ℕ
-  pub notifies : property.notify ≡ Some signal
-
--- a property that is to be notified is one as long as its object lives
-pub record PlaceStands (p : Loaded) (objects : List Object) (place : Place) : Type 0 where
-  pub created : place.object < length objects
-  pub living : (x : Object) (life : Life) → Lives objects place.object x life → IsNotified p life.class place.property
-
 abbrev pub Stands : Loaded → List Object → Activation → Type 0
 Stands p objects (Body o m arguments left) = BodyStands p objects o arguments left
 Stands p objects (Emit o g arguments used last) = Unit {0}
-Stands p objects (Update places) = AllByRecursion (PlaceStands p objects) places
+Stands p objects (Update places) = AllByRecursion (MayNotify p objects) places
 Stands p objects (Destroy next torn) = Unit {0}
 
 -- the world is sound, what is going on stands, and emissions have the arguments of their signals
 pub record Invariant (p : Loaded) (s : State) : Type 0 where
-  pub sound : Sound p s.objects s.connected.connections s.queues.loops
+  pub sound : Sound p s.objects s.bindings s.connected.connections s.queues.loops
   pub stands : AllByRecursion (Stands p s.objects) s.stack
   pub emitted : AllFit p s.objects s.stack
 
 -- ---- it stands as long as no object dies that has a body
-
-pub place-still : {p : Loaded} (old new : List Object) → StayThere old new → (place : Place) → PlaceStands p old place → PlaceStands p new place
-place-still {p} old new stay place stands =
-    let Notified : ℕ → Type 0 = λ class. IsNotified p class place.property in
-    record {
-      created = omega (arith, stands.created, stay.created);
-      living = λ x life lives. let before = lived old new place.object stay stands.created lives in subst Notified before.3 (stands.living before.0 before.1 before.2);
-    }
 
 body-still : (p : Loaded) (old new : List Object) → StayThere old new → (o : ℕ) (arguments : List Value) (left : List Statement) → (IsDead new o → IsDead old o) → BodyStands p old o arguments left → BodyStands p new o arguments left
 body-still p old new stay o arguments left spared x =
@@ -109,7 +89,7 @@ all-stand-still p old new (Body o m arguments left ∷ below) stay spared all = 
 )
 all-stand-still p old new (Emit o g arguments used last ∷ below) stay spared all = (tt, all-stand-still p old new below stay spared all.1)
 all-stand-still p old new (Update places ∷ below) stay spared all =
-    (all-weaken (PlaceStands p old) (PlaceStands p new) places (place-still old new stay) all.0, all-stand-still p old new below stay spared all.1)
+    (all-may-still p old new places stay all.0, all-stand-still p old new below stay spared all.1)
 all-stand-still p old new (Destroy next torn ∷ below) stay spared all = (tt, all-stand-still p old new below stay spared all.1)
 
 -- what stands in a state

@@ -11,9 +11,9 @@ use Rattle.machine_state.specs.declared.refusal.Refusal.{Refusal}
 use Rattle.machine_state.specs.declared.world.World.{World}
 use Rattle.machine_state.specs.Accepting.{refused}
 use Rattle.machine_state.specs.State.{State, Activation, IsIdle}
-use Rattle.machine_state.specs.Worlds.{at, after, Refuses}
-use Rattle.machine_rules.specs.Reaches.{Ends}
-use Rattle.object_tree.specs.Typed.{AreTyped}
+use Rattle.machine_state.specs.Worlds.{at, after, Rejects}
+use Rattle.machine_rules.specs.Reaches.{Ends, Leaves}
+use Rattle.prop_bindings.specs.Fits.{Agree}
 use Rattle.machine_rules.specs.Good.{IsGood, TopFits}
 use Rattle.machine_rules.specs.Runs.{Rules}
 use Rattle.machine_rules.specs.Runs as of_rules
@@ -33,13 +33,13 @@ runs-taken {p} {d} {s} {m} {t} {n} {j} {k} e x good some less rest =
     let suc_is : suc j ≡ n = omega (arith, less, some) in
     subst Family suc_is (takes x good (rules rest done))
 
--- an event that pushes nothing is good where the objects are typed
-pub good-quiet : {p : Loaded} {d : ℕ} (w v : World) → AreTyped p v.store.tree → IsGood p d (at w []) (at v [])
-good-quiet w v typed = record { well = record { arguments = λ more. absurd (omega (arith, more)); values = typed }; spared = λ o body gone. absurd (cc body); shallow = omega arith }
+-- an event that pushes nothing is good where objects and bindings agree
+pub good-quiet : {p : Loaded} {d : ℕ} (w v : World) → Agree p v.store.tree v.store.bindings → IsGood p d (at w []) (at v [])
+good-quiet w v agree = record { well = record { arguments = λ more. absurd (omega (arith, more)); values = agree.typed }; spared = λ o body gone. absurd (cc body); agree = agree; shallow = omega arith }
 
 -- .. and one that pushes an activation where its arguments fit too
-pub good-pushed : {p : Loaded} {d : ℕ} {top : Activation} (w v : World) → AreTyped p v.store.tree → TopFits p v.store.tree (top ∷ []) → 1 ≤ d → IsGood p d (at w []) (at v (top ∷ []))
-good-pushed w v typed fit room = record { well = record { arguments = λ more. fit; values = typed }; spared = λ o body gone. absurd (cc body); shallow = omega (arith, room) }
+pub good-pushed : {p : Loaded} {d : ℕ} {top : Activation} (w v : World) → Agree p v.store.tree v.store.bindings → TopFits p v.store.tree (top ∷ []) → 1 ≤ d → IsGood p d (at w []) (at v (top ∷ []))
+good-pushed w v agree fit room = record { well = record { arguments = λ more. fit; values = agree.typed }; spared = λ o body gone. absurd (cc body); agree = agree; shallow = omega (arith, room) }
 
 -- nothing is going on where no activation is and no turn goes on
 pub idle : (w : World) → w.turn ≡ None → IsIdle (at w [])
@@ -53,13 +53,17 @@ pub record Ready (w : World) : Type 0 where
 pub ready : {w : World} → 0 < w.left → w.turn ≡ None → Ready w
 ready some none = record { some = some; no_turn = none }
 
+-- nothing else is left than the world in which the run stopped
+pub leaves-same : (w : World) (f : Fault) → Leaves w w f
+leaves-same w f = (refl, λ other. refl)
+
 -- memory was refused before anything changed
 pub halted-short : {p : Loaded} {d : ℕ} {w : World} (e : Event) → Ready w → Halted p d w e w Memory
-halted-short {w = w} e some = record { stack = []; front = record { taken = []; rest = e ∷ []; split = refl; runs = done }; reason = (some.some, is_next (idle w some.no_turn)) }
+halted-short {w = w} e some = record { u = w; leaves = leaves-same w Memory; stack = []; front = record { taken = []; rest = e ∷ []; split = refl; runs = done }; reason = (some.some, is_next (idle w some.no_turn)) }
 
 -- no rule is left for the event
 pub halted-spent : {p : Loaded} {d : ℕ} {w : World} (e : Event) → w.left ≡ 0 → w.turn ≡ None → Halted p d w e w Steps
-halted-spent {w = w} e none no_turn = record { stack = []; front = record { taken = []; rest = e ∷ []; split = refl; runs = done }; reason = (none, is_next (idle w no_turn)) }
+halted-spent {w = w} e none no_turn = record { u = w; leaves = leaves-same w Steps; stack = []; front = record { taken = []; rest = e ∷ []; split = refl; runs = done }; reason = (none, is_next (idle w no_turn)) }
 
 pub took-unchanged : {p : Loaded} {d : ℕ} {w v : World} {f : Fault} (e : Event) (r : Result Answer Fault) → Ready w → (f ≡ Memory) × (v ≡ w) → IsErrAnd r (λ y. y ≡ f) → Took p d w e v r
 took-unchanged e (Ok a) some same is = absurd is
@@ -81,36 +85,36 @@ pub took-halted : {p : Loaded} {d : ℕ} {w v : World} {f : Fault} (e : Event) (
 took-halted {p} {d} {w} {v} e r halted same is = subst (λ (u : World). Took p d w e u r) (sym same) (took-stopped e r halted is)
 
 -- the event is refused
-pub took-refused : {p : Loaded} {d : ℕ} {w v : World} (k : Refusal) (e : Event) (r : Result Answer Fault) → AreTyped p w.store.tree → judged p (at w []) e (Err k) → Ready w → Refuses w k v r → Took p d w e v r
-took-refused {p} {d} {w} {v} k e (Ok a) typed judged some x =
+pub took-refused : {p : Loaded} {d : ℕ} {w v : World} (k : Refusal) (e : Event) (r : Result Answer Fault) → Agree p w.store.tree w.store.bindings → judged p (at w []) e (Err k) → Ready w → Rejects w k v r → Took p d w e v r
+took-refused {p} {d} {w} {v} k e (Ok a) agree judged some x =
     let target : World = after w (refused (at w []) k) in
     let Family : World → Type 0 = λ u. RunsWhole p d (at w []) w.left (e ∷ []) (at u []) u.left in
     let Answer_is : Answer → Type 0 = λ b. Answered p w e v b in
-    let taken : RunsWhole p d (at w []) w.left (e ∷ []) (at target []) target.left = record { runs = runs-taken e (refuses k (idle w some.no_turn) judged) (good-quiet w target typed) some.some (omega arith) of_rules.done; ends = idle target some.no_turn } in
+    let taken : RunsWhole p d (at w []) w.left (e ∷ []) (at target []) target.left = record { runs = runs-taken e (refuses k (idle w some.no_turn) judged) (good-quiet w target agree) some.some (omega arith) of_rules.done; ends = idle target some.no_turn } in
     record { cases = (subst Family (sym x.1) taken, subst Answer_is (sym x.0) (record { refusal = k; numbered = refl; why = judged; line = x.1 })) }
-took-refused k e (Err f) typed judged some x = took-unchanged e (Err f) some x refl
+took-refused k e (Err f) agree judged some x = took-unchanged e (Err f) some x refl
 
 -- .. from a world in which nothing had changed
-pub took-refused-from : {p : Loaded} {d : ℕ} {w u v : World} (k : Refusal) (e : Event) (r : Result Answer Fault) → AreTyped p w.store.tree → judged p (at w []) e (Err k) → Ready w → u ≡ w → Refuses u k v r → Took p d w e v r
-took-refused-from {v = v} k e r typed judged some same x =
-    let From : World → Type 0 = λ z. Refuses z k v r in
-    took-refused k e r typed judged some (subst From same x)
+pub took-refused-from : {p : Loaded} {d : ℕ} {w u v : World} (k : Refusal) (e : Event) (r : Result Answer Fault) → Agree p w.store.tree w.store.bindings → judged p (at w []) e (Err k) → Ready w → u ≡ w → Rejects u k v r → Took p d w e v r
+took-refused-from {v = v} k e r agree judged some same x =
+    let From : World → Type 0 = λ z. Rejects z k v r in
+    took-refused k e r agree judged some (subst From same x)
 
 -- the event isn't accepted
-pub took-not-accepted : {p : Loaded} {d : ℕ} {w v : World} {n : NotAccepted} (e : Event) (r : Result Answer Fault) → AreTyped p w.store.tree → IsNotAccepted (judged p (at w []) e) n → Ready w → IsRefused w n v r → Took p d w e v r
-took-not-accepted e r typed (not_accepted.refused {k = k} not) some x = took-refused k e r typed not some x
-took-not-accepted {p} {d} {w} e r typed not_accepted.short some x =
+pub took-not-accepted : {p : Loaded} {d : ℕ} {w v : World} {n : NotAccepted} (e : Event) (r : Result Answer Fault) → Agree p w.store.tree w.store.bindings → IsNotAccepted (judged p (at w []) e) n → Ready w → IsRefused w n v r → Took p d w e v r
+took-not-accepted e r agree (not_accepted.refused {k = k} not) some x = took-refused k e r agree not some x
+took-not-accepted {p} {d} {w} e r agree not_accepted.short some x =
     let Answers : Result Answer Fault → Type 0 = λ a. Took p d w e w a in
     let In : World → Type 0 = λ u. Took p d w e u r in
     subst In (sym x.1) (subst Answers (sym x.0) (record { cases = halted-short e some }))
 
 -- the event is accepted, and nothing is going on after it
-pub took-quiet : {p : Loaded} {d : ℕ} {w v : World} (t : State) (e : Event) → judged p (at w []) e (Ok t) → at (after w t) [] ≡ t → AreTyped p t.objects → Ready w → t.turn ≡ None → v ≡ after w t → Took p d w e v (Ok answer.Done)
-took-quiet {p} {d} {w} {v} t e judged empty typed some no_turn is =
+pub took-quiet : {p : Loaded} {d : ℕ} {w v : World} (t : State) (e : Event) → judged p (at w []) e (Ok t) → at (after w t) [] ≡ t → Agree p t.objects t.bindings → Ready w → t.turn ≡ None → v ≡ after w t → Took p d w e v (Ok answer.Done)
+took-quiet {p} {d} {w} {v} t e judged empty agree some no_turn is =
     let Family : World → Type 0 = λ u. RunsWhole p d (at w []) w.left (e ∷ []) (at u []) u.left in
     let Leads : State → Type 0 = λ u. Takes p e (at w []) u in
     let quiet : World = after w t in
-    let taken : RunsWhole p d (at w []) w.left (e ∷ []) (at quiet []) quiet.left = record { ends = idle quiet no_turn; runs = runs-taken e (subst Leads (sym empty) (accepts (idle w some.no_turn) judged)) (good-quiet w (after w t) typed) some.some (omega arith) of_rules.done } in
+    let taken : RunsWhole p d (at w []) w.left (e ∷ []) (at quiet []) quiet.left = record { ends = idle quiet no_turn; runs = runs-taken e (subst Leads (sym empty) (accepts (idle w some.no_turn) judged)) (good-quiet w (after w t) agree) some.some (omega arith) of_rules.done } in
     record { cases = (subst Family (sym is) taken, record { effect = t; why = judged }) }
 
 -- ---- what an event pushes runs to its end, or stops on the way
@@ -119,11 +123,11 @@ pub took-run : {p : Loaded} {d : ℕ} {w m v : World} {top : Activation} {r : Re
 took-run {v = v} {r = Ok _} e x good pass some less none ends = record { cases = (record { runs = runs-taken e x good some less (ends.cases.runs [] refl); ends = idle v ((rules-kept (ends.cases.runs [] refl)).no_turn none) }, pass) }
 took-run {p = p} {d = d} {v = v} {r = Err f} e x good pass some less none ends =
     let q = ends.cases.stops [] refl in
-    record { stack = q.0; front = record { taken = e ∷ []; rest = []; split = refl; runs = runs-taken e x good some less q.1 }; reason = reason-of p d (at v q.0) v.left [] f q.2 }
+    record { u = q.0; leaves = q.2; stack = q.1; front = record { taken = e ∷ []; rest = []; split = refl; runs = runs-taken e x good some less q.3 }; reason = reason-of p d (at q.0 q.1) q.0.left [] f q.4 }
 
 -- a turn runs to its end, or stops on the way
 pub took-turn : {p : Loaded} {d : ℕ} {w m v : World} {r : Result (Unit {0}) Fault} (e : Event) → Takes p e (at w []) (at m []) → IsGood p d (at w []) (at m []) → IsAccepted p w e → 0 < w.left → m.left ≡ w.left - 1 → Ends p d [] m [] v [] r → OnOk r (v.turn ≡ None) → MatchResult r (λ _. Took p d w e v (Ok answer.Done)) (λ f. Halted p d w e v f)
 took-turn {v = v} {r = Ok _} e x good pass some less ends over = record { cases = (record { runs = runs-taken e x good some less (ends.cases.runs [] refl); ends = idle v over }, pass) }
 took-turn {p = p} {d = d} {v = v} {r = Err f} e x good pass some less ends over =
     let q = ends.cases.stops [] refl in
-    record { stack = q.0; front = record { taken = e ∷ []; rest = []; split = refl; runs = runs-taken e x good some less q.1 }; reason = reason-of p d (at v q.0) v.left [] f q.2 }
+    record { u = q.0; leaves = q.2; stack = q.1; front = record { taken = e ∷ []; rest = []; split = refl; runs = runs-taken e x good some less q.3 }; reason = reason-of p d (at q.0 q.1) q.0.left [] f q.4 }

@@ -1,5 +1,5 @@
 -- Why a machine stops (docs/machine.md, "Faults").
-use Rattle.std.specs.Prelude.{◌≡◌, ℕ, List, ◌∷◌, None}
+use Rattle.std.specs.Prelude.{◌≡◌, ℕ, ◌⊎◌, List, ◌∷◌, None}
 use Rattle.script_lang.specs.declared.event.Event.{Event}
 use Rattle.signatures.specs.declared.value.Value.{Value}
 use Rattle.meta_model.specs.declared.object.Statement.{Statement}
@@ -9,7 +9,7 @@ use Rattle.machine_state.specs.declared.fault.Fault.{Fault}
 use Rattle.machine_rules.specs.Doings.{doing}
 use Rattle.machine_state.specs.State.{State, Activation, Body}
 use Rattle.machine_rules.specs.Runs.{IsStuck, Reason}
-use Rattle.qt_runtime.specs.Runs.{Follows, IsDue}
+use Rattle.qt_runtime.specs.Runs.{Follows, IsDue, BindsIll, BindsLoop}
 
 -- what is going on is a body whose next statement lacks a value
 pub record LacksValue (s : State) : Type 0 where
@@ -26,4 +26,5 @@ pub record LacksValue (s : State) : Type 0 where
 -- a member.
 abbrev pub Cause : Loaded → ℕ → State → ℕ → List Event → Fault → Type 0
 Cause p depth s left events fault =
-    Reason (IsStuck p s × LacksValue s) (λ t. Follows p s t events) (IsDue s events) p depth s left fault
+    Reason (IsStuck p s × LacksValue s ⊎ BindsIll p s events) (BindsLoop p s events) (λ t. Follows p s t events)
+    (IsDue s events) p depth s left fault

@@ -1,31 +1,60 @@
--- That an event has one answer (docs/machine.md, "Events"), and a program one run (docs/machine.md, "Runs").
-use Rattle.std.specs.Prelude.{◌≡◌, ℕ, ◌⊎◌, List}
+-- That an event has one answer (docs/machine.md, "Events"), and a program one run, in which all values are settled
+-- (docs/machine.md, "Runs" and "Bindings").
+use Rattle.std.specs.Prelude.{◌≡◌, ℕ, ◌⊎◌, List, [], Result, Ok, Err}
 use Rattle.meta_model.specs.Loaded.{Loaded}
 use Rattle.meta_model.specs.Sound.{IsSound}
+use Rattle.prop_bindings.specs.Bindings.{binding_at, Loop, Settled}
+use Rattle.prop_bindings.specs.Fits.{Agree}
+use Rattle.prop_bindings.specs.Places.{values_in}
 use Rattle.script_lang.specs.declared.event.Event.{Event}
+use Rattle.machine_state.specs.declared.refusal.Refusal.{Refusal}
 use Rattle.machine_state.specs.State.{State}
-use Rattle.machine_rules.specs.Judgement.{HasOneAnswer}
+use Rattle.machine_state.specs.Worlds.{at, untouched}
 use Rattle.qt_runtime.specs.Runs.{RunsWhole, RunsFront, IsFront}
 use Rattle.qt_runtime.specs.Takes.{judged, Takes}
 
--- an event is accepted with one effect, or refused for one reason
+-- no chain of bindings leads from a property back to itself
+abbrev pub IsAcyclic : State → Type 0
+IsAcyclic s = ¬ Loop (binding_at s.bindings)
+
+abbrev pub IsAcyclicIn : Result State Refusal → Type 0
+IsAcyclicIn (Ok t) = IsAcyclic t
+IsAcyclicIn (Err k) = Unit {0}
+
+-- Where properties and bindings agree, an event is accepted with one effect, or refused for one reason, and not both; but
+-- a bind by which a chain of bindings closes may have several effects, which are bad moments.
 abbrev pub OneJudgement : Type 0
-OneJudgement = (p : Loaded) (s : State) (e : Event) → IsSound p → HasOneAnswer (judged p s e)
+OneJudgement =
+    (p : Loaded) (s : State) (e : Event) (a b : Result State Refusal) → IsSound p → Agree p s.objects s.bindings →
+    judged p s e a → judged p s e b → IsAcyclicIn a → a ≡ b
 
 -- .. so that at most one state follows by it
 abbrev pub OneTaking : Type 0
-OneTaking = (p : Loaded) (e : Event) (s t u : State) → IsSound p → Takes p e s t → Takes p e s u → t ≡ u
+OneTaking =
+    (p : Loaded) (e : Event) (s t u : State) → IsSound p → Agree p s.objects s.bindings →
+    Takes p e s t → Takes p e s u → IsAcyclic t → t ≡ u
 
 -- from one state, with so many rules left, all whole runs of these events end in one state with the same rules left:
 -- the trace of that state is the trace
 abbrev pub OneRun : Type 0
 OneRun =
     (p : Loaded) (depth : ℕ) (s : State) (n : ℕ) (events : List Event) (t u : State) (j k : ℕ) →
-    IsSound p → RunsWhole p depth s n events t j → RunsWhole p depth s n events u k → (t ≡ u) × (j ≡ k)
+    IsSound p → Agree p s.objects s.bindings →
+    RunsWhole p depth s n events t j → RunsWhole p depth s n events u k → (t ≡ u) × (j ≡ k)
 
 -- of two runs of fronts of one list of events, from one state and with as many rules left, one goes on where the other
 -- ends, and writes after what that one wrote: so a run that stops on the way is a front of the whole one
 abbrev pub OneFront : Type 0
 OneFront =
-    (p : Loaded) (depth : ℕ) (s : State) (n : ℕ) (events : List Event) (t u : State) (j k : ℕ) → IsSound p →
+    (p : Loaded) (depth : ℕ) (s : State) (n : ℕ) (events : List Event) (t u : State) (j k : ℕ) →
+    IsSound p → Agree p s.objects s.bindings →
     (a : RunsFront p depth s n events t j) (b : RunsFront p depth s n events u k) → IsFront a b ⊎ IsFront b a
+
+-- In every state that a run comes to, each bound property has the value of its binding's expression, and no chain of
+-- bindings leads from a property back to itself: whatever was connected, bound, written and deleted, and whatever is going
+-- on.
+abbrev pub AlwaysSettled : Type 0
+AlwaysSettled =
+    (p : Loaded) (depth steps : ℕ) (events : List Event) (t : State) (k : ℕ) →
+    RunsFront p depth (at (untouched steps) []) steps events t k →
+    Settled (binding_at t.bindings) (values_in t.objects) × IsAcyclic t

@@ -1,7 +1,11 @@
 -- Runs of the machine (docs/machine.md, "Runs").
-use Rattle.std.specs.Prelude.{◌≡◌, ℕ, suc, List, [], ◌∷◌, ◌++◌}
+use Rattle.std.specs.Prelude.{◌≡◌, ℕ, suc, ◌⊎◌, List, [], ◌∷◌, ◌++◌, Ok}
 use Rattle.script_lang.specs.declared.event.Event.{Event}
+use Rattle.script_lang.specs.declared.event.Event.TheVariants.{Bind}
 use Rattle.meta_model.specs.Loaded.{Loaded}
+use Rattle.prop_bindings.specs.declared.binding.Binding.{Binding}
+use Rattle.prop_bindings.specs.Bindings.{binding_at, replaced, Loop}
+use Rattle.prop_bindings.specs.Fits.{IsFit}
 use Rattle.machine_state.specs.declared.fault.Fault.{Fault}
 use Rattle.machine_state.specs.State.{State, IsIdle}
 use Rattle.machine_rules.specs.Rules.{Rule}
@@ -9,6 +13,7 @@ use Rattle.machine_rules.specs.Good.{IsGood}
 use Rattle.machine_rules.specs.Keeps.{Grows}
 use Rattle.machine_rules.specs.Runs.{Rules, IsStuck, Reason}
 use Rattle.qt_runtime.specs.Takes.{Takes}
+use Rattle.qt_runtime.specs.events.Bind.{may_bind}
 
 -- From s, with so many rules left, to t, with so many left: rules are carried out and these events are taken in their
 -- order, and nothing of it brings a bad moment.
@@ -49,7 +54,34 @@ pub data IsDue (s : State) : List Event → Type 0 where
   goes_on : {events : List Event} → (¬ IsIdle s) → IsDue s events
   is_next : {e : Event} {events : List Event} → IsIdle s → IsDue s (e ∷ events)
 
+-- ---- why a run stops
+
+-- the next event asks that this binding be installed, which its judgement lets
+pub record BindsNext (p : Loaded) (s : State) (events : List Event) (b : Binding) : Type 0 where
+  pub idle : IsIdle s
+  pub site : List ℕ
+  pub target : List ℕ
+  pub sources : List (List ℕ)
+  pub rest : List Event
+  pub is_next : events ≡ Bind site target sources ∷ rest
+  pub may : may_bind p s site target sources (Ok b)
+
+-- .. and its expression has no value of the target's type. Where a bind may not be, no state need follow in which all
+-- values are settled; so this is told of the binding.
+pub record BindsIll (p : Loaded) (s : State) (events : List Event) : Type 0 where
+  pub binding : Binding
+  pub next : BindsNext p s events binding
+  pub ill : ¬ IsFit p s.objects binding
+
+-- .. which has one, and a chain of bindings would lead from a property back to itself
+pub record BindsLoop (p : Loaded) (s : State) (events : List Event) : Type 0 where
+  pub binding : Binding
+  pub next : BindsNext p s events binding
+  pub fit : IsFit p s.objects binding
+  pub closes : Loop (binding_at (replaced s.bindings binding))
+
 -- why a run stops in a state, with these events left
 abbrev pub RunStops : Loaded → ℕ → State → ℕ → List Event → Fault → Type 0
 RunStops p depth s left events fault =
-    Reason (IsStuck p s) (λ t. Follows p s t events) (IsDue s events) p depth s left fault
+    Reason (IsStuck p s ⊎ BindsIll p s events) (BindsLoop p s events) (λ t. Follows p s t events) (IsDue s events)
+    p depth s left fault

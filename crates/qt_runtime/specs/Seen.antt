@@ -7,8 +7,11 @@ use Rattle.machine_state.specs.declared.fault.Answer.{Answer}
 use Rattle.machine_state.specs.declared.fault.Answer.TheVariants as answer
 use Rattle.machine_state.specs.declared.fault.Fault.{Fault}
 use Rattle.machine_state.specs.declared.fault.Fault.TheVariants as fault
+use Rattle.prop_bindings.specs.Bindings.{binding_at, Settled}
+use Rattle.prop_bindings.specs.Places.{values_in}
 use Rattle.machine_state.specs.State.{Activation}
 use Rattle.machine_state.specs.Worlds.{at, untouched}
+use Rattle.machine_rules.specs.Reaches.{Leaves}
 use Rattle.qt_runtime.specs.Runs.{RunsWhole, RunsFront}
 use Rattle.qt_runtime.specs.Causes.{Cause}
 use Rattle.qt_runtime.specs.Taking.{IsAccepted, IsRefusedAs}
@@ -32,15 +35,17 @@ pub record Completes (before : Seen) (events : List Event) (after : Seen) : Type
       RunsWhole before.program before.depth (at before.world []) before.world.left events
       (at after.world []) after.world.left
 
--- the machine took a front of these events, and stopped on the way
+-- The machine took a front of these events, and stopped on the way, in this world. That is what is left of it; but where
+-- memory was refused for the lines of a change, values have changed that nothing tells of.
 pub record Halts (before : Seen) (events : List Event) (f : Fault) (after : Seen) : Type 0 where
   pub went : before.stopped ≡ false
   pub same : after ≡ record before { world = after.world; stopped = true }
+  pub world : World
+  pub leaves : Leaves world after.world f
   pub stack : List Activation
   pub front :
-      RunsFront before.program before.depth (at before.world []) before.world.left events
-      (at after.world stack) after.world.left
-  pub cause : Cause before.program before.depth (at after.world stack) after.world.left front.rest f
+      RunsFront before.program before.depth (at before.world []) before.world.left events (at world stack) world.left
+  pub cause : Cause before.program before.depth (at world stack) world.left front.rest f
 
 -- a machine that has stopped does nothing more
 pub record Stays (before : Seen) (f : Fault) (after : Seen) : Type 0 where
@@ -56,15 +61,19 @@ abbrev pub RunsAll : Seen → List Event → Result (Unit {0}) Fault → Seen �
 RunsAll before events (Ok done) after = Completes before events after
 RunsAll before events (Err f) after = Stops before events f after
 
+-- each bound property has the value of its binding's expression
+abbrev pub IsSettled : Seen → Type 0
+IsSettled m = Settled (binding_at m.world.store.bindings) (values_in m.world.store.tree)
+
 -- ---- one event
 
 -- the event was accepted, and the machine went on until nothing was going on
-pub record Accepts (before : Seen) (e : Event) (after : Seen) : Type 0 where
+pub record AcceptsEvent (before : Seen) (e : Event) (after : Seen) : Type 0 where
   pub completes : Completes before (e ∷ []) after
   pub accepted : IsAccepted before.program before.world e
 
 -- the event was refused for the reason of this number, and only its line was written
-pub record Refuses (before : Seen) (e : Event) (n : ℕ) (after : Seen) : Type 0 where
+pub record RefusesEvent (before : Seen) (e : Event) (n : ℕ) (after : Seen) : Type 0 where
   pub completes : Completes before (e ∷ []) after
   pub refused : IsRefusedAs before.program before.world e n after.world
 

@@ -7,13 +7,14 @@ use Rattle.machine_state.specs.declared.refusal.Refusal.{Refusal}
 use Rattle.machine_state.specs.Accepting.{refused}
 use Rattle.machine_state.specs.State.{State, IsIdle}
 use Rattle.qt_runtime.specs.declared.events.invoke.Invocation.TheVariants.{Emit, Call}
-use Rattle.qt_runtime.specs.events.Add.{add}
+use Rattle.qt_runtime.specs.events.AddLoop.{add_loop}
 use Rattle.qt_runtime.specs.events.Turn.{turn}
 use Rattle.qt_runtime.specs.events.Create.{create}
 use Rattle.qt_runtime.specs.events.Adopt.{adopt}
 use Rattle.qt_runtime.specs.events.Connect.{connect}
 use Rattle.qt_runtime.specs.events.Disconnect.{disconnect}
 use Rattle.qt_runtime.specs.events.Assign.{assign}
+use Rattle.qt_runtime.specs.events.Bind.{bind}
 use Rattle.qt_runtime.specs.events.Invoke.{invoke}
 use Rattle.qt_runtime.specs.events.Block.{block}
 use Rattle.qt_runtime.specs.events.Delete.{delete}
@@ -21,7 +22,7 @@ use Rattle.qt_runtime.specs.events.Later.{later}
 
 -- what becomes of an event: a state, or a refusal
 abbrev pub judged : Loaded → State → Event → Result State Refusal → Type 0
-judged p s (event.Loop name) = add s name
+judged p s (event.Loop name) = add_loop s name
 judged p s (event.Turn name) = turn s name
 judged p s (event.New name class loop) = create p s name class loop
 judged p s (event.Adopt parent child) = adopt p s parent child
@@ -30,6 +31,7 @@ judged p s (event.Disconnect ends) = disconnect p s ends
 judged p s (event.Set name property i) = assign p s name property i
 judged p s (event.Emit name signal inputs) = invoke p s Emit name signal inputs
 judged p s (event.Call name slot inputs) = invoke p s Call name slot inputs
+judged p s (event.Bind site target sources) = bind p s site target sources
 judged p s (event.Block name) = block s name true
 judged p s (event.Unblock name) = block s name false
 judged p s (event.Delete name) = delete s name

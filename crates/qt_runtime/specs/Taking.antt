@@ -1,14 +1,15 @@
 -- What the machine's code does with an event (docs/machine.md, "Events").
-use Rattle.std.specs.Prelude.{◌≡◌, ℕ, ◌+◌, ◌<◌, ◌^◌, Bool, true, false, List, [], ◌∷◌, None, Result, Ok, Err}
+use Rattle.std.specs.Prelude.{◌≡◌, ℕ, ◌+◌, ◌<◌, ◌^◌, Bool, true, false, List, [], ◌∷◌, length, None, Result, Ok, Err}
 use Rattle.signatures.specs.declared.value.Value.{Value}
-use Rattle.meta_model.specs.declared.object.MetaProperty.{MetaProperty}
+use Rattle.meta_model.specs.declared.site.MetaSite.{MetaSite}
 use Rattle.meta_model.specs.Loaded.{Loaded}
 use Rattle.object_tree.specs.declared.fault.AdoptFault.{AdoptFault}
 use Rattle.object_tree.specs.declared.fault.AdoptFault.TheVariants as adopt
 use Rattle.object_tree.specs.declared.fault.CreateFault.{CreateFault}
 use Rattle.object_tree.specs.declared.fault.CreateFault.TheVariants as create
-use Rattle.object_tree.specs.declared.object.Object.{Object}
-use Rattle.object_tree.specs.Typed.{ReadsAs}
+use Rattle.object_tree.specs.declared.life.Life.{Life}
+use Rattle.prop_bindings.specs.declared.fault.BindFault.{BindFault}
+use Rattle.prop_bindings.specs.declared.fault.BindFault.TheVariants as bind
 use Rattle.texts.specs.declared.connection.ConnectionType.{ConnectionType}
 use Rattle.texts.specs.declared.connection.Endpoints.{Endpoints as Named}
 use Rattle.script_lang.specs.declared.event.Event.{Event}
@@ -18,17 +19,19 @@ use Rattle.machine_state.specs.declared.endpoints.Endpoints.{Endpoints}
 use Rattle.machine_state.specs.declared.fault.Answer.{Answer}
 use Rattle.machine_state.specs.declared.fault.Answer.TheVariants as answer
 use Rattle.machine_state.specs.declared.fault.Fault.{Fault}
-use Rattle.machine_state.specs.declared.fault.Fault.TheVariants.{BadType, Memory}
+use Rattle.machine_state.specs.declared.fault.Fault.TheVariants.{BadType, BindingLoop, Memory}
 use Rattle.machine_state.specs.declared.refusal.Refusal.{Refusal}
-use Rattle.machine_state.specs.declared.refusal.Refusal.TheVariants.{NameUsed, NoClass, TooManyObjects, NotOwned, Cycle, OtherLoop}
+use Rattle.machine_state.specs.declared.refusal.Refusal.TheVariants.{NameUsed, NoClass, TooManyObjects, NotOwned, Cycle, OtherLoop, BadSource}
 use Rattle.machine_state.specs.declared.world.World.{World}
 use Rattle.machine_state.specs.Accepting.{accepted, refused}
 use Rattle.machine_state.specs.Refusals.{refusal_number}
 use Rattle.machine_state.specs.State.{State, Activation}
-use Rattle.machine_state.specs.Worlds.{at, after, with_connection, without_connections, Refuses}
+use Rattle.machine_state.specs.Worlds.{at, after, with_connection, without_connections, Rejects}
 use Rattle.machine_rules.specs.declared.setting.Setting.{Setting}
-use Rattle.machine_rules.specs.There.{IsField}
-use Rattle.machine_rules.specs.Rules.{Begins, Writes}
+use Rattle.machine_rules.specs.Judgement.{numbered}
+use Rattle.machine_rules.specs.Reaches.{Leaves}
+use Rattle.machine_rules.specs.Rules.{Begins}
+use Rattle.machine_rules.specs.Settling.{Writes}
 use Rattle.machine_rules.specs.Sound.{IsSoundWorld}
 use Rattle.qt_runtime.specs.declared.events.invoke.Invocation.{Invocation}
 use Rattle.qt_runtime.specs.declared.events.invoke.Invocation.TheVariants.{Emit, Call}
@@ -36,20 +39,23 @@ use Rattle.qt_runtime.specs.declared.judgement.NotAccepted.{NotAccepted}
 use Rattle.qt_runtime.specs.declared.judgement.NotAccepted.TheVariants as reason
 use Rattle.qt_runtime.specs.Runs.{RunsWhole, RunsFront, RunStops}
 use Rattle.qt_runtime.specs.Takes.{judged}
+use Rattle.qt_runtime.specs.events.Bind.{IsSiteOf}
 use Rattle.qt_runtime.specs.events.Connect.{connect}
 use Rattle.qt_runtime.specs.events.Disconnect.{disconnect}
+use Rattle.qt_runtime.specs.events.Named.{IsLiving, all_living}
 
 -- what every machine's world keeps: the program is sound, its parts fit together, and no count is near its limit
 pub record WorldInvariant (p : Loaded) (w : World) : Type 0 where
   pub sound : IsSoundWorld p w
   pub events : w.events + w.left < 2 ^ 63
-  pub connected : w.store.connections.last + w.left < 2 ^ 63
 
--- the machine stopped before or after it took the event
+-- the machine stopped before or after it took the event, in the world u, and v is left of it
 pub record Halted (p : Loaded) (depth : ℕ) (w : World) (e : Event) (v : World) (f : Fault) : Type 0 where
+  pub u : World
+  pub leaves : Leaves u v f
   pub stack : List Activation
-  pub front : RunsFront p depth (at w []) w.left (e ∷ []) (at v stack) v.left
-  pub reason : RunStops p depth (at v stack) v.left front.rest f
+  pub front : RunsFront p depth (at w []) w.left (e ∷ []) (at u stack) u.left
+  pub reason : RunStops p depth (at u stack) u.left front.rest f
 
 -- the event is accepted
 pub record IsAccepted (p : Loaded) (w : World) (e : Event) : Type 0 where
@@ -81,7 +87,7 @@ Answers setting e w v result = Took setting.meta setting.depth w e v result
 
 -- what becomes of an event that isn't accepted
 abbrev pub IsRefused : World → NotAccepted → World → Result Answer Fault → Type 0
-IsRefused w (reason.Refused k) v result = Refuses w k v result
+IsRefused w (reason.Refused k) v result = Rejects w k v result
 IsRefused w reason.Memory v result = (result ≡ Err Memory) × (v ≡ w)
 
 -- why an event is refused, or the run stops, where no object is created
@@ -99,6 +105,14 @@ adoption_reason adopt.Cycle = Ok Cycle
 adoption_reason adopt.OtherLoop = Ok OtherLoop
 adoption_reason adopt.Memory = Err Memory
 
+-- .. where no binding is installed
+abbrev pub binding_reason : BindFault → Result Refusal Fault
+binding_reason bind.BadSource = Ok BadSource
+binding_reason bind.OtherLoop = Ok OtherLoop
+binding_reason bind.BadType = Err BadType
+binding_reason bind.BindingLoop = Err BindingLoop
+binding_reason bind.Memory = Err Memory
+
 -- the event is accepted, and its effect is that the method begins
 pub record AsksFor (p : Loaded) (w : World) (o m : ℕ) (values : List Value) (e : Event) : Type 0 where
   pub effect : (t : State) → Begins p (accepted (at w [])) [] o m values t → judged p (at w []) e (Ok t)
@@ -115,12 +129,16 @@ ConnectsThese p w e how ends = connect p (at w []) e how (Ok (with_connection (a
 abbrev pub DisconnectsThese : Loaded → World → Named (List ℕ) → Endpoints → Type 0
 DisconnectsThese p w e ends = disconnect p (at w []) e (Ok (without_connections (accepted (at w [])) ends))
 
--- the value is of the type of an object's property
-pub record ValueFits (p : Loaded) (objects : List Object) (o q : ℕ) (v : Value) : Type 0 where
-  pub object : Object
-  pub property : MetaProperty
-  pub is : IsField p objects o q object property
-  pub reads : ReadsAs p objects v property.kind
+-- The site is there and has as many formal sources, and the objects live: what is left to be judged is whether the site
+-- covers them, and in which event loops they live.
+pub record AsksToBind (p : Loaded) (w : World) (name target : List ℕ) (sources : List (List ℕ))
+    (number o : ℕ) (objects : List ℕ) : Type 0 where
+  pub site : MetaSite
+  pub is : IsSiteOf p name (numbered number site)
+  pub many : length sources ≡ length site.formals
+  pub life : Life
+  pub lives : IsLiving w.store.tree target (numbered o life)
+  pub live : all_living w.store.tree sources (Ok objects)
 
 -- the event that asks this of a method
 abbrev pub invoking : Invocation → List ℕ → List ℕ → List Input → Event
@@ -135,6 +153,6 @@ blocking false name = event.Unblock name
 -- what every machine keeps
 pub record MachineInvariant (p : Loaded) (depth : ℕ) (w : World) (stopped : Bool) : Type 0 where
   pub room : 0 < depth
-  pub keeps : WorldInvariant p w
-  -- unless it has stopped, no turn goes on
+  -- unless it has stopped, it keeps its world, and no turn goes on
+  pub keeps : stopped ≡ false → WorldInvariant p w
   pub idle : stopped ≡ false → w.turn ≡ None

@@ -1,8 +1,9 @@
 //! One module an event: how it is judged, and what it does.
 
-pub mod add;
+pub mod add_loop;
 pub mod adopt;
 pub mod assign;
+pub mod bind;
 pub mod block;
 pub mod connect;
 pub mod create;

@@ -1,13 +1,14 @@
 //! What holds of every program.
 
-ghost use Rattle.qt_runtime.specs.Laws.{OneFront, OneJudgement, OneRun, OneTaking};
+ghost use Rattle.qt_runtime.specs.Laws.{AlwaysSettled, OneFront, OneJudgement, OneRun, OneTaking};
 
-/// An event is accepted with one effect or refused for one reason, and not both.
+/// An event is accepted with one effect or refused for one reason, and not both; but a bind that closes a chain of bindings
+/// may have several effects.
 pub fn one_judgement()
     ensures { OneJudgement }
 {}
 
-/// At most one state follows by the taking of an event.
+/// At most one state follows by the taking of an event, where no chain of bindings closes.
 pub fn one_taking()
     ensures { OneTaking }
 {}
@@ -22,4 +23,9 @@ pub fn one_run()
 /// ends, and its trace begins with the other's: a run that a fault stops has taken the way of every other one.
 pub fn one_front()
     ensures { OneFront }
+{}
+
+/// In every state of a run all values are settled: each bound property has the value of its binding's expression.
+pub fn always_settled()
+    ensures { AlwaysSettled }
 {}

@@ -7,7 +7,7 @@ mod laws;
 mod machine;
 mod taking;
 
-pub use laws::{one_front, one_judgement, one_run, one_taking};
+pub use laws::{always_settled, one_front, one_judgement, one_run, one_taking};
 pub use machine::Machine;
 pub use machine_state::{Answer, Entry, Fault, Happening, Natives, Shown};
 pub use meta_objects::{Meta, MetaFault};

@@ -1,5 +1,5 @@
 ghost use Rattle.std.specs.Prelude.{◌≡◌, ◌<◌, ◌≤◌, ◌^◌, ◌∷◌, [], IfOk, IfErr, false, None};
-ghost use Rattle.qt_runtime.specs.Seen.{OnDone, OnRefused, Accepts, Refuses, Stops, RunsAll, begun};
+ghost use Rattle.qt_runtime.specs.Seen.{OnDone, OnRefused, AcceptsEvent, RefusesEvent, IsSettled, Stops, RunsAll, begun};
 
 use crate::taking::take_event;
 use machine_rules::Setting;
@@ -19,13 +19,16 @@ pub struct Machine {
 
 impl Model for Machine {
     ghost use Rattle.std.specs.Coded.{codes};
+    ghost use Rattle.texts.specs.contracts.syntax.Expr as expr;
     ghost use Rattle.meta_model.specs.contracts.object.Statement as statement;
+    ghost use Rattle.meta_model.specs.contracts.site.SourceProperty as source;
     ghost use Rattle.qt_runtime.specs.Seen.{Seen};
     ghost use Rattle.qt_runtime.specs.Taking.{MachineInvariant};
 
     ghost Value = { Seen };
 
-    ghost coded = { Prim.hlevel (codes, statement.the_row.coded) };
+    ghost coded = { Prim.hlevel
+        (codes, statement.the_row.coded, (expr.the_row source.the_row).coded) };
 
     ghost view = { λ m. record {
       program = m.setting.meta;
@@ -63,14 +66,17 @@ impl Machine {
 
     /// Applies an event: takes it, and runs until nothing is going on. `Refused` tells the first of the event's
     /// conditions that doesn't hold; then only its line is written. A fault stops the machine: `BadType` where the next
-    /// statement lacks a value that it needs, or the next rule would give a value of a wrong type; `InUse` where by it an
-    /// object would die while a body of it is active; `TooDeep` where it would nest activations deeper than the depth;
-    /// `Steps` where a rule is due and none is left; `Memory` where a growth of memory was refused. The trace then ends
-    /// with the last whole rule. On a machine that has stopped the answer is `Stopped`, and nothing changes.
+    /// statement lacks a value that it needs, or the next rule would give a value of a wrong type; `InUse` where by it
+    /// an object would die while a body of it is active; `BindingLoop` where a chain of bindings would lead from a
+    /// property back to itself; `TooDeep` where it would nest activations deeper than the depth; `Steps` where a rule
+    /// is due and none is left; `Memory` where a growth of memory was refused. The trace then ends with the last whole
+    /// rule. On a machine that has stopped the answer is `Stopped`, and nothing changes.
     pub fn apply(&mut self, event: &Event) -> Result<Answer, Fault>
-        ensures done { OnDone result (Accepts self.old event.now self.new) }
-        ensures refused { OnRefused result (λ number. Refuses self.old event.now number self.new) }
+        ensures done { OnDone result (AcceptsEvent self.old event.now self.new) }
+        ensures refused { OnRefused result
+            (λ number. RefusesEvent self.old event.now number self.new) }
         ensures stopped { IfErr result (λ fault. Stops self.old (event.now ∷ []) fault self.new) }
+        ensures settled { IfOk result (λ _. IsSettled self.new) }
     {
         if self.stopped {
             return Err(Fault::Stopped);

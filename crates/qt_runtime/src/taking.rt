@@ -3,9 +3,10 @@
 ghost use Rattle.std.specs.Prelude.{◌<◌, ◌≡◌, None};
 ghost use Rattle.qt_runtime.specs.Taking.{WorldInvariant, Answers};
 
-use crate::events::add::add;
+use crate::events::add_loop::add_loop;
 use crate::events::adopt::adopt;
 use crate::events::assign::assign;
+use crate::events::bind::bind;
 use crate::events::block::block;
 use crate::events::connect::connect;
 use crate::events::create::create;
@@ -29,7 +30,7 @@ pub fn take_event(setting: &Setting, world: &mut World, event: &Event) -> Result
         return Err(Fault::Steps);
     }
     match event {
-        Event::Loop(name) => add(setting, world, name),
+        Event::Loop(name) => add_loop(setting, world, name),
         Event::Turn(name) => turn(setting, world, name),
         Event::New(name, class, home) => create(setting, world, name, class, home),
         Event::Adopt(parent, child) => adopt(setting, world, parent, child),
@@ -43,6 +44,9 @@ pub fn take_event(setting: &Setting, world: &mut World, event: &Event) -> Result
         Event::Call(name, slot, inputs) => {
             let inputs = inputs.as_slice();
             invoke(setting, world, Invocation::Call, name, slot, inputs)
+        }
+        Event::Bind(site, target, sources) => {
+            bind(setting, world, site, target, sources.as_slice())
         }
         Event::Block(name) => block(setting, world, name, true),
         Event::Unblock(name) => block(setting, world, name, false),

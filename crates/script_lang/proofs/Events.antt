@@ -1,7 +1,7 @@
 -- Reading events from their parts.
 use Rattle.std.proofs.Common.{ℕ, ◌≡◌, Option, None as no_separator, Result, Ok, Err, List, ◌∷◌, map, refl, sym, ◌∙◌, ap, subst}
 use Rattle.texts.specs.Connections.{spell_connection_type, EndsConnectionType, ReadsConnectionType}
-use Rattle.texts.specs.Lists.{spell_listed}
+use Rattle.texts.specs.Lists.{spell_each, spell_listed}
 use Rattle.texts.specs.Literals.{spell_literal, tree_of_literal}
 use Rattle.texts.specs.Optional.{spell_optional_name, EndsWithoutName}
 use Rattle.texts.specs.Reading.{Found, EndsAnywhere, IsAtEnd, spell_name}
@@ -18,7 +18,7 @@ use Rattle.script_lang.specs.declared.event.Event.TheVariants as tree
 use Rattle.script_lang.specs.declared.event.Input.{Input}
 use Rattle.script_lang.specs.declared.event.Input.TheVariants as input
 use Rattle.script_lang.specs.declared.verb.Verb.{Verb}
-use Rattle.script_lang.specs.Grammar.{InputReading, literal, named, spell_input, tree_of_input, spell_verb, Member, spell_member, spell_invocation, tree_of_invocation, spell_new, tree_of_new, spell_adopt, tree_of_adopt, spell_name_ends, tree_of_name_ends, spell_connect, tree_of_connect, spell_assignment, tree_of_assignment, Follow, spell_follow, Reading, spell_event, ReadsFollow, ReadsEvent}
+use Rattle.script_lang.specs.Grammar.{InputReading, literal, named, spell_input, tree_of_input, spell_verb, Member, spell_member, spell_invocation, tree_of_invocation, spell_new, tree_of_new, spell_adopt, tree_of_adopt, spell_name_ends, tree_of_name_ends, spell_connect, tree_of_connect, spell_assignment, tree_of_assignment, spell_bind, tree_of_bind, Follow, spell_follow, Reading, spell_event, ReadsFollow, ReadsEvent}
 use Rattle.script_lang.proofs.OneTree.{literal_unnamed, no_name_at_end, how_at_end, one_verb}
 
 -- the same reading of a whole line, whose tree stands in another one
@@ -95,6 +95,17 @@ assignment_found m v =
       spelled = cc;
       tree_is = cc;
       only = λ e rest ends g. v.only e.value rest tt (m.only e.member (spell_input e.value rest) tt g);
+    }
+
+pub bind_found : {before between at_sources after : List Token} {site target : List ℕ} {sources : List (List ℕ)} → Found spell_name (λ name. name) EndsAnywhere before site between → Found spell_name (λ name. name) EndsAnywhere between target at_sources → Found (spell_each spell_name) (λ names. names) IsAtEnd at_sources sources after → Found spell_bind tree_of_bind IsAtEnd before (tree.Bind site target sources) after
+bind_found {site = site} {target = target} {sources = sources} n t s =
+    let p = n.spelled in let q = t.spelled in let r = s.spelled in
+    let x = n.tree_is in let y = t.tree_is in let z = s.tree_is in
+    record {
+      reading = record { site = site; target = target; sources = sources };
+      spelled = cc;
+      tree_is = refl;
+      only = λ e rest ends g. s.only e.sources rest ends cc;
     }
 
 -- ---- an event by its verb

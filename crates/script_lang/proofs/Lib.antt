@@ -1,4 +1,5 @@
 pub mod OneTree
+pub mod Names
 pub mod Events
 pub mod Scripts
 pub mod OneAnswer

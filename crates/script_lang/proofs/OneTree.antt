@@ -8,7 +8,7 @@ use Rattle.texts.specs.Reading.{EndsAnywhere, IsAtEnd, spell_name}
 use Rattle.texts.specs.declared.symbol.Symbol.TheVariants.{Close}
 use Rattle.texts.specs.declared.token.Token.{Token}
 use Rattle.texts.specs.declared.token.Token.TheVariants as token
-use Rattle.texts.specs.Lists.{IsPart}
+use Rattle.texts.specs.Lists.{IsPart, spell_each}
 use Rattle.texts.proofs.Both.{one_tree_of_both}
 use Rattle.texts.proofs.Connections.{one_tree_of_ends, one_tree_of_connection_type}
 use Rattle.texts.proofs.OneTree.{HasOneTree, one_tree_of_listed, one_tree_of_literal, one_tree_of_optional_name}
@@ -16,7 +16,7 @@ use Rattle.script_lang.specs.declared.event.Event.TheVariants as tree
 use Rattle.script_lang.specs.declared.event.Input.TheVariants as input
 use Rattle.script_lang.specs.declared.verb.Verb.{Verb}
 use Rattle.script_lang.specs.declared.verb.Verb.TheVariants as verb
-use Rattle.script_lang.specs.Grammar.{InputReading, literal, named, spell_input, tree_of_input, verb_token, spell_invocation, tree_of_invocation, spell_new, tree_of_new, spell_name_ends, tree_of_name_ends, spell_connect, tree_of_connect, tree_of_disconnect, spell_assignment, tree_of_assignment, Follow, spell_follow, tree_of_follow, Reading, spell_event, tree_of_event}
+use Rattle.script_lang.specs.Grammar.{InputReading, literal, named, spell_input, tree_of_input, verb_token, spell_invocation, tree_of_invocation, spell_new, tree_of_new, spell_name_ends, tree_of_name_ends, spell_connect, tree_of_connect, tree_of_disconnect, spell_assignment, tree_of_assignment, spell_bind, tree_of_bind, Follow, spell_follow, tree_of_follow, Reading, spell_event, tree_of_event}
 
 -- ---- values
 
@@ -65,15 +65,16 @@ how_at_end rest end = record { not_unique = λ after e. cc; not_single = λ afte
 
 -- ---- verbs
 
--- the letters of a verb; 1 stands before those of a reserved word, as `adopt` and `later` have the same sum
+-- the letters of a verb; 2 stands before those of a reserved word, as `adopt` and `later` have the same sum, and `bind`
+-- has one more than `call`
 abbrev letters_of : Token → List ℕ
 letters_of (token.Name letters) = letters
-letters_of (token.Word w) = 1 ∷ word_spelling w
+letters_of (token.Word w) = 2 ∷ word_spelling w
 letters_of _ = []
 
 abbrev verbs : List Verb
 verbs =
-    verb.Loop ∷ verb.Turn ∷ verb.New ∷ verb.Adopt ∷ verb.Connect ∷ verb.Disconnect ∷ verb.Set ∷ verb.Emit ∷ verb.Call ∷ verb.Block ∷ verb.Unblock ∷ verb.Delete ∷ verb.Later ∷ []
+    verb.Loop ∷ verb.Turn ∷ verb.New ∷ verb.Adopt ∷ verb.Connect ∷ verb.Disconnect ∷ verb.Set ∷ verb.Emit ∷ verb.Call ∷ verb.Bind ∷ verb.Block ∷ verb.Unblock ∷ verb.Delete ∷ verb.Later ∷ []
 
 -- the verb whose letters have this sum
 abbrev verb_with : ℕ → List Verb → Option Verb
@@ -124,6 +125,18 @@ one_tree_of_invocation a b r s er es e =
     let h : (map tree_of_input a.arguments ≡ map tree_of_input b.arguments) × (r ≡ s) = one_tree_of_listed spell_input tree_of_input EndsAnywhere inputs_are_parts one_tree_of_input a.arguments b.arguments r s tt tt cc in
     (cc, h.1)
 
+-- names up to the end
+one_tree_of_names : HasOneTree (spell_each spell_name) (λ names. names) IsAtEnd
+one_tree_of_names [] [] r s er es e = (refl, e)
+one_tree_of_names [] (y ∷ ys) r s er es e = cc
+one_tree_of_names (x ∷ xs) [] r s er es e = cc
+one_tree_of_names (x ∷ xs) (y ∷ ys) r s er es e = let h : (xs ≡ ys) × (r ≡ s) = one_tree_of_names xs ys r s er es cc in (cc, h.1)
+
+one_tree_of_bind : HasOneTree spell_bind tree_of_bind IsAtEnd
+one_tree_of_bind a b r s er es e =
+    let h : (a.sources ≡ b.sources) × (r ≡ s) = one_tree_of_names a.sources b.sources r s er es cc in
+    (cc, h.1)
+
 one_tree_of_follow : (v : Verb) → HasOneTree (spell_follow v) (tree_of_follow v) IsAtEnd
 one_tree_of_follow verb.Loop a b r s er es e = (cc, cc)
 one_tree_of_follow verb.Turn a b r s er es e = (cc, cc)
@@ -138,6 +151,7 @@ one_tree_of_follow verb.Emit a b r s er es e =
 one_tree_of_follow verb.Call a b r s er es e =
     let h = one_tree_of_invocation a b r s er es e in
     (ap (λ i. tree.Call i.0 i.1 i.2) h.0, h.1)
+one_tree_of_follow verb.Bind a b r s er es e = one_tree_of_bind a b r s er es e
 one_tree_of_follow verb.Block a b r s er es e = (cc, cc)
 one_tree_of_follow verb.Unblock a b r s er es e = (cc, cc)
 one_tree_of_follow verb.Delete a b r s er es e = (cc, cc)

@@ -10,6 +10,7 @@
 --         | "set" Name "." Name value
 --         | "emit" Name "." Name "(" [value {"," value}] ")"
 --         | "call" Name "." Name "(" [value {"," value}] ")"
+--         | "bind" Name Name {Name}
 --         | "block" Name
 --         | "unblock" Name
 --         | "delete" Name
@@ -23,7 +24,7 @@ use Rattle.std.specs.Prelude.{ℕ, ◌≡◌, ◌≢◌, List, [], ◌∷◌, ma
 use Rattle.signatures.specs.declared.sig.Sig.{Sig}
 use Rattle.signatures.specs.declared.word.Word.TheVariants as word
 use Rattle.texts.specs.Connections.{BothEnds, spell_ends, tree_of_ends, spell_connection_type, signatures_at}
-use Rattle.texts.specs.Lists.{spell_listed}
+use Rattle.texts.specs.Lists.{spell_each, spell_listed}
 use Rattle.texts.specs.Literals.{LiteralReading, spell_literal, tree_of_literal}
 use Rattle.texts.specs.Optional.{spell_optional_name}
 use Rattle.texts.specs.Reading.{Reads, IsAtEnd, spell_name}
@@ -69,6 +70,7 @@ verb_token verb.Disconnect = token.Word word.Disconnect
 verb_token verb.Set = token.Word word.Set
 verb_token verb.Emit = token.Word word.Emit
 verb_token verb.Call = token.Word word.Call
+verb_token verb.Bind = token.Name (codes "bind")
 verb_token verb.Block = token.Name (codes "block")
 verb_token verb.Unblock = token.Name (codes "unblock")
 verb_token verb.Delete = token.Word word.Delete
@@ -176,6 +178,18 @@ tree_of_emit i = tree.Emit i.member.0 i.member.1 (map tree_of_input i.arguments)
 abbrev pub tree_of_call : Invocation → Event
 tree_of_call i = tree.Call i.member.0 i.member.1 (map tree_of_input i.arguments)
 
+-- `N O X ..`, after `bind`
+pub record Bind : Type 0 where
+  pub site : List ℕ
+  pub target : List ℕ
+  pub sources : List (List ℕ)
+
+abbrev pub spell_bind : Bind → List Token → List Token
+spell_bind e after = token.Name e.site ∷ token.Name e.target ∷ spell_each spell_name e.sources after
+
+abbrev pub tree_of_bind : Bind → Event
+tree_of_bind e = tree.Bind e.site e.target e.sources
+
 -- `O`, after `block`
 abbrev pub tree_of_block : List ℕ → Event
 tree_of_block object = tree.Block object
@@ -205,6 +219,7 @@ Follow verb.Disconnect = NameEnds
 Follow verb.Set = Assignment
 Follow verb.Emit = Invocation
 Follow verb.Call = Invocation
+Follow verb.Bind = Bind
 Follow verb.Block = List ℕ
 Follow verb.Unblock = List ℕ
 Follow verb.Delete = List ℕ
@@ -220,6 +235,7 @@ spell_follow verb.Disconnect = spell_name_ends
 spell_follow verb.Set = spell_assignment
 spell_follow verb.Emit = spell_invocation
 spell_follow verb.Call = spell_invocation
+spell_follow verb.Bind = spell_bind
 spell_follow verb.Block = spell_name
 spell_follow verb.Unblock = spell_name
 spell_follow verb.Delete = spell_name
@@ -235,6 +251,7 @@ tree_of_follow verb.Disconnect = tree_of_disconnect
 tree_of_follow verb.Set = tree_of_assignment
 tree_of_follow verb.Emit = tree_of_emit
 tree_of_follow verb.Call = tree_of_call
+tree_of_follow verb.Bind = tree_of_bind
 tree_of_follow verb.Block = tree_of_block
 tree_of_follow verb.Unblock = tree_of_unblock
 tree_of_follow verb.Delete = tree_of_delete
@@ -263,6 +280,7 @@ signatures_in (tree.Disconnect ends) = signatures_at ends
 signatures_in (tree.Set object property value) = []
 signatures_in (tree.Emit object signal arguments) = []
 signatures_in (tree.Call object method arguments) = []
+signatures_in (tree.Bind site target sources) = []
 signatures_in (tree.Block object) = []
 signatures_in (tree.Unblock object) = []
 signatures_in (tree.Delete object) = []
@@ -278,6 +296,9 @@ pub record IsEvent (tokens : List Token) (event : Event) : Type 0 where
   pub normal : ¬ HasPlainReference tokens
 
 -- ---- what the readers answer, for all tokens of a line
+
+abbrev pub ReadsNames : List Token → Result (List (List ℕ)) ParseFault → List Token → Type 0
+ReadsNames before result after = Reads (spell_each spell_name) (λ names. names) IsAtEnd before result after
 
 abbrev pub ReadsFollow : Verb → List Token → Result Event ParseFault → List Token → Type 0
 ReadsFollow v before result after = Reads (spell_follow v) (tree_of_follow v) IsAtEnd before result after

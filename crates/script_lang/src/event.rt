@@ -35,6 +35,8 @@ pub enum Event {
     Emit(Name, Name, Items<Input>),
     /// `call O.M(V,..)`: the object, the method's name, the arguments.
     Call(Name, Name, Items<Input>),
+    /// `bind N O X ..`: the site's name, the target, the sources in their order, of which there may be none.
+    Bind(Name, Name, Items<Name>),
     /// `block O`: the object.
     Block(Name),
     /// `unblock O`: the object.

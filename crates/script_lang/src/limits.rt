@@ -16,6 +16,7 @@ pub fn event_has_few_types(event: &Event) -> bool
         Event::Loop(_) | Event::Turn(_) => true,
         Event::New(_, _, _) | Event::Adopt(_, _) => true,
         Event::Set(_, _, _) | Event::Emit(_, _, _) | Event::Call(_, _, _) => true,
+        Event::Bind(_, _, _) => true,
         Event::Block(_) | Event::Unblock(_) => true,
         Event::Delete(_) | Event::Later(_) => true,
     }

@@ -1,8 +1,8 @@
 //! The grammar of events, one function a rule.
 
 ghost use Rattle.std.specs.Prelude.{ℕ, List, ◌<◌, length, OnOk};
-ghost use Rattle.script_lang.specs.Grammar.{InputReading, spell_input, tree_of_input, spell_verb, spell_member, spell_invocation, tree_of_invocation, ReadsFollow, ReadsEvent};
-ghost use Rattle.script_lang.specs.declared.verb.Verb.TheVariants.{Loop, Turn, New, Adopt, Connect, Disconnect, Set, Emit, Call, Block, Unblock, Delete, Later};
+ghost use Rattle.script_lang.specs.Grammar.{InputReading, spell_input, tree_of_input, spell_verb, spell_member, spell_invocation, tree_of_invocation, ReadsNames, ReadsFollow, ReadsEvent};
+ghost use Rattle.script_lang.specs.declared.verb.Verb.TheVariants.{Loop, Turn, New, Adopt, Connect, Disconnect, Set, Emit, Call, Bind, Block, Unblock, Delete, Later};
 ghost use Rattle.texts.specs.Reading.{Reads, EndsAnywhere, spell_name};
 
 use crate::event::{Event, Input};
@@ -44,6 +44,7 @@ fn follow(cursor: &mut Cursor, verb: Verb) -> Result<Event, ParseFault>
         Verb::Set => set(cursor),
         Verb::Emit => emit(cursor),
         Verb::Call => call(cursor),
+        Verb::Bind => bind(cursor),
         Verb::Block => block(cursor),
         Verb::Unblock => unblock(cursor),
         Verb::Delete => delete(cursor),
@@ -128,6 +129,16 @@ fn call(cursor: &mut Cursor) -> Result<Event, ParseFault>
     Ok(Event::Call(object, method, arguments))
 }
 
+/// `N O X ..`, after `bind`.
+fn bind(cursor: &mut Cursor) -> Result<Event, ParseFault>
+    ensures { ReadsFollow Bind cursor.old result cursor.new }
+{
+    let site = cursor.name()?;
+    let target = cursor.name()?;
+    let sources = names(cursor)?;
+    Ok(Event::Bind(site, target, sources))
+}
+
 /// `O`, after `block`.
 fn block(cursor: &mut Cursor) -> Result<Event, ParseFault>
     ensures { ReadsFollow Block cursor.old result cursor.new }
@@ -177,6 +188,18 @@ fn member(cursor: &mut Cursor) -> Result<(Name, Name), ParseFault>
     cursor.expect(Symbol::Dot)?;
     let name = cursor.name()?;
     Ok((object, name))
+}
+
+/// `{X}`, names up to the end.
+fn names(cursor: &mut Cursor) -> Result<Items<Name>, ParseFault>
+    ensures { ReadsNames cursor.old result cursor.new }
+{
+    let mut names = Items::new(cursor.alloc());
+    while !cursor.is_empty() {
+        let name = cursor.name()?;
+        names.push(name)?;
+    }
+    Ok(names)
 }
 
 /// `V`

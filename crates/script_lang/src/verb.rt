@@ -27,6 +27,8 @@ pub enum Verb {
     Emit,
     /// `call`
     Call,
+    /// `bind`
+    Bind,
     /// `block`
     Block,
     /// `unblock`
@@ -78,6 +80,8 @@ impl Verb {
             Some(Verb::New)
         } else if letters == b"adopt".as_slice() {
             Some(Verb::Adopt)
+        } else if letters == b"bind".as_slice() {
+            Some(Verb::Bind)
         } else if letters == b"block".as_slice() {
             Some(Verb::Block)
         } else if letters == b"unblock".as_slice() {

@@ -37,7 +37,7 @@ one_target a b r s er es e =
     let k = same_last a.0.properties b.0.properties a.1 b.1 (ap (λ (p : Path). p.properties) h.0) in
     (ap (λ x. let t : Target = (record { root = x; properties = a.0.properties }, a.1) in t) roots ∙ (ap (λ ns. let t : Target = (record { root = b.0.root; properties = ns }, a.1) in t) k.0 ∙ ap (λ m. let t : Target = (record { root = b.0.root; properties = b.0.properties }, m) in t) k.1), h.1)
 
-one_value : (a b : Expression) (r s : List Token) → spell_value a r ≡ spell_value b s → (tree_of_expression a ≡ tree_of_expression b) × (r ≡ s)
+pub one_value : (a b : Expression) (r s : List Token) → spell_value a r ≡ spell_value b s → (tree_of_expression a ≡ tree_of_expression b) × (r ≡ s)
 one_value a b r s e =
     let h : (tree_of_expression a ≡ tree_of_expression b) × (token.Symbol Semicolon ∷ r ≡ token.Symbol Semicolon ∷ s) = one_tree_of_expression a b (token.Symbol Semicolon ∷ r) (token.Symbol Semicolon ∷ s) (expression_ends Semicolon r refl (λ k. cc)) (expression_ends Semicolon s refl (λ k. cc)) cc in
     let rests = h.1 in

@@ -165,7 +165,7 @@ fn call(cursor: &mut Cursor) -> Result<Stmt, ParseFault>
 }
 
 /// `"=" expr ";"`
-fn value(cursor: &mut Cursor) -> Result<Expr<Path>, ParseFault>
+pub fn value(cursor: &mut Cursor) -> Result<Expr<Path>, ParseFault>
     ensures reads { Reads spell_value tree_of_expression EndsAnywhere cursor.old result cursor.new }
     ensures shorter { OnOk result (length cursor.new < length cursor.old) }
 {

@@ -10,7 +10,7 @@ mod limits;
 mod path;
 mod precedence;
 
-pub use body::{block, one_answer, one_body, parse_body};
+pub use body::{block, one_answer, one_body, parse_body, value};
 pub use expression::{one_expression, parse_expr};
 pub use fault::BodyFault;
 pub use limits::body_has_few_parameters;

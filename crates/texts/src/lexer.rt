@@ -62,7 +62,9 @@ pub fn one_cut()
 {}
 
 /// The token of the piece at the front, if it is one, and what follows it.
-fn split_piece(alloc: Global, bytes: &[u8]) -> Result<(Option<Token>, &[u8]), LexFault>
+///
+/// `BadByte` where no piece is there, and only there; `Memory` where a growth of memory was refused.
+pub fn split_piece(alloc: Global, bytes: &[u8]) -> Result<(Option<Token>, &[u8]), LexFault>
     ensures cut { SplitsPiece bytes.now result }
     ensures shorter { IfOk result (λ p. length p.1.now < length bytes.now) }
 {

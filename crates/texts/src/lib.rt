@@ -20,11 +20,11 @@ pub use connection::{ConnectionType, Endpoints, both_ends};
 pub use cursor::Cursor;
 pub use depth::nesting;
 pub use fault::ParseFault;
-pub use lexer::{LexFault, one_cut, tokens};
+pub use lexer::{LexFault, one_cut, split_piece, tokens};
 pub use lines::split_line;
 pub use lists::{Part, list};
 pub use literal::unsigned_literal;
-pub use program::{Class, Owns, Parameter, Program, Property, Signal, Slot, Wire};
+pub use program::{Class, Formal, Owns, Parameter, Program, Property, Signal, Site, Slot, Wire};
 pub use signature::{
     TypePart, has_few_types, has_plain_reference, one_normal_form_of_signatures,
     one_normal_form_of_types,

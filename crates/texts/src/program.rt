@@ -3,7 +3,7 @@
 ghost use Rattle.std.specs.Prelude.{◌≡◌, []};
 ghost use Rattle.texts.specs.Trees.{without_members};
 
-use crate::syntax::{Body, Literal};
+use crate::syntax::{Body, Expr, Literal, Path};
 use signatures::{Kind, Name, QType, Sig};
 use sqlite_items::Items;
 use std::alloc::Global;
@@ -89,6 +89,30 @@ pub struct Owns {
     pub child: Name,
 }
 
+/// A formal source of a binding: `C f`
+#[derive(Drop)]
+pub struct Formal {
+    /// The class of the objects that it stands for.
+    pub class: Name,
+    /// What it is called in the expression.
+    pub name: Name,
+}
+
+/// `binding N C.p (D f, ..) = e;`
+#[derive(Drop)]
+pub struct Site {
+    /// What it is called.
+    pub name: Name,
+    /// The class of the targets.
+    pub class: Name,
+    /// The property that is bound.
+    pub property: Name,
+    /// The formal sources, at most 8, in their order.
+    pub formals: Items<Formal>,
+    /// What the property is bound to: no null stands in it, and each of its paths is a property of a formal source.
+    pub expression: Expr<Path>,
+}
+
 /// The declarations of a text, those of each sort in their order.
 #[derive(Drop)]
 pub struct Program {
@@ -98,6 +122,8 @@ pub struct Program {
     pub wires: Items<Wire>,
     /// At most 1,000.
     pub owns: Items<Owns>,
+    /// At most 1,000.
+    pub sites: Items<Site>,
 }
 
 impl Class {
@@ -118,12 +144,13 @@ impl Class {
 impl Program {
     /// The program without declarations.
     pub fn new(alloc: Global) -> Program
-        ensures { result ≡ record { classes = []; wires = []; owns = [] } }
+        ensures { result ≡ record { classes = []; wires = []; owns = []; sites = [] } }
     {
         Program {
             classes: Items::new(alloc),
             wires: Items::new(alloc),
             owns: Items::new(alloc),
+            sites: Items::new(alloc),
         }
     }
 }

@@ -13,7 +13,7 @@ use Rattle.machine_state.specs.declared.entry.Shown.TheVariants as show
 use Rattle.machine_state.specs.declared.entry.Entry.{Entry}
 use Rattle.machine_state.specs.declared.entry.Entry.TheVariants.{Accepted, Refused, At}
 use Rattle.machine_state.specs.declared.entry.Happening.{Happening}
-use Rattle.machine_state.specs.declared.entry.Happening.TheVariants.{Emitted, Called, Written, OnNull, Connected, Disconnected, Refused as RefusedStatement, Posted, Scheduled, Died}
+use Rattle.machine_state.specs.declared.entry.Happening.TheVariants.{Emitted, Called, Written, Bound, Followed, OnNull, Connected, Disconnected, Refused as RefusedStatement, Posted, Scheduled, Died}
 
 abbrev pub newline : List ℕ
 newline = codes "\n"
@@ -76,9 +76,10 @@ scheduled_text event_loop object = post_text event_loop ++ codes "~" ++ object
 abbrev pub died_text : List ℕ → List ℕ
 died_text object = codes "dead " ++ object
 
--- `set o.p v`
-abbrev pub written_text : List ℕ → List ℕ → Shown → List ℕ
-written_text object property value = codes "set " ++ member_text object property ++ codes " " ++ value_text value
+-- `set o.p v`, `bind o.p v` and `follow o.p v`: a property that is written, one that is bound, and one that follows
+-- others, each with its new value
+abbrev pub property_text : List ℕ → List ℕ → List ℕ → Shown → List ℕ
+property_text word object property value = word ++ member_text object property ++ codes " " ++ value_text value
 
 abbrev pub kind_text : Kind → List ℕ
 kind_text Auto = codes "auto"
@@ -112,7 +113,9 @@ happening_text (Called object slot arguments) = called_text object slot argument
 happening_text (Posted event_loop object method arguments) = posted_text event_loop object method arguments
 happening_text (Scheduled event_loop object) = scheduled_text event_loop object
 happening_text (Died object) = died_text object
-happening_text (Written object property value) = written_text object property value
+happening_text (Written object property value) = property_text (codes "set ") object property value
+happening_text (Bound object property value) = property_text (codes "bind ") object property value
+happening_text (Followed object property value) = property_text (codes "follow ") object property value
 happening_text OnNull = codes "null"
 happening_text (Connected ends how) = connected_text ends how
 happening_text (Disconnected ends) = codes "disconnect " ++ ends_text ends

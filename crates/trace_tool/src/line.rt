@@ -1,7 +1,7 @@
 //! The text of the output's lines.
 
 ghost use Rattle.std.specs.Prelude.{◌++◌, codes, decimal, OnOk};
-ghost use Rattle.trace_tool.specs.Lines.{newline, value_text, arguments_text, member_text, call_text, blocked_text, emitted_text, called_text, written_text, happening_text, depth_line, refused_event_line, entry_line, trace_text, post_text, posted_text, scheduled_text, died_text};
+ghost use Rattle.trace_tool.specs.Lines.{newline, value_text, arguments_text, member_text, call_text, blocked_text, emitted_text, called_text, property_text, happening_text, depth_line, refused_event_line, entry_line, trace_text, post_text, posted_text, scheduled_text, died_text};
 ghost use Rattle.trace_tool.specs.Refusals.{refusal_line};
 ghost use Rattle.trace_tool.specs.Sent.{Adds};
 
@@ -200,18 +200,19 @@ impl Output {
         Ok(())
     }
 
-    /// Adds a write of a property.
-    fn written<W: Write>(
+    /// Adds a property and its new value, after a word that says how it came by it.
+    fn changed<W: Write>(
         &mut self,
         w: &mut W,
+        word: &[u8],
         object: &Name,
         property: &Name,
         value: &Shown,
     ) -> Result<(), WriteFault>
         ensures { OnOk result (Adds (W.contents w.old) self.old (W.contents w.new) self.new
-            (written_text object.now property.now value.now)) }
+            (property_text word.now object.now property.now value.now)) }
     {
-        self.put(w, b"set ")?;
+        self.put(w, word)?;
         self.member(w, object, property)?;
         self.put(w, b" ")?;
         self.value(w, value)?;
@@ -247,7 +248,17 @@ impl Output {
                 object,
                 property,
                 value,
-            } => self.written(w, object, property, value)?,
+            } => self.changed(w, b"set ", object, property, value)?,
+            Happening::Bound {
+                object,
+                property,
+                value,
+            } => self.changed(w, b"bind ", object, property, value)?,
+            Happening::Followed {
+                object,
+                property,
+                value,
+            } => self.changed(w, b"follow ", object, property, value)?,
             Happening::OnNull => self.put(w, b"null")?,
             Happening::Connected(ends, how) => self.connected(w, ends, *how)?,
             Happening::Disconnected(ends) => self.disconnected(w, ends)?,

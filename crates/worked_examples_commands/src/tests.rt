@@ -1,6 +1,7 @@
 //! Expected texts are worked out by hand from the documents.
 
 mod answers;
+mod binding_sites;
 mod ends;
 mod meta;
 mod operators;

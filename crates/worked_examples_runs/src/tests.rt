@@ -1,5 +1,7 @@
 //! Expected texts are worked out by hand from the documents.
 
+mod binding;
+mod binding_refused;
 mod blocking;
 mod bodies;
 mod classes;
@@ -9,6 +11,7 @@ mod deleting;
 mod deleting_later;
 mod destroyed;
 mod events;
+mod notifying;
 mod queues;
 mod refusals;
 mod rows;
@@ -37,6 +40,14 @@ pub const PRESSED: &str =
 /// A source whose value is shown by a label.
 pub const SOURCE: &str =
     "class Source { property int value = 0 notify valueChanged(int); signal valueChanged(int); slot setValue(int v) { set this.value = v; } } class Label { property int shown; slot show(int v) { set this.shown = v; } } wire Source valueChanged(int) -> Label show(int) auto;";
+
+/// Bindings that part and meet again.
+pub const DIAMOND: &str =
+    "class X { property int x notify xc(int); signal xc(int); } class Y { property int y notify yc(int); signal yc(int); } class Z { property int z notify zc(int); signal zc(int); } class W { property int w notify wc(int); signal wc(int); } binding by Y.y (X a) = a.x + 1; binding bz Z.z (X a) = a.x * 2; binding bw W.w (Y a, Z b) = a.y + b.z;";
+
+/// Sums that are bound to one cell or to two.
+pub const SUMS: &str =
+    "class Cell { property int x; } class Big : Cell { } class Sum { property int s notify sc(int); signal sc(int); slot put(int v) { set this.s = v; } } binding one Sum.s (Cell c) = c.x; binding two Sum.s (Cell c, Cell d) = c.x + d.x;";
 
 /// Nodes own nodes, and nothing owns leaves.
 pub const NODES: &str = "class Node { } class Leaf { } owns Node Node;";

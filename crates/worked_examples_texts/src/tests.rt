@@ -1,5 +1,6 @@
 //! Expected texts are worked out by hand from docs/language.md.
 
+mod bindings;
 mod bodies;
 mod normal_forms;
 mod scripts;

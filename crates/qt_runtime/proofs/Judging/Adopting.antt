@@ -11,7 +11,10 @@ use Rattle.machine_state.specs.declared.refusal.Refusal.{Refusal}
 use Rattle.machine_state.specs.declared.world.World.{World}
 use Rattle.machine_state.specs.Accepting.{accepted}
 use Rattle.machine_state.specs.Worlds.{at}
-use Rattle.object_tree.specs.Typed.{AreTyped}
+use Rattle.object_tree.specs.Family.{moved}
+use Rattle.prop_bindings.specs.declared.binding.Binding.{Binding}
+use Rattle.prop_bindings.specs.Fits.{Agree}
+use Rattle.delete_later.proofs.Agreeing.{agree-on, live-moved}
 use Rattle.machine_rules.specs.Judgement.{Numbered, holds, fails, becomes, goes_on, ends}
 use Rattle.qt_runtime.specs.Judgement.{IsNotAccepted}
 use Rattle.qt_runtime.specs.declared.judgement.NotAccepted.{NotAccepted}
@@ -28,8 +31,9 @@ use Rattle.qt_runtime.proofs.Judging.Naming.{living-ok}
 pub no-parent : (p : Loaded) (w : World) (parent child : List ℕ) {n : NotAccepted} → IsNotAccepted (living w.store.tree parent) n → IsNotAccepted (adopt p (at w []) parent child) n
 no-parent p w parent child x = then-ends x
 
-pub typed-adopted : {p : Loaded} {a c : ℕ} {y : Life} {old new : List Object} → AreTyped p old → IsAdopted a c y old new → AreTyped p new
-typed-adopted {p} {a} {c} {old = old} typed is = adopted-by (λ (l : List Object). AreTyped p l) typed (typed-moved p a c old typed) is
+pub agree-adopted : {p : Loaded} {a c : ℕ} {y : Life} {old new : List Object} {bindings : List Binding} → Agree p old bindings → IsAdopted a c y old new → Agree p new bindings
+agree-adopted {p} {a} {c} {old = old} {bindings = bindings} agree is =
+    adopted-by (λ (l : List Object). Agree p l bindings) agree (agree-on p old (moved a c old) (live-moved a c old) bindings (typed-moved p a c old agree.typed) agree) is
 
 module _ (p : Loaded) (w : World) (parent child : List ℕ) (a : Numbered Life) (above : IsLiving w.store.tree parent a) where
   -- .. nor the child's

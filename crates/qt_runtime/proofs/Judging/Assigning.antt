@@ -1,33 +1,36 @@
 -- `set`.
-use Rattle.std.proofs.Common.{ℕ, List, [], Ok, Err, subst}
+use Rattle.std.proofs.Common.{ℕ, List, [], Ok, Err}
 use Rattle.signatures.specs.declared.value.Value.{Value}
 use Rattle.meta_model.specs.declared.object.MetaProperty.{MetaProperty}
 use Rattle.meta_model.specs.Loaded.{Loaded}
 use Rattle.object_tree.specs.declared.life.Life.{Life}
 use Rattle.object_tree.specs.declared.object.Object.{Object}
 use Rattle.object_tree.specs.Typed.{ReadsAs}
+use Rattle.prop_bindings.specs.declared.place.Place.{Place}
+use Rattle.prop_bindings.specs.Fits.{FitsAt}
 use Rattle.script_lang.specs.declared.event.Event.TheVariants.{Set}
 use Rattle.script_lang.specs.declared.event.Input.{Input}
 use Rattle.machine_state.specs.declared.refusal.Refusal.TheVariants.{NoMember, BadArgs}
 use Rattle.machine_state.specs.declared.world.World.{World}
 use Rattle.machine_state.specs.Worlds.{at}
 use Rattle.machine_rules.specs.There.{IsField}
-use Rattle.machine_rules.proofs.Fields.{field-property}
 use Rattle.qt_runtime.specs.declared.judgement.NotAccepted.{NotAccepted}
 use Rattle.machine_rules.specs.Judgement.{Numbered, found, missing, holds, fails, becomes, goes_on, ends}
 use Rattle.qt_runtime.specs.Judgement.{IsNotAccepted}
-use Rattle.qt_runtime.specs.Taking.{WritesTo, ValueFits}
+use Rattle.qt_runtime.specs.Taking.{WritesTo}
 use Rattle.qt_runtime.specs.events.Assign.{assign, IsPropertyOf}
 use Rattle.qt_runtime.specs.events.Named.{IsLiving}
 use Rattle.qt_runtime.specs.events.Values.{value}
 use Rattle.qt_runtime.proofs.Judged.{then-ends, then-on}
 use Rattle.qt_runtime.proofs.Judging.Naming.{living-ok}
 
--- the value is of the type of a property that is found
-pub fits-field : {p : Loaded} {objects : List Object} {o q : ℕ} {v : Value} {x : Object} {property : MetaProperty} → ValueFits p objects o q v → IsField p objects o q x property → ReadsAs p objects v property.kind
-fits-field {p} {objects} {o} {q} {v} {x} {property} fits f =
-    let In : MetaProperty → Type 0 = λ k. ReadsAs p objects v k.kind in
-    subst In (field-property fits.is f) fits.reads
+-- a property that a value fits is there
+pub field-of : {p : Loaded} {objects : List Object} {at : Place} {v : Value} (fits : FitsAt p objects at v) → IsField p objects at.object at.property fits.object fits.property
+field-of fits = record { life = fits.life; lives = fits.lives; class = fits.is_property.class; is_class = fits.is_property.is_class; is_property = fits.is_property.is }
+
+-- .. and a value fits one that is there, if it is of its type
+pub fits-at : {p : Loaded} {objects : List Object} {at : Place} {v : Value} {x : Object} {property : MetaProperty} → IsField p objects at.object at.property x property → ReadsAs p objects v property.kind → FitsAt p objects at v
+fits-at {x = x} {property = property} f reads = record { object = x; life = f.life; lives = f.lives; property = property; is_property = record { class = f.class; is_class = f.is_class; is = f.is_property }; reads = reads }
 
 module _ (p : Loaded) (w : World) (name property : List ℕ) (i : Input) (o : Numbered Life) (lives : IsLiving w.store.tree name o) where
   pub no-property : ((q : Numbered MetaProperty) → ¬ IsPropertyOf p o.it.class property q) → assign p (at w []) name property i (Err NoMember)

@@ -9,7 +9,9 @@ use Rattle.machine_state.specs.declared.world.World.{World}
 use Rattle.machine_state.specs.Accepting.{accepted}
 use Rattle.machine_state.specs.State.{State}
 use Rattle.machine_state.specs.Worlds.{at}
-use Rattle.object_tree.specs.Typed.{AreTyped}
+use Rattle.prop_bindings.specs.declared.binding.Binding.{Binding}
+use Rattle.prop_bindings.specs.Fits.{Agree}
+use Rattle.delete_later.proofs.Agreeing.{agree-on, live-change}
 use Rattle.qt_runtime.specs.declared.judgement.NotAccepted.{NotAccepted}
 use Rattle.machine_rules.specs.Judgement.{Numbered, gives, goes_on, ends}
 use Rattle.qt_runtime.specs.Judgement.{IsNotAccepted, refused, short}
@@ -32,5 +34,6 @@ not-blocking p w name on short = short
 pub blocks : (p : Loaded) (w : World) (name : List ℕ) (on : Bool) (o : Numbered Life) → IsLiving w.store.tree name o → judged p (at w []) (blocking on name) (Ok (record (accepted (at w [])) { objects = change_life o.number (blocked on) w.store.tree }))
 blocks p w name on o lives = judged-blocking p (at w []) name on (goes_on o (living-ok o lives) gives)
 
-pub typed-blocked : {p : Loaded} {objects : List Object} (o : ℕ) (on : Bool) → AreTyped p objects → AreTyped p (change_life o (blocked on) objects)
-typed-blocked {p} {objects} o on typed = typed-change p o (blocked on) objects (λ l. refl) typed
+pub agree-blocked : {p : Loaded} {objects : List Object} {bindings : List Binding} (o : ℕ) (on : Bool) → Agree p objects bindings → Agree p (change_life o (blocked on) objects) bindings
+agree-blocked {p} {objects} {bindings} o on agree =
+    agree-on p objects (change_life o (blocked on) objects) (live-change o (blocked on) objects (λ l. refl)) bindings (typed-change p o (blocked on) objects (λ l. refl) agree.typed) agree

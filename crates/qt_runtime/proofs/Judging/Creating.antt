@@ -17,7 +17,8 @@ use Rattle.machine_state.specs.declared.world.World.{World}
 use Rattle.machine_state.specs.Accepting.{accepted}
 use Rattle.machine_state.specs.State.{State}
 use Rattle.machine_state.specs.Worlds.{at}
-use Rattle.object_tree.specs.Typed.{AreTyped}
+use Rattle.prop_bindings.specs.Fits.{Agree}
+use Rattle.delete_later.proofs.Agreeing.{agree-on, live-created}
 use Rattle.machine_rules.specs.Good.{IsWell}
 use Rattle.machine_rules.proofs.Fields.{class-unique}
 use Rattle.machine_rules.specs.Judgement.{NothingIs, found, missing, holds, fails, gives, goes_on, ends}
@@ -25,7 +26,7 @@ use Rattle.qt_runtime.specs.Runs.{done, by_event}
 use Rattle.qt_runtime.specs.Takes.{accepts}
 use Rattle.qt_runtime.specs.Taking.{Halted, creation_reason}
 use Rattle.qt_runtime.specs.events.Create.{create, IsClassOf, IsHome}
-use Rattle.qt_runtime.proofs.Taken.{idle, Ready, halted-short}
+use Rattle.qt_runtime.proofs.Taken.{idle, Ready, halted-short, leaves-same}
 
 -- the class of a name
 class-of : {p : Loaded} {name : List ℕ} {number : ℕ} {kind : MetaObject} → IsClassNamed p name number → IsClass p number kind → IsClassOf p name (record { number = number; it = kind })
@@ -45,10 +46,11 @@ module _ (p : Loaded) (w : World) (name class : List ℕ) (loop : Option (List �
       let Family : List Object → Type 0 = λ l. create p (at w []) name class loop (Ok (record (accepted (at w [])) { objects = l })) in
       subst Family (sym is.appended) (creates is.may.free is.may.named is.may.is is.may.room)
 
-  pub typed-created : {o : ℕ} {new : List Object} → AreTyped p w.store.tree → IsCreated p w.store.tree name class home o new → AreTyped p new
-  typed-created typed is =
-      let Family : List Object → Type 0 = λ l. AreTyped p l in
-      subst Family (sym is.appended) (typed-made p w.store.tree name is.number home is.kind is.may.is is.may.begins typed)
+  pub agree-created : {o : ℕ} {new : List Object} → Agree p w.store.tree w.store.bindings → IsCreated p w.store.tree name class home o new → Agree p new w.store.bindings
+  agree-created agree is =
+      let Family : List Object → Type 0 = λ l. Agree p l w.store.bindings in
+      subst Family (sym is.appended)
+      (agree-on p w.store.tree _ (live-created w.store.tree (made name home is.number is.kind)) w.store.bindings (typed-made p w.store.tree name is.number home is.kind is.may.is is.may.begins agree.typed) agree)
 
   -- an initial value isn't of its property's type
   halted-ill : {d number : ℕ} {kind : MetaObject} → Ready w → IsFree w.store.tree name → IsClassNamed p class number → IsClass p number kind → length w.store.tree < most_objects → (¬ BeginsWell p w.store.tree number kind) → Halted p d w (New name class loop) w BadType
@@ -57,9 +59,11 @@ module _ (p : Loaded) (w : World) (name class : List ℕ) (loop : Option (List �
       let not_well : IsWell p (at w []) after → ⊥ = λ well.
       ill (typed-fresh p w.store.tree name number home kind is (well.values (length w.store.tree) (made name home number kind) (begun number home (initial_values kind)) (record { is = get-last w.store.tree (made name home number kind); lives = refl }))) in
       record {
+        u = w;
+        leaves = leaves-same w BadType;
         stack = [];
         front = record { taken = []; rest = New name class loop ∷ []; split = refl; runs = done };
-        reason = (some.some, inr (record { t = after; follows = by_event (accepts (idle w some.no_turn) (creates free named is room)); ill = not_well }));
+        reason = (some.some, inr (inr (record { t = after; follows = by_event (accepts (idle w some.no_turn) (creates free named is room)); ill = not_well })));
       }
 
   -- no object is created

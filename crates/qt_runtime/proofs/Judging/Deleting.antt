@@ -5,8 +5,9 @@ use Rattle.delete_later.specs.declared.store.Store.{Store}
 use Rattle.delete_later.specs.Scheduling.{deferred_to, scheduled_in}
 use Rattle.event_loops.specs.Queues.{HasName}
 use Rattle.object_tree.specs.declared.life.Life.{Life}
-use Rattle.object_tree.specs.Objects.{scheduled}
-use Rattle.object_tree.specs.Typed.{AreTyped}
+use Rattle.object_tree.specs.Objects.{change_life, scheduled}
+use Rattle.prop_bindings.specs.Fits.{Agree}
+use Rattle.delete_later.proofs.Agreeing.{agree-on, live-change}
 use Rattle.object_tree.proofs.TypedObjects.{typed-change}
 use Rattle.script_lang.specs.declared.event.Event.TheVariants.{Delete, Later}
 use Rattle.machine_state.specs.declared.entry.Entry.{Entry}
@@ -36,7 +37,7 @@ use Rattle.qt_runtime.proofs.Taken.{idle, Ready, good-pushed, took-run, took-qui
 pub sound-accepted : {p : Loaded} {v : World} (w : World) → IsSoundWorld p w → v ≡ accepting w → IsSoundWorld p v
 sound-accepted {p} w sound v_is =
     let Family : World → Type 0 = λ z. IsSoundWorld p z in
-    subst Family (sym v_is) (record { program = sound.program; is = record { typed = sound.is.typed; joined = sound.is.joined; housed = sound.is.housed; waiting = sound.is.waiting }; numbers = omega (arith, sound.numbers); room = omega (arith, sound.room) })
+    subst Family (sym v_is) (record { program = sound.program; is = record { agree = sound.is.agree; joined = sound.is.joined; housed = sound.is.housed; waiting = sound.is.waiting }; numbers = omega (arith, sound.numbers); room = omega (arith, sound.room) })
 
 module _ (p : Loaded) (w : World) (name : List ℕ) where
   -- the name isn't accepted
@@ -56,13 +57,13 @@ module _ (p : Loaded) (w : World) (name : List ℕ) where
     deletes = goes_on o (living-ok o lives) gives
 
     -- the deletion begins, and is carried to its end, or stops on the way
-    pub deleted : {d : ℕ} {m v : World} {r : Result (Unit {0}) Fault} → AreTyped p w.store.tree → Ready w → 0 < d → m ≡ accepting w → Ends p d [] m (Destroy (Some o.number) [] ∷ []) v [] r →
+    pub deleted : {d : ℕ} {m v : World} {r : Result (Unit {0}) Fault} → Agree p w.store.tree w.store.bindings → Ready w → 0 < d → m ≡ accepting w → Ends p d [] m (Destroy (Some o.number) [] ∷ []) v [] r →
         MatchResult r (λ _. Took p d w (Delete name) v (Ok answer.Done)) (λ f. Halted p d w (Delete name) v f)
-    deleted {m = m} typed some room m_is ends =
+    deleted {m = m} agree some room m_is ends =
         let Effect : World → Type 0 = λ z. judged p (at w []) (Delete name) (Ok (at z deletion)) in
-        let Typed : World → Type 0 = λ z. AreTyped p z.store.tree in
+        let Agrees : World → Type 0 = λ z. Agree p z.store.tree z.store.bindings in
         let effect : judged p (at w []) (Delete name) (Ok (at m deletion)) = subst Effect (sym m_is) deletes in
-        took-run (Delete name) (accepts (idle w some.no_turn) effect) (good-pushed w m (subst Typed (sym m_is) typed) tt (omega (arith, room))) (record { effect = _; why = effect }) some.some
+        took-run (Delete name) (accepts (idle w some.no_turn) effect) (good-pushed w m (subst Agrees (sym m_is) agree) tt (omega (arith, room))) (record { effect = _; why = effect }) some.some
         (ap (λ (z : World). z.left) m_is) (ap (λ (z : World). z.turn) m_is ∙ some.no_turn) ends
 
     -- ---- `later`
@@ -73,8 +74,8 @@ module _ (p : Loaded) (w : World) (name : List ℕ) where
         let Once : Bool → Type 0 = λ b. DefersOnce (accepted (at w [])) [] o.it.home o.number (accepted (at w [])) b in
         goes_on o (living-ok o lives) (becomes (subst Once (sym marked) refl))
 
-    pub later-again : {d : ℕ} {v : World} → o.it.scheduled ≡ true → AreTyped p w.store.tree → Ready w → v ≡ accepting w → Took p d w (Later name) v (Ok answer.Done)
-    later-again marked typed some v_is = took-quiet (accepted (at w [])) (Later name) (again marked) refl typed some some.no_turn v_is
+    pub later-again : {d : ℕ} {v : World} → o.it.scheduled ≡ true → Agree p w.store.tree w.store.bindings → Ready w → v ≡ accepting w → Took p d w (Later name) v (Ok answer.Done)
+    later-again marked agree some v_is = took-quiet (accepted (at w [])) (Later name) (again marked) refl agree some some.no_turn v_is
 
     -- .. or it is scheduled now
     module _ (loop : List ℕ) (is_loop : HasName w.store.loops.loops loop o.it.home) (unmarked : o.it.scheduled ≡ false) where
@@ -93,8 +94,10 @@ module _ (p : Loaded) (w : World) (name : List ℕ) where
           let put : with_scheduled noted o.number ≡ deferred (accepted (at w [])) [] loop o.it.home o.number name = ap (λ (store : Store). with_store noted store) now in
           goes_on o (living-ok o lives) (becomes (subst Once (sym unmarked) (record { loop = loop; is_loop = is_loop; name = name; named = lives.named.named; gives = put })))
 
-      pub later-once : {d : ℕ} {v : World} → AreTyped p w.store.tree → Ready w → v ≡ accepting_schedule w (At 0 (Scheduled loop name) ∷ []) o.number → Took p d w (Later name) v (Ok answer.Done)
-      later-once typed some v_is =
-          let Typed : Store → Type 0 = λ store. AreTyped p store.tree in
-          let typed_after : Typed (scheduled_in o.number (store_of noted)) = subst Typed (sym now) (typed-change p o.number scheduled w.store.tree (λ l. refl) typed) in
-          took-quiet (with_scheduled noted o.number) (Later name) once refl typed_after some some.no_turn v_is
+      pub later-once : {d : ℕ} {v : World} → Agree p w.store.tree w.store.bindings → Ready w → v ≡ accepting_schedule w (At 0 (Scheduled loop name) ∷ []) o.number → Took p d w (Later name) v (Ok answer.Done)
+      later-once agree some v_is =
+          let Agrees : Store → Type 0 = λ store. Agree p store.tree store.bindings in
+          let after : Agree p (change_life o.number scheduled w.store.tree) w.store.bindings =
+          agree-on p w.store.tree (change_life o.number scheduled w.store.tree) (live-change o.number scheduled w.store.tree (λ l. refl)) w.store.bindings (typed-change p o.number scheduled w.store.tree (λ l. refl) agree.typed) agree in
+          let agree_after : Agrees (scheduled_in o.number (store_of noted)) = subst Agrees (sym now) after in
+          took-quiet (with_scheduled noted o.number) (Later name) once refl agree_after some some.no_turn v_is

@@ -10,7 +10,7 @@ use Rattle.machine_state.specs.declared.world.World.{World}
 use Rattle.machine_state.specs.Accepting.{accepted}
 use Rattle.machine_state.specs.State.{State}
 use Rattle.machine_state.specs.Worlds.{at, begun_turn, accepting_turn}
-use Rattle.object_tree.specs.Typed.{AreTyped}
+use Rattle.prop_bindings.specs.Fits.{Agree}
 use Rattle.machine_rules.specs.Reaches.{Ends}
 use Rattle.machine_rules.specs.Judgement.{found, missing, holds, fails, gives, goes_on, ends}
 use Rattle.qt_runtime.specs.Takes.{judged, accepts}
@@ -28,12 +28,12 @@ module _ (p : Loaded) (w : World) (name : List ℕ) where
   no-loop none = ends (missing (λ home is. none (home, is.has)))
 
   -- a turn begins, and is carried to its end, or stops on the way
-  pub turned : {d home : ℕ} {v u : World} {r : Result (Unit {0}) Fault} → IsNamed w.store.loops.loops name home → AreTyped p w.store.tree → Ready w → v ≡ accepting_turn w home → Ends p d [] v [] u [] r → OnOk r (u.turn ≡ None) →
+  pub turned : {d home : ℕ} {v u : World} {r : Result (Unit {0}) Fault} → IsNamed w.store.loops.loops name home → Agree p w.store.tree w.store.bindings → Ready w → v ≡ accepting_turn w home → Ends p d [] v [] u [] r → OnOk r (u.turn ≡ None) →
       MatchResult r (λ _. Took p d w (Turn name) u (Ok answer.Done)) (λ f. Halted p d w (Turn name) u f)
-  turned {home = home} {v = v} is typed some v_is went over =
+  turned {home = home} {v = v} is agree some v_is went over =
       let target : State = begun_turn (accepted (at w [])) home in
       let begins : judged p (at w []) (Turn name) (Ok target) = goes_on home (found is) gives in
       let Effect : World → Type 0 = λ z. judged p (at w []) (Turn name) (Ok (at z [])) in
-      let Typed : World → Type 0 = λ z. AreTyped p z.store.tree in
+      let Agrees : World → Type 0 = λ z. Agree p z.store.tree z.store.bindings in
       let effect : judged p (at w []) (Turn name) (Ok (at v [])) = subst Effect (sym v_is) begins in
-      took-turn (Turn name) (accepts (idle w some.no_turn) effect) (good-quiet w v (subst Typed (sym v_is) typed)) (record { effect = _; why = effect }) some.some (ap (λ (z : World). z.left) v_is) went over
+      took-turn (Turn name) (accepts (idle w some.no_turn) effect) (good-quiet w v (subst Agrees (sym v_is) agree)) (record { effect = _; why = effect }) some.some (ap (λ (z : World). z.left) v_is) went over

@@ -9,7 +9,7 @@ use Rattle.machine_state.specs.declared.refusal.Refusal.{Refusal}
 use Rattle.machine_state.specs.declared.refusal.Refusal.TheVariants.{NoMember, BadArgs}
 use Rattle.machine_state.specs.Accepting.{accepted}
 use Rattle.machine_state.specs.State.{State}
-use Rattle.machine_rules.specs.Rules.{Writes}
+use Rattle.machine_rules.specs.Settling.{Writes}
 use Rattle.machine_rules.specs.Judgement.{Numbered, Find, Check, Becomes, ◌>>=◌}
 use Rattle.qt_runtime.specs.events.Named.{living}
 use Rattle.qt_runtime.specs.events.Values.{value}
@@ -19,7 +19,7 @@ pub record IsPropertyOf (p : Loaded) (class : ℕ) (name : List ℕ) (q : Number
   pub is : IsProperty p class q.number q.it
   pub named : q.it.name ≡ name
 
--- the property is written
+-- the property is written, and all values follow
 abbrev pub assign : Loaded → State → List ℕ → List ℕ → Input → Result State Refusal → Type 0
 assign p s name property i =
     living s.objects name >>= λ o.

@@ -1,5 +1,5 @@
 -- The objects that events name (docs/machine.md, "Events").
-use Rattle.std.specs.Prelude.{◌≡◌, ℕ, List, Result, Some}
+use Rattle.std.specs.Prelude.{◌≡◌, ℕ, List, [], ◌∷◌, Result, Some}
 use Rattle.object_tree.specs.declared.life.Life.{Life}
 use Rattle.object_tree.specs.declared.object.Object.{Object}
 use Rattle.object_tree.specs.Objects.{IsNamed, life_of}
@@ -18,3 +18,9 @@ living objects name =
     Find NoObject (IsNamed objects name) >>= λ o.
     Find Dead (λ l. life_of objects o ≡ Some l) >>= λ l.
     Gives (numbered o l)
+
+-- the living objects of these names, in their order
+abbrev pub all_living : List Object → List (List ℕ) → Result (List ℕ) Refusal → Type 0
+all_living objects [] = Gives []
+all_living objects (name ∷ names) =
+    living objects name >>= λ o. all_living objects names >>= λ os. Gives (o.number ∷ os)

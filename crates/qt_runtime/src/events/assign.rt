@@ -2,19 +2,21 @@
 
 ghost use Rattle.std.specs.Prelude.{◌≡◌, ◌<◌, [], Ok, IfOk, IfErr, MatchOption, None};
 ghost use Rattle.script_lang.specs.declared.event.Event.TheVariants.{Set};
+ghost use Rattle.prop_bindings.specs.Fits.{FitsAt};
 ghost use Rattle.machine_state.specs.Worlds.{at};
 ghost use Rattle.machine_rules.specs.Judgement.{NothingIs, numbered};
 ghost use Rattle.qt_runtime.specs.Judgement.{IsNotAccepted};
-ghost use Rattle.qt_runtime.specs.Taking.{WorldInvariant, Answers, WritesTo, ValueFits};
+ghost use Rattle.qt_runtime.specs.Taking.{WorldInvariant, Answers, WritesTo};
 ghost use Rattle.qt_runtime.specs.events.Assign.{assign, IsPropertyOf};
 ghost use Rattle.script_lang.specs.declared.event.Event.{Event as AnEvent};
 
 use crate::events::named::find_living;
 use crate::events::values::read_input;
 use crate::judgement::{NotAccepted, refuse};
-use machine_rules::{Active, Place, Setting, Writing};
+use machine_rules::{Active, Setting};
 use machine_state::{Answer, Fault, Refusal, World};
 use meta_objects::{Meta, MetaProperty};
+use prop_bindings::Place;
 use script_lang::Input;
 use signatures::{Name, ObjectId, Value};
 
@@ -56,8 +58,7 @@ fn judge(
 ) -> Result<Assignment, NotAccepted>
     ensures accepted { IfOk result (λ a. WritesTo setting.now.meta world.now
         a.place.object a.place.property a.value (Set name.now property.now input.now)) }
-    ensures fits { IfOk result (λ a. ValueFits setting.now.meta world.now.store.tree
-        a.place.object a.place.property a.value) }
+    ensures fits { IfOk result (λ a. FitsAt setting.now.meta world.now.store.tree a.place a.value) }
     ensures refused { IfErr result (IsNotAccepted
         (assign setting.now.meta (at world.now []) name.now property.now input.now)) }
 {
@@ -100,15 +101,12 @@ fn write(setting: &Setting, world: &mut World, place: &Place, value: Value) -> R
     requires left { 0 < world.old.left }
     requires idle { world.old.turn ≡ None }
     requires keeps { WorldInvariant setting.now.meta world.old }
-    requires fits { ValueFits setting.now.meta world.old.store.tree
-        place.now.object place.now.property value }
+    requires fits { FitsAt setting.now.meta world.old.store.tree place.now value }
     ensures { (e : AnEvent) →
         WritesTo setting.now.meta world.old place.now.object place.now.property value e →
         Answers setting.now e world.old world.new result }
 {
-    let below = Active::nothing();
-    let Writing { line, changed } = setting.writing(world, &below, place, &value)?;
-    world.accept_write([line], place.object, place.property, value)?;
-    setting.run_update(world, &below, place, changed)?;
+    let changed = world.accept_write(&setting.meta, place, value)?;
+    setting.run_update(world, &Active::nothing(), changed.as_slice())?;
     Ok(Answer::Done)
 }

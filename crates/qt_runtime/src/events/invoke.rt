@@ -161,7 +161,7 @@ fn begin(setting: &Setting, world: &mut World, call: &MethodCall<'_>) -> Result<
 {
     let below = Active::nothing();
     let (line, begun) = setting.begun(world, &below, call)?;
-    world.accept_with([line])?;
+    world.accept_with(line)?;
     setting.run_begun(world, &below, call, &begun)?;
     Ok(Answer::Done)
 }

@@ -1,14 +1,16 @@
 //! The objects that events name.
 
-ghost use Rattle.std.specs.Prelude.{IfOk, IfErr};
+ghost use Rattle.std.specs.Prelude.{Ok, IfOk, IfErr};
 ghost use Rattle.machine_rules.specs.Judgement.{numbered};
 ghost use Rattle.qt_runtime.specs.Judgement.{IsNotAccepted};
-ghost use Rattle.qt_runtime.specs.events.Named.{living, IsLiving};
+ghost use Rattle.qt_runtime.specs.events.Named.{living, all_living, IsLiving};
 
 use crate::judgement::NotAccepted;
 use machine_state::{Refusal, World};
 use object_tree::Life;
-use signatures::Name;
+use signatures::{Name, ObjectId};
+use sqlite_items::Items;
+use std::alloc::Global;
 
 /// The number of the living object of this name, and its life.
 pub fn find_living<'w>(world: &'w World, name: &Name) -> Result<(usize, &'w Life), NotAccepted>
@@ -22,4 +24,21 @@ pub fn find_living<'w>(world: &'w World, name: &Name) -> Result<(usize, &'w Life
         Some(life) => Ok((number.number(), life)),
         None => Err(NotAccepted::Refused(Refusal::Dead)),
     }
+}
+
+/// The living objects of these names, in their order.
+pub fn find_all_living(
+    alloc: Global,
+    world: &World,
+    names: &[Name],
+) -> Result<Items<ObjectId>, NotAccepted>
+    ensures found { IfOk result (λ objects. all_living world.now.store.tree names.now (Ok objects)) }
+    ensures refused { IfErr result (IsNotAccepted (all_living world.now.store.tree names.now)) }
+{
+    let mut objects = Items::new(alloc);
+    for name in names {
+        let (object, _) = find_living(world, name)?;
+        objects.push(ObjectId::new(object))?;
+    }
+    Ok(objects)
 }

@@ -124,3 +124,54 @@ fn joining_keeps_the_first_255_bytes(rt: HostRuntime) -> Result<(), Fail> {
     let input = joined(alloc, program, script.as_str())?;
     expect(&rt, "run --unchecked 2", input.as_slice(), text.as_str(), 0)
 }
+
+#[test]
+fn many_bindings_are_refused(rt: HostRuntime) -> Result<(), Fail> {
+    for (count, text, status) in [(1000, "", 0), (1001, "refused 7\n", 2)] {
+        let mut input = Vec::from_slice(rt.alloc(), b"class C { property int p; }\n")?;
+        for site in 0..count {
+            let line = format!(in rt.alloc(); "binding b{site} C.p () = {site};\n")?;
+            input.extend_from_slice(line.as_bytes())?;
+        }
+        input.extend_from_slice(b"%%\n")?;
+        expect(&rt, RUN, input.as_slice(), text, status)?;
+    }
+    Ok(())
+}
+
+#[test]
+fn a_long_chain_follows(rt: HostRuntime) -> Result<(), Fail> {
+    let alloc = rt.alloc();
+    let mut script = Vec::from_slice(alloc, b"new n0 N\n")?;
+    let mut text = accepted_lines(alloc, 61)?;
+    let mut followed = Vec::from_slice(alloc, b"event 122\n1 set n0.v 7\n")?;
+    let mut binds = Vec::new(alloc);
+    for number in 0..60 {
+        let next = number + 1;
+        let event = number + 62;
+        let value = number + 8;
+        script.extend_from_slice(format!(in alloc; "new n{next} N\n")?.as_bytes())?;
+        binds.extend_from_slice(format!(in alloc; "bind next n{next} n{number}\n")?.as_bytes())?;
+        text.extend_from_slice(format!(in alloc;
+            "event {event}\n1 bind n{next}.v {next}\n"
+        )?.as_bytes())?;
+        followed.extend_from_slice(format!(in alloc; "1 follow n{next}.v {value}\n")?.as_bytes())?;
+    }
+    script.extend_from_slice(binds.as_slice())?;
+    // The last is bound to the first, which closes the chain.
+    script.extend_from_slice(b"set n0.v 7\nbind next n0 n60\n")?;
+    text.extend_from_slice(followed.as_slice())?;
+    text.extend_from_slice(b"fault 62\n")?;
+    let input = joined(
+        alloc,
+        "class N { property int v; } binding next N.v (N a) = a.v + 1;",
+        str::from_utf8(script.as_slice())?,
+    )?;
+    expect(
+        &rt,
+        RUN,
+        input.as_slice(),
+        str::from_utf8(text.as_slice())?,
+        4,
+    )
+}

@@ -1,5 +1,5 @@
 use Rattle.std.proofs.Common.{◌∙◌, sym}
-use Rattle.class_lang.proofs.Sequences.{class_declaration, wire_declaration, owns_declaration}
+use Rattle.class_lang.proofs.Sequences.{class_declaration, wire_declaration, owns_declaration, site_declaration}
 use Rattle.class_lang.proofs.declarations.next_declaration.Goals as goal
 
 pub returns-in_ok-class-clause-reads : goal.returns-in_ok-class-clause-reads
@@ -10,3 +10,6 @@ returns-in_ok-wire-clause-reads c = wire_declaration (sym c.if-eat_word.ensures.
 
 pub returns-in_ok-owns-clause-reads : goal.returns-in_ok-owns-clause-reads
 returns-in_ok-owns-clause-reads c = owns_declaration (sym c.if-eat_word.ensures.found.0 ∙ (sym c.if-eat_word-2.ensures.found.0 ∙ c.if-eat_word-3.ensures.found)) c.in_ok-owns.ensures.reads
+
+pub returns-in_ok-site-clause-reads : goal.returns-in_ok-site-clause-reads
+returns-in_ok-site-clause-reads c = site_declaration (sym c.if-eat_word.ensures.found.0 ∙ (sym c.if-eat_word-2.ensures.found.0 ∙ (sym c.if-eat_word-3.ensures.found.0 ∙ c.if-eat_word-4.ensures.found))) c.in_ok-site.ensures.reads

@@ -27,6 +27,9 @@ returns-in-Emit c = rw c.in-Emit.is c.emit.ensures
 pub returns-in-Call : goal.returns-in-Call
 returns-in-Call c = rw c.in-Call.is c.call.ensures
 
+pub returns-in-Bind : goal.returns-in-Bind
+returns-in-Bind c = rw c.in-Bind.is c.bind.ensures
+
 pub returns-in-Block : goal.returns-in-Block
 returns-in-Block c = rw c.in-Block.is c.block.ensures
 

@@ -1,15 +1,19 @@
-use Rattle.std.proofs.Common.{◌∙◌, ℕ, List, [], length, refl, sym, ap, subst, arith, Option, Some}
+use Rattle.std.proofs.Common.{◌≡◌, ◌∙◌, ℕ, false, List, [], length, refl, sym, ap, subst, arith, Option, Some}
 use Rattle.signatures.specs.declared.value.Value.{Value}
 use Rattle.machine_state.specs.declared.world.World.{World}
-use Rattle.machine_rules.proofs.Reaching.{not-idle, reaches-same, reaches-then, stops-after, stops-as, ends-after, ends-lifted, ends-left, ends-undue, ends-short, ends-unchanged, ends-faulted, ends-ticked}
+use Rattle.machine_rules.proofs.Reaching.{not-idle, reaches-same, reaches-then, stops-after, stops-as, ends-after, ends-lifted, ends-left, ends-undue, ends-short, ends-unchanged, ends-lost, ends-faulted, ends-ticked, ok-err, ok-map}
+use Rattle.machine_state.specs.Connections.{is_living}
 use Rattle.machine_rules.specs.Good.{ArgumentsFit}
-use Rattle.machine_rules.proofs.Keeps.{keeps-same, keeps-then, ends-keeps, reaches-typed, reaches-keeps}
+use Rattle.machine_rules.specs.Keeps.{KeepsWorld}
+use Rattle.machine_rules.specs.Sound.{IsSoundWorld}
+use Rattle.machine_rules.proofs.Keeps.{keeps-same, keeps-then, reaches-keeps}
 use Rattle.machine_rules.proofs.Declared.{fit-sends}
-use Rattle.machine_rules.proofs.Soundness.{emitted-still, ends-sound, reaches-sound, sound-used, sound-noted, sound-set, sound-as}
+use Rattle.machine_rules.proofs.Soundness.{emitted-still, reaches-sound, sound-used, sound-noted, sound-set}
 use Rattle.machine_rules.proofs.Beginning.{ends-begun, stops-barred, stops-no-member, stops-ill-typed, fit-of, next-delivered, delivered-fits, delivery-calls, begun-used, ends-posted, no-home, not-true}
-use Rattle.machine_rules.proofs.Writes.{ends-written, stops-unwritten, announces-written, announces-as, announced-member, announced-value, announced-fits, announcement-calls}
+use Rattle.machine_rules.proofs.Writes.{ends-written, stops-unwritten, may-fits}
+use Rattle.machine_rules.proofs.Notifying.{no-places, all-notified, all-may-still, announces-signal, dead-rule, announced-member, announced-value, announced-fits, announcement-calls}
 use Rattle.machine_rules.proofs.Bodies.{does-call, does-call-alone, does-set, does-nothing, does-connect, does-disconnect, does-delete, does-schedule, does-choose, lacks-read, advances-one, advances-ticked, advances-left}
-use Rattle.machine_rules.proofs.Deleting.{ends-deleting, stops-deleting, reaches-died, stops-in-use, stops-announcing, living-name, on-ok, died-as, died-emits, died-gone, dead-after, kills-first, kills-next, reaches-latest, reaches-next, stops-forgetting, forgets-fewer, nonempty, none-left}
+use Rattle.machine_rules.proofs.Deleting.{ends-deleting, stops-deleting, reaches-died, stops-in-use, stops-announcing, living-name, died-as, died-emits, died-gone, dead-after, kills-first, kills-next, reaches-latest, reaches-next, stops-forgetting, forgets-fewer, nonempty, none-left}
 use Rattle.machine_rules.proofs.Dying.{copied-living}
 use Rattle.machine_rules.proofs.setting.Setting.+machine.Goals as goal
 
@@ -30,8 +34,8 @@ run_emission-deliver-requires t c =
 pub run_emission-loop-connection-preserved : goal.run_emission-loop-connection-preserved
 run_emission-loop-connection-preserved t c =
     let went = c.in_ok-deliver.ensures.ends _ _ _ _ (sym c.in-Some.ensures.value) in
-    let keeps = keeps-then c.loop-connection.invariant.keeps (ends-keeps _ went) in
-    record { reaches = reaches-then c.loop-connection.invariant.reaches went.cases; keeps = keeps; fewer = keeps.fewer; sound = ends-sound (emitted-still c.loop-connection.invariant.keeps c.requires.emitted, tt) c.loop-connection.invariant.sound _ went }
+    let keeps = keeps-then c.loop-connection.invariant.keeps (reaches-keeps went.cases) in
+    record { reaches = reaches-then c.loop-connection.invariant.reaches went.cases; keeps = keeps; fewer = keeps.fewer; sound = reaches-sound (emitted-still c.loop-connection.invariant.keeps c.requires.emitted, tt) c.loop-connection.invariant.sound went.cases }
 
 pub run_emission-returns-in_err-deliver-clause-ends : goal.run_emission-returns-in_err-deliver-clause-ends
 run_emission-returns-in_err-deliver-clause-ends t c =
@@ -39,16 +43,16 @@ run_emission-returns-in_err-deliver-clause-ends t c =
 
 pub run_emission-returns-in_err-deliver-clause-keeps : goal.run_emission-returns-in_err-deliver-clause-keeps
 run_emission-returns-in_err-deliver-clause-keeps t c =
-    keeps-then c.loop-connection.invariant.keeps (ends-keeps _ (c.in_err-deliver.ensures.ends _ _ _ _ (sym c.in-Some.ensures.value)))
+    ok-err (KeepsWorld c.args.self.now.meta c.args.world.now c.deliver.new.world) c.from_residual.result (c.in_err-deliver.ensures.ends _ _ _ _ (sym c.in-Some.ensures.value)).cases c.from_residual.ensures.1
 
 pub run_emission-returns-in_err-deliver-clause-sound : goal.run_emission-returns-in_err-deliver-clause-sound
 run_emission-returns-in_err-deliver-clause-sound t c =
-    ends-sound (emitted-still c.loop-connection.invariant.keeps c.requires.emitted, tt) c.loop-connection.invariant.sound _ (c.in_err-deliver.ensures.ends _ _ _ _ (sym c.in-Some.ensures.value))
+    ok-err (IsSoundWorld c.args.self.now.meta c.deliver.new.world) c.from_residual.result (c.in_err-deliver.ensures.ends _ _ _ _ (sym c.in-Some.ensures.value)).cases c.from_residual.ensures.1
 
 pub run_emission-returns-clause-ends : goal.run_emission-returns-clause-ends
 run_emission-returns-clause-ends t c =
     let none = sym c.next_used.ensures.value ∙ c.in_default.is in
-    ends-after c.loop-connection.invariant.reaches (ends-ticked {b = []} _ (λ below e. rw none refl) (omega arith) c.requires.room c.loop-connection.invariant.sound.is.typed c.tick.ensures)
+    ends-after c.loop-connection.invariant.reaches (ends-ticked {b = []} _ (λ below e. rw none refl) (omega arith) c.requires.room c.loop-connection.invariant.sound.is.agree c.tick.ensures)
 
 pub deliver-returns-in_err-require_rule : goal.deliver-returns-in_err-require_rule
 deliver-returns-in_err-require_rule t c = record { ends = λ o g used last found. ends-undue _ c.in_err-require_rule.ensures c.from_residual.ensures.1 }
@@ -75,12 +79,12 @@ deliver-returns-else-reaches_at_once t c =
     let later = rw c.running.ensures at c.reaches_at_once.ensures in
     record {
       ends = λ o g used last found.
-          ends-posted o g used last _ _ found c.in-Some.ensures c.front-taken.ensures c.len.ensures (sym c.in-Some-home.ensures) (sym later ∙ c.if-reaches_at_once.false) c.requires.room c.requires.sound.is.typed c.in_ok-require_rule.ensures (omega (arith, c.count.ensures)) c.post.ensures;
+          ends-posted o g used last _ _ found c.in-Some.ensures c.front-taken.ensures c.len.ensures (sym c.in-Some-home.ensures) (sym later ∙ c.if-reaches_at_once.false) c.requires.room c.requires.sound.is.agree c.in_ok-require_rule.ensures (omega (arith, c.count.ensures)) c.post.ensures;
     }
 
 pub begin_used-returns-in_err-line : goal.begin_used-returns-in_err-line
 begin_used-returns-in_err-line t c = record {
-  ends = λ from to shown over calls. ends-left _ (stops-barred over calls c.requires.fit c.requires.sound.is.typed c.requires.left c.in_err-line.ensures.err) c.from_residual.ensures.1;
+  ends = λ from to shown over calls. ends-left _ (stops-barred over calls c.requires.fit c.requires.sound.is.agree c.requires.left c.in_err-line.ensures.err) c.from_residual.ensures.1;
 }
 
 pub begin_used-returns-in_err-use_connection : goal.begin_used-returns-in_err-use_connection
@@ -95,7 +99,7 @@ begin_used-run_begun-requires t c =
 pub begin_used-returns : goal.begin_used-returns
 begin_used-returns t c = record {
   ends = λ from to shown over calls.
-      ends-begun over calls (begun-used c.args.connection.now c.in_ok-line.ensures.ok) c.requires.fit c.requires.sound.is.typed c.requires.left refl c.in_ok-use_connection.ensures c.run_begun.ensures.ends;
+      ends-begun over calls (begun-used c.args.connection.now c.in_ok-line.ensures.ok) c.requires.fit c.requires.sound.is.agree c.requires.left refl c.in_ok-use_connection.ensures c.run_begun.ensures.ends;
 }
 
 -- ---- the beginning of methods
@@ -119,7 +123,7 @@ begin_typed-returns t c = record { ends = λ from to shown over calls only. c.be
 
 pub begin-returns-in_err-line : goal.begin-returns-in_err-line
 begin-returns-in_err-line t c = record {
-  ends = λ from to shown over calls. ends-left _ (stops-barred over calls c.requires.fit c.requires.sound.is.typed c.requires.left c.in_err-line.ensures.err) c.from_residual.ensures.1;
+  ends = λ from to shown over calls. ends-left _ (stops-barred over calls c.requires.fit c.requires.sound.is.agree c.requires.left c.in_err-line.ensures.err) c.from_residual.ensures.1;
 }
 
 pub begin-returns-in_err-note : goal.begin-returns-in_err-note
@@ -134,7 +138,7 @@ begin-run_begun-requires t c =
 pub begin-returns : goal.begin-returns
 begin-returns t c = record {
   ends = λ from to shown over calls.
-      ends-begun over calls c.in_ok-line.ensures.ok c.requires.fit c.requires.sound.is.typed c.requires.left refl c.in_ok-note.ensures c.run_begun.ensures.ends;
+      ends-begun over calls c.in_ok-line.ensures.ok c.requires.fit c.requires.sound.is.agree c.requires.left refl c.in_ok-note.ensures c.run_begun.ensures.ends;
 }
 
 -- ---- bodies
@@ -175,7 +179,7 @@ run_body-loop-statement-smaller t c =
 pub run_body-returns : goal.run_body-returns
 run_body-returns t c =
     let came = rw c.in_default.ensures.0 at c.loop-statement.invariant.reaches in
-    record { ends = ends-after came (ends-ticked {b = []} _ (λ below e. refl) (omega arith) c.requires.room c.loop-statement.invariant.sound.is.typed c.tick.ensures) }
+    record { ends = ends-after came (ends-ticked {b = []} _ (λ below e. refl) (omega arith) c.requires.room c.loop-statement.invariant.sound.is.agree c.tick.ensures) }
 
 pub carry_out-returns-in-Write : goal.carry_out-returns-in-Write
 carry_out-returns-in-Write t c = record { advances = λ m arguments x is. advances-one _ (c.write.ensures.ends _ _ _ c.over-over.ensures (does-set m c.args.left.now (rw c.in-Write.is at is))) }
@@ -193,14 +197,14 @@ carry_out-returns-in_err-put-in-Choose t c = record { advances = λ m arguments 
 pub carry_out-returns-in_ok-put-in-Choose : goal.carry_out-returns-in_ok-put-in-Choose
 carry_out-returns-in_ok-put-in-Choose t c = record {
   advances = λ m arguments x is.
-      rw c.in_ok-put-in-Choose.ensures.ok (advances-ticked _ c.tick.ensures (does-choose m c.args.left.now _ _ (rw c.in-Choose.is at is) c.requires.room c.requires.sound.is.typed c.tick.ensures));
+      rw c.in_ok-put-in-Choose.ensures.ok (advances-ticked _ c.tick.ensures (does-choose m c.args.left.now _ _ (rw c.in-Choose.is at is) c.requires.room c.requires.sound.is.agree c.tick.ensures));
 }
 
 pub carry_out-returns-in-Nothing : goal.carry_out-returns-in-Nothing
 carry_out-returns-in-Nothing t c = record {
   advances = λ m arguments x is.
       let higher = ap (λ (l : List (Option ℕ)). length l) c.over-over.ensures in
-      advances-one _ (does-nothing m c.args.left.now _ _ (rw c.in-Nothing.is at is) c.requires.room c.requires.sound.is.typed c.requires.due (omega (arith, c.count-in-Nothing.ensures, higher)) c.note.ensures);
+      advances-one _ (does-nothing m c.args.left.now _ _ (rw c.in-Nothing.is at is) c.requires.room c.requires.sound.is.agree c.requires.due (omega (arith, c.count-in-Nothing.ensures, higher)) c.note.ensures);
 }
 
 pub carry_out-connect-requires : goal.carry_out-connect-requires
@@ -210,77 +214,130 @@ pub carry_out-returns-in-Connect : goal.carry_out-returns-in-Connect
 carry_out-returns-in-Connect t c = record {
   advances = λ m arguments x is.
       let higher = ap (λ (l : List (Option ℕ)). length l) c.over-over.ensures in
-      advances-one _ (does-connect m c.args.left.now _ _ _ _ (rw c.in-Connect.is at is) c.requires.room c.requires.sound.is.typed c.requires.due (omega (arith, c.count.ensures, higher)) c.connect.ensures);
+      advances-one _ (does-connect m c.args.left.now _ _ _ _ (rw c.in-Connect.is at is) c.requires.room c.requires.sound.is.agree c.requires.due (omega (arith, c.count.ensures, higher)) c.connect.ensures);
 }
 
 pub carry_out-returns-in-Disconnect : goal.carry_out-returns-in-Disconnect
 carry_out-returns-in-Disconnect t c = record {
   advances = λ m arguments x is.
       let higher = ap (λ (l : List (Option ℕ)). length l) c.over-over.ensures in
-      advances-one _ (does-disconnect m c.args.left.now _ _ _ (rw c.in-Disconnect.is at is) c.requires.room c.requires.sound.is.typed c.requires.due (omega (arith, c.count-in-Disconnect.ensures, higher)) c.disconnect.ensures);
+      advances-one _ (does-disconnect m c.args.left.now _ _ _ (rw c.in-Disconnect.is at is) c.requires.room c.requires.sound.is.agree c.requires.due (omega (arith, c.count-in-Disconnect.ensures, higher)) c.disconnect.ensures);
 }
 
 -- ---- writes
 
-pub write-returns-in_err-line : goal.write-returns-in_err-line
-write-returns-in_err-line t c = record {
-  ends = λ from to shown over sets. ends-left _ (stops-unwritten over sets c.requires.sound.is.typed c.requires.left c.in_err-line.ensures.err) c.from_residual.ensures.1;
+pub write-returns-in_err-may_write : goal.write-returns-in_err-may_write
+write-returns-in_err-may_write t c = record {
+  ends = λ from to shown over sets. ends-left _ (stops-unwritten over sets c.requires.left c.in_err-may_write.ensures.err) c.from_residual.ensures.1;
 }
 
-pub write-returns-in_err-write : goal.write-returns-in_err-write
-write-returns-in_err-write t c = record { ends = λ from to shown over sets. ends-unchanged _ sets.goes_on c.requires.left c.in_err-write.ensures c.from_residual-in_err-write.ensures.1 }
+pub write-write-requires-clause-fits : goal.write-write-requires-clause-fits
+write-write-requires-clause-fits t c = may-fits c.in_ok-may_write.ensures.ok
+
+pub write-returns-in_err-changed : goal.write-returns-in_err-changed
+write-returns-in_err-changed t c = record { ends = λ from to shown over sets. ends-lost _ sets.goes_on c.requires.left c.in_err-changed.ensures.value c.from_residual-in_err-changed.ensures.1 }
 
 pub write-run_update-requires : goal.write-run_update-requires
-write-run_update-requires t c = let is = c.in_ok-line.ensures.ok in
-    let went = c.in_ok-write.ensures in
-    (omega (arith, ap (λ (w : World). w.left) went, c.requires.left), (is.room, (sound-as went (sound-set c.args.world.now _ c.args.value is.alters.is is.fits c.requires.sound), announces-as _ _ _ _ went (announces-written c.args.value _ is.alters c.requires.sound.is.typed))))
+write-run_update-requires t c =
+    let went = c.in_ok-changed.ensures.value in
+    (omega (arith, ap (λ (w : World). w.left) went.gives, c.requires.left), (c.in_ok-may_write.ensures.ok.room, sound-set c.args.world.now went c.in_ok-changed.ensures.agree c.requires.sound))
 
 pub write-returns : goal.write-returns
 write-returns t c = record {
-  ends = λ from to shown over sets. ends-written over sets c.requires.sound.is.typed c.requires.left c.in_ok-line.ensures.ok c.in_ok-write.ensures c.run_update.ensures.ends;
+  ends = λ from to shown over sets.
+      let went = rw c.count.ensures at c.in_ok-changed.ensures.value in
+      ends-written over sets c.requires.left c.in_ok-may_write.ensures.ok went c.in_ok-changed.ensures.agree (rw c.as_slice.ensures at c.run_update.ensures.ends);
 }
 
-pub run_update-returns-in-None : goal.run_update-returns-in-None
-run_update-returns-in-None t c = record { ends = rw c.in-None.is (ends-ticked {b = []} _ (λ below e. refl) (omega arith) c.requires.room c.requires.sound.is.typed c.tick-in-None.ensures) }
+-- ---- updates
 
-pub run_update-returns-in_ok-notify-in-Some : goal.run_update-returns-in_ok-notify-in-Some
-run_update-returns-in_ok-notify-in-Some t c = let went = c.in_ok-notify-in-Some.ensures.ends.cases in
-    record { ends = rw c.in-Some.is (ends-after went (ends-ticked {b = []} _ (λ below e. refl) (omega arith) c.requires.room (reaches-typed went c.requires.sound.is.typed) c.tick.ensures)) }
+pub run_update-returns-in_err-require_rule : goal.run_update-returns-in_err-require_rule
+run_update-returns-in_err-require_rule t c = record { ends = ends-undue _ c.in_err-require_rule.ensures c.from_residual.ensures.1 }
 
-pub notify-returns-in_err-require_rule : goal.notify-returns-in_err-require_rule
-notify-returns-in_err-require_rule t c = record { ends = ends-undue _ c.in_err-require_rule.ensures c.from_residual.ensures.1 }
+pub run_update-returns-in_err-places : goal.run_update-returns-in_err-places
+run_update-returns-in_err-places t c = record { ends = ends-short _ (not-idle c.args.world.now _) c.in_ok-require_rule.ensures c.from_residual-in_err-places.ensures.1 }
 
-pub notify-unreachable-requires : goal.notify-unreachable-requires
-notify-unreachable-requires t c = c.in_default.ensures _ _ (announced-member c.requires.announces)
+pub run_update-loop-place-init : goal.run_update-loop-place-init
+run_update-loop-place-init t c =
+    let places = c.as_slice-left.ensures.value ∙ c.in_ok-places.ensures in
+    record { reaches = rw places reaches-same; fewer = omega arith; sound = c.requires.sound; may = rw places (all-notified c.args.self.now.meta c.args.world.now.store.tree c.args.changed.now c.requires.sound.program) }
 
-pub notify-unreachable-requires-in_default-stored : goal.notify-unreachable-requires-in_default-stored
-notify-unreachable-requires-in_default-stored t c = let there = announced-value c.requires.announces c.requires.sound.is.typed in
-    let none = c.in_default-stored.ensures ∙ there.1 in
+pub run_update-notify-requires : goal.run_update-notify-requires
+run_update-notify-requires t c =
+    let may = rw c.in-Some.ensures.cases.0 at c.loop-place.invariant.may in
+    (omega (arith, c.loop-place.invariant.fewer), (c.requires.room, (c.loop-place.invariant.sound, may.0)))
+
+pub run_update-returns-in_err-notify : goal.run_update-returns-in_err-notify
+run_update-returns-in_err-notify t c =
+    let came = rw c.in-Some.ensures.cases.0 at c.loop-place.invariant.reaches in
+    record { ends = ends-left _ (stops-after came (c.in_err-notify.ensures.ends c.in-Some.rest.now).cases) c.from_residual-in_err-notify.ensures.1 }
+
+pub run_update-loop-place-preserved : goal.run_update-loop-place-preserved
+run_update-loop-place-preserved t c =
+    let came = rw c.in-Some.ensures.cases.0 at c.loop-place.invariant.reaches in
+    let may = rw c.in-Some.ensures.cases.0 at c.loop-place.invariant.may in
+    let one = (c.in_ok-notify.ensures.ends c.in-Some.rest.now).cases in
+    let went = reaches-then came one in
+    record {
+      reaches = went;
+      fewer = (reaches-keeps went).fewer;
+      sound = reaches-sound (tt, tt) c.loop-place.invariant.sound one;
+      may = all-may-still c.args.self.now.meta c.loop-place.world.store.tree c.notify.new.world.store.tree c.in-Some.rest.now (reaches-keeps one).objects may.1;
+    }
+
+pub run_update-returns : goal.run_update-returns
+run_update-returns t c =
+    let came = rw (no-places _ c.in_default.ensures.cases) at c.loop-place.invariant.reaches in
+    record { ends = ends-after came (ends-ticked {b = []} _ (λ below e. refl) (omega arith) c.requires.room c.loop-place.invariant.sound.is.agree c.tick.ensures) }
+
+pub notify-emit_change-requires : goal.notify-emit_change-requires
+notify-emit_change-requires t c = (omega arith, (c.requires.room, (c.requires.sound, announces-signal c.requires.sound.program c.signal_at.ensures c.in-Some.is)))
+
+pub notify-returns-in-Some : goal.notify-returns-in-Some
+notify-returns-in-Some t c = record { ends = c.emit_change.ensures.ends }
+
+pub notify-returns-in-None : goal.notify-returns-in-None
+notify-returns-in-None t c = record {
+  ends = λ rest. ends-ticked _ (λ below e. dead-rule c.args.world.now c.args.place.now rest below c.requires.notifies c.signal_at.ensures c.in-None.is) (omega arith) c.requires.room c.requires.sound.is.agree c.tick.ensures;
+}
+
+pub emit_change-returns-in_err-require_rule : goal.emit_change-returns-in_err-require_rule
+emit_change-returns-in_err-require_rule t c = record { ends = λ rest. ends-undue _ c.in_err-require_rule.ensures c.from_residual.ensures.1 }
+
+pub emit_change-unreachable-requires : goal.emit_change-unreachable-requires
+emit_change-unreachable-requires t c = c.in_default.ensures _ _ (announced-member c.requires.announces)
+
+pub emit_change-unreachable-requires-in_default-value : goal.emit_change-unreachable-requires-in_default-value
+emit_change-unreachable-requires-in_default-value t c =
+    let there = announced-value c.requires.announces c.requires.sound.is.agree.typed in
+    let none = c.in_default-value.ensures ∙ there.1 in
     absurd (cc none)
 
-pub notify-returns-in_err-copy : goal.notify-returns-in_err-copy
-notify-returns-in_err-copy t c = record { ends = ends-short _ (not-idle c.args.world.now _) c.in_ok-require_rule.ensures c.from_residual-in_err-copy.ensures.1 }
+pub emit_change-returns-in_err-copy : goal.emit_change-returns-in_err-copy
+emit_change-returns-in_err-copy t c = record { ends = λ rest. ends-short _ (not-idle c.args.world.now _) c.in_ok-require_rule.ensures c.from_residual-in_err-copy.ensures.1 }
 
-pub notify-begin-requires : goal.notify-begin-requires
-notify-begin-requires t c = let present = sym c.in-Some-stored.ensures ∙ ap (λ (v : Value). Some v) (sym c.in_ok-copy.ensures) in
+pub emit_change-begin-requires : goal.emit_change-begin-requires
+emit_change-begin-requires t c =
+    let present = sym c.in-Some-value.ensures ∙ ap (λ (v : Value). Some v) (sym c.in_ok-copy.ensures) in
     let cut = rw c.as_slice.ensures at c.front-taken.ensures in
-    (omega arith, (c.requires.sound, (c.in_ok-require_rule.ensures, announced-fits c.requires.announces c.requires.sound.is.typed c.in-Some.ensures present cut c.len.ensures)))
+    (omega arith, (c.requires.sound, (c.in_ok-require_rule.ensures, announced-fits c.requires.announces c.requires.sound.is.agree.typed c.in-Some.ensures present cut c.len.ensures)))
 
-pub notify-returns : goal.notify-returns
-notify-returns t c = let present = sym c.in-Some-stored.ensures ∙ ap (λ (v : Value). Some v) (sym c.in_ok-copy.ensures) in
+pub emit_change-returns : goal.emit_change-returns
+emit_change-returns t c =
+    let present = sym c.in-Some-value.ensures ∙ ap (λ (v : Value). Some v) (sym c.in_ok-copy.ensures) in
     let cut = rw c.as_slice.ensures at c.front-taken.ensures in
-    record { ends = c.begin.ensures.ends _ _ _ c.over-over.ensures (announcement-calls c.requires.announces c.in-Some.ensures present cut c.len.ensures) }
+    record { ends = λ rest. c.begin.ensures.ends _ _ _ c.over-over.ensures (announcement-calls rest c.requires.announces c.in-Some.ensures present cut c.len.ensures) }
 
 -- ---- deletions
 
 pub delete-returns-in_err-may_nest : goal.delete-returns-in_err-may_nest
 delete-returns-in_err-may_nest t c = record {
-  ends = λ from to shown over deletes. ends-left _ (stops-as c.in_err-may_nest.ensures.1 (stops-deleting over deletes c.requires.sound.is.typed c.requires.left c.in_err-may_nest.ensures.0)) c.from_residual.ensures.1;
+  ends = λ from to shown over deletes. ends-left _ (stops-as c.in_err-may_nest.ensures.1 (stops-deleting over deletes c.requires.sound.is.agree c.requires.left c.in_err-may_nest.ensures.0)) c.from_residual.ensures.1;
 }
 
 pub delete-returns : goal.delete-returns
 delete-returns t c = record {
-  ends = λ from to shown over deletes. ends-deleting over deletes c.in_ok-may_nest.ensures c.requires.sound.is.typed c.in_ok-tick.ensures c.run_deletion.ensures.ends;
+  ends = λ from to shown over deletes. ends-deleting over deletes c.in_ok-may_nest.ensures c.requires.sound.is.agree c.in_ok-tick.ensures c.run_deletion.ensures.ends;
 }
 
 pub run_begun-run_emission-requires : goal.run_begun-run_emission-requires
@@ -293,7 +350,7 @@ pub carry_out-returns-in-Schedule : goal.carry_out-returns-in-Schedule
 carry_out-returns-in-Schedule t c = record {
   advances = λ m arguments x is.
       let higher = ap (λ (l : List (Option ℕ)). length l) c.over-over.ensures in
-      advances-one _ (does-schedule m c.args.left.now _ _ _ (rw c.in-Schedule.is at is) c.requires.room c.requires.sound.is.typed c.requires.due (omega (arith, c.count-in-Schedule.ensures, higher)) c.schedule.ensures);
+      advances-one _ (does-schedule m c.args.left.now _ _ _ (rw c.in-Schedule.is at is) c.requires.room c.requires.sound.is.agree c.requires.due (omega (arith, c.count-in-Schedule.ensures, higher)) c.schedule.ensures);
 }
 
 pub announce-returns-in_err-require_rule-clause-ends : goal.announce-returns-in_err-require_rule-clause-ends
@@ -302,13 +359,13 @@ announce-returns-in_err-require_rule-clause-ends t c = λ next before torn kills
 pub announce-returns-then-has_body-clause-ends : goal.announce-returns-then-has_body-clause-ends
 announce-returns-then-has_body-clause-ends t c = λ next before torn kills.
     let named = living-name c.args.world.now.store.tree c.args.object c.requires.lives in
-    record { cases = stops-in-use kills named.1 c.requires.sound.is.typed c.in_ok-require_rule.ensures c.requires.lives (sym c.has_body.ensures ∙ c.if-has_body.true) }
+    record { cases = stops-in-use kills named.1 c.requires.sound.is.agree c.in_ok-require_rule.ensures c.requires.lives (sym c.has_body.ensures ∙ c.if-has_body.true) }
 
 pub announce-returns-in_err-may_nest-clause-ends : goal.announce-returns-in_err-may_nest-clause-ends
 announce-returns-in_err-may_nest-clause-ends t c = λ next before torn kills.
     let named = living-name c.args.world.now.store.tree c.args.object c.requires.lives in
     let higher = ap (λ (l : List (Option ℕ)). length l) c.over-over.ensures in
-    ends-left _ (stops-as c.in_err-may_nest.ensures.1 (stops-announcing kills named.1 c.requires.sound.is.typed c.in_ok-require_rule.ensures (sym c.has_body.ensures ∙ c.if-has_body.false) (omega (arith, c.in_err-may_nest.ensures.0, higher)))) c.from_residual-in_err-may_nest.ensures.1
+    ends-left _ (stops-as c.in_err-may_nest.ensures.1 (stops-announcing kills named.1 c.requires.sound.is.agree c.in_ok-require_rule.ensures (sym c.has_body.ensures ∙ c.if-has_body.false) (omega (arith, c.in_err-may_nest.ensures.0, higher)))) c.from_residual-in_err-may_nest.ensures.1
 
 pub announce-returns-in_err-copy-clause-ends : goal.announce-returns-in_err-copy-clause-ends
 announce-returns-in_err-copy-clause-ends t c = λ next before torn kills. ends-short _ (not-idle c.args.world.now _) c.in_ok-require_rule.ensures c.from_residual-in_err-copy.ensures.1
@@ -325,7 +382,7 @@ announce-run_emission-requires t c =
     let named = sym c.in-Some.ensures in
     let came = died-as c.args.world.now c.args.object c.in_ok-mark_dead.ensures c.in_ok-copy.ensures c.in_ok-emitted.ensures c.count.ensures c.count-2.ensures in
     let higher = ap (λ (l : List (Option ℕ)). length l) c.over-over.ensures in
-    let went = reaches-died {d = c.args.self.now.depth} {active = c.args.active.now} {torn = []} (kills-first w c.args.object [] c.requires.lives) named c.requires.sound.is.typed c.in_ok-require_rule.ensures (sym c.has_body.ensures ∙ c.if-has_body.false) (omega (arith, c.in_ok-may_nest.ensures, higher)) (omega (arith, higher)) c.last-last.ensures came in
+    let went = reaches-died {d = c.args.self.now.depth} {active = c.args.active.now} {torn = []} (kills-first w c.args.object [] c.requires.lives) named c.requires.sound.is.agree c.in_ok-require_rule.ensures (sym c.has_body.ensures ∙ c.if-has_body.false) (omega (arith, c.in_ok-may_nest.ensures, higher)) (omega (arith, higher)) c.last-last.ensures came in
     (omega (arith, ap (λ (u : World). u.left) c.in_ok-mark_dead.ensures, c.in_ok-require_rule.ensures), (c.in_ok-may_nest.ensures, (reaches-sound (tt, tt) c.requires.sound went, died-emits w _ c.args.object c.requires.sound.program named came)))
 
 pub announce-returns-clause-ends : goal.announce-returns-clause-ends
@@ -333,14 +390,14 @@ announce-returns-clause-ends t c = λ next before torn kills.
     let named = sym c.in-Some.ensures in
     let came = died-as c.args.world.now c.args.object c.in_ok-mark_dead.ensures c.in_ok-copy.ensures c.in_ok-emitted.ensures c.count.ensures c.count-2.ensures in
     let higher = ap (λ (l : List (Option ℕ)). length l) c.over-over.ensures in
-    let went = reaches-died kills named c.requires.sound.is.typed c.in_ok-require_rule.ensures (sym c.has_body.ensures ∙ c.if-has_body.false) (omega (arith, c.in_ok-may_nest.ensures, higher)) (omega (arith, higher)) c.last-last.ensures came in
+    let went = reaches-died kills named c.requires.sound.is.agree c.in_ok-require_rule.ensures (sym c.has_body.ensures ∙ c.if-has_body.false) (omega (arith, c.in_ok-may_nest.ensures, higher)) (omega (arith, higher)) c.last-last.ensures came in
     ends-after went (ends-lifted c.over-over.ensures c.run_emission.ensures.ends)
 
 pub announce-returns-clause-dead : goal.announce-returns-clause-dead
 announce-returns-clause-dead t c =
     let named = sym c.in-Some.ensures in
     let came = died-as c.args.world.now c.args.object c.in_ok-mark_dead.ensures c.in_ok-copy.ensures c.in_ok-emitted.ensures c.count.ensures c.count-2.ensures in
-    on-ok _ (dead-after c.args.object (died-gone c.args.world.now _ c.args.object named came) c.run_emission.ensures.keeps)
+    ok-map (KeepsWorld c.args.self.now.meta c.mark_dead.new.self c.run_emission.new.world) (is_living c.run_emission.new.world.store.tree c.args.object ≡ false) c.run_emission.result c.run_emission.ensures.keeps (λ keeps. dead-after c.args.object (died-gone c.args.world.now _ c.args.object named came) keeps)
 
 pub announce_living-returns-then-is_some-clause-ends : goal.announce_living-returns-then-is_some-clause-ends
 announce_living-returns-then-is_some-clause-ends t c =
@@ -355,7 +412,7 @@ run_deletion-loop-world-init t c =
     let died = c.in_ok-announce_living.ensures.ends.cases in
     let sound = reaches-sound (tt, tt) c.requires.sound died in
     let forgets = rw c.new-torn.ensures.items at c.in_ok-forget.ensures in
-    let went = reaches-latest c.args.object [] c.forget.new.torn.items c.requires.room sound.is.typed c.in_ok-announce_living.ensures.dead forgets in
+    let went = reaches-latest c.args.object [] c.forget.new.torn.items c.requires.room sound.is.agree c.in_ok-announce_living.ensures.dead forgets in
     record { reaches = reaches-then died went; fewer = (reaches-keeps (reaches-then died went)).fewer; sound = reaches-sound (tt, tt) sound went }
 
 pub run_deletion-returns-in_err-announce-in-Some : goal.run_deletion-returns-in_err-announce-in-Some
@@ -386,7 +443,7 @@ run_deletion-loop-world-preserved-in-Continue-branch-4 t c =
     let kills = kills-next now c.loop-world.torn.items some c.next_to_end.result next lives c.in-Some.child c.in-Some.is in
     let died = (c.in_ok-announce-in-Some.ensures.ends _ _ _ kills).cases in
     let sound = reaches-sound (tt, tt) c.loop-world.invariant.sound died in
-    let went = reaches-latest c.in-Some.child c.loop-world.torn.items c.forget-in-Some.new.torn.items c.requires.room sound.is.typed c.in_ok-announce-in-Some.ensures.dead c.in_ok-forget-in-Some.ensures in
+    let went = reaches-latest c.in-Some.child c.loop-world.torn.items c.forget-in-Some.new.torn.items c.requires.room sound.is.agree c.in_ok-announce-in-Some.ensures.dead c.in_ok-forget-in-Some.ensures in
     let came = reaches-then c.loop-world.invariant.reaches (reaches-then died went) in
     record { reaches = came; fewer = (reaches-keeps came).fewer; sound = reaches-sound (tt, tt) sound went }
 
@@ -407,7 +464,7 @@ run_deletion-loop-world-preserved t c =
     let next = rw c.as_slice.ensures.value at c.next_to_end.ensures.next in
     let lives = rw c.as_slice.ensures.value at c.next_to_end.ensures.lives in
     let shorter = rw c.loop-world.torn.ok.0 at c.pop.ensures.rest in
-    let went = reaches-next now c.loop-world.torn.items some c.next_to_end.result next lives c.pop.new.self.items c.requires.room c.loop-world.invariant.sound.is.typed c.in-None.is shorter c.in_ok-tick-in-None.ensures in
+    let went = reaches-next now c.loop-world.torn.items some c.next_to_end.result next lives c.pop.new.self.items c.requires.room c.loop-world.invariant.sound.is.agree c.in-None.is shorter c.in_ok-tick-in-None.ensures in
     let came = reaches-then c.loop-world.invariant.reaches went in
     record { reaches = came; fewer = (reaches-keeps came).fewer; sound = reaches-sound (tt, tt) c.loop-world.invariant.sound went }
 
@@ -415,4 +472,4 @@ pub run_deletion-returns : goal.run_deletion-returns
 run_deletion-returns t c =
     let empty = none-left _ _ c.loop-world.torn.items c.is_empty.ensures c.loop-world-test.false c.loop-world.torn.ok.0 in
     let came = rw empty at c.loop-world.invariant.reaches in
-    record { ends = ends-after came (ends-ticked {b = []} _ (λ below e. refl) (omega arith) c.requires.room c.loop-world.invariant.sound.is.typed c.tick-2.ensures) }
+    record { ends = ends-after came (ends-ticked {b = []} _ (λ below e. refl) (omega arith) c.requires.room c.loop-world.invariant.sound.is.agree c.tick-2.ensures) }

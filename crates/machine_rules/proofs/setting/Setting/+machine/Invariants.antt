@@ -1,5 +1,8 @@
-use Rattle.std.proofs.Common.{◌≤◌, ◌+◌, ◌-◌, ◌*◌, [], ◌∷◌, reverse, Some, None}
-use Rattle.machine_state.specs.State.{Body, Emit, Destroy}
+use Rattle.std.proofs.Common.{◌≤◌, ◌+◌, ◌-◌, ◌*◌, [], ◌∷◌, length, reverse, Some, None}
+use Rattle.std.specs.List.{AllByRecursion}
+use Rattle.machine_state.specs.State.{Body, Emit, Update, Destroy}
+use Rattle.machine_rules.specs.Settling.{notified}
+use Rattle.machine_rules.specs.Writing.{MayNotify}
 use Rattle.machine_rules.specs.Sound.{IsSoundWorld}
 use Rattle.machine_rules.specs.Reaches.{Reaches}
 use Rattle.machine_rules.specs.Keeps.{KeepsWorld}
@@ -33,10 +36,13 @@ abbrev pub decreases-write : goal.decreases-write
 decreases-write l = 6 * l.world.now.left + 0
 
 abbrev pub decreases-run_update : goal.decreases-run_update
-decreases-run_update l = 6 * l.world.now.left + 2
+decreases-run_update l = 6 * l.world.now.left + 3
 
 abbrev pub decreases-notify : goal.decreases-notify
-decreases-notify l = 6 * l.world.now.left + 1
+decreases-notify l = 6 * l.world.now.left + 2
+
+abbrev pub decreases-emit_change : goal.decreases-emit_change
+decreases-emit_change l = 6 * l.world.now.left + 1
 
 abbrev pub decreases-delete : goal.decreases-delete
 decreases-delete l = 6 * l.world.now.left + 0
@@ -84,3 +90,15 @@ invariant-run_emission-loop-connection l =
 
 abbrev pub decreases-run_emission-loop-connection : goal.decreases-run_emission-loop-connection
 decreases-run_emission-loop-connection l = l.last - l.used
+
+abbrev pub invariant-run_update-loop-place : goal.invariant-run_update-loop-place
+invariant-run_update-loop-place l =
+    record {
+      reaches : Reaches l.self.meta l.self.depth l.active l.fn.world (Update (notified l.self.meta l.fn.world.store.tree l.changed) ∷ []) l.world (Update l.left ∷ []);
+      fewer : l.world.left ≤ l.fn.world.left;
+      sound : IsSoundWorld l.self.meta l.world;
+      may : AllByRecursion (MayNotify l.self.meta l.world.store.tree) l.left;
+    }
+
+abbrev pub decreases-run_update-loop-place : goal.decreases-run_update-loop-place
+decreases-run_update-loop-place l = length l.left

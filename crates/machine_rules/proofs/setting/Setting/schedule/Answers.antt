@@ -14,6 +14,9 @@ unreachable-requires c =
 pub schedule-requires-clause-home : goal.schedule-requires-clause-home
 schedule-requires-clause-home c = λ life is. c.requires.sound.is.housed.each c.args.object life.home (ap (option_map (λ (l : Life). l.home)) is)
 
+pub schedule-requires-clause-unscheduled : goal.schedule-requires-clause-unscheduled
+schedule-requires-clause-unscheduled c = record { life = c.in-Some.life.now; lives = life-of-lives c.in-Some.ensures.value; unmarked = c.if-life.false }
+
 pub returns : goal.returns
 returns c =
     schedule-made c.args.world.now c.schedule.new.self c.args.depth c.args.object c.schedule.result c.in-Some.ensures.value c.if-life.false (rw c.in-Some-name.is at c.name.ensures) (rw (c.in_ok-copy.ensures, c.in_ok-copy-2.ensures) at c.schedule.ensures)

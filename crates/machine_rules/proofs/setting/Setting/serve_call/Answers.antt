@@ -1,6 +1,6 @@
 use Rattle.std.proofs.Common.{◌≡◌, ◌∙◌, ap}
 use Rattle.machine_state.specs.declared.world.World.{World}
-use Rattle.machine_rules.proofs.Turning.{reaches-served, advances-served, advances-barred, advances-unchanged, called-fits, called-there, called-is, taken-sound, taken-fits}
+use Rattle.machine_rules.proofs.Turning.{reaches-served, advances-served, advances-barred, advances-unchanged, called-arguments, called-fits, called-there, called-is, taken-sound, taken-fits}
 use Rattle.machine_rules.proofs.setting.Setting.serve_call.Goals as goal
 
 pub unreachable-requires : goal.unreachable-requires
@@ -15,26 +15,26 @@ begun-requires c = record { fit = rw c.as_slice.ensures (called-fits c.requires.
 pub returns-in_err-line : goal.returns-in_err-line
 returns-in_err-line c = advances-barred c.from_residual.result c.requires.goes_on c.nothing-below.ensures c.requires.room c.requires.left c.in_err-line.ensures.err c.from_residual.ensures.1
 
-pub returns-in_err-taken : goal.returns-in_err-taken
-returns-in_err-taken c = advances-unchanged c.from_residual-in_err-taken.result c.requires.goes_on c.requires.left c.in_err-taken.ensures c.from_residual-in_err-taken.ensures.1
+pub returns-in_err-given : goal.returns-in_err-given
+returns-in_err-given c = advances-unchanged c.from_residual-in_err-given.result c.requires.goes_on c.requires.left c.in_err-given.ensures c.from_residual-in_err-given.ensures.1
 
 pub run_begun-requires-clause-sound : goal.run_begun-requires-clause-sound
-run_begun-requires-clause-sound c = taken-sound c.args.world.now _ _ _ c.in_ok-taken.ensures.1 c.requires.sound
+run_begun-requires-clause-sound c = taken-sound c.args.world.now _ _ _ c.in_ok-given.ensures.0 c.requires.sound
 
 pub run_begun-requires-clause-fit : goal.run_begun-requires-clause-fit
 run_begun-requires-clause-fit c =
     let fit = called-fits c.requires.first c.requires.sound c.in-Some.ensures c.in-Call.is in
-    let same : c.in-Some-Call.arguments ≡ c.in-Call.arguments = cc (c.in-Some-Call.is, c.in_ok-taken.ensures.0, c.in-Some.ensures, c.in-Call.is) in
+    let same : c.in_ok-given.given ≡ c.in-Call.arguments = c.in_ok-given.ensures.1 c.requires.first ∙ called-arguments c.requires.first c.in-Some.ensures c.in-Call.is in
     let given : c.as_slice-2.result.now ≡ c.in-Call.arguments = c.as_slice-2.ensures ∙ same in
-    rw given (taken-fits c.args.world.now _ _ _ c.in_ok-taken.ensures.1 fit)
+    rw given (taken-fits c.args.world.now _ _ _ c.in_ok-given.ensures.0 fit)
 
 pub returns : goal.returns
 returns c =
     let fit = called-fits c.requires.first c.requires.sound c.in-Some.ensures c.in-Call.is in
-    let same : c.in-Some-Call.arguments ≡ c.in-Call.arguments = cc (c.in-Some-Call.is, c.in_ok-taken.ensures.0, c.in-Some.ensures, c.in-Call.is) in
+    let same : c.in_ok-given.given ≡ c.in-Call.arguments = c.in_ok-given.ensures.1 c.requires.first ∙ called-arguments c.requires.first c.in-Some.ensures c.in-Call.is in
     let given : c.as_slice-2.result.now ≡ c.in-Call.arguments = c.as_slice-2.ensures ∙ same in
     let begun = rw c.as_slice.ensures at c.in_ok-line.ensures.ok in
     let ends = rw given at c.run_begun.ensures.ends in
-    let less = ap (λ (u : World). u.left) c.in_ok-taken.ensures.1 in
-    let went = reaches-served c.requires.goes_on c.in-Some.ensures c.in-Call.is c.nothing-below.ensures begun fit c.requires.sound.is.typed c.requires.left c.in_ok-taken.ensures.1 in
+    let less = ap (λ (u : World). u.left) c.in_ok-given.ensures.0 in
+    let went = reaches-served c.requires.goes_on c.in-Some.ensures c.in-Call.is c.nothing-below.ensures begun fit c.requires.sound.is.agree c.requires.left c.in_ok-given.ensures.0 in
     advances-served c.run_begun.result c.nothing-below.ensures went less c.requires.left ends

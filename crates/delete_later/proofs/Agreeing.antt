@@ -1,0 +1,58 @@
+-- Living objects keep their classes and values, so that what agrees goes on to, where an object is created or adopted, is
+-- blocked, or its deletion is scheduled.
+use Rattle.std.proofs.Common.{◌≡◌, ℕ, zero, suc, List, [], ◌∷◌, ◌++◌, Option, None, Some, refl, ap, ◌∙◌}
+use Rattle.std.specs.Prelude.{slice_get}
+use Rattle.std.specs.Option.{option_map}
+use Rattle.std.proofs.lemmas.Option.{same_Some}
+use Rattle.meta_model.specs.Loaded.{Loaded}
+use Rattle.object_tree.specs.declared.life.Life.{Life}
+use Rattle.object_tree.specs.declared.object.Object.{Object}
+use Rattle.object_tree.specs.Family.{moved}
+use Rattle.object_tree.specs.Objects.{life_of, change_life}
+use Rattle.object_tree.specs.Typed.{AreTyped}
+use Rattle.object_tree.proofs.Changing.{life-of-lives, lives-of-life}
+use Rattle.object_tree.proofs.TypedObjects.{Shape, life_shape, shape_in, shape-change, shape-moved}
+use Rattle.prop_bindings.specs.declared.binding.Binding.{Binding}
+use Rattle.prop_bindings.specs.Fits.{Agree}
+use Rattle.prop_bindings.proofs.Leaving.{Stays, agree-living}
+
+abbrev pub LiveOn : List Object → List Object → Type 0
+LiveOn old new = (o : ℕ) → Stays old new o
+
+pub agree-on : (p : Loaded) (old new : List Object) → LiveOn old new → (bs : List Binding) → AreTyped p new → Agree p old bs → Agree p new bs
+agree-on p old new on bs typed agree = agree-living p old new bs typed on agree
+
+-- objects that show the same class and values
+stays-shown : (new : List Object) (o : ℕ) (l : Life) (there : Option Object) → slice_get new o ≡ there → shape_in there ≡ Some (Some (life_shape l)) → (m : Life) × (life_of new o ≡ Some m) × (m.class ≡ l.class) × (m.values ≡ l.values)
+stays-shown new o l None is shown = absurd (cc shown)
+stays-shown new o l (Some y) is shown = by_life y.life refl (same_Some (option_map life_shape y.life) (Some (life_shape l)) shown)
+  where
+    by_life : (there : Option Life) → y.life ≡ there → option_map life_shape there ≡ Some (life_shape l) → (m : Life) × (life_of new o ≡ Some m) × (m.class ≡ l.class) × (m.values ≡ l.values)
+    by_life None lives e = absurd (cc e)
+    by_life (Some m) lives e =
+        let same : life_shape m ≡ life_shape l = same_Some (life_shape m) (life_shape l) e in
+        (m, life-of-lives {objects = new} {o = o} {x = y} {l = m} (record { is = is; lives = lives }), ap (λ (z : Shape). z.class) same, ap (λ (z : Shape). z.values) same)
+
+shown-on : (old new : List Object) → ((o : ℕ) → shape_in (slice_get new o) ≡ shape_in (slice_get old o)) → LiveOn old new
+shown-on old new same o l is =
+    let found = lives-of-life old o l is in
+    stays-shown new o l (slice_get new o) refl (same o ∙ ap shape_in found.1.is ∙ ap (λ (m : Option Life). Some (option_map life_shape m)) found.1.lives)
+
+-- a life is changed in other parts: its object is blocked, or its deletion is scheduled
+pub live-change : (o : ℕ) (f : Life → Life) (objects : List Object) → ((l : Life) → life_shape (f l) ≡ life_shape l) → LiveOn objects (change_life o f objects)
+live-change o f objects h = shown-on objects (change_life o f objects) (shape-change o f objects h)
+
+-- an object is adopted
+pub live-moved : (a c : ℕ) (objects : List Object) → LiveOn objects (moved a c objects)
+live-moved a c objects = shown-on objects (moved a c objects) (shape-moved a c objects)
+
+-- an object is created
+get-before : (xs : List Object) (z x : Object) (o : ℕ) → slice_get xs o ≡ Some x → slice_get (xs ++ z ∷ []) o ≡ Some x
+get-before [] z x o is = absurd (cc is)
+get-before (y ∷ xs) z x zero is = is
+get-before (y ∷ xs) z x (suc o) is = get-before xs z x o is
+
+pub live-created : (objects : List Object) (z : Object) → LiveOn objects (objects ++ z ∷ [])
+live-created objects z o l is =
+    let found = lives-of-life objects o l is in
+    (l, life-of-lives {objects = objects ++ z ∷ []} {o = o} {x = found.0} {l = l} (record { is = get-before objects z found.0 o found.1.is; lives = found.1.lives }), refl, refl)

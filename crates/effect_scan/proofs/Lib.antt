@@ -1,0 +1,10 @@
+pub mod Adding
+pub mod Joined
+pub mod Listing
+pub mod Numbered
+pub mod Occurring
+pub mod Pairing
+pub mod Relating
+pub mod Sources
+pub mod Standing
+pub mod Whole

@@ -1,0 +1,203 @@
+-- Lists of numbers, one number after another.
+use Rattle.std.proofs.Common.{◌≡◌, ◌↔◌, ◌⊎◌, inl, inr, ℕ, zero, suc, ◌+◌, ◌<◌, ◌≤◌, List, [], ◌∷◌, ◌++◌, length, get_or, take, slice_get, Option, Some, None, eqb, IsPermutation, refl, sym, ap, ◌∙◌, subst, arith}
+use Rattle.std.specs.List.{Contains, dedup}
+use Rattle.std.specs.List.Sorted.{IsStrictlyIncreasing, IsSorted}
+use Rattle.std.specs.Ordering.{nat_cmp}
+use Rattle.std.proofs.lemmas.Bool.{cases_eq, cases_lt}
+use Rattle.std.proofs.lemmas.List.{length-append, get_or_append_left, take_all}
+use Rattle.std.proofs.Math.Seq.{get_or-append_seam}
+use Rattle.std.proofs.lemmas.List.Elements.{Contains-get_or, Contains-append_left, Contains-append_right, Contains-append_cases, Contains-push, Contains-push_cases}
+use Rattle.std.proofs.lemmas.List.Sorted.{Contains-permutation, IsPermutation-sym}
+use Rattle.std.proofs.lemmas.List.Kept.{Contains-dedup_nat, Contains-from_dedup}
+use Rattle.std.proofs.lemmas.Map.Keys.{IsStrictlyIncreasing-dedup}
+use Rattle.std.proofs.lemmas.Option.{slice_get_within, same_Some}
+use Rattle.effect_scan.specs.Rows.{row, IsOrdered}
+use Rattle.effect_scan.specs.declared.node.Node.{Node}
+use Rattle.effect_scan.specs.declared.node.Member.{Member}
+use Rattle.meta_model.specs.declared.site.SourceProperty.{SourceProperty}
+use Rattle.effect_scan.specs.declared.node.Member.TheVariants.{Property}
+use Rattle.effect_scan.specs.declared.places.Places.{Places}
+use Rattle.effect_scan.specs.Nodes.{node, IsAt}
+use Rattle.effect_scan.specs.Places.{Lists, AreJust, InEach, InBelow, IsRead, OfSome}
+use Rattle.effect_scan.proofs.Adding.{no_members, first_more}
+
+pub increasing_none : IsStrictlyIncreasing []
+increasing_none k inside = absurd (omega (arith, inside))
+
+-- a number that is above all others goes to the end
+pub increasing_more : (xs : List ℕ) (n : ℕ) → IsStrictlyIncreasing xs → ((m : ℕ) → Contains xs m → m < n) → IsStrictlyIncreasing (xs ++ n ∷ [])
+increasing_more xs n up low k inside =
+    let count : length (xs ++ n ∷ []) ≡ length xs + 1 = length-append xs (n ∷ []) in
+    let at_k : get_or (xs ++ n ∷ []) k 0 ≡ get_or xs k 0 = get_or_append_left xs (n ∷ []) 0 k (omega arith) in
+    elim (cases_lt (k + 1) (length xs)) [
+      | inl l ↦
+          let at_next : get_or (xs ++ n ∷ []) (k + 1) 0 ≡ get_or xs (k + 1) 0 = get_or_append_left xs (n ∷ []) 0 (k + 1) l in
+          rw (at_k, at_next) (up k l)
+      | inr m ↦
+          let last : k + 1 ≡ length xs = omega arith in
+          let at_next : get_or (xs ++ n ∷ []) (k + 1) 0 ≡ n = ap (λ (j : ℕ). get_or (xs ++ n ∷ []) j 0) last ∙ get_or-append_seam xs n [] 0 in
+          rw (at_k, at_next) (low (get_or xs k 0) (Contains-get_or xs k 0 (omega arith)))
+    ]
+
+module _ (P : ℕ → Type 0) where
+  pub lists_none : Lists P 0 []
+  lists_none = record {
+    members = λ n. (λ h. absurd (no_members n h), λ h. absurd (omega (arith, h.0)));
+    increasing = increasing_none;
+  }
+
+  pub lists_yes : (n : ℕ) (xs ys : List ℕ) → Lists P n xs → P n → ys ≡ xs ++ n ∷ [] → Lists P (n + 1) ys
+  lists_yes n xs ys l has e =
+      let given : Lists P (n + 1) (xs ++ n ∷ []) = record {
+        members = λ m. (
+          λ h.
+              elim (Contains-push_cases xs n m h) [
+                | inl old ↦ let k = (l.members m).0 old in (omega (arith, k.0), k.1)
+                | inr same ↦ (omega arith, subst P same has)
+              ],
+          λ h.
+              elim (cases_eq m n) [
+                | inl same ↦ subst (λ (x : ℕ). Contains (xs ++ n ∷ []) x) (sym same) (Contains-push xs n)
+                | inr other ↦ Contains-append_left xs (n ∷ []) m ((l.members m).1 (omega (arith, h.0), h.1))
+              ],
+        );
+        increasing = increasing_more xs n l.increasing (λ m h. ((l.members m).0 h).0);
+      } in
+      subst (Lists P (n + 1)) (sym e) given
+
+  pub lists_no : (n : ℕ) (xs : List ℕ) → Lists P n xs → ¬ P n → Lists P (n + 1) xs
+  lists_no n xs l lacks = record {
+    members = λ m. (
+      λ h. let k = (l.members m).0 h in (omega (arith, k.0), k.1),
+      λ h.
+          elim (cases_eq m n) [
+            | inl same ↦ absurd (lacks (subst P same h.1))
+            | inr other ↦ (l.members m).1 (omega (arith, h.0), h.1)
+          ],
+    );
+    increasing = l.increasing;
+  }
+
+-- ---- the numbers of nodes
+pub just_none : (P : ℕ → Type 0) → ((n : ℕ) → ¬ P n) → AreJust P []
+just_none P none n = (λ h. absurd (no_members n h), λ h. absurd (none n h))
+
+pub just_one : (P : ℕ → Type 0) (n : ℕ) (xs ys : List ℕ) → xs ≡ [] → ys ≡ xs ++ n ∷ [] → P n → ((m : ℕ) → P m → m ≡ n) → AreJust P ys
+just_one P n xs ys none e has only m =
+    let is : ys ≡ [] ++ n ∷ [] = e ∙ ap (λ (l : List ℕ). l ++ n ∷ []) none in (
+      λ h. elim (Contains-push_cases [] n m (subst (λ (l : List ℕ). Contains l m) is h)) [ inl old ↦ absurd (no_members m old) | inr same ↦ subst P same has ],
+      λ h. subst (λ (l : List ℕ). Contains l m) (sym is) (subst (λ (x : ℕ). Contains ([] ++ n ∷ []) x) (sym (only m h)) (Contains-push [] n)),
+    )
+
+module _ (nodes : List Node) (classes : List ℕ) (member : Member) where
+  pub each_none : AreJust (InEach nodes (take 0 classes) member) []
+  each_none = just_none (InEach nodes (take 0 classes) member) (λ n h. no_members h.0 h.1)
+
+  pub each_yes : (i n : ℕ) (xs ys : List ℕ) → i < length classes → AreJust (InEach nodes (take i classes) member) xs → IsAt nodes (node (get_or classes i 0) member) n → ((m : ℕ) → IsAt nodes (node (get_or classes i 0) member) m → m ≡ n) → ys ≡ xs ++ n ∷ [] → AreJust (InEach nodes (take (i + 1) classes) member) ys
+  each_yes i n xs ys inside just is only e m = (
+    λ h.
+        elim (Contains-push_cases xs n m (subst (λ (l : List ℕ). Contains l m) e h)) [
+          | inl old ↦ let k = (just m).0 old in (k.0, (first_more classes i 0 inside k.0).1 (inl k.1), k.2)
+          | inr same ↦ (get_or classes i 0, (first_more classes i 0 inside (get_or classes i 0)).1 (inr refl), subst (IsAt nodes (node (get_or classes i 0) member)) same is)
+        ],
+    λ h.
+        subst (λ (l : List ℕ). Contains l m) (sym e)
+        (elim ((first_more classes i 0 inside h.0).0 h.1) [
+          | inl old ↦ Contains-append_left xs (n ∷ []) m ((just m).1 (h.0, old, h.2))
+          | inr same ↦ subst (λ (x : ℕ). Contains (xs ++ n ∷ []) x) (sym (only m (subst (λ (d : ℕ). IsAt nodes (node d member) m) same h.2))) (Contains-push xs n)
+        ]),
+  )
+
+  pub each_no : (i : ℕ) (xs : List ℕ) → i < length classes → AreJust (InEach nodes (take i classes) member) xs → ((m : ℕ) → ¬ IsAt nodes (node (get_or classes i 0) member) m) → AreJust (InEach nodes (take (i + 1) classes) member) xs
+  each_no i xs inside just none m = (
+    λ h. let k = (just m).0 h in (k.0, (first_more classes i 0 inside k.0).1 (inl k.1), k.2),
+    λ h.
+        elim ((first_more classes i 0 inside h.0).0 h.1) [
+          | inl old ↦ (just m).1 (h.0, old, h.2)
+          | inr same ↦ absurd (none m (subst (λ (d : ℕ). IsAt nodes (node d member) m) same h.2))
+        ],
+  )
+
+  pub each_all : (i : ℕ) (xs : List ℕ) → length classes ≤ i → AreJust (InEach nodes (take i classes) member) xs → AreJust (InEach nodes classes member) xs
+  each_all i xs past just = subst (λ (l : List ℕ). AreJust (InEach nodes l member) xs) (take_all i classes past) just
+
+-- ---- the numbers that some of a list have
+module _ {X : Type 0} (P : X → ℕ → Type 0) (xs : List X) where
+  pub some_none : AreJust (OfSome P (take 0 xs)) []
+  some_none = just_none (OfSome P (take 0 xs)) (λ n h. no_members h.0 h.1)
+
+  pub some_more : (i : ℕ) (x : X) (ns found ms : List ℕ) → i < length xs → x ≡ get_or xs i x → AreJust (OfSome P (take i xs)) ns → AreJust (P x) found → ms ≡ ns ++ found → AreJust (OfSome P (take (i + 1) xs)) ms
+  some_more i x ns found ms inside is just new eq m = (
+    λ h.
+        elim (Contains-append_cases ns found m (subst (λ (l : List ℕ). Contains l m) eq h)) [
+          | inl old ↦ let k = (just m).0 old in (k.0, (first_more xs i x inside k.0).1 (inl k.1), k.2)
+          | inr now ↦ (x, (first_more xs i x inside x).1 (inr is), (new m).0 now)
+        ],
+    λ h.
+        subst (λ (l : List ℕ). Contains l m) (sym eq)
+        (elim ((first_more xs i x inside h.0).0 h.1) [
+          | inl old ↦ Contains-append_left ns found m ((just m).1 (h.0, old, h.2))
+          | inr same ↦ Contains-append_right ns found m ((new m).1 (subst (λ (y : X). P y m) (same ∙ sym is) h.2))
+        ]),
+  )
+
+  pub some_all : (i : ℕ) (ns ms : List ℕ) → length xs ≤ i → AreJust (OfSome P (take i xs)) ns → ((n : ℕ) → Contains ms n ↔ Contains ns n) → AreJust (OfSome P xs) ms
+  some_all i ns ms past just same n =
+      let all : AreJust (OfSome P xs) ns = subst (λ (l : List X). AreJust (OfSome P l) ns) (take_all i xs past) just in
+      (λ h. (all n).0 ((same n).0 h), λ h. (same n).1 ((all n).1 h))
+
+-- ---- numbers below the number of nodes
+pub at_low : (nodes : List Node) (x : Node) (n : ℕ) → IsAt nodes x n → n < length nodes
+at_low nodes x n is = slice_get_within nodes n x is
+
+pub one_low : (nodes : List Node) (x : Node) (rows : List (List ℕ)) (from sources : List ℕ) → AreJust (IsAt nodes x) from → sources ≡ from → length rows ≡ length nodes → (a : ℕ) → Contains sources a → a < length rows
+one_low nodes x rows from sources just e count a h =
+    let low = at_low nodes x a ((just a).0 (subst (λ (l : List ℕ). Contains l a) e h)) in omega arith
+
+pub each_low : (nodes : List Node) (classes : List ℕ) (member : Member) (rows : List (List ℕ)) (from sources : List ℕ) → AreJust (InEach nodes classes member) from → sources ≡ from → length rows ≡ length nodes → (a : ℕ) → Contains sources a → a < length rows
+each_low nodes classes member rows from sources just e count a h =
+    let found = (just a).0 (subst (λ (l : List ℕ). Contains l a) e h) in
+    let low = at_low nodes (node found.0 member) a found.2 in omega arith
+
+-- ---- lists that are sorted
+pub ordered_is : (numbers first sorted last list : List ℕ) → first ≡ numbers → IsPermutation first sorted → IsSorted nat_cmp sorted → last ≡ dedup eqb sorted → list ≡ last → IsOrdered numbers list
+ordered_is numbers first sorted last list e p s d f =
+    let is : list ≡ dedup eqb sorted = f ∙ d in
+    record {
+      same = λ n. (
+        λ h.
+            let in_sorted = Contains-from_dedup eqb sorted n (subst (λ (l : List ℕ). Contains l n) is h) in
+            subst (λ (l : List ℕ). Contains l n) e (Contains-permutation sorted first n (IsPermutation-sym first sorted p) in_sorted),
+        λ h.
+            let in_sorted = Contains-permutation first sorted n p (subst (λ (l : List ℕ). Contains l n) (sym e) h) in
+            subst (λ (l : List ℕ). Contains l n) (sym is) (Contains-dedup_nat sorted n in_sorted),
+      );
+      increasing = subst IsStrictlyIncreasing (sym is) (IsStrictlyIncreasing-dedup sorted s);
+    }
+
+-- ---- lists of classes below
+pub rows_push : (P : ℕ → List ℕ → Type 0) (rows more : List (List ℕ)) (r : List ℕ) (n : ℕ) → length rows ≡ n → ((c : ℕ) → c < n → P c (row rows c)) → P n r → more ≡ rows ++ r ∷ []
+    → (length more ≡ n + 1) × ((c : ℕ) → c < n + 1 → P c (row more c))
+unfolding row
+rows_push P rows more r n count before new e = (
+  ap length e ∙ length-append rows (r ∷ []) ∙ omega (arith, count),
+  λ c low.
+      elim (cases_lt c (length rows)) [
+        | inl l ↦ subst (P c) (sym (ap (λ (l : List (List ℕ)). get_or l c []) e ∙ get_or_append_left rows (r ∷ []) [] c l)) (before c (omega arith))
+        | inr m ↦
+            let at : c ≡ length rows = omega arith in
+            let is : c ≡ n = at ∙ count in
+            subst (P c) (sym (ap (λ (l : List (List ℕ)). get_or l c []) e ∙ ap (λ (k : ℕ). get_or (rows ++ r ∷ []) k []) at ∙ get_or-append_seam rows r [] [])) (subst (λ (k : ℕ). P k r) (sym is) new)
+      ],
+)
+
+pub some_low : {X : Type 0} (P : X → ℕ → Type 0) (xs : List X) (rows : List (List ℕ)) (from sources : List ℕ) → ((x : X) (n : ℕ) → P x n → n < length rows) → AreJust (OfSome P xs) from → sources ≡ from → (a : ℕ) → Contains sources a → a < length rows
+some_low P xs rows from sources low just e a h =
+    let found = (just a).0 (subst (λ (l : List ℕ). Contains l a) e h) in low found.0 a found.2
+
+-- ---- sources
+pub read_there : (places : Places) (formals : List ℕ) (source : SourceProperty) (class : ℕ) (found : List ℕ) → slice_get formals source.source ≡ Some class → AreJust (InBelow places class (Property source.property)) found → AreJust (IsRead places formals source) found
+read_there places formals source class found is just n = (
+  λ h. (class, is, (just n).0 h),
+  λ h. (just n).1 (subst (λ (c : ℕ). InBelow places c (Property source.property) n) (same_Some _ _ (sym h.1 ∙ is)) h.2),
+)

@@ -1,0 +1,6 @@
+use Rattle.std.proofs.Common.{length}
+use Rattle.effect_scan.specs.Destroying.{Closing}
+use Rattle.effect_scan.proofs.closure.close.Given as goal
+
+abbrev pub invariant-loop-class : goal.invariant-loop-class
+invariant-loop-class l = Closing l.class l.initial.relation l.relation

@@ -1,0 +1,6 @@
+use Rattle.effect_scan.specs.Destroying.{IsMarked}
+use Rattle.effect_scan.specs.Places.{Lists}
+use Rattle.effect_scan.proofs.closure.marked.Given as goal
+
+abbrev pub invariant-loop-number : goal.invariant-loop-number
+invariant-loop-number l = Lists (IsMarked l.row) l.number l.numbers

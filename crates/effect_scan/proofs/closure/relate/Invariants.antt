@@ -1,0 +1,7 @@
+use Rattle.std.proofs.Common.{take}
+use Rattle.effect_scan.specs.Rows.{Joins}
+use Rattle.effect_scan.specs.Destroying.{Extends}
+use Rattle.effect_scan.proofs.closure.relate.Given as goal
+
+abbrev pub invariant-loop-first : goal.invariant-loop-first
+invariant-loop-first l = Extends (Joins (take l.first-index l.firsts) l.others) l.initial.relation l.relation

@@ -1,0 +1,5 @@
+use Rattle.effect_scan.specs.Destroying.{Extends, IsOwn}
+use Rattle.effect_scan.proofs.closure.relate_own.Given as goal
+
+abbrev pub invariant-loop-class : goal.invariant-loop-class
+invariant-loop-class l = Extends (IsOwn l.class) l.initial.relation l.relation

@@ -1,0 +1,7 @@
+use Rattle.effect_scan.specs.Rows.{Adds}
+use Rattle.effect_scan.specs.Rows.{AmongFirst}
+use Rattle.effect_scan.specs.Leading.{ClosureLeads}
+use Rattle.effect_scan.proofs.edges.add_closures.Given as goal
+
+abbrev pub invariant-loop-class : goal.invariant-loop-class
+invariant-loop-class l = Adds (AmongFirst (ClosureLeads l.places) l.closures l.class) l.initial.rows l.rows

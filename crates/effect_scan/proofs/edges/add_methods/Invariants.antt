@@ -1,0 +1,7 @@
+use Rattle.effect_scan.specs.Rows.{Adds}
+use Rattle.effect_scan.specs.Rows.{AmongFirst}
+use Rattle.effect_scan.specs.Leading.{MethodLeads}
+use Rattle.effect_scan.proofs.edges.add_methods.Given as goal
+
+abbrev pub invariant-loop-place : goal.invariant-loop-place
+invariant-loop-place l = Adds (AmongFirst (MethodLeads l.places l.number) l.class.methods l.place) l.initial.rows l.rows

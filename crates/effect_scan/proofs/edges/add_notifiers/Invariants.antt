@@ -1,0 +1,7 @@
+use Rattle.effect_scan.specs.Rows.{Adds}
+use Rattle.effect_scan.specs.Rows.{AmongFirst}
+use Rattle.effect_scan.specs.Leading.{PropertiesLead}
+use Rattle.effect_scan.proofs.edges.add_notifiers.Given as goal
+
+abbrev pub invariant-loop-number : goal.invariant-loop-number
+invariant-loop-number l = Adds (AmongFirst (PropertiesLead l.places) l.classes l.number) l.initial.rows l.rows

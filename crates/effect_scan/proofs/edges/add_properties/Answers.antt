@@ -1,0 +1,13 @@
+use Rattle.std.proofs.Common.{refl, length, ap, arith, ◌≤◌}
+use Rattle.std.proofs.lemmas.Option.{slice_get_read}
+use Rattle.effect_scan.specs.Leading.{PropertyLeads}
+use Rattle.effect_scan.proofs.Adding.{adds_more, adds_all}
+use Rattle.effect_scan.proofs.edges.add_properties.Goals as goal
+
+pub loop-place-preserved : goal.loop-place-preserved
+loop-place-preserved c = adds_more (PropertyLeads c.args.places.now c.args.number) c.args.class.now.properties _ _ _ _ _ (rw c.as_slice-property-items.ensures at (slice_get_read _ _ _ _ refl c.loop-place-test.true c.property-item.is)) c.loop-place.invariant c.in_ok-add_property.ensures
+
+pub returns : goal.returns
+returns c =
+    let past : length c.args.class.now.properties ≤ c.loop-place.place = omega (arith, ap length c.as_slice-property-items.ensures, c.loop-place-test.false) in
+    adds_all (PropertyLeads c.args.places.now c.args.number) c.args.class.now.properties _ _ _ past c.loop-place.invariant

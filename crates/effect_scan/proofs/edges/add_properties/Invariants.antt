@@ -1,0 +1,7 @@
+use Rattle.effect_scan.specs.Rows.{Adds}
+use Rattle.effect_scan.specs.Rows.{AmongFirst}
+use Rattle.effect_scan.specs.Leading.{PropertyLeads}
+use Rattle.effect_scan.proofs.edges.add_properties.Given as goal
+
+abbrev pub invariant-loop-place : goal.invariant-loop-place
+invariant-loop-place l = Adds (AmongFirst (PropertyLeads l.places l.number) l.class.properties l.place) l.initial.rows l.rows

@@ -1,0 +1,7 @@
+use Rattle.effect_scan.specs.Rows.{Adds}
+use Rattle.effect_scan.specs.Rows.{AmongFirst}
+use Rattle.effect_scan.specs.Leading.{WireLeads}
+use Rattle.effect_scan.proofs.edges.add_wires.Given as goal
+
+abbrev pub invariant-loop-wire : goal.invariant-loop-wire
+invariant-loop-wire l = Adds (AmongFirst (λ _. WireLeads l.places) l.wires l.wire-index) l.initial.rows l.rows

@@ -1,0 +1,18 @@
+use Rattle.std.proofs.Common.{◌∙◌, ◌++◌, ℕ, List, ap, sym, subst}
+use Rattle.std.specs.List.{Contains}
+use Rattle.std.proofs.lemmas.Result.{IfOk-weaker}
+use Rattle.meta_model.proofs.Searches.{read_at}
+use Rattle.effect_scan.specs.Places.{IsReached}
+use Rattle.effect_scan.proofs.Listing.{some_more, some_all}
+use Rattle.effect_scan.proofs.edges.reached.Goals as goal
+
+pub loop-effect-preserved : goal.loop-effect-preserved
+loop-effect-preserved c =
+    some_more (IsReached c.args.places.now c.args.class) c.args.effects.now _ _ _ _ _ c.loop-effect-test.true (read_at c.args.effects.now c.loop-effect.effect-index _ c.loop-effect-test.true) c.loop-effect.invariant c.in_ok-found.ensures
+    (c.in_ok-add_all.ensures ∙ ap (λ (l : List ℕ). c.loop-effect.all ++ l) c.as_slice.ensures)
+
+pub returns : goal.returns
+returns c =
+    IfOk-weaker _ _ _
+    (λ list o. some_all (IsReached c.args.places.now c.args.class) c.args.effects.now _ _ list c.loop-effect-test.false c.loop-effect.invariant (rw c.as_slice-2.ensures at o.same))
+    c.ordered.ensures

@@ -1,0 +1,94 @@
+-- What the statements of a body do at once, and to which objects (docs/certificate.md, "Edges").
+use Rattle.std.specs.Prelude.{◌≡◌, ◌↔◌, ◌⊎◌, ℕ, ◌-◌, List, [], ◌∷◌, length, Option, None, Some, slice_get}
+use Rattle.std.specs.Option.{option_and_then, option_map}
+use Rattle.std.specs.List.{Contains}
+use Rattle.texts.specs.declared.syntax.Expr.{Expr}
+use Rattle.meta_model.specs.declared.object.ValueType.{ValueType}
+use Rattle.meta_model.specs.declared.object.ValueType.TheVariants as type
+use Rattle.meta_model.specs.declared.object.MetaRoot.{MetaRoot}
+use Rattle.meta_model.specs.declared.object.MetaRoot.TheVariants.{This, Parameter}
+use Rattle.meta_model.specs.declared.object.Step.{Step}
+use Rattle.meta_model.specs.declared.object.MetaPath.{MetaPath}
+use Rattle.meta_model.specs.declared.object.Statement.{Statement}
+use Rattle.meta_model.specs.declared.object.Statement.TheOpen as layer
+use Rattle.meta_model.specs.declared.object.Statement.TheViews.{out-Statement}
+use Rattle.meta_model.specs.declared.object.Work.{Work}
+use Rattle.meta_model.specs.declared.object.Work.TheVariants.{Signal, Slot}
+use Rattle.effect_scan.specs.declared.node.Member.{Member}
+use Rattle.effect_scan.specs.declared.node.Member.TheVariants.{Method, Property, Destruction}
+use Rattle.effect_scan.specs.declared.effect.Reach.{Reach}
+use Rattle.effect_scan.specs.declared.effect.Reach.TheVariants.{Own, Below}
+use Rattle.effect_scan.specs.declared.effect.Effect.{Effect}
+
+-- ---- the objects that a path may lead to
+-- objects of the type's class or below it
+abbrev pub reach_of_type : ValueType → Option Reach
+reach_of_type type.Int = None
+reach_of_type type.Bool = None
+reach_of_type type.Text = None
+reach_of_type (type.Reference class constant) = Some (Below class)
+
+-- `this` is the object itself, a parameter one of its declared type
+abbrev pub reach_of_root : List ValueType → MetaRoot → Option Reach
+reach_of_root kinds This = Some Own
+reach_of_root kinds (Parameter k) = option_and_then reach_of_type (slice_get kinds k)
+
+abbrev pub reach_after : List ValueType → MetaRoot → Option Step → Option Reach
+reach_after kinds root None = reach_of_root kinds root
+reach_after kinds root (Some step) = reach_of_type step.kind
+
+-- a path leads to objects of the declared type of its last property, and without properties to what it begins with
+abbrev pub reach_of : List ValueType → MetaPath → Option Reach
+reach_of kinds path = reach_after kinds path.root (slice_get path.steps (length path.steps - 1))
+
+-- ---- statements
+abbrev pub effect_on : List ValueType → Member → MetaPath → Option Effect
+effect_on kinds member path = option_map (λ reach. record { reach = reach; member = member }) (reach_of kinds path)
+
+-- what a statement does at once; what stands in the blocks of an `if` is looked at on its own
+abbrev pub effect_of : List ValueType → layer.Statement-F Statement → Option Effect
+effect_of kinds (layer.Set path q e) = effect_on kinds (Property q) path
+effect_of kinds (layer.Emit m es) = Some (record { reach = Own; member = Method m })
+effect_of kinds (layer.Call path m es) = effect_on kinds (Method m) path
+effect_of kinds (layer.If e chosen other) = None
+effect_of kinds (layer.Connect ends how) = None
+effect_of kinds (layer.Disconnect ends) = None
+effect_of kinds (layer.Delete path) = effect_on kinds Destruction path
+effect_of kinds (layer.Later path) = None
+
+-- a statement stands in a body, or in a block of it
+pub data Occurs : Statement → List Statement → Type 0 where
+  here : {s : Statement} {rest : List Statement} → Occurs s (s ∷ rest)
+  after : {s t : Statement} {rest : List Statement} → Occurs s rest → Occurs s (t ∷ rest)
+  chosen : {s t : Statement} {e : Expr MetaPath} {block other rest : List Statement}
+      → out-Statement t ≡ layer.If e block other → Occurs s block → Occurs s (t ∷ rest)
+  otherwise : {s t : Statement} {e : Expr MetaPath} {block other rest : List Statement}
+      → out-Statement t ≡ layer.If e block other → Occurs s other → Occurs s (t ∷ rest)
+
+-- a statement of the body does this, where the parameters are of these types
+pub record BodyHas (kinds : List ValueType) (body : List Statement) (effect : Effect) : Type 0 where
+  pub statement : Statement
+  pub occurs : Occurs statement body
+  pub is : effect_of kinds (out-Statement statement) ≡ Some effect
+
+-- one statement does this, or one in its blocks
+abbrev pub StatementHas : List ValueType → layer.Statement-F Statement → Effect → Type 0
+StatementHas kinds (layer.If e block other) effect = BodyHas kinds block effect ⊎ BodyHas kinds other effect
+StatementHas kinds (layer.Set path q e) effect = effect_of kinds (layer.Set path q e) ≡ Some effect
+StatementHas kinds (layer.Emit m es) effect = effect_of kinds (layer.Emit m es) ≡ Some effect
+StatementHas kinds (layer.Call path m es) effect = effect_of kinds (layer.Call path m es) ≡ Some effect
+StatementHas kinds (layer.Connect ends how) effect = effect_of kinds (layer.Connect ends how) ≡ Some effect
+StatementHas kinds (layer.Disconnect ends) effect = effect_of kinds (layer.Disconnect ends) ≡ Some effect
+StatementHas kinds (layer.Delete path) effect = effect_of kinds (layer.Delete path) ≡ Some effect
+StatementHas kinds (layer.Later path) effect = effect_of kinds (layer.Later path) ≡ Some effect
+
+-- ---- methods
+-- what a method does at once when it is called: a signal nothing by itself, a slot what a statement of its body does
+abbrev pub WorkHas : List ValueType → Work → Effect → Type 0
+WorkHas kinds Signal effect = ⊥
+WorkHas kinds (Slot body) effect = BodyHas kinds body effect
+
+-- ---- lists
+-- just those with P were added
+abbrev pub Gathers : {X : Type 0} → (X → Type 0) → List X → List X → Type 0
+Gathers {X} P before more = (x : X) → Contains more x ↔ (Contains before x ⊎ P x)

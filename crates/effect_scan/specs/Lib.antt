@@ -1,0 +1,10 @@
+pub mod Nodes
+pub mod Numbering
+pub mod Rows
+pub mod Effects
+pub mod Places
+pub mod Destroying
+pub mod Edges
+pub mod Leading
+pub mod Scans
+pub mod Laws

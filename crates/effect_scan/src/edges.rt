@@ -1,0 +1,333 @@
+//! The edges between nodes, as they are read off declarations and bodies.
+
+ghost use Rattle.std.specs.Prelude.{◌≡◌, ◌↔◌, ◌++◌, length, IfOk, OnOk};
+ghost use Rattle.std.specs.List.{Contains};
+ghost use Rattle.meta_model.specs.Sites.{paths_in};
+ghost use Rattle.effect_scan.specs.declared.effect.Effect.{Effect as AnEffect};
+ghost use Rattle.effect_scan.specs.Nodes.{named};
+ghost use Rattle.effect_scan.specs.Effects.{WorkHas};
+ghost use Rattle.effect_scan.specs.Rows.{Adds};
+ghost use Rattle.effect_scan.specs.Places.{AreJust, IsReached, IsRead, OfSome};
+ghost use Rattle.effect_scan.specs.Leading.{WireLeads, WiresLead, MethodLeads, MethodsLead, WorksLead, PropertyLeads, PropertiesLead, NotifiersLead, SiteLeads, SitesLead, ClosureLeads, ClosuresLead};
+
+use crate::effect::{Effect, gather};
+use crate::node::{Member, Node};
+use crate::places::Places;
+use crate::rows::{add_all, join, ordered};
+use meta_model::{
+    DESTROYED, DESTROYED_ALONE, MetaMethod, MetaObject, MetaProperty, MetaSite, MetaWire,
+    SourceProperty, ValueType, Work,
+};
+use signatures::Kind;
+use sqlite_items::{Items, at};
+use std::alloc::{AllocError, Global};
+use texts::Expr;
+
+/// The signal of this number: `destroyed()` is `destroyed(QObject*)`.
+pub fn named(signal: usize) -> usize
+    ensures { result ≡ named signal }
+{
+    if signal == DESTROYED_ALONE {
+        DESTROYED
+    } else {
+        signal
+    }
+}
+
+/// Adds the edges from signals to what they are wired to.
+pub fn add_wires(
+    alloc: Global,
+    places: &Places,
+    wires: &[MetaWire],
+    rows: &mut [Items<usize>],
+) -> Result<(), AllocError>
+    requires { length rows.old ≡ length places.now.numbering }
+    ensures { IfOk result (λ _. Adds (WiresLead places.now wires.now) rows.old rows.new) }
+{
+    for wire in wires {
+        add_wire(alloc, places, wire, rows)?;
+    }
+    Ok(())
+}
+
+/// Adds the edges of the wire, if it isn't queued.
+fn add_wire(
+    alloc: Global,
+    places: &Places,
+    wire: &MetaWire,
+    rows: &mut [Items<usize>],
+) -> Result<(), AllocError>
+    requires { length rows.old ≡ length places.now.numbering }
+    ensures { IfOk result (λ _. Adds (WireLeads places.now wire.now) rows.old rows.new) }
+{
+    match wire.kind {
+        Kind::Queued => Ok(()),
+        _ => {
+            let signal = Member::Method(named(wire.signal));
+            let from = places.below(alloc, wire.sender, signal)?;
+            let to = places.below(alloc, wire.receiver, Member::Method(wire.method))?;
+            join(rows, from.as_slice(), to.as_slice())
+        }
+    }
+}
+
+/// Adds the edges from methods to what is done when they are called.
+pub fn add_works(
+    alloc: Global,
+    places: &Places,
+    classes: &[MetaObject],
+    rows: &mut [Items<usize>],
+) -> Result<(), AllocError>
+    requires { length rows.old ≡ length places.now.numbering }
+    ensures { IfOk result (λ _. Adds (WorksLead places.now classes.now) rows.old rows.new) }
+{
+    for (number, class) in classes.iter().enumerate() {
+        add_methods(alloc, places, number, class, rows)?;
+    }
+    Ok(())
+}
+
+/// .. from those of the class of this number.
+fn add_methods(
+    alloc: Global,
+    places: &Places,
+    number: usize,
+    class: &MetaObject,
+    rows: &mut [Items<usize>],
+) -> Result<(), AllocError>
+    requires { length rows.old ≡ length places.now.numbering }
+    ensures { IfOk result (λ _. Adds (MethodsLead places.now number class.now) rows.old rows.new) }
+{
+    for (place, method) in class.methods.as_slice().iter().enumerate() {
+        add_method(alloc, places, number, place, method, rows)?;
+    }
+    Ok(())
+}
+
+/// .. from the method of this number in the class.
+fn add_method(
+    alloc: Global,
+    places: &Places,
+    class: usize,
+    number: usize,
+    method: &MetaMethod,
+    rows: &mut [Items<usize>],
+) -> Result<(), AllocError>
+    requires { length rows.old ≡ length places.now.numbering }
+    ensures { IfOk result (λ _.
+        Adds (MethodLeads places.now class number method.now) rows.old rows.new) }
+{
+    let member = Member::Method(number);
+    let from = places.one(alloc, Node { class, member })?;
+    let effects = effects_of(alloc, method.kinds.as_slice(), &method.work)?;
+    let to = reached(alloc, places, class, effects.as_slice())?;
+    join(rows, from.as_slice(), to.as_slice())
+}
+
+/// What is done at once when the method is called, whose parameters are of these types.
+fn effects_of(alloc: Global, kinds: &[ValueType], work: &Work) -> Result<Items<Effect>, AllocError>
+    ensures { IfOk result (λ effects.
+        (e : AnEffect) → Contains effects e ↔ WorkHas kinds.now work.now e) }
+{
+    let mut effects = Items::new(alloc);
+    match work {
+        Work::Signal => Ok(effects),
+        Work::Slot(body) => {
+            gather(kinds, body.as_slice(), &mut effects)?;
+            Ok(effects)
+        }
+    }
+}
+
+/// The numbers of what some of the effects does something to, for an object of this class, each once.
+fn reached(
+    alloc: Global,
+    places: &Places,
+    class: usize,
+    effects: &[Effect],
+) -> Result<Items<usize>, AllocError>
+    ensures { IfOk result (AreJust (OfSome (IsReached places.now class) effects.now)) }
+{
+    let mut all = Items::new(alloc);
+    for effect in effects {
+        let found = places.reached(alloc, class, *effect)?;
+        add_all(&mut all, found.as_slice())?;
+    }
+    ordered(alloc, all.as_slice())
+}
+
+/// Adds the edges from properties to their notify signals.
+pub fn add_notifiers(
+    alloc: Global,
+    places: &Places,
+    classes: &[MetaObject],
+    rows: &mut [Items<usize>],
+) -> Result<(), AllocError>
+    requires { length rows.old ≡ length places.now.numbering }
+    ensures { IfOk result (λ _. Adds (NotifiersLead places.now classes.now) rows.old rows.new) }
+{
+    for (number, class) in classes.iter().enumerate() {
+        add_properties(alloc, places, number, class, rows)?;
+    }
+    Ok(())
+}
+
+/// .. from those of the class of this number.
+fn add_properties(
+    alloc: Global,
+    places: &Places,
+    number: usize,
+    class: &MetaObject,
+    rows: &mut [Items<usize>],
+) -> Result<(), AllocError>
+    requires { length rows.old ≡ length places.now.numbering }
+    ensures { IfOk result (λ _.
+        Adds (PropertiesLead places.now number class.now) rows.old rows.new) }
+{
+    for (place, property) in class.properties.as_slice().iter().enumerate() {
+        add_property(alloc, places, number, place, property, rows)?;
+    }
+    Ok(())
+}
+
+/// .. from the property of this number in the class.
+fn add_property(
+    alloc: Global,
+    places: &Places,
+    class: usize,
+    number: usize,
+    property: &MetaProperty,
+    rows: &mut [Items<usize>],
+) -> Result<(), AllocError>
+    requires { length rows.old ≡ length places.now.numbering }
+    ensures { IfOk result (λ _.
+        Adds (PropertyLeads places.now class number property.now) rows.old rows.new) }
+{
+    match property.notify {
+        Some(signal) => {
+            let member = Member::Property(number);
+            let from = places.one(alloc, Node { class, member })?;
+            let member = Member::Method(named(signal));
+            let to = places.one(alloc, Node { class, member })?;
+            join(rows, from.as_slice(), to.as_slice())
+        }
+        None => Ok(()),
+    }
+}
+
+/// Adds the edges from the properties that binding sites read to those that they bind.
+pub fn add_sites(
+    alloc: Global,
+    places: &Places,
+    sites: &[MetaSite],
+    rows: &mut [Items<usize>],
+) -> Result<(), AllocError>
+    requires { length rows.old ≡ length places.now.numbering }
+    ensures { IfOk result (λ _. Adds (SitesLead places.now sites.now) rows.old rows.new) }
+{
+    for site in sites {
+        add_site(alloc, places, site, rows)?;
+    }
+    Ok(())
+}
+
+/// .. of this site.
+fn add_site(
+    alloc: Global,
+    places: &Places,
+    site: &MetaSite,
+    rows: &mut [Items<usize>],
+) -> Result<(), AllocError>
+    requires { length rows.old ≡ length places.now.numbering }
+    ensures { IfOk result (λ _. Adds (SiteLeads places.now site.now) rows.old rows.new) }
+{
+    let mut sources = Items::new(alloc);
+    gather_sources(site.formula.expression(), &mut sources)?;
+    let from = read(alloc, places, site.formals.as_slice(), sources.as_slice())?;
+    let to = places.below(alloc, site.class, Member::Property(site.property))?;
+    join(rows, from.as_slice(), to.as_slice())
+}
+
+/// The properties that the expression names, from left to right.
+fn gather_sources(
+    expression: &Expr<SourceProperty>,
+    sources: &mut Items<SourceProperty>,
+) -> Result<(), AllocError>
+    ensures { OnOk result (sources.new ≡ sources.old ++ paths_in expression.now) }
+{
+    match expression {
+        Expr::Literal(_) => Ok(()),
+        Expr::Path(source) => sources.push(*source),
+        Expr::Unary(_, operand) => gather_sources(operand.get(), sources),
+        Expr::Binary(_, left, right) => {
+            gather_sources(left.get(), sources)?;
+            gather_sources(right.get(), sources)
+        }
+    }
+}
+
+/// The numbers of these properties, where the sources are of these classes or below them, each once.
+fn read(
+    alloc: Global,
+    places: &Places,
+    formals: &[usize],
+    sources: &[SourceProperty],
+) -> Result<Items<usize>, AllocError>
+    ensures { IfOk result (AreJust (OfSome (IsRead places.now formals.now) sources.now)) }
+{
+    let mut all = Items::new(alloc);
+    for source in sources {
+        let found = read_one(alloc, places, formals, *source)?;
+        add_all(&mut all, found.as_slice())?;
+    }
+    ordered(alloc, all.as_slice())
+}
+
+/// The numbers of the property, where the source is of its class or below it.
+fn read_one(
+    alloc: Global,
+    places: &Places,
+    formals: &[usize],
+    source: SourceProperty,
+) -> Result<Items<usize>, AllocError>
+    ensures { IfOk result (AreJust (IsRead places.now formals.now source)) }
+{
+    match at(formals, source.source) {
+        Some(class) => places.below(alloc, *class, Member::Property(source.property)),
+        None => Ok(Items::new(alloc)),
+    }
+}
+
+/// Adds the edges from destructions to the announcements of those that are destroyed with an object.
+pub fn add_closures(
+    alloc: Global,
+    places: &Places,
+    closures: &[Items<usize>],
+    rows: &mut [Items<usize>],
+) -> Result<(), AllocError>
+    requires { length rows.old ≡ length places.now.numbering }
+    ensures { IfOk result (λ _. Adds (ClosuresLead places.now closures.now) rows.old rows.new) }
+{
+    for (class, closure) in closures.iter().enumerate() {
+        add_closure(alloc, places, class, closure.as_slice(), rows)?;
+    }
+    Ok(())
+}
+
+/// .. of an object of this class.
+fn add_closure(
+    alloc: Global,
+    places: &Places,
+    class: usize,
+    closure: &[usize],
+    rows: &mut [Items<usize>],
+) -> Result<(), AllocError>
+    requires { length rows.old ≡ length places.now.numbering }
+    ensures { IfOk result (λ _.
+        Adds (ClosureLeads places.now class closure.now) rows.old rows.new) }
+{
+    let member = Member::Destruction;
+    let from = places.one(alloc, Node { class, member })?;
+    let to = places.each(alloc, closure, Member::Method(DESTROYED))?;
+    join(rows, from.as_slice(), to.as_slice())
+}

@@ -1,0 +1,116 @@
+//! What the statements of bodies do at once, to which objects.
+
+ghost use Rattle.std.specs.Prelude.{◌≡◌, IfOk};
+ghost use Rattle.meta_model.specs.declared.object.Statement.TheViews.{out-Statement};
+ghost use Rattle.effect_scan.specs.Effects.{reach_of_type, reach_of_root, reach_of, effect_of, effect_on, BodyHas, StatementHas, Gathers};
+
+use crate::node::Member;
+use meta_model::{MetaPath, MetaRoot, Statement, ValueType};
+use sqlite_items::Items;
+use std::alloc::{AllocError, Global};
+
+/// Which objects something is done to.
+#[derive(Clone, Copy, Debug, PartialEq, Eq)]
+pub enum Reach {
+    /// The object whose body it is.
+    Own,
+    /// Some object of this class or of one below it.
+    Below(usize),
+}
+
+/// Something that is done at once to a member of some objects: a signal is emitted, a slot called, a property written, or
+/// the object destroyed.
+#[derive(Clone, Copy, Debug, PartialEq, Eq)]
+pub struct Effect {
+    /// The objects.
+    pub reach: Reach,
+    /// The member.
+    pub member: Member,
+}
+
+/// The objects that a path may lead to, where the parameters are of these types: one of the declared class or below it; or
+/// `None` where it isn't declared to lead to objects.
+pub fn reach_of(kinds: &[ValueType], path: &MetaPath) -> Option<Reach>
+    ensures { result ≡ reach_of kinds.now path.now }
+{
+    match path.steps.as_slice().last() {
+        Some(step) => reach_of_type(step.kind),
+        None => match path.root {
+            MetaRoot::This => Some(Reach::Own),
+            MetaRoot::Parameter(parameter) => reach_of_type(*kinds.get(parameter)?),
+        },
+    }
+}
+
+/// The objects that a value of this type may refer to.
+fn reach_of_type(kind: ValueType) -> Option<Reach>
+    ensures { result ≡ reach_of_type kind }
+{
+    match kind {
+        ValueType::Reference(class, _) => Some(Reach::Below(class)),
+        _ => None,
+    }
+}
+
+/// What the statement does at once, where the parameters are of these types; nothing, where its blocks do it, or where it
+/// connects or posts.
+pub fn effect_of(kinds: &[ValueType], statement: &Statement) -> Option<Effect>
+    ensures { result ≡ effect_of kinds.now (out-Statement statement.now) }
+{
+    match statement {
+        Statement::Set(path, property, _) => effect_on(kinds, path, Member::Property(*property)),
+        Statement::Emit(signal, _) => Some(Effect {
+            reach: Reach::Own,
+            member: Member::Method(*signal),
+        }),
+        Statement::Call(path, method, _) => effect_on(kinds, path, Member::Method(*method)),
+        Statement::Delete(path) => effect_on(kinds, path, Member::Destruction),
+        Statement::If(_, _, _)
+        | Statement::Connect(_, _)
+        | Statement::Disconnect(_)
+        | Statement::Later(_) => None,
+    }
+}
+
+/// Something that is done to this member of the objects that the path may lead to.
+fn effect_on(kinds: &[ValueType], path: &MetaPath, member: Member) -> Option<Effect>
+    ensures { result ≡ effect_on kinds.now member path.now }
+{
+    let reach = reach_of(kinds, path)?;
+    Some(Effect { reach, member })
+}
+
+/// What the statements of the body do at once, those in its blocks too.
+#[cycle(bodies)]
+pub fn gather(
+    kinds: &[ValueType],
+    body: &[Statement],
+    effects: &mut Items<Effect>,
+) -> Result<(), AllocError>
+    ensures { IfOk result (λ _. Gathers (BodyHas kinds.now body.now) effects.old effects.new) }
+{
+    for statement in body {
+        gather_one(kinds, statement, effects)?;
+    }
+    Ok(())
+}
+
+/// What the statement does at once, and those in its blocks.
+#[cycle(bodies)]
+fn gather_one(
+    kinds: &[ValueType],
+    statement: &Statement,
+    effects: &mut Items<Effect>,
+) -> Result<(), AllocError>
+    ensures { IfOk result (λ _.
+        Gathers (StatementHas kinds.now (out-Statement statement.now)) effects.old effects.new) }
+{
+    if let Statement::If(_, chosen, other) = statement {
+        gather(kinds, chosen.as_slice(), effects)?;
+        return gather(kinds, other.as_slice(), effects);
+    }
+    match effect_of(kinds, statement) {
+        Some(effect) => effects.push(effect),
+        None => Ok(()),
+    }
+}

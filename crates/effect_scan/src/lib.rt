@@ -1,0 +1,18 @@
+//! What the members of a program's classes may do at once, told from its declarations and bodies alone.
+#![tactic(auto)]
+
+mod closure;
+mod edges;
+mod effect;
+mod laws;
+mod lineage;
+mod node;
+mod numbering;
+mod places;
+mod rows;
+mod scan;
+
+pub use effect::{Effect, Reach, effect_of};
+pub use laws::edges_join_nodes;
+pub use node::{Member, Node};
+pub use scan::Scan;

@@ -1,0 +1,134 @@
+//! What the members of a program's classes may do at once.
+
+ghost use Rattle.std.specs.Prelude.{◌≡◌, [], replicate, length, IfOk};
+ghost use Rattle.meta_model.specs.LookUps.{LooksUp, FindsOnly};
+ghost use Rattle.effect_scan.specs.Nodes.{IsAt};
+ghost use Rattle.effect_scan.specs.Rows.{row, pairs_from};
+ghost use Rattle.effect_scan.specs.Places.{ArePlaces};
+ghost use Rattle.effect_scan.specs.Destroying.{AreClosures};
+ghost use Rattle.effect_scan.specs.Scans.{AreEdges, IsScan};
+
+use crate::closure::closures;
+use crate::edges::{add_closures, add_notifiers, add_sites, add_wires, add_works};
+use crate::node::Node;
+use crate::numbering::Numbering;
+use crate::places::Places;
+use crate::rows::{empty_rows, ordered_rows, row_at};
+use meta_objects::Meta;
+use sqlite_items::Items;
+use std::alloc::{AllocError, Global};
+use std::marker::Model;
+
+/// The nodes of a program, the edges between them, and for each class those whose objects are destroyed with one of it.
+#[derive(Drop)]
+pub struct Scan {
+    numbering: Numbering,
+    rows: Items<Items<usize>>,
+    closures: Items<Items<usize>>,
+}
+
+impl Model for Scan {
+    ghost use Rattle.effect_scan.specs.Scans.{Scanned};
+
+    ghost Value = { Scanned };
+
+    ghost view = { λ scan. record { nodes = scan.numbering; rows = scan.rows; closures = scan.closures } };
+}
+
+impl Scan {
+    /// The scan of a program that loads; its error is that memory was refused.
+    pub fn of(alloc: Global, meta: &Meta) -> Result<Scan, AllocError>
+        ensures { IfOk result (IsScan meta.now) }
+    {
+        let places = Places::of(alloc, meta)?;
+        let closures = closures(alloc, meta, places.lineage.as_slice())?;
+        let rows = edges(alloc, meta, &places, closures.as_slice())?;
+        let Places {
+            numbering,
+            lineage: _lineage,
+        } = places;
+        Ok(Scan {
+            numbering,
+            rows,
+            closures,
+        })
+    }
+
+    /// The nodes in their order; a node's number is its place.
+    pub fn nodes(&self) -> &[Node]
+        ensures { result.now ≡ self.now.nodes }
+    {
+        self.numbering.nodes()
+    }
+
+    /// The number of the node, or `None` where it is no node of the program.
+    pub fn number(&self, node: Node) -> Option<usize>
+        ensures value { LooksUp (IsAt self.now.nodes node) result }
+        ensures only { FindsOnly (IsAt self.now.nodes node) result }
+    {
+        self.numbering.number(node)
+    }
+
+    /// The numbers of the nodes that the node of this number may lead to, in their order; none past the last node.
+    pub fn targets(&self, node: usize) -> &[usize]
+        ensures { result.now ≡ row self.now.rows node }
+    {
+        row_at(self.rows.as_slice(), node)
+    }
+
+    /// All edges, by the numbers of the nodes that they lead from and to, in this order.
+    pub fn edges(&self, alloc: Global) -> Result<Items<(usize, usize)>, AllocError>
+        ensures { IfOk result (λ edges. edges ≡ pairs_from 0 self.now.rows) }
+    {
+        let mut edges = Items::new(alloc);
+        for (from, row) in self.rows.as_slice().iter().enumerate() {
+            for to in row.as_slice() {
+                edges.push((from, *to))?;
+            }
+        }
+        Ok(edges)
+    }
+
+    /// For each class, by number, those of the objects that are destroyed with one of it, in their order.
+    pub fn destroys(&self) -> &[Items<usize>]
+        ensures { result.now ≡ self.now.closures }
+    {
+        self.closures.as_slice()
+    }
+}
+
+/// The edges of the program: for each node those that it may lead to.
+fn edges(
+    alloc: Global,
+    meta: &Meta,
+    places: &Places,
+    closures: &[Items<usize>],
+) -> Result<Items<Items<usize>>, AllocError>
+    requires places { ArePlaces meta.now places.now }
+    requires closures { AreClosures meta.now closures.now }
+    ensures { IfOk result (AreEdges meta.now) }
+{
+    let mut rows = empty_rows(alloc, places.numbering.nodes().len())?;
+    add_edges(alloc, meta, places, closures, rows.as_mut_slice())
+}
+
+/// The edges of the program, in rows that are empty at first.
+fn add_edges(
+    alloc: Global,
+    meta: &Meta,
+    places: &Places,
+    closures: &[Items<usize>],
+    rows: &mut [Items<usize>],
+) -> Result<Items<Items<usize>>, AllocError>
+    requires places { ArePlaces meta.now places.now }
+    requires closures { AreClosures meta.now closures.now }
+    requires empty { rows.old ≡ replicate (length places.now.numbering) [] }
+    ensures { IfOk result (AreEdges meta.now) }
+{
+    add_works(alloc, places, meta.classes(), rows)?;
+    add_wires(alloc, places, meta.wires(), rows)?;
+    add_notifiers(alloc, places, meta.classes(), rows)?;
+    add_sites(alloc, places, meta.sites(), rows)?;
+    add_closures(alloc, places, closures, rows)?;
+    ordered_rows(alloc, rows)
+}

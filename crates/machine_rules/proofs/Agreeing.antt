@@ -1,0 +1,156 @@
+-- After a rule that is well properties and bindings agree, if they did before it.
+use Rattle.std.proofs.Common.{◌≡◌, ℕ, Bool, true, false, not, List, [], ◌∷◌, ◌++◌, length, take, filter, Result, Ok, Err, Option, Some, None, refl, sym, subst}
+use Rattle.std.specs.List.{find}
+use Rattle.signatures.specs.declared.value.Value.{Value}
+use Rattle.texts.specs.declared.connection.ConnectionType.{ConnectionType}
+use Rattle.texts.specs.declared.connection.Endpoints.{Endpoints as Named}
+use Rattle.meta_model.specs.declared.object.MetaMethod.{MetaMethod}
+use Rattle.meta_model.specs.declared.object.Statement.{Statement}
+use Rattle.meta_model.specs.declared.object.Work.{Work}
+use Rattle.meta_model.specs.declared.object.Work.TheVariants.{Signal, Slot}
+use Rattle.meta_model.specs.Loaded.{Loaded}
+use Rattle.connections.specs.declared.connection.Connection.{Connection}
+use Rattle.event_loops.specs.declared.item.Item.{Item}
+use Rattle.event_loops.specs.declared.item.Item.TheVariants.{Call, Deletion}
+use Rattle.event_loops.specs.declared.item.Posted.{Posted}
+use Rattle.event_loops.specs.Queues.{items_at, is_before, taken_before}
+use Rattle.object_tree.specs.declared.life.Life.{Life}
+use Rattle.object_tree.specs.declared.object.Object.{Object}
+use Rattle.object_tree.specs.Objects.{life_of}
+use Rattle.object_tree.specs.Typed.{AreTyped}
+use Rattle.prop_bindings.specs.declared.binding.Binding.{Binding}
+use Rattle.prop_bindings.specs.declared.place.Place.{Place}
+use Rattle.prop_bindings.specs.Bindings.{without}
+use Rattle.prop_bindings.specs.Fits.{Agree}
+use Rattle.prop_bindings.specs.Places.{property_of, same_place}
+use Rattle.prop_bindings.proofs.Fitting.{all-stay}
+use Rattle.prop_bindings.proofs.Leaving.{agree-fewer, left_agree}
+use Rattle.machine_state.specs.declared.endpoints.Endpoints.{Endpoints}
+use Rattle.machine_state.specs.declared.refusal.Refusal.{Refusal}
+use Rattle.machine_state.specs.declared.turn.Turn.{Turn}
+use Rattle.machine_state.specs.Connections.{is_living, next_used}
+use Rattle.machine_state.specs.State.{State, Activation, Body, Emit, Update, Destroy}
+use Rattle.machine_state.specs.Turns.{running, reaches_at_once}
+use Rattle.machine_rules.specs.Connecting.{kept_ends, names_of}
+use Rattle.machine_rules.specs.Destroying.{Dies, NextRule, ChildRule, DestroyRule, living_child, DefersOnce, Schedules}
+use Rattle.machine_rules.specs.Doings.{Doing, Write, Begin, Choose, Connect, Disconnect, Delete, Schedule, Nothing}
+use Rattle.machine_rules.specs.Good.{IsWell}
+use Rattle.machine_rules.specs.Rules.{RuleAt, BodyRule, Does, EmitRule, UpdateRule, NotifiesIf, TurnRule, Serves, Delivers, Arrives, BeginsIf, begun, with_used, linked, unlinked}
+use Rattle.machine_rules.specs.Runs.{Rules, done, then}
+use Rattle.machine_rules.specs.Settling.{Writes}
+use Rattle.machine_rules.proofs.Differing.{scheduled-agree}
+
+module _ {p : Loaded} {s t : State} (agree : Agree p s.objects s.bindings) (well : IsWell p s t) where
+  -- it is a state in which they do
+  agree-at : (u : State) → t ≡ u → Agree p u.objects u.bindings → Agree p t.objects t.bindings
+  agree-at u e before = let In : State → Type 0 = λ v. Agree p v.objects v.bindings in subst In (sym e) before
+
+  begun-agrees : (u : State) (below : List Activation) (o : ℕ) (x : Object) (m : ℕ) (method : MetaMethod) (arguments : List Value) (work : Work) → Agree p u.objects u.bindings → t ≡ begun u below o x m method arguments work → Agree p t.objects t.bindings
+  begun-agrees u below o x m method arguments Signal before e = agree-at _ e before
+  begun-agrees u below o x m method arguments (Slot statements) before e = agree-at _ e before
+
+  -- a write settles the values
+  writes-agrees : {below : List Activation} {o q : ℕ} {new : Value} → Writes p s below o q new t → Agree p t.objects t.bindings
+  writes-agrees {o = o} {q = q} x =
+      let keep : Binding → Bool = λ b. not (same_place b.target (property_of o q)) in
+      let typed : AreTyped p x.objects = subst (λ (v : State). AreTyped p v.objects) x.settles.gives well.values in
+      let left : Agree p s.objects (without (property_of o q) s.bindings) = agree-fewer p s.objects keep s.bindings agree in
+      agree-at _ x.settles.gives (record {
+        typed = typed;
+        fit = all-stay p s.objects x.objects agree.typed typed x.written.objects (without (property_of o q) s.bindings) left.fit;
+        apart = left.apart;
+        acyclic = left.acyclic;
+        settled = x.written.settled;
+      })
+
+  linked-agrees : (stack : List Activation) (ends : Endpoints) (how : ConnectionType) (names : Named (List ℕ)) (answer : Result (Unit {0}) Refusal) → t ≡ linked s stack ends how names answer → Agree p t.objects t.bindings
+  linked-agrees stack ends how names (Ok _) e = agree-at _ e agree
+  linked-agrees stack ends how names (Err k) e = agree-at _ e agree
+
+  unlinked-agrees : (stack : List Activation) (ends : Endpoints) (names : Named (List ℕ)) (answer : Result (Unit {0}) Refusal) → t ≡ unlinked s stack ends names answer → Agree p t.objects t.bindings
+  unlinked-agrees stack ends names (Ok _) e = agree-at _ e agree
+  unlinked-agrees stack ends names (Err k) e = agree-at _ e agree
+
+  -- what is left once an object is dead
+  dies-agrees : {stack : List Activation} {x : ℕ} → Dies s stack x t → Agree p t.objects t.bindings
+  dies-agrees {x = x} d = agree-at _ d.gives (left_agree p s.bindings s.objects x agree)
+
+  destroy-agrees : (below : List Activation) (next : Option ℕ) (torn : List ℕ) → DestroyRule s below t next torn → Agree p t.objects t.bindings
+  destroy-agrees below (Some x) torn r = by_life (is_living s.objects x) r
+    where
+      by_life : (b : Bool) → NextRule s below t x torn b → Agree p t.objects t.bindings
+      by_life true d = dies-agrees d
+      by_life false e = agree-at _ e agree
+  destroy-agrees below None [] r = agree-at _ r agree
+  destroy-agrees below None (parent ∷ torn) r = by_child (living_child s parent) r
+    where
+      by_child : (child : Option ℕ) → ChildRule s below t parent torn child → Agree p t.objects t.bindings
+      by_child (Some x) d = dies-agrees d
+      by_child None e = agree-at _ e agree
+
+  schedules-agrees : (stack : List Activation) (x : ℕ) (life : Option Life) → Schedules s stack x t life → Agree p t.objects t.bindings
+  schedules-agrees stack x None e = agree-at _ e agree
+  schedules-agrees stack x (Some l) r = by_mark l.scheduled r
+    where
+      by_mark : (b : Bool) → DefersOnce s stack l.home x t b → Agree p t.objects t.bindings
+      by_mark true e = agree-at _ e agree
+      by_mark false d = agree-at _ d.gives (scheduled-agree p s.objects s.bindings x agree)
+
+  does-agrees : (o m : ℕ) (arguments : List Value) (rest : List Statement) (below : List Activation) (d : Doing) → Does p s o m arguments rest below d t → Agree p t.objects t.bindings
+  does-agrees o m arguments rest below (Write x q new) does = writes-agrees does
+  does-agrees o m arguments rest below (Begin x n given) does = begun-agrees s (Body o m arguments rest ∷ below) x does.object n does.method given does.method.work agree does.gives
+  does-agrees o m arguments rest below (Choose block) does = agree-at _ does agree
+  does-agrees o m arguments rest below (Connect ends how) does = linked-agrees (Body o m arguments rest ∷ below) (kept_ends ends) how (names_of does.kept) does.answer does.gives
+  does-agrees o m arguments rest below (Disconnect ends) does = unlinked-agrees (Body o m arguments rest ∷ below) (kept_ends ends) (names_of does.kept) does.answer does.gives
+  does-agrees o m arguments rest below (Delete x) does = agree-at _ does agree
+  does-agrees o m arguments rest below (Schedule x) does = schedules-agrees (Body o m arguments rest ∷ below) x (life_of s.objects x) does
+  does-agrees o m arguments rest below Nothing does = agree-at _ does agree
+
+  body-agrees : (o m : ℕ) (arguments : List Value) (below : List Activation) (left : List Statement) → BodyRule p s o m arguments below t left → Agree p t.objects t.bindings
+  body-agrees o m arguments below [] r = agree-at _ r agree
+  body-agrees o m arguments below (x ∷ rest) r = does-agrees o m arguments rest below r.what r.does
+
+  arrives-agrees : (u : State) (stack : List Activation) (home o : ℕ) (x : Object) (m : ℕ) (method : MetaMethod) (arguments : List Value) (b : Bool) → Agree p u.objects u.bindings → Arrives u stack home o x m method arguments t b → Agree p t.objects t.bindings
+  arrives-agrees u stack home o x m method arguments true before r = begun-agrees u stack o x m method arguments method.work before r
+  arrives-agrees u stack home o x m method arguments false before r = agree-at _ r.gives before
+
+  emission-agrees : (o g : ℕ) (arguments : List Value) (last : ℕ) (below : List Activation) (found : Option Connection) → EmitRule p s o g arguments last below t found → Agree p t.objects t.bindings
+  emission-agrees o g arguments last below None r = agree-at _ r agree
+  emission-agrees o g arguments last below (Some c) r =
+      arrives-agrees (with_used s c) (Emit o g arguments c.number last ∷ below) r.home c.receiver r.receiver c.method r.method (take (length r.method.kinds) arguments) (reaches_at_once c.kind r.home (running s.turn)) agree r.arrives
+
+  update-agrees : (below : List Activation) (places : List Place) → UpdateRule p s below t places → Agree p t.objects t.bindings
+  update-agrees below [] r = agree-at _ r agree
+  update-agrees below (place ∷ places) r = by_life (life_of s.objects place.object) r
+    where
+      by_life : (life : Option Life) → NotifiesIf p s (Update places ∷ below) place t life → Agree p t.objects t.bindings
+      by_life None e = agree-at _ e agree
+      by_life (Some l) n = begun-agrees s (Update places ∷ below) place.object n.object n.signal n.method (take (length n.method.kinds) (n.present ∷ [])) Signal agree n.gives
+
+  delivers-agrees : (u : State) (item : Item) → Agree p u.objects u.bindings → Delivers p u t item → Agree p t.objects t.bindings
+  delivers-agrees u (Call o m arguments) before r = by_life (life_of u.objects o) r
+    where
+      by_life : (life : Option Life) → BeginsIf p u o m arguments t life → Agree p t.objects t.bindings
+      by_life None e = agree-at _ e before
+      by_life (Some l) b = begun-agrees u [] o b.object m b.method arguments b.method.work before b.gives
+  delivers-agrees u (Deletion o) before e = agree-at _ e before
+
+  turn-agrees : (found : Option Turn) → TurnRule p s t found → Agree p t.objects t.bindings
+  turn-agrees None r = absurd r
+  turn-agrees (Some turn) r = by_first (find (is_before turn.limit) (items_at s.queues.loops turn.home)) r
+    where
+      by_first : (first : Option Posted) → Serves p s t turn first → Agree p t.objects t.bindings
+      by_first None e = agree-at _ e agree
+      by_first (Some q) d = delivers-agrees (record s { queues = taken_before turn.home turn.limit s.queues }) q.item agree d
+
+  pub rule-agrees : (stack : List Activation) → RuleAt p s t stack → Agree p t.objects t.bindings
+  rule-agrees [] r = turn-agrees s.turn r
+  rule-agrees (Body o m arguments left ∷ below) r = body-agrees o m arguments below left r
+  rule-agrees (Emit o g arguments used last ∷ below) r = emission-agrees o g arguments last below (next_used s.objects s.connected.connections o g used last) r
+  rule-agrees (Update places ∷ below) r = update-agrees below places r
+  rule-agrees (Destroy next torn ∷ below) r = destroy-agrees below next torn r
+
+-- .. and so after runs of rules
+pub rules-settled : {p : Loaded} {d : ℕ} {s t : State} {n k : ℕ} → Rules p d s n t k → Agree p s.objects s.bindings → Agree p t.objects t.bindings
+rules-settled done agree = agree
+rules-settled (then {s = s} r good rest) agree = rules-settled rest (rule-agrees agree good.well s.stack r)

@@ -1,0 +1,77 @@
+-- What a write and a bind make of a state: all values that follow are settled in the same rule, and then notified
+-- (docs/machine.md, "Rules" and "Bindings"; Qt 6, "The Property System": a notify signal is emitted when the value has
+-- changed; "Qt Bindable Properties").
+use Rattle.std.specs.Prelude.{◌≡◌, ℕ, suc, is_some, List, ◌∷◌, ◌++◌, length, filter, Option, None, slice_get}
+use Rattle.std.specs.Option.{option_and_then}
+use Rattle.signatures.specs.declared.value.Value.{Value}
+use Rattle.meta_model.specs.declared.object.MetaObject.{MetaObject}
+use Rattle.meta_model.specs.declared.object.MetaProperty.{MetaProperty}
+use Rattle.meta_model.specs.Loaded.{Loaded}
+use Rattle.object_tree.specs.declared.object.Object.{Object}
+use Rattle.object_tree.specs.Objects.{class_of}
+use Rattle.prop_bindings.specs.declared.binding.Binding.{Binding}
+use Rattle.prop_bindings.specs.declared.place.Place.{Place}
+use Rattle.prop_bindings.specs.Bindings.{binding_at, without, replaced, Settled}
+use Rattle.prop_bindings.specs.Changes.{DifferInValues, AreChanged, in_order, IsWritten}
+use Rattle.prop_bindings.specs.Places.{property_of, values_in}
+use Rattle.machine_state.specs.declared.entry.Entry.{Entry}
+use Rattle.machine_state.specs.declared.telling.Cause.{Cause}
+use Rattle.machine_state.specs.declared.telling.Cause.TheVariants.{Write, Bind}
+use Rattle.machine_state.specs.State.{State, Activation, Update}
+use Rattle.machine_state.specs.Telling.{AreTold}
+use Rattle.machine_rules.specs.There.{IsField}
+
+-- ---- what is notified
+
+-- the property of a class that has this number
+abbrev pub property_in : Loaded → ℕ → ℕ → Option MetaProperty
+property_in p class q = option_and_then (λ (c : MetaObject). slice_get c.properties q) (slice_get p.classes class)
+
+-- the notify signal of a property of a living object, if it has one
+abbrev pub signal_at : Loaded → List Object → Place → Option ℕ
+signal_at p objects at =
+    option_and_then (λ (property : MetaProperty). property.notify)
+    (option_and_then (λ class. property_in p class at.property) (class_of objects at.object))
+
+-- those of the changed properties that have one, in their order
+abbrev pub notified : Loaded → List Object → List Place → List Place
+notified p objects changed = filter (λ at. is_some (signal_at p objects at)) changed
+
+-- ---- what changes
+
+-- Objects and bindings are these from now on. The property that is written or bound is written down, and each other one
+-- that changed; those that have a notify signal are still to be notified.
+pub record Settles (p : Loaded) (s : State) (below : List Activation) (cause : Cause) (at : Place)
+    (objects : List Object) (bindings : List Binding) (changed : List Place) (t : State) : Type 0 where
+  pub lines : List Entry
+  pub told : AreTold p objects (suc (length below)) cause at changed lines
+  pub gives : t ≡ record s {
+    objects = objects;
+    bindings = bindings;
+    stack = Update (notified p objects changed) ∷ below;
+    trace = s.trace ++ lines;
+  }
+
+-- a property is written, which ends its binding
+pub record Writes (p : Loaded) (s : State) (below : List Activation) (o q : ℕ) (new : Value) (t : State) : Type 0 where
+  pub object : Object
+  pub property : MetaProperty
+  pub is : IsField p s.objects o q object property
+  pub objects : List Object
+  pub changed : List Place
+  pub written : IsWritten s.bindings (without (property_of o q) s.bindings) s.objects objects (property_of o q) new changed
+  pub settles : Settles p s below Write (property_of o q) objects (without (property_of o q) s.bindings) changed t
+
+-- A binding is installed in place of its target's old one, and stands last. Whether it closes a chain of bindings is not
+-- asked: that is a bad moment, and not forbidden.
+pub record Installs (p : Loaded) (s : State) (below : List Activation) (b : Binding) (t : State) : Type 0 where
+  pub object : Object
+  pub property : MetaProperty
+  pub is : IsField p s.objects b.target.object b.target.property object property
+  pub objects : List Object
+  pub changed : List Place
+  pub differ : DifferInValues s.objects objects
+  pub settled : Settled (binding_at (replaced s.bindings b)) (values_in objects)
+  pub kept : (q : Place) → binding_at (replaced s.bindings b) q ≡ None → values_in objects q ≡ values_in s.objects q
+  pub changes : AreChanged s.objects objects (in_order b.target s.bindings) changed
+  pub settles : Settles p s below Bind b.target objects (replaced s.bindings b) changed t

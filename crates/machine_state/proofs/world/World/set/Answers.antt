@@ -1,0 +1,7 @@
+use Rattle.machine_state.proofs.Changed.{written-have}
+use Rattle.machine_state.proofs.world.World.set.Goals as goal
+
+pub lines-requires : goal.lines-requires
+lines-requires c =
+    let store = c.args.self.now.store in
+    record { there = written-have c.args.meta.now store.bindings c.write.new.self store.tree c.write.new.tree c.args.place.now c.args.value c.in-Ok.changed c.requires.agree.typed c.in-Ok.ensures.agree.typed c.in-Ok.ensures.value.1 }

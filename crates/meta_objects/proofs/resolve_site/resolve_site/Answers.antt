@@ -1,0 +1,19 @@
+use Rattle.std.proofs.Common.{ℕ, Any, inr, refl}
+use Rattle.std.specs.List.{AllZip}
+use Rattle.texts.specs.declared.program.Formal.{Formal}
+use Rattle.meta_model.specs.declared.fault.MetaFault.TheVariants as fault
+use Rattle.meta_model.specs.Outlines.{IsOutlineNamed}
+use Rattle.meta_objects.specs.Sites.{IsSite, LacksInSite}
+use Rattle.meta_model.proofs.OutlineSteps.{failed}
+use Rattle.meta_objects.proofs.SitePieces.{no_formals}
+use Rattle.meta_objects.proofs.resolve_site.resolve_site.Goals as goal
+
+pub returns-in_default : goal.returns-in_default
+returns-in_default c = inr (refl, λ loaded is. c.in_default.ensures _ _ _ is.target)
+
+pub returns-in_err-formals : goal.returns-in_err-formals
+returns-in_err-formals c =
+    failed fault.NoMember (Any (λ (f : Formal). (class : ℕ) → ¬ IsOutlineNamed c.args.outlines.now f.class class) c.as_slice.result.now) (LacksInSite c.args.outlines.now c.args.site.now)
+    (AllZip (λ (f : Formal) (class : ℕ). IsOutlineNamed c.args.outlines.now f.class class) c.as_slice.result.now) (IsSite c.args.outlines.now c.args.site.now) _ c.in_err-formals.ensures
+    (λ lacks. no_formals c.args.outlines.now c.args.site.now (rw c.as_slice.ensures at lacks))
+    _ c.from_residual.ensures.0 c.from_residual.ensures.1

@@ -1,0 +1,111 @@
+-- What the calls answer, from what a walk found and what was settled after it.
+use Rattle.std.proofs.Common.{◌≡◌, ◌-◌, true, false, List, [], ◌∷◌, ◌++◌, length, take, drop, Some, ap, sym, ◌∙◌, subst}
+use Rattle.std.proofs.lemmas.List.{take_rest}
+use Rattle.std.proofs.lemmas.List.Elements.{All-filter, All-push}
+use Rattle.std.proofs.lemmas.Option.{same_Some}
+use Rattle.signatures.specs.declared.value.Value.{Value}
+use Rattle.meta_model.specs.Loaded.{Loaded}
+use Rattle.object_tree.specs.declared.object.Object.{Object}
+use Rattle.prop_bindings.specs.declared.place.Place.{Place}
+use Rattle.prop_bindings.specs.declared.binding.Binding.{Binding}
+use Rattle.prop_bindings.specs.Places.{values_in}
+use Rattle.prop_bindings.specs.Bindings.{binding_at, without, replaced, reads_any, value_of, Settled, Loop}
+use Rattle.prop_bindings.specs.Changes.{in_order, DifferInValues, AreChanged, IsWritten, IsInstalled}
+use Rattle.prop_bindings.specs.Fits.{FitsAt, IsFit, Agree, AreSound}
+use Rattle.prop_bindings.specs.Orders.{IsOrder, update, pass, bound, Distinct, Halved, IsWalked}
+use Rattle.prop_bindings.proofs.Apart.{apart-fewer, apart-replaced, acyclic-fewer}
+use Rattle.prop_bindings.proofs.Fitting.{fit-stays}
+use Rattle.prop_bindings.proofs.Installed.{without-other}
+use Rattle.prop_bindings.proofs.Settling.{written-value, written-settled, written-kept, closes-loop, installed-order, installed-acyclic, installed-settled, installed-kept}
+use Rattle.prop_bindings.proofs.Walks.{bound-other}
+
+-- all but the first
+pub tail-is : (lent later reached : List Place) (at : Place) → lent ≡ later → later ≡ at ∷ reached → take (length lent - 1) (drop 1 lent) ≡ reached
+tail-is lent later reached at read is = take_rest lent 1 ∙ ap (λ (xs : List Place). drop 1 xs) (read ∙ is)
+
+-- ---- a write
+module _ (p : Loaded) (bs : List Binding) (old new : List Object) (at : Place) (v : Value) (order sooner later followers : List Place)
+    (o : IsOrder (binding_at bs) order) (agree : Agree p old bs) (walked : IsWalked (binding_at bs) at order sooner later)
+    (rest : followers ≡ walked.reached)
+    (is : (q : Place) → values_in new q ≡ pass (binding_at bs) followers (update (values_in old) at (Some v)) q) where
+  halved : Halved (binding_at bs) (binding_at (without at bs)) at order walked.reached sooner []
+  halved = walked.halved (binding_at (without at bs)) (without-other at bs)
+
+  distinct : Distinct (at ∷ walked.reached)
+  distinct = subst Distinct walked.is_later walked.distinct
+
+  passed : (q : Place) → values_in new q ≡ pass (binding_at bs) walked.reached (update (values_in old) at (Some v)) q
+  passed q = is q ∙ ap (λ (xs : List Place). pass (binding_at bs) xs (update (values_in old) at (Some v)) q) rest
+
+  settled : Settled (binding_at (without at bs)) (values_in new)
+  settled = written-settled bs at order sooner walked.reached v (values_in old) (values_in new) o halved distinct agree.settled passed
+
+  pub is_written : (cs : List Binding) (changed : List Place) → cs ≡ without at bs → DifferInValues old new → AreChanged old new (in_order at bs) changed → IsWritten bs cs old new at v changed
+  is_written cs changed left differ changes = record {
+    bindings = left;
+    objects = differ;
+    written = written-value bs at order sooner walked.reached v (values_in old) (values_in new) o halved distinct agree.settled passed;
+    settled = subst (λ (xs : List Binding). Settled (binding_at xs) (values_in new)) (sym left) settled;
+    kept = λ q none away. written-kept bs at order sooner walked.reached v (values_in old) (values_in new) o halved distinct agree.settled passed q (ap (λ (xs : List Binding). binding_at xs q) (sym left) ∙ none) away;
+    changes = changes;
+  }
+
+  pub agree_written : (cs : List Binding) → cs ≡ without at bs → AreSound p new bs → Agree p new cs
+  agree_written cs left sound = subst (λ (xs : List Binding). Agree p new xs) (sym left) (record {
+    typed = sound.0;
+    fit = All-filter _ (IsFit p new) bs sound.1;
+    apart = apart-fewer _ bs agree.apart;
+    acyclic = acyclic-fewer _ bs agree.apart agree.acyclic;
+    settled = settled;
+  })
+
+-- ---- a bind
+module _ (bs : List Binding) (b : Binding) (order sooner later : List Place) (o : IsOrder (binding_at bs) order)
+    (walked : IsWalked (binding_at bs) b.target order sooner later) where
+  both : Halved (binding_at bs) (bound (binding_at bs) b.target b) b.target order walked.reached sooner []
+  both = walked.halved (bound (binding_at bs) b.target b) (bound-other (binding_at bs) b.target b)
+
+  pub install_loops : (lent : List Place) → lent ≡ later → reads_any b lent ≡ true → Loop (binding_at (replaced bs b))
+  install_loops lent read found = closes-loop bs b order sooner walked.reached o both (subst (λ (xs : List Place). reads_any b xs ≡ true) (read ∙ walked.is_later) found)
+
+  module _ (lent : List Place) (read : lent ≡ later) (free : reads_any b lent ≡ false) where
+    apart : reads_any b (b.target ∷ walked.reached) ≡ false
+    apart = subst (λ (xs : List Place). reads_any b xs ≡ false) (read ∙ walked.is_later) free
+
+    pub install_order : (all : List Place) → all ≡ sooner ++ later → IsOrder (binding_at (replaced bs b)) all
+    install_order all is = subst (λ (xs : List Place). IsOrder (binding_at (replaced bs b)) xs) (sym (is ∙ ap (λ (xs : List Place). sooner ++ xs) walked.is_later)) (installed-order bs b order sooner walked.reached o both apart)
+
+    module _ (old new : List Object) (v : Value) (followers : List Place) (before : Settled (binding_at bs) (values_in old))
+        (has : value_of b (values_in old) ≡ Some v) (rest : followers ≡ walked.reached)
+        (is : (q : Place) → values_in new q ≡ pass (binding_at bs) followers (update (values_in old) b.target (Some v)) q) where
+      once : Distinct (b.target ∷ walked.reached)
+      once = subst Distinct walked.is_later walked.distinct
+
+      follows : (q : Place) → values_in new q ≡ pass (binding_at bs) walked.reached (update (values_in old) b.target (Some v)) q
+      follows q = is q ∙ ap (λ (xs : List Place). pass (binding_at bs) xs (update (values_in old) b.target (Some v)) q) rest
+
+      settles : Settled (binding_at (replaced bs b)) (values_in new)
+      settles = installed-settled bs b order sooner walked.reached o both apart v (values_in old) (values_in new) once before has follows
+
+      pub is_installed : (cs : List Binding) (changed : List Place) → cs ≡ replaced bs b → DifferInValues old new → AreChanged old new (in_order b.target bs) changed → IsInstalled bs cs old new b changed
+      is_installed cs changed left differ changes = record {
+        bindings = left;
+        acyclic = subst (λ (xs : List Binding). ¬ Loop (binding_at xs)) (sym left) (installed-acyclic bs b order sooner walked.reached o both apart);
+        objects = differ;
+        settled = subst (λ (xs : List Binding). Settled (binding_at xs) (values_in new)) (sym left) settles;
+        kept = λ q none. installed-kept bs b order sooner walked.reached o both apart v (values_in old) (values_in new) once before has follows q (ap (λ (xs : List Binding). binding_at xs q) (sym left) ∙ none);
+        changes = changes;
+      }
+
+      pub agree_installed : (p : Loaded) (cs : List Binding) → cs ≡ replaced bs b → DifferInValues old new → Agree p old bs → IsFit p old b → AreSound p new bs → Agree p new cs
+      agree_installed p cs left differ agree fit sound = subst (λ (xs : List Binding). Agree p new xs) (sym left) (record {
+        typed = sound.0;
+        fit = All-push (IsFit p new) (without b.target bs) b (All-filter _ (IsFit p new) bs sound.1) (fit-stays p old new agree.typed sound.0 differ b fit);
+        apart = apart-replaced bs b agree.apart;
+        acyclic = installed-acyclic bs b order sooner walked.reached o both apart;
+        settled = settles;
+      })
+
+-- the value that a binding has is of its target's type
+pub fits-of : (p : Loaded) (objects : List Object) (b : Binding) (v : Value) → IsFit p objects b → value_of b (values_in objects) ≡ Some v → FitsAt p objects b.target v
+fits-of p objects b v f is = subst (λ (w : Value). FitsAt p objects b.target w) (same_Some f.value v (sym f.is ∙ is)) f.typed

@@ -1,0 +1,99 @@
+-- What an evaluation, and a write with those of its followers, make of objects and sound bindings.
+use Rattle.std.proofs.Common.{◌≡◌, List, map, inl, inr, Option, None, Some, ap, sym, ◌∙◌, subst, refl}
+use Rattle.std.specs.Option.{is_some}
+use Rattle.std.proofs.Math.Path.{fun_ext}
+use Rattle.std.proofs.lemmas.Option.{same_Some}
+use Rattle.signatures.specs.declared.value.Value.{Value}
+use Rattle.meta_model.specs.Loaded.{Loaded}
+use Rattle.object_tree.specs.declared.object.Object.{Object}
+use Rattle.object_tree.specs.Objects.{change_life, written}
+use Rattle.object_tree.proofs.TypedObjects.{typed-written}
+use Rattle.prop_bindings.specs.declared.place.Place.{Place}
+use Rattle.prop_bindings.specs.declared.binding.Binding.{Binding}
+use Rattle.prop_bindings.specs.Places.{values_in, In}
+use Rattle.prop_bindings.specs.Bindings.{binding_at, value_of}
+use Rattle.prop_bindings.specs.Changes.{in_order, DifferInValues, DifferAt}
+use Rattle.prop_bindings.specs.Fits.{FitsAt, IsFit, AreSound, IsSoundBySome, StaySound, IsSoundWith, StaySoundWith}
+use Rattle.prop_bindings.specs.Orders.{given, evaluated, pass, update}
+use Rattle.prop_bindings.proofs.Places.{decide_place, different}
+use Rattle.prop_bindings.proofs.Values.{written-differs, values-updated, value-kept}
+use Rattle.prop_bindings.proofs.Alike.{BothAlike}
+use Rattle.prop_bindings.proofs.Fitting.{all-stay, envs-alike}
+use Rattle.prop_bindings.proofs.There.{bound-has, has-value}
+use Rattle.prop_bindings.proofs.Installed.{out-of-order}
+
+-- ---- a value of its type is written
+pub given-sound : (p : Loaded) (objects : List Object) (bs : List Binding) (at : Place) (v : Value) → AreSound p objects bs → FitsAt p objects at v → AreSound p (change_life at.object (written at.property v) objects) bs
+given-sound p objects bs at v sound fits =
+    let now = typed-written p objects at.object at.property v fits sound.0 in
+    (now, all-stay p objects (change_life at.object (written at.property v) objects) sound.0 now (written-differs at.object at.property v objects) bs sound.1)
+
+pub given-values : (objects : List Object) (bs : List Binding) (at : Place) (v : Value) → IsSoundWith objects bs at v → (q : Place) → values_in (change_life at.object (written at.property v) objects) q ≡ update (values_in objects) at (Some v) q
+given-values objects bs at v s q =
+    let found = has-value s.0 objects s.1.0 at v s.2 in
+    values-updated objects at v found.0 found.1 q
+
+-- ---- an evaluation
+module _ (objects : List Object) (bs : List Binding) (at : Place) (b : Binding) (some : binding_at bs at ≡ Some b) where
+  -- a sound binding has a value
+  pub evaluated-there : IsSoundBySome objects bs → value_of b (values_in objects) ≡ None → ⊥
+  evaluated-there s none =
+      let f = bound-has (IsFit s.0 objects) bs s.1.1 at b some in
+      let is : value_of b (values_in objects) ≡ Some f.0.value = f.0.is in
+      cc (none, is)
+
+  module _ (v : Value) (is : value_of b (values_in objects) ≡ Some v) where
+    abbrev after : List Object
+    after = change_life at.object (written at.property v) objects
+
+    evaluated-fits : (p : Loaded) → AreSound p objects bs → FitsAt p objects at v
+    evaluated-fits p sound =
+        let f = bound-has (IsFit p objects) bs sound.1 at b some in
+        let same : f.0.value ≡ v = same_Some f.0.value v (sym f.0.is ∙ is) in
+        subst (λ (r : Place). FitsAt p objects r v) f.1 (subst (λ (w : Value). FitsAt p objects b.target w) same f.0.typed)
+
+    pub evaluated-values : IsSoundBySome objects bs → (q : Place) → values_in after q ≡ evaluated (binding_at bs) at (values_in objects) q
+    evaluated-values s q =
+        let found = has-value s.0 objects s.1.0 at v (evaluated-fits s.0 s.1) in
+        values-updated objects at v found.0 found.1 q
+        ∙ sym (ap (λ (o : Option Binding). given o at (values_in objects) q) some ∙ ap (λ (w : Option Value). update (values_in objects) at w q) is)
+
+    pub evaluated-kept : (q : Place) → binding_at bs q ≡ None → values_in after q ≡ values_in objects q
+    evaluated-kept q none = elim (decide_place at q) [
+      | inl e ↦ let gone : binding_at bs at ≡ None = subst (λ (r : Place). binding_at bs r ≡ None) (sym e) none in absurd (cc (gone, some))
+      | inr f ↦ value-kept objects at q v f
+    ]
+
+    pub evaluated-sound : StaySound objects after bs
+    evaluated-sound p sound = given-sound p objects bs at v sound (evaluated-fits p sound)
+
+-- ---- a write and what follows
+some-alike : (v w : Option Value) → BothAlike v w → is_some w ≡ is_some v
+some-alike None None h = refl
+some-alike None (Some w) h = absurd (cc h)
+some-alike (Some v) None h = absurd (cc h)
+some-alike (Some v) (Some w) h = refl
+
+module _ (old new : List Object) (bs : List Binding) (at : Place) (v : Value) (s : IsSoundWith old bs at v) where
+  abbrev mid : List Object
+  mid = change_life at.object (written at.property v) old
+
+  pub settle-values : (followers : List Place) → ((q : Place) → values_in new q ≡ pass (binding_at bs) followers (values_in mid) q) → (q : Place) → values_in new q ≡ pass (binding_at bs) followers (update (values_in old) at (Some v)) q
+  settle-values followers is q = is q ∙ ap (λ (e : Place → Option Value). pass (binding_at bs) followers e q) (fun_ext (given-values old bs at v s))
+
+  pub settle-sound : StaySound mid new bs → StaySoundWith old new bs at v
+  settle-sound stay p sound fits = stay p (given-sound p old bs at v sound fits)
+
+  -- where the evaluations were given up
+  pub settle-differs : (places : List Place) (before : List (Option Value)) → DifferInValues mid new → StaySound mid new bs → ((q : Place) → binding_at bs q ≡ None → values_in new q ≡ values_in mid q) → places ≡ in_order at bs → before ≡ map (values_in old) places → DifferAt old new places before
+  settle-differs places before differ stay kept is had =
+      let whole : DifferInValues old new = differ ∙ written-differs at.object at.property v old in
+      let now = settle-sound stay s.0 s.1 s.2 in
+      record {
+        objects = whole;
+        properties = λ q. some-alike (values_in old q) (values_in new q) (envs-alike s.0 old new s.1.0 now.0 whole q);
+        had = had;
+        others = λ q out.
+            let away = out-of-order at bs q (λ i. out (subst (λ (ps : List Place). In q ps) (sym is) i)) in
+            kept q away.1 ∙ value-kept old at q v (different at q away.0);
+      }

@@ -1,0 +1,137 @@
+-- A binding that fits stays so, whatever values of their types properties are given.
+use Rattle.std.proofs.Common.{◌≡◌, ℕ, zero, suc, List, [], ◌∷◌, map, All, Option, None, Some, refl, ap, sym, ◌∙◌, subst}
+use Rattle.std.specs.Prelude.{slice_get}
+use Rattle.std.specs.Option.{option_map, option_and_then}
+use Rattle.std.proofs.lemmas.List.Elements.{All-weaker}
+use Rattle.std.proofs.lemmas.Option.{same_Some}
+use Rattle.signatures.specs.declared.value.Value.{Value}
+use Rattle.signatures.specs.declared.value.Value.TheVariants as variant
+use Rattle.meta_model.specs.declared.object.MetaObject.{MetaObject}
+use Rattle.meta_model.specs.declared.object.MetaProperty.{MetaProperty}
+use Rattle.meta_model.specs.declared.object.ValueType.{ValueType}
+use Rattle.meta_model.specs.Loaded.{Loaded}
+use Rattle.meta_model.specs.Members.{IsProperty}
+use Rattle.object_tree.specs.declared.life.Life.{Life}
+use Rattle.object_tree.specs.declared.object.Object.{Object}
+use Rattle.object_tree.specs.Objects.{Lives, life_of}
+use Rattle.object_tree.specs.Seen.{seen, seen_object}
+use Rattle.object_tree.specs.Typed.{AreTyped, IsTyped, ReadAs}
+use Rattle.object_tree.proofs.Changing.{life-of-lives, lives-of-life}
+use Rattle.meta_model.specs.declared.site.SourceProperty.{SourceProperty}
+use Rattle.prop_bindings.specs.declared.place.Place.{Place}
+use Rattle.prop_bindings.specs.declared.binding.Binding.{Binding}
+use Rattle.prop_bindings.specs.Places.{values_in}
+use Rattle.prop_bindings.specs.Bindings.{place_of, value_of}
+use Rattle.prop_bindings.specs.Changes.{valueless, DifferInValues}
+use Rattle.prop_bindings.specs.Fits.{IsFit}
+use Rattle.prop_bindings.proofs.Alike.{BothAlike, sort_of, values-alike, lists-alike, reads-sort, plain-has}
+
+abbrev emptied : Life → Life
+emptied l = record l { values = [] }
+
+abbrev kinds_of : MetaObject → List ValueType
+kinds_of class = map (λ (q : MetaProperty). q.kind) class.properties
+
+-- ---- who lives, and of which class, stays
+get-map : (f : Object → Object) (xs : List Object) (o : ℕ) → slice_get (map f xs) o ≡ option_map f (slice_get xs o)
+get-map f [] o = refl
+get-map f (x ∷ xs) zero = refl
+get-map f (x ∷ xs) (suc o) = get-map f xs o
+
+life-in : (there : Option Object) → option_and_then (λ (x : Object). x.life) (option_map valueless there) ≡ option_map emptied (option_and_then (λ (x : Object). x.life) there)
+life-in None = refl
+life-in (Some x) = refl
+
+pub lives-alike : (old new : List Object) → DifferInValues old new → (o : ℕ) → option_map emptied (life_of new o) ≡ option_map emptied (life_of old o)
+lives-alike old new differ o =
+    sym (life-in (slice_get new o))
+    ∙ ap (λ (there : Option Object). option_and_then (λ (x : Object). x.life) there) (sym (get-map valueless new o) ∙ ap (λ (zs : List Object). slice_get zs o) differ ∙ get-map valueless old o)
+    ∙ life-in (slice_get old o)
+
+-- a living object lives on
+pub record LivesOn (new : List Object) (o : ℕ) (l : Life) : Type 0 where
+  pub object : Object
+  pub life : Life
+  pub lives : Lives new o object life
+  pub same : life.class ≡ l.class
+
+pub lives-on : (old new : List Object) → DifferInValues old new → (o : ℕ) (l : Life) → life_of old o ≡ Some l → LivesOn new o l
+lives-on old new differ o l is = by-life (life_of new o) refl (lives-alike old new differ o ∙ ap (option_map emptied) is)
+  where
+    by-life : (there : Option Life) → life_of new o ≡ there → option_map emptied there ≡ Some (emptied l) → LivesOn new o l
+    by-life None at e = absurd (cc e)
+    by-life (Some m) at e =
+        let found = lives-of-life new o m at in
+        record { object = found.0; life = m; lives = found.1; same = ap (λ (z : Life). z.class) (same_Some (emptied m) (emptied l) e) }
+
+-- ---- values read as they did
+seen-life : (o : ℕ) (there : Option Life) → option_map (λ (l : Life). o) (option_map emptied there) ≡ option_map (λ (l : Life). o) there
+seen-life o None = refl
+seen-life o (Some l) = refl
+
+seen-valueless : (o : ℕ) (there : Option Object) → seen_object (option_map valueless there) o ≡ seen_object there o
+seen-valueless o None = refl
+seen-valueless o (Some x) = seen-life o x.life
+
+pub seen-same : (old new : List Object) → DifferInValues old new → (v : Value) → seen new v ≡ seen old v
+seen-same old new differ (variant.Int n) = refl
+seen-same old new differ (variant.Bool b) = refl
+seen-same old new differ (variant.Text t) = refl
+seen-same old new differ (variant.Ref None) = refl
+seen-same old new differ (variant.Ref (Some o)) = ap variant.Ref (
+    sym (seen-valueless o (slice_get new o))
+    ∙ ap (λ (there : Option Object). seen_object there o) (sym (get-map valueless new o) ∙ ap (λ (zs : List Object). slice_get zs o) differ ∙ get-map valueless old o)
+    ∙ seen-valueless o (slice_get old o))
+
+-- ---- the values stay of their sorts
+module _ (p : Loaded) (old new : List Object) (before : AreTyped p old) (after : AreTyped p new) (differ : DifferInValues old new) where
+  in-lives : (o q : ℕ) (l m : Life) → life_of old o ≡ Some l → life_of new o ≡ Some m → m.class ≡ l.class → BothAlike (slice_get l.values q) (slice_get m.values q)
+  in-lives o q l m was now same =
+      let x = lives-of-life old o l was in
+      let y = lives-of-life new o m now in
+      let t : IsTyped p old l = before o x.0 l x.1 in
+      let u : IsTyped p new m = after o y.0 m y.1 in
+      let class : t.class ≡ u.class = same_Some t.class u.class (sym t.is_class.is ∙ ap (slice_get p.classes) (sym same) ∙ u.is_class.is) in
+      lists-alike p old new l.values m.values (kinds_of t.class) t.typed (subst (λ (c : MetaObject). ReadAs p new m.values (kinds_of c)) (sym class) u.typed) q
+
+  by-lives : (o q : ℕ) (a b : Option Life) → life_of old o ≡ a → life_of new o ≡ b → option_map emptied b ≡ option_map emptied a → BothAlike (option_and_then (λ (l : Life). slice_get l.values q) a) (option_and_then (λ (l : Life). slice_get l.values q) b)
+  by-lives o q None None was now e = refl
+  by-lives o q None (Some m) was now e = absurd (cc e)
+  by-lives o q (Some l) None was now e = absurd (cc e)
+  by-lives o q (Some l) (Some m) was now e = in-lives o q l m was now (ap (λ (z : Life). z.class) (same_Some (emptied m) (emptied l) e))
+
+  pub envs-alike : (q : Place) → BothAlike (values_in old q) (values_in new q)
+  envs-alike q = by-lives q.object q.property (life_of old q.object) (life_of new q.object) refl refl (lives-alike old new differ q.object)
+
+  reads-alike : (o : Option Place) → BothAlike (option_and_then (values_in old) o) (option_and_then (values_in new) o)
+  reads-alike None = refl
+  reads-alike (Some q) = envs-alike q
+
+  pub value-alike : (b : Binding) → BothAlike (value_of b (values_in old)) (value_of b (values_in new))
+  value-alike b = values-alike (λ (s : SourceProperty). option_and_then (values_in old) (place_of b.sources s)) (λ (s : SourceProperty). option_and_then (values_in new) (place_of b.sources s)) (λ s. reads-alike (place_of b.sources s)) b.formula
+
+  fit-by : (b : Binding) (f : IsFit p old b) (found : Option Value) → value_of b (values_in new) ≡ found → BothAlike (Some f.value) found → IsFit p new b
+  fit-by b f None is h = absurd (cc h)
+  fit-by b f (Some w) is h =
+      let on = lives-on old new differ b.target.object f.typed.life (life-of-lives f.typed.lives) in
+      let property = f.typed.property in
+      record {
+        value = w;
+        is = is;
+        typed = record {
+          object = on.object;
+          life = on.life;
+          lives = on.lives;
+          property = property;
+          is_property = subst (λ (c : ℕ). IsProperty p c b.target.property property) (sym on.same) f.typed.is_property;
+          reads = plain-has p new w property.kind f.plain (sym (same_Some (sort_of f.value) (sort_of w) h) ∙ reads-sort p old f.value property.kind f.typed.reads);
+        };
+        plain = f.plain;
+      }
+
+  -- types alone decide
+  pub fit-stays : (b : Binding) → IsFit p old b → IsFit p new b
+  fit-stays b f = fit-by b f (value_of b (values_in new)) refl (subst (λ (found : Option Value). BothAlike found (value_of b (values_in new))) f.is (value-alike b))
+
+  pub all-stay : (bs : List Binding) → All (IsFit p old) bs → All (IsFit p new) bs
+  all-stay bs h = All-weaker (IsFit p old) (IsFit p new) fit-stays bs h

@@ -1,0 +1,157 @@
+-- Objects and bindings that agree do so after a change that leaves what the bindings touch as it was, and once one of the
+-- objects is dead, without what touches it.
+use Rattle.std.proofs.Common.{◌≡◌, ◌≢◌, ℕ, zero, suc, eqb, Bool, true, not, ◌||◌, List, [], ◌∷◌, filter, All, get_or, inl, inr, Option, None, Some, refl, ap, sym, ◌∙◌, subst}
+use Rattle.std.specs.Prelude.{slice_get}
+use Rattle.std.specs.Option.{option_map, option_and_then}
+use Rattle.std.proofs.lemmas.Bool.{false≢true, cases_Bool, eq-eqb}
+use Rattle.std.proofs.lemmas.List.Elements.{All-nil, All-filter, All-weaker, filter_passes}
+use Rattle.std.proofs.lemmas.Option.{same_Some, none-some}
+use Rattle.signatures.specs.declared.value.Value.{Value}
+use Rattle.meta_model.specs.Loaded.{Loaded}
+use Rattle.meta_model.specs.Members.{IsProperty}
+use Rattle.object_tree.specs.declared.life.Life.{Life}
+use Rattle.object_tree.specs.declared.object.Object.{Object}
+use Rattle.object_tree.specs.Children.{is_among}
+use Rattle.object_tree.specs.Family.{dead, leaves, parent_of, without_life}
+use Rattle.object_tree.specs.Objects.{life_of}
+use Rattle.object_tree.specs.Typed.{AreTyped}
+use Rattle.object_tree.proofs.Changing.{get-change_other, life-of-lives, lives-of-life}
+use Rattle.object_tree.proofs.Families.{leaves-part}
+use Rattle.object_tree.proofs.TypedObjects.{typed-died}
+use Rattle.meta_model.specs.declared.site.SourceProperty.{SourceProperty}
+use Rattle.prop_bindings.specs.declared.place.Place.{Place}
+use Rattle.prop_bindings.specs.declared.binding.Binding.{Binding}
+use Rattle.prop_bindings.specs.Places.{property_of, values_in}
+use Rattle.prop_bindings.specs.Bindings.{binding_at, place_of, touches, dropped, value_of}
+use Rattle.prop_bindings.specs.Fits.{IsFit, Agree}
+use Rattle.prop_bindings.specs.Laws.{LeftAgree}
+use Rattle.prop_bindings.proofs.Apart.{some-fewer, apart-fewer, acyclic-fewer}
+use Rattle.prop_bindings.proofs.Alike.{reads-sort, plain-has}
+use Rattle.prop_bindings.proofs.Loops.{chain-ends}
+use Rattle.prop_bindings.proofs.More.{values-more}
+use Rattle.prop_bindings.proofs.There.{bound-has}
+
+-- ---- no bindings
+pub agree-none : (p : Loaded) (objects : List Object) → AreTyped p objects → Agree p objects []
+agree-none p objects typed = record {
+  typed = typed;
+  fit = All-nil (IsFit p objects);
+  apart = tt;
+  acyclic = λ loop. (let last = chain-ends (binding_at []) loop.1 in let is : None ≡ Some last.0 = last.1 in none-some last.0 is);
+  settled = λ q b some. absurd (none-some b some);
+}
+
+-- ---- fewer bindings
+pub agree-fewer : (p : Loaded) (objects : List Object) (keep : Binding → Bool) (bs : List Binding) → Agree p objects bs → Agree p objects (filter keep bs)
+agree-fewer p objects keep bs a = record {
+  typed = a.typed;
+  fit = All-filter keep (IsFit p objects) bs a.fit;
+  apart = apart-fewer keep bs a.apart;
+  acyclic = acyclic-fewer keep bs a.apart a.acyclic;
+  settled = λ q b some. a.settled q b (some-fewer keep bs a.apart q b some);
+}
+
+-- ---- what a binding touches
+or-left : (x y : Bool) → x ≡ true → (x || y) ≡ true
+or-left x y t = ap (λ (b : Bool). b || y) t
+
+or-right : (x y : Bool) → y ≡ true → (x || y) ≡ true
+or-right x y t = elim (cases_Bool x) [ inl h ↦ or-left x y h | inr f ↦ ap (λ (b : Bool). b || y) f ∙ t ]
+
+among-source : (sources : List ℕ) (k o : ℕ) → slice_get sources k ≡ Some o → is_among o sources ≡ true
+among-source [] k o is = absurd (cc is)
+among-source (x ∷ xs) zero o is = or-left (eqb x o) (is_among o xs) (eq-eqb x o (same_Some x o is))
+among-source (x ∷ xs) (suc k) o is = or-right (eqb x o) (is_among o xs) (among-source xs k o is)
+
+touches-target : (b : Binding) → touches b.target.object b ≡ true
+touches-target b = or-left (eqb b.target.object b.target.object) (is_among b.target.object b.sources) (eq-eqb b.target.object b.target.object refl)
+
+touches-source : (b : Binding) (k o : ℕ) → slice_get b.sources k ≡ Some o → touches o b ≡ true
+touches-source b k o is = or-right (eqb b.target.object o) (is_among o b.sources) (among-source b.sources k o is)
+
+-- ---- objects that live on in their class, with their values
+abbrev pub Stays : List Object → List Object → ℕ → Type 0
+Stays old new o = (l : Life) → life_of old o ≡ Some l → (m : Life) × (life_of new o ≡ Some m) × (m.class ≡ l.class) × (m.values ≡ l.values)
+
+-- .. all that the binding touches
+abbrev pub StayFor : List Object → List Object → Binding → Type 0
+StayFor old new b = (o : ℕ) → touches o b ≡ true → Stays old new o
+
+stays-value : (old new : List Object) (q : Place) → Stays old new q.object → (v : Value) → values_in old q ≡ Some v → values_in new q ≡ Some v
+stays-value old new q stays v is = by-life (life_of old q.object) refl is
+  where
+    by-life : (there : Option Life) → life_of old q.object ≡ there → option_and_then (λ (l : Life). slice_get l.values q.property) there ≡ Some v → values_in new q ≡ Some v
+    by-life None at e = absurd (cc e)
+    by-life (Some l) at e =
+        let on = stays l at in
+        ap (λ (there : Option Life). option_and_then (λ (m : Life). slice_get m.values q.property) there) on.1 ∙ ap (λ (vs : List Value). slice_get vs q.property) on.3 ∙ e
+
+module _ (old new : List Object) (b : Binding) (stays : StayFor old new b) where
+  source-still : (s : SourceProperty) (v : Value) → option_and_then (values_in old) (place_of b.sources s) ≡ Some v → option_and_then (values_in new) (place_of b.sources s) ≡ Some v
+  source-still s v is = by-source (slice_get b.sources s.source) refl is
+    where
+      by-source : (found : Option ℕ) → slice_get b.sources s.source ≡ found → option_and_then (values_in old) (option_map (λ o. property_of o s.property) found) ≡ Some v → option_and_then (values_in new) (option_map (λ o. property_of o s.property) found) ≡ Some v
+      by-source None at e = absurd (cc e)
+      by-source (Some o) at e = stays-value old new (property_of o s.property) (stays o (touches-source b s.source o at)) v e
+
+  value-still : (v : Value) → value_of b (values_in old) ≡ Some v → value_of b (values_in new) ≡ Some v
+  value-still = values-more (λ (s : SourceProperty). option_and_then (values_in old) (place_of b.sources s)) (λ (s : SourceProperty). option_and_then (values_in new) (place_of b.sources s)) source-still b.formula
+
+  fit-still : (p : Loaded) → IsFit p old b → IsFit p new b
+  fit-still p f =
+      let on = stays b.target.object (touches-target b) f.typed.life (life-of-lives f.typed.lives) in
+      let found = lives-of-life new b.target.object on.0 on.1 in
+      let property = f.typed.property in
+      record {
+        value = f.value;
+        is = value-still f.value f.is;
+        typed = record {
+          object = found.0;
+          life = on.0;
+          lives = found.1;
+          property = property;
+          is_property = subst (λ (c : ℕ). IsProperty p c b.target.property property) (sym on.2) f.typed.is_property;
+          reads = plain-has p new f.value property.kind f.plain (reads-sort p old f.value property.kind f.typed.reads);
+        };
+        plain = f.plain;
+      }
+
+all-still : (p : Loaded) (old new : List Object) (bs : List Binding) → All (StayFor old new) bs → All (IsFit p old) bs → All (IsFit p new) bs
+all-still p old new bs stay fit k d within = fit-still old new (get_or bs k d) (stay k d within) p (fit k d within)
+
+pub agree-kept : (p : Loaded) (old new : List Object) (bs : List Binding) → AreTyped p new → All (StayFor old new) bs → Agree p old bs → Agree p new bs
+agree-kept p old new bs typed stay a = record {
+  typed = typed;
+  fit = all-still p old new bs stay a.fit;
+  apart = a.apart;
+  acyclic = a.acyclic;
+  settled = λ q b some.
+      let f = bound-has (IsFit p old) bs a.fit q b some in
+      let s = bound-has (StayFor old new) bs stay q b some in
+      let touched : touches q.object b ≡ true = subst (λ (r : Place). touches r.object b ≡ true) f.1 (touches-target b) in
+      stays-value old new q (s.0 q.object touched) f.0.value (a.settled q b some ∙ f.0.is) ∙ sym (value-still old new b s.0 f.0.value f.0.is);
+}
+
+-- .. where every object that lives does so
+pub agree-living : (p : Loaded) (old new : List Object) (bs : List Binding) → AreTyped p new → ((o : ℕ) → Stays old new o) → Agree p old bs → Agree p new bs
+agree-living p old new bs typed stays a = agree-kept p old new bs typed (λ k d within o touched. stays o) a
+
+-- ---- a death
+life-kept : (o k : ℕ) (objects : List Object) → k ≢ o → life_of (without_life o objects) k ≡ life_of objects k
+life-kept o k objects other =
+    ap (λ (there : Option Object). option_and_then (λ (x : Object). x.life) there) (get-change_other o k dead (leaves (parent_of objects o) o objects) other)
+    ∙ leaves-part (λ (there : Option Object). option_and_then (λ (x : Object). x.life) there) (parent_of objects o) o k objects (λ x. refl)
+
+stays-apart : (o k : ℕ) (objects : List Object) → k ≢ o → Stays objects (without_life o objects) k
+stays-apart o k objects other l is = (l, life-kept o k objects other ∙ is, refl, refl)
+
+untouched : (o : ℕ) (objects : List Object) (b : Binding) → not (touches o b) ≡ true → StayFor objects (without_life o objects) b
+untouched o objects b away k touched = stays-apart o k objects (λ same.
+    let hit : touches o b ≡ true = subst (λ (j : ℕ). touches j b ≡ true) same touched in
+    false≢true (sym (ap not hit) ∙ away))
+
+all-untouched : (o : ℕ) (objects : List Object) (bs : List Binding) → All (StayFor objects (without_life o objects)) (dropped o bs)
+all-untouched o objects bs = All-weaker (λ (b : Binding). not (touches o b) ≡ true) (StayFor objects (without_life o objects)) (untouched o objects) (dropped o bs) (filter_passes (λ (b : Binding). not (touches o b)) bs)
+
+pub left_agree : LeftAgree
+left_agree p bs objects o a = agree-kept p objects (without_life o objects) (dropped o bs) (typed-died p o objects a.typed) (all-untouched o objects bs) (agree-fewer p objects (λ (b : Binding). not (touches o b)) bs a)

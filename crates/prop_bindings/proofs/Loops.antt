@@ -1,0 +1,40 @@
+-- What has an order of evaluation has no loop.
+use Rattle.std.proofs.Common.{◌≡◌, List, [], ◌∷◌, inl, inr, Option, Some, refl, ap, ◌∙◌, subst}
+use Rattle.prop_bindings.specs.declared.place.Place.{Place}
+use Rattle.prop_bindings.specs.declared.binding.Binding.{Binding}
+use Rattle.prop_bindings.specs.Places.{In}
+use Rattle.prop_bindings.specs.Bindings.{Reads, Chain, direct, further, Loop}
+use Rattle.prop_bindings.specs.Orders.{Free, Ordered, Covers}
+
+-- a reader of a member is a member
+abbrev Closed : (Place → Option Binding) → List Place → Type 0
+Closed F xs = (q m : Place) (b : Binding) → F q ≡ Some b → Reads b m → In m xs → In q xs
+
+closed-tail : (F : Place → Option Binding) (x : Place) (xs : List Place) → Free F x (x ∷ xs) → Closed F (x ∷ xs) → Closed F xs
+closed-tail F x xs free closed q m b f r i = elim (closed q m b f r (inr i)) [
+  | inl h ↦ absurd (free b (ap F h ∙ f) m (inr i) r)
+  | inr j ↦ j
+]
+
+chain-stays : (F : Place → Option Binding) (xs : List Place) → Closed F xs → {p q : Place} → Chain F p q → In p xs → In q xs
+chain-stays F xs closed (direct {p = p} {q = q} b f r) i = closed q p b f r i
+chain-stays F xs closed (further {m = m} {q = q} b chain f r) i = closed q m b f r (chain-stays F xs closed chain i)
+
+-- no chain from a member leads to a place that is free of all members
+no_chain : (F : Place → Option Binding) (xs : List Place) → Closed F xs → {p q : Place} → Chain F p q → In p xs → Free F q xs → ⊥
+no_chain F xs closed (direct {p = p} {q = q} b f r) i free = free b f p i r
+no_chain F xs closed (further {m = m} {q = q} b chain f r) i free = free b f m (chain-stays F xs closed chain i) r
+
+no_loop_along : (F : Place → Option Binding) (xs : List Place) → Ordered F xs → Closed F xs → (p : Place) → Chain F p p → In p xs → ⊥
+no_loop_along F [] o closed p chain i = i
+no_loop_along F (x ∷ xs) o closed p chain i = elim i [
+  | inl h ↦ subst (λ (y : Place). Chain F y y → ⊥) h (λ c. no_chain F (x ∷ xs) closed c (inl refl) o.0) chain
+  | inr j ↦ no_loop_along F xs o.1 (closed-tail F x xs o.0 closed) p chain j
+]
+
+pub chain-ends : (F : Place → Option Binding) {p q : Place} → Chain F p q → (b : Binding) × (F q ≡ Some b)
+chain-ends F (direct b f r) = (b, f)
+chain-ends F (further b chain f r) = (b, f)
+
+pub no_loop : (F : Place → Option Binding) (xs : List Place) → Ordered F xs → Covers F xs → Loop F → ⊥
+no_loop F xs o c loop = no_loop_along F xs o (λ q m b f r i. c q b f) loop.0 loop.1 (let e = chain-ends F loop.1 in c loop.0 e.0 e.1)

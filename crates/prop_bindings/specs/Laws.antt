@@ -1,0 +1,44 @@
+-- Settled values are determined by the bindings and by what isn't bound, so a write and a bind have one outcome; and what
+-- is left after a death agrees (docs/machine.md, "Bindings").
+use Rattle.std.specs.Prelude.{◌≡◌, ℕ, List, Option, None}
+use Rattle.signatures.specs.declared.value.Value.{Value}
+use Rattle.meta_model.specs.Loaded.{Loaded}
+use Rattle.object_tree.specs.declared.object.Object.{Object}
+use Rattle.object_tree.specs.Family.{without_life}
+use Rattle.prop_bindings.specs.declared.place.Place.{Place}
+use Rattle.prop_bindings.specs.declared.binding.Binding.{Binding}
+use Rattle.prop_bindings.specs.Bindings.{binding_at, AreApart, dropped, Settled, Loop}
+use Rattle.prop_bindings.specs.Changes.{IsWritten, IsInstalled}
+use Rattle.prop_bindings.specs.Fits.{Agree}
+
+-- the values agree with e on what isn't bound
+abbrev pub AgreesUnbound : (Place → Option Binding) → (Place → Option Value) → (Place → Option Value) → Type 0
+AgreesUnbound F e f = (p : Place) → F p ≡ None → f p ≡ e p
+
+-- over whatever other values, there is exactly one settled state
+pub record Determines (F : Place → Option Binding) : Type 0 where
+  pub some : (e : Place → Option Value) → (f : Place → Option Value) × Settled F f × AgreesUnbound F e f
+  pub once : (e f : Place → Option Value) → Settled F e → Settled F f → AgreesUnbound F e f → (p : Place) → f p ≡ e p
+
+-- bindings of which no chain leads from a property back to itself have exactly one settled state over given other values
+abbrev pub AcyclicDetermine : Type 0
+AcyclicDetermine = (bs : List Binding) → AreApart bs → (¬ Loop (binding_at bs)) → Determines (binding_at bs)
+
+-- what a write makes of bindings and objects that agree is one thing
+abbrev pub WrittenOnce : Type 0
+WrittenOnce = (p : Loaded) (bs : List Binding) (old : List Object) (at : Place) (v : Value) → Agree p old bs
+    → (cs ds : List Binding) (new other : List Object) (changed others : List Place)
+    → IsWritten bs cs old new at v changed → IsWritten bs ds old other at v others
+    → (cs ≡ ds) × (new ≡ other) × (changed ≡ others)
+
+-- .. and what a bind makes of them
+abbrev pub InstalledOnce : Type 0
+InstalledOnce = (p : Loaded) (bs : List Binding) (old : List Object) (b : Binding) → Agree p old bs
+    → (cs ds : List Binding) (new other : List Object) (changed others : List Place)
+    → IsInstalled bs cs old new b changed → IsInstalled bs ds old other b others
+    → (cs ≡ ds) × (new ≡ other) × (changed ≡ others)
+
+-- what is left of bindings and objects that agree, once an object is dead, agrees
+abbrev pub LeftAgree : Type 0
+LeftAgree = (p : Loaded) (bs : List Binding) (objects : List Object) (o : ℕ) → Agree p objects bs
+    → Agree p (without_life o objects) (dropped o bs)

@@ -1,0 +1,36 @@
+//! Properties of objects.
+
+ghost use Rattle.std.specs.Prelude.{◌≡◌};
+ghost use Rattle.prop_bindings.specs.Places.{same_place, is_in};
+
+use signatures::ObjectId;
+
+/// A property of an object.
+#[derive(Clone, Copy, Debug, PartialEq, Eq)]
+pub struct Place {
+    /// The object.
+    pub object: ObjectId,
+    /// The property's number in the object's class.
+    pub property: usize,
+}
+
+impl Place {
+    /// Whether both are one property of one object.
+    pub fn is_same(&self, other: &Place) -> bool
+        ensures { result ≡ same_place self.now other.now }
+    {
+        self.object == other.object && self.property == other.property
+    }
+}
+
+/// Whether the property is among these.
+pub fn contains(places: &[Place], place: &Place) -> bool
+    ensures { result ≡ is_in places.now place.now }
+{
+    for each in places {
+        if each.is_same(place) {
+            return true;
+        }
+    }
+    false
+}

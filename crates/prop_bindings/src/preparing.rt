@@ -1,0 +1,115 @@
+//! Whether a binding may be installed.
+
+ghost use Rattle.std.specs.Prelude.{◌↔◌, IsTrue};
+ghost use Rattle.std.specs.List.{AllZip};
+ghost use Rattle.prop_bindings.specs.Fits.{FitsAt};
+ghost use Rattle.prop_bindings.specs.Calls.{Prepares, IsOf, CoversBinding, InOneLoop};
+
+use crate::binding::Binding;
+use crate::fault::BindFault;
+use crate::place::Place;
+use meta_objects::{Meta, MetaSite};
+use object_tree::Tree;
+use signatures::{ObjectId, Value};
+use sqlite_items::Items;
+use std::alloc::Global;
+
+/// A binding, with the value that its expression has.
+#[derive(Drop)]
+pub struct Prepared {
+    pub binding: Binding,
+    pub value: Value,
+}
+
+/// The binding of this site, or the first of these that holds: `BadSource`, `OtherLoop`, `BadType`. `Memory` comes only
+/// where a growth of memory was refused.
+pub fn prepare(
+    alloc: Global,
+    meta: &Meta,
+    tree: &Tree,
+    number: usize,
+    target: ObjectId,
+    sources: &[ObjectId],
+) -> Result<Prepared, BindFault>
+    ensures { Prepares meta.now number target sources.now tree.now result }
+{
+    let Some(site) = meta.sites().get(number) else {
+        return Err(BindFault::BadSource);
+    };
+    if !covers(meta, tree, site, target, sources) {
+        return Err(BindFault::BadSource);
+    }
+    if !in_one_loop(tree, target, sources) {
+        return Err(BindFault::OtherLoop);
+    }
+    let binding = Binding {
+        site: number,
+        target: Place {
+            object: target,
+            property: site.property,
+        },
+        sources: Items::from_slice(alloc, sources)?,
+        formula: site.formula.copy()?,
+    };
+    let value = binding.value(alloc, tree)?;
+    if !fits(meta, tree, &binding.target, &value) {
+        return Err(BindFault::BadType);
+    }
+    Ok(Prepared { binding, value })
+}
+
+/// Whether the value is of the type of a living object's property.
+pub fn fits(meta: &Meta, tree: &Tree, place: &Place, value: &Value) -> bool
+    ensures { IsTrue result ↔ FitsAt meta.now tree.now place.now value.now }
+{
+    let Some(life) = tree.life(place.object) else {
+        return false;
+    };
+    let Some(class) = meta.object(life.class) else {
+        return false;
+    };
+    match class.properties.get(place.property) {
+        Some(property) => tree.has_type(meta, value, property.kind),
+        None => false,
+    }
+}
+
+/// Whether the site covers the target and the sources.
+fn covers(meta: &Meta, tree: &Tree, site: &MetaSite, target: ObjectId, sources: &[ObjectId]) -> bool
+    ensures { IsTrue result ↔ CoversBinding meta.now tree.now site.now target sources.now }
+{
+    is_of(meta, tree, target, site.class) && are_of(meta, tree, sources, site.formals.as_slice())
+}
+
+/// Whether there are as many objects as classes, each of its class or of one below it.
+fn are_of(meta: &Meta, tree: &Tree, objects: &[ObjectId], classes: &[usize]) -> bool
+    ensures { IsTrue result ↔ AllZip (IsOf meta.now tree.now) objects.now classes.now }
+{
+    let (mut rest, mut left) = (objects, classes);
+    while let Some((class, more)) = left.split_first() {
+        match rest.split_first() {
+            Some((object, after)) if is_of(meta, tree, *object, *class) => rest = after,
+            _ => return false,
+        }
+        left = more;
+    }
+    rest.is_empty()
+}
+
+/// Whether the living object is of the class or of one below it.
+fn is_of(meta: &Meta, tree: &Tree, object: ObjectId, class: usize) -> bool
+    ensures { IsTrue result ↔ IsOf meta.now tree.now object class }
+{
+    match tree.life(object) {
+        Some(life) => meta.inherits(life.class, class),
+        None => false,
+    }
+}
+
+/// Whether the sources live in the target's event loop.
+fn in_one_loop(tree: &Tree, target: ObjectId, sources: &[ObjectId]) -> bool
+    ensures { IsTrue result ↔ InOneLoop tree.now target sources.now }
+{
+    let home = tree.home(target);
+    sources.iter().all(|source| tree.home(*source) == home)
+}

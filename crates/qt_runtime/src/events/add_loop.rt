@@ -1,0 +1,25 @@
+//! `loop`: an event loop is added.
+
+ghost use Rattle.std.specs.Prelude.{◌≡◌, ◌<◌, None};
+ghost use Rattle.script_lang.specs.declared.event.Event.TheVariants.{Loop};
+ghost use Rattle.qt_runtime.specs.Taking.{WorldInvariant, Answers};
+
+use machine_rules::Setting;
+use machine_state::{Answer, Fault, Refusal, World};
+use signatures::Name;
+
+/// Adds an event loop.
+pub fn add_loop(setting: &Setting, world: &mut World, name: &Name) -> Result<Answer, Fault>
+    requires left { 0 < world.old.left }
+    requires idle { world.old.turn ≡ None }
+    requires keeps { WorldInvariant setting.now.meta world.old }
+    ensures { Answers setting.now (Loop name.now) world.old world.new result }
+{
+    match world.store.loops.find(name) {
+        Some(_) => world.refuse(Refusal::LoopExists),
+        None => {
+            world.accept_loop(name)?;
+            Ok(Answer::Done)
+        }
+    }
+}
