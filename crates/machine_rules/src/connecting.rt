@@ -9,12 +9,12 @@ ghost use Rattle.machine_rules.specs.Reaches.{IsJudged, LacksEnds, NamesEnds, La
 
 use crate::ends::{FoundEnds, kept_ends};
 use crate::setting::Setting;
-use machine_state::{Endpoints, Entry, Fault, Happening, Refusal, World};
+use machine_state::{Answering, Endpoints, Entry, Fault, Happening, Refusal, World};
 use meta_objects::Wired;
 use signatures::{Name, Sig};
 use texts::{self, ConnectionType};
 
-impl Setting {
+impl<N: Answering> Setting<N> {
     /// Connects by a statement, where `depth` activations are on the stack, or writes down why that is refused: the first
     /// of `NotWired`, `Incompatible` and `Exists` that holds. `BadType` where an object or its method isn't there, and
     /// `Memory`; then nothing changes.

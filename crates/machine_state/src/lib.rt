@@ -16,9 +16,9 @@ mod turn;
 mod world;
 
 pub use endpoints::Endpoints;
-pub use entry::{Entry, Happening, Shown, Trace};
+pub use entry::{Entry, Happening, Shown, ShownAction, Trace};
 pub use fault::{Answer, Fault};
-pub use natives::Natives;
+pub use natives::{Action, Answering, MetaEffects};
 pub use refusal::Refusal;
 pub use showing::{show, show_all};
 pub use telling::Cause;
