@@ -90,7 +90,7 @@ one-doing {s} {c} {d} m n =
 
 pub stops-unwritten : {p : Loaded} {natives : NativeAnswers} {d : ℕ} {h active : List (Option ℕ)} {place : Place} {w : World} {from to : List Activation} {new : Value} {f : Fault} →
     active ≡ shows to ++ h → Sets p natives w from to place.object place.property new → 0 < w.left → IsUnwritten p d active w.store.tree place new f → StopsIn p natives d h w from w f
-stops-unwritten {p} {natives} {place = place} {w = w} over sets some (missing none) =
+stops-unwritten {p} {natives} {place = place} {w = w} {new = new} over sets some (missing none) =
     stops-stuck sets.goes_on some
     (λ below t r. let k = sets.only below t r in none k.object k.property k.is)
     (λ below a b value next.
