@@ -13,18 +13,19 @@ kind_of plain.Int = type.Int
 kind_of plain.Bool = type.Bool
 kind_of plain.Text = type.Text
 
--- a number is an `int`, a truth value a `bool`, a text a `QString`; a reference is none of these
-abbrev pub is_of : PlainType → Value → Bool
-is_of plain.Int (value.Int n) = true
-is_of plain.Int _ = false
-is_of plain.Bool (value.Bool b) = true
-is_of plain.Bool _ = false
-is_of plain.Text (value.Text t) = true
-is_of plain.Text _ = false
+-- a number is an `int`, a truth value a `bool`, a text a `QString`; a reference is of no plain type
+abbrev pub is_of : Value → ValueType → Bool
+is_of (value.Int n) type.Int = true
+is_of (value.Int n) _ = false
+is_of (value.Bool b) type.Bool = true
+is_of (value.Bool b) _ = false
+is_of (value.Text t) type.Text = true
+is_of (value.Text t) _ = false
+is_of (value.Ref o) T = false
 
 -- as many values as types, each of its type
-abbrev pub are_of : List PlainType → List Value → Bool
+abbrev pub are_of : List Value → List ValueType → Bool
 are_of [] [] = true
-are_of [] (v ∷ vs) = false
-are_of (T ∷ Ts) [] = false
-are_of (T ∷ Ts) (v ∷ vs) = is_of T v && are_of Ts vs
+are_of [] (T ∷ Ts) = false
+are_of (v ∷ vs) [] = false
+are_of (v ∷ vs) (T ∷ Ts) = is_of v T && are_of vs Ts

@@ -1,5 +1,8 @@
 use signatures::{Arguments, Value};
 
+/// The most actions that a native answers at once.
+pub const MOST_ACTIONS: usize = 64;
+
 /// What a native asks for. An answer is a list of them, which are done in their order.
 #[derive(Drop)]
 pub enum Action {
