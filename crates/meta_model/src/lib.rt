@@ -4,6 +4,7 @@
 
 mod call_index;
 mod clashes;
+mod effects;
 mod fault;
 mod indexed;
 mod kinds;
@@ -20,6 +21,7 @@ mod slot_body;
 
 pub use call_index::{Called, find_call, index_calls};
 pub use clashes::{has_duplicate_class, has_repeated_name};
+pub use effects::MetaEffects;
 pub use fault::MetaFault;
 pub use indexed::{IndexedOutline, index_outlines};
 pub use kinds::{has_no_type, kind_of, read_kind, read_kinds};
