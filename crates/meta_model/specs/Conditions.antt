@@ -113,7 +113,11 @@ LacksTypes outlines outline =
 abbrev pub LacksAnyType : List Outline → Type 0
 LacksAnyType outlines = Any (LacksTypes outlines) outlines
 
--- .. or a binding's target, or a property that a binding reads, is a reference, or a native takes or affects one
+-- a binding's target, or a property that a binding reads, is a reference, or a native takes, reads, emits or sets one
+abbrev pub MisusesReference : Program → List Outline → Type 0
+MisusesReference program outlines =
+    Any (UsesReference outlines) program.sites ⊎ Any (HasReferenceNative outlines) program.classes
+
+-- a type isn't there, or a reference stands where only values may
 abbrev pub NoType : Program → List Outline → Type 0
-NoType program outlines =
-    LacksAnyType outlines ⊎ Any (UsesReference outlines) program.sites ⊎ Any (HasReferenceNative outlines) program.classes
+NoType program outlines = LacksAnyType outlines ⊎ MisusesReference program outlines

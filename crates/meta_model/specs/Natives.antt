@@ -14,13 +14,14 @@ use Rattle.meta_model.specs.Twice.{StandsTwice}
 use Rattle.meta_model.specs.Sites.{IsReferenceIn}
 
 -- ---- names that stand twice
--- a property is named twice among those that the native reads, or among those that it sets, or two of the signals that it
--- emits have one name
+-- two of the signals that the native emits have one name, or a property is named twice among those that it sets
+abbrev pub RepeatsAction : EffectNames → Type 0
+RepeatsAction effects =
+    StandsTwice (λ (a b : Sig). a.name ≡ b.name) effects.emits ⊎ StandsTwice (λ (a b : List ℕ). a ≡ b) effects.sets
+
+-- .. or among those that it reads
 abbrev pub RepeatsEffect : EffectNames → Type 0
-RepeatsEffect effects =
-    StandsTwice (λ (a b : List ℕ). a ≡ b) effects.reads
-    ⊎ StandsTwice (λ (a b : Sig). a.name ≡ b.name) effects.emits
-    ⊎ StandsTwice (λ (a b : List ℕ). a ≡ b) effects.sets
+RepeatsEffect effects = StandsTwice (λ (a b : List ℕ). a ≡ b) effects.reads ⊎ RepeatsAction effects
 
 -- .. of a slot that is a native
 abbrev pub RepeatsEffectIn : SlotWork → Type 0
@@ -35,12 +36,15 @@ IsPointer T = T.pointer ≡ true
 abbrev pub TakesReference : List Parameter → Type 0
 TakesReference parameters = Any (λ (p : Parameter). IsPointer p.kind) parameters
 
--- a property that the native of this class reads or sets, or a parameter of a signal that it emits, is a reference
+-- a parameter of a signal that the native of this class emits, or a property that it sets, is a reference
+abbrev pub ActsOnReference : List Outline → List ℕ → EffectNames → Type 0
+ActsOnReference outlines class effects =
+    Any (λ (sig : Sig). Any IsPointer sig.types) effects.emits ⊎ Any (IsReferenceIn outlines class) effects.sets
+
+-- .. or a property that it reads
 abbrev pub AffectsReference : List Outline → List ℕ → EffectNames → Type 0
 AffectsReference outlines class effects =
-    Any (IsReferenceIn outlines class) effects.reads
-    ⊎ Any (λ (sig : Sig). Any IsPointer sig.types) effects.emits
-    ⊎ Any (IsReferenceIn outlines class) effects.sets
+    Any (IsReferenceIn outlines class) effects.reads ⊎ ActsOnReference outlines class effects
 
 -- the slot is a native, and takes or affects a reference
 abbrev pub TouchesReference : List Outline → List ℕ → List Parameter → SlotWork → Type 0

@@ -1,7 +1,6 @@
 -- What every loaded program keeps: class 0 is `QObject`, which is above all others; numbers are those of members, and no
--- two members are alike; a body speaks of objects of the class that declares its slot, and so do a native's effects; literals
--- hold no object
--- (docs/machine.md, "Loading").
+-- two members are alike; a body, and a native's effects, speak of objects of the class that declares them; literals hold no
+-- object (docs/machine.md, "Loading").
 use Rattle.std.specs.Prelude.{◌≡◌, ◌≢◌, All, ℕ, ◌<◌, ◌⊎◌, Bool, true, false, List, [], ◌∷◌, ◌++◌, length, None, Some, slice_get, codes}
 use Rattle.std.specs.List.{AllZip}
 use Rattle.signatures.specs.declared.qtype.QType.{QType}

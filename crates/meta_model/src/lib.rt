@@ -9,6 +9,7 @@ mod fault;
 mod indexed;
 mod kinds;
 mod name_index;
+mod native_types;
 mod notify;
 mod object;
 mod outline;

@@ -110,25 +110,6 @@ pub enum Work {
     Native(MetaEffects),
 }
 
-impl Work {
-    /// The same work, of which a body is shared; the error is that memory was refused.
-    pub fn copy(&self, alloc: Global) -> Result<Work, AllocError>
-        ensures { IfOk result (λ copy. copy ≡ self.now) }
-    {
-        match self {
-            Work::Signal => Ok(Work::Signal),
-            Work::Slot(body) => {
-                let body = body.copy()?;
-                Ok(Work::Slot(body))
-            }
-            Work::Native(effects) => {
-                let effects = effects.copy(alloc)?;
-                Ok(Work::Native(effects))
-            }
-        }
-    }
-}
-
 /// A method of a class.
 #[derive(Drop)]
 pub struct MetaMethod {
