@@ -1,0 +1,4 @@
+pub mod Plain
+pub mod Heads
+pub mod Effects
+pub mod Answers
