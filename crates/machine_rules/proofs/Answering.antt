@@ -12,9 +12,9 @@ use Rattle.meta_model.specs.Members.{IsClass, Declares, base_of, method_count, m
 use Rattle.object_tree.specs.declared.life.Life.{Life}
 use Rattle.object_tree.specs.declared.object.Object.{Object}
 use Rattle.object_tree.specs.Objects.{stored}
-use Rattle.machine_state.specs.declared.natives.MetaEffects.{MetaEffects}
-use Rattle.machine_state.specs.declared.natives.Action.{Action}
-use Rattle.machine_state.specs.declared.natives.Action.TheVariants as action
+use Rattle.meta_model.specs.declared.effects.MetaEffects.{MetaEffects}
+use Rattle.native_slots.specs.declared.action.Action.{Action}
+use Rattle.native_slots.specs.declared.action.Action.TheVariants as action
 use Rattle.machine_state.specs.declared.entry.ShownAction.{ShownAction}
 use Rattle.machine_state.specs.declared.entry.ShownAction.TheVariants as show
 use Rattle.machine_state.specs.declared.entry.Happening.TheVariants.{Answered}

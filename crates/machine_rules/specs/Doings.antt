@@ -10,9 +10,9 @@ use Rattle.meta_model.specs.declared.object.Statement.TheViews.{out-Statement}
 use Rattle.meta_model.specs.declared.object.MetaEndpoints.{MetaEndpoints}
 use Rattle.object_tree.specs.declared.object.Object.{Object}
 use Rattle.machine_state.specs.declared.endpoints.Endpoints.{Endpoints}
-use Rattle.machine_state.specs.declared.natives.MetaEffects.{MetaEffects}
-use Rattle.machine_state.specs.declared.natives.Action.{Action}
-use Rattle.machine_state.specs.declared.natives.Action.TheVariants as action
+use Rattle.meta_model.specs.declared.effects.MetaEffects.{MetaEffects}
+use Rattle.native_slots.specs.declared.action.Action.{Action}
+use Rattle.native_slots.specs.declared.action.Action.TheVariants as action
 use Rattle.machine_state.specs.State.{Step, Run, Ask, Act}
 use Rattle.machine_rules.specs.Paths.{path_value, value_of, values_of}
 

@@ -25,8 +25,8 @@ use Rattle.machine_state.specs.declared.entry.Entry.TheVariants.{At}
 use Rattle.machine_state.specs.declared.entry.Happening.{Happening}
 use Rattle.machine_state.specs.declared.entry.Happening.TheVariants as happening
 use Rattle.machine_state.specs.declared.entry.ShownAction.{ShownAction}
-use Rattle.machine_state.specs.declared.natives.MetaEffects.{MetaEffects}
-use Rattle.machine_state.specs.declared.natives.Action.{Action}
+use Rattle.meta_model.specs.declared.effects.MetaEffects.{MetaEffects}
+use Rattle.native_slots.specs.declared.action.Action.{Action}
 use Rattle.machine_state.specs.declared.endpoints.Endpoints.{Endpoints}
 use Rattle.machine_state.specs.declared.refusal.Refusal.{Refusal}
 use Rattle.machine_state.specs.Refusals.{refusal_number}

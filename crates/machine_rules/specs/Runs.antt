@@ -12,7 +12,7 @@ use Rattle.machine_state.specs.State.{Step, State, Activation, Body, IsIdle}
 use Rattle.machine_rules.specs.Doings.{Doing, Write, TakeAnswer, doing_step}
 use Rattle.machine_rules.specs.Natives.{NativeAnswers}
 use Rattle.machine_rules.specs.Rules.{Rule}
-use Rattle.machine_state.specs.declared.natives.MetaEffects.{MetaEffects}
+use Rattle.meta_model.specs.declared.effects.MetaEffects.{MetaEffects}
 use Rattle.machine_rules.specs.There.{IsField, LacksField}
 use Rattle.machine_rules.specs.Good.{IsWell, Spares, IsGood}
 

@@ -12,8 +12,9 @@ use crate::method_call::MethodCall;
 use crate::paths::Scope;
 use crate::remaining::Remaining;
 use crate::setting::Setting;
-use machine_state::{Answering, Entry, Fault, Happening, World};
+use machine_state::{Entry, Fault, Happening, World};
 use meta_objects::Statement;
+use native_slots::Answering;
 use signatures::ObjectId;
 
 impl<N: Answering> Setting<N> {

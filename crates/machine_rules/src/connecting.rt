@@ -9,8 +9,9 @@ ghost use Rattle.machine_rules.specs.Reaches.{IsJudged, LacksEnds, NamesEnds, La
 
 use crate::ends::{FoundEnds, kept_ends};
 use crate::setting::Setting;
-use machine_state::{Answering, Endpoints, Entry, Fault, Happening, Refusal, World};
+use machine_state::{Endpoints, Entry, Fault, Happening, Refusal, World};
 use meta_objects::Wired;
+use native_slots::Answering;
 use signatures::{Name, Sig};
 use texts::{self, ConnectionType};
 

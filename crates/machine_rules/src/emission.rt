@@ -11,8 +11,9 @@ use crate::active::Active;
 use crate::method_call::{MethodCall, front};
 use crate::setting::{Begun, Setting};
 use connections::Connection;
-use machine_state::{Answering, Fault, World, reaches_at_once};
+use machine_state::{Fault, World, reaches_at_once};
 use meta_objects::Work;
+use native_slots::Answering;
 use signatures::Value;
 
 impl<N: Answering> Setting<N> {

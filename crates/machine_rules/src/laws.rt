@@ -2,7 +2,7 @@
 
 ghost use Rattle.machine_rules.specs.Laws.{OneRule, RuleSettles, StaysSettled};
 
-use machine_state::Answering;
+use native_slots::Answering;
 
 /// From one state, in which properties and bindings agree, at most one follows by a rule, where each of these natives has
 /// one answer to one question.

@@ -6,8 +6,9 @@ ghost use Rattle.machine_rules.specs.There.{IsMember, IsField, LacksMember, Lack
 
 use crate::active::Active;
 use crate::method_call::MethodCall;
-use machine_state::{Answering, Entry, Fault, Happening, World, is_silent, show_all};
+use machine_state::{Entry, Fault, Happening, World, is_silent, show_all};
 use meta_objects::{Meta, MetaMethod, MetaProperty, Work};
+use native_slots::Answering;
 use object_tree::Object;
 use signatures::ObjectId;
 use std::alloc::{AllocError, Global};

@@ -8,7 +8,8 @@ use crate::active::Active;
 use crate::method_call::MethodCall;
 use crate::setting::Setting;
 use event_loops::{Item, Posted};
-use machine_state::{Answering, Entry, Fault, Turn, World};
+use machine_state::{Entry, Fault, Turn, World};
+use native_slots::Answering;
 use signatures::Arguments;
 
 impl<N: Answering> Setting<N> {

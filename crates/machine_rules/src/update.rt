@@ -10,7 +10,8 @@ ghost use Rattle.machine_rules.specs.Writing.{MayWrite, IsUnwritten, MayNotify, 
 use crate::active::Active;
 use crate::method_call::{MethodCall, front};
 use crate::setting::Setting;
-use machine_state::{Answering, Fault, World};
+use machine_state::{Fault, World};
+use native_slots::Answering;
 use object_tree::Tree;
 use prop_bindings::Place;
 use signatures::Value;

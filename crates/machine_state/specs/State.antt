@@ -2,8 +2,8 @@
 use Rattle.std.specs.Prelude.{◌≡◌, ℕ, List, [], Option, None}
 use Rattle.signatures.specs.declared.value.Value.{Value}
 use Rattle.meta_model.specs.declared.object.Statement.{Statement}
-use Rattle.machine_state.specs.declared.natives.MetaEffects.{MetaEffects}
-use Rattle.machine_state.specs.declared.natives.Action.{Action}
+use Rattle.meta_model.specs.declared.effects.MetaEffects.{MetaEffects}
+use Rattle.native_slots.specs.declared.action.Action.{Action}
 use Rattle.object_tree.specs.declared.object.Object.{Object}
 use Rattle.connections.specs.Connected.{Connected}
 use Rattle.event_loops.specs.Queues.{Queues}

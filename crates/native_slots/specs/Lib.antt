@@ -2,3 +2,4 @@ pub mod Plain
 pub mod Heads
 pub mod Effects
 pub mod Answers
+pub mod Promises
