@@ -29,6 +29,7 @@ use Rattle.texts.specs.declared.program.Property.{Property}
 use Rattle.texts.specs.declared.program.Signal.{Signal}
 use Rattle.texts.specs.declared.program.Site.{Site}
 use Rattle.texts.specs.declared.program.Slot.{Slot}
+use Rattle.texts.specs.declared.program.SlotWork.TheVariants as work
 use Rattle.texts.specs.declared.program.Wire.{Wire}
 use Rattle.class_lang.proofs.Parts.{type_ends_at_name, type_ends_at_optional_name}
 
@@ -115,7 +116,7 @@ module _ {before at_next : List Token} {name : List ℕ} (n : Found spell_name (
   slot_only (slot x ps body) at_body after rest p b g =
       b.only body rest tt (p.only ps (spell_block body rest) tt (n.only x (spell_listed spell_slot_parameter ps (spell_block body rest)) tt g))
 
-  pub slot_found : {parameters : List Parameter} {body : List Stmt} {at_body after : List Token} → Found (spell_listed spell_slot_parameter) (map tree_of_slot_parameter) EndsAnywhere at_next parameters at_body → Found spell_block tree_of_block EndsAnywhere at_body body after → Found spell_slot tree_of_slot EndsAnywhere before (record { name = name; parameters = parameters; body = body }) after
+  pub slot_found : {parameters : List Parameter} {body : List Stmt} {at_body after : List Token} → Found (spell_listed spell_slot_parameter) (map tree_of_slot_parameter) EndsAnywhere at_next parameters at_body → Found spell_block tree_of_block EndsAnywhere at_body body after → Found spell_slot tree_of_slot EndsAnywhere before (record { name = name; parameters = parameters; work = work.Body body }) after
   slot_found {parameters} {body} {at_body} {after} p b =
       let a = n.spelled in let d = p.spelled in let e = b.spelled in
       let x = n.tree_is in let y = p.tree_is in let z = b.tree_is in

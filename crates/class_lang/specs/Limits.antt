@@ -1,10 +1,13 @@
 -- How large programs may be (docs/language.md, "Limits").
-use Rattle.std.specs.Prelude.{ℕ, ◌+◌, ◌≤◌, length, All, IfSome}
+use Rattle.std.specs.Prelude.{ℕ, ◌+◌, ◌≤◌, List, length, All, IfSome}
+use Rattle.signatures.specs.declared.sig.Sig.{Sig}
 use Rattle.signatures.specs.Signatures.{most_parameters}
 use Rattle.texts.specs.Signatures.{HasFewTypes}
 use Rattle.slot_lang.specs.Bodies.{signatures_in}
 use Rattle.texts.specs.declared.program.Class.{Class}
 use Rattle.texts.specs.declared.program.Slot.{Slot}
+use Rattle.texts.specs.declared.program.SlotWork.{SlotWork}
+use Rattle.texts.specs.declared.program.SlotWork.TheVariants as work
 use Rattle.texts.specs.declared.program.Wire.{Wire}
 use Rattle.texts.specs.declared.program.Site.{Site}
 use Rattle.texts.specs.declared.program.Program.{Program}
@@ -37,10 +40,15 @@ most_owns = 1000
 abbrev pub most_sites : ℕ
 most_sites = 1000
 
--- nor have the signatures in a slot's body more than a signature may have
+-- the signatures in a slot's body, and those that a native may emit
+abbrev pub signatures_at_work : SlotWork → List Sig
+signatures_at_work (work.Body body) = signatures_in body
+signatures_at_work (work.Native effects) = effects.emits
+
+-- nor have these more than a signature may have
 pub record SlotHasFewParameters (slot : Slot) : Type 0 where
   pub own : length slot.parameters ≤ most_parameters
-  pub body : All HasFewTypes (signatures_in slot.body)
+  pub work : All HasFewTypes (signatures_at_work slot.work)
 
 -- no signature of the class has more parameters than one may have
 unfoldable pub ClassHasFewParameters : Class → Type 0

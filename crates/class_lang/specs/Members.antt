@@ -26,6 +26,7 @@ use Rattle.class_lang.specs.declared.members.Member.TheVariants as member
 use Rattle.texts.specs.declared.program.Property.{Property}
 use Rattle.texts.specs.declared.program.Signal.{Signal}
 use Rattle.texts.specs.declared.program.Slot.{Slot}
+use Rattle.texts.specs.declared.program.SlotWork.TheVariants as work
 use Rattle.texts.specs.declared.program.Class.{Class}
 
 -- ["=" literal]
@@ -70,7 +71,7 @@ spell_slot (slot name parameters body) after =
 
 abbrev pub tree_of_slot : SlotReading → Slot
 tree_of_slot (slot name parameters body) =
-    record { name = name; parameters = map tree_of_slot_parameter parameters; body = tree_of_block body }
+    record { name = name; parameters = map tree_of_slot_parameter parameters; work = work.Body (tree_of_block body) }
 
 pub data MemberReading : Type 0 where
   a_property : PropertyReading → MemberReading

@@ -1,12 +1,12 @@
 //! How large programs may be.
 
-ghost use Rattle.std.specs.Prelude.{◌↔◌, IsTrue, IfSome};
+ghost use Rattle.std.specs.Prelude.{◌↔◌, IsTrue, IfSome, All};
 ghost use Rattle.texts.specs.Signatures.{HasFewTypes};
-ghost use Rattle.class_lang.specs.Limits.{SlotHasFewParameters, ClassHasFewParameters, WireHasFewParameters, HasFewParameters, ClassIsWithinLimits, IsWithinLimits};
+ghost use Rattle.class_lang.specs.Limits.{signatures_at_work, SlotHasFewParameters, ClassHasFewParameters, WireHasFewParameters, HasFewParameters, ClassIsWithinLimits, IsWithinLimits};
 
 use signatures::MOST_PARAMETERS;
 use slot_lang::body_has_few_parameters;
-use texts::{Class, Program, Property, Slot, Wire, has_few_types};
+use texts::{Class, Program, Property, Slot, SlotWork, Wire, has_few_types};
 
 /// Bytes of a text.
 pub const MOST_BYTES: usize = 1_048_576;
@@ -33,11 +33,21 @@ fn property_has_few_parameters(property: &Property) -> bool
     }
 }
 
-/// Whether the slot has at most 8 parameters, and so has each signature in its body.
+/// Whether each signature in the body, or among what the native may emit, has at most 8 types.
+fn work_has_few_parameters(work: &SlotWork) -> bool
+    ensures { IsTrue result ↔ All HasFewTypes (signatures_at_work work.now) }
+{
+    match work {
+        SlotWork::Body(body) => body_has_few_parameters(body.as_slice()),
+        SlotWork::Native(effects) => effects.emits.as_slice().iter().all(|sig| has_few_types(sig)),
+    }
+}
+
+/// Whether the slot or native has at most 8 parameters, and so has each signature in its body or among what it may emit.
 fn slot_has_few_parameters(slot: &Slot) -> bool
     ensures { IsTrue result ↔ SlotHasFewParameters slot.now }
 {
-    slot.parameters.len() <= MOST_PARAMETERS && body_has_few_parameters(slot.body.as_slice())
+    slot.parameters.len() <= MOST_PARAMETERS && work_has_few_parameters(&slot.work)
 }
 
 #[tactic(auto, unfolding(crate::specs::Limits::ClassHasFewParameters))]

@@ -8,7 +8,9 @@ use crate::parameters::{SignalParameterPart, SlotParameterPart};
 use signatures::Sig;
 use slot_lang::block;
 use std::alloc::AllocError;
-use texts::{Class, Cursor, Literal, ParseFault, Property, Signal, Slot, Symbol, Word, list};
+use texts::{
+    Class, Cursor, Literal, ParseFault, Property, Signal, Slot, SlotWork, Symbol, Word, list,
+};
 
 /// A member of a class.
 #[derive(Drop)]
@@ -95,7 +97,7 @@ fn slot(cursor: &mut Cursor) -> Result<Slot, ParseFault>
     Ok(Slot {
         name,
         parameters,
-        body,
+        work: SlotWork::Body(body),
     })
 }
 

@@ -21,4 +21,5 @@ pub mod Deleting
 pub mod Soundness
 pub mod Agreeing
 pub mod Turning
+pub mod Answering
 pub mod OneRule

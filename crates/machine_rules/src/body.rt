@@ -1,8 +1,8 @@
 //! Bodies of slots.
 
-ghost use Rattle.std.specs.Prelude.{◌≡◌, ◌<◌, length};
+ghost use Rattle.std.specs.Prelude.{◌≡◌, ◌<◌, length, map};
 ghost use Rattle.machine_rules.specs.Sound.{IsSoundWorld};
-ghost use Rattle.machine_state.specs.State.{Body};
+ghost use Rattle.machine_state.specs.State.{Run, Body};
 ghost use Rattle.machine_rules.specs.Coded.{meant};
 ghost use Rattle.machine_rules.specs.Calls.{Finishes, CarriesOut};
 
@@ -14,9 +14,10 @@ use crate::remaining::Remaining;
 use crate::setting::Setting;
 use machine_state::{Entry, Fault, Happening, World};
 use meta_objects::Statement;
+use native_slots::Answering;
 use signatures::ObjectId;
 
-impl Setting {
+impl<N: Answering> Setting<N> {
     /// Carries out the statements of a body, and ends it.
     #[cycle(machine)]
     pub fn run_body(
@@ -28,8 +29,8 @@ impl Setting {
     ) -> Result<(), Fault>
         requires room { length active.now < self.now.depth }
         requires sound { IsSoundWorld self.now.meta world.old }
-        ensures ends { Finishes self.now active.now
-            (Body call.now.object call.now.method call.now.arguments.now statements.now)
+        ensures ends { Finishes self.now.meta (N.gives self.now.natives) self.now.depth active.now
+            (Body call.now.object call.now.method call.now.arguments.now (map Run statements.now))
             world.old world.new result }
     {
         let mut left = Remaining::all(self.alloc, statements);
@@ -54,7 +55,7 @@ impl Setting {
         requires room { length active.now < self.now.depth }
         requires sound { IsSoundWorld self.now.meta world.old }
         requires due { 0 < world.old.left }
-        ensures advances { CarriesOut self.now active.now
+        ensures advances { CarriesOut self.now.meta (N.gives self.now.natives) self.now.depth active.now
             object (meant done.entry) left.old left.new world.old world.new result }
     {
         let over = (&*active).over(Some(object));

@@ -87,7 +87,7 @@ impl Meta {
             return Err(MetaFault::DuplicateMember);
         }
         let Uses {
-            bodies,
+            works,
             wires,
             owns,
             sites,
@@ -98,7 +98,7 @@ impl Meta {
         if has_no_type(program, all) {
             return Err(MetaFault::NoType);
         }
-        let classes = resolve_objects(alloc, all, bodies.as_slice())?;
+        let classes = resolve_objects(alloc, all, works.as_slice())?;
         let index = ClassIndex::new(alloc, classes.as_slice())?;
         let site_names = index_sites(alloc, sites.as_slice())?;
         Ok(Meta {

@@ -1,0 +1,5 @@
+pub mod Plain
+pub mod Heads
+pub mod Effects
+pub mod Answers
+pub mod Promises
