@@ -11,6 +11,7 @@ use Rattle.prop_bindings.specs.Bindings.{binding_at, Settled}
 use Rattle.prop_bindings.specs.Places.{values_in}
 use Rattle.machine_state.specs.State.{Activation}
 use Rattle.machine_state.specs.Worlds.{at, untouched}
+use Rattle.native_slots.specs.Promises.{Promises, Takes}
 use Rattle.machine_rules.specs.Natives.{NativeAnswers}
 use Rattle.machine_rules.specs.Reaches.{Leaves}
 use Rattle.qt_runtime.specs.Runs.{RunsWhole, RunsFront}
@@ -28,6 +29,10 @@ pub record Seen (N : Type 0) : Type 0 where
 -- a machine that has done nothing, and may use so many rules
 abbrev pub begun : {N : Type 0} → Loaded → N → ℕ → ℕ → Seen N
 begun program natives depth steps = record { program = program; natives = natives; depth = depth; world = untouched steps; stopped = false }
+
+-- the natives of a machine keep what its program declares of them
+abbrev pub AreKept : {N : Type 0} → (N → Takes) → (N → NativeAnswers) → Seen N → Type 0
+AreKept takes gives m = Promises m.program (takes m.natives) (gives m.natives)
 
 -- the machine took these events by a whole run
 pub record Completes {N : Type 0} (gives : N → NativeAnswers) (before : Seen N) (events : List Event) (after : Seen N) : Type 0 where
