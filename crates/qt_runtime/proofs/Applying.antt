@@ -5,6 +5,7 @@ use Rattle.script_lang.specs.declared.event.Event.{Event}
 use Rattle.meta_model.specs.Loaded.{Loaded}
 use Rattle.machine_state.specs.declared.fault.Fault.{Fault}
 use Rattle.machine_state.specs.State.{State}
+use Rattle.machine_rules.specs.Natives.{NativeAnswers}
 use Rattle.machine_rules.proofs.Reaching.{reason-more}
 use Rattle.prop_bindings.specs.declared.binding.Binding.{Binding}
 use Rattle.machine_rules.specs.Runs.{IsStuck}
@@ -48,7 +49,7 @@ due-more : {s : State} {es : List Event} (more : List Event) → IsDue s es → 
 due-more more (goes_on x) = goes_on x
 due-more more (is_next x) = is_next x
 
-follows-more : {p : Loaded} {s t : State} {es : List Event} (more : List Event) → Follows p s t es → Follows p s t (es ++ more)
+follows-more : {p : Loaded} {natives : NativeAnswers} {s t : State} {es : List Event} (more : List Event) → Follows p natives s t es → Follows p natives s t (es ++ more)
 follows-more more (by_rule x) = by_rule x
 follows-more more (by_event x) = by_event x
 
@@ -56,10 +57,10 @@ follows-more more (by_event x) = by_event x
 next-more : {p : Loaded} {s : State} {es : List Event} {b : Binding} (more : List Event) → BindsNext p s es b → BindsNext p s (es ++ more) b
 next-more more x = record { idle = x.idle; site = x.site; target = x.target; sources = x.sources; rest = x.rest ++ more; is_next = ap (λ (l : List Event). l ++ more) x.is_next; may = x.may }
 
-cause-more : (p : Loaded) (d left : ℕ) (s : State) (es more : List Event) (f : Fault) → Cause p d s left es f → Cause p d s left (es ++ more) f
+cause-more : (p : Loaded) (d left : ℕ) (s : State) (es more : List Event) (f : Fault) → Cause p natives d s left es f → Cause p natives d s left (es ++ more) f
 cause-more p d left s es more f r = reason-more p d s left f held (λ loop. record { binding = loop.binding; next = next-more more loop.next; fit = loop.fit; closes = loop.closes }) (λ t follows. follows-more more follows) (λ due. due-more more due) r
   where
-    held : IsStuck p s × LacksValue s ⊎ BindsIll p s es → IsStuck p s × LacksValue s ⊎ BindsIll p s (es ++ more)
+    held : IsStuck p natives s × LacksValue s ⊎ BindsIll p s es → IsStuck p natives s × LacksValue s ⊎ BindsIll p s (es ++ more)
     held (inl stuck) = inl stuck
     held (inr ill) = inr (record { binding = ill.binding; next = next-more more ill.next; ill = ill.ill })
 

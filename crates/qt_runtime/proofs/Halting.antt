@@ -9,6 +9,7 @@ use Rattle.machine_state.specs.declared.fault.Answer.{Answer}
 use Rattle.machine_state.specs.declared.fault.Answer.TheVariants as answer
 use Rattle.machine_state.specs.declared.fault.Fault.{Fault}
 use Rattle.machine_state.specs.declared.world.World.{World}
+use Rattle.machine_rules.specs.Natives.{NativeAnswers}
 use Rattle.machine_rules.specs.Sound.{IsSoundWorld}
 use Rattle.qt_runtime.specs.Seen.{Seen, Completes, AcceptsEvent, RefusesEvent, OnDone, OnRefused, Halts, Stays}
 use Rattle.qt_runtime.specs.Taking.{Took}
@@ -22,17 +23,17 @@ seen p depth w stopped = record { program = p; depth = depth; world = w; stopped
 
 module _ {p : Loaded} {depth : ℕ} {w v : World} {e : Event} {went stopped : Bool} where
   -- what `take_event` did, as what `apply` does
-  pub applied-done : (r : Result Answer Fault) → Took p depth w e v r → went ≡ false → stopped ≡ is_err r → OnDone r (AcceptsEvent (seen p depth w went) e (seen p depth v stopped))
+  pub applied-done : {natives : NativeAnswers} (r : Result Answer Fault) → Took p natives depth w e v r → went ≡ false → stopped ≡ is_err r → OnDone r (AcceptsEvent (seen p depth w went) e (seen p depth v stopped))
   applied-done (Ok answer.Done) took goes is = record { completes = record { went = goes; same = ap (λ (b : Bool). seen p depth v b) (is ∙ sym goes); whole = took.cases.0 }; accepted = took.cases.1 }
   applied-done (Ok (answer.Refused n)) took goes is = tt
   applied-done (Err f) took goes is = tt
 
-  pub applied-refused : (r : Result Answer Fault) → Took p depth w e v r → went ≡ false → stopped ≡ is_err r → OnRefused r (λ n. RefusesEvent (seen p depth w went) e n (seen p depth v stopped))
+  pub applied-refused : {natives : NativeAnswers} (r : Result Answer Fault) → Took p natives depth w e v r → went ≡ false → stopped ≡ is_err r → OnRefused r (λ n. RefusesEvent (seen p depth w went) e n (seen p depth v stopped))
   applied-refused (Ok answer.Done) took goes is = tt
   applied-refused (Ok (answer.Refused n)) took goes is = record { completes = record { went = goes; same = ap (λ (b : Bool). seen p depth v b) (is ∙ sym goes); whole = took.cases.0 }; refused = took.cases.1 }
   applied-refused (Err f) took goes is = tt
 
-  pub applied-stopped : (r : Result Answer Fault) → IsSound p → IsSoundWorld p w → Took p depth w e v r → went ≡ false → stopped ≡ is_err r → IfErr r (λ f. Halts (seen p depth w went) (e ∷ []) f (seen p depth v stopped) ⊎ Stays (seen p depth w went) f (seen p depth v stopped))
+  pub applied-stopped : {natives : NativeAnswers} (r : Result Answer Fault) → IsSound p → IsSoundWorld p w → Took p natives depth w e v r → went ≡ false → stopped ≡ is_err r → IfErr r (λ f. Halts (seen p depth w went) (e ∷ []) f (seen p depth v stopped) ⊎ Stays (seen p depth w went) f (seen p depth v stopped))
   applied-stopped (Ok x) sound whole took goes is = tt
   applied-stopped (Err f) sound whole took goes is =
       let halted = took.cases in

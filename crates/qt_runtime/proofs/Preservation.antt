@@ -30,6 +30,7 @@ use Rattle.object_tree.proofs.TypedObjects.{class-more, seen-appended, shape_in,
 use Rattle.std.specs.Prelude.{Result, Err}
 use Rattle.machine_state.specs.declared.endpoints.Endpoints.{Endpoints}
 use Rattle.machine_state.specs.declared.refusal.Refusal.{Refusal}
+use Rattle.machine_rules.specs.Natives.{NativeAnswers}
 use Rattle.machine_rules.specs.Connecting.{AreThere, kept_ends, names_of}
 use Rattle.machine_rules.specs.Doings.{Doing, Write, Begin, Choose, Connect as Link, Disconnect as Unlink, Delete, Schedule, Nothing, doing}
 use Rattle.machine_rules.specs.Destroying.{Dies, NextRule, ChildRule, DestroyRule, living_child, DefersOnce, Schedules}
@@ -160,7 +161,7 @@ module _ {p : Loaded} {s t : State} (sound : IsSound p) (well : IsWell p s t) wh
       by_mark false d = as-is d.gives (all-stand-still p s.objects _ stack (scheduled-stay s.objects x) (λ o body gone. sym (scheduled-seen s.objects x o) ∙ gone) all)
 
   -- what a statement does, over what stands
-  does-stands : AreTyped p s.objects → (o m : ℕ) (arguments : List Value) (x : Statement) (rest : List Statement) (below : List Activation) (d : Doing) → BodyStands p s.objects o arguments (x ∷ rest) → doing s.objects o arguments (out-Statement x) ≡ Some d → AllByRecursion (Stands p s.objects) below → length s.stack ≡ suc (length below) → Does p s o m arguments rest below d t → AllStand p t
+  does-stands : {natives : NativeAnswers} → AreTyped p s.objects → (o m : ℕ) (arguments : List Value) (x : Statement) (rest : List Statement) (below : List Activation) (d : Doing) → BodyStands p s.objects o arguments (x ∷ rest) → doing s.objects o arguments (out-Statement x) ≡ Some d → AllByRecursion (Stands p s.objects) below → length s.stack ≡ suc (length below) → Does p natives s o m arguments rest below d t → AllStand p t
   does-stands typed o m arguments x rest below (Write y q new) body is lower high does = writes-stands does (body-rest body, lower)
   does-stands typed o m arguments x rest below (Begin y n given) body is lower high does = begins-stands does (omega (arith, high)) (body-rest body, lower)
   does-stands typed o m arguments x rest below (Choose block) body is lower high does =
@@ -173,7 +174,7 @@ module _ {p : Loaded} {s t : State} (sound : IsSound p) (well : IsWell p s t) wh
   does-stands typed o m arguments x rest below (Schedule y) body is lower high does = schedules-stands (Body o m arguments rest ∷ below) y (life_of s.objects y) (body-rest body, lower) does
   does-stands typed o m arguments x rest below Nothing body is lower high does = as-is does (body-rest body, lower)
 
-  body-stands : AreTyped p s.objects → (o m : ℕ) (arguments : List Value) (below : List Activation) (left : List Statement) → BodyStands p s.objects o arguments left → AllByRecursion (Stands p s.objects) below → length s.stack ≡ suc (length below) → BodyRule p s o m arguments below t left → AllStand p t
+  body-stands : {natives : NativeAnswers} → AreTyped p s.objects → (o m : ℕ) (arguments : List Value) (below : List Activation) (left : List Statement) → BodyStands p s.objects o arguments left → AllByRecursion (Stands p s.objects) below → length s.stack ≡ suc (length below) → BodyRule p natives s o m arguments below t left → AllStand p t
   body-stands typed o m arguments below [] body lower high r = as-is r lower
   body-stands typed o m arguments below (x ∷ rest) body lower high r = does-stands typed o m arguments x rest below r.what body r.is lower high r.does
 
@@ -234,7 +235,7 @@ module _ {p : Loaded} {s t : State} (sound : IsSound p) (well : IsWell p s t) wh
       by_first None e = as-is e all
       by_first (Some q) d = delivers-stands (taken_before turn.home turn.limit s.queues) q.item low all d
 
-  rule-stands : AreTyped p s.objects → Spares s t → (stack : List Activation) → s.stack ≡ stack → AllStand p s → AllByRecursion (Stands p s.objects) stack → RuleAt p s t stack → AllStand p t
+  rule-stands : {natives : NativeAnswers} → AreTyped p s.objects → Spares s t → (stack : List Activation) → s.stack ≡ stack → AllStand p s → AllByRecursion (Stands p s.objects) stack → RuleAt p natives s t stack → AllStand p t
   rule-stands typed spares [] is here all r = turn-stands s.turn (ap (λ (l : List Activation). length l) is) here r
   rule-stands typed spares (Body o m arguments left ∷ below) is here all r = body-stands typed o m arguments below left all.0 all.1 (ap (λ (l : List Activation). length l) is) r
   rule-stands typed spares (Emit o g arguments used last ∷ below) is here all r =
@@ -247,7 +248,7 @@ module _ {p : Loaded} {s t : State} (sound : IsSound p) (well : IsWell p s t) wh
   kept-invariant : Agree p t.objects t.bindings → Invariant p s → Keeps p s 1 t 0 → AllStand p t → Fair p t → Invariant p t
   kept-invariant agree up kept stands fair = record { sound = record { agree = agree; joined = kept.joined sound up.sound.joined; housed = kept.housed up.sound.housed; waiting = fair.waiting }; stands = stands; emitted = fair.emitted }
 
-  rule-invariant : Spares s t → Agree p t.objects t.bindings → Invariant p s → Rule p s t → Invariant p t
+  rule-invariant : {natives : NativeAnswers} → Spares s t → Agree p t.objects t.bindings → Invariant p s → Rule p natives s t → Invariant p t
   rule-invariant spares agree up r = kept-invariant agree up (rule-kept p s t s.stack r) (rule-stands up.sound.agree.typed spares s.stack refl up.stands up.stands r) (rule-fair sound well up.sound.waiting s.stack up.sound.joined up.emitted up.emitted refl r)
 
 -- ---- events
@@ -388,12 +389,12 @@ takes-invariant {e = e} sound up (accepts idle x) well agree = judged-invariant 
 takes-invariant sound up (refuses k idle x) well agree = record { sound = record { agree = up.sound.agree; joined = up.sound.joined; housed = up.sound.housed; waiting = up.sound.waiting }; stands = up.stands; emitted = up.emitted }
 
 -- every state that rules lead to stands
-rules-invariant : {p : Loaded} {d : ℕ} {s t : State} {n k : ℕ} → IsSound p → Rules p d s n t k → Invariant p s → Invariant p t
+rules-invariant : {p : Loaded} {natives : NativeAnswers} {d : ℕ} {s t : State} {n k : ℕ} → IsSound p → Rules p natives d s n t k → Invariant p s → Invariant p t
 rules-invariant sound of_rules.done up = up
 rules-invariant sound (of_rules.then r good rest) up = rules-invariant sound rest (rule-invariant sound good.well good.spared good.agree up r)
 
 -- every state of a run keeps it
-pub runs-invariant : {p : Loaded} {d : ℕ} {s t : State} {n k : ℕ} {es : List Event} → IsSound p → Runs p d s n es t k → Invariant p s → Invariant p t
+pub runs-invariant : {p : Loaded} {natives : NativeAnswers} {d : ℕ} {s t : State} {n k : ℕ} {es : List Event} → IsSound p → Runs p natives d s n es t k → Invariant p s → Invariant p t
 runs-invariant sound done up = up
 runs-invariant sound (rules r rest) up = runs-invariant sound rest (rules-invariant sound r up)
 runs-invariant sound (takes x good rest) up = runs-invariant sound rest (takes-invariant sound up x good.well good.agree)

@@ -11,6 +11,7 @@ use Rattle.meta_model.specs.Loaded.{Loaded}
 use Rattle.machine_state.specs.declared.endpoints.Endpoints.{Endpoints}
 use Rattle.machine_state.specs.declared.refusal.Refusal.{Refusal}
 use Rattle.texts.specs.declared.connection.ConnectionType.{ConnectionType}
+use Rattle.machine_rules.specs.Natives.{NativeAnswers}
 use Rattle.machine_rules.specs.Connecting.{AreThere}
 use Rattle.machine_rules.specs.Judgement.{Check, Then, holds, fails, goes_on as next_is, ends as ends_so}
 use Rattle.machine_rules.proofs.Linking.{kept-there}
@@ -125,7 +126,7 @@ module _ {p : Loaded} {s : State} (sound : IsSound p) (up : Invariant p s) where
           stays _ (record { loop = named.0; is_loop = named.1; name = there.0.name; named = ap (option_map (λ (y : Object). y.name)) there.1.is; gives = refl })
 
   -- what is possible is done by some rule
-  possible-goes : (o m : ℕ) (arguments : List Value) (rest : List Statement) (below : List Activation) (me : ℕ) (kinds : List ValueType) (d : Doing) → IsPossible p s.objects me kinds d → ((x q : ℕ) (new : Value) → d ≡ Write x q new → LacksField p s.objects x q) → ((t : State) → ¬ Does p s o m arguments rest below d t) → ⊥
+  possible-goes : {natives : NativeAnswers} (o m : ℕ) (arguments : List Value) (rest : List Statement) (below : List Activation) (me : ℕ) (kinds : List ValueType) (d : Doing) → IsPossible p s.objects me kinds d → ((x q : ℕ) (new : Value) → d ≡ Write x q new → LacksField p s.objects x q) → ((t : State) → ¬ Does p natives s o m arguments rest below d t) → ⊥
   possible-goes o m arguments rest below me kinds (Write x q new) may lacks none = lacks x q new refl may.0 may.1 may.2
   possible-goes o m arguments rest below me kinds (Begin x n given) may lacks none = none _ (record { object = may.0; method = may.1; is = may.2; gives = refl })
   possible-goes o m arguments rest below me kinds (Choose block) may lacks none = none _ refl
@@ -136,7 +137,7 @@ module _ {p : Loaded} {s : State} (sound : IsSound p) (up : Invariant p s) where
   possible-goes o m arguments rest below me kinds Nothing may lacks none = none _ refl
 
   -- a statement that has no next rule lacks a value
-  statement-lacks : (o m : ℕ) (arguments : List Value) (x : Statement) (rest : List Statement) (below : List Activation) → s.stack ≡ Body o m arguments (x ∷ rest) ∷ below → IsStuck p s → BodyStands p s.objects o arguments (x ∷ rest) → ((t : State) → ¬ StatementRule p s o m arguments x rest below t) → doing s.objects o arguments (out-Statement x) ≡ None
+  statement-lacks : {natives : NativeAnswers} (o m : ℕ) (arguments : List Value) (x : Statement) (rest : List Statement) (below : List Activation) → s.stack ≡ Body o m arguments (x ∷ rest) ∷ below → IsStuck p natives s → BodyStands p s.objects o arguments (x ∷ rest) → ((t : State) → ¬ StatementRule p natives s o m arguments x rest below t) → doing s.objects o arguments (out-Statement x) ≡ None
   statement-lacks o m arguments x rest below e halts body stuck = by_found (doing s.objects o arguments (out-Statement x)) refl
     where
       by_found : (found : Option Doing) → doing s.objects o arguments (out-Statement x) ≡ found → doing s.objects o arguments (out-Statement x) ≡ None
@@ -200,7 +201,7 @@ module _ {p : Loaded} {s : State} (sound : IsSound p) (up : Invariant p s) where
             gives = refl;
           })
 
-  stack-lacks : (stack : List Activation) → s.stack ≡ stack → IsStuck p s → AllByRecursion (Stands p s.objects) stack → AllFit p s.objects stack → ((t : State) → ¬ RuleAt p s t stack) → LacksValue s
+  stack-lacks : {natives : NativeAnswers} (stack : List Activation) → s.stack ≡ stack → IsStuck p natives s → AllByRecursion (Stands p s.objects) stack → AllFit p s.objects stack → ((t : State) → ¬ RuleAt p natives s t stack) → LacksValue s
   stack-lacks [] e halts all fit stuck = by_turn s.turn refl stuck
     where
       by_turn : (found : Option Turn) → s.turn ≡ found → ((t : State) → ¬ TurnRule p s t found) → LacksValue s
@@ -215,12 +216,12 @@ module _ {p : Loaded} {s : State} (sound : IsSound p) (up : Invariant p s) where
   stack-lacks (Destroy next torn ∷ below) e halts all fit stuck = absurd (destroy-somehow s below next torn stuck)
 
   -- what goes on without a next rule lacks a value
-  pub stuck-lacks : IsStuck p s → LacksValue s
+  pub stuck-lacks : {natives : NativeAnswers} → IsStuck p natives s → LacksValue s
   stuck-lacks x = stack-lacks s.stack refl x up.stands up.emitted x.stuck
 
-  pub cause-of : (d left : ℕ) (es : List Event) (f : Fault) → RunStops p d s left es f → Cause p d s left es f
+  pub cause-of : {natives : NativeAnswers} (d left : ℕ) (es : List Event) (f : Fault) → RunStops p natives d s left es f → Cause p natives d s left es f
   cause-of d left es f r = reason-more p d s left f held (λ closes. closes) (λ t follows. follows) (λ due. due) r
     where
-      held : IsStuck p s ⊎ BindsIll p s es → IsStuck p s × LacksValue s ⊎ BindsIll p s es
+      held : {natives : NativeAnswers} → IsStuck p natives s ⊎ BindsIll p s es → IsStuck p natives s × LacksValue s ⊎ BindsIll p s es
       held (inl stuck) = inl (stuck, stuck-lacks stuck)
       held (inr ill) = inr ill
