@@ -6,7 +6,7 @@ use Rattle.signatures.specs.declared.value.Value.{Value}
 use Rattle.meta_model.specs.declared.object.MetaMethod.{MetaMethod}
 use Rattle.meta_model.specs.declared.object.ValueType.{ValueType}
 use Rattle.meta_model.specs.declared.object.Work.{Work}
-use Rattle.meta_model.specs.declared.object.Work.TheVariants.{Signal, Slot}
+use Rattle.meta_model.specs.declared.object.Work.TheVariants.{Signal, Slot, Native}
 use Rattle.meta_model.specs.Loaded.{Loaded}
 use Rattle.connections.specs.declared.connection.Connection.{Connection}
 use Rattle.machine_state.specs.declared.entry.Entry.{Entry}
@@ -32,7 +32,7 @@ use Rattle.object_tree.specs.Typed.{ReadAs}
 use Rattle.machine_rules.specs.Good.{ArgumentsFit, EmissionFits, of_living, of_dead, TopFits, IsWell}
 use Rattle.machine_rules.specs.Sound.{Sends, SendsThese, Joined, IsDelivered, AgreeIn}
 use Rattle.machine_state.specs.Worlds.{at, noted, having_used, posting, GoesTo}
-use Rattle.machine_rules.specs.Reaches.{Reaches, StopsIn, RunsTo, CallsIn, Calls, OnlyCalls, begin_entry, entry_of_post, top_of, IsBegun, IsBarred, PostsCall}
+use Rattle.machine_rules.specs.Reaches.{Reaches, StopsIn, RunsTo, CallsIn, Calls, OnlyCalls, begin_entry, entry_of_post, top_of, DoesWork, IsBegun, IsBarred, PostsCall}
 use Rattle.machine_rules.specs.Active.{shows}
 use Rattle.machine_rules.proofs.Frames.{high, shows-over}
 use Rattle.machine_rules.specs.There.{IsMember}
@@ -50,6 +50,7 @@ begun-is : (w : World) (stack over : List Activation) (o : ℕ) (x : Object) (m 
     at (noted w (begin_entry (suc (length over)) x m method.sig.name (all_shown w.store.tree arguments) work ∷ [])) (top_of o m arguments w.store.connections.last work ∷ over) ≡ begun (at w stack) over o x m method arguments work
 begun-is w stack over o x m method arguments Signal = refl
 begun-is w stack over o x m method arguments (Slot statements) = refl
+begun-is w stack over o x m method arguments (Native effects) = refl
 
 -- a method that is there begins
 pub begins-there : {p : Loaded} {n o m : ℕ} {x : Object} {method : MetaMethod} (w : World) (arguments : List Value) (stack over : List Activation) → IsMember p w.store.tree o m x method → n ≡ suc (length over) →
@@ -70,6 +71,7 @@ one-more to below over e = omega (arith, high (to ++ below) (shows-over to below
 pub top-fits : {p : Loaded} {objects : List Object} {o m : ℕ} {arguments : List Value} (last : ℕ) (work : Work) (below : List Activation) → ArgumentsFit p objects o m arguments → TopFits p objects (top_of o m arguments last work ∷ below)
 top-fits last Signal below fit = of_living fit
 top-fits last (Slot statements) below fit = fit
+top-fits last (Native effects) below fit = fit
 
 emission-fits : {p : Loaded} {objects : List Object} {o m : ℕ} {x : Object} {method : MetaMethod} {arguments : List Value} → IsMember p objects o m x method → EmissionFits p objects o m arguments → ArgumentsFit p objects o m arguments
 emission-fits is (of_living fit) = fit
@@ -78,6 +80,7 @@ emission-fits is (of_dead gone g_is typed) = absurd (lives-not-dead is.lives gon
 fits-top : {p : Loaded} {objects : List Object} {o m : ℕ} {x : Object} {method : MetaMethod} {arguments : List Value} (last : ℕ) (work : Work) (below : List Activation) → IsMember p objects o m x method → TopFits p objects (top_of o m arguments last work ∷ below) → ArgumentsFit p objects o m arguments
 fits-top last Signal below is fit = emission-fits is fit
 fits-top last (Slot statements) below is fit = fit
+fits-top last (Native effects) below is fit = fit
 
 reaches-begun : {p : Loaded} {natives : NativeAnswers} {d o m : ℕ} {h active : List (Option ℕ)} {w u v : World} {from to : List Activation} {arguments : List Value} {line : Entry} {work : Work} {last : ℕ} →
     active ≡ shows to ++ h → CallsIn p natives w u from to o m arguments → IsBegun p d active u o m arguments line work last → ArgumentsFit p u.store.tree o m arguments → AgreeIn p u → 0 < w.left → u.left ≡ w.left → v ≡ noted u (line ∷ []) →
@@ -121,7 +124,7 @@ stops-barred over calls fit agree some why = elim why [
 -- there is no such method
 pub stops-no-member : {p : Loaded} {natives : NativeAnswers} {d o m : ℕ} {h : List (Option ℕ)} {w : World} {from to : List Activation} {arguments : List Value} →
     Calls p natives w from to o m arguments → OnlyCalls p natives w from to o m arguments → ((x : Object) (method : MetaMethod) → ¬ IsMember p w.store.tree o m x method) → 0 < w.left → StopsIn p natives d h w from w BadType
-stops-no-member calls only none some =
+stops-no-member {o = o} {m = m} {arguments = arguments} calls only none some =
     stops-stuck calls.goes_on some (λ below t r. let b = only.begins below t r in none b.object b.method b.is) (λ below x q new next. let same : Write x q new ≡ Begin o m arguments = only.next below (Write x q new) next in absurd (cc same))
     (λ below effects next. let same : TakeAnswer effects ≡ Begin o m arguments = only.next below (TakeAnswer effects) next in absurd (cc same))
 
@@ -275,3 +278,7 @@ ends-posted {p} {natives} {w = w} {v = v} {c = c} {x = x} {method = method} {arg
 pub not-true : (b : Bool) → b ≡ false → ¬ IsTrue b
 not-true true e h = absurd (cc e)
 not-true false e h = absurd (cc h)
+
+-- what is found of a method that may begin is what it does
+pub begun-work : {p : Loaded} {d o m : ℕ} {active : List (Option ℕ)} {w : World} {arguments : List Value} {line : Entry} {work : Work} {last : ℕ} → IsBegun p d active w o m arguments line work last → DoesWork p w.store.tree o m work
+begun-work x = record { object = x.object; method = x.method; is = x.is; is_work = x.is_work }

@@ -35,7 +35,7 @@ use Rattle.machine_rules.specs.Natives.{NativeAnswers}
 -- ---- the rule of a body whose next step does this
 
 -- the state in which it is
-abbrev next : World → ℕ → ℕ → List Value → Statement → List Step → List Activation → State
+abbrev next : World → ℕ → ℕ → List Value → Step → List Step → List Activation → State
 next w o m arguments x rest below = at w (Body o m arguments (x ∷ rest) ∷ below)
 
 does-rule : (p : Loaded) (natives : NativeAnswers) (w : World) (o m : ℕ) (arguments : List Value) (x : Step) (rest : List Step) (d : Doing) (below : List Activation) (t : State) → doing_step w.store.tree o arguments x ≡ Some d → Does p natives (next w o m arguments x rest below) o m arguments rest below d t → Rule p natives (next w o m arguments x rest below) t
@@ -105,7 +105,7 @@ does-told {p} {natives} {w} {v} {o} {arguments} {x} m rest {d} {h} what What n (
       cases = reaches-low {b = Body o m arguments rest ∷ []} (λ below k. does-rule p natives w o m arguments x rest what below _ is (does below _ (went.tells (Body o m arguments (x ∷ rest) ∷ below) (Body o m arguments rest ∷ below) (omega (arith, n_is, high below k)))))
           went.spared (omega arith) (omega (arith, room)) (went.agree p agree) went.left some;
     }
-does-told {p} {w} {v} {o} {arguments} {x} m rest {d} {h} what What n (Err f) is other unasked does told_by room agree some n_is stays =
+does-told {p} {natives} {w} {v} {o} {arguments} {x} m rest {d} {h} what What n (Err f) is other unasked does told_by room agree some n_is stays =
     let At : World → Type 0 = λ u. StopsIn p natives d h w (Body o m arguments (x ∷ rest) ∷ []) u f in
     let stops : StopsIn p natives d h w (Body o m arguments (x ∷ rest) ∷ []) w f = elim stays.why [
       | inl none ↦ stops-as none.1 (stops-stuck (not-idle w (Body o m arguments (x ∷ rest))) some (λ below t rule. none.0 (Body o m arguments (x ∷ rest) ∷ below) (Body o m arguments rest ∷ below) t (told_by below t (rule-does p natives w o m arguments x rest what below t is rule))) (λ below a b new writes. let both : Some what ≡ Some (Write a b new) = sym is ∙ next-does w writes in let same : what ≡ Write a b new = cc both in absurd (other a b new same)) (λ below effects asks. let both : Some what ≡ Some (TakeAnswer effects) = sym is ∙ next-does w asks in let same : what ≡ TakeAnswer effects = cc both in absurd (unasked effects same)))

@@ -3,7 +3,7 @@ use Rattle.std.proofs.Common.{◌≡◌, ◌⊎◌, inl, inr, ℕ, suc, ◌+◌,
 use Rattle.signatures.specs.declared.value.Value.{Value}
 use Rattle.meta_model.specs.Loaded.{Loaded}
 use Rattle.meta_model.specs.declared.object.Work.{Work}
-use Rattle.meta_model.specs.declared.object.Work.TheVariants.{Signal, Slot}
+use Rattle.meta_model.specs.declared.object.Work.TheVariants.{Signal, Slot, Native}
 use Rattle.meta_model.specs.declared.object.MetaMethod.{MetaMethod}
 use Rattle.std.specs.List.{AllByRecursion, find}
 use Rattle.event_loops.specs.declared.item.Item.{Item}
@@ -205,6 +205,7 @@ used-kept {p = p} {s = s} c = record {
 begun-kept : (p : Loaded) (s : State) (below : List Activation) (o : ℕ) (x : Object) (m : ℕ) (method : MetaMethod) (arguments : List Value) (work : Work) (t : State) → t ≡ begun s below o x m method arguments work → Keeps p s 1 t 0
 begun-kept p s below o x m method arguments Signal t e = keeps-is e (keeps-all _ (grows-by _))
 begun-kept p s below o x m method arguments (Slot statements) t e = keeps-is e (keeps-all _ (grows-by _))
+begun-kept p s below o x m method arguments (Native effects) t e = keeps-is e (keeps-all _ (grows-by _))
 
 pub begins-kept : {p : Loaded} {s : State} {below : List Activation} {o m : ℕ} {arguments : List Value} {t : State} → Begins p s below o m arguments t → Keeps p s 1 t 0
 begins-kept {p = p} {s = s} {below = below} {o = o} {m = m} {arguments = arguments} {t = t} x = begun-kept p s below o x.object m x.method arguments x.method.work t x.gives

@@ -25,7 +25,7 @@ use Rattle.machine_state.specs.Worlds.{at}
 use Rattle.machine_rules.specs.Good.{ArgumentsFit}
 use Rattle.machine_rules.specs.Keeps.{StayThere}
 use Rattle.machine_rules.specs.Reaches.{Calls}
-use Rattle.machine_rules.specs.Rules.{Rule, Notifies, NotifiesIf, begun}
+use Rattle.machine_rules.specs.Rules.{Rule, Notifies, NotifiesIf, begun, UpdateRule}
 use Rattle.machine_rules.specs.Settling.{property_in, signal_at, notified}
 use Rattle.machine_rules.specs.There.{IsMember, IsField}
 use Rattle.machine_rules.specs.Writing.{NotifiesBy, HasNotifier, MayNotify, Announces}
@@ -139,8 +139,8 @@ silent-dead {p} objects place may none = by_life (life_of objects place.object) 
         let both : None ≡ Some n.signal = sym none ∙ signal-is objects place is n in
         absurd (cc both)
 
-pub dead-rule : {p : Loaded} {natives : NativeAnswers} {found : Option ℕ} (w : World) (place : Place) (rest : List Place) (below : List Activation) → MayNotify p w.store.tree place → found ≡ signal_at p w.store.tree place → found ≡ None → Rule p natives (at w (Update (place ∷ rest) ∷ below)) (at w (Update rest ∷ below))
-dead-rule {p} {natives} w place rest below may is none =
+pub dead-rule : {p : Loaded} {found : Option ℕ} (w : World) (place : Place) (rest : List Place) (below : List Activation) → MayNotify p w.store.tree place → found ≡ signal_at p w.store.tree place → found ≡ None → UpdateRule p (at w (Update (place ∷ rest) ∷ below)) below (at w (Update rest ∷ below)) (place ∷ rest)
+dead-rule {p} w place rest below may is none =
     let gone : life_of w.store.tree place.object ≡ None = silent-dead w.store.tree place may (sym is ∙ none) in
     let Next : Option Life → Type 0 = λ life. NotifiesIf p (at w (Update (place ∷ rest) ∷ below)) (Update rest ∷ below) place (at w (Update rest ∷ below)) life in
     subst Next (sym gone) refl

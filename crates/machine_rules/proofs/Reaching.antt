@@ -230,7 +230,7 @@ pub ends-noted : {p : Loaded} {natives : NativeAnswers} {d : ℕ} {h : List (Opt
 ends-noted {p} {natives} {d} {h} {w} {v} {a} {b} target (Ok _) step none room agree less some x =
     let Family : World → Type 0 = λ u. Reaches p natives d h w (a ∷ []) u (b ∷ []) in
     record { cases = subst Family (sym x) (reaches-low {b = b ∷ []} step none (omega arith) (omega (arith, room)) agree less some) }
-ends-noted {p} {d} {h} {w} {v} {a} {b} target (Err f) step none room agree less some x =
+ends-noted {p} {natives} {d} {h} {w} {v} {a} {b} target (Err f) step none room agree less some x =
     let Family : World → Type 0 = λ u. StopsIn p natives d h w (a ∷ []) u f in
     record { cases = subst Family (sym x.1) (stops-as x.0 (stops-memory (not-idle w a) some)) }
 

@@ -129,7 +129,7 @@ advances-served {p} {natives} {d} {v = v} {u = u} {from = from} (Ok _) none went
     let Shown : List (Option ℕ) → Type 0 = λ l. Reaches p natives d l v from u [] in
     let more : Reaches p natives d [] v from u [] = subst Shown none ends.cases in
     record { cases = (reaches-then went more, omega (arith, (reaches-keeps more).fewer, less, some)) }
-advances-served {p} {d} {v = v} {u = u} {from = from} (Err f) none went less some ends =
+advances-served {p} {natives} {d} {v = v} {u = u} {from = from} (Err f) none went less some ends =
     let Shown : List (Option ℕ) → Type 0 = λ l. StopsIn p natives d l v from u f in
     record { cases = stops-after went (subst Shown none ends.cases) }
 

@@ -1,6 +1,6 @@
 -- What natives answer (docs/machine.md, "Natives").
-use Rattle.std.specs.Prelude.{◌≡◌, ℕ, ◌<◌, List, Some, slice_get}
-use Rattle.std.specs.List.{AllZip}
+use Rattle.std.specs.Prelude.{◌≡◌, ℕ, ◌<◌, List, Option, Some, slice_get}
+use Rattle.std.specs.List.{AllByRecursion, AllZip}
 use Rattle.signatures.specs.declared.sig.Sig.{Sig}
 use Rattle.signatures.specs.declared.value.Value.{Value}
 use Rattle.meta_model.specs.declared.object.MetaMethod.{MetaMethod}
@@ -13,6 +13,9 @@ use Rattle.object_tree.specs.Objects.{stored}
 use Rattle.meta_model.specs.declared.effects.MetaEffects.{MetaEffects}
 use Rattle.native_slots.specs.declared.action.Action.{Action}
 use Rattle.native_slots.specs.declared.action.Action.TheVariants as action
+use Rattle.machine_state.specs.declared.entry.Entry.{Entry}
+use Rattle.machine_state.specs.declared.entry.Entry.TheVariants.{At}
+use Rattle.machine_state.specs.declared.entry.Happening.TheVariants.{Answered}
 use Rattle.machine_state.specs.declared.entry.ShownAction.{ShownAction}
 use Rattle.machine_state.specs.declared.entry.ShownAction.TheVariants as show
 use Rattle.machine_state.specs.Objects.{shown, all_shown}
@@ -64,3 +67,30 @@ pub data IsShownAs (p : Loaded) (objects : List Object) (o : ℕ) (effects : Met
 -- .. a list of them
 abbrev pub AreShownAs : Loaded → List Object → ℕ → MetaEffects → List Action → List ShownAction → Type 0
 AreShownAs p objects o effects actions lines = AllZip (IsShownAs p objects o effects) actions lines
+
+-- ---- what the code asks
+
+-- the number of the property or of the signal that an action names by its place
+abbrev pub place_of : MetaEffects → Action → Option ℕ
+place_of effects (action.Set k value) = slice_get effects.sets k
+place_of effects (action.Emit k arguments) = slice_get effects.emits k
+
+-- the object has a value of the property
+pub record HasStored (objects : List Object) (o q : ℕ) : Type 0 where
+  pub value : Value
+  pub is : stored objects o q ≡ Some value
+
+-- an action can be written down
+pub record IsTellable (p : Loaded) (objects : List Object) (o : ℕ) (effects : MetaEffects) (action : Action) : Type 0 where
+  pub line : ShownAction
+  pub is : IsShownAs p objects o effects action line
+
+-- .. each of a list
+abbrev pub AreTellable : Loaded → List Object → ℕ → MetaEffects → List Action → Type 0
+AreTellable p objects o effects actions = AllByRecursion (IsTellable p objects o effects) actions
+
+-- the entry of these actions
+pub record TellsAnswer (p : Loaded) (objects : List Object) (depth o : ℕ) (effects : MetaEffects) (actions : List Action) (entry : Entry) : Type 0 where
+  pub lines : List ShownAction
+  pub are : AreShownAs p objects o effects actions lines
+  pub is : entry ≡ At depth (Answered lines)

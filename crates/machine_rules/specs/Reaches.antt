@@ -5,7 +5,7 @@ use Rattle.signatures.specs.declared.value.Value.{Value}
 use Rattle.signatures.specs.declared.value.Value.TheVariants as value
 use Rattle.meta_model.specs.declared.object.MetaMethod.{MetaMethod}
 use Rattle.meta_model.specs.declared.object.Work.{Work}
-use Rattle.meta_model.specs.declared.object.Work.TheVariants.{Signal, Slot}
+use Rattle.meta_model.specs.declared.object.Work.TheVariants.{Signal, Slot, Native}
 use Rattle.expressions.specs.declared.evaluation.EvalFault.{EvalFault}
 use Rattle.expressions.specs.declared.evaluation.EvalFault.TheVariants.{BadType, Memory as NoMemory}
 use Rattle.connections.specs.declared.connection.Connection.{Connection}
@@ -23,7 +23,7 @@ use Rattle.machine_state.specs.declared.fault.Fault.{Fault}
 use Rattle.machine_state.specs.declared.fault.Fault.TheVariants.{BadType as IllTyped, TooDeep, Steps, Memory}
 use Rattle.machine_state.specs.declared.world.World.{World}
 use Rattle.machine_state.specs.Connections.{is_silent, is_living}
-use Rattle.machine_state.specs.State.{Run, State, Activation, Body, Emit, Destroy, IsIdle}
+use Rattle.machine_state.specs.State.{Run, Ask, State, Activation, Body, Emit, Destroy, IsIdle}
 use Rattle.machine_state.specs.Objects.{all_shown}
 use Rattle.texts.specs.declared.connection.ConnectionType.{ConnectionType}
 use Rattle.texts.specs.declared.connection.Endpoints.{Endpoints as Named}
@@ -149,6 +149,7 @@ CallFits p objects call = ArgumentsFit p objects call.object call.method call.ar
 abbrev pub begin_entry : ℕ → Object → ℕ → List ℕ → List Shown → Work → Entry
 begin_entry depth x m method given Signal = At depth (happening.Emitted x.name method given (is_silent x m))
 begin_entry depth x m method given (Slot statements) = At depth (happening.Called x.name method given)
+begin_entry depth x m method given (Native effects) = At depth (happening.Called x.name method given)
 
 -- the entry of a method of an object that begins with these arguments, where so many activations are on the stack
 abbrev pub entry_of_call : World → ℕ → Object → ℕ → MetaMethod → List Value → Entry
@@ -180,6 +181,14 @@ pub record PostsCall (p : Loaded) (w : World) (depth : ℕ) (c : Connection) (o 
 abbrev pub top_of : ℕ → ℕ → List Value → ℕ → Work → Activation
 top_of o m arguments last Signal = Emit o m arguments 0 last
 top_of o m arguments last (Slot statements) = Body o m arguments (map Run statements)
+top_of o m arguments last (Native effects) = Body o m arguments (Ask effects ∷ [])
+
+-- a living object's method does this
+pub record DoesWork (p : Loaded) (objects : List Object) (o m : ℕ) (work : Work) : Type 0 where
+  pub object : Object
+  pub method : MetaMethod
+  pub is : IsMember p objects o m object method
+  pub is_work : work ≡ method.work
 
 -- what is found of a method that may begin over a stack that shows this: the line to be written, what is to run, and
 -- the last connection that was made before

@@ -7,7 +7,7 @@ use Rattle.signatures.specs.declared.value.Value.{Value}
 use Rattle.texts.specs.declared.connection.ConnectionType.{ConnectionType}
 use Rattle.texts.specs.declared.connection.Endpoints.{Endpoints as Named}
 use Rattle.meta_model.specs.declared.object.Work.{Work}
-use Rattle.meta_model.specs.declared.object.Work.TheVariants.{Signal, Slot}
+use Rattle.meta_model.specs.declared.object.Work.TheVariants.{Signal, Slot, Native}
 use Rattle.meta_model.specs.declared.object.MetaMethod.{MetaMethod}
 use Rattle.meta_model.specs.declared.object.MetaProperty.{MetaProperty}
 use Rattle.meta_model.specs.Loaded.{Loaded}
@@ -40,7 +40,7 @@ use Rattle.machine_rules.specs.Settling.{Writes}
 use Rattle.machine_rules.specs.Doings.{Doing, Write, Begin, Choose, Connect, Disconnect, Delete, Schedule, TakeAnswer, Nothing, doing_step}
 use Rattle.machine_rules.specs.Natives.{NativeAnswers, MayAnswer, AreShownAs}
 use Rattle.prop_bindings.specs.declared.place.Place.{Place}
-use Rattle.machine_state.specs.State.{Step, Run, Act, State, Activation, Body, Emit, Update, Destroy}
+use Rattle.machine_state.specs.State.{Step, Run, Ask, Act, State, Activation, Body, Emit, Update, Destroy}
 use Rattle.machine_state.specs.Turns.{running, reaches_at_once}
 use Rattle.machine_state.specs.declared.turn.Turn.{Turn}
 
@@ -48,13 +48,17 @@ use Rattle.machine_state.specs.declared.turn.Turn.{Turn}
 abbrev pub pushed : State → Activation → List Activation → (ℕ → List Entry) → State
 pushed s top below notes = record s { stack = top ∷ below; trace = s.trace ++ notes (length (top ∷ below)) }
 
--- a method of an object begins: a signal is emitted, and its entry tells whether it calls nothing; a slot's body is called
+-- a method of an object begins: a signal is emitted, and its entry tells whether it calls nothing; a slot's body is called,
+-- or a native's, which begins with its answer
 abbrev pub begun : State → List Activation → ℕ → Object → ℕ → MetaMethod → List Value → Work → State
 begun s below o x m method arguments Signal =
     pushed s (Emit o m arguments 0 s.connected.last) below
     (λ d. At d (happening.Emitted x.name method.sig.name (all_shown s.objects arguments) (is_silent x m)) ∷ [])
 begun s below o x m method arguments (Slot statements) =
     pushed s (Body o m arguments (map Run statements)) below
+    (λ d. At d (happening.Called x.name method.sig.name (all_shown s.objects arguments)) ∷ [])
+begun s below o x m method arguments (Native effects) =
+    pushed s (Body o m arguments (Ask effects ∷ [])) below
     (λ d. At d (happening.Called x.name method.sig.name (all_shown s.objects arguments)) ∷ [])
 
 -- method m of object o begins with these arguments

@@ -5,6 +5,7 @@ ghost use Rattle.machine_rules.specs.Sound.{IsSoundWorld};
 ghost use Rattle.machine_state.specs.State.{Run, Body};
 ghost use Rattle.machine_rules.specs.Coded.{meant};
 ghost use Rattle.machine_rules.specs.Calls.{Finishes, CarriesOut};
+ghost use Rattle.native_slots.specs.Promises.{Promises};
 
 use crate::active::Active;
 use crate::doing::Doing;
@@ -27,6 +28,7 @@ impl<N: Answering> Setting<N> {
         call: &MethodCall<'_>,
         statements: &[Statement],
     ) -> Result<(), Fault>
+        requires promises { Promises self.now.meta (N.takes self.now.natives) (N.gives self.now.natives) }
         requires room { length active.now < self.now.depth }
         requires sound { IsSoundWorld self.now.meta world.old }
         ensures ends { Finishes self.now.meta (N.gives self.now.natives) self.now.depth active.now
@@ -52,6 +54,7 @@ impl<N: Answering> Setting<N> {
         done: Doing<'p>,
         left: &mut Remaining<'p>,
     ) -> Result<(), Fault>
+        requires promises { Promises self.now.meta (N.takes self.now.natives) (N.gives self.now.natives) }
         requires room { length active.now < self.now.depth }
         requires sound { IsSoundWorld self.now.meta world.old }
         requires due { 0 < world.old.left }

@@ -6,6 +6,7 @@ ghost use Rattle.machine_rules.specs.Reaches.{entry_of_destroyed, Forgets, Sched
 ghost use Rattle.machine_rules.specs.Sound.{IsSoundWorld};
 ghost use Rattle.machine_state.specs.Connections.{is_living};
 ghost use Rattle.machine_state.specs.State.{Destroy};
+ghost use Rattle.native_slots.specs.Promises.{Promises};
 
 use crate::active::Active;
 use crate::method_call::MethodCall;
@@ -26,6 +27,7 @@ impl<N: Answering> Setting<N> {
         active: &Active<'_>,
         object: ObjectId,
     ) -> Result<(), Fault>
+        requires promises { Promises self.now.meta (N.takes self.now.natives) (N.gives self.now.natives) }
         requires sound { IsSoundWorld self.now.meta world.old }
         requires left { 0 < world.old.left }
         ensures ends { RunsDeletion self.now.meta (N.gives self.now.natives) self.now.depth active.now object world.old world.new result }
@@ -44,6 +46,7 @@ impl<N: Answering> Setting<N> {
         active: &Active<'_>,
         object: ObjectId,
     ) -> Result<(), Fault>
+        requires promises { Promises self.now.meta (N.takes self.now.natives) (N.gives self.now.natives) }
         requires room { length active.now < self.now.depth }
         requires sound { IsSoundWorld self.now.meta world.old }
         ensures ends { Finishes self.now.meta (N.gives self.now.natives) self.now.depth active.now (Destroy (Some object) [])
@@ -75,6 +78,7 @@ impl<N: Answering> Setting<N> {
         active: &Active<'_>,
         object: ObjectId,
     ) -> Result<(), Fault>
+        requires promises { Promises self.now.meta (N.takes self.now.natives) (N.gives self.now.natives) }
         requires room { length active.now < self.now.depth }
         requires sound { IsSoundWorld self.now.meta world.old }
         ensures ends { Leads self.now.meta (N.gives self.now.natives) self.now.depth active.now (Destroy (Some object) []) (Destroy (Some object) [])
@@ -96,6 +100,7 @@ impl<N: Answering> Setting<N> {
         active: &Active<'_>,
         object: ObjectId,
     ) -> Result<(), Fault>
+        requires promises { Promises self.now.meta (N.takes self.now.natives) (N.gives self.now.natives) }
         requires room { length active.now < self.now.depth }
         requires sound { IsSoundWorld self.now.meta world.old }
         requires lives { is_living world.old.store.tree object ≡ true }

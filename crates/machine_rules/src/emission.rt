@@ -4,8 +4,9 @@ ghost use Rattle.std.specs.Prelude.{◌<◌, length, OnOk};
 ghost use Rattle.machine_rules.specs.Sound.{IsSoundWorld, SendsThese, IsDelivered};
 ghost use Rattle.machine_state.specs.State.{Emit};
 ghost use Rattle.machine_rules.specs.Calls.{Finishes, UsesNext, RunsCall, RunsUse, RunsOnlyCall};
-ghost use Rattle.machine_rules.specs.Reaches.{CallFits, top_of};
+ghost use Rattle.machine_rules.specs.Reaches.{CallFits, DoesWork, top_of};
 ghost use Rattle.machine_rules.specs.Keeps.{KeepsWorld};
+ghost use Rattle.native_slots.specs.Promises.{Promises};
 
 use crate::active::Active;
 use crate::method_call::{MethodCall, front};
@@ -26,6 +27,7 @@ impl<N: Answering> Setting<N> {
         call: &MethodCall<'_>,
         last: u64,
     ) -> Result<(), Fault>
+        requires promises { Promises self.now.meta (N.takes self.now.natives) (N.gives self.now.natives) }
         requires room { length active.now < self.now.depth }
         requires sound { IsSoundWorld self.now.meta world.old }
         requires emitted { SendsThese self.now.meta world.old.store.tree
@@ -53,6 +55,7 @@ impl<N: Answering> Setting<N> {
         connection: Connection,
         arguments: &[Value],
     ) -> Result<(), Fault>
+        requires promises { Promises self.now.meta (N.takes self.now.natives) (N.gives self.now.natives) }
         requires room { length active.now < self.now.depth }
         requires sound { IsSoundWorld self.now.meta world.old }
         requires takes { IsDelivered self.now.meta world.old.store.tree connection arguments.now }
@@ -90,6 +93,7 @@ impl<N: Answering> Setting<N> {
         connection: &Connection,
         call: &MethodCall<'_>,
     ) -> Result<(), Fault>
+        requires promises { Promises self.now.meta (N.takes self.now.natives) (N.gives self.now.natives) }
         requires sound { IsSoundWorld self.now.meta world.old }
         requires left { 0 < world.old.left }
         requires fit { CallFits self.now.meta world.old.store.tree call.now }
@@ -110,6 +114,7 @@ impl<N: Answering> Setting<N> {
         active: &Active<'_>,
         call: &MethodCall<'_>,
     ) -> Result<(), Fault>
+        requires promises { Promises self.now.meta (N.takes self.now.natives) (N.gives self.now.natives) }
         requires sound { IsSoundWorld self.now.meta world.old }
         requires left { 0 < world.old.left }
         ensures ends { RunsOnlyCall self.now.meta (N.gives self.now.natives) self.now.depth active.now call.now world.old world.new result }
@@ -135,6 +140,7 @@ impl<N: Answering> Setting<N> {
         active: &Active<'_>,
         call: &MethodCall<'_>,
     ) -> Result<(), Fault>
+        requires promises { Promises self.now.meta (N.takes self.now.natives) (N.gives self.now.natives) }
         requires sound { IsSoundWorld self.now.meta world.old }
         requires left { 0 < world.old.left }
         requires fit { CallFits self.now.meta world.old.store.tree call.now }
@@ -154,9 +160,12 @@ impl<N: Answering> Setting<N> {
         call: &MethodCall<'_>,
         begun: &Begun<'_>,
     ) -> Result<(), Fault>
+        requires promises { Promises self.now.meta (N.takes self.now.natives) (N.gives self.now.natives) }
         requires room { length active.now < self.now.depth }
         requires sound { IsSoundWorld self.now.meta world.old }
         requires fit { CallFits self.now.meta world.old.store.tree call.now }
+        requires work { DoesWork self.now.meta world.old.store.tree
+            call.now.object call.now.method begun.now.work.now }
         ensures ends { Finishes self.now.meta (N.gives self.now.natives) self.now.depth active.now
             (top_of call.now.object call.now.method call.now.arguments.now
             begun.now.last begun.now.work.now)
@@ -165,6 +174,7 @@ impl<N: Answering> Setting<N> {
         match begun.work {
             Work::Signal => self.run_emission(world, active, call, begun.last),
             Work::Slot(body) => self.run_body(world, active, call, body.as_slice()),
+            Work::Native(effects) => self.run_native(world, active, call, effects),
         }
     }
 }

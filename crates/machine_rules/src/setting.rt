@@ -158,6 +158,11 @@ impl<N: Answering> Setting<N> {
                 slot: called,
                 arguments,
             },
+            Work::Native(_) => Happening::Called {
+                object: name,
+                slot: called,
+                arguments,
+            },
         };
         Ok(Entry::At(depth, happening))
     }

@@ -3,6 +3,7 @@
 ghost use Rattle.std.specs.Prelude.{◌≡◌, ◌<◌, [], Some, None, OnOk};
 ghost use Rattle.machine_rules.specs.Sound.{IsSoundWorld};
 ghost use Rattle.machine_rules.specs.Reaches.{RunsTo, Advances, IsCalled, TakesCall};
+ghost use Rattle.native_slots.specs.Promises.{Promises};
 
 use crate::active::Active;
 use crate::method_call::MethodCall;
@@ -15,6 +16,7 @@ use signatures::Arguments;
 impl<N: Answering> Setting<N> {
     /// Carries the turn that goes on to its end, if one does.
     pub fn run_turn(&self, world: &mut World) -> Result<(), Fault>
+        requires promises { Promises self.now.meta (N.takes self.now.natives) (N.gives self.now.natives) }
         requires room { 0 < self.now.depth }
         requires sound { IsSoundWorld self.now.meta world.old }
         ensures ends { RunsTo self.now.meta (N.gives self.now.natives) self.now.depth [] world.old [] world.new [] result }
@@ -30,6 +32,7 @@ impl<N: Answering> Setting<N> {
     /// Delivers the first item that the turn may deliver, and runs the call or the deletion to its end; with none left the
     /// turn ends. A call of a dead object begins nothing.
     fn serve(&self, world: &mut World, turn: Turn) -> Result<(), Fault>
+        requires promises { Promises self.now.meta (N.takes self.now.natives) (N.gives self.now.natives) }
         requires room { 0 < self.now.depth }
         requires sound { IsSoundWorld self.now.meta world.old }
         requires goes_on { world.old.turn ≡ Some turn }
@@ -58,6 +61,7 @@ impl<N: Answering> Setting<N> {
 
     /// Delivers the first item, which is a call of a living object, and runs it to its end.
     fn serve_call(&self, world: &mut World, turn: Turn) -> Result<(), Fault>
+        requires promises { Promises self.now.meta (N.takes self.now.natives) (N.gives self.now.natives) }
         requires room { 0 < self.now.depth }
         requires sound { IsSoundWorld self.now.meta world.old }
         requires goes_on { world.old.turn ≡ Some turn }

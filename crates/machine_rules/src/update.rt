@@ -6,6 +6,7 @@ ghost use Rattle.machine_state.specs.State.{Update};
 ghost use Rattle.machine_rules.specs.Calls.{Finishes, NotifiesFirst, RunsWrite};
 ghost use Rattle.machine_rules.specs.Settling.{signal_at, notified};
 ghost use Rattle.machine_rules.specs.Writing.{MayWrite, IsUnwritten, MayNotify, Announces};
+ghost use Rattle.native_slots.specs.Promises.{Promises};
 
 use crate::active::Active;
 use crate::method_call::{MethodCall, front};
@@ -28,6 +29,7 @@ impl<N: Answering> Setting<N> {
         place: &Place,
         value: Value,
     ) -> Result<(), Fault>
+        requires promises { Promises self.now.meta (N.takes self.now.natives) (N.gives self.now.natives) }
         requires sound { IsSoundWorld self.now.meta world.old }
         requires left { 0 < world.old.left }
         ensures ends { RunsWrite self.now.meta (N.gives self.now.natives) self.now.depth active.now place.now value world.old world.new result }
@@ -68,6 +70,7 @@ impl<N: Answering> Setting<N> {
         active: &Active<'_>,
         changed: &[Place],
     ) -> Result<(), Fault>
+        requires promises { Promises self.now.meta (N.takes self.now.natives) (N.gives self.now.natives) }
         requires room { length active.now < self.now.depth }
         requires sound { IsSoundWorld self.now.meta world.old }
         ensures ends { Finishes self.now.meta (N.gives self.now.natives) self.now.depth active.now
@@ -110,6 +113,7 @@ impl<N: Answering> Setting<N> {
     /// Notifies that a property has changed, if its object lives.
     #[cycle(machine)]
     fn notify(&self, world: &mut World, active: &Active<'_>, place: &Place) -> Result<(), Fault>
+        requires promises { Promises self.now.meta (N.takes self.now.natives) (N.gives self.now.natives) }
         requires room { length active.now < self.now.depth }
         requires sound { IsSoundWorld self.now.meta world.old }
         requires notifies { MayNotify self.now.meta world.old.store.tree place.now }
@@ -130,6 +134,7 @@ impl<N: Answering> Setting<N> {
         place: &Place,
         signal: usize,
     ) -> Result<(), Fault>
+        requires promises { Promises self.now.meta (N.takes self.now.natives) (N.gives self.now.natives) }
         requires room { length active.now < self.now.depth }
         requires sound { IsSoundWorld self.now.meta world.old }
         requires announces { Announces self.now.meta world.old.store.tree place.now signal }

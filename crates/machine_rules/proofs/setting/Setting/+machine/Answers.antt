@@ -1,15 +1,17 @@
-use Rattle.std.proofs.Common.{◌≡◌, ◌∙◌, ℕ, false, List, [], length, refl, sym, ap, subst, arith, Option, Some}
+use Rattle.std.proofs.Common.{map, ◌≡◌, ◌∙◌, ℕ, false, List, [], length, refl, sym, ap, subst, arith, Option, Some}
 use Rattle.signatures.specs.declared.value.Value.{Value}
 use Rattle.machine_state.specs.declared.world.World.{World}
 use Rattle.machine_rules.proofs.Reaching.{not-idle, reaches-same, reaches-then, stops-after, stops-as, ends-after, ends-lifted, ends-left, ends-undue, ends-short, ends-unchanged, ends-lost, ends-faulted, ends-ticked, ok-err, ok-map}
 use Rattle.machine_state.specs.Connections.{is_living}
+use Rattle.machine_state.specs.State.{Run, Ask, Act}
 use Rattle.machine_rules.specs.Good.{ArgumentsFit}
 use Rattle.machine_rules.specs.Keeps.{KeepsWorld}
 use Rattle.machine_rules.specs.Sound.{IsSoundWorld}
 use Rattle.machine_rules.proofs.Keeps.{keeps-same, keeps-then, reaches-keeps}
 use Rattle.machine_rules.proofs.Declared.{fit-sends}
 use Rattle.machine_rules.proofs.Soundness.{emitted-still, reaches-sound, sound-used, sound-noted, sound-set}
-use Rattle.machine_rules.proofs.Beginning.{ends-begun, stops-barred, stops-no-member, stops-ill-typed, fit-of, next-delivered, delivered-fits, delivery-calls, begun-used, ends-posted, no-home, not-true}
+use Rattle.machine_rules.specs.Reaches.{DoesWork}
+use Rattle.machine_rules.proofs.Beginning.{begun-work, ends-begun, stops-barred, stops-no-member, stops-ill-typed, fit-of, next-delivered, delivered-fits, delivery-calls, begun-used, ends-posted, no-home, not-true}
 use Rattle.machine_rules.proofs.Writes.{ends-written, stops-unwritten, may-fits}
 use Rattle.machine_rules.proofs.Notifying.{no-places, all-notified, all-may-still, announces-signal, dead-rule, announced-member, announced-value, announced-fits, announcement-calls}
 use Rattle.machine_rules.proofs.Bodies.{does-call, does-call-alone, does-set, does-nothing, does-connect, does-disconnect, does-delete, does-schedule, does-choose, lacks-read, advances-one, advances-ticked, advances-left}
@@ -23,13 +25,13 @@ pub run_emission-loop-connection-init : goal.run_emission-loop-connection-init
 run_emission-loop-connection-init g t c = record { reaches = reaches-same; keeps = keeps-same; fewer = omega arith; sound = c.requires.sound }
 
 pub run_emission-deliver-requires : goal.run_emission-deliver-requires
-run_emission-deliver-requires g t c =
+run_emission-deliver-requires g t c = λ κs lives.
     let now = c.loop-connection.world in
     let found = sym c.in-Some.ensures.value in
     let sound = c.loop-connection.invariant.sound in
     let emitted = emitted-still c.loop-connection.invariant.keeps c.requires.emitted in
     let takes = next-delivered now.store.connections.connections c.args.call.now.object c.args.call.now.method c.loop-connection.used c.args.last _ sound.is.joined emitted found in
-    (omega (arith, c.loop-connection.invariant.fewer), (c.requires.room, (sound, takes)))
+    (omega (arith, c.loop-connection.invariant.fewer), (c.requires.promises, (c.requires.room, (sound, takes))))
 
 pub run_emission-loop-connection-preserved : goal.run_emission-loop-connection-preserved
 run_emission-loop-connection-preserved g t c =
@@ -64,7 +66,7 @@ pub deliver-unreachable-requires-in_default-home : goal.deliver-unreachable-requ
 deliver-unreachable-requires-in_default-home g t c = no-home c.in-Some.ensures c.in_default-home.ensures
 
 pub deliver-begin_used-requires : goal.deliver-begin_used-requires
-deliver-begin_used-requires g t c = (omega arith, (c.requires.sound, (c.in_ok-require_rule.ensures, delivered-fits c.requires.takes c.in-Some.ensures c.front-taken.ensures c.len.ensures)))
+deliver-begin_used-requires g t c = λ κs lives. (omega arith, (c.requires.promises, (c.requires.sound, (c.in_ok-require_rule.ensures, delivered-fits c.requires.takes c.in-Some.ensures c.front-taken.ensures c.len.ensures))))
 
 pub deliver-post-requires-clause-fit : goal.deliver-post-requires-clause-fit
 deliver-post-requires-clause-fit g t c = delivered-fits c.requires.takes c.in-Some.ensures c.front-taken.ensures c.len.ensures
@@ -91,10 +93,11 @@ pub begin_used-returns-in_err-use_connection : goal.begin_used-returns-in_err-us
 begin_used-returns-in_err-use_connection g t c = record { ends = λ from to shown over calls. ends-unchanged _ calls.goes_on c.requires.left c.in_err-use_connection.ensures c.from_residual-in_err-use_connection.ensures.1 }
 
 pub begin_used-run_begun-requires : goal.begin_used-run_begun-requires
-begin_used-run_begun-requires g t c =
+begin_used-run_begun-requires g t c = λ κs lives.
     let went = c.in_ok-use_connection.ensures in
+    let Work : World → Type 0 = λ v. DoesWork c.args.self.now.meta v.store.tree c.args.call.now.object c.args.call.now.method c.begun.work.now in
     let Fit : World → Type 0 = λ v. ArgumentsFit c.args.self.now.meta v.store.tree c.args.call.now.object c.args.call.now.method c.args.call.now.arguments.now in
-    (omega (arith, ap (λ (w : World). w.left) went, c.requires.left), (c.in_ok-line.ensures.ok.room, (sound-used c.args.world.now _ c.args.connection.now went c.requires.sound, subst Fit (sym went) c.requires.fit)))
+    (omega (arith, ap (λ (w : World). w.left) went, c.requires.left), (c.requires.promises, (c.in_ok-line.ensures.ok.room, (sound-used c.args.world.now _ c.args.connection.now went c.requires.sound, (subst Fit (sym went) c.requires.fit, subst Work (sym went) (begun-work c.in_ok-line.ensures.ok))))))
 
 pub begin_used-returns : goal.begin_used-returns
 begin_used-returns g t c = record {
@@ -115,8 +118,8 @@ begin_typed-returns-then-not-have_types g t c = record {
 }
 
 pub begin_typed-begin-requires : goal.begin_typed-begin-requires
-begin_typed-begin-requires g t c = let typed = rw c.as_slice.ensures at c.have_types.ensures in
-    (omega arith, (c.requires.sound, (c.requires.left, fit-of c.in-Some.ensures (typed.0 c.if-not-have_types.false))))
+begin_typed-begin-requires g t c = λ κs lives. let typed = rw c.as_slice.ensures at c.have_types.ensures in
+    (omega arith, (c.requires.promises, (c.requires.sound, (c.requires.left, fit-of c.in-Some.ensures (typed.0 c.if-not-have_types.false)))))
 
 pub begin_typed-returns : goal.begin_typed-returns
 begin_typed-returns g t c = record { ends = λ from to shown over calls only. c.begin.ensures.ends from to shown over calls }
@@ -130,10 +133,11 @@ pub begin-returns-in_err-note : goal.begin-returns-in_err-note
 begin-returns-in_err-note g t c = record { ends = λ from to shown over calls. ends-unchanged _ calls.goes_on c.requires.left c.in_err-note.ensures c.from_residual-in_err-note.ensures.1 }
 
 pub begin-run_begun-requires : goal.begin-run_begun-requires
-begin-run_begun-requires g t c =
+begin-run_begun-requires g t c = λ κs lives.
     let went = c.in_ok-note.ensures in
+    let Work : World → Type 0 = λ v. DoesWork c.args.self.now.meta v.store.tree c.args.call.now.object c.args.call.now.method c.begun.work.now in
     let Fit : World → Type 0 = λ v. ArgumentsFit c.args.self.now.meta v.store.tree c.args.call.now.object c.args.call.now.method c.args.call.now.arguments.now in
-    (omega (arith, ap (λ (w : World). w.left) went, c.requires.left), (c.in_ok-line.ensures.ok.room, (sound-noted c.args.world.now _ went c.requires.sound, subst Fit (sym went) c.requires.fit)))
+    (omega (arith, ap (λ (w : World). w.left) went, c.requires.left), (c.requires.promises, (c.in_ok-line.ensures.ok.room, (sound-noted c.args.world.now _ went c.requires.sound, (subst Fit (sym went) c.requires.fit, subst Work (sym went) (begun-work c.in_ok-line.ensures.ok))))))
 
 pub begin-returns : goal.begin-returns
 begin-returns g t c = record {
@@ -155,26 +159,26 @@ run_body-returns-in_err-doing g t c =
     record { ends = ends-after came (ends-faulted _ c.in_ok-require_rule.ensures (λ is. lacks-read _ _ c.in_ok-require_rule.ensures c.scope.ensures.objects c.scope.ensures.this c.scope.ensures.arguments c.in_err-doing.ensures is) c.from_residual-in_err-doing.ensures.1) }
 
 pub run_body-carry_out-requires : goal.run_body-carry_out-requires
-run_body-carry_out-requires g t c = (omega (arith, c.loop-statement.invariant.fewer), (c.requires.room, (c.loop-statement.invariant.sound, c.in_ok-require_rule.ensures)))
+run_body-carry_out-requires g t c = λ κs lives. (omega (arith, c.loop-statement.invariant.fewer), (c.requires.promises, (c.requires.room, (c.loop-statement.invariant.sound, c.in_ok-require_rule.ensures))))
 
 pub run_body-returns-in_err-carry_out : goal.run_body-returns-in_err-carry_out
 run_body-returns-in_err-carry_out g t c =
     let came = rw c.in-Some.ensures at c.loop-statement.invariant.reaches in
     let is = rw (c.scope.ensures.objects, c.scope.ensures.this, c.scope.ensures.arguments) at c.in_ok-doing.ensures in
-    record { ends = ends-left _ (stops-after came ((c.in_err-carry_out.ensures.advances _ _ _ is).cases)) c.from_residual-in_err-carry_out.ensures.1 }
+    record { ends = ends-left _ (stops-after came ((c.in_err-carry_out.ensures.advances _ _ (Run c.in-Some.statement.now) is).cases)) c.from_residual-in_err-carry_out.ensures.1 }
 
 pub run_body-loop-statement-preserved : goal.run_body-loop-statement-preserved
 run_body-loop-statement-preserved g t c =
     let came = rw c.in-Some.ensures at c.loop-statement.invariant.reaches in
     let is = rw (c.scope.ensures.objects, c.scope.ensures.this, c.scope.ensures.arguments) at c.in_ok-doing.ensures in
-    let one = (c.in_ok-carry_out.ensures.advances c.args.call.now.method c.args.call.now.arguments.now _ is).cases in
+    let one = (c.in_ok-carry_out.ensures.advances c.args.call.now.method c.args.call.now.arguments.now (Run c.in-Some.statement.now) is).cases in
     let keeps = keeps-then c.loop-statement.invariant.keeps (reaches-keeps one.0) in
     record { reaches = reaches-then came one.0; keeps = keeps; fewer = keeps.fewer; sound = reaches-sound (tt, tt) c.loop-statement.invariant.sound one.0 }
 
 pub run_body-loop-statement-smaller : goal.run_body-loop-statement-smaller
 run_body-loop-statement-smaller g t c =
     let is = rw (c.scope.ensures.objects, c.scope.ensures.this, c.scope.ensures.arguments) at c.in_ok-doing.ensures in
-    (c.in_ok-carry_out.ensures.advances c.args.call.now.method c.args.call.now.arguments.now _ is).cases.1
+    (c.in_ok-carry_out.ensures.advances c.args.call.now.method c.args.call.now.arguments.now (Run c.in-Some.statement.now) is).cases.1
 
 pub run_body-returns : goal.run_body-returns
 run_body-returns g t c =
@@ -182,13 +186,13 @@ run_body-returns g t c =
     record { ends = ends-after came (ends-ticked {b = []} _ (λ below e. refl) (omega arith) c.requires.room c.loop-statement.invariant.sound.is.agree c.tick.ensures) }
 
 pub carry_out-returns-in-Write : goal.carry_out-returns-in-Write
-carry_out-returns-in-Write g t c = record { advances = λ m arguments x is. advances-one _ (c.write.ensures.ends _ _ _ c.over-over.ensures (does-set m c.args.left.now (rw c.in-Write.is at is))) }
+carry_out-returns-in-Write g t c = record { advances = λ m arguments x is. advances-one _ (c.write.ensures.ends _ _ _ c.over-over.ensures (does-set m (map Run c.args.left.now) (rw c.in-Write.is at is))) }
 
 pub carry_out-returns-in-Begin : goal.carry_out-returns-in-Begin
 carry_out-returns-in-Begin g t c = record {
   advances = λ m arguments x is.
       let begins = rw (c.in-Begin.is, ← c.as_slice.ensures) at is in
-      advances-one _ (c.begin_typed.ensures.ends _ _ _ c.over-over.ensures (does-call m c.args.left.now begins) (does-call-alone m c.args.left.now begins));
+      advances-one _ (c.begin_typed.ensures.ends _ _ _ c.over-over.ensures (does-call m (map Run c.args.left.now) begins) (does-call-alone m (map Run c.args.left.now) begins));
 }
 
 pub carry_out-returns-in_err-put-in-Choose : goal.carry_out-returns-in_err-put-in-Choose
@@ -204,7 +208,7 @@ pub carry_out-returns-in-Nothing : goal.carry_out-returns-in-Nothing
 carry_out-returns-in-Nothing g t c = record {
   advances = λ m arguments x is.
       let higher = ap (λ (l : List (Option ℕ)). length l) c.over-over.ensures in
-      advances-one _ (does-nothing m c.args.left.now _ _ (rw c.in-Nothing.is at is) c.requires.room c.requires.sound.is.agree c.requires.due (omega (arith, c.count-in-Nothing.ensures, higher)) c.note.ensures);
+      advances-one _ (does-nothing m (map Run c.args.left.now) _ _ (rw c.in-Nothing.is at is) c.requires.room c.requires.sound.is.agree c.requires.due (omega (arith, c.count-in-Nothing.ensures, higher)) c.note.ensures);
 }
 
 pub carry_out-connect-requires : goal.carry_out-connect-requires
@@ -214,14 +218,14 @@ pub carry_out-returns-in-Connect : goal.carry_out-returns-in-Connect
 carry_out-returns-in-Connect g t c = record {
   advances = λ m arguments x is.
       let higher = ap (λ (l : List (Option ℕ)). length l) c.over-over.ensures in
-      advances-one _ (does-connect m c.args.left.now _ _ _ _ (rw c.in-Connect.is at is) c.requires.room c.requires.sound.is.agree c.requires.due (omega (arith, c.count.ensures, higher)) c.connect.ensures);
+      advances-one _ (does-connect m (map Run c.args.left.now) _ _ _ _ (rw c.in-Connect.is at is) c.requires.room c.requires.sound.is.agree c.requires.due (omega (arith, c.count.ensures, higher)) c.connect.ensures);
 }
 
 pub carry_out-returns-in-Disconnect : goal.carry_out-returns-in-Disconnect
 carry_out-returns-in-Disconnect g t c = record {
   advances = λ m arguments x is.
       let higher = ap (λ (l : List (Option ℕ)). length l) c.over-over.ensures in
-      advances-one _ (does-disconnect m c.args.left.now _ _ _ (rw c.in-Disconnect.is at is) c.requires.room c.requires.sound.is.agree c.requires.due (omega (arith, c.count-in-Disconnect.ensures, higher)) c.disconnect.ensures);
+      advances-one _ (does-disconnect m (map Run c.args.left.now) _ _ _ (rw c.in-Disconnect.is at is) c.requires.room c.requires.sound.is.agree c.requires.due (omega (arith, c.count-in-Disconnect.ensures, higher)) c.disconnect.ensures);
 }
 
 -- ---- writes
@@ -238,9 +242,9 @@ pub write-returns-in_err-changed : goal.write-returns-in_err-changed
 write-returns-in_err-changed g t c = record { ends = λ from to shown over sets. ends-lost _ sets.goes_on c.requires.left c.in_err-changed.ensures.value c.from_residual-in_err-changed.ensures.1 }
 
 pub write-run_update-requires : goal.write-run_update-requires
-write-run_update-requires g t c =
+write-run_update-requires g t c = λ κs lives.
     let went = c.in_ok-changed.ensures.value in
-    (omega (arith, ap (λ (w : World). w.left) went.gives, c.requires.left), (c.in_ok-may_write.ensures.ok.room, sound-set c.args.world.now went c.in_ok-changed.ensures.agree c.requires.sound))
+    (omega (arith, ap (λ (w : World). w.left) went.gives, c.requires.left), (c.requires.promises, (c.in_ok-may_write.ensures.ok.room, sound-set c.args.world.now went c.in_ok-changed.ensures.agree c.requires.sound)))
 
 pub write-returns : goal.write-returns
 write-returns g t c = record {
@@ -263,9 +267,9 @@ run_update-loop-place-init g t c =
     record { reaches = rw places reaches-same; fewer = omega arith; sound = c.requires.sound; may = rw places (all-notified c.args.self.now.meta c.args.world.now.store.tree c.args.changed.now c.requires.sound.program) }
 
 pub run_update-notify-requires : goal.run_update-notify-requires
-run_update-notify-requires g t c =
+run_update-notify-requires g t c = λ κs lives.
     let may = rw c.in-Some.ensures.cases.0 at c.loop-place.invariant.may in
-    (omega (arith, c.loop-place.invariant.fewer), (c.requires.room, (c.loop-place.invariant.sound, may.0)))
+    (omega (arith, c.loop-place.invariant.fewer), (c.requires.promises, (c.requires.room, (c.loop-place.invariant.sound, may.0))))
 
 pub run_update-returns-in_err-notify : goal.run_update-returns-in_err-notify
 run_update-returns-in_err-notify g t c =
@@ -291,7 +295,7 @@ run_update-returns g t c =
     record { ends = ends-after came (ends-ticked {b = []} _ (λ below e. refl) (omega arith) c.requires.room c.loop-place.invariant.sound.is.agree c.tick.ensures) }
 
 pub notify-emit_change-requires : goal.notify-emit_change-requires
-notify-emit_change-requires g t c = (omega arith, (c.requires.room, (c.requires.sound, announces-signal c.requires.sound.program c.signal_at.ensures c.in-Some.is)))
+notify-emit_change-requires g t c = λ κs lives. (omega arith, (c.requires.promises, (c.requires.room, (c.requires.sound, announces-signal c.requires.sound.program c.signal_at.ensures c.in-Some.is))))
 
 pub notify-returns-in-Some : goal.notify-returns-in-Some
 notify-returns-in-Some g t c = record { ends = c.emit_change.ensures.ends }
@@ -317,10 +321,10 @@ pub emit_change-returns-in_err-copy : goal.emit_change-returns-in_err-copy
 emit_change-returns-in_err-copy g t c = record { ends = λ rest. ends-short _ (not-idle c.args.world.now _) c.in_ok-require_rule.ensures c.from_residual-in_err-copy.ensures.1 }
 
 pub emit_change-begin-requires : goal.emit_change-begin-requires
-emit_change-begin-requires g t c =
+emit_change-begin-requires g t c = λ κs lives.
     let present = sym c.in-Some-value.ensures ∙ ap (λ (v : Value). Some v) (sym c.in_ok-copy.ensures) in
     let cut = rw c.as_slice.ensures at c.front-taken.ensures in
-    (omega arith, (c.requires.sound, (c.in_ok-require_rule.ensures, announced-fits c.requires.announces c.requires.sound.is.agree.typed c.in-Some.ensures present cut c.len.ensures)))
+    (omega arith, (c.requires.promises, (c.requires.sound, (c.in_ok-require_rule.ensures, announced-fits c.requires.announces c.requires.sound.is.agree.typed c.in-Some.ensures present cut c.len.ensures))))
 
 pub emit_change-returns : goal.emit_change-returns
 emit_change-returns g t c =
@@ -341,16 +345,16 @@ delete-returns g t c = record {
 }
 
 pub run_begun-run_emission-requires : goal.run_begun-run_emission-requires
-run_begun-run_emission-requires g t c = (omega arith, (c.requires.room, (c.requires.sound, fit-sends c.requires.sound.program c.requires.fit)))
+run_begun-run_emission-requires g t c = λ κs lives. (omega arith, (c.requires.promises, (c.requires.room, (c.requires.sound, fit-sends c.requires.sound.program c.requires.fit))))
 
 pub carry_out-returns-in-Delete : goal.carry_out-returns-in-Delete
-carry_out-returns-in-Delete g t c = record { advances = λ m arguments x is. advances-one _ (c.delete.ensures.ends _ _ _ c.over-over.ensures (does-delete m c.args.left.now (rw c.in-Delete.is at is))) }
+carry_out-returns-in-Delete g t c = record { advances = λ m arguments x is. advances-one _ (c.delete.ensures.ends _ _ _ c.over-over.ensures (does-delete m (map Run c.args.left.now) (rw c.in-Delete.is at is))) }
 
 pub carry_out-returns-in-Schedule : goal.carry_out-returns-in-Schedule
 carry_out-returns-in-Schedule g t c = record {
   advances = λ m arguments x is.
       let higher = ap (λ (l : List (Option ℕ)). length l) c.over-over.ensures in
-      advances-one _ (does-schedule m c.args.left.now _ _ _ (rw c.in-Schedule.is at is) c.requires.room c.requires.sound.is.agree c.requires.due (omega (arith, c.count-in-Schedule.ensures, higher)) c.schedule.ensures);
+      advances-one _ (does-schedule m (map Run c.args.left.now) _ _ _ (rw c.in-Schedule.is at is) c.requires.room c.requires.sound.is.agree c.requires.due (omega (arith, c.count-in-Schedule.ensures, higher)) c.schedule.ensures);
 }
 
 pub announce-returns-in_err-require_rule-clause-ends : goal.announce-returns-in_err-require_rule-clause-ends
@@ -377,13 +381,13 @@ pub announce-returns-in_err-mark_dead-clause-ends : goal.announce-returns-in_err
 announce-returns-in_err-mark_dead-clause-ends g t c = λ next before torn kills. ends-unchanged _ (not-idle c.args.world.now _) c.in_ok-require_rule.ensures c.in_err-mark_dead.ensures c.from_residual-in_err-mark_dead.ensures.1
 
 pub announce-run_emission-requires : goal.announce-run_emission-requires
-announce-run_emission-requires g t c =
+announce-run_emission-requires g t c = λ κs lives.
     let w = c.args.world.now in
     let named = sym c.in-Some.ensures in
     let came = died-as c.args.world.now c.args.object c.in_ok-mark_dead.ensures c.in_ok-copy.ensures c.in_ok-emitted.ensures c.count.ensures c.count-2.ensures in
     let higher = ap (λ (l : List (Option ℕ)). length l) c.over-over.ensures in
-    let went = reaches-died {d = c.args.self.now.depth} {active = c.args.active.now} {torn = []} (kills-first w c.args.object [] c.requires.lives) named c.requires.sound.is.agree c.in_ok-require_rule.ensures (sym c.has_body.ensures ∙ c.if-has_body.false) (omega (arith, c.in_ok-may_nest.ensures, higher)) (omega (arith, higher)) c.last-last.ensures came in
-    (omega (arith, ap (λ (u : World). u.left) c.in_ok-mark_dead.ensures, c.in_ok-require_rule.ensures), (c.in_ok-may_nest.ensures, (reaches-sound (tt, tt) c.requires.sound went, died-emits w _ c.args.object c.requires.sound.program named came)))
+    let went = reaches-died {natives = g.N.Answering.gives c.args.self.now.natives} {d = c.args.self.now.depth} {active = c.args.active.now} {torn = []} (kills-first w c.args.object [] c.requires.lives) named c.requires.sound.is.agree c.in_ok-require_rule.ensures (sym c.has_body.ensures ∙ c.if-has_body.false) (omega (arith, c.in_ok-may_nest.ensures, higher)) (omega (arith, higher)) c.last-last.ensures came in
+    (omega (arith, ap (λ (u : World). u.left) c.in_ok-mark_dead.ensures, c.in_ok-require_rule.ensures), (c.requires.promises, (c.in_ok-may_nest.ensures, (reaches-sound (tt, tt) c.requires.sound went, died-emits w _ c.args.object c.requires.sound.program named came))))
 
 pub announce-returns-clause-ends : goal.announce-returns-clause-ends
 announce-returns-clause-ends g t c = λ next before torn kills.

@@ -1,6 +1,9 @@
 use Rattle.std.proofs.Common.{◌≤◌, ◌+◌, ◌-◌, ◌*◌, [], ◌∷◌, length, map, reverse, Some, None}
 use Rattle.std.specs.List.{AllByRecursion}
-use Rattle.machine_state.specs.State.{Run, Body, Emit, Update, Destroy}
+use Rattle.machine_state.specs.State.{Run, Ask, Act, Body, Emit, Update, Destroy}
+use Rattle.std.specs.Prelude.{IsTrue, is_some}
+use Rattle.native_slots.specs.declared.action.Action.{Action}
+use Rattle.machine_rules.specs.Natives.{place_of}
 use Rattle.machine_rules.specs.Settling.{notified}
 use Rattle.machine_rules.specs.Writing.{MayNotify}
 use Rattle.machine_rules.specs.Sound.{IsSoundWorld}
@@ -31,6 +34,12 @@ decreases-run_body g l = 6 * l.world.now.left + 4
 
 abbrev pub decreases-carry_out : goal.decreases-carry_out
 decreases-carry_out g l = 6 * l.world.now.left + 2
+
+abbrev pub decreases-run_native : goal.decreases-run_native
+decreases-run_native g l = 6 * l.world.now.left + 4
+
+abbrev pub decreases-carry_out_action : goal.decreases-carry_out_action
+decreases-carry_out_action g l = 6 * l.world.now.left + 2
 
 abbrev pub decreases-write : goal.decreases-write
 decreases-write g l = 6 * l.world.now.left + 0
@@ -102,3 +111,13 @@ invariant-run_update-loop-place g l =
 
 abbrev pub decreases-run_update-loop-place : goal.decreases-run_update-loop-place
 decreases-run_update-loop-place g l = length l.left
+
+-- what is left of the answer is left of the body
+abbrev pub invariant-run_native-loop-action : goal.invariant-run_native-loop-action
+invariant-run_native-loop-action g l =
+    record {
+      reaches : Reaches l.self.meta (g.N.Answering.gives l.self.natives) l.self.depth l.active l.fn.world (Body l.call.object l.call.method l.call.arguments.now (Ask l.effects ∷ []) ∷ []) l.world (Body l.call.object l.call.method l.call.arguments.now (map (Act l.effects) l.action-iterator.rest.items) ∷ []);
+      within : AllByRecursion (λ (a : Action). IsTrue (is_some (place_of l.effects a))) l.action-iterator.rest.items;
+      fewer : l.world.left ≤ l.fn.world.left;
+      sound : IsSoundWorld l.self.meta l.world;
+    }
