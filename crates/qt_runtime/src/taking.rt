@@ -1,6 +1,7 @@
 //! The taking of events.
 
 ghost use Rattle.std.specs.Prelude.{◌<◌, ◌≡◌, None};
+ghost use Rattle.native_slots.specs.Promises.{Promises};
 ghost use Rattle.qt_runtime.specs.Taking.{WorldInvariant, Answers};
 
 use crate::events::add_loop::add_loop;
@@ -27,6 +28,7 @@ pub fn take_event<N: Answering>(
     event: &Event,
 ) -> Result<Answer, Fault>
     requires depth { 0 < setting.now.depth }
+    requires promises { Promises setting.now.meta (N.takes setting.now.natives) (N.gives setting.now.natives) }
     requires idle { world.old.turn ≡ None }
     requires keeps { WorldInvariant setting.now.meta world.old }
     ensures { Answers N.gives setting.now event.now world.old world.new result }

@@ -3,6 +3,7 @@
 ghost use Rattle.std.specs.Prelude.{◌≡◌, ℕ, ◌<◌, List, [], IfOk, IfErr, None};
 ghost use Rattle.script_lang.specs.declared.event.Event.TheVariants.{Bind};
 ghost use Rattle.machine_state.specs.Worlds.{at};
+ghost use Rattle.native_slots.specs.Promises.{Promises};
 ghost use Rattle.qt_runtime.specs.Judgement.{IsNotAccepted};
 ghost use Rattle.qt_runtime.specs.Taking.{WorldInvariant, Answers, AsksToBind, binding_reason};
 ghost use Rattle.qt_runtime.specs.events.Bind.{may_bind};
@@ -33,6 +34,7 @@ pub fn bind<N: Answering>(
     sources: &[Name],
 ) -> Result<Answer, Fault>
     requires depth { 0 < setting.now.depth }
+    requires promises { Promises setting.now.meta (N.takes setting.now.natives) (N.gives setting.now.natives) }
     requires left { 0 < world.old.left }
     requires idle { world.old.turn ≡ None }
     requires keeps { WorldInvariant setting.now.meta world.old }
@@ -84,6 +86,7 @@ fn install<N: Answering>(
     asked: &Asked,
 ) -> Result<Answer, Fault>
     requires depth { 0 < setting.now.depth }
+    requires promises { Promises setting.now.meta (N.takes setting.now.natives) (N.gives setting.now.natives) }
     requires left { 0 < world.old.left }
     requires idle { world.old.turn ≡ None }
     requires keeps { WorldInvariant setting.now.meta world.old }

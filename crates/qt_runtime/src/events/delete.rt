@@ -2,6 +2,7 @@
 
 ghost use Rattle.std.specs.Prelude.{◌<◌, ◌≡◌, None};
 ghost use Rattle.script_lang.specs.declared.event.Event.TheVariants.{Delete};
+ghost use Rattle.native_slots.specs.Promises.{Promises};
 ghost use Rattle.qt_runtime.specs.Taking.{WorldInvariant, Answers};
 
 use crate::events::named::find_living;
@@ -18,6 +19,7 @@ pub fn delete<N: Answering>(
     name: &Name,
 ) -> Result<Answer, Fault>
     requires depth { 0 < setting.now.depth }
+    requires promises { Promises setting.now.meta (N.takes setting.now.natives) (N.gives setting.now.natives) }
     requires left { 0 < world.old.left }
     requires idle { world.old.turn ≡ None }
     requires keeps { WorldInvariant setting.now.meta world.old }

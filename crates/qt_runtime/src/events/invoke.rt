@@ -5,6 +5,7 @@ ghost use Rattle.machine_state.specs.Worlds.{at};
 ghost use Rattle.machine_rules.specs.Reaches.{CallFits};
 ghost use Rattle.machine_rules.specs.Good.{ArgumentsFit};
 ghost use Rattle.machine_rules.specs.Judgement.{NothingIs, numbered};
+ghost use Rattle.native_slots.specs.Promises.{Promises};
 ghost use Rattle.qt_runtime.specs.Judgement.{IsNotAccepted};
 ghost use Rattle.qt_runtime.specs.Taking.{WorldInvariant, Answers, AsksFor, invoking};
 ghost use Rattle.qt_runtime.specs.events.Invoke.{invoke, May, IsAskedOf};
@@ -61,6 +62,7 @@ pub fn invoke<N: Answering>(
     inputs: &[Input],
 ) -> Result<Answer, Fault>
     requires depth { 0 < setting.now.depth }
+    requires promises { Promises setting.now.meta (N.takes setting.now.natives) (N.gives setting.now.natives) }
     requires left { 0 < world.old.left }
     requires idle { world.old.turn ≡ None }
     requires keeps { WorldInvariant setting.now.meta world.old }
@@ -156,6 +158,7 @@ fn begin<N: Answering>(
     call: &MethodCall<'_>,
 ) -> Result<Answer, Fault>
     requires depth { 0 < setting.now.depth }
+    requires promises { Promises setting.now.meta (N.takes setting.now.natives) (N.gives setting.now.natives) }
     requires left { 0 < world.old.left }
     requires idle { world.old.turn ≡ None }
     requires keeps { WorldInvariant setting.now.meta world.old }
