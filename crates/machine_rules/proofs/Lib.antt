@@ -22,4 +22,6 @@ pub mod Soundness
 pub mod Agreeing
 pub mod Turning
 pub mod Answering
+pub mod Inherited
+pub mod Promised
 pub mod OneRule

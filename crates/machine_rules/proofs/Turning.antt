@@ -21,7 +21,7 @@ use Rattle.machine_state.specs.State.{State, Activation, Destroy, IsIdle}
 use Rattle.machine_state.specs.Worlds.{at, with_queues, taking, taking_unwritten, turn_ended}
 use Rattle.machine_rules.specs.Active.{shows}
 use Rattle.machine_rules.specs.Good.{ArgumentsFit}
-use Rattle.machine_rules.specs.Reaches.{IsCalled, Reaches, StopsIn, RunsTo, Advances, IsBegun, IsBarred, top_of}
+use Rattle.machine_rules.specs.Reaches.{IsCalled, DoesWork, Reaches, StopsIn, RunsTo, Advances, IsBegun, IsBarred, top_of}
 use Rattle.machine_rules.specs.Rules.{Rule, TurnRule, Serves, Delivers, Begins, BeginsIf}
 use Rattle.machine_rules.specs.Runs.{done}
 use Rattle.machine_rules.specs.Sound.{Waits, IsSoundWorld, AgreeIn}
@@ -190,3 +190,9 @@ pub taken-fits : {p : Loaded} {v : World} {o m : ℕ} {arguments : List Value} (
 taken-fits {p} {o = o} {m = m} {arguments = arguments} w entries home number e fit =
     let Family : World → Type 0 = λ u. ArgumentsFit p u.store.tree o m arguments in
     subst Family (sym e) fit
+
+-- .. what its methods do
+pub taken-work : {p : Loaded} {v : World} {o m : ℕ} {work : Work} (w : World) (entries : List Entry) (home number : ℕ) → v ≡ taking w entries home number → DoesWork p w.store.tree o m work → DoesWork p v.store.tree o m work
+taken-work {p} {o = o} {m = m} {work = work} w entries home number e does =
+    let Family : World → Type 0 = λ u. DoesWork p u.store.tree o m work in
+    subst Family (sym e) does

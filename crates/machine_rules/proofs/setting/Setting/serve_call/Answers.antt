@@ -1,6 +1,7 @@
 use Rattle.std.proofs.Common.{◌≡◌, ◌∙◌, ap}
 use Rattle.machine_state.specs.declared.world.World.{World}
-use Rattle.machine_rules.proofs.Turning.{reaches-served, advances-served, advances-barred, advances-unchanged, called-arguments, called-fits, called-there, called-is, taken-sound, taken-fits}
+use Rattle.machine_rules.proofs.Beginning.{begun-work}
+use Rattle.machine_rules.proofs.Turning.{taken-work, reaches-served, advances-served, advances-barred, advances-unchanged, called-arguments, called-fits, called-there, called-is, taken-sound, taken-fits}
 use Rattle.machine_rules.proofs.setting.Setting.serve_call.Goals as goal
 
 pub unreachable-requires : goal.unreachable-requires
@@ -38,3 +39,6 @@ returns g c =
     let less = ap (λ (u : World). u.left) c.in_ok-given.ensures.0 in
     let went = reaches-served c.requires.goes_on c.in-Some.ensures c.in-Call.is c.nothing-below.ensures begun fit c.requires.sound.is.agree c.requires.left c.in_ok-given.ensures.0 in
     advances-served c.run_begun.result c.nothing-below.ensures went less c.requires.left ends
+
+pub run_begun-requires-clause-work : goal.run_begun-requires-clause-work
+run_begun-requires-clause-work g c = taken-work c.args.world.now _ _ _ c.in_ok-given.ensures.0 (begun-work c.in_ok-line.ensures.ok)
