@@ -169,7 +169,7 @@ runs-agree done agree = agree
 runs-agree (rules r rest) agree = runs-agree rest (rules-agree r agree)
 runs-agree (takes x good rest) agree = runs-agree rest good.agree
 
-pub always_settled : AlwaysSettled
-always_settled p depth steps events t k front =
+pub always_settled : (natives : NativeAnswers) → AlwaysSettled natives
+always_settled natives p depth steps events t k front =
     let agree = runs-agree front.runs (agree-none p) in
     (agree.settled, agree.acyclic)

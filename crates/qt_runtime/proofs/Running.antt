@@ -15,5 +15,5 @@ runs-trans (rules x rest) r = rules x (runs-trans rest r)
 runs-trans (takes x ok rest) r = takes x ok (runs-trans rest r)
 
 -- why rules stop is why the run stops, whatever events are left
-pub reason-of : (p : Loaded) (d : ℕ) (s : State) (left : ℕ) (es : List Event) (f : Fault) → RulesStop p natives d s left f → RunStops p natives d s left es f
-reason-of p d s left es f r = reason-more p d s left f (λ stuck. inl stuck) (λ closes. absurd closes) (λ t rule. by_rule rule) (λ due. goes_on due) r
+pub reason-of : (p : Loaded) (natives : NativeAnswers) (d : ℕ) (s : State) (left : ℕ) (es : List Event) (f : Fault) → RulesStop p natives d s left f → RunStops p natives d s left es f
+reason-of p natives d s left es f r = reason-more p d s left f (λ stuck. inl stuck) (λ closes. absurd closes) (λ t rule. by_rule rule) (λ due. goes_on due) r

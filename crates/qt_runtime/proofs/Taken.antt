@@ -29,7 +29,7 @@ use Rattle.qt_runtime.proofs.Running.{reason-of}
 
 -- an event is taken, and rules follow
 pub runs-taken : {p : Loaded} {natives : NativeAnswers} {d : ℕ} {s m t : State} {n j k : ℕ} (e : Event) → Takes p e s m → IsGood p d s m → 0 < n → j ≡ n - 1 → Rules p natives d m j t k → Runs p natives d s n (e ∷ []) t k
-runs-taken {p} {d} {s} {m} {t} {n} {j} {k} e x good some less rest =
+runs-taken {p} {natives} {d} {s} {m} {t} {n} {j} {k} e x good some less rest =
     let Family : ℕ → Type 0 = λ a. Runs p natives d s a (e ∷ []) t k in
     let suc_is : suc j ≡ n = omega (arith, less, some) in
     subst Family suc_is (takes x good (rules rest done))
@@ -68,7 +68,7 @@ halted-spent {w = w} e none no_turn = record { u = w; leaves = leaves-same w Ste
 
 pub took-unchanged : {p : Loaded} {natives : NativeAnswers} {d : ℕ} {w v : World} {f : Fault} (e : Event) (r : Result Answer Fault) → Ready w → (f ≡ Memory) × (v ≡ w) → IsErrAnd r (λ y. y ≡ f) → Took p natives d w e v r
 took-unchanged e (Ok a) some same is = absurd is
-took-unchanged {p} {d} {w} {v} {f} e (Err y) some same is =
+took-unchanged {p} {natives} {d} {w} {v} {f} e (Err y) some same is =
     let Family : World → Type 0 = λ u. Halted p natives d w e u y in
     let Named : Fault → Type 0 = λ g. Halted p natives d w e w g in
     record { cases = subst Family (sym same.1) (subst Named (sym (is ∙ same.0)) (halted-short e some)) }
@@ -79,15 +79,15 @@ took-short e r some is = took-unchanged e r some (refl, refl) is
 -- the run stopped, behind a `?`
 pub took-stopped : {p : Loaded} {natives : NativeAnswers} {d : ℕ} {w v : World} {f : Fault} (e : Event) (r : Result Answer Fault) → Halted p natives d w e v f → IsErrAnd r (λ y. y ≡ f) → Took p natives d w e v r
 took-stopped e (Ok a) halted is = absurd is
-took-stopped {p} {d} {w} {v} e (Err y) halted is = record { cases = subst (λ (g : Fault). Halted p natives d w e v g) (sym is) halted }
+took-stopped {p} {natives} {d} {w} {v} e (Err y) halted is = record { cases = subst (λ (g : Fault). Halted p natives d w e v g) (sym is) halted }
 
 -- .. where nothing had changed
 pub took-halted : {p : Loaded} {natives : NativeAnswers} {d : ℕ} {w v : World} {f : Fault} (e : Event) (r : Result Answer Fault) → Halted p natives d w e w f → v ≡ w → IsErrAnd r (λ y. y ≡ f) → Took p natives d w e v r
-took-halted {p} {d} {w} {v} e r halted same is = subst (λ (u : World). Took p natives d w e u r) (sym same) (took-stopped e r halted is)
+took-halted {p} {natives} {d} {w} {v} e r halted same is = subst (λ (u : World). Took p natives d w e u r) (sym same) (took-stopped e r halted is)
 
 -- the event is refused
 pub took-refused : {p : Loaded} {natives : NativeAnswers} {d : ℕ} {w v : World} (k : Refusal) (e : Event) (r : Result Answer Fault) → Agree p w.store.tree w.store.bindings → judged p (at w []) e (Err k) → Ready w → Rejects w k v r → Took p natives d w e v r
-took-refused {p} {d} {w} {v} k e (Ok a) agree judged some x =
+took-refused {p} {natives} {d} {w} {v} k e (Ok a) agree judged some x =
     let target : World = after w (refused (at w []) k) in
     let Family : World → Type 0 = λ u. RunsWhole p natives d (at w []) w.left (e ∷ []) (at u []) u.left in
     let Answer_is : Answer → Type 0 = λ b. Answered p w e v b in
@@ -104,14 +104,14 @@ took-refused-from {v = v} k e r agree judged some same x =
 -- the event isn't accepted
 pub took-not-accepted : {p : Loaded} {natives : NativeAnswers} {d : ℕ} {w v : World} {n : NotAccepted} (e : Event) (r : Result Answer Fault) → Agree p w.store.tree w.store.bindings → IsNotAccepted (judged p (at w []) e) n → Ready w → IsRefused w n v r → Took p natives d w e v r
 took-not-accepted e r agree (not_accepted.refused {k = k} not) some x = took-refused k e r agree not some x
-took-not-accepted {p} {d} {w} e r agree not_accepted.short some x =
+took-not-accepted {p} {natives} {d} {w} e r agree not_accepted.short some x =
     let Answers : Result Answer Fault → Type 0 = λ a. Took p natives d w e w a in
     let In : World → Type 0 = λ u. Took p natives d w e u r in
     subst In (sym x.1) (subst Answers (sym x.0) (record { cases = halted-short e some }))
 
 -- the event is accepted, and nothing is going on after it
 pub took-quiet : {p : Loaded} {natives : NativeAnswers} {d : ℕ} {w v : World} (t : State) (e : Event) → judged p (at w []) e (Ok t) → at (after w t) [] ≡ t → Agree p t.objects t.bindings → Ready w → t.turn ≡ None → v ≡ after w t → Took p natives d w e v (Ok answer.Done)
-took-quiet {p} {d} {w} {v} t e judged empty agree some no_turn is =
+took-quiet {p} {natives} {d} {w} {v} t e judged empty agree some no_turn is =
     let Family : World → Type 0 = λ u. RunsWhole p natives d (at w []) w.left (e ∷ []) (at u []) u.left in
     let Leads : State → Type 0 = λ u. Takes p e (at w []) u in
     let quiet : World = after w t in
@@ -124,11 +124,11 @@ pub took-run : {p : Loaded} {natives : NativeAnswers} {d : ℕ} {w m v : World} 
 took-run {v = v} {r = Ok _} e x good pass some less none ends = record { cases = (record { runs = runs-taken e x good some less (ends.cases.runs [] refl); ends = idle v ((rules-kept (ends.cases.runs [] refl)).no_turn none) }, pass) }
 took-run {p = p} {d = d} {v = v} {r = Err f} e x good pass some less none ends =
     let q = ends.cases.stops [] refl in
-    record { u = q.0; leaves = q.2; stack = q.1; front = record { taken = e ∷ []; rest = []; split = refl; runs = runs-taken e x good some less q.3 }; reason = reason-of p d (at q.0 q.1) q.0.left [] f q.4 }
+    record { u = q.0; leaves = q.2; stack = q.1; front = record { taken = e ∷ []; rest = []; split = refl; runs = runs-taken e x good some less q.3 }; reason = reason-of p natives d (at q.0 q.1) q.0.left [] f q.4 }
 
 -- a turn runs to its end, or stops on the way
 pub took-turn : {p : Loaded} {natives : NativeAnswers} {d : ℕ} {w m v : World} {r : Result (Unit {0}) Fault} (e : Event) → Takes p e (at w []) (at m []) → IsGood p d (at w []) (at m []) → IsAccepted p w e → 0 < w.left → m.left ≡ w.left - 1 → RunsTo p natives d [] m [] v [] r → OnOk r (v.turn ≡ None) → MatchResult r (λ _. Took p natives d w e v (Ok answer.Done)) (λ f. Halted p natives d w e v f)
 took-turn {v = v} {r = Ok _} e x good pass some less ends over = record { cases = (record { runs = runs-taken e x good some less (ends.cases.runs [] refl); ends = idle v over }, pass) }
 took-turn {p = p} {d = d} {v = v} {r = Err f} e x good pass some less ends over =
     let q = ends.cases.stops [] refl in
-    record { u = q.0; leaves = q.2; stack = q.1; front = record { taken = e ∷ []; rest = []; split = refl; runs = runs-taken e x good some less q.3 }; reason = reason-of p d (at q.0 q.1) q.0.left [] f q.4 }
+    record { u = q.0; leaves = q.2; stack = q.1; front = record { taken = e ∷ []; rest = []; split = refl; runs = runs-taken e x good some less q.3 }; reason = reason-of p natives d (at q.0 q.1) q.0.left [] f q.4 }

@@ -57,7 +57,7 @@ module _ (p : Loaded) (w : World) (parent child : List ℕ) (a : Numbered Life) 
     not-adopted d no_memory some = halted-short (Adopt parent child) some
 
     pub adoption-stops : {natives : NativeAnswers} (d : ℕ) {f : AdoptFault} {g : Fault} → IsNotAdopted p w.store.tree a.number c.number a.it c.it f → Ready w → Err g ≡ adoption_reason f → Halted p natives d w (Adopt parent child) w g
-    adoption-stops d is some e =
+    adoption-stops {natives = natives} d is some e =
         let Decides : Result Refusal Fault → Type 0 = λ r. MatchResult r (λ k. adopt p (at w []) parent child (Err k)) (λ h. Halted p natives d w (Adopt parent child) w h) in
         subst Decides (sym e) (not-adopted d is some)
 

@@ -118,7 +118,7 @@ module _ {p : Loaded} {w : World} {name target : List ℕ} {sources : List (List
     not-bound d some same no_memory = halted-before (λ other. absurd (other refl)) (some.some, is_next (idle w some.no_turn))
 
     pub binding-stops : {natives : NativeAnswers} (d : ℕ) {f : BindFault} {g : Fault} → Ready w → (f ≢ bind_fault.Memory → v ≡ w) → IsNotBound p w.store.tree w.store.bindings number o objects f → Err g ≡ binding_reason f → Halted p natives d w event v g
-    binding-stops d some same is e =
+    binding-stops {natives = natives} d some same is e =
         let Decides : Result Refusal Fault → Type 0 = λ r. MatchResult r (λ k. judged p (at w []) event (Err k) × (v ≡ w)) (λ h. Halted p natives d w event v h) in
         subst Decides (sym e) (not-bound d some same is)
 

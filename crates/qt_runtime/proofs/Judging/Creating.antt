@@ -77,7 +77,7 @@ module _ (p : Loaded) (w : World) (name class : List ℕ) (loop : Option (List �
   not-created d some no_memory = halted-short (New name class loop) some
 
   pub creation-stops : {natives : NativeAnswers} (d : ℕ) {f : CreateFault} {g : Fault} → Ready w → IsNotCreated p w.store.tree name class f → Err g ≡ creation_reason f → Halted p natives d w (New name class loop) w g
-  creation-stops d some is e =
+  creation-stops {natives = natives} d some is e =
       let Decides : Result Refusal Fault → Type 0 = λ r. MatchResult r (λ k. create p (at w []) name class loop (Err k)) (λ h. Halted p natives d w (New name class loop) w h) in
       subst Decides (sym e) (not-created d some is)
 
