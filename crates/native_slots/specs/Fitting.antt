@@ -19,18 +19,18 @@ use Rattle.native_slots.specs.Plain.{kind_of}
 use Rattle.native_slots.specs.Promises.{IsNative}
 
 -- property q of the class has this name and this type
-pub record IsPropertyAs (class : MetaObject) (q : ℕ) (as : PlainProperty) : Type 0 where
+pub record IsPropertyAs (class : MetaObject) (q : ℕ) (like : PlainProperty) : Type 0 where
   pub property : MetaProperty
   pub is : slice_get class.properties q ≡ Some property
-  pub named : property.name ≡ as.name
-  pub typed : property.kind ≡ kind_of as.kind
+  pub named : property.name ≡ like.name
+  pub typed : property.kind ≡ kind_of like.kind
 
 -- method m of the class has this name and parameters of these types
-pub record IsSignalAs (class : MetaObject) (m : ℕ) (as : PlainSignal) : Type 0 where
+pub record IsSignalAs (class : MetaObject) (m : ℕ) (like : PlainSignal) : Type 0 where
   pub signal : MetaMethod
   pub is : slice_get class.methods m ≡ Some signal
-  pub named : signal.sig.name ≡ as.name
-  pub typed : signal.kinds ≡ kinds_of as.types
+  pub named : signal.sig.name ≡ like.name
+  pub typed : signal.kinds ≡ kinds_of like.types
 
 -- the effects that a closure keeps to are those declared, each list in its order
 pub record AreAsDeclared (class : MetaObject) (method : MetaMethod) (effects : MetaEffects) (kept : Effects) : Type 0 where
