@@ -1,0 +1,4 @@
+pub mod Sameness
+pub mod Finding
+pub mod PlainValues
+pub mod Joining
