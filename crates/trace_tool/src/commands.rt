@@ -13,7 +13,7 @@ use crate::input::{InputFault, LARGEST_INPUT, read_input};
 use crate::refusal::{Refusal, UNDONE};
 use crate::run::{refuse, run_unchecked};
 use crate::words::Command;
-use qt_runtime::Natives;
+use native_slots::{Answering, Natives};
 use std::alloc::Global;
 use std::io::{Read, Write};
 
@@ -28,8 +28,9 @@ pub fn command<R: Read, W: Write>(
     w: &mut W,
 ) -> Result<u8, WriteFault>
     ensures answers { let said = map (λ word. word.now) words.now in
+        let heads = map (λ slot. slot.head) natives.slots.items in
         IfOk result (λ status.
-        AnswersCommand said (R.remaining reader.old)
+        AnswersCommand ⟦<Natives as Answering>⟧.gives heads natives said (R.remaining reader.old)
         (W.contents w.old) (W.contents w.new) status) }
     ensures unread { let said = map (λ word. word.now) words.now in
         ((c : ACommand) → IsCommand said c → ⊥) → reader.new ≡ reader.old }
@@ -62,7 +63,8 @@ pub fn respond<W: Write>(
     w: &mut W,
 ) -> Result<u8, WriteFault>
     ensures { let given = map (λ word. word.now) words.now in
-        let Writes = CommandWrites given (read_of input.entry) in
+        let heads = map (λ slot. slot.head) natives.slots.items in
+        let Writes = CommandWrites ⟦<Natives as Answering>⟧.gives heads natives given (read_of input.entry) in
         IfOk result (λ status. Answers Writes (W.contents w.old) (W.contents w.new) status) }
 {
     let Some(command) = Command::of(words) else {
@@ -85,7 +87,8 @@ fn perform<W: Write>(
 ) -> Result<u8, WriteFault>
     requires depth { (o : _) → command ≡ Run o → (1 ≤ o.depth) × (o.depth ≤ 256) }
     requires steps { (o : _) → command ≡ Run o → (1 ≤ o.steps) × (o.steps < 2 ^ 63) }
-    ensures { let Writes = InputWrites command input.now in
+    ensures { let heads = map (λ slot. slot.head) natives.slots.items in
+        let Writes = InputWrites ⟦<Natives as Answering>⟧.gives heads natives command input.now in
         IfOk result (λ status. Answers Writes (W.contents w.old) (W.contents w.new) status) }
 {
     if input.len() > LARGEST_INPUT {

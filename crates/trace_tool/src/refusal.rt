@@ -3,13 +3,14 @@ ghost use Rattle.trace_tool.specs.Refusals.{numbered, refusal_status};
 
 use class_lang::TextFault;
 use meta_objects::MetaFault;
+use native_slots::NativeFault;
 use script_lang::ScriptFault;
 use thiserror::Error;
 
-/// Why a program and its script aren't run.
+/// Why a program, its script and its natives aren't run.
 #[derive(Debug, Drop, Error)]
 pub enum Refusal {
-    /// The program is refused for the reason of this number, or the script is too large, which is 7.
+    /// The program or one of its natives is refused for the reason of this number, or the script is too large, which is 7.
     #[error("refused {0}")]
     Numbered(u8),
     /// The first line of the script that is no event, counted from 1.
@@ -22,7 +23,7 @@ pub enum Refusal {
 
 /// The exit status where nothing was done.
 pub const UNDONE: u8 = 1;
-/// The exit status where a text is refused.
+/// The exit status where a text or a native is refused.
 const REFUSED: u8 = 2;
 
 impl Refusal {
@@ -68,6 +69,18 @@ impl From<MetaFault> for Refusal {
 
     fn from(fault: MetaFault) -> Refusal {
         Refusal::numbered(fault.number())
+    }
+}
+
+impl From<NativeFault> for Refusal {
+    ghost use Rattle.std.specs.Prelude.{◌≡◌};
+    ghost use Rattle.native_slots.specs.FaultNumbers.{number_of};
+    ghost use Rattle.trace_tool.specs.declared.refusal.Refusal.TheVariants.{Numbered};
+
+    ghost from_gives = { λ fault refusal. refusal ≡ Numbered (number_of fault) };
+
+    fn from(fault: NativeFault) -> Refusal {
+        Refusal::Numbered(fault.number())
     }
 }
 

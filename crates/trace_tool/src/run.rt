@@ -1,5 +1,5 @@
-ghost use Rattle.std.specs.Prelude.{◌<◌, ◌≤◌, ◌^◌, IfOk, MatchResult};
-ghost use Rattle.trace_tool.specs.Commands.{Loads, IsRefused, AreRunnable, AreRefused, RunWrites, Answers, run_text, run_status};
+ghost use Rattle.std.specs.Prelude.{◌<◌, ◌≤◌, ◌^◌, map, IfOk, MatchResult};
+ghost use Rattle.trace_tool.specs.Commands.{Loads, IsRefused, AreRead, AreRunnable, AreRefused, RunWrites, Answers, run_text, run_status};
 ghost use Rattle.trace_tool.specs.Refusals.{refusal_line, refusal_status};
 ghost use Rattle.trace_tool.specs.Sent.{SendsWith};
 
@@ -7,7 +7,8 @@ use crate::fault::WriteFault;
 use crate::output::Output;
 use crate::refusal::Refusal;
 use class_lang::read_program;
-use qt_runtime::{Entry, Event, Fault, Machine, Meta, Natives, read_script};
+use native_slots::{Answering, Natives};
+use qt_runtime::{Entry, Event, Fault, Machine, Meta, read_script};
 use sqlite_items::Items;
 use std::alloc::Global;
 use std::io::Write;
@@ -18,7 +19,8 @@ const FAULT: u8 = 4;
 /// Runs a program, which need not be checked, on a script, and writes the trace, or why there is none.
 ///
 /// At most `depth` activations nest (1 to 256), and at most `steps` rules are used (1 to 2^63 - 1). The answer is the
-/// exit status: 0 after a whole run, 4 after a fault, 2 where a text is refused, 1 for want of memory outside the run.
+/// exit status: 0 after a whole run, 4 after a fault, 2 where a text or a native is refused, 1 for want of memory outside
+/// the run.
 /// There is a `WriteFault` only where the writer failed; nothing is written after that.
 pub fn run_unchecked<W: Write>(
     alloc: Global,
@@ -31,13 +33,17 @@ pub fn run_unchecked<W: Write>(
 ) -> Result<u8, WriteFault>
     requires depth { (1 ≤ depth) × (depth ≤ 256) }
     requires steps { (1 ≤ steps) × (steps < 2 ^ 63) }
-    ensures { let Writes = RunWrites program.now script.now depth steps in
+    ensures { let heads = map (λ slot. slot.head) natives.slots.items in
+        let Writes = RunWrites ⟦<Natives as Answering>⟧.gives heads natives program.now script.now depth steps in
         IfOk result (λ status. Answers Writes (W.contents w.old) (W.contents w.new) status) }
 {
     let (meta, events) = match load(alloc, program, script) {
         Ok(loaded) => loaded,
         Err(refusal) => return refuse(alloc, &refusal, w),
     };
+    if let Err(fault) = natives.fits(&meta) {
+        return refuse(alloc, &Refusal::from(fault), w);
+    }
     let Ok(mut machine) = Machine::unchecked(alloc, meta, natives, depth, steps) else {
         return refuse(alloc, &Refusal::Memory, w);
     };
@@ -48,7 +54,7 @@ pub fn run_unchecked<W: Write>(
 /// Reads and loads a program, and reads its script.
 fn load(alloc: Global, program: &[u8], script: &[u8]) -> Result<(Meta, Items<Event>), Refusal>
     ensures { MatchResult result
-        (λ loaded. AreRunnable program.now script.now loaded.0 loaded.1)
+        (λ loaded. AreRead program.now script.now loaded.0 loaded.1)
         (AreRefused program.now script.now) }
 {
     let meta = load_program(alloc, program)?;
