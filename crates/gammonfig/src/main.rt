@@ -1,7 +1,11 @@
-//! The program: the process's words and input go to a command, whose exit status is the process's.
+//! The program: the process's words and input go to a command, with one native, and the command's exit status is the
+//! process's.
 #![tactic(auto)]
 
-use qt_runtime::Natives;
+mod doubler;
+
+use crate::doubler::doubler;
+use native_slots::Natives;
 use std::alloc::{AllocError, Global};
 use std::process::ExitCode;
 use std::{env, io};
@@ -30,17 +34,28 @@ fn borrowed<'a>(alloc: Global, words: &'a [String]) -> Result<Vec<&'a str>, Allo
     Ok(borrowed)
 }
 
+/// The natives that programs may declare.
+fn natives(alloc: Global) -> Result<Natives, AllocError> {
+    let mut slots = Vec::new(alloc);
+    let slot = doubler(alloc)?;
+    slots.push(slot)?;
+    Ok(Natives::of(slots))
+}
+
 /// Does what the words say, on standard input and output.
 fn answer(rt: &HostRuntime, words: &[&str]) -> ExitCode {
+    let Ok(natives) = natives(rt.alloc()) else {
+        return memory(rt);
+    };
     let mut reader = rt.reader();
     let mut writer = io::writer(rt);
-    match command(rt.alloc(), words, &mut reader, Natives::none(), &mut writer) {
+    match command(rt.alloc(), words, &mut reader, natives, &mut writer) {
         Ok(status) => ExitCode::from(status),
         Err(_) => ExitCode::FAILURE,
     }
 }
 
-/// There was no memory for the words.
+/// There was no memory for the words or the natives.
 fn memory(rt: &HostRuntime) -> ExitCode {
     println!(rt; "memory").ok();
     ExitCode::FAILURE

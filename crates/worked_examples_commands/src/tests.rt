@@ -4,12 +4,13 @@ mod answers;
 mod binding_sites;
 mod ends;
 mod meta;
+mod natives;
 mod operators;
 mod programs;
 mod sizes;
 mod usage;
 
-use qt_runtime::Natives;
+use native_slots::Natives;
 use std::alloc::{AllocError, Global};
 use std::process::Abort;
 use std::str;
@@ -64,7 +65,7 @@ pub fn expect(
         rt.alloc(),
         words.as_slice(),
         &mut reader,
-        Natives::none(),
+        Natives::of(Vec::new(rt.alloc())),
         &mut found,
     )?;
     assert_eq!(rt; str::from_utf8(found.as_slice())?, text, "at {line}");

@@ -2,7 +2,8 @@
 
 use super::SOURCE;
 use class_lang::read_program;
-use qt_runtime::{Answer, Fault, Machine, Meta, Natives, read_script};
+use native_slots::Natives;
+use qt_runtime::{Answer, Fault, Machine, Meta, read_script};
 use std::test::Fail;
 
 #[test]
@@ -11,7 +12,11 @@ fn a_machine_answers_each_event(rt: HostRuntime) -> Result<(), Fail> {
     let meta = Meta::build(rt.alloc(), &program)?;
     let script = b"new s Source\nset s.value true\nset s.value 7\nblock s\n";
     let events = read_script(rt.alloc(), script)?;
-    let mut machine = Machine::unchecked(rt.alloc(), meta, Natives::none(), 1, 100)?;
+    let natives = Natives::of(Vec::new(rt.alloc()));
+    if let Err(fault) = natives.fits(&meta) {
+        return Err(fault.into());
+    }
+    let mut machine = Machine::unchecked(rt.alloc(), meta, natives, 1, 100)?;
     // The third event notifies, which is a second activation.
     let answers = [
         Ok(Answer::Done),

@@ -1,7 +1,7 @@
 //! Readers and writers that give and take little, and that fail.
 
 use super::{LAMP, PRESS, PRESSED, joined};
-use qt_runtime::Natives;
+use native_slots::Natives;
 use std::io::{self, ErrorKind, Read, Write};
 use std::str;
 use std::test::Fail;
@@ -75,7 +75,7 @@ fn readers_may_give_little_or_fail(rt: HostRuntime) -> Result<(), Fail> {
             rt.alloc(),
             WORDS.as_slice(),
             &mut reader,
-            Natives::none(),
+            Natives::of(Vec::new(rt.alloc())),
             &mut found,
         )?;
         assert_eq!(rt; str::from_utf8(found.as_slice())?, text);
@@ -97,7 +97,7 @@ fn writers_may_take_little_or_fail(rt: HostRuntime) -> Result<(), Fail> {
             rt.alloc(),
             WORDS.as_slice(),
             &mut reader,
-            Natives::none(),
+            Natives::of(Vec::new(rt.alloc())),
             &mut writer,
         );
         assert_eq!(rt; answer.is_ok(), room == PRESSED.len());
@@ -119,7 +119,7 @@ fn inputs_have_at_most_64_mebibytes(rt: HostRuntime) -> Result<(), Fail> {
             rt.alloc(),
             WORDS.as_slice(),
             &mut reader,
-            Natives::none(),
+            Natives::of(Vec::new(rt.alloc())),
             &mut found,
         )?;
         assert_eq!(rt; str::from_utf8(found.as_slice())?, text);

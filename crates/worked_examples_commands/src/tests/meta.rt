@@ -23,6 +23,11 @@ fn meta_writes_the_classes(rt: HostRuntime) -> Result<(), Fail> {
             SUB,
             "class Base : QObject 4 5\n4 signal s(int)\nclass Sub : Base 5 6\n5 slot f(int)\nproperty n int\n",
         ),
+        // No closure is asked for.
+        (
+            "class X { signal s(); native f(int); slot g() { } native h(QString t) emits s(); }",
+            "class X : QObject 4 8\n4 signal s()\n5 native f(int)\n6 slot g()\n7 native h(QString)\n",
+        ),
         (
             "class A { slot g(A const * a, bool b) { } signal s(const QString & t); property const A* a notify s(QString); }",
             "refused 14\n",
