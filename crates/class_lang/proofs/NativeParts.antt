@@ -50,8 +50,8 @@ module _ {before at_emits at_sets at_end : List Token} {reads sets : List (List 
 
 module _ {before at_parameters at_effects : List Token} {name : List ℕ} {parameters : List Parameter} (n : Found spell_name (λ n. n) EndsAnywhere before name at_parameters) (p : Found (spell_listed spell_signal_parameter) (map tree_of_signal_parameter) EndsAnywhere at_parameters parameters at_effects) where
   native_only : (r : NativeReading) {given : EffectNames} (after rest : List Token) → Found spell_effects tree_of_effects EndsAnywhere at_effects given after → before ≡ spell_native r rest → after ≡ rest
-  native_only (native x ps effects) after rest f g =
-      f.only effects rest tt (p.only ps (spell_effects effects rest) tt (n.only x (spell_listed spell_signal_parameter ps (spell_effects effects rest)) tt g))
+  native_only (native x ps within) after rest f g =
+      f.only within rest tt (p.only ps (spell_effects within rest) tt (n.only x (spell_listed spell_signal_parameter ps (spell_effects within rest)) tt g))
 
   pub native_found : {given : EffectNames} {after : List Token} → Found spell_effects tree_of_effects EndsAnywhere at_effects given after → Found spell_native tree_of_native EndsAnywhere before (record { name = name; parameters = parameters; work = work.Native given }) after
   native_found {given} {after} f =

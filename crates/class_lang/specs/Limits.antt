@@ -82,9 +82,12 @@ is_for_host (work.Native effects) = true
 abbrev pub is_native : Slot → Bool
 is_native slot = is_for_host slot.work
 
--- how many natives the class declares
+-- how many of the slots are natives
+abbrev pub natives_among : List Slot → ℕ
+natives_among slots = count_by is_native slots
+
 abbrev pub natives_of : Class → ℕ
-natives_of class = count_by is_native class.slots
+natives_of class = natives_among class.slots
 
 -- all of the classes together have no more natives than a program may have
 abbrev pub HaveFewNatives : List Class → Type 0

@@ -2,7 +2,7 @@
 
 ghost use Rattle.std.specs.Prelude.{◌≡◌, ◌↔◌, IsTrue, IfSome, All};
 ghost use Rattle.texts.specs.Signatures.{HasFewTypes};
-ghost use Rattle.class_lang.specs.Limits.{is_native, natives_of, HaveFewNatives, signatures_at_work, SlotHasFewParameters, ClassHasFewParameters, WireHasFewParameters, HasFewParameters, ClassIsWithinLimits, IsWithinLimits};
+ghost use Rattle.class_lang.specs.Limits.{is_native, natives_among, HaveFewNatives, signatures_at_work, SlotHasFewParameters, ClassHasFewParameters, WireHasFewParameters, HasFewParameters, ClassIsWithinLimits, IsWithinLimits};
 
 use signatures::MOST_PARAMETERS;
 use slot_lang::body_has_few_parameters;
@@ -95,16 +95,17 @@ fn is_native(slot: &Slot) -> bool
     }
 }
 
-/// How many natives the class declares.
-fn natives_of(class: &Class) -> usize
-    ensures { result ≡ natives_of class.now }
+/// How many of the slots are natives.
+fn natives_among(slots: &[Slot]) -> usize
+    ensures { result ≡ natives_among slots.now }
 {
-    class
-        .slots
-        .as_slice()
-        .iter()
-        .filter(|slot| is_native(slot))
-        .count()
+    let mut natives = 0;
+    for slot in slots {
+        if is_native(slot) {
+            natives += 1;
+        }
+    }
+    natives
 }
 
 /// Whether the classes have at most 64 natives, all of them together.
@@ -113,7 +114,7 @@ fn have_few_natives(classes: &[Class]) -> bool
 {
     let mut left = MOST_NATIVES;
     for class in classes {
-        let natives = natives_of(class);
+        let natives = natives_among(class.slots.as_slice());
         if natives > left {
             return false;
         }
