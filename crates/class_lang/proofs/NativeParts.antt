@@ -2,7 +2,6 @@
 use Rattle.std.proofs.Common.{◌≡◌, ◌∙◌, ℕ, List, [], ◌∷◌, sym, map}
 use Rattle.std.proofs.lemmas.List.{map-id}
 use Rattle.signatures.specs.declared.sig.Sig.{Sig}
-use Rattle.signatures.specs.declared.word.Word.{Word}
 use Rattle.signatures.specs.declared.word.Word.TheVariants as word
 use Rattle.texts.specs.Lists.{EndsAfter, spell_listed}
 use Rattle.texts.specs.Reading.{Found, EndsAnywhere, spell_name}
