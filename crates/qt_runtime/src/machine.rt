@@ -44,7 +44,7 @@ impl<N> Model for Machine<N> {
     ghost invariant = { λ m. MachineInvariant m.setting.meta m.setting.depth m.world m.stopped };
 }
 
-impl<N: Answering> Machine<N> {
+impl<N: Answering + Drop> Machine<N> {
     /// A machine for a program that need not be checked, before anything has happened. At most `depth` activations
     /// nest, from 1 to 256, and at most `steps` rules are used, from 1 to 2^63 - 1.
     pub fn unchecked(

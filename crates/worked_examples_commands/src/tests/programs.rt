@@ -31,7 +31,7 @@ const CASES: &[(&str, &str)] = &[
         "refused 5\n",
     ),
     ("class A { slot f() { if (1 < 2 < 3) { } } }", "refused 5\n"),
-    ("class A { native f(); }", "refused 17\n"),
+    ("class A { native f() { } }", "refused 5\n"),
     ("class A { slot p(int) { } }", "refused 5\n"),
     ("(((((((((((((((((((((((((((((((((", "refused 6\n"),
     ("class A { } class A { }", "refused 10\n"),
