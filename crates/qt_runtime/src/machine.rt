@@ -45,7 +45,8 @@ impl<N> Model for Machine<N> {
 }
 
 impl<N: Answering + Drop> Machine<N> {
-    /// A machine for a program that need not be checked, before anything has happened. At most `depth` activations
+    /// A machine for a program that need not be checked, before anything has happened, with natives that keep what the
+    /// program declares of them ([`Natives::fits`] tells). At most `depth` activations
     /// nest, from 1 to 256, and at most `steps` rules are used, from 1 to 2^63 - 1.
     pub fn unchecked(
         alloc: Global,
@@ -83,6 +84,7 @@ impl<N: Answering + Drop> Machine<N> {
             (λ number. RefusesEvent N.gives self.old event.now number self.new) }
         ensures stopped { IfErr result (λ fault. Stops N.gives self.old (event.now ∷ []) fault self.new) }
         ensures settled { IfOk result (λ _. IsSettled self.new) }
+        ensures kept { AreKept N.takes N.gives self.new }
     {
         if self.stopped {
             return Err(Fault::Stopped);
@@ -97,7 +99,8 @@ impl<N: Answering + Drop> Machine<N> {
     /// Applies events in their order until a fault comes, as `apply` does each.
     pub fn run(&mut self, events: &[Event]) -> Result<(), Fault>
         requires { AreKept N.takes N.gives self.old }
-        ensures { RunsAll N.gives self.old events.now result self.new }
+        ensures ran { RunsAll N.gives self.old events.now result self.new }
+        ensures kept { AreKept N.takes N.gives self.new }
     {
         if self.is_stopped() {
             return Err(Fault::Stopped);
