@@ -1,5 +1,5 @@
 -- What closures may be asked and may answer, by their places.
-use Rattle.std.proofs.Common.{◌≡◌, ℕ, List, Bool, true, false, slice_get, Option, None, Some, Vec, Result, Ok, Err, IsTrue, refl, sym, ◌∙◌, ap, subst, map}
+use Rattle.std.proofs.Common.{◌≡◌, ℕ, List, true, false, slice_get, Option, None, Some, Vec, Result, Ok, Err, IsTrue, refl, sym, ◌∙◌, subst, map}
 use Rattle.std.specs.Prelude.{IfOk, find, position}
 use Rattle.std.specs.Option.{option_map, option_map_or}
 use Rattle.std.specs.declared.alloc.Global.{Global}

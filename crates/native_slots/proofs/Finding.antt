@@ -2,7 +2,7 @@
 use Rattle.std.proofs.Common.{◌≡◌, ℕ, zero, suc, List, [], ◌∷◌, Bool, true, false, ◌<◌, ◌≤◌, ◌+◌, length, slice_get, Option, None, Some, refl, sym, ◌∙◌, ap, subst, map, arith, rules}
 use Rattle.std.specs.List.{find, position, position_or_len}
 use Rattle.std.specs.Option.{option_map, unwrap_or}
-use Rattle.std.specs.Prelude.{if◌then◌else◌, nat_lt}
+use Rattle.std.specs.Prelude.{if◌then◌else◌, nat_lt, not}
 use Rattle.std.proofs.lemmas.List.Folds.{find_at}
 use Rattle.std.proofs.lemmas.Option.{slice_get_within, slice_get_past}
 
@@ -29,18 +29,18 @@ place_none true n e = absurd (none_some n (sym e))
 place_none false n e = refl
 
 -- a step of the search, by whether the element passes
-cond_zero : (b : Bool) (n : ℕ) → b ≡ true → (if b then 0 else suc n) ≡ 0
+cond_zero : (b : Bool) (n : ℕ) → b ≡ true → (if not b then 1 + n else 0) ≡ 0
 cond_zero true n e = refl
 cond_zero false n e = absurd (false_true e)
   where
     false_true : false ≡ true → ⊥
     false_true e = cc
 
-cond_later : (b : Bool) (n i : ℕ) → suc i ≤ (if b then 0 else suc n) → (b ≡ false) × (i ≤ n)
+cond_later : (b : Bool) (n i : ℕ) → suc i ≤ (if not b then 1 + n else 0) → (b ≡ false) × (i ≤ n)
 cond_later true n i h = absurd (omega arith)
 cond_later false n i h = (refl, omega arith)
 
-cond_suc : (b : Bool) (n : ℕ) → b ≡ false → (if b then 0 else suc n) ≡ suc n
+cond_suc : (b : Bool) (n : ℕ) → b ≡ false → (if not b then 1 + n else 0) ≡ 1 + n
 cond_suc false n e = refl
 cond_suc true n e = absurd (true_false e)
   where
@@ -82,16 +82,22 @@ module _ {X : Type 0} (p : X → Bool) where
   at_place (y ∷ ys) zero x e t h = cond_zero (p y) (position_or_len p ys) (ap (λ o. p (unwrap_or o x)) e ∙ t)
   at_place (y ∷ ys) (suc i) x e t h =
       let step = cond_later (p y) (position_or_len p ys) i h in
-      cond_suc (p y) (position_or_len p ys) step.0 ∙ ap suc (at_place ys i x e t step.1)
+      let here = at_place ys i x e t step.1 in
+      let next : 1 + position_or_len p ys ≡ suc i = omega arith in
+      cond_suc (p y) (position_or_len p ys) step.0 ∙ next
 
   -- no earlier element passes, and this one doesn't either
   pub is_later : (xs : List X) (i : ℕ) (x : X) → slice_get xs i ≡ Some x → p x ≡ false → i ≤ position_or_len p xs → i + 1 ≤ position_or_len p xs
   is_later [] i x e f h = absurd (none_some x e)
-  is_later (y ∷ ys) zero x e f h = let at = cond_suc (p y) (position_or_len p ys) (ap (λ o. p (unwrap_or o x)) e ∙ f) in subst (λ n. 1 ≤ n) (sym at) (omega arith)
+  is_later (y ∷ ys) zero x e f h =
+      let at = cond_suc (p y) (position_or_len p ys) (ap (λ o. p (unwrap_or o x)) e ∙ f) in
+      let some : 0 + 1 ≤ 1 + position_or_len p ys = omega arith in
+      subst (λ n. 0 + 1 ≤ n) (sym at) some
   is_later (y ∷ ys) (suc i) x e f h =
       let step = cond_later (p y) (position_or_len p ys) i h in
       let more = is_later ys i x e f step.1 in
-      subst (λ n. suc i + 1 ≤ n) (sym (cond_suc (p y) (position_or_len p ys) step.0)) (omega arith)
+      let next : suc i + 1 ≤ 1 + position_or_len p ys = omega arith in
+      subst (λ n. suc i + 1 ≤ n) (sym (cond_suc (p y) (position_or_len p ys) step.0)) next
 
   -- no earlier element passes, and this one does
   pub is_here : (xs : List X) (i : ℕ) (x : X) → slice_get xs i ≡ Some x → p x ≡ true → i ≤ position_or_len p xs → Some i ≡ position p xs

@@ -1,5 +1,5 @@
 -- The answers for some natives and for others, put together.
-use Rattle.std.proofs.Common.{◌≡◌, ◌≤◌, ◌<◌, ◌+◌, ℕ, zero, suc, ◌⊎◌, inl, inr, List, length, slice_get, Option, None, Some, Result, Ok, Err, refl, sym, ◌∙◌, ap, subst, arith}
+use Rattle.std.proofs.Common.{◌≡◌, ◌≤◌, ◌<◌, ◌+◌, ℕ, zero, suc, ◌⊎◌, inl, inr, List, length, slice_get, None, Some, Result, Ok, Err, refl, sym, ◌∙◌, ap, subst, arith}
 use Rattle.std.specs.Option.{unwrap_or}
 use Rattle.std.proofs.lemmas.Option.{slice_get_within}
 use Rattle.meta_model.specs.declared.effects.MetaEffects.{MetaEffects}
@@ -10,7 +10,6 @@ use Rattle.native_slots.specs.declared.fault.NativeFault.TheVariants as fault
 use Rattle.native_slots.specs.declared.head.NativeHead.{NativeHead}
 use Rattle.meta_model.specs.Loaded.{Loaded}
 use Rattle.meta_model.specs.Members.{method_offset, method_count, methods_in}
-use Rattle.native_slots.specs.Promises.{IsNative}
 use Rattle.native_slots.specs.Fitting.{IsThis, IsNativeFrom, IsNativeOf, Fit, HasFitting, HasNone, HasOther, Natives, EachNative, SomeNative, FitAmong, lower_of}
 
 -- a native that has a closure doesn't lack one
@@ -31,17 +30,20 @@ module _ (heads : List NativeHead) (A B C : Natives) (split : Splits A B C) (lef
   pub joins : (a b : Result (Unit {0}) NativeFault) → FitAmong heads A a → FitAmong heads B b → FitAmong heads C (lower_of a b)
   joins (Ok u) (Ok v) f g = each_of_both A B C (HasFitting heads) split f g
   joins (Ok u) (Err fault.NoNative) f g = more_some B C (HasNone heads) right g
-  joins (Ok u) (Err fault.EffectsDiffer) f g =
-      (each_of_both A B C (λ class method effects. ¬ HasNone heads class method effects) split (λ class method effects h. has_one heads class method effects (f class method effects h)) g.0,
-       more_some B C (HasOther heads) right g.1)
+  joins (Ok u) (Err fault.EffectsDiffer) f g = (
+    each_of_both A B C (λ class method effects. ¬ HasNone heads class method effects) split (λ class method effects h. has_one heads class method effects (f class method effects h)) g.0,
+    more_some B C (HasOther heads) right g.1,
+  )
   joins (Err fault.NoNative) b f g = more_some A C (HasNone heads) left f
-  joins (Err fault.EffectsDiffer) (Ok v) f g =
-      (each_of_both A B C (λ class method effects. ¬ HasNone heads class method effects) split f.0 (λ class method effects h. has_one heads class method effects (g class method effects h)),
-       more_some A C (HasOther heads) left f.1)
+  joins (Err fault.EffectsDiffer) (Ok v) f g = (
+    each_of_both A B C (λ class method effects. ¬ HasNone heads class method effects) split f.0 (λ class method effects h. has_one heads class method effects (g class method effects h)),
+    more_some A C (HasOther heads) left f.1,
+  )
   joins (Err fault.EffectsDiffer) (Err fault.NoNative) f g = more_some B C (HasNone heads) right g
-  joins (Err fault.EffectsDiffer) (Err fault.EffectsDiffer) f g =
-      (each_of_both A B C (λ class method effects. ¬ HasNone heads class method effects) split f.0 g.0,
-       more_some A C (HasOther heads) left f.1)
+  joins (Err fault.EffectsDiffer) (Err fault.EffectsDiffer) f g = (
+    each_of_both A B C (λ class method effects. ¬ HasNone heads class method effects) split f.0 g.0,
+    more_some A C (HasOther heads) left f.1,
+  )
 
 -- the same natives, meant otherwise
 pub refit : (heads : List NativeHead) (A C : Natives) → EachNative C A → EachNative A C → (a : Result (Unit {0}) NativeFault) → FitAmong heads A a → FitAmong heads C a
@@ -74,14 +76,18 @@ module _ (heads : List NativeHead) (cls : MetaObject) (first : ℕ) where
       split : Splits (FromBefore number) (IsThis cls item) (FromBefore (number + 1))
       split class method effects h =
           elim (split_lt h.native.m number h.before) [
-            inl a ↦ inl (record { native = h.native; before = a })
-          | inr e ↦ inr (h.native.same, ap (λ o. unwrap_or o item) (sym h.native.is ∙ ap (λ (k : MetaObject). slice_get k.methods h.native.m) h.native.same ∙ ap (λ n. slice_get cls.methods n) e ∙ at), h.native.native) ]
+            | inl a ↦ inl (record { native = h.native; before = a })
+            | inr e ↦ inr (h.native.same, ap (λ o. unwrap_or o item) (sym h.native.is ∙ ap (λ (k : MetaObject). slice_get k.methods h.native.m) h.native.same ∙ ap (λ n. slice_get cls.methods n) e ∙ at), h.native.native)
+          ]
+
       left : EachNative (FromBefore number) (FromBefore (number + 1))
       left class method effects h = let b = h.before in record { native = h.native; before = omega arith }
+
       right : EachNative (IsThis cls item) (FromBefore (number + 1))
       right class method effects h = record {
-          native = record { same = h.0; m = number; from = after; is = ap (λ (k : MetaObject). slice_get k.methods number) h.0 ∙ at ∙ ap Some (sym h.1); native = h.2 };
-          before = omega arith }
+        native = record { same = h.0; m = number; from = after; is = ap (λ (k : MetaObject). slice_get k.methods number) h.0 ∙ at ∙ ap Some (sym h.1); native = h.2 };
+        before = omega arith;
+      }
 
   pub all_methods : (n : ℕ) → length cls.methods ≤ n → (a : Result (Unit {0}) NativeFault) → FitAmong heads (FromBefore n) a → FitAmong heads (IsNativeFrom cls first) a
   all_methods n end a f = refit heads (FromBefore n) (IsNativeFrom cls first) there (λ class method effects h. h.native) a f
@@ -107,26 +113,39 @@ module _ (heads : List NativeHead) (p : Loaded) where
     where
       count : method_count p number ≡ length item.methods
       count = ap methods_in at
+
       split : Splits (OfBefore number) (IsNativeFrom item (method_offset p number)) (OfBefore (number + 1))
       split class method effects h =
           elim (split_lt h.native.c number h.before) [
-            inl a ↦ inl (record { native = h.native; before = a })
-          | inr e ↦ inr (record {
+            | inl a ↦ inl (record { native = h.native; before = a })
+            | inr e ↦ inr (record {
               same = ap (λ o. unwrap_or o item) (sym h.native.is.is_class.is ∙ ap (λ n. slice_get p.classes n) e ∙ at);
               m = h.native.m;
               from = subst (λ n. method_offset p n ≤ h.native.m) e h.native.is.declares.after;
               is = h.native.is.is;
-              native = h.native.is.native }) ]
+              native = h.native.is.native;
+            })
+          ]
+
       left : EachNative (OfBefore number) (OfBefore (number + 1))
       left class method effects h = let b = h.before in record { native = h.native; before = omega arith }
+
       right : EachNative (IsNativeFrom item (method_offset p number)) (OfBefore (number + 1))
       right class method effects h =
           let b : h.m < length item.methods = slice_get_within _ _ _ (sym (ap (λ (k : MetaObject). slice_get k.methods h.m) h.same) ∙ h.is) in
           record {
-            native = record { c = number; m = h.m; is = record {
-              is_class = record { is = at ∙ ap Some (sym h.same) }; is = h.is;
-              declares = record { after = h.from; within = subst (λ n. h.m < n) (sym count) b }; native = h.native } };
-            before = omega arith }
+            native = record {
+              c = number;
+              m = h.m;
+              is = record {
+                is_class = record { is = at ∙ ap Some (sym h.same) };
+                is = h.is;
+                declares = record { after = h.from; within = subst (λ n. h.m < n) (sym count) b };
+                native = h.native;
+              };
+            };
+            before = omega arith;
+          }
 
   pub all_classes : (n : ℕ) → length p.classes ≤ n → (a : Result (Unit {0}) NativeFault) → FitAmong heads (OfBefore n) a → Fit heads p a
   all_classes n end a f = refit heads (OfBefore n) (IsNativeOf p) there (λ class method effects h. h.native) a f

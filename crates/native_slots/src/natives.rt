@@ -94,8 +94,9 @@ impl Natives {
     pub fn find(&self, class: &Name, sig: &Sig) -> Option<usize>
         ensures { result ≡ position (λ slot. is_for class.now sig.now slot.head) self.now.slots.items }
     {
-        for place in 0..self.slots.len() {
-            if self.slots[place].head.is_for(class, sig) {
+        let slots = self.slots.as_slice();
+        for place in 0..slots.len() {
+            if slots[place].head.is_for(class, sig) {
                 return Some(place);
             }
         }

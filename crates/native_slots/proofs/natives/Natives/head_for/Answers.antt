@@ -1,7 +1,6 @@
-use Rattle.std.proofs.Common.{◌≡◌, refl, sym, ◌∙◌, ap}
+use Rattle.std.proofs.Common.{refl, sym, ◌∙◌, ap}
 use Rattle.std.specs.Option.{option_map}
 use Rattle.std.proofs.lemmas.Option.{slice_get_read}
-use Rattle.native_slots.specs.Heads.{is_for}
 use Rattle.native_slots.proofs.Asking.{heads_found}
 use Rattle.native_slots.proofs.Finding.{find_placed, find_missing, placed_within}
 use Rattle.native_slots.proofs.natives.Natives.head_for.Goals as goal

@@ -1,4 +1,4 @@
-use Rattle.std.proofs.Common.{◌≡◌, refl, sym, ◌∙◌}
+use Rattle.std.proofs.Common.{sym, ◌∙◌}
 use Rattle.std.specs.Option.{option_map}
 use Rattle.std.proofs.Common.{ap}
 use Rattle.native_slots.proofs.Asking.{heads_found, accepted_at, may_answer_at, nothing_taken}
@@ -15,4 +15,4 @@ pub unreachable-requires : goal.unreachable-requires
 unreachable-requires g c =
     nothing_taken _ c.args.class.now c.args.sig.now c.args.arguments.now c.args.reads.now
     (heads_found (λ slot. slot.head) c.args.self.now.slots.items c.args.class.now c.args.sig.now
-      ∙ ap (option_map (λ slot. slot.head)) (find_missing _ c.args.self.now.slots.items (sym c.find.ensures ∙ c.in-None.is))) c.requires
+    ∙ ap (option_map (λ slot. slot.head)) (find_missing _ c.args.self.now.slots.items (sym c.find.ensures ∙ c.in-None.is))) c.requires
