@@ -2,3 +2,4 @@ pub mod Sameness
 pub mod Finding
 pub mod PlainValues
 pub mod Joining
+pub mod Asking

@@ -1,15 +1,14 @@
 -- What the test of plain types says of the types of a program.
-use Rattle.std.proofs.Common.{◌≡◌, ℕ, List, [], ◌∷◌, Bool, true, false, ◌&&◌, ◌↔◌, IsTrue, Option, refl, map}
+use Rattle.std.proofs.Common.{ℕ, IsTrue, Option, refl}
 use Rattle.signatures.specs.declared.value.Value.{Value}
 use Rattle.signatures.specs.declared.value.Value.TheVariants as value
 use Rattle.meta_model.specs.declared.object.ValueType.{ValueType}
 use Rattle.meta_model.specs.declared.object.ValueType.TheVariants as type
 use Rattle.meta_model.specs.Loaded.{Loaded}
-use Rattle.meta_model.specs.Values.{Has, HaveTypes, number_has, truth_has, text_has, null_has, object_has}
+use Rattle.meta_model.specs.Values.{Has, number_has, truth_has, text_has}
 use Rattle.native_slots.specs.declared.plain_type.PlainType.{PlainType}
 use Rattle.native_slots.specs.declared.plain_type.PlainType.TheVariants as plain
-use Rattle.native_slots.specs.Plain.{kind_of, is_of, are_of}
-use Rattle.native_slots.specs.Effects.{kinds_of}
+use Rattle.native_slots.specs.Plain.{kind_of, is_of}
 
 module _ (p : Loaded) (classes : ℕ → Option ℕ) where
   -- a value of a plain type has it, whatever the objects' classes are

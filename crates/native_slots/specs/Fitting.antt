@@ -55,23 +55,20 @@ pub record HasOther (heads : List NativeHead) (class : MetaObject) (method : Met
   pub first : first_for class.name method.sig heads ≡ Some head
   pub differs : ¬ AreAsDeclared class method effects head.effects
 
--- which natives are meant: by the class's number, the method's number in it, the class, the method and its effects
+-- which natives are meant, by their class, their method and their effects
 abbrev pub Natives : Type 1
-Natives = ℕ → ℕ → MetaObject → MetaMethod → MetaEffects → Type 0
+Natives = MetaObject → MetaMethod → MetaEffects → Type 0
 
 -- each of these natives has P
-abbrev pub EachNative : Natives → (MetaObject → MetaMethod → MetaEffects → Type 0) → Type 0
-EachNative Meant P =
-    (c m : ℕ) (class : MetaObject) (method : MetaMethod) (effects : MetaEffects) → Meant c m class method effects → P class method effects
+abbrev pub EachNative : Natives → Natives → Type 0
+EachNative Meant P = (class : MetaObject) (method : MetaMethod) (effects : MetaEffects) → Meant class method effects → P class method effects
 
 -- one of them has it
-pub record SomeNative (Meant : Natives) (P : MetaObject → MetaMethod → MetaEffects → Type 0) : Type 0 where
-  pub c : ℕ
-  pub m : ℕ
+pub record SomeNative (Meant P : Natives) : Type 0 where
   pub class : MetaObject
   pub method : MetaMethod
   pub effects : MetaEffects
-  pub meant : Meant c m class method effects
+  pub meant : Meant class method effects
   pub has : P class method effects
 
 -- each of these natives has a closure that keeps to the effects declared; or one has none; or each has one, and one has a
@@ -82,9 +79,15 @@ FitAmong heads Meant (Err fault.NoNative) = SomeNative Meant (HasNone heads)
 FitAmong heads Meant (Err fault.EffectsDiffer) =
     EachNative Meant (λ class method effects. ¬ HasNone heads class method effects) × SomeNative Meant (HasOther heads)
 
+-- a native of the program
+pub record IsNativeOf (p : Loaded) (class : MetaObject) (method : MetaMethod) (effects : MetaEffects) : Type 0 where
+  pub c : ℕ
+  pub m : ℕ
+  pub is : IsNative p c m class method effects
+
 -- .. of the natives that the program declares
 abbrev pub Fit : List NativeHead → Loaded → Result (Unit {0}) NativeFault → Type 0
-Fit heads p answer = FitAmong heads (IsNative p) answer
+Fit heads p answer = FitAmong heads (IsNativeOf p) answer
 
 -- ---- how the answers for several natives are put together
 -- of two answers the one of the lower number
@@ -96,11 +99,12 @@ lower_of (Err fault.EffectsDiffer) (Err fault) = Err fault
 
 -- this method of this class, where it is a native
 abbrev pub IsThis : MetaObject → MetaMethod → Natives
-IsThis this_class this c m class method effects = (class ≡ this_class) × (method ≡ this) × (method.work ≡ Native effects)
+IsThis this_class this class method effects = (class ≡ this_class) × (method ≡ this) × (method.work ≡ Native effects)
 
 -- the natives of this class from this method on
-pub record IsNativeFrom (this_class : MetaObject) (first c m : ℕ) (class : MetaObject) (method : MetaMethod) (effects : MetaEffects) : Type 0 where
+pub record IsNativeFrom (this_class : MetaObject) (first : ℕ) (class : MetaObject) (method : MetaMethod) (effects : MetaEffects) : Type 0 where
   pub same : class ≡ this_class
+  pub m : ℕ
   pub from : first ≤ m
   pub is : slice_get class.methods m ≡ Some method
   pub native : method.work ≡ Native effects

@@ -56,9 +56,7 @@ fn is_property(class: &MetaObject, number: usize, property: &PlainProperty) -> b
     ensures { IsTrue result ↔ IsPropertyAs class.now number property.now }
 {
     match class.properties.get(number) {
-        Some(found) => {
-            found.name.is_same(&property.name) && found.kind == property.kind.kind()
-        }
+        Some(found) => { found.name.is_same(&property.name) && found.kind == property.kind.kind() }
         None => false,
     }
 }
@@ -90,7 +88,10 @@ fn is_signal(class: &MetaObject, number: usize, signal: &PlainSignal) -> bool
 }
 
 /// Of two answers the one of the lower number.
-pub fn lower(one: Result<(), NativeFault>, other: Result<(), NativeFault>) -> Result<(), NativeFault>
+pub fn lower(
+    one: Result<(), NativeFault>,
+    other: Result<(), NativeFault>,
+) -> Result<(), NativeFault>
     ensures { result ≡ lower_of one other }
 {
     match (one, other) {

@@ -84,21 +84,23 @@ impl Natives {
     fn head_for(&self, class: &Name, sig: &Sig) -> Option<&NativeHead>
         ensures { option_copied result ≡ first_for class.now sig.now (map (λ slot. slot.head) self.now.slots.items) }
     {
-        for slot in self.slots.as_slice() {
-            if slot.head.is_for(class, sig) {
-                return Some(&slot.head);
-            }
+        match self.find(class, sig) {
+            Some(place) => Some(&self.slots[place].head),
+            None => None,
         }
-        None
     }
 
     /// The place of the first closure for the native of this class and signature, or `None` where there is none.
     pub fn find(&self, class: &Name, sig: &Sig) -> Option<usize>
         ensures { result ≡ position (λ slot. is_for class.now sig.now slot.head) self.now.slots.items }
     {
-        self.slots
-            .iter()
-            .position(|slot| slot.head.is_for(class, sig))
+        let slots = self.slots.as_slice();
+        for place in 0..slots.len() {
+            if slots[place].head.is_for(class, sig) {
+                return Some(place);
+            }
+        }
+        None
     }
 
     /// What the closure at this place answers; the error is its own, or want of memory.
