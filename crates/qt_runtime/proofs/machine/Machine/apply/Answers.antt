@@ -10,18 +10,18 @@ invariant_of-self g c = record { room = c.self.invariant.room; keeps = λ goes. 
 
 pub returns-clause-done : goal.returns-clause-done
 returns-clause-done g c =
-    let From : Seen → Type 0 = λ a. OnDone c.take_event-result.result (AcceptsEvent a c.args.event.now (seen c.self.inside.setting.meta c.self.inside.setting.depth c.take_event-result.new.world c.is_err-self-inside.result)) in
+    let From : Seen _ → Type 0 = λ a. OnDone c.take_event-result.result (AcceptsEvent g.N.Answering.gives a c.args.event.now (seen c.self.inside.setting.meta c.self.inside.setting.natives c.self.inside.setting.depth c.take_event-result.new.world c.is_err-self-inside.result)) in
     subst From c.self.view_is (applied-done c.take_event-result.result c.take_event-result.ensures c.if-self.false c.is_err-self-inside.ensures.value)
 
 pub returns-clause-refused : goal.returns-clause-refused
 returns-clause-refused g c =
-    let From : Seen → Type 0 = λ a. OnRefused c.take_event-result.result (λ n. RefusesEvent a c.args.event.now n (seen c.self.inside.setting.meta c.self.inside.setting.depth c.take_event-result.new.world c.is_err-self-inside.result)) in
+    let From : Seen _ → Type 0 = λ a. OnRefused c.take_event-result.result (λ n. RefusesEvent g.N.Answering.gives a c.args.event.now n (seen c.self.inside.setting.meta c.self.inside.setting.natives c.self.inside.setting.depth c.take_event-result.new.world c.is_err-self-inside.result)) in
     subst From c.self.view_is (applied-refused c.take_event-result.result c.take_event-result.ensures c.if-self.false c.is_err-self-inside.ensures.value)
 
 pub returns-clause-stopped : goal.returns-clause-stopped
 returns-clause-stopped g c =
-    let after : Seen = seen c.self.inside.setting.meta c.self.inside.setting.depth c.take_event-result.new.world c.is_err-self-inside.result in
-    let From : Seen → Type 0 = λ a. IfErr c.take_event-result.result (λ f. Halts a (c.args.event.now ∷ []) f after ⊎ Stays a f after) in
+    let after : Seen _ = seen c.self.inside.setting.meta c.self.inside.setting.natives c.self.inside.setting.depth c.take_event-result.new.world c.is_err-self-inside.result in
+    let From : Seen _ → Type 0 = λ a. IfErr c.take_event-result.result (λ f. Halts g.N.Answering.gives a (c.args.event.now ∷ []) f after ⊎ Stays a f after) in
     subst From c.self.view_is (applied-stopped c.take_event-result.result c.classes.ensures.sound (c.self.invariant.keeps c.if-self.false).sound c.take_event-result.ensures c.if-self.false c.is_err-self-inside.ensures.value)
 
 pub returns-clause-settled : goal.returns-clause-settled

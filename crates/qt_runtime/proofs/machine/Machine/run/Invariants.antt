@@ -4,4 +4,4 @@ use Rattle.qt_runtime.proofs.machine.Machine.run.Given as goal
 
 -- the events so far were taken
 abbrev pub invariant-loop-event : goal.invariant-loop-event
-invariant-loop-event g l = Completes l.fn.self (take l.event-index l.events) l.self
+invariant-loop-event g l = Completes g.N.Answering.gives l.fn.self (take l.event-index l.events) l.self
