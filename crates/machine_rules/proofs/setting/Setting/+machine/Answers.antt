@@ -477,3 +477,20 @@ run_deletion-returns g t c =
     let empty = none-left _ _ c.loop-world.torn.items c.is_empty.ensures c.loop-world-test.false c.loop-world.torn.ok.0 in
     let came = rw empty at c.loop-world.invariant.reaches in
     record { ends = ends-after came (ends-ticked {b = []} _ (λ below e. refl) (omega arith) c.requires.room c.loop-world.invariant.sound.is.agree c.tick-2.ensures) }
+
+-- ---- natives
+
+pub run_native-returns-in_err-require_rule : goal.run_native-returns-in_err-require_rule
+run_native-returns-in_err-require_rule g t c = record { ends = ends-undue _ c.in_err-require_rule.ensures c.from_residual.ensures.1 }
+
+pub run_native-returns-in_err-actions : goal.run_native-returns-in_err-actions
+run_native-returns-in_err-actions g t c = record { ends = ends-short _ (not-idle c.args.world.now _) c.in_ok-require_rule.ensures c.from_residual-in_err-actions.ensures.1 }
+
+pub run_native-returns-in_err-line : goal.run_native-returns-in_err-line
+run_native-returns-in_err-line g t c = record { ends = ends-short _ (not-idle c.args.world.now _) c.in_ok-require_rule.ensures c.from_residual-in_err-line.ensures.1 }
+
+pub run_native-returns-in_err-note : goal.run_native-returns-in_err-note
+run_native-returns-in_err-note g t c = record { ends = ends-unchanged _ (not-idle c.args.world.now _) c.in_ok-require_rule.ensures c.in_err-note.ensures c.from_residual-in_err-note.ensures.1 }
+
+pub run_begun-run_native-requires : goal.run_begun-run_native-requires
+run_begun-run_native-requires g t c = λ κs lives. (omega arith, (c.requires.promises, (c.requires.room, (c.requires.sound, (c.requires.fit, rw c.in-Native.is at c.requires.work)))))
