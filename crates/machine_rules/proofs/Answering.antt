@@ -85,8 +85,8 @@ answers-one {p} {natives} {s} {o = o} {m = m} {arguments = arguments} {effects =
     ∙ sym b.gives
 
 -- one more on each side
-pub zip-snoc : {X Y : Type 0} {R : X → Y → Type 0} (xs : List X) (ys : List Y) (x : X) (y : Y) → AllZip R xs ys → R x y → AllZip R (xs ++ x ∷ []) (ys ++ y ∷ [])
-zip-snoc [] [] x y all one = (one, tt)
-zip-snoc [] (z ∷ ys) x y all one = absurd all
-zip-snoc (z ∷ xs) [] x y all one = absurd all
-zip-snoc (w ∷ xs) (z ∷ ys) x y all one = (all.0, zip-snoc xs ys x y all.1 one)
+pub zip-snoc : {X Y : Type 0} (R : X → Y → Type 0) (xs : List X) (ys : List Y) (x : X) (y : Y) → AllZip R xs ys → R x y → AllZip R (xs ++ x ∷ []) (ys ++ y ∷ [])
+zip-snoc R [] [] x y all one = (one, tt)
+zip-snoc R [] (z ∷ ys) x y all one = absurd all
+zip-snoc R (z ∷ xs) [] x y all one = absurd all
+zip-snoc R (w ∷ xs) (z ∷ ys) x y all one = (all.0, zip-snoc R xs ys x y all.1 one)
