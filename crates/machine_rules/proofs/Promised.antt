@@ -186,3 +186,14 @@ promised {p} takes gives {objects = objects} {number = number} {method = method}
     promises number _ class method effects n (class_of objects) arguments reads
     (plain-values p objects arguments method.kinds (recursion_from_All IsPlain method.kinds safe.plain) given)
     (all-values sound typed is.lives at.0 is_class safe.below effects.reads reads (recursion_from_All (IsPlainProperty p safe.declaring) effects.reads safe.sound.reads) are)
+
+-- the object has what it reads
+pub reads-there : {p : Loaded} {objects : List Object} {o m number : ℕ} {x : Object} {method : MetaMethod} {class : MetaObject} {effects : MetaEffects} → IsSound p → AreTyped p objects → DoesWork p objects o m (Native effects) → (is : IsMember p objects o m x method) → DeclaredBy p m is.life.class number → IsClass p number class → AllByRecursion (HasStored objects o) effects.reads
+reads-there {p} {effects = effects} sound typed does is declared is_class =
+    let safe = sound-native sound (native-of sound does is declared is_class) in
+    all-stored sound typed is.lives (declared-at sound declared is.is_method).0 is_class safe.below effects.reads (recursion_from_All (IsPlainProperty p safe.declaring) effects.reads safe.sound.reads)
+
+-- .. and each action of its answer can be written down
+pub answer-told : {p : Loaded} {objects : List Object} {o m number : ℕ} {x : Object} {method : MetaMethod} {class : MetaObject} {effects : MetaEffects} → IsSound p → AreTyped p objects → (is : IsMember p objects o m x method) → DeclaredBy p m is.life.class number → IsClass p number class → (actions : List Action) → IsTrue (are_declared class effects actions) → AreTellable p objects o effects actions
+answer-told {effects = effects} sound typed is declared is_class actions within =
+    all-declared sound typed is.lives (declared-at sound declared is.is_method).0 is_class effects actions within
