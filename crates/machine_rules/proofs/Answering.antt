@@ -83,3 +83,10 @@ answers-one {p} {natives} {s} {o = o} {m = m} {arguments = arguments} {effects =
     ∙ ap (λ (l : List Action). state_of l a.lines) actions_are
     ∙ ap (λ (l : List ShownAction). state_of b.actions l) lines_are
     ∙ sym b.gives
+
+-- one more on each side
+pub zip-snoc : {X Y : Type 0} (R : X → Y → Type 0) (xs : List X) (ys : List Y) (x : X) (y : Y) → AllZip R xs ys → R x y → AllZip R (xs ++ x ∷ []) (ys ++ y ∷ [])
+zip-snoc R [] [] x y all one = (one, tt)
+zip-snoc R [] (z ∷ ys) x y all one = absurd all
+zip-snoc R (z ∷ xs) [] x y all one = absurd all
+zip-snoc R (w ∷ xs) (z ∷ ys) x y all one = (all.0, zip-snoc R xs ys x y all.1 one)

@@ -282,3 +282,7 @@ not-true false e h = absurd (cc h)
 -- what is found of a method that may begin is what it does
 pub begun-work : {p : Loaded} {d o m : ℕ} {active : List (Option ℕ)} {w : World} {arguments : List Value} {line : Entry} {work : Work} {last : ℕ} → IsBegun p d active w o m arguments line work last → DoesWork p w.store.tree o m work
 begun-work x = record { object = x.object; method = x.method; is = x.is; is_work = x.is_work }
+
+-- .. also in a world with the same objects
+pub work-at : {p : Loaded} {o m : ℕ} {work : Work} {a b : List Object} → b ≡ a → DoesWork p a o m work → DoesWork p b o m work
+work-at {p} {o} {m} {work} same does = subst (λ (l : List Object). DoesWork p l o m work) (sym same) does

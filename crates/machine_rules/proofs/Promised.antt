@@ -66,17 +66,22 @@ no-reference v T e plain text_has = absurd (cc e)
 no-reference v T e plain (null_has {c = c} {constant = constant}) = plain c constant refl
 no-reference v T e plain (object_has {c = c} {constant = constant} is below) = plain c constant refl
 
-plain-has : {p : Loaded} {objects : List Object} (v : Value) (T : ValueType) → IsPlain T → ReadsAs p objects v T → Has p (class_of objects) v T
-plain-has (value.Int n) T plain has = has
-plain-has (value.Bool b) T plain has = has
-plain-has (value.Text t) T plain has = has
-plain-has {p} {objects} (value.Ref r) T plain has = absurd (no-reference {p = p} {class = class_of objects} {r = seen_reference objects r} (value.Ref (seen_reference objects r)) T refl plain has)
+plain-has : (p : Loaded) (objects : List Object) (v : Value) (T : ValueType) → IsPlain T → ReadsAs p objects v T → Has p (class_of objects) v T
+plain-has p objects (value.Int n) T plain has = has
+plain-has p objects (value.Bool b) T plain has = has
+plain-has p objects (value.Text t) T plain has = has
+plain-has p objects (value.Ref r) T plain has = absurd (no-reference {p = p} {class = class_of objects} {r = seen_reference objects r} (value.Ref (seen_reference objects r)) T refl plain has)
 
-plain-values : {p : Loaded} {objects : List Object} (vs : List Value) (Ts : List ValueType) → AllByRecursion IsPlain Ts → ReadAs p objects vs Ts → HaveTypes p (class_of objects) vs Ts
-plain-values [] [] plain have = tt
-plain-values [] (T ∷ Ts) plain have = absurd have
-plain-values (v ∷ vs) [] plain have = absurd have
-plain-values {p} {objects} (v ∷ vs) (T ∷ Ts) plain have = (plain-has {p} {objects} v T plain.0 have.0, plain-values {p} {objects} vs Ts plain.1 have.1)
+plain-values : (p : Loaded) (objects : List Object) (vs : List Value) (Ts : List ValueType) → AllByRecursion IsPlain Ts → ReadAs p objects vs Ts → HaveTypes p (class_of objects) vs Ts
+plain-values p objects [] [] plain have = tt
+plain-values p objects [] (T ∷ Ts) plain have = absurd have
+plain-values p objects (v ∷ vs) [] plain have = absurd have
+plain-values p objects (v ∷ vs) (T ∷ Ts) plain have = (plain-has p objects v T plain.0 have.0, plain-values p objects vs Ts plain.1 have.1)
+
+-- both tests pass
+and_true : (a b : Bool) → IsTrue (a && b) → IsTrue a × IsTrue b
+and_true true b both = (refl, both)
+and_true false b both = absurd (cc both)
 
 -- ---- what it reads
 
@@ -107,27 +112,27 @@ module _ {p : Loaded} (sound : IsSound p) {objects : List Object} (typed : AreTy
     all-values (q ∷ qs) (v ∷ reads) all are =
         let is = property-below sound up all.0.is in
         let reads_as : ReadsAs p objects v all.0.property.kind = stored-reads (field-of is) typed are.0 in
-        (record { property = all.0.property; is = at-class is; has = plain-has {p} {objects} v all.0.property.kind all.0.plain reads_as }, all-values qs reads all.1 are.1)
+        (record { property = all.0.property; is = at-class is; has = plain-has p objects v all.0.property.kind all.0.plain reads_as }, all-values qs reads all.1 are.1)
 
   -- ---- what it answers
   module _ (effects : MetaEffects) where
     set-told : (k : ℕ) (v : Value) (at : Option ℕ) → slice_get effects.sets k ≡ at → IsTrue (option_map_or (λ (property : MetaProperty). is_of v property.kind) (option_and_then (λ q. slice_get class.properties q) at) false) → IsTellable p objects o effects (action.Set k v)
-    set-told k v None e declared = absurd declared
+    set-told k v None e declared = absurd (cc declared)
     set-told k v (Some q) e declared = by_property (slice_get class.properties q) refl declared
       where
         by_property : (found : Option MetaProperty) → slice_get class.properties q ≡ found → IsTrue (option_map_or (λ (property : MetaProperty). is_of v property.kind) found false) → IsTellable p objects o effects (action.Set k v)
-        by_property None is declared = absurd declared
+        by_property None is declared = absurd (cc declared)
         by_property (Some property) is declared = record {
           line = show.Set property.name (shown objects v);
           is = set_shown e (field-of (record { class = class; is_class = is_class; is = is }));
         }
 
     emit-told : (k : ℕ) (vs : List Value) (at : Option ℕ) → slice_get effects.emits k ≡ at → IsTrue (option_map_or (λ (signal : MetaMethod). are_of vs signal.kinds) (option_and_then (λ g. slice_get class.methods g) at) false) → IsTellable p objects o effects (action.Emit k vs)
-    emit-told k vs None e declared = absurd declared
+    emit-told k vs None e declared = absurd (cc declared)
     emit-told k vs (Some g) e declared = by_method (slice_get class.methods g) refl declared
       where
         by_method : (found : Option MetaMethod) → slice_get class.methods g ≡ found → IsTrue (option_map_or (λ (signal : MetaMethod). are_of vs signal.kinds) found false) → IsTellable p objects o effects (action.Emit k vs)
-        by_method None is declared = absurd declared
+        by_method None is declared = absurd (cc declared)
         by_method (Some signal) is declared = record {
           line = show.Emit signal.sig.name (all_shown objects vs);
           is = emit_shown e (member-of (record { class = class; is_class = is_class; is = is }));
@@ -137,32 +142,23 @@ module _ {p : Loaded} (sound : IsSound p) {objects : List Object} (typed : AreTy
     told (action.Set k v) declared = set-told k v (slice_get effects.sets k) refl declared
     told (action.Emit k vs) declared = emit-told k vs (slice_get effects.emits k) refl declared
 
-    pub all-told : (actions : List Action) → IsTrue (list_all (is_declared class effects) actions) → AreTellable p objects o effects actions
+    all-told : (actions : List Action) → IsTrue (list_all (is_declared class effects) actions) → AreTellable p objects o effects actions
     all-told [] declared = tt
-    all-told (a ∷ actions) declared = split (is_declared class effects a) refl declared
-      where
-        split : (b : Bool) → is_declared class effects a ≡ b → IsTrue (b && list_all (is_declared class effects) actions) → AreTellable p objects o effects (a ∷ actions)
-        split false is both = absurd both
-        split true is both = (told a (subst (λ (b : Bool). IsTrue b) (sym is) tt), all-told actions both)
+    all-told (a ∷ actions) declared =
+        let both = and_true (is_declared class effects a) (list_all (is_declared class effects) actions) declared in
+        (told a both.0, all-told actions both.1)
 
     pub all-declared : (actions : List Action) → IsTrue (are_declared class effects actions) → AreTellable p objects o effects actions
-    all-declared actions declared = all-told actions (second (nat_le (length actions) MOST_ACTIONS) declared)
-      where
-        second : {b : Bool} (a : Bool) → IsTrue (a && b) → IsTrue b
-        second true both = both
-        second false both = absurd both
+    all-declared actions declared = all-told actions ((and_true (nat_le (length actions) MOST_ACTIONS) (list_all (is_declared class effects) actions) declared).1)
 
 -- what can be written down is in its place
-tellable-placed : {p : Loaded} {objects : List Object} {o : ℕ} {effects : MetaEffects} (a : Action) → IsTellable p objects o effects a → IsTrue (is_some (place_of effects a))
-tellable-placed a t = by_line a t.line t.is
-  where
-    by_line : (a : Action) (line : ShownAction) → IsShownAs p objects o effects a line → IsTrue (is_some (place_of effects a))
-    by_line a line (set_shown at field) = subst (λ (k : Option ℕ). IsTrue (is_some k)) (sym at) tt
-    by_line a line (emit_shown at member) = subst (λ (k : Option ℕ). IsTrue (is_some k)) (sym at) tt
+line-placed : (p : Loaded) (objects : List Object) (o : ℕ) (effects : MetaEffects) (a : Action) (line : ShownAction) → IsShownAs p objects o effects a line → IsTrue (is_some (place_of effects a))
+line-placed p objects o effects a line (set_shown at field) = ap (λ (k : Option ℕ). is_some k) at
+line-placed p objects o effects a line (emit_shown at member) = ap (λ (k : Option ℕ). is_some k) at
 
-pub all-placed : {p : Loaded} {objects : List Object} {o : ℕ} {effects : MetaEffects} (actions : List Action) → AreTellable p objects o effects actions → AllByRecursion (λ (a : Action). IsTrue (is_some (place_of effects a))) actions
-all-placed [] all = tt
-all-placed {p} {objects} {o} {effects} (a ∷ actions) all = (tellable-placed {p} {objects} {o} {effects} a all.0, all-placed {p} {objects} {o} {effects} actions all.1)
+pub all-placed : (p : Loaded) (objects : List Object) (o : ℕ) (effects : MetaEffects) (actions : List Action) → AreTellable p objects o effects actions → AllByRecursion (λ (a : Action). IsTrue (is_some (place_of effects a))) actions
+all-placed p objects o effects [] all = tt
+all-placed p objects o effects (a ∷ actions) all = (line-placed p objects o effects a all.0.line all.0.is, all-placed p objects o effects actions all.1)
 
 -- ---- a native that is called
 
@@ -181,12 +177,23 @@ sound-native {p} {number} {m} {method} {class} sound n =
     subst (λ (w : Work). IsSoundWork p number m method.kinds w) n.native ((sound.classes number class n.is_class).methods m method n.is).work
 
 -- its promise
-pub promised : {p : Loaded} {takes : Takes} {gives : Gives} {objects : List Object} {o m number : ℕ} {x : Object} {method : MetaMethod} {class : MetaObject} {effects : MetaEffects} {arguments reads : List Value} → IsSound p → Promises p takes gives → AreTyped p objects → ArgumentsFit p objects o m arguments → DoesWork p objects o m (Native effects) → (is : IsMember p objects o m x method) → DeclaredBy p m is.life.class number → IsClass p number class → AreRead objects o effects.reads reads → KeepsPromise takes gives class method effects arguments reads
-promised {p} {objects = objects} {number = number} {method = method} {class = class} {effects = effects} {arguments = arguments} {reads = reads} sound promises typed fit does is declared is_class are =
+pub promised : {p : Loaded} (takes : Takes) (gives : Gives) {objects : List Object} {o m number : ℕ} {x : Object} {method : MetaMethod} {class : MetaObject} {effects : MetaEffects} {arguments reads : List Value} → IsSound p → Promises p takes gives → AreTyped p objects → ArgumentsFit p objects o m arguments → DoesWork p objects o m (Native effects) → (is : IsMember p objects o m x method) → DeclaredBy p m is.life.class number → IsClass p number class → AreRead objects o effects.reads reads → KeepsPromise takes gives class method effects arguments reads
+promised {p} takes gives {objects = objects} {number = number} {method = method} {class = class} {effects = effects} {arguments = arguments} {reads = reads} sound promises typed fit does is declared is_class are =
     let n = native-of sound does is declared is_class in
     let safe = sound-native sound n in
     let at = declared-at sound declared is.is_method in
     let given : ReadAs p objects arguments method.kinds = subst (λ (k : MetaMethod). ReadAs p objects arguments k.kinds) (member-method fit.is is) fit.typed in
     promises number _ class method effects n (class_of objects) arguments reads
-    (plain-values {p} {objects} arguments method.kinds (recursion_from_All IsPlain method.kinds safe.plain) given)
+    (plain-values p objects arguments method.kinds (recursion_from_All IsPlain method.kinds safe.plain) given)
     (all-values sound typed is.lives at.0 is_class safe.below effects.reads reads (recursion_from_All (IsPlainProperty p safe.declaring) effects.reads safe.sound.reads) are)
+
+-- the object has what it reads
+pub reads-there : {p : Loaded} {objects : List Object} {o m number : ℕ} {x : Object} {method : MetaMethod} {class : MetaObject} {effects : MetaEffects} → IsSound p → AreTyped p objects → DoesWork p objects o m (Native effects) → (is : IsMember p objects o m x method) → DeclaredBy p m is.life.class number → IsClass p number class → AllByRecursion (HasStored objects o) effects.reads
+reads-there {p} {effects = effects} sound typed does is declared is_class =
+    let safe = sound-native sound (native-of sound does is declared is_class) in
+    all-stored sound typed is.lives (declared-at sound declared is.is_method).0 is_class safe.below effects.reads (recursion_from_All (IsPlainProperty p safe.declaring) effects.reads safe.sound.reads)
+
+-- .. and each action of its answer can be written down
+pub answer-told : {p : Loaded} {objects : List Object} {o m number : ℕ} {x : Object} {method : MetaMethod} {class : MetaObject} {effects : MetaEffects} → IsSound p → AreTyped p objects → (is : IsMember p objects o m x method) → DeclaredBy p m is.life.class number → IsClass p number class → (actions : List Action) → IsTrue (are_declared class effects actions) → AreTellable p objects o effects actions
+answer-told {effects = effects} sound typed is declared is_class actions within =
+    all-declared sound typed is.lives (declared-at sound declared is.is_method).0 is_class effects actions within

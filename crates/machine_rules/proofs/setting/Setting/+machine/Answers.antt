@@ -10,8 +10,7 @@ use Rattle.machine_rules.specs.Sound.{IsSoundWorld}
 use Rattle.machine_rules.proofs.Keeps.{keeps-same, keeps-then, reaches-keeps}
 use Rattle.machine_rules.proofs.Declared.{fit-sends}
 use Rattle.machine_rules.proofs.Soundness.{emitted-still, reaches-sound, sound-used, sound-noted, sound-set}
-use Rattle.machine_rules.specs.Reaches.{DoesWork}
-use Rattle.machine_rules.proofs.Beginning.{begun-work, ends-begun, stops-barred, stops-no-member, stops-ill-typed, fit-of, next-delivered, delivered-fits, delivery-calls, begun-used, ends-posted, no-home, not-true}
+use Rattle.machine_rules.proofs.Beginning.{begun-work, work-at, ends-begun, stops-barred, stops-no-member, stops-ill-typed, fit-of, next-delivered, delivered-fits, delivery-calls, begun-used, ends-posted, no-home, not-true}
 use Rattle.machine_rules.proofs.Writes.{ends-written, stops-unwritten, may-fits}
 use Rattle.machine_rules.proofs.Notifying.{no-places, all-notified, all-may-still, announces-signal, dead-rule, announced-member, announced-value, announced-fits, announcement-calls}
 use Rattle.machine_rules.proofs.Bodies.{does-call, does-call-alone, does-set, does-nothing, does-connect, does-disconnect, does-delete, does-schedule, does-choose, lacks-read, advances-one, advances-ticked, advances-left}
@@ -31,7 +30,7 @@ run_emission-deliver-requires g t c = λ κs lives.
     let sound = c.loop-connection.invariant.sound in
     let emitted = emitted-still c.loop-connection.invariant.keeps c.requires.emitted in
     let takes = next-delivered now.store.connections.connections c.args.call.now.object c.args.call.now.method c.loop-connection.used c.args.last _ sound.is.joined emitted found in
-    (omega (arith, c.loop-connection.invariant.fewer), (c.requires.promises, (c.requires.room, (sound, takes))))
+    (omega (arith, c.loop-connection.invariant.fewer), (lives, (c.requires.promises, (c.requires.room, (sound, takes)))))
 
 pub run_emission-loop-connection-preserved : goal.run_emission-loop-connection-preserved
 run_emission-loop-connection-preserved g t c =
@@ -66,7 +65,7 @@ pub deliver-unreachable-requires-in_default-home : goal.deliver-unreachable-requ
 deliver-unreachable-requires-in_default-home g t c = no-home c.in-Some.ensures c.in_default-home.ensures
 
 pub deliver-begin_used-requires : goal.deliver-begin_used-requires
-deliver-begin_used-requires g t c = λ κs lives. (omega arith, (c.requires.promises, (c.requires.sound, (c.in_ok-require_rule.ensures, delivered-fits c.requires.takes c.in-Some.ensures c.front-taken.ensures c.len.ensures))))
+deliver-begin_used-requires g t c = λ κs lives. (omega arith, (lives, (c.requires.promises, (c.requires.sound, (c.in_ok-require_rule.ensures, delivered-fits c.requires.takes c.in-Some.ensures c.front-taken.ensures c.len.ensures)))))
 
 pub deliver-post-requires-clause-fit : goal.deliver-post-requires-clause-fit
 deliver-post-requires-clause-fit g t c = delivered-fits c.requires.takes c.in-Some.ensures c.front-taken.ensures c.len.ensures
@@ -95,9 +94,8 @@ begin_used-returns-in_err-use_connection g t c = record { ends = λ from to show
 pub begin_used-run_begun-requires : goal.begin_used-run_begun-requires
 begin_used-run_begun-requires g t c = λ κs lives.
     let went = c.in_ok-use_connection.ensures in
-    let Work : World → Type 0 = λ v. DoesWork c.args.self.now.meta v.store.tree c.args.call.now.object c.args.call.now.method c.begun.work.now in
     let Fit : World → Type 0 = λ v. ArgumentsFit c.args.self.now.meta v.store.tree c.args.call.now.object c.args.call.now.method c.args.call.now.arguments.now in
-    (omega (arith, ap (λ (w : World). w.left) went, c.requires.left), (c.requires.promises, (c.in_ok-line.ensures.ok.room, (sound-used c.args.world.now _ c.args.connection.now went c.requires.sound, (subst Fit (sym went) c.requires.fit, subst Work (sym went) (begun-work c.in_ok-line.ensures.ok))))))
+    (omega (arith, ap (λ (w : World). w.left) went, c.requires.left), (lives, (c.requires.promises, (c.in_ok-line.ensures.ok.room, (sound-used c.args.world.now _ c.args.connection.now went c.requires.sound, (subst Fit (sym went) c.requires.fit, work-at (ap (λ (u : World). u.store.tree) went) (begun-work c.in_ok-line.ensures.ok)))))))
 
 pub begin_used-returns : goal.begin_used-returns
 begin_used-returns g t c = record {
@@ -119,7 +117,7 @@ begin_typed-returns-then-not-have_types g t c = record {
 
 pub begin_typed-begin-requires : goal.begin_typed-begin-requires
 begin_typed-begin-requires g t c = λ κs lives. let typed = rw c.as_slice.ensures at c.have_types.ensures in
-    (omega arith, (c.requires.promises, (c.requires.sound, (c.requires.left, fit-of c.in-Some.ensures (typed.0 c.if-not-have_types.false)))))
+    (omega arith, (lives, (c.requires.promises, (c.requires.sound, (c.requires.left, fit-of c.in-Some.ensures (typed.0 c.if-not-have_types.false))))))
 
 pub begin_typed-returns : goal.begin_typed-returns
 begin_typed-returns g t c = record { ends = λ from to shown over calls only. c.begin.ensures.ends from to shown over calls }
@@ -135,9 +133,8 @@ begin-returns-in_err-note g t c = record { ends = λ from to shown over calls. e
 pub begin-run_begun-requires : goal.begin-run_begun-requires
 begin-run_begun-requires g t c = λ κs lives.
     let went = c.in_ok-note.ensures in
-    let Work : World → Type 0 = λ v. DoesWork c.args.self.now.meta v.store.tree c.args.call.now.object c.args.call.now.method c.begun.work.now in
     let Fit : World → Type 0 = λ v. ArgumentsFit c.args.self.now.meta v.store.tree c.args.call.now.object c.args.call.now.method c.args.call.now.arguments.now in
-    (omega (arith, ap (λ (w : World). w.left) went, c.requires.left), (c.requires.promises, (c.in_ok-line.ensures.ok.room, (sound-noted c.args.world.now _ went c.requires.sound, (subst Fit (sym went) c.requires.fit, subst Work (sym went) (begun-work c.in_ok-line.ensures.ok))))))
+    (omega (arith, ap (λ (w : World). w.left) went, c.requires.left), (lives, (c.requires.promises, (c.in_ok-line.ensures.ok.room, (sound-noted c.args.world.now _ went c.requires.sound, (subst Fit (sym went) c.requires.fit, work-at (ap (λ (u : World). u.store.tree) went) (begun-work c.in_ok-line.ensures.ok)))))))
 
 pub begin-returns : goal.begin-returns
 begin-returns g t c = record {
@@ -159,7 +156,7 @@ run_body-returns-in_err-doing g t c =
     record { ends = ends-after came (ends-faulted _ c.in_ok-require_rule.ensures (λ is. lacks-read _ _ c.in_ok-require_rule.ensures c.scope.ensures.objects c.scope.ensures.this c.scope.ensures.arguments c.in_err-doing.ensures is) c.from_residual-in_err-doing.ensures.1) }
 
 pub run_body-carry_out-requires : goal.run_body-carry_out-requires
-run_body-carry_out-requires g t c = λ κs lives. (omega (arith, c.loop-statement.invariant.fewer), (c.requires.promises, (c.requires.room, (c.loop-statement.invariant.sound, c.in_ok-require_rule.ensures))))
+run_body-carry_out-requires g t c = λ κs lives. (omega (arith, c.loop-statement.invariant.fewer), (lives, (c.requires.promises, (c.requires.room, (c.loop-statement.invariant.sound, c.in_ok-require_rule.ensures)))))
 
 pub run_body-returns-in_err-carry_out : goal.run_body-returns-in_err-carry_out
 run_body-returns-in_err-carry_out g t c =
@@ -244,7 +241,7 @@ write-returns-in_err-changed g t c = record { ends = λ from to shown over sets.
 pub write-run_update-requires : goal.write-run_update-requires
 write-run_update-requires g t c = λ κs lives.
     let went = c.in_ok-changed.ensures.value in
-    (omega (arith, ap (λ (w : World). w.left) went.gives, c.requires.left), (c.requires.promises, (c.in_ok-may_write.ensures.ok.room, sound-set c.args.world.now went c.in_ok-changed.ensures.agree c.requires.sound)))
+    (omega (arith, ap (λ (w : World). w.left) went.gives, c.requires.left), (lives, (c.requires.promises, (c.in_ok-may_write.ensures.ok.room, sound-set c.args.world.now went c.in_ok-changed.ensures.agree c.requires.sound))))
 
 pub write-returns : goal.write-returns
 write-returns g t c = record {
@@ -269,7 +266,7 @@ run_update-loop-place-init g t c =
 pub run_update-notify-requires : goal.run_update-notify-requires
 run_update-notify-requires g t c = λ κs lives.
     let may = rw c.in-Some.ensures.cases.0 at c.loop-place.invariant.may in
-    (omega (arith, c.loop-place.invariant.fewer), (c.requires.promises, (c.requires.room, (c.loop-place.invariant.sound, may.0))))
+    (omega (arith, c.loop-place.invariant.fewer), (lives, (c.requires.promises, (c.requires.room, (c.loop-place.invariant.sound, may.0)))))
 
 pub run_update-returns-in_err-notify : goal.run_update-returns-in_err-notify
 run_update-returns-in_err-notify g t c =
@@ -295,7 +292,7 @@ run_update-returns g t c =
     record { ends = ends-after came (ends-ticked {b = []} _ (λ below e. refl) (omega arith) c.requires.room c.loop-place.invariant.sound.is.agree c.tick.ensures) }
 
 pub notify-emit_change-requires : goal.notify-emit_change-requires
-notify-emit_change-requires g t c = λ κs lives. (omega arith, (c.requires.promises, (c.requires.room, (c.requires.sound, announces-signal c.requires.sound.program c.signal_at.ensures c.in-Some.is))))
+notify-emit_change-requires g t c = λ κs lives. (omega arith, (lives, (c.requires.promises, (c.requires.room, (c.requires.sound, announces-signal c.requires.sound.program c.signal_at.ensures c.in-Some.is)))))
 
 pub notify-returns-in-Some : goal.notify-returns-in-Some
 notify-returns-in-Some g t c = record { ends = c.emit_change.ensures.ends }
@@ -324,7 +321,7 @@ pub emit_change-begin-requires : goal.emit_change-begin-requires
 emit_change-begin-requires g t c = λ κs lives.
     let present = sym c.in-Some-value.ensures ∙ ap (λ (v : Value). Some v) (sym c.in_ok-copy.ensures) in
     let cut = rw c.as_slice.ensures at c.front-taken.ensures in
-    (omega arith, (c.requires.promises, (c.requires.sound, (c.in_ok-require_rule.ensures, announced-fits c.requires.announces c.requires.sound.is.agree.typed c.in-Some.ensures present cut c.len.ensures))))
+    (omega arith, (lives, (c.requires.promises, (c.requires.sound, (c.in_ok-require_rule.ensures, announced-fits c.requires.announces c.requires.sound.is.agree.typed c.in-Some.ensures present cut c.len.ensures)))))
 
 pub emit_change-returns : goal.emit_change-returns
 emit_change-returns g t c =
@@ -345,7 +342,7 @@ delete-returns g t c = record {
 }
 
 pub run_begun-run_emission-requires : goal.run_begun-run_emission-requires
-run_begun-run_emission-requires g t c = λ κs lives. (omega arith, (c.requires.promises, (c.requires.room, (c.requires.sound, fit-sends c.requires.sound.program c.requires.fit))))
+run_begun-run_emission-requires g t c = λ κs lives. (omega arith, (lives, (c.requires.promises, (c.requires.room, (c.requires.sound, fit-sends c.requires.sound.program c.requires.fit)))))
 
 pub carry_out-returns-in-Delete : goal.carry_out-returns-in-Delete
 carry_out-returns-in-Delete g t c = record { advances = λ m arguments x is. advances-one _ (c.delete.ensures.ends _ _ _ c.over-over.ensures (does-delete m (map Run c.args.left.now) (rw c.in-Delete.is at is))) }
@@ -387,7 +384,7 @@ announce-run_emission-requires g t c = λ κs lives.
     let came = died-as c.args.world.now c.args.object c.in_ok-mark_dead.ensures c.in_ok-copy.ensures c.in_ok-emitted.ensures c.count.ensures c.count-2.ensures in
     let higher = ap (λ (l : List (Option ℕ)). length l) c.over-over.ensures in
     let went = reaches-died {natives = g.N.Answering.gives c.args.self.now.natives} {d = c.args.self.now.depth} {active = c.args.active.now} {torn = []} (kills-first w c.args.object [] c.requires.lives) named c.requires.sound.is.agree c.in_ok-require_rule.ensures (sym c.has_body.ensures ∙ c.if-has_body.false) (omega (arith, c.in_ok-may_nest.ensures, higher)) (omega (arith, higher)) c.last-last.ensures came in
-    (omega (arith, ap (λ (u : World). u.left) c.in_ok-mark_dead.ensures, c.in_ok-require_rule.ensures), (c.requires.promises, (c.in_ok-may_nest.ensures, (reaches-sound (tt, tt) c.requires.sound went, died-emits w _ c.args.object c.requires.sound.program named came))))
+    (omega (arith, ap (λ (u : World). u.left) c.in_ok-mark_dead.ensures, c.in_ok-require_rule.ensures), (lives, (c.requires.promises, (c.in_ok-may_nest.ensures, (reaches-sound (tt, tt) c.requires.sound went, died-emits w _ c.args.object c.requires.sound.program named came)))))
 
 pub announce-returns-clause-ends : goal.announce-returns-clause-ends
 announce-returns-clause-ends g t c = λ next before torn kills.
@@ -477,3 +474,20 @@ run_deletion-returns g t c =
     let empty = none-left _ _ c.loop-world.torn.items c.is_empty.ensures c.loop-world-test.false c.loop-world.torn.ok.0 in
     let came = rw empty at c.loop-world.invariant.reaches in
     record { ends = ends-after came (ends-ticked {b = []} _ (λ below e. refl) (omega arith) c.requires.room c.loop-world.invariant.sound.is.agree c.tick-2.ensures) }
+
+-- ---- natives
+
+pub run_native-returns-in_err-require_rule : goal.run_native-returns-in_err-require_rule
+run_native-returns-in_err-require_rule g t c = record { ends = ends-undue _ c.in_err-require_rule.ensures c.from_residual.ensures.1 }
+
+pub run_native-returns-in_err-actions : goal.run_native-returns-in_err-actions
+run_native-returns-in_err-actions g t c = record { ends = ends-short _ (not-idle c.args.world.now _) c.in_ok-require_rule.ensures c.from_residual-in_err-actions.ensures.1 }
+
+pub run_native-returns-in_err-line : goal.run_native-returns-in_err-line
+run_native-returns-in_err-line g t c = record { ends = ends-short _ (not-idle c.args.world.now _) c.in_ok-require_rule.ensures c.from_residual-in_err-line.ensures.1 }
+
+pub run_native-returns-in_err-note : goal.run_native-returns-in_err-note
+run_native-returns-in_err-note g t c = record { ends = ends-unchanged _ (not-idle c.args.world.now _) c.in_ok-require_rule.ensures c.in_err-note.ensures c.from_residual-in_err-note.ensures.1 }
+
+pub run_begun-run_native-requires : goal.run_begun-run_native-requires
+run_begun-run_native-requires g t c = λ κs lives. (omega arith, (lives, (c.requires.promises, (c.requires.room, (c.requires.sound, (c.requires.fit, rw c.in-Native.is at c.requires.work))))))

@@ -1,0 +1,1 @@
+use Rattle.machine_rules.proofs.setting.Setting.answer.Goals as goal
