@@ -1,6 +1,6 @@
 //! The program's one native.
 
-ghost use Rattle.std.specs.Prelude.{◌≡◌, IfOk};
+ghost use Rattle.std.specs.Prelude.{◌≡◌, [], ◌∷◌, IfOk, codes};
 
 use native_slots::{Action, Effects, NativeSlot, PlainProperty, PlainSignal, PlainType};
 use signatures::{Arguments, Name, QType, Sig, Value};
@@ -32,7 +32,14 @@ fn twice(alloc: Global) -> Result<Sig, AllocError> {
 }
 
 /// It takes an `int`, emits `done(int)` and sets `out`.
-fn effects(alloc: Global) -> Result<Effects, AllocError> {
+fn effects(alloc: Global) -> Result<Effects, AllocError>
+    ensures { IfOk result (λ effects. effects ≡ record {
+      parameters = PlainType.Int ∷ [];
+      reads = [];
+      emits = record { name = codes "done"; types = PlainType.Int ∷ [] } ∷ [];
+      sets = record { name = codes "out"; kind = PlainType.Int } ∷ [];
+    }) }
+{
     let mut parameters = Items::new(alloc);
     parameters.push(PlainType::Int)?;
     let mut types = Items::new(alloc);
@@ -58,7 +65,10 @@ fn effects(alloc: Global) -> Result<Effects, AllocError> {
 }
 
 /// The property is set to the number, and then the signal is emitted with it.
-fn doubled(alloc: Global, number: i32) -> Result<Vec<Action>, AllocError> {
+fn doubled(alloc: Global, number: i32) -> Result<Vec<Action>, AllocError>
+    ensures { IfOk result (λ actions. actions.items
+        ≡ Action.Set 0 (Value.Int number) ∷ Action.Emit 0 (Value.Int number ∷ []) ∷ []) }
+{
     let mut arguments = Arguments::new(alloc);
     arguments.push(Value::Int(number))?;
     let mut actions = Vec::new(alloc);
