@@ -1,8 +1,8 @@
 //! How large programs may be.
 
-ghost use Rattle.std.specs.Prelude.{◌↔◌, IsTrue, IfSome, All};
+ghost use Rattle.std.specs.Prelude.{◌≡◌, ◌↔◌, IsTrue, IfSome, All};
 ghost use Rattle.texts.specs.Signatures.{HasFewTypes};
-ghost use Rattle.class_lang.specs.Limits.{signatures_at_work, SlotHasFewParameters, ClassHasFewParameters, WireHasFewParameters, HasFewParameters, ClassIsWithinLimits, IsWithinLimits};
+ghost use Rattle.class_lang.specs.Limits.{is_native, natives_among, HaveFewNatives, signatures_at_work, SlotHasFewParameters, ClassHasFewParameters, WireHasFewParameters, HasFewParameters, ClassIsWithinLimits, IsWithinLimits};
 
 use signatures::MOST_PARAMETERS;
 use slot_lang::body_has_few_parameters;
@@ -12,10 +12,12 @@ use texts::{Class, Program, Property, Slot, SlotWork, Wire, has_few_types};
 pub const MOST_BYTES: usize = 1_048_576;
 /// Classes of a program.
 const MOST_CLASSES: usize = 64;
-/// Signals and slots of a class, counted together.
+/// Signals, slots and natives of a class, counted together.
 const MOST_METHODS: usize = 64;
 /// Properties of a class.
 const MOST_PROPERTIES: usize = 32;
+/// Natives of a program.
+const MOST_NATIVES: usize = 64;
 /// Wires of a program.
 const MOST_WIRES: usize = 1000;
 /// Declarations of ownership of a program.
@@ -39,7 +41,11 @@ fn work_has_few_parameters(work: &SlotWork) -> bool
 {
     match work {
         SlotWork::Body(body) => body_has_few_parameters(body.as_slice()),
-        SlotWork::Native(effects) => effects.emits.as_slice().iter().all(|sig| has_few_types(sig)),
+        SlotWork::Native(effects) => effects
+            .emits
+            .as_slice()
+            .iter()
+            .all(|sig| has_few_types(sig)),
     }
 }
 
@@ -79,6 +85,44 @@ fn class_is_within_limits(class: &Class) -> bool
         && class.slots.len() <= MOST_METHODS - class.signals.len()
 }
 
+/// Whether it is a native.
+fn is_native(slot: &Slot) -> bool
+    ensures { result ≡ is_native slot.now }
+{
+    match &slot.work {
+        SlotWork::Body(_) => false,
+        SlotWork::Native(_) => true,
+    }
+}
+
+/// How many of the slots are natives.
+fn natives_among(slots: &[Slot]) -> usize
+    ensures { result ≡ natives_among slots.now }
+{
+    let mut natives = 0;
+    for slot in slots {
+        if is_native(slot) {
+            natives += 1;
+        }
+    }
+    natives
+}
+
+/// Whether the classes have at most 64 natives, all of them together.
+fn have_few_natives(classes: &[Class]) -> bool
+    ensures { IsTrue result ↔ HaveFewNatives classes.now }
+{
+    let mut left = MOST_NATIVES;
+    for class in classes {
+        let natives = natives_among(class.slots.as_slice());
+        if natives > left {
+            return false;
+        }
+        left -= natives;
+    }
+    true
+}
+
 fn wire_has_few_parameters(wire: &Wire) -> bool
     ensures { IsTrue result ↔ WireHasFewParameters wire.now }
 {
@@ -106,8 +150,8 @@ pub fn has_few_parameters(program: &Program) -> bool
             .all(|site| site.formals.len() <= MOST_PARAMETERS)
 }
 
-/// Whether the program has at most 64 classes, 64 methods and 32 properties in each, 1,000 wires, 1,000 owns and
-/// 1,000 bindings.
+/// Whether the program has at most 64 classes, 64 methods and 32 properties in each, 64 natives in all of them, 1,000
+/// wires, 1,000 owns and 1,000 bindings.
 pub fn is_within_limits(program: &Program) -> bool
     ensures { IsTrue result ↔ IsWithinLimits program.now }
 {
@@ -120,4 +164,5 @@ pub fn is_within_limits(program: &Program) -> bool
             .as_slice()
             .iter()
             .all(|class| class_is_within_limits(class))
+        && have_few_natives(program.classes.as_slice())
 }

@@ -4,6 +4,7 @@ ghost use Rattle.std.specs.Prelude.{◌≡◌, ◌<◌, ◌≤◌, [], ◌∷◌
 ghost use Rattle.texts.specs.Reading.{Reads, EndsAnywhere};
 ghost use Rattle.class_lang.specs.Members.{ReadsInitial, ReadsNotify, ReadsProperty, spell_signal, tree_of_signal, spell_slot, tree_of_slot, spell_member, tree_of_member, with_members};
 
+use crate::natives::native;
 use crate::parameters::{SignalParameterPart, SlotParameterPart};
 use signatures::Sig;
 use slot_lang::block;
@@ -17,6 +18,7 @@ use texts::{
 pub enum Member {
     Property(Property),
     Signal(Signal),
+    /// A slot or a native.
     Slot(Slot),
 }
 
@@ -101,7 +103,7 @@ fn slot(cursor: &mut Cursor) -> Result<Slot, ParseFault>
     })
 }
 
-/// `"property" property | "signal" signal | "slot" slot`
+/// `"property" property | "signal" signal | "slot" slot | "native" native`
 pub fn next_member(cursor: &mut Cursor) -> Result<Member, ParseFault>
     ensures reads { Reads spell_member tree_of_member EndsAnywhere cursor.old result cursor.new }
     ensures shorter { OnOk result (length cursor.new < length cursor.old) }
@@ -112,6 +114,8 @@ pub fn next_member(cursor: &mut Cursor) -> Result<Member, ParseFault>
         Ok(Member::Signal(signal(cursor)?))
     } else if cursor.eat_word(Word::Slot) {
         Ok(Member::Slot(slot(cursor)?))
+    } else if cursor.eat_word(Word::Native) {
+        Ok(Member::Slot(native(cursor)?))
     } else {
         Err(ParseFault::Syntax)
     }

@@ -1,6 +1,5 @@
 -- What natives may do, one member after another.
-use Rattle.std.proofs.Common.{◌≡◌, ◌↔◌, ◌⊎◌, inl, inr, ℕ, zero, ◌+◌, ◌<◌, ◌≤◌, List, [], ◌∷◌, ◌++◌, length, get_or, take, Result, Ok, Err, IfOk, refl, sym, ap, ◌∙◌, subst, arith}
-use Rattle.std.specs.List.{Contains}
+use Rattle.std.proofs.Common.{◌≡◌, ◌↔◌, ◌⊎◌, inl, inr, ℕ, ◌+◌, ◌<◌, ◌≤◌, List, [], ◌∷◌, ◌++◌, length, get_or, take, Result, Ok, Err, IfOk, refl, sym, ap, ◌∙◌, subst, arith}
 use Rattle.std.proofs.lemmas.List.{take_more, take_all}
 use Rattle.std.proofs.lemmas.List.Elements.{Contains-append_left, Contains-push, Contains-push_cases}
 use Rattle.meta_model.specs.declared.effects.MetaEffects.{MetaEffects}
@@ -39,10 +38,11 @@ module _ (member : ℕ → Member) where
   pub done_first : (numbers : List ℕ) (xs : List Effect) → Gathers (IsDoneTo member (take 0 numbers)) xs xs
   done_first numbers xs = gathers_none (IsDoneTo member []) xs done_none
 
-  pub done_next : (numbers : List ℕ) (i n : ℕ) (first then last : List Effect) → i < length numbers → n ≡ get_or numbers i n
-      → Gathers (IsDoneTo member (take i numbers)) first then → last ≡ then ++ own (member n) ∷ [] → Gathers (IsDoneTo member (take (i + 1) numbers)) first last
-  done_next numbers i n first then last inside is p eq =
-      let more : take (i + 1) numbers ≡ take i numbers ++ n ∷ [] = take_more numbers i n inside ∙ ap (λ m. take i numbers ++ m ∷ []) (sym is) in
+  pub done_next : (numbers : List ℕ) (i : ℕ) (first then last : List Effect) → i < length numbers → Gathers (IsDoneTo member (take i numbers)) first then
+      → last ≡ then ++ own (member (get_or numbers i 0)) ∷ [] → Gathers (IsDoneTo member (take (i + 1) numbers)) first last
+  done_next numbers i first then last inside p eq =
+      let n : ℕ = get_or numbers i 0 in
+      let more : take (i + 1) numbers ≡ take i numbers ++ n ∷ [] = take_more numbers i 0 inside in
       gathers_then (IsDoneTo member (take i numbers)) (IsOne n) (IsDoneTo member (take (i + 1) numbers)) first then last p
       (gathers_one (IsOne n) (own (member n)) then last eq refl (λ e h. h))
       (λ e. subst (λ (l : List ℕ). IsDoneTo member l e ↔ (IsDoneTo member (take i numbers) e ⊎ IsOne n e)) (sym more) (done_more (take i numbers) n e))

@@ -26,7 +26,7 @@ use Rattle.meta_model.specs.declared.qobject.TheConstants.{DESTROYED, DESTROYED_
 use Rattle.meta_model.specs.Loaded.{Loaded}
 use Rattle.meta_model.specs.Members.{IsClass, IsMethod, IsProperty, Below, same, under}
 use Rattle.meta_model.specs.Root.{root_methods}
-use Rattle.meta_model.specs.Sound.{IsSound, HasRoot, this_has, parameter_has, Leads, here, on, LeadsToClass, IsSoundStatement, set_sound, emit_sound, call_sound, if_sound, connect_sound, disconnect_sound, delete_sound, later_sound, AreSound, none_sound, next_sound, IsSoundWork, IsPlainProperty, IsPlainSignal, AreSoundEffects, IsSoundMethod, IsSoundSource, IsKind}
+use Rattle.meta_model.specs.Sound.{IsSound, HasRoot, this_has, parameter_has, Leads, here, on, LeadsToClass, IsSoundStatement, set_sound, emit_sound, call_sound, if_sound, delete_sound, AreSound, next_sound, IsSoundWork, IsPlainProperty, IsPlainSignal, AreSoundEffects, IsSoundMethod, IsSoundSource, IsKind}
 use Rattle.meta_model.proofs.Searches.{place_in}
 use Rattle.meta_model.specs.Sites.{paths_in}
 use Rattle.meta_model.proofs.Zips.{get_front, zip_right}
@@ -36,12 +36,11 @@ use Rattle.effect_scan.specs.declared.node.Member.TheVariants as member
 use Rattle.effect_scan.specs.declared.effect.Reach.{Reach}
 use Rattle.effect_scan.specs.declared.effect.Reach.TheVariants as reach
 use Rattle.effect_scan.specs.declared.effect.Effect.{Effect}
-use Rattle.effect_scan.specs.declared.numbering.Shape.{Shape}
-use Rattle.effect_scan.specs.Nodes.{node, named, shape_of, class_nodes, nodes_from, nodes_of, IsAt}
+use Rattle.effect_scan.specs.Nodes.{node, named, shape_of, class_nodes, nodes_from}
 use Rattle.effect_scan.specs.Numbering.{IsPlaceIn}
-use Rattle.effect_scan.specs.Effects.{reach_of_type, reach_of_root, reach_after, reach_of, effect_on, effect_of, Occurs, here as first, after, chosen, otherwise, BodyHas, NativeHas, WorkHas}
+use Rattle.effect_scan.specs.Effects.{reach_of_type, reach_of_root, reach_after, reach_of, effect_on, effect_of, Occurs, here as first, after, chosen, otherwise, NativeHas, WorkHas}
 use Rattle.effect_scan.specs.Destroying.{Closure, itself, child}
-use Rattle.effect_scan.specs.Edges.{AtOrBelow, ReachedAs, Reaches, ByWork, ByWire, ByNotify, BySite, ByDestruction, MayLead, by_work, by_wire, by_notify, by_site, by_destruction}
+use Rattle.effect_scan.specs.Edges.{AtOrBelow, ReachedAs, by_work, by_wire, by_notify, by_site, by_destruction}
 use Rattle.effect_scan.specs.Laws.{IsNode, EdgesJoinNodes}
 use Rattle.effect_scan.proofs.Numbered.{stands, stands_after, place_low}
 use Rattle.effect_scan.proofs.Relating.{below_first, below_last, is_class}

@@ -1,5 +1,5 @@
 -- What the statements of a body and the actions of a native do at once, and to which objects (docs/certificate.md, "Edges").
-use Rattle.std.specs.Prelude.{◌≡◌, ◌↔◌, ◌⊎◌, ℕ, ◌-◌, List, [], ◌∷◌, length, Option, None, Some, slice_get}
+use Rattle.std.specs.Prelude.{◌≡◌, ◌↔◌, ◌⊎◌, ℕ, ◌-◌, List, ◌∷◌, length, Option, None, Some, slice_get}
 use Rattle.std.specs.Option.{option_and_then, option_map}
 use Rattle.std.specs.List.{Contains}
 use Rattle.texts.specs.declared.syntax.Expr.{Expr}

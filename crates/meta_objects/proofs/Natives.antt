@@ -1,5 +1,5 @@
 -- A native's effects that are resolved in outlines, as they are loaded, and what they promise.
-use Rattle.std.proofs.Common.{◌≡◌, ℕ, zero, suc, true, List, [], ◌∷◌, slice_get, Some, Any, ◌⊎◌, inl, inr, refl, sym, ap, ◌∙◌, subst}
+use Rattle.std.proofs.Common.{◌≡◌, ℕ, zero, suc, true, List, [], ◌∷◌, slice_get, Some, Any, inl, inr, refl, sym, ap, ◌∙◌, subst}
 use Rattle.std.specs.Prelude.{All}
 use Rattle.std.specs.List.{AllZip}
 use Rattle.std.proofs.lemmas.Option.{none-some, same_Some}
@@ -7,27 +7,22 @@ use Rattle.signatures.specs.declared.qtype.QType.{QType}
 use Rattle.signatures.specs.declared.sig.Sig.{Sig}
 use Rattle.texts.specs.declared.program.EffectNames.{EffectNames}
 use Rattle.texts.specs.declared.program.Parameter.{Parameter}
-use Rattle.texts.specs.declared.program.Property.{Property}
 use Rattle.meta_model.specs.declared.effects.MetaEffects.{MetaEffects}
 use Rattle.meta_model.specs.declared.object.MetaMethod.{MetaMethod}
 use Rattle.meta_model.specs.declared.object.MetaObject.{MetaObject}
 use Rattle.meta_model.specs.declared.object.MetaProperty.{MetaProperty}
 use Rattle.meta_model.specs.declared.object.ValueType.{ValueType}
-use Rattle.meta_model.specs.declared.outline.Heading.{Heading}
 use Rattle.meta_model.specs.declared.outline.Outline.{Outline}
-use Rattle.meta_model.specs.Conditions.{IsSignalOf}
-use Rattle.meta_model.specs.Ends.{IsEnd}
 use Rattle.meta_model.specs.Kinds.{IsReadAs}
 use Rattle.meta_model.specs.Loaded.{Loaded}
 use Rattle.meta_model.specs.Members.{IsPropertyNamed}
 use Rattle.meta_model.specs.Natives.{RepeatsEffect, IsPointer, TakesReference, AffectsReference}
 use Rattle.meta_model.specs.Outlines.{IsOutlineNamed, kinds_of}
-use Rattle.meta_model.specs.Places.{StandsAt}
-use Rattle.meta_model.specs.Sites.{IsPropertyIn, IsReferenceIn}
+use Rattle.meta_model.specs.Sites.{IsReferenceIn}
 use Rattle.meta_model.specs.Sound.{IsPlain, IsPlainProperty, IsPlainSignal, AreOnce, AreSoundEffects}
 use Rattle.meta_model.specs.Twice.{StandsTwice}
 use Rattle.meta_objects.specs.declared.body_resolution.work.ResolvedWork.{ResolvedWork}
-use Rattle.meta_objects.specs.Loading.{work_of, IsMethodOf, IsObject}
+use Rattle.meta_objects.specs.Loading.{work_of, IsObject}
 use Rattle.meta_objects.specs.Natives.{HasPropertyIn, HasSignalIn, AreEffects, IsEmitted, AreLoadedEffects}
 use Rattle.meta_model.proofs.Once.{none_at}
 use Rattle.meta_model.proofs.Searches.{same_first}

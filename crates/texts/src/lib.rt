@@ -22,7 +22,7 @@ pub use depth::nesting;
 pub use fault::ParseFault;
 pub use lexer::{LexFault, one_cut, split_piece, tokens};
 pub use lines::split_line;
-pub use lists::{Part, list};
+pub use lists::{Part, list, list_after};
 pub use literal::unsigned_literal;
 pub use program::{
     Class, EffectNames, Formal, Owns, Parameter, Program, Property, Signal, Site, Slot, SlotWork,

@@ -34,6 +34,12 @@ const ROWS: &[Row] = &[
         program: "class Cell { property int x; } class Sub : Cell { } class Adder { property int sum; } binding b Adder.sum (Cell c, Cell d) = c.x + d.x * c.x; owns Adder Cell; owns Cell Adder;",
         edges: "Cell.x Adder.sum\n~Cell Sub.destroyed(QObject*)\n~Cell Adder.destroyed(QObject*)\nSub.x Adder.sum\n~Sub Cell.destroyed(QObject*)\n~Sub Adder.destroyed(QObject*)\n~Adder Cell.destroyed(QObject*)\n~Adder Sub.destroyed(QObject*)\n",
     },
+    // a native leads to the signals that it emits and the properties that it sets, in the class of its object, and not to
+    // those that it reads; a call reaches it as it does a slot
+    Row {
+        program: "class D { property int x; property int out; signal done(int); native twice(int) reads x emits done(int) sets out; } class E : D { } class U { property D* d; slot go() { call this.d.twice(1); } }",
+        edges: "D.twice(int) D.done(int)\nD.twice(int) D.out\nE.twice(int) E.done(int)\nE.twice(int) E.out\nU.go() D.twice(int)\nU.go() E.twice(int)\n",
+    },
 ];
 
 /// What the node is called.
@@ -71,7 +77,9 @@ fn edges_of(alloc: Global, program: &str) -> Result<Vec<u8>, Fail> {
     for (from, to) in scan.edges(alloc)?.as_slice() {
         let from = nodes.get(*from).ok_or("no such node")?;
         let to = nodes.get(*to).ok_or("no such node")?;
-        if from.member == Member::Property(0) || from.class == to.class && from.member == Member::Destruction {
+        if from.member == Member::Property(0)
+            || from.class == to.class && from.member == Member::Destruction
+        {
             continue;
         }
         show(alloc, &meta, from, &mut text)?;
@@ -86,7 +94,12 @@ fn edges_of(alloc: Global, program: &str) -> Result<Vec<u8>, Fail> {
 fn edges_are_those_of_the_page(rt: HostRuntime) -> Result<(), Fail> {
     for row in ROWS {
         let text = edges_of(rt.alloc(), row.program)?;
-        assert_eq!(rt; str::from_utf8(text.as_slice())?, row.edges, "in {}", row.program);
+        assert_eq!(rt;
+            str::from_utf8(text.as_slice())?,
+            row.edges,
+            "in {}",
+            row.program
+        );
     }
     Ok(())
 }
