@@ -3,3 +3,4 @@ pub mod Finding
 pub mod PlainValues
 pub mod Joining
 pub mod Asking
+pub mod Promising

@@ -19,12 +19,14 @@ pub struct Natives {
 }
 
 impl Natives {
-    ghost use Rattle.std.specs.Prelude.{◌≡◌, ◌<◌, IsTrue, IfOk, length, map, position, slice_get, Some};
+    ghost use Rattle.std.specs.Prelude.{◌≡◌, ◌<◌, IsTrue, IfOk, length, map, position, slice_get, Some, OnOk};
     ghost use Rattle.std.specs.Fn.{FnReturnsAtPair};
     ghost use Rattle.std.specs.Option.{option_copied};
+    ghost use Rattle.native_slots.specs.Answers.{takes_any, MayAnswer};
     ghost use Rattle.native_slots.specs.Effects.{accepts, are_within};
     ghost use Rattle.native_slots.specs.Fitting.{Fit, FitAmong, IsNativeFrom, IsThis};
     ghost use Rattle.native_slots.specs.Heads.{is_for, first_for};
+    ghost use Rattle.native_slots.specs.Promises.{Promises};
 
     /// These closures.
     pub fn of(slots: Vec<NativeSlot>) -> Natives
@@ -38,7 +40,14 @@ impl Natives {
     /// list in its order. `NoNative`, where a native has no closure; else `EffectsDiffer`, where a native's first closure
     /// keeps to other effects.
     pub fn fits(&self, meta: &Meta) -> Result<(), NativeFault>
-        ensures { Fit (map (λ slot. slot.head) self.now.slots.items) meta.now result }
+        ensures exact { Fit (map (λ slot. slot.head) self.now.slots.items) meta.now result }
+        // Where they fit, they keep what the program may expect of its natives.
+        ensures promises { OnOk result (Promises meta.now
+            (λ class sig arguments reads.
+            takes_any (map (λ slot. slot.head) self.now.slots.items) class sig arguments reads)
+            (λ class sig arguments reads actions.
+            MayAnswer (λ slot. slot.head) (λ slot. FnReturnsAtPair Work.Fn slot.work) self.now.slots.items
+            class sig arguments reads actions)) }
     {
         let mut answer = Ok(());
         let classes = meta.classes();
