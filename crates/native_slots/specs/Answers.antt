@@ -1,6 +1,6 @@
 -- What closures may be asked, and what they may answer, by the class and the signature of a native. Which S stand for the
 -- closures is left open, since a definition can't name what holds a boxed closure.
-use Rattle.std.specs.Prelude.{◌≡◌, ℕ, Bool, true, false, List, Option, Some, find, Vec, Result, Ok}
+use Rattle.std.specs.Prelude.{◌≡◌, ℕ, Bool, false, List, Some, find, Vec, Result, Ok}
 use Rattle.std.specs.Option.{option_map_or}
 use Rattle.std.specs.declared.alloc.Global.{Global}
 use Rattle.std.specs.declared.alloc.AllocError.{AllocError}

@@ -1,5 +1,6 @@
 -- Which native a closure is for (docs/natives.md, "Which closure is called").
-use Rattle.std.specs.Prelude.{ℕ, Bool, ◌&&◌, ◌==◌, nat_eq, List, Option, find}
+use Rattle.std.specs.Prelude.{ℕ, Bool, ◌&&◌, nat_eq, List, Option, find}
+use Rattle.std.specs.Bool.{beq}
 use Rattle.std.specs.Cmp.Lexicographic.{pointwise}
 use Rattle.signatures.specs.declared.qtype.QType.{QType}
 use Rattle.signatures.specs.declared.sig.Sig.{Sig}
@@ -9,7 +10,7 @@ abbrev pub same_names : List ℕ → List ℕ → Bool
 same_names = pointwise nat_eq
 
 abbrev pub same_types : QType → QType → Bool
-same_types a b = (a.constant == b.constant) && (a.pointer == b.pointer) && same_names a.name b.name
+same_types a b = beq a.constant b.constant && beq a.pointer b.pointer && same_names a.name b.name
 
 abbrev pub same_sigs : Sig → Sig → Bool
 same_sigs a b = same_names a.name b.name && pointwise same_types a.types b.types

@@ -3,3 +3,5 @@ pub mod Heads
 pub mod Effects
 pub mod Answers
 pub mod Promises
+pub mod Fitting
+pub mod FaultNumbers

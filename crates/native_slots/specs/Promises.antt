@@ -1,6 +1,6 @@
 -- What a program may expect of its natives (docs/natives.md, "The promise").
 use Rattle.std.specs.Prelude.{◌≡◌, ℕ, Bool, false, ◌&&◌, nat_le, IsTrue, List, length, Option, Some, slice_get}
-use Rattle.std.specs.Coded.{Coded-set, coded_bool, ×_prop, Π_prop, →_prop}
+use Rattle.std.specs.Coded.{Coded-set, coded_bool, ×_prop, Π_prop}
 use Rattle.std.specs.List.{AllZip, list_all}
 use Rattle.std.specs.Option.{option_and_then, option_map_or}
 use Rattle.signatures.specs.declared.sig.Sig.{Sig}

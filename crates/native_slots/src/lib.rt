@@ -4,6 +4,8 @@
 mod action;
 mod answering;
 mod effects;
+mod fault;
+mod fitting;
 mod head;
 mod native_slot;
 mod natives;
@@ -12,6 +14,7 @@ mod plain_type;
 pub use action::{Action, MOST_ACTIONS};
 pub use answering::Answering;
 pub use effects::{Effects, PlainProperty, PlainSignal};
+pub use fault::NativeFault;
 pub use head::NativeHead;
 pub use native_slot::{NativeSlot, Work};
 pub use natives::Natives;

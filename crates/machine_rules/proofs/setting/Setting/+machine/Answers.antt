@@ -4,6 +4,8 @@ use Rattle.machine_state.specs.declared.world.World.{World}
 use Rattle.machine_rules.proofs.Reaching.{not-idle, reaches-same, reaches-then, stops-after, stops-as, ends-after, ends-lifted, ends-left, ends-undue, ends-short, ends-unchanged, ends-lost, ends-faulted, ends-ticked, ok-err, ok-map}
 use Rattle.machine_state.specs.Connections.{is_living}
 use Rattle.machine_state.specs.State.{Run, Ask, Act}
+use Rattle.std.specs.Option.{option_map}
+use Rattle.machine_rules.specs.Doings.{Write, Begin, doing_action}
 use Rattle.machine_rules.specs.Good.{ArgumentsFit}
 use Rattle.machine_rules.specs.Keeps.{KeepsWorld}
 use Rattle.machine_rules.specs.Sound.{IsSoundWorld}
@@ -491,3 +493,18 @@ run_native-returns-in_err-note g t c = record { ends = ends-unchanged _ (not-idl
 
 pub run_begun-run_native-requires : goal.run_begun-run_native-requires
 run_begun-run_native-requires g t c = λ κs lives. (omega arith, (lives, (c.requires.promises, (c.requires.room, (c.requires.sound, (c.requires.fit, rw c.in-Native.is at c.requires.work))))))
+
+pub carry_out_action-returns-in-Some : goal.carry_out_action-returns-in-Some
+carry_out_action-returns-in-Some g t c = record {
+  advances = λ m arguments rest.
+      let is = ap (doing_action c.args.object c.args.effects.now) c.in-Set.is ∙ ap (option_map (λ (q : ℕ). Write c.args.object q c.in-Set.value)) (sym c.in-Some.ensures.value) in
+      advances-one _ (c.write.ensures.ends _ _ _ c.over-over.ensures (does-set m rest is));
+}
+
+pub carry_out_action-returns-in-Some-get : goal.carry_out_action-returns-in-Some-get
+carry_out_action-returns-in-Some-get g t c = record {
+  advances = λ m arguments rest.
+      let is = ap (doing_action c.args.object c.args.effects.now) c.in-Emit.is ∙ ap (option_map (λ (s : ℕ). Begin c.args.object s c.in-Emit.arguments)) (sym c.in-Some-get.ensures.value) in
+      let begins = rw (← c.as_slice.ensures) at is in
+      advances-one _ (c.begin_typed.ensures.ends _ _ _ c.over-over.ensures (does-call m rest begins) (does-call-alone m rest begins));
+}
