@@ -15,4 +15,5 @@ mod scan;
 pub use effect::{Effect, Reach, effect_of};
 pub use laws::edges_join_nodes;
 pub use node::{Member, Node};
+pub use rows::row_at;
 pub use scan::Scan;

@@ -1,0 +1,6 @@
+pub mod Rows
+pub mod Graphs
+pub mod Bits
+pub mod Entries
+pub mod Searching
+pub mod Faults
