@@ -5,7 +5,7 @@ use Rattle.std.proofs.lemmas.Bool.{cases_eq, cases_lt}
 use Rattle.std.proofs.lemmas.List.{get_or_past, length-map, get_or-replicate, length-replicate}
 use Rattle.std.proofs.lemmas.Option.{slice_get_past, slice_get_within}
 use Rattle.rank_graph.specs.Bits.{has}
-use Rattle.rank_graph.specs.Rows.{row, Edge}
+use Rattle.effect_scan.specs.Rows.{row, Edge}
 use Rattle.rank_graph.specs.Entries.{owns}
 use Rattle.rank_graph.specs.Searching.{state_of, Joins, Finished, NoneOpen, AllDone, Grows, Visited}
 use Rattle.rank_graph.specs.Entries.{rank_in, leads_in, rank_at, leads_at, IsSearched}

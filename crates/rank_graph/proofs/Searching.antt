@@ -5,7 +5,7 @@ use Rattle.std.proofs.lemmas.Bool.{cases_eq, cases_lt, or_cases, or_left, or_rig
 use Rattle.std.proofs.lemmas.List.{get_or-set_same, get_or-set_other, get_or_past, take_more, take_all, get_or_default, length-set, reverse-append}
 use Rattle.std.proofs.lemmas.List.Elements.{Contains-push, Contains-push_cases, Contains-append_left, Contains-get_or}
 use Rattle.rank_graph.specs.Bits.{has}
-use Rattle.rank_graph.specs.Rows.{row, Edge}
+use Rattle.effect_scan.specs.Rows.{row, Edge}
 use Rattle.rank_graph.specs.Graphs.{InRange, Leads, IsCycle}
 use Rattle.rank_graph.specs.Entries.{owns}
 use Rattle.rank_graph.specs.Searching.{state_of, Joins, room, Finished, NoneOpen, OnPath, Visiting, HeldOne, Held, Searching, Grows, Visited, Since, left, left_below, Climbs}

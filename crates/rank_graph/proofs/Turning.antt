@@ -3,7 +3,7 @@ use Rattle.std.proofs.Common.{◌≡◌, ℕ, zero, suc, ◌+◌, ◌-◌, ◌<�
 use Rattle.std.specs.List.{Contains}
 use Rattle.std.proofs.lemmas.List.{append-nil, append_assoc, take-append-drop, get_or_append_left, get_or-drop, length-drop, get_or_default, take_rest}
 use Rattle.std.proofs.lemmas.List.Elements.{Contains-append_left, Contains-append_right, Contains-append_cases}
-use Rattle.rank_graph.specs.Rows.{Edge}
+use Rattle.effect_scan.specs.Rows.{Edge}
 use Rattle.rank_graph.specs.Graphs.{Leads, IsCycle, BeginsLeast}
 
 pub leads_split : (rows : List (List ℕ)) (a : ℕ) (xs : List ℕ) (b : ℕ) (ys : List ℕ) (c : ℕ) → Leads rows a (xs ++ b ∷ ys) c → Leads rows a (xs ++ b ∷ []) b × Leads rows b ys c

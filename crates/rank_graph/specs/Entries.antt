@@ -1,6 +1,6 @@
 -- The ranks of nodes, and the classes of a group that they lead to.
 use Rattle.std.specs.Prelude.{◌≡◌, ℕ, ◌+◌, ◌<◌, Bool, true, false, ◌⊎◌, List, length, slice_get, Option, Some, None}
-use Rattle.rank_graph.specs.Rows.{Edge}
+use Rattle.effect_scan.specs.Rows.{Edge}
 use Rattle.rank_graph.specs.Bits.{has}
 use Rattle.rank_graph.specs.declared.bits.Bits.{Bits}
 use Rattle.rank_graph.specs.declared.path.Entry.{Entry}

@@ -2,7 +2,7 @@
 -- (docs/certificate.md, "The maker").
 use Rattle.std.specs.Prelude.{◌≡◌, ℕ, zero, suc, ◌<◌, ◌≤◌, List, [], ◌∷◌, ◌++◌, length, slice_index_or}
 use Rattle.std.specs.List.{Contains}
-use Rattle.rank_graph.specs.Rows.{Edge}
+use Rattle.effect_scan.specs.Rows.{Edge}
 
 -- each edge ends at a node
 abbrev pub InRange : List (List ℕ) → Type 0

@@ -1,6 +1,7 @@
-pub mod Rows
 pub mod Graphs
 pub mod Bits
 pub mod Entries
 pub mod Searching
 pub mod Faults
+pub mod Groups
+pub mod Solutions

@@ -2,7 +2,7 @@
 use Rattle.std.specs.Prelude.{◌≡◌, ℕ, zero, suc, ◌+◌, ◌-◌, ◌≤◌, ◌<◌, Bool, true, ◌⊎◌, List, [], ◌∷◌, ◌++◌, length, take, drop, slice_index_or, slice_get, Some}
 use Rattle.std.specs.List.{Contains, All}
 use Rattle.rank_graph.specs.Bits.{has}
-use Rattle.rank_graph.specs.Rows.{row, Edge}
+use Rattle.effect_scan.specs.Rows.{row, Edge}
 use Rattle.rank_graph.specs.Entries.{owns}
 use Rattle.rank_graph.specs.declared.bits.Bits.{Bits}
 use Rattle.rank_graph.specs.declared.path.Entry.{Entry}

@@ -1,7 +1,7 @@
 //! The cycle that a search meets.
 
 ghost use Rattle.std.specs.Prelude.{◌≡◌, ℕ, ◌<◌, ◌≤◌, ◌⊎◌, List, length, slice_index, IfOk};
-ghost use Rattle.rank_graph.specs.Rows.{Edge};
+ghost use Rattle.effect_scan.specs.Rows.{Edge};
 ghost use Rattle.rank_graph.specs.Graphs.{IsCycle, IsToldCycle, BeginsLeast};
 ghost use Rattle.rank_graph.specs.Searching.{OnPath, Climbs};
 

@@ -4,7 +4,13 @@
 mod bits;
 mod cycle;
 mod fault;
+mod groups;
 mod path;
-pub mod search;
+mod search;
+mod solution;
+mod witness;
 
 pub use fault::Unranked;
+pub use groups::solve;
+pub use solution::Solution;
+pub use witness::{chain_from, path_to};

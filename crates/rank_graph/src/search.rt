@@ -2,7 +2,6 @@
 
 ghost use Rattle.std.specs.Prelude.{◌≡◌, ℕ, ◌<◌, ◌+◌, ◌^◌, ◌||◌, length, map, replicate, max, IfOk, IfErr, OnOk};
 ghost use Rattle.rank_graph.specs.Bits.{has};
-ghost use Rattle.rank_graph.specs.Rows.{row};
 ghost use Rattle.rank_graph.specs.Graphs.{InRange};
 ghost use Rattle.rank_graph.specs.Entries.{IsSearched};
 ghost use Rattle.rank_graph.specs.Faults.{IsUnranked};
@@ -13,6 +12,7 @@ use crate::bits::Bits;
 use crate::cycle::back_to;
 use crate::fault::Unranked;
 use crate::path::{Entry, Path, State, Visit};
+use effect_scan::row_at;
 use sqlite_items::Items;
 use std::alloc::{AllocError, Global};
 
@@ -174,15 +174,5 @@ fn visit(
                 None => return Ok(()),
             }
         }
-    }
-}
-
-/// temporary
-pub fn row_at(rows: &[Items<usize>], number: usize) -> &[usize]
-    ensures { result.now ≡ row rows.now number }
-{
-    match sqlite_items::at(rows, number) {
-        Some(row) => row.as_slice(),
-        None => &[],
     }
 }

@@ -1,5 +1,5 @@
 use Rattle.std.proofs.Common.{◌≡◌, ◌⊎◌, List, ℕ, ◌<◌, length, reverse, ◌∷◌}
-use Rattle.rank_graph.specs.Rows.{Edge}
+use Rattle.effect_scan.specs.Rows.{Edge}
 use Rattle.rank_graph.specs.Graphs.{Leads}
 use Rattle.rank_graph.specs.Searching.{OnPath, Climbs}
 use Rattle.rank_graph.proofs.cycle.back_to.Given as goal

@@ -16,6 +16,24 @@ bounds c =
     let inside = target_inside _ _ _ _ c.row_at-row.ensures c.requires.inside c.if-at-row.true in
     omega (arith, inside, c.search.invariant.1.len, c.requires.states)
 
+pub offset_bounds-states-target : goal.offset_bounds-states-target
+offset_bounds-states-target c =
+    let inside = target_inside _ _ _ _ c.row_at-row.ensures c.requires.inside c.if-at-row.true in
+    let within : get_or c.row_at-row.result.now c.search.at.next 0 < length c.search.states = omega (arith, inside, c.search.invariant.1.len, c.requires.states) in
+    omega arith
+
+pub offset_bounds-states-target-in-New : goal.offset_bounds-states-target-in-New
+offset_bounds-states-target-in-New c =
+    let inside = target_inside _ _ _ _ c.row_at-row.ensures c.requires.inside c.if-at-row.true in
+    let within : get_or c.row_at-row.result.now c.search.at.next 0 < length c.search.states = omega (arith, inside, c.search.invariant.1.len, c.requires.states) in
+    omega arith
+
+pub offset_bounds-own-target : goal.offset_bounds-own-target
+offset_bounds-own-target c =
+    let inside = target_inside _ _ _ _ c.row_at-row.ensures c.requires.inside c.if-at-row.true in
+    let within : get_or c.row_at-row.result.now c.search.at.next 0 < length c.args.own.now = omega (arith, inside, c.requires.own) in
+    omega arith
+
 pub over-at-requires : goal.over-at-requires
 unfolding state_of
 over-at-requires c = let low = c.search.invariant.0.finished.ranked _ _ c.in-Done.is in omega (arith, low, c.requires.states)

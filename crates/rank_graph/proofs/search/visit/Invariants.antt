@@ -1,5 +1,5 @@
 use Rattle.std.proofs.Common.{◌+◌, ◌-◌, length}
-use Rattle.rank_graph.specs.Rows.{row}
+use Rattle.effect_scan.specs.Rows.{row}
 use Rattle.rank_graph.specs.Searching.{Searching, Since, left, left_below}
 use Rattle.rank_graph.proofs.search.visit.Given as goal
 
