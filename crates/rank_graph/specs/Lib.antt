@@ -3,5 +3,3 @@ pub mod Bits
 pub mod Entries
 pub mod Searching
 pub mod Faults
-pub mod Groups
-pub mod Solutions

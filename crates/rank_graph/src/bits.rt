@@ -3,9 +3,6 @@
 ghost use Rattle.std.specs.Prelude.{◌≡◌, ℕ, ◌<◌, ◌||◌, ◌==◌, false};
 ghost use Rattle.rank_graph.specs.Bits.{has};
 
-/// How many numbers a set may have.
-pub const SIZE: usize = 64;
-
 /// A set of numbers below 64, a bit for each of them.
 #[derive(Clone, Copy)]
 pub struct Bits {

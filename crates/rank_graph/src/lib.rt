@@ -1,16 +1,13 @@
-//! Graphs over numbered nodes: the ranks of nodes, the classes that they lead to, and cycles, paths and chains as witnesses.
+//! Graphs over numbered nodes: a search for the ranks of nodes and the classes that they lead to, or for a cycle.
 #![tactic(auto)]
 
 mod bits;
 mod cycle;
 mod fault;
-mod groups;
 mod path;
 mod search;
-mod solution;
-mod witness;
 
+pub use bits::Bits;
 pub use fault::Unranked;
-pub use groups::solve;
-pub use solution::Solution;
-pub use witness::{chain_from, path_to};
+pub use path::Entry;
+pub use search::search as search_graph;

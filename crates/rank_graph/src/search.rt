@@ -18,11 +18,7 @@ use std::alloc::{AllocError, Global};
 
 /// The longest chains of the nodes, and the classes that they lead to, where each has these classes itself; or why there are
 /// none.
-pub fn search(
-    alloc: Global,
-    rows: &[Items<usize>],
-    own: &[Bits],
-) -> Result<Items<Entry>, Unranked>
+pub fn search(alloc: Global, rows: &[Items<usize>], own: &[Bits]) -> Result<Items<Entry>, Unranked>
     requires inside { InRange rows.now }
     requires own { length own.now ≡ length rows.now }
     ensures ok { IfOk result (IsSearched rows.now own.now) }
