@@ -1,0 +1,5 @@
+pub mod Grammar
+pub mod Reads
+pub mod Names
+pub mod Valid
+pub mod Checks
