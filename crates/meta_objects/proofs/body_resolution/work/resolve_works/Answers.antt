@@ -1,6 +1,6 @@
 use Rattle.std.proofs.Common.{rules}
 use Rattle.meta_model.proofs.Zips.{zip_push}
-use Rattle.meta_objects.proofs.body_resolution.body.resolve_bodies.Goals as goal
+use Rattle.meta_objects.proofs.body_resolution.work.resolve_works.Goals as goal
 
 pub loop-class-preserved : goal.loop-class-preserved
 loop-class-preserved c =

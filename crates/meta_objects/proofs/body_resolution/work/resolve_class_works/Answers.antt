@@ -1,6 +1,6 @@
 use Rattle.std.proofs.Common.{rules}
 use Rattle.meta_model.proofs.Zips.{zip_push}
-use Rattle.meta_objects.proofs.body_resolution.body.resolve_class_bodies.Goals as goal
+use Rattle.meta_objects.proofs.body_resolution.work.resolve_class_works.Goals as goal
 
 pub loop-slot-preserved : goal.loop-slot-preserved
 loop-slot-preserved c =
