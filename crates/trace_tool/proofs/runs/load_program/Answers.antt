@@ -1,6 +1,6 @@
 use Rattle.std.proofs.lemmas.Result.{err_from_is_err_and}
 use Rattle.trace_tool.specs.Commands.{text, load}
-use Rattle.trace_tool.proofs.run.load_program.Goals as goal
+use Rattle.trace_tool.proofs.runs.load_program.Goals as goal
 
 pub returns-in_err-program : goal.returns-in_err-program
 returns-in_err-program c =

@@ -1,6 +1,6 @@
 use Rattle.std.proofs.lemmas.Result.{err_from_is_err_and}
 use Rattle.trace_tool.specs.Commands.{of_program, script}
-use Rattle.trace_tool.proofs.run.load.Goals as goal
+use Rattle.trace_tool.proofs.runs.load.Goals as goal
 
 pub returns-in_err-meta : goal.returns-in_err-meta
 returns-in_err-meta c =
