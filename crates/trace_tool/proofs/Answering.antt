@@ -19,7 +19,7 @@ use Rattle.trace_tool.specs.declared.input.InputFault.TheVariants.{Unread, Memor
 use Rattle.trace_tool.specs.declared.words.Command.{Command}
 use Rattle.trace_tool.specs.declared.words.Command.TheVariants.{Meta, Check, Run, RunUnchecked}
 use Rattle.trace_tool.specs.declared.words.Options.{Options}
-use Rattle.trace_tool.specs.Sent.{SendsWith}
+use Rattle.trace_lines.specs.Sent.{SendsWith}
 
 pub answered : {Writes : List ℕ → ℕ → Type 0} {before after : Option (List ℕ)} {bytes : List ℕ} {expected status : ℕ} →
     Writes bytes expected → SendsWith before after bytes expected status → Answers Writes before after status

@@ -32,8 +32,8 @@ use Rattle.machine_state.specs.declared.fault.Fault.{Fault}
 use Rattle.trace_tool.specs.declared.refusal.Refusal.{Refusal}
 use Rattle.trace_tool.specs.declared.refusal.Refusal.TheVariants.{Numbered}
 use Rattle.trace_tool.specs.Cut.{AreTexts}
-use Rattle.trace_tool.specs.Lines.{trace_text}
-use Rattle.trace_tool.specs.MetaLines.{meta_text}
+use Rattle.trace_lines.specs.Lines.{trace_text}
+use Rattle.trace_lines.specs.MetaLines.{meta_text}
 use Rattle.trace_tool.specs.Refusals.{numbered, denied, of_script, memory_line, usage_line, yes_line, fault_line, refusal_line, refusal_status}
 use Rattle.trace_tool.specs.Words.{IsCommand}
 use Rattle.trace_tool.specs.declared.input.InputFault.{InputFault}

@@ -3,14 +3,9 @@
 
 mod checks;
 mod commands;
-mod connection_line;
 mod cut;
 mod description;
-mod fault;
 mod input;
-mod line;
-mod meta_line;
-mod output;
 mod refusal;
 mod runs;
 mod words;
@@ -18,7 +13,7 @@ mod words;
 pub use checks::check;
 pub use commands::{command, respond};
 pub use description::meta;
-pub use fault::WriteFault;
 pub use input::InputFault;
 pub use refusal::Refusal;
 pub use runs::{run, run_unchecked};
+pub use trace_lines::WriteFault;

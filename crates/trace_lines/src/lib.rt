@@ -1,0 +1,11 @@
+//! What the commands write, byte by byte: the lines of traces, classes and certificates, on their way to a writer.
+#![tactic(auto)]
+
+mod connection_line;
+mod fault;
+mod line;
+mod meta_line;
+mod output;
+
+pub use fault::WriteFault;
+pub use output::Output;
