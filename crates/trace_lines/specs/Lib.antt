@@ -1,3 +1,4 @@
+pub mod CertificateLines
 pub mod Lines
 pub mod MetaLines
 pub mod Sent

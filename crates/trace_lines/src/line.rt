@@ -66,7 +66,7 @@ impl Output {
     }
 
     /// Adds `object.member`.
-    fn member<W: Write>(
+    pub fn member<W: Write>(
         &mut self,
         w: &mut W,
         object: &Name,
