@@ -6,6 +6,7 @@ mod connection_line;
 mod fault;
 mod line;
 mod meta_line;
+mod node_line;
 mod output;
 
 pub use fault::WriteFault;
