@@ -5,6 +5,7 @@ ghost use Rattle.trace_lines.specs.Sent.{SendsWith};
 ghost use Rattle.trace_tool.specs.Words.{IsCommand, IsWithinLimits};
 ghost use Rattle.trace_tool.specs.declared.words.Command.{Command as ACommand};
 
+use crate::certifying::certify;
 use crate::checks::check;
 use crate::cut::{one_text, three_texts, two_texts};
 use crate::description::meta;
@@ -48,6 +49,7 @@ pub fn command<R: Read, W: Write>(
 /// status.
 ///
 /// - `meta` takes one text, a program, and writes its classes.
+/// - `certify` takes one text, a program, and writes its least valid certificate, or why it has none.
 /// - `check` takes two texts, a program and its certificate, and writes `yes` or the checker's no.
 /// - `run [--steps M]` takes three texts, a program, its certificate and a script, checks the program, and runs it on the
 ///   script.
@@ -99,6 +101,10 @@ fn perform<W: Write>(
     match command {
         Command::Meta => match one_text(input) {
             Some(program) => meta(alloc, program, w),
+            None => refuse_usage(w),
+        },
+        Command::Certify => match one_text(input) {
+            Some(program) => certify(alloc, program, w),
             None => refuse_usage(w),
         },
         Command::Check => match two_texts(input) {

@@ -1,6 +1,7 @@
 //! The program's commands: from words and bytes to the bytes that are written and an exit status.
 #![tactic(auto)]
 
+mod certifying;
 mod checks;
 mod commands;
 mod cut;
@@ -10,6 +11,7 @@ mod refusal;
 mod runs;
 mod words;
 
+pub use certifying::certify;
 pub use checks::check;
 pub use commands::{command, respond};
 pub use description::meta;

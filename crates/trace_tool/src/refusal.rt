@@ -34,8 +34,8 @@ pub enum Refusal {
 pub const UNDONE: u8 = 1;
 /// The exit status where a text or a native is refused.
 const REFUSED: u8 = 2;
-/// The exit status where the checker says no.
-const DENIED: u8 = 3;
+/// The exit status where the checker says no, or a program has no certificate.
+pub const DENIED: u8 = 3;
 
 impl Refusal {
     /// The exit status.
