@@ -29,4 +29,4 @@ node_line line = node_text line.node ++ (codes " " ++ (decimal line.rank ++ (fla
 -- the version, the bound, and the lines of the nodes
 abbrev pub certificate_text : Certificate → List ℕ
 certificate_text certificate =
-    codes "certificate 1\n" ++ (codes "bound " ++ decimal certificate.bound ++ newline ++ flat_map node_line certificate.lines)
+    codes "certificate 1\n" ++ (codes "bound " ++ decimal certificate.bound ++ newline) ++ flat_map node_line certificate.lines
