@@ -1,5 +1,6 @@
 pub mod Parts
 pub mod BindingSites
+pub mod NativeParts
 pub mod Sequences
 pub mod MemberLists
 pub mod DeclarationLists

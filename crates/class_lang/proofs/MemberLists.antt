@@ -6,7 +6,7 @@ use Rattle.texts.specs.Reading.{EndsAnywhere, Found}
 use Rattle.texts.specs.declared.symbol.Symbol.TheVariants.{CloseBrace}
 use Rattle.texts.specs.declared.token.Token.{Token}
 use Rattle.texts.specs.declared.token.Token.TheVariants as token
-use Rattle.class_lang.specs.Members.{MemberReading, a_property, a_signal, a_slot, spell_member, tree_of_member, with_members}
+use Rattle.class_lang.specs.Members.{MemberReading, a_property, a_signal, a_slot, a_native, spell_member, tree_of_member, with_members}
 use Rattle.class_lang.specs.Declarations.{spell_members, class_of}
 use Rattle.class_lang.specs.declared.members.Member.{Member}
 use Rattle.class_lang.specs.declared.members.Member.TheVariants as member
@@ -45,6 +45,7 @@ closed [] now after rest e g = cc
 closed (a_property p ∷ ms) now after rest e g = cc
 closed (a_signal s ∷ ms) now after rest e g = cc
 closed (a_slot s ∷ ms) now after rest e g = cc
+closed (a_native n ∷ ms) now after rest e g = cc
 
 module _ {name : List ℕ} {base : Option (List ℕ)} {before : List Token} {class : Class} {now : List Token} (h : MembersSoFar name base before class now) where
   pub members_step : {m : Member} {after : List Token} → NotAt CloseBrace now → Found spell_member tree_of_member EndsAnywhere now m after → MembersSoFar name base before (with_members class (m ∷ [])) after

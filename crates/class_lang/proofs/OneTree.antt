@@ -1,5 +1,6 @@
 -- No two readings with the same tokens stand for different trees.
 use Rattle.std.proofs.Common.{◌≡◌, ◌∙◌, ℕ, List, [], ◌∷◌, refl, sym, ap, map, Option, Some, None, option_map}
+use Rattle.std.proofs.lemmas.List.{map-id}
 use Rattle.signatures.specs.declared.word.Word.TheVariants as word
 use Rattle.slot_lang.specs.Grammar.{spell_block, spell_value}
 use Rattle.texts.specs.Lists.{spell_each}
@@ -9,16 +10,18 @@ use Rattle.texts.specs.Signatures.{spell_sig, tree_of_sig, spell_kind}
 use Rattle.texts.specs.declared.symbol.Symbol.TheVariants.{Semicolon, Arrow, Assign, Colon, OpenBrace}
 use Rattle.texts.specs.declared.token.Token.{Token}
 use Rattle.texts.specs.declared.token.Token.TheVariants as token
-use Rattle.texts.proofs.OneTree.{one_tree_of_optional_name, HasOneTree, one_tree_of_listed, one_tree_of_type, one_tree_of_sig, one_tree_of_kind, one_tree_of_literal}
+use Rattle.texts.proofs.OneTree.{one_tree_of_optional_name, HasOneTree, one_tree_of_listed, one_tree_of_list_after, one_tree_of_type, one_tree_of_sig, one_tree_of_kind, one_tree_of_literal}
 use Rattle.slot_lang.proofs.Unique.{unique_block, one_value}
 use Rattle.texts.specs.Optional.{spell_optional, EndsWithout, spell_optional_name}
 use Rattle.class_lang.specs.Parameters.{signal_parameter, spell_signal_parameter, tree_of_signal_parameter, slot_parameter, spell_slot_parameter, tree_of_slot_parameter, EndsSignalParameter}
-use Rattle.class_lang.specs.Members.{spell_notify, spell_initial, property, spell_property, tree_of_property, signal, spell_signal, tree_of_signal, slot, spell_slot, tree_of_slot, MemberReading, a_property, a_signal, a_slot, spell_member, tree_of_member}
+use Rattle.class_lang.specs.Members.{spell_notify, spell_initial, property, spell_property, tree_of_property, signal, spell_signal, tree_of_signal, slot, spell_slot, tree_of_slot, MemberReading, a_property, a_signal, a_slot, a_native, spell_member, tree_of_member}
+use Rattle.class_lang.specs.Natives.{spell_emits, spell_sets, effects, spell_effects, tree_of_effects, native, spell_native, tree_of_native}
 use Rattle.class_lang.specs.Sites.{formal, spell_formal, tree_of_formal, site, spell_site, tree_of_site}
 use Rattle.class_lang.specs.Declarations.{Ending, bare, semicolon, spell_ending, spell_members, class, spell_class, tree_of_class, class_of, end, spell_end, tree_of_end, wire, spell_wire, tree_of_wire, owns, spell_owns, tree_of_owns, DeclarationReading, a_class, a_wire, an_owns, a_site, spell_declaration, tree_of_declaration, tree_of_program, EndsDeclaration, IsProgram}
 use Rattle.texts.specs.declared.program.Program.{Program}
 use Rattle.class_lang.proofs.DeclarationLists.{ends_next}
 use Rattle.class_lang.proofs.Parts.{type_ends_at_name, type_ends_at_optional_name, signal_parameters_are_parts, slot_parameters_are_parts, formals_are_parts}
+use Rattle.class_lang.proofs.NativeParts.{reads_end, emits_end, sets_end}
 use Rattle.class_lang.proofs.Sequences.{initial_ends_at_notify}
 
 -- ---- optional parts
@@ -46,6 +49,9 @@ one_tree_of_slot_parameter (slot_parameter a x) (slot_parameter b y) r s er es e
 
 -- ---- members
 
+one_tree_of_name : HasOneTree spell_name (λ name. name) EndsAnywhere
+one_tree_of_name x y r s er es e = (cc, cc)
+
 one_tree_of_property : HasOneTree spell_property tree_of_property EndsAnywhere
 one_tree_of_property (property a x i m) (property b y j n) r s er es e =
     let last : List Token → List Token = λ after. token.Symbol Semicolon ∷ after in
@@ -64,6 +70,25 @@ one_tree_of_slot (slot x ps b) (slot y qs d) r s er es e =
     let k = unique_block b d r s h.1 in
     (cc, k.1)
 
+same_names : (as_ bs : List (List ℕ)) → map (λ (n : List ℕ). n) as_ ≡ map (λ n. n) bs → as_ ≡ bs
+same_names as_ bs e = sym (map-id as_) ∙ (e ∙ map-id bs)
+
+one_tree_of_effects : HasOneTree spell_effects tree_of_effects EndsAnywhere
+one_tree_of_effects (effects ps ss qs) (effects vs ts ws) r s er es e =
+    let last : List Token → List Token = λ after. token.Symbol Semicolon ∷ after in
+    let h = one_tree_of_list_after spell_name (λ n. n) EndsAnywhere (λ rest. tt) one_tree_of_name word.Reads ps vs (spell_emits ss (spell_sets qs (last r))) (spell_emits ts (spell_sets ws (last s))) (reads_end ss qs r) (reads_end ts ws s) e in
+    let k = one_tree_of_list_after spell_sig tree_of_sig EndsAnywhere (λ rest. tt) one_tree_of_sig word.Emits ss ts (spell_sets qs (last r)) (spell_sets ws (last s)) (emits_end qs r) (emits_end ws s) h.1 in
+    let l = one_tree_of_list_after spell_name (λ n. n) EndsAnywhere (λ rest. tt) one_tree_of_name word.Sets qs ws (last r) (last s) (sets_end r) (sets_end s) k.1 in
+    let x = same_names ps vs h.0 in
+    let y = same_names qs ws l.0 in
+    (cc, cc)
+
+one_tree_of_native : HasOneTree spell_native tree_of_native EndsAnywhere
+one_tree_of_native (native x ps f) (native y qs g) r s er es e =
+    let h : (map tree_of_signal_parameter ps ≡ map tree_of_signal_parameter qs) × (spell_effects f r ≡ spell_effects g s) = one_tree_of_listed spell_signal_parameter tree_of_signal_parameter EndsSignalParameter signal_parameters_are_parts one_tree_of_signal_parameter ps qs (spell_effects f r) (spell_effects g s) tt tt cc in
+    let k : (tree_of_effects f ≡ tree_of_effects g) × (r ≡ s) = one_tree_of_effects f g r s tt tt h.1 in
+    (cc, k.1)
+
 one_tree_of_member : HasOneTree spell_member tree_of_member EndsAnywhere
 one_tree_of_member (a_property p) (a_property q) r s er es e =
     let h : (tree_of_property p ≡ tree_of_property q) × (r ≡ s) = one_tree_of_property p q r s tt tt cc in (cc, h.1)
@@ -71,6 +96,8 @@ one_tree_of_member (a_signal p) (a_signal q) r s er es e =
     let h : (tree_of_signal p ≡ tree_of_signal q) × (r ≡ s) = one_tree_of_signal p q r s tt tt cc in (cc, h.1)
 one_tree_of_member (a_slot p) (a_slot q) r s er es e =
     let h : (tree_of_slot p ≡ tree_of_slot q) × (r ≡ s) = one_tree_of_slot p q r s tt tt cc in (cc, h.1)
+one_tree_of_member (a_native m) (a_native n) r s er es e =
+    let h : (tree_of_native m ≡ tree_of_native n) × (r ≡ s) = one_tree_of_native m n r s tt tt cc in (cc, h.1)
 one_tree_of_member _ _ r s er es e = cc
 
 one_tree_of_members : HasOneTree spell_members (map tree_of_member) EndsAnywhere
@@ -78,9 +105,11 @@ one_tree_of_members [] [] r s er es e = (refl, cc)
 one_tree_of_members [] (a_property q ∷ ms) r s er es e = cc
 one_tree_of_members [] (a_signal q ∷ ms) r s er es e = cc
 one_tree_of_members [] (a_slot q ∷ ms) r s er es e = cc
+one_tree_of_members [] (a_native q ∷ ms) r s er es e = cc
 one_tree_of_members (a_property p ∷ ms) [] r s er es e = cc
 one_tree_of_members (a_signal p ∷ ms) [] r s er es e = cc
 one_tree_of_members (a_slot p ∷ ms) [] r s er es e = cc
+one_tree_of_members (a_native p ∷ ms) [] r s er es e = cc
 one_tree_of_members (a ∷ as_) (b ∷ bs) r s er es e =
     let h = one_tree_of_member a b (spell_members as_ r) (spell_members bs s) tt tt e in
     let k = one_tree_of_members as_ bs r s tt tt h.1 in
@@ -99,9 +128,6 @@ same_base None None e = refl
 same_base None (Some y) e = cc
 same_base (Some x) None e = cc
 same_base (Some x) (Some y) e = e
-
-one_tree_of_name : HasOneTree spell_name (λ name. name) EndsAnywhere
-one_tree_of_name x y r s er es e = (cc, cc)
 
 same_class : (x y : List ℕ) (b c : Option (List ℕ)) (as_ bs : List MemberReading) → x ≡ y → b ≡ c → map tree_of_member as_ ≡ map tree_of_member bs → class_of x b as_ ≡ class_of y c bs
 same_class x y b c as_ bs d e f = rw (d, e, f) refl

@@ -17,7 +17,8 @@ use Rattle.texts.specs.declared.token.Token.{Token}
 use Rattle.texts.specs.declared.token.Token.TheVariants as token
 use Rattle.texts.specs.Optional.{spell_optional, EndsWithout, spell_optional_name, EndsWithoutName}
 use Rattle.class_lang.specs.Parameters.{SignalParameter, signal_parameter, spell_signal_parameter, tree_of_signal_parameter, SlotParameter, slot_parameter, spell_slot_parameter, tree_of_slot_parameter, EndsSignalParameter}
-use Rattle.class_lang.specs.Members.{spell_initial, spell_notify, PropertyReading, property, spell_property, tree_of_property, SignalReading, signal, spell_signal, tree_of_signal, SlotReading, slot, spell_slot, tree_of_slot, MemberReading, a_property, a_signal, a_slot, spell_member, tree_of_member}
+use Rattle.class_lang.specs.Natives.{NativeReading, spell_native, tree_of_native}
+use Rattle.class_lang.specs.Members.{spell_initial, spell_notify, PropertyReading, property, spell_property, tree_of_property, SignalReading, signal, spell_signal, tree_of_signal, SlotReading, slot, spell_slot, tree_of_slot, MemberReading, a_property, a_signal, a_slot, a_native, spell_member, tree_of_member}
 use Rattle.class_lang.specs.Declarations.{Ending, bare, semicolon, spell_ending, spell_members, spell_base, ClassReading, class, spell_class, tree_of_class, class_of, EndReading, end, spell_end, tree_of_end, WireReading, wire, spell_wire, tree_of_wire, OwnsReading, owns, spell_owns, tree_of_owns, DeclarationReading, a_class, a_wire, an_owns, a_site, spell_declaration, tree_of_declaration, EndsDeclaration}
 use Rattle.class_lang.specs.Sites.{SiteReading, spell_site, tree_of_site}
 use Rattle.class_lang.specs.declared.declarations.Declaration.TheVariants as declaration
@@ -29,6 +30,7 @@ use Rattle.texts.specs.declared.program.Property.{Property}
 use Rattle.texts.specs.declared.program.Signal.{Signal}
 use Rattle.texts.specs.declared.program.Site.{Site}
 use Rattle.texts.specs.declared.program.Slot.{Slot}
+use Rattle.texts.specs.declared.program.SlotWork.TheVariants as work
 use Rattle.texts.specs.declared.program.Wire.{Wire}
 use Rattle.class_lang.proofs.Parts.{type_ends_at_name, type_ends_at_optional_name}
 
@@ -115,7 +117,7 @@ module _ {before at_next : List Token} {name : List ℕ} (n : Found spell_name (
   slot_only (slot x ps body) at_body after rest p b g =
       b.only body rest tt (p.only ps (spell_block body rest) tt (n.only x (spell_listed spell_slot_parameter ps (spell_block body rest)) tt g))
 
-  pub slot_found : {parameters : List Parameter} {body : List Stmt} {at_body after : List Token} → Found (spell_listed spell_slot_parameter) (map tree_of_slot_parameter) EndsAnywhere at_next parameters at_body → Found spell_block tree_of_block EndsAnywhere at_body body after → Found spell_slot tree_of_slot EndsAnywhere before (record { name = name; parameters = parameters; body = body }) after
+  pub slot_found : {parameters : List Parameter} {body : List Stmt} {at_body after : List Token} → Found (spell_listed spell_slot_parameter) (map tree_of_slot_parameter) EndsAnywhere at_next parameters at_body → Found spell_block tree_of_block EndsAnywhere at_body body after → Found spell_slot tree_of_slot EndsAnywhere before (record { name = name; parameters = parameters; work = work.Body body }) after
   slot_found {parameters} {body} {at_body} {after} p b =
       let a = n.spelled in let d = p.spelled in let e = b.spelled in
       let x = n.tree_is in let y = p.tree_is in let z = b.tree_is in
@@ -146,6 +148,7 @@ other_than_property : (r : MemberReading) (between rest : List Token) → token.
 other_than_property (a_property p) between rest g = (p, cc)
 other_than_property (a_signal s) between rest g = cc
 other_than_property (a_slot s) between rest g = cc
+other_than_property (a_native n) between rest g = cc
 
 pub property_member : {before between after : List Token} {p : Property} → before ≡ token.Word word.Property ∷ between → Found spell_property tree_of_property EndsAnywhere between p after → Found spell_member tree_of_member EndsAnywhere before (member.Property p) after
 property_member {before} {between} {after} {p} e f =
@@ -156,6 +159,7 @@ other_than_signal : (r : MemberReading) (between rest : List Token) → token.Wo
 other_than_signal (a_property p) between rest g = cc
 other_than_signal (a_signal s) between rest g = (s, cc)
 other_than_signal (a_slot s) between rest g = cc
+other_than_signal (a_native n) between rest g = cc
 
 pub signal_member : {before between after : List Token} {s : Signal} → before ≡ token.Word word.Signal ∷ between → Found spell_signal tree_of_signal EndsAnywhere between s after → Found spell_member tree_of_member EndsAnywhere before (member.Signal s) after
 signal_member {before} {between} {after} {s} e f =
@@ -166,11 +170,23 @@ other_than_slot : (r : MemberReading) (between rest : List Token) → token.Word
 other_than_slot (a_property p) between rest g = cc
 other_than_slot (a_signal s) between rest g = cc
 other_than_slot (a_slot s) between rest g = (s, cc)
+other_than_slot (a_native n) between rest g = cc
 
 pub slot_member : {before between after : List Token} {s : Slot} → before ≡ token.Word word.Slot ∷ between → Found spell_slot tree_of_slot EndsAnywhere between s after → Found spell_member tree_of_member EndsAnywhere before (member.Slot s) after
 slot_member {before} {between} {after} {s} e f =
     let a = f.spelled in
     record { reading = a_slot f.reading; spelled = cc; tree_is = ap (λ x. member.Slot x) f.tree_is; only = λ r rest ends g. let w = other_than_slot r between rest (sym e ∙ g) in f.only w.0 rest tt w.1 }
+
+other_than_native : (r : MemberReading) (between rest : List Token) → token.Word word.Native ∷ between ≡ spell_member r rest → (n : NativeReading) × (between ≡ spell_native n rest)
+other_than_native (a_property p) between rest g = cc
+other_than_native (a_signal s) between rest g = cc
+other_than_native (a_slot s) between rest g = cc
+other_than_native (a_native n) between rest g = (n, cc)
+
+pub native_member : {before between after : List Token} {s : Slot} → before ≡ token.Word word.Native ∷ between → Found spell_native tree_of_native EndsAnywhere between s after → Found spell_member tree_of_member EndsAnywhere before (member.Slot s) after
+native_member {before} {between} {after} {s} e f =
+    let a = f.spelled in
+    record { reading = a_native f.reading; spelled = cc; tree_is = ap (λ x. member.Slot x) f.tree_is; only = λ r rest ends g. let w = other_than_native r between rest (sym e ∙ g) in f.only w.0 rest tt w.1 }
 
 other_than_class : (r : DeclarationReading) (between rest : List Token) → token.Word word.Class ∷ between ≡ spell_declaration r rest → (c : ClassReading) × (between ≡ spell_class c rest)
 other_than_class (a_class c) between rest g = (c, cc)

@@ -1,7 +1,7 @@
 -- The grammar of a class's members. A value of a type below is a way to read tokens by its rule
 -- (docs/language.md, "Classes").
 --
---   member   = "property" property | "signal" signal | "slot" slot
+--   member   = "property" property | "signal" signal | "slot" slot | "native" native
 --   property = type Name ["=" literal] ["notify" sig] ";"
 --   signal   = Name "(" [signal_parameter {"," signal_parameter}] ")" ";"
 --   slot     = Name "(" [slot_parameter {"," slot_parameter}] ")" block
@@ -20,12 +20,14 @@ use Rattle.texts.specs.declared.token.Token.{Token}
 use Rattle.texts.specs.declared.token.Token.TheVariants as token
 use Rattle.signatures.specs.declared.word.Word.TheVariants as word
 use Rattle.texts.specs.Optional.{spell_optional}
+use Rattle.class_lang.specs.Natives.{NativeReading, spell_native, tree_of_native}
 use Rattle.class_lang.specs.Parameters.{SignalParameter, spell_signal_parameter, tree_of_signal_parameter, SlotParameter, spell_slot_parameter, tree_of_slot_parameter}
 use Rattle.class_lang.specs.declared.members.Member.{Member}
 use Rattle.class_lang.specs.declared.members.Member.TheVariants as member
 use Rattle.texts.specs.declared.program.Property.{Property}
 use Rattle.texts.specs.declared.program.Signal.{Signal}
 use Rattle.texts.specs.declared.program.Slot.{Slot}
+use Rattle.texts.specs.declared.program.SlotWork.TheVariants as work
 use Rattle.texts.specs.declared.program.Class.{Class}
 
 -- ["=" literal]
@@ -70,22 +72,25 @@ spell_slot (slot name parameters body) after =
 
 abbrev pub tree_of_slot : SlotReading → Slot
 tree_of_slot (slot name parameters body) =
-    record { name = name; parameters = map tree_of_slot_parameter parameters; body = tree_of_block body }
+    record { name = name; parameters = map tree_of_slot_parameter parameters; work = work.Body (tree_of_block body) }
 
 pub data MemberReading : Type 0 where
   a_property : PropertyReading → MemberReading
   a_signal : SignalReading → MemberReading
   a_slot : SlotReading → MemberReading
+  a_native : NativeReading → MemberReading
 
 abbrev pub spell_member : MemberReading → List Token → List Token
 spell_member (a_property p) after = token.Word word.Property ∷ spell_property p after
 spell_member (a_signal s) after = token.Word word.Signal ∷ spell_signal s after
 spell_member (a_slot s) after = token.Word word.Slot ∷ spell_slot s after
+spell_member (a_native n) after = token.Word word.Native ∷ spell_native n after
 
 abbrev pub tree_of_member : MemberReading → Member
 tree_of_member (a_property p) = member.Property (tree_of_property p)
 tree_of_member (a_signal s) = member.Signal (tree_of_signal s)
 tree_of_member (a_slot s) = member.Slot (tree_of_slot s)
+tree_of_member (a_native n) = member.Slot (tree_of_native n)
 
 -- ---- what the readers answer
 
@@ -98,7 +103,7 @@ ReadsNotify before result after = Reads spell_notify (option_map tree_of_sig) (N
 abbrev pub ReadsProperty : List Token → Result Property ParseFault → List Token → Type 0
 ReadsProperty before result after = Reads spell_property tree_of_property EndsAnywhere before result after
 
--- ---- the members of each sort, in their order
+-- ---- the members of each sort, in their order; slots and natives are one sort
 
 abbrev pub properties_in : List Member → List Property
 properties_in [] = []

@@ -1,4 +1,4 @@
--- The grammar of parameters. A value of a type below is a way to read tokens by its rule
+-- The grammar of parameters; those of natives are read as those of signals. A value of a type below is a way to read tokens by its rule
 -- (docs/language.md, "Classes").
 --
 --   signal_parameter = type [Name]

@@ -4,7 +4,7 @@
 --   binding = Name Name "." Name "(" [formal {"," formal}] ")" "=" bexpr ";"
 --   formal  = Name Name
 --   bexpr   = expr, in which no null stands, and each path of which is Name "." Name
-use Rattle.std.specs.Prelude.{ℕ, ◌≡◌, ◌&&◌, Bool, true, false, List, [], ◌∷◌, map, Option, None, Some, Result}
+use Rattle.std.specs.Prelude.{ℕ, ◌≡◌, ◌&&◌, Bool, true, false, List, [], ◌∷◌, map, Result}
 use Rattle.signatures.specs.declared.value.Value.{Value}
 use Rattle.signatures.specs.declared.value.Value.TheVariants as value
 use Rattle.slot_lang.specs.Expressions.{Expression, tree_of_expression}

@@ -5,10 +5,13 @@ mod declarations;
 mod fault;
 mod limits;
 mod members;
+mod natives;
 mod parameters;
 mod reader;
 mod sites;
 
 pub use fault::TextFault;
 pub use reader::{one_answer, one_reading, read_program};
-pub use texts::{Class, Owns, Parameter, Program, Property, Signal, Slot, Wire};
+pub use texts::{
+    Class, EffectNames, Owns, Parameter, Program, Property, Signal, Slot, SlotWork, Wire,
+};

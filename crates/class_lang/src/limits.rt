@@ -1,21 +1,23 @@
 //! How large programs may be.
 
-ghost use Rattle.std.specs.Prelude.{◌↔◌, IsTrue, IfSome};
+ghost use Rattle.std.specs.Prelude.{◌≡◌, ◌↔◌, IsTrue, IfSome, All};
 ghost use Rattle.texts.specs.Signatures.{HasFewTypes};
-ghost use Rattle.class_lang.specs.Limits.{SlotHasFewParameters, ClassHasFewParameters, WireHasFewParameters, HasFewParameters, ClassIsWithinLimits, IsWithinLimits};
+ghost use Rattle.class_lang.specs.Limits.{is_native, natives_among, HaveFewNatives, signatures_at_work, SlotHasFewParameters, ClassHasFewParameters, WireHasFewParameters, HasFewParameters, ClassIsWithinLimits, IsWithinLimits};
 
 use signatures::MOST_PARAMETERS;
 use slot_lang::body_has_few_parameters;
-use texts::{Class, Program, Property, Slot, Wire, has_few_types};
+use texts::{Class, Program, Property, Slot, SlotWork, Wire, has_few_types};
 
 /// Bytes of a text.
 pub const MOST_BYTES: usize = 1_048_576;
 /// Classes of a program.
 const MOST_CLASSES: usize = 64;
-/// Signals and slots of a class, counted together.
+/// Signals, slots and natives of a class, counted together.
 const MOST_METHODS: usize = 64;
 /// Properties of a class.
 const MOST_PROPERTIES: usize = 32;
+/// Natives of a program.
+const MOST_NATIVES: usize = 64;
 /// Wires of a program.
 const MOST_WIRES: usize = 1000;
 /// Declarations of ownership of a program.
@@ -33,11 +35,25 @@ fn property_has_few_parameters(property: &Property) -> bool
     }
 }
 
-/// Whether the slot has at most 8 parameters, and so has each signature in its body.
+/// Whether each signature in the body, or among what the native may emit, has at most 8 types.
+fn work_has_few_parameters(work: &SlotWork) -> bool
+    ensures { IsTrue result ↔ All HasFewTypes (signatures_at_work work.now) }
+{
+    match work {
+        SlotWork::Body(body) => body_has_few_parameters(body.as_slice()),
+        SlotWork::Native(effects) => effects
+            .emits
+            .as_slice()
+            .iter()
+            .all(|sig| has_few_types(sig)),
+    }
+}
+
+/// Whether the slot or native has at most 8 parameters, and so has each signature in its body or among what it may emit.
 fn slot_has_few_parameters(slot: &Slot) -> bool
     ensures { IsTrue result ↔ SlotHasFewParameters slot.now }
 {
-    slot.parameters.len() <= MOST_PARAMETERS && body_has_few_parameters(slot.body.as_slice())
+    slot.parameters.len() <= MOST_PARAMETERS && work_has_few_parameters(&slot.work)
 }
 
 #[tactic(auto, unfolding(crate::specs::Limits::ClassHasFewParameters))]
@@ -69,6 +85,44 @@ fn class_is_within_limits(class: &Class) -> bool
         && class.slots.len() <= MOST_METHODS - class.signals.len()
 }
 
+/// Whether it is a native.
+fn is_native(slot: &Slot) -> bool
+    ensures { result ≡ is_native slot.now }
+{
+    match &slot.work {
+        SlotWork::Body(_) => false,
+        SlotWork::Native(_) => true,
+    }
+}
+
+/// How many of the slots are natives.
+fn natives_among(slots: &[Slot]) -> usize
+    ensures { result ≡ natives_among slots.now }
+{
+    let mut natives = 0;
+    for slot in slots {
+        if is_native(slot) {
+            natives += 1;
+        }
+    }
+    natives
+}
+
+/// Whether the classes have at most 64 natives, all of them together.
+fn have_few_natives(classes: &[Class]) -> bool
+    ensures { IsTrue result ↔ HaveFewNatives classes.now }
+{
+    let mut left = MOST_NATIVES;
+    for class in classes {
+        let natives = natives_among(class.slots.as_slice());
+        if natives > left {
+            return false;
+        }
+        left -= natives;
+    }
+    true
+}
+
 fn wire_has_few_parameters(wire: &Wire) -> bool
     ensures { IsTrue result ↔ WireHasFewParameters wire.now }
 {
@@ -96,8 +150,8 @@ pub fn has_few_parameters(program: &Program) -> bool
             .all(|site| site.formals.len() <= MOST_PARAMETERS)
 }
 
-/// Whether the program has at most 64 classes, 64 methods and 32 properties in each, 1,000 wires, 1,000 owns and
-/// 1,000 bindings.
+/// Whether the program has at most 64 classes, 64 methods and 32 properties in each, 64 natives in all of them, 1,000
+/// wires, 1,000 owns and 1,000 bindings.
 pub fn is_within_limits(program: &Program) -> bool
     ensures { IsTrue result ↔ IsWithinLimits program.now }
 {
@@ -110,4 +164,5 @@ pub fn is_within_limits(program: &Program) -> bool
             .as_slice()
             .iter()
             .all(|class| class_is_within_limits(class))
+        && have_few_natives(program.classes.as_slice())
 }

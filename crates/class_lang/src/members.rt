@@ -4,17 +4,21 @@ ghost use Rattle.std.specs.Prelude.{◌≡◌, ◌<◌, ◌≤◌, [], ◌∷◌
 ghost use Rattle.texts.specs.Reading.{Reads, EndsAnywhere};
 ghost use Rattle.class_lang.specs.Members.{ReadsInitial, ReadsNotify, ReadsProperty, spell_signal, tree_of_signal, spell_slot, tree_of_slot, spell_member, tree_of_member, with_members};
 
+use crate::natives::native;
 use crate::parameters::{SignalParameterPart, SlotParameterPart};
 use signatures::Sig;
 use slot_lang::block;
 use std::alloc::AllocError;
-use texts::{Class, Cursor, Literal, ParseFault, Property, Signal, Slot, Symbol, Word, list};
+use texts::{
+    Class, Cursor, Literal, ParseFault, Property, Signal, Slot, SlotWork, Symbol, Word, list,
+};
 
 /// A member of a class.
 #[derive(Drop)]
 pub enum Member {
     Property(Property),
     Signal(Signal),
+    /// A slot or a native.
     Slot(Slot),
 }
 
@@ -95,11 +99,11 @@ fn slot(cursor: &mut Cursor) -> Result<Slot, ParseFault>
     Ok(Slot {
         name,
         parameters,
-        body,
+        work: SlotWork::Body(body),
     })
 }
 
-/// `"property" property | "signal" signal | "slot" slot`
+/// `"property" property | "signal" signal | "slot" slot | "native" native`
 pub fn next_member(cursor: &mut Cursor) -> Result<Member, ParseFault>
     ensures reads { Reads spell_member tree_of_member EndsAnywhere cursor.old result cursor.new }
     ensures shorter { OnOk result (length cursor.new < length cursor.old) }
@@ -110,6 +114,8 @@ pub fn next_member(cursor: &mut Cursor) -> Result<Member, ParseFault>
         Ok(Member::Signal(signal(cursor)?))
     } else if cursor.eat_word(Word::Slot) {
         Ok(Member::Slot(slot(cursor)?))
+    } else if cursor.eat_word(Word::Native) {
+        Ok(Member::Slot(native(cursor)?))
     } else {
         Err(ParseFault::Syntax)
     }

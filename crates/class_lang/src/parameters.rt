@@ -1,4 +1,4 @@
-//! The parameters of signals and slots.
+//! The parameters of signals, slots and natives.
 
 ghost use Rattle.std.specs.Prelude.{◌<◌, length, OnOk};
 ghost use Rattle.texts.specs.Reading.{EndsAnywhere};
@@ -29,7 +29,7 @@ fn slot_parameter(cursor: &mut Cursor) -> Result<Parameter, ParseFault>
     })
 }
 
-/// A signal's parameter, as a part of a list.
+/// A parameter of a signal or a native, as a part of a list.
 pub struct SignalParameterPart;
 
 impl Part for SignalParameterPart {

@@ -1,5 +1,5 @@
 -- What one declaration joins.
-use Rattle.std.proofs.Common.{◌≡◌, ◌≢◌, ◌↔◌, ◌⊎◌, ℕ, ◌<◌, List, [], ◌++◌, length, arith, slice_get, Option, Some, None, refl, sym, ap, ◌∙◌, subst}
+use Rattle.std.proofs.Common.{◌≡◌, ◌≢◌, ◌↔◌, ℕ, ◌<◌, List, [], ◌++◌, length, arith, Some, None, sym, ap, ◌∙◌, subst}
 use Rattle.std.specs.List.{Contains}
 use Rattle.std.proofs.lemmas.Option.{same_Some, none-some, slice_get_within}
 use Rattle.signatures.specs.declared.kind.Kind.TheVariants.{Queued}
@@ -16,7 +16,6 @@ use Rattle.effect_scan.specs.declared.effect.Effect.{Effect}
 use Rattle.effect_scan.specs.declared.places.Places.{Places}
 use Rattle.effect_scan.specs.Nodes.{node, named, IsAt}
 use Rattle.effect_scan.specs.Effects.{WorkHas}
-use Rattle.effect_scan.specs.Rows.{Adds}
 use Rattle.effect_scan.specs.Places.{InEach, InBelow, IsReached, IsRead, OfSome}
 use Rattle.effect_scan.specs.Leading.{WireLeads, MethodLeads, PropertyLeads, SiteLeads, ClosureLeads}
 

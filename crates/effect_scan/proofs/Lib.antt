@@ -3,6 +3,7 @@ pub mod Joined
 pub mod Listing
 pub mod Numbered
 pub mod Occurring
+pub mod Doing
 pub mod Pairing
 pub mod Relating
 pub mod Sources

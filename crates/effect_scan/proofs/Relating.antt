@@ -1,21 +1,20 @@
 -- Relations between classes, and what is related by way of others.
-use Rattle.std.proofs.Common.{◌≡◌, ◌≢◌, ◌↔◌, ◌⊎◌, inl, inr, ℕ, zero, suc, ◌+◌, ◌-◌, ◌<◌, ◌≤◌, Bool, true, false, List, [], ◌∷◌, ◌++◌, length, get_or, set, take, replicate, slice_get, Option, Some, None, refl, sym, ap, ◌∙◌, subst, arith, get_or-set_same, get_or-set_other}
+use Rattle.std.proofs.Common.{◌≡◌, ◌≢◌, ◌↔◌, ◌⊎◌, inl, inr, ℕ, zero, suc, ◌+◌, ◌-◌, ◌<◌, ◌≤◌, Bool, true, false, List, [], ◌∷◌, ◌++◌, length, get_or, set, take, slice_get, Option, Some, None, refl, sym, ap, ◌∙◌, subst, arith, get_or-set_same, get_or-set_other}
 use Rattle.std.specs.List.{Contains, AllZip}
-use Rattle.std.specs.List.Sorted.{IsStrictlyIncreasing}
 use Rattle.std.proofs.lemmas.Bool.{cases_eq, cases_lt}
 use Rattle.std.proofs.lemmas.List.{take_all, length-set, length-append, get_or_past, get_or_default, get_or_append_left, get_or-append_right}
 use Rattle.std.proofs.Math.Seq.{get_or-append_seam}
 use Rattle.meta_model.specs.declared.object.MetaObject.{MetaObject}
 use Rattle.meta_model.specs.declared.object.MetaOwns.{MetaOwns}
 use Rattle.meta_model.specs.Loaded.{Loaded}
-use Rattle.meta_model.specs.Members.{IsClass, Below, OwnsBy, Owns, IsIn, same, under}
+use Rattle.meta_model.specs.Members.{IsClass, Below, Owns, same, under}
 use Rattle.meta_model.proofs.Searches.{in_list, place_in}
-use Rattle.std.proofs.lemmas.Option.{slice_get_within, slice_get_past, slice_get-get_or, none-some}
+use Rattle.std.proofs.lemmas.Option.{slice_get_within, slice_get_past, none-some}
 use Rattle.meta_model.proofs.OneAnswer.{below_absent}
-use Rattle.effect_scan.specs.Rows.{row, Edge, Joins, Among, AmongFirst}
+use Rattle.effect_scan.specs.Rows.{row, Joins, AmongFirst}
 use Rattle.effect_scan.specs.Places.{IsLineage, Lists}
 use Rattle.effect_scan.specs.Destroying.{Closure, itself, child, AreClosures, IsMarked, marks_of, Holds, IsSquare, IsEmpty, Marks, Extends, OwnsRows, IsOwned, IsOwn, Passes, Chains, one, more, IsClosed, Closing, AreListed}
-use Rattle.effect_scan.proofs.Adding.{no_members, first_more, among_none, among_more, among_all, row_past, edge_inside}
+use Rattle.effect_scan.proofs.Adding.{no_members, first_more, among_more, among_all, edge_inside}
 
 -- ---- one row
 pub not_marked : (j : ℕ) → ¬ IsMarked [] j

@@ -17,7 +17,8 @@ use Rattle.meta_model.specs.declared.object.Statement.{Statement}
 use Rattle.meta_model.specs.declared.object.Statement.TheOpen as layer
 use Rattle.meta_model.specs.declared.object.Statement.TheViews.{out-Statement}
 use Rattle.meta_model.specs.declared.object.Work.{Work}
-use Rattle.meta_model.specs.declared.object.Work.TheVariants.{Signal, Slot}
+use Rattle.meta_model.specs.declared.object.Work.TheVariants.{Signal, Slot, Native}
+use Rattle.meta_model.specs.declared.effects.MetaEffects.{MetaEffects}
 use Rattle.meta_model.specs.declared.object.MetaMethod.{MetaMethod}
 use Rattle.meta_model.specs.declared.object.MetaObject.{MetaObject}
 use Rattle.meta_model.specs.declared.object.MetaProperty.{MetaProperty}
@@ -25,7 +26,7 @@ use Rattle.meta_model.specs.declared.qobject.TheConstants.{DESTROYED, DESTROYED_
 use Rattle.meta_model.specs.Loaded.{Loaded}
 use Rattle.meta_model.specs.Members.{IsClass, IsMethod, IsProperty, Below, same, under}
 use Rattle.meta_model.specs.Root.{root_methods}
-use Rattle.meta_model.specs.Sound.{IsSound, HasRoot, this_has, parameter_has, Leads, here, on, LeadsToClass, IsSoundStatement, set_sound, emit_sound, call_sound, if_sound, connect_sound, disconnect_sound, delete_sound, later_sound, AreSound, none_sound, next_sound, IsSoundWork, IsSoundMethod, IsSoundSource, IsKind}
+use Rattle.meta_model.specs.Sound.{IsSound, HasRoot, this_has, parameter_has, Leads, here, on, LeadsToClass, IsSoundStatement, set_sound, emit_sound, call_sound, if_sound, delete_sound, AreSound, next_sound, IsSoundWork, IsPlainProperty, IsPlainSignal, AreSoundEffects, IsSoundMethod, IsSoundSource, IsKind}
 use Rattle.meta_model.proofs.Searches.{place_in}
 use Rattle.meta_model.specs.Sites.{paths_in}
 use Rattle.meta_model.proofs.Zips.{get_front, zip_right}
@@ -35,12 +36,11 @@ use Rattle.effect_scan.specs.declared.node.Member.TheVariants as member
 use Rattle.effect_scan.specs.declared.effect.Reach.{Reach}
 use Rattle.effect_scan.specs.declared.effect.Reach.TheVariants as reach
 use Rattle.effect_scan.specs.declared.effect.Effect.{Effect}
-use Rattle.effect_scan.specs.declared.numbering.Shape.{Shape}
-use Rattle.effect_scan.specs.Nodes.{node, named, shape_of, class_nodes, nodes_from, nodes_of, IsAt}
+use Rattle.effect_scan.specs.Nodes.{node, named, shape_of, class_nodes, nodes_from}
 use Rattle.effect_scan.specs.Numbering.{IsPlaceIn}
-use Rattle.effect_scan.specs.Effects.{reach_of_type, reach_of_root, reach_after, reach_of, effect_on, effect_of, Occurs, here as first, after, chosen, otherwise, BodyHas, WorkHas}
+use Rattle.effect_scan.specs.Effects.{reach_of_type, reach_of_root, reach_after, reach_of, effect_on, effect_of, Occurs, here as first, after, chosen, otherwise, NativeHas, WorkHas}
 use Rattle.effect_scan.specs.Destroying.{Closure, itself, child}
-use Rattle.effect_scan.specs.Edges.{AtOrBelow, ReachedAs, Reaches, ByWork, ByWire, ByNotify, BySite, ByDestruction, MayLead, by_work, by_wire, by_notify, by_site, by_destruction}
+use Rattle.effect_scan.specs.Edges.{AtOrBelow, ReachedAs, by_work, by_wire, by_notify, by_site, by_destruction}
 use Rattle.effect_scan.specs.Laws.{IsNode, EdgesJoinNodes}
 use Rattle.effect_scan.proofs.Numbered.{stands, stands_after, place_low}
 use Rattle.effect_scan.proofs.Relating.{below_first, below_last, is_class}
@@ -200,7 +200,7 @@ module _ {p : Loaded} (sound : IsSound p) where
       above =
           elim (cases_lt OBJECT_NAME_CHANGED m) [
             | inl l ↦ l
-            | inr low ↦ let bad : Slot s.body ≡ Signal = sym s.slots ∙ root_signal s.class m s.slot s.is low in absurd (cc)
+            | inr low ↦ absurd (s.callable (root_signal s.class m s.slot s.is low))
           ]
   effect_stands me kinds (layer.If e block other) effect classes s h = absurd (none-some effect h)
   effect_stands me kinds (layer.Connect ends how) effect classes s h = absurd (none-some effect h)
@@ -253,6 +253,15 @@ module _ {p : Loaded} (sound : IsSound p) where
       let pair = zip_right (IsKind p) types kinds zip k (type.Reference class constant) at in
       kind_there pair.0 (type.Reference class constant) class constant pair.2 refl
 
+  -- ---- natives
+  native_stands : (me : ℕ) (effects : MetaEffects) (effect : Effect) → AreSoundEffects p me effects → NativeHas effects effect → Stands me effect.member effect.reach
+  native_stands me effects effect s (inl h) =
+      let signal = All-contains (IsPlainSignal p me) effects.emits h.number s.emits h.among in
+      subst (λ (f : Effect). Stands me f.member f.reach) (sym h.is) (signal.signal, signal.is, signal.emitted)
+  native_stands me effects effect s (inr h) =
+      let property = All-contains (IsPlainProperty p me) effects.sets h.number s.sets h.among in
+      subst (λ (f : Effect). Stands me f.member f.reach) (sym h.is) (property.property, property.is)
+
   -- ---- edges
   work_stands : (c m : ℕ) (method : MetaMethod) (effect : Effect) → IsMethod p c m method → WorkHas method.kinds method.work effect → (d : ℕ) × Below p c d × Stands d effect.member effect.reach × (m ≢ DESTROYED_ALONE)
   work_stands c m method effect is has = given method.work refl has
@@ -270,6 +279,13 @@ module _ {p : Loaded} (sound : IsSound p) where
             s.below,
             effect_stands s.declaring method.kinds (out-Statement h.statement) effect (path_there s.declaring method.kinds low all) (occurs_sound s.declaring method.kinds h.statement body s.sound h.occurs) h.is,
             λ one. let signal = root_signal c m method is (omega (arith, one)) in let bad : Slot body ≡ Signal = sym e ∙ signal in absurd (cc),
+          )
+      given (Native effects) e h =
+          let s : IsSoundWork p c m method.kinds (Native effects) = subst (IsSoundWork p c m method.kinds) e sound_method.work in (
+            s.declaring,
+            s.below,
+            native_stands s.declaring effects effect s.sound h,
+            λ one. let signal = root_signal c m method is (omega (arith, one)) in let bad : Native effects ≡ Signal = sym e ∙ signal in absurd (cc),
           )
 
   is_node : (x : Node) (c : ℕ) (m : Member) → x.class ≡ c → x.member ≡ m → IsNode p (node c m) → IsNode p x

@@ -1,28 +1,24 @@
 -- The edges between nodes, by their numbers.
-use Rattle.std.proofs.Common.{◌≡◌, ◌≢◌, ◌↔◌, ◌⊎◌, inl, inr, ℕ, ◌<◌, List, [], ◌∷◌, length, replicate, slice_get, Option, Some, refl, sym, ap, ◌∙◌, subst, arith}
-use Rattle.std.specs.List.{Contains, AllZip}
+use Rattle.std.proofs.Common.{◌≡◌, ◌⊎◌, inl, inr, ℕ, List, [], length, replicate, refl, sym, ap, ◌∙◌, subst}
+use Rattle.std.specs.List.{Contains}
 use Rattle.std.proofs.lemmas.List.{length-replicate}
 use Rattle.std.proofs.lemmas.List.Elements.{length_all_zip}
 use Rattle.std.proofs.lemmas.Option.{slice_get-get_or, get_or_from_slice_get}
-use Rattle.meta_model.specs.declared.object.MetaObject.{MetaObject}
-use Rattle.meta_model.specs.declared.object.MetaWire.{MetaWire}
 use Rattle.meta_model.specs.declared.qobject.TheConstants.{DESTROYED}
 use Rattle.meta_model.specs.Loaded.{Loaded}
-use Rattle.meta_model.specs.Members.{IsClass, Below, IsIn}
 use Rattle.meta_model.proofs.Searches.{in_list, place_in}
 use Rattle.effect_scan.specs.declared.node.Node.{Node}
 use Rattle.effect_scan.specs.declared.node.Member.{Member}
 use Rattle.effect_scan.specs.declared.node.Member.TheVariants.{Method, Property, Destruction}
 use Rattle.effect_scan.specs.declared.effect.Reach.{Reach}
 use Rattle.effect_scan.specs.declared.effect.Reach.TheVariants as reach
-use Rattle.effect_scan.specs.declared.effect.Effect.{Effect}
 use Rattle.effect_scan.specs.declared.places.Places.{Places}
 use Rattle.effect_scan.specs.Nodes.{node, named, nodes_of, IsAt}
-use Rattle.effect_scan.specs.Rows.{row, Edge, Adds, Among, IsOrdered, AreOrdered}
-use Rattle.effect_scan.specs.Places.{InEach, InBelow, ReachedBy, IsReached, ArePlaces}
-use Rattle.effect_scan.specs.Destroying.{Closure, AreClosures}
-use Rattle.effect_scan.specs.Edges.{AtOrBelow, ReachedAs, Reaches, ByWork, ByWire, ByNotify, BySite, ByDestruction, MayLead, by_work, by_wire, by_notify, by_site, by_destruction, LeadsAt}
-use Rattle.effect_scan.specs.Leading.{WireLeads, WiresLead, MethodLeads, MethodsLead, WorksLead, PropertyLeads, PropertiesLead, NotifiersLead, SiteLeads, SitesLead, ClosureLeads, ClosuresLead}
+use Rattle.effect_scan.specs.Rows.{row, Edge, Adds, IsOrdered, AreOrdered}
+use Rattle.effect_scan.specs.Places.{InBelow, ReachedBy, ArePlaces}
+use Rattle.effect_scan.specs.Destroying.{AreClosures}
+use Rattle.effect_scan.specs.Edges.{AtOrBelow, ReachedAs, ByWork, ByWire, ByNotify, BySite, ByDestruction, MayLead, by_work, by_wire, by_notify, by_site, by_destruction, LeadsAt}
+use Rattle.effect_scan.specs.Leading.{WiresLead, WorksLead, NotifiersLead, SitesLead, ClosuresLead}
 use Rattle.effect_scan.specs.Scans.{AreEdges}
 use Rattle.effect_scan.proofs.Adding.{edge_inside, empty_edge, ordered_row}
 

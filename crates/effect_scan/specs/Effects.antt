@@ -1,5 +1,5 @@
--- What the statements of a body do at once, and to which objects (docs/certificate.md, "Edges").
-use Rattle.std.specs.Prelude.{◌≡◌, ◌↔◌, ◌⊎◌, ℕ, ◌-◌, List, [], ◌∷◌, length, Option, None, Some, slice_get}
+-- What the statements of a body and the actions of a native do at once, and to which objects (docs/certificate.md, "Edges").
+use Rattle.std.specs.Prelude.{◌≡◌, ◌↔◌, ◌⊎◌, ℕ, ◌-◌, List, ◌∷◌, length, Option, None, Some, slice_get}
 use Rattle.std.specs.Option.{option_and_then, option_map}
 use Rattle.std.specs.List.{Contains}
 use Rattle.texts.specs.declared.syntax.Expr.{Expr}
@@ -13,7 +13,8 @@ use Rattle.meta_model.specs.declared.object.Statement.{Statement}
 use Rattle.meta_model.specs.declared.object.Statement.TheOpen as layer
 use Rattle.meta_model.specs.declared.object.Statement.TheViews.{out-Statement}
 use Rattle.meta_model.specs.declared.object.Work.{Work}
-use Rattle.meta_model.specs.declared.object.Work.TheVariants.{Signal, Slot}
+use Rattle.meta_model.specs.declared.effects.MetaEffects.{MetaEffects}
+use Rattle.meta_model.specs.declared.object.Work.TheVariants.{Signal, Slot, Native}
 use Rattle.effect_scan.specs.declared.node.Member.{Member}
 use Rattle.effect_scan.specs.declared.node.Member.TheVariants.{Method, Property, Destruction}
 use Rattle.effect_scan.specs.declared.effect.Reach.{Reach}
@@ -82,11 +83,25 @@ StatementHas kinds (layer.Disconnect ends) effect = effect_of kinds (layer.Disco
 StatementHas kinds (layer.Delete path) effect = effect_of kinds (layer.Delete path) ≡ Some effect
 StatementHas kinds (layer.Later path) effect = effect_of kinds (layer.Later path) ≡ Some effect
 
+-- ---- natives
+-- something is done to the object's own member of one of these numbers
+pub record IsDoneTo (member : ℕ → Member) (numbers : List ℕ) (effect : Effect) : Type 0 where
+  pub number : ℕ
+  pub among : Contains numbers number
+  pub is : effect ≡ record { reach = Own; member = member number }
+
+-- a native may emit its signals and set its properties
+abbrev pub NativeHas : MetaEffects → Effect → Type 0
+NativeHas effects effect =
+    IsDoneTo (λ m. Method m) effects.emits effect ⊎ IsDoneTo (λ q. Property q) effects.sets effect
+
 -- ---- methods
--- what a method does at once when it is called: a signal nothing by itself, a slot what a statement of its body does
+-- what a method does at once when it is called: a signal nothing by itself, a slot what a statement of its body does, a
+-- native what it may do
 abbrev pub WorkHas : List ValueType → Work → Effect → Type 0
 WorkHas kinds Signal effect = ⊥
 WorkHas kinds (Slot body) effect = BodyHas kinds body effect
+WorkHas kinds (Native effects) effect = NativeHas effects effect
 
 -- ---- lists
 -- just those with P were added

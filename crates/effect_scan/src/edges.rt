@@ -10,7 +10,7 @@ ghost use Rattle.effect_scan.specs.Rows.{Adds};
 ghost use Rattle.effect_scan.specs.Places.{AreJust, IsReached, IsRead, OfSome};
 ghost use Rattle.effect_scan.specs.Leading.{WireLeads, WiresLead, MethodLeads, MethodsLead, WorksLead, PropertyLeads, PropertiesLead, NotifiersLead, SiteLeads, SitesLead, ClosureLeads, ClosuresLead};
 
-use crate::effect::{Effect, gather};
+use crate::effect::{Effect, gather, gather_native};
 use crate::node::{Member, Node};
 use crate::places::Places;
 use crate::rows::{add_all, join, ordered};
@@ -134,6 +134,10 @@ fn effects_of(alloc: Global, kinds: &[ValueType], work: &Work) -> Result<Items<E
         Work::Signal => Ok(effects),
         Work::Slot(body) => {
             gather(kinds, body.as_slice(), &mut effects)?;
+            Ok(effects)
+        }
+        Work::Native(native) => {
+            gather_native(native, &mut effects)?;
             Ok(effects)
         }
     }

@@ -1,18 +1,20 @@
-//! What the statements of bodies do at once, to which objects.
+//! What the statements of bodies and the actions of natives do at once, to which objects.
 
 ghost use Rattle.std.specs.Prelude.{◌≡◌, IfOk};
 ghost use Rattle.meta_model.specs.declared.object.Statement.TheViews.{out-Statement};
 ghost use Rattle.effect_scan.specs.Effects.{reach_of_type, reach_of_root, reach_of, effect_of, effect_on, BodyHas, StatementHas, Gathers};
+ghost use Rattle.effect_scan.specs.Effects.{IsDoneTo, NativeHas};
+ghost use Rattle.effect_scan.specs.declared.node.Member.TheVariants.{Method, Property};
 
 use crate::node::Member;
-use meta_model::{MetaPath, MetaRoot, Statement, ValueType};
+use meta_model::{MetaEffects, MetaPath, MetaRoot, Statement, ValueType};
 use sqlite_items::Items;
 use std::alloc::{AllocError, Global};
 
 /// Which objects something is done to.
 #[derive(Clone, Copy, Debug, PartialEq, Eq)]
 pub enum Reach {
-    /// The object whose body it is.
+    /// The object whose body or native it is.
     Own,
     /// Some object of this class or of one below it.
     Below(usize),
@@ -113,4 +115,38 @@ fn gather_one(
         Some(effect) => effects.push(effect),
         None => Ok(()),
     }
+}
+
+/// What the native may do at once: emit its signals and set its properties, those of the object itself.
+pub fn gather_native(native: &MetaEffects, effects: &mut Items<Effect>) -> Result<(), AllocError>
+    ensures { IfOk result (λ _. Gathers (NativeHas native.now) effects.old effects.new) }
+{
+    gather_emits(native.emits.as_slice(), effects)?;
+    gather_sets(native.sets.as_slice(), effects)
+}
+
+/// The emission of each of the object's signals of these numbers.
+fn gather_emits(signals: &[usize], effects: &mut Items<Effect>) -> Result<(), AllocError>
+    ensures { IfOk result (λ _. Gathers (IsDoneTo (λ m. Method m) signals.now) effects.old effects.new) }
+{
+    for signal in signals {
+        effects.push(Effect {
+            reach: Reach::Own,
+            member: Member::Method(*signal),
+        })?;
+    }
+    Ok(())
+}
+
+/// The write of each of the object's properties of these numbers.
+fn gather_sets(properties: &[usize], effects: &mut Items<Effect>) -> Result<(), AllocError>
+    ensures { IfOk result (λ _. Gathers (IsDoneTo (λ q. Property q) properties.now) effects.old effects.new) }
+{
+    for property in properties {
+        effects.push(Effect {
+            reach: Reach::Own,
+            member: Member::Property(*property),
+        })?;
+    }
+    Ok(())
 }

@@ -1,24 +1,33 @@
-//! The program: the process's words and input go to a command, whose exit status is the process's.
+//! The program: the process's words and input go to a command, with one native, and the command's exit status is the
+//! process's.
 #![tactic(auto)]
 
-use qt_runtime::Natives;
+mod doubler;
+
+use crate::doubler::{class, doubled, effects, twice};
+use native_slots::{NativeSlot, Natives};
+use signatures::Value;
 use std::alloc::{AllocError, Global};
 use std::process::ExitCode;
 use std::{env, io};
 use trace_tool::command;
 
 fn main(rt: HostRuntime) -> ExitCode {
-    // Words that aren't text are no command, as an empty word isn't.
-    let Ok(words) = env::args(&rt) else {
-        return answer(&rt, &[""]);
-    };
-    let Ok(words) = words.skip(1).collect::<Vec<String>>(rt.alloc()) else {
-        return memory(&rt);
-    };
-    match borrowed(rt.alloc(), words.as_slice()) {
-        Ok(words) => answer(&rt, words.as_slice()),
+    match start(&rt) {
+        Ok(status) => status,
         Err(AllocError) => memory(&rt),
     }
+}
+
+/// Takes the process's words, and does what they say. The error is that there was no memory for the words or the native.
+fn start(rt: &HostRuntime) -> Result<ExitCode, AllocError> {
+    // Words that aren't text are no command, as an empty word isn't.
+    let Ok(words) = env::args(rt) else {
+        return answer(rt, &[""]);
+    };
+    let words = words.skip(1).collect::<Vec<String>>(rt.alloc())?;
+    let words = borrowed(rt.alloc(), words.as_slice())?;
+    answer(rt, words.as_slice())
 }
 
 /// The same words as slices.
@@ -30,17 +39,30 @@ fn borrowed<'a>(alloc: Global, words: &'a [String]) -> Result<Vec<&'a str>, Allo
     Ok(borrowed)
 }
 
-/// Does what the words say, on standard input and output.
-fn answer(rt: &HostRuntime, words: &[&str]) -> ExitCode {
+/// Does what the words say, on standard input and output, where programs may declare the native `twice(int)` of
+/// `Doubler`: it sets `out` to twice its argument, which is kept within 32 bits, and emits `done(int)` with it.
+fn answer(rt: &HostRuntime, words: &[&str]) -> Result<ExitCode, AllocError> {
+    let alloc = rt.alloc();
+    let class = class(alloc)?;
+    let sig = twice(alloc)?;
+    let effects = effects(alloc)?;
+    let work = Box::new(alloc, move |arguments: &[Value], _: &[Value]| {
+        match arguments {
+            [Value::Int(number)] => doubled(alloc, number.saturating_mul(2)),
+            _ => Ok(Vec::new(alloc)),
+        }
+    })?;
+    let mut slots = Vec::new(alloc);
+    slots.push(NativeSlot::new(class, sig, effects, work))?;
     let mut reader = rt.reader();
     let mut writer = io::writer(rt);
-    match command(rt.alloc(), words, &mut reader, Natives::none(), &mut writer) {
-        Ok(status) => ExitCode::from(status),
-        Err(_) => ExitCode::FAILURE,
+    match command(alloc, words, &mut reader, Natives::of(slots), &mut writer) {
+        Ok(status) => Ok(ExitCode::from(status)),
+        Err(_) => Ok(ExitCode::FAILURE),
     }
 }
 
-/// There was no memory for the words.
+/// There was no memory for the words or the native.
 fn memory(rt: &HostRuntime) -> ExitCode {
     println!(rt; "memory").ok();
     ExitCode::FAILURE

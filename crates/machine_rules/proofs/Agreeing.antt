@@ -5,9 +5,8 @@ use Rattle.signatures.specs.declared.value.Value.{Value}
 use Rattle.texts.specs.declared.connection.ConnectionType.{ConnectionType}
 use Rattle.texts.specs.declared.connection.Endpoints.{Endpoints as Named}
 use Rattle.meta_model.specs.declared.object.MetaMethod.{MetaMethod}
-use Rattle.meta_model.specs.declared.object.Statement.{Statement}
 use Rattle.meta_model.specs.declared.object.Work.{Work}
-use Rattle.meta_model.specs.declared.object.Work.TheVariants.{Signal, Slot}
+use Rattle.meta_model.specs.declared.object.Work.TheVariants.{Signal, Slot, Native}
 use Rattle.meta_model.specs.Loaded.{Loaded}
 use Rattle.connections.specs.declared.connection.Connection.{Connection}
 use Rattle.event_loops.specs.declared.item.Item.{Item}
@@ -29,16 +28,17 @@ use Rattle.machine_state.specs.declared.endpoints.Endpoints.{Endpoints}
 use Rattle.machine_state.specs.declared.refusal.Refusal.{Refusal}
 use Rattle.machine_state.specs.declared.turn.Turn.{Turn}
 use Rattle.machine_state.specs.Connections.{is_living, next_used}
-use Rattle.machine_state.specs.State.{State, Activation, Body, Emit, Update, Destroy}
+use Rattle.machine_state.specs.State.{Step, Run, Act, State, Activation, Body, Emit, Update, Destroy}
 use Rattle.machine_state.specs.Turns.{running, reaches_at_once}
 use Rattle.machine_rules.specs.Connecting.{kept_ends, names_of}
 use Rattle.machine_rules.specs.Destroying.{Dies, NextRule, ChildRule, DestroyRule, living_child, DefersOnce, Schedules}
-use Rattle.machine_rules.specs.Doings.{Doing, Write, Begin, Choose, Connect, Disconnect, Delete, Schedule, Nothing}
+use Rattle.machine_rules.specs.Doings.{Doing, Write, Begin, Choose, Connect, Disconnect, Delete, Schedule, TakeAnswer, Nothing}
 use Rattle.machine_rules.specs.Good.{IsWell}
 use Rattle.machine_rules.specs.Rules.{RuleAt, BodyRule, Does, EmitRule, UpdateRule, NotifiesIf, TurnRule, Serves, Delivers, Arrives, BeginsIf, begun, with_used, linked, unlinked}
 use Rattle.machine_rules.specs.Runs.{Rules, done, then}
 use Rattle.machine_rules.specs.Settling.{Writes}
 use Rattle.machine_rules.proofs.Differing.{scheduled-agree}
+use Rattle.machine_rules.specs.Natives.{NativeAnswers}
 
 module _ {p : Loaded} {s t : State} (agree : Agree p s.objects s.bindings) (well : IsWell p s t) where
   -- it is a state in which they do
@@ -48,6 +48,7 @@ module _ {p : Loaded} {s t : State} (agree : Agree p s.objects s.bindings) (well
   begun-agrees : (u : State) (below : List Activation) (o : ℕ) (x : Object) (m : ℕ) (method : MetaMethod) (arguments : List Value) (work : Work) → Agree p u.objects u.bindings → t ≡ begun u below o x m method arguments work → Agree p t.objects t.bindings
   begun-agrees u below o x m method arguments Signal before e = agree-at _ e before
   begun-agrees u below o x m method arguments (Slot statements) before e = agree-at _ e before
+  begun-agrees u below o x m method arguments (Native effects) before e = agree-at _ e before
 
   -- a write settles the values
   writes-agrees : {below : List Activation} {o q : ℕ} {new : Value} → Writes p s below o q new t → Agree p t.objects t.bindings
@@ -96,19 +97,20 @@ module _ {p : Loaded} {s t : State} (agree : Agree p s.objects s.bindings) (well
       by_mark true e = agree-at _ e agree
       by_mark false d = agree-at _ d.gives (scheduled-agree p s.objects s.bindings x agree)
 
-  does-agrees : (o m : ℕ) (arguments : List Value) (rest : List Statement) (below : List Activation) (d : Doing) → Does p s o m arguments rest below d t → Agree p t.objects t.bindings
-  does-agrees o m arguments rest below (Write x q new) does = writes-agrees does
-  does-agrees o m arguments rest below (Begin x n given) does = begun-agrees s (Body o m arguments rest ∷ below) x does.object n does.method given does.method.work agree does.gives
-  does-agrees o m arguments rest below (Choose block) does = agree-at _ does agree
-  does-agrees o m arguments rest below (Connect ends how) does = linked-agrees (Body o m arguments rest ∷ below) (kept_ends ends) how (names_of does.kept) does.answer does.gives
-  does-agrees o m arguments rest below (Disconnect ends) does = unlinked-agrees (Body o m arguments rest ∷ below) (kept_ends ends) (names_of does.kept) does.answer does.gives
-  does-agrees o m arguments rest below (Delete x) does = agree-at _ does agree
-  does-agrees o m arguments rest below (Schedule x) does = schedules-agrees (Body o m arguments rest ∷ below) x (life_of s.objects x) does
-  does-agrees o m arguments rest below Nothing does = agree-at _ does agree
+  does-agrees : (natives : NativeAnswers) (o m : ℕ) (arguments : List Value) (rest : List Step) (below : List Activation) (d : Doing) → Does p natives s o m arguments rest below d t → Agree p t.objects t.bindings
+  does-agrees natives o m arguments rest below (Write x q new) does = writes-agrees does
+  does-agrees natives o m arguments rest below (Begin x n given) does = begun-agrees s (Body o m arguments rest ∷ below) x does.object n does.method given does.method.work agree does.gives
+  does-agrees natives o m arguments rest below (Choose block) does = agree-at _ does agree
+  does-agrees natives o m arguments rest below (Connect ends how) does = linked-agrees (Body o m arguments rest ∷ below) (kept_ends ends) how (names_of does.kept) does.answer does.gives
+  does-agrees natives o m arguments rest below (Disconnect ends) does = unlinked-agrees (Body o m arguments rest ∷ below) (kept_ends ends) (names_of does.kept) does.answer does.gives
+  does-agrees natives o m arguments rest below (Delete x) does = agree-at _ does agree
+  does-agrees natives o m arguments rest below (Schedule x) does = schedules-agrees (Body o m arguments rest ∷ below) x (life_of s.objects x) does
+  does-agrees natives o m arguments rest below (TakeAnswer effects) does = agree-at _ does.gives agree
+  does-agrees natives o m arguments rest below Nothing does = agree-at _ does agree
 
-  body-agrees : (o m : ℕ) (arguments : List Value) (below : List Activation) (left : List Statement) → BodyRule p s o m arguments below t left → Agree p t.objects t.bindings
-  body-agrees o m arguments below [] r = agree-at _ r agree
-  body-agrees o m arguments below (x ∷ rest) r = does-agrees o m arguments rest below r.what r.does
+  body-agrees : (natives : NativeAnswers) (o m : ℕ) (arguments : List Value) (below : List Activation) (left : List Step) → BodyRule p natives s o m arguments below t left → Agree p t.objects t.bindings
+  body-agrees natives o m arguments below [] r = agree-at _ r agree
+  body-agrees natives o m arguments below (x ∷ rest) r = does-agrees natives o m arguments rest below r.what r.does
 
   arrives-agrees : (u : State) (stack : List Activation) (home o : ℕ) (x : Object) (m : ℕ) (method : MetaMethod) (arguments : List Value) (b : Bool) → Agree p u.objects u.bindings → Arrives u stack home o x m method arguments t b → Agree p t.objects t.bindings
   arrives-agrees u stack home o x m method arguments true before r = begun-agrees u stack o x m method arguments method.work before r
@@ -143,14 +145,14 @@ module _ {p : Loaded} {s t : State} (agree : Agree p s.objects s.bindings) (well
       by_first None e = agree-at _ e agree
       by_first (Some q) d = delivers-agrees (record s { queues = taken_before turn.home turn.limit s.queues }) q.item agree d
 
-  pub rule-agrees : (stack : List Activation) → RuleAt p s t stack → Agree p t.objects t.bindings
-  rule-agrees [] r = turn-agrees s.turn r
-  rule-agrees (Body o m arguments left ∷ below) r = body-agrees o m arguments below left r
-  rule-agrees (Emit o g arguments used last ∷ below) r = emission-agrees o g arguments last below (next_used s.objects s.connected.connections o g used last) r
-  rule-agrees (Update places ∷ below) r = update-agrees below places r
-  rule-agrees (Destroy next torn ∷ below) r = destroy-agrees below next torn r
+  pub rule-agrees : (natives : NativeAnswers) (stack : List Activation) → RuleAt p natives s t stack → Agree p t.objects t.bindings
+  rule-agrees natives [] r = turn-agrees s.turn r
+  rule-agrees natives (Body o m arguments left ∷ below) r = body-agrees natives o m arguments below left r
+  rule-agrees natives (Emit o g arguments used last ∷ below) r = emission-agrees o g arguments last below (next_used s.objects s.connected.connections o g used last) r
+  rule-agrees natives (Update places ∷ below) r = update-agrees below places r
+  rule-agrees natives (Destroy next torn ∷ below) r = destroy-agrees below next torn r
 
 -- .. and so after runs of rules
-pub rules-settled : {p : Loaded} {d : ℕ} {s t : State} {n k : ℕ} → Rules p d s n t k → Agree p s.objects s.bindings → Agree p t.objects t.bindings
+pub rules-settled : {p : Loaded} {natives : NativeAnswers} {d : ℕ} {s t : State} {n k : ℕ} → Rules p natives d s n t k → Agree p s.objects s.bindings → Agree p t.objects t.bindings
 rules-settled done agree = agree
-rules-settled (then {s = s} r good rest) agree = rules-settled rest (rule-agrees agree good.well s.stack r)
+rules-settled {natives = natives} (then {s = s} r good rest) agree = rules-settled rest (rule-agrees agree good.well natives s.stack r)

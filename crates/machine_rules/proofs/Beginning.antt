@@ -6,7 +6,7 @@ use Rattle.signatures.specs.declared.value.Value.{Value}
 use Rattle.meta_model.specs.declared.object.MetaMethod.{MetaMethod}
 use Rattle.meta_model.specs.declared.object.ValueType.{ValueType}
 use Rattle.meta_model.specs.declared.object.Work.{Work}
-use Rattle.meta_model.specs.declared.object.Work.TheVariants.{Signal, Slot}
+use Rattle.meta_model.specs.declared.object.Work.TheVariants.{Signal, Slot, Native}
 use Rattle.meta_model.specs.Loaded.{Loaded}
 use Rattle.connections.specs.declared.connection.Connection.{Connection}
 use Rattle.machine_state.specs.declared.entry.Entry.{Entry}
@@ -32,13 +32,15 @@ use Rattle.object_tree.specs.Typed.{ReadAs}
 use Rattle.machine_rules.specs.Good.{ArgumentsFit, EmissionFits, of_living, of_dead, TopFits, IsWell}
 use Rattle.machine_rules.specs.Sound.{Sends, SendsThese, Joined, IsDelivered, AgreeIn}
 use Rattle.machine_state.specs.Worlds.{at, noted, having_used, posting, GoesTo}
-use Rattle.machine_rules.specs.Reaches.{Reaches, StopsIn, Ends, CallsIn, Calls, OnlyCalls, begin_entry, entry_of_post, top_of, IsBegun, IsBarred, PostsCall}
+use Rattle.machine_rules.specs.Reaches.{Reaches, StopsIn, RunsTo, CallsIn, Calls, OnlyCalls, begin_entry, entry_of_post, top_of, DoesWork, IsBegun, IsBarred, PostsCall}
 use Rattle.machine_rules.specs.Active.{shows}
 use Rattle.machine_rules.proofs.Frames.{high, shows-over}
 use Rattle.machine_rules.specs.There.{IsMember}
 use Rattle.machine_rules.proofs.Dying.{lives-not-dead}
 use Rattle.machine_rules.proofs.Reaching.{none-spared, same-spared, reaches-high, ends-after, ends-lifted, not-idle, ends-noted, stops-as, stops-memory, stops-deep, stops-ill, stops-stuck}
 use Rattle.machine_rules.proofs.Fields.{member-method, method-unique, read-front}
+use Rattle.machine_rules.specs.Doings.{Doing, Write, Begin, TakeAnswer}
+use Rattle.machine_rules.specs.Natives.{NativeAnswers}
 
 -- the world after a method began
 abbrev pub begun_world : World → ℕ → Object → ℕ → MetaMethod → List Value → World
@@ -48,6 +50,7 @@ begun-is : (w : World) (stack over : List Activation) (o : ℕ) (x : Object) (m 
     at (noted w (begin_entry (suc (length over)) x m method.sig.name (all_shown w.store.tree arguments) work ∷ [])) (top_of o m arguments w.store.connections.last work ∷ over) ≡ begun (at w stack) over o x m method arguments work
 begun-is w stack over o x m method arguments Signal = refl
 begun-is w stack over o x m method arguments (Slot statements) = refl
+begun-is w stack over o x m method arguments (Native effects) = refl
 
 -- a method that is there begins
 pub begins-there : {p : Loaded} {n o m : ℕ} {x : Object} {method : MetaMethod} (w : World) (arguments : List Value) (stack over : List Activation) → IsMember p w.store.tree o m x method → n ≡ suc (length over) →
@@ -68,6 +71,7 @@ one-more to below over e = omega (arith, high (to ++ below) (shows-over to below
 pub top-fits : {p : Loaded} {objects : List Object} {o m : ℕ} {arguments : List Value} (last : ℕ) (work : Work) (below : List Activation) → ArgumentsFit p objects o m arguments → TopFits p objects (top_of o m arguments last work ∷ below)
 top-fits last Signal below fit = of_living fit
 top-fits last (Slot statements) below fit = fit
+top-fits last (Native effects) below fit = fit
 
 emission-fits : {p : Loaded} {objects : List Object} {o m : ℕ} {x : Object} {method : MetaMethod} {arguments : List Value} → IsMember p objects o m x method → EmissionFits p objects o m arguments → ArgumentsFit p objects o m arguments
 emission-fits is (of_living fit) = fit
@@ -76,12 +80,13 @@ emission-fits is (of_dead gone g_is typed) = absurd (lives-not-dead is.lives gon
 fits-top : {p : Loaded} {objects : List Object} {o m : ℕ} {x : Object} {method : MetaMethod} {arguments : List Value} (last : ℕ) (work : Work) (below : List Activation) → IsMember p objects o m x method → TopFits p objects (top_of o m arguments last work ∷ below) → ArgumentsFit p objects o m arguments
 fits-top last Signal below is fit = emission-fits is fit
 fits-top last (Slot statements) below is fit = fit
+fits-top last (Native effects) below is fit = fit
 
-reaches-begun : {p : Loaded} {d o m : ℕ} {h active : List (Option ℕ)} {w u v : World} {from to : List Activation} {arguments : List Value} {line : Entry} {work : Work} {last : ℕ} →
-    active ≡ shows to ++ h → CallsIn p w u from to o m arguments → IsBegun p d active u o m arguments line work last → ArgumentsFit p u.store.tree o m arguments → AgreeIn p u → 0 < w.left → u.left ≡ w.left → v ≡ noted u (line ∷ []) →
-    Reaches p d h w from v (top_of o m arguments last work ∷ to)
-reaches-begun {p} {d} {o} {m} {h} {active} {w} {u} {v} {from} {to} {arguments} {line} {work} {last} over calls is fit agree some same v_is =
-    let Pushed : World → Work → ℕ → Type 0 = λ z k l. Reaches p d h w from z (top_of o m arguments l k ∷ to) in
+reaches-begun : {p : Loaded} {natives : NativeAnswers} {d o m : ℕ} {h active : List (Option ℕ)} {w u v : World} {from to : List Activation} {arguments : List Value} {line : Entry} {work : Work} {last : ℕ} →
+    active ≡ shows to ++ h → CallsIn p natives w u from to o m arguments → IsBegun p d active u o m arguments line work last → ArgumentsFit p u.store.tree o m arguments → AgreeIn p u → 0 < w.left → u.left ≡ w.left → v ≡ noted u (line ∷ []) →
+    Reaches p natives d h w from v (top_of o m arguments last work ∷ to)
+reaches-begun {p} {natives} {d} {o} {m} {h} {active} {w} {u} {v} {from} {to} {arguments} {line} {work} {last} over calls is fit agree some same v_is =
+    let Pushed : World → Work → ℕ → Type 0 = λ z k l. Reaches p natives d h w from z (top_of o m arguments l k ∷ to) in
     let target : World = begun_world u (length active + 1) is.object m is.method arguments in
     let target_is : v ≡ target = v_is ∙ ap (λ (y : Entry). noted u (y ∷ [])) is.is_line in
     let went : Pushed target is.method.work u.store.connections.last =
@@ -89,14 +94,14 @@ reaches-begun {p} {d} {o} {m} {h} {active} {w} {u} {v} {from} {to} {arguments} {
     subst (λ (z : World). Pushed z work last) (sym target_is) (subst (λ (k : Work). Pushed target k last) (sym is.is_work) (subst (λ (l : ℕ). Pushed target is.method.work l) (sym is.is_last) went))
 
 -- a method begins, and what it pushed runs
-pub ends-begun : {p : Loaded} {d o m : ℕ} {h active : List (Option ℕ)} {w u v z : World} {from to : List Activation} {arguments : List Value} {line : Entry} {work : Work} {last : ℕ} {r : Result (Unit {0}) Fault} →
-    active ≡ shows to ++ h → CallsIn p w u from to o m arguments → IsBegun p d active u o m arguments line work last → ArgumentsFit p u.store.tree o m arguments → AgreeIn p u → 0 < w.left → u.left ≡ w.left → v ≡ noted u (line ∷ []) →
-    Ends p d active v (top_of o m arguments last work ∷ []) z [] r → Ends p d h w from z to r
+pub ends-begun : {p : Loaded} {natives : NativeAnswers} {d o m : ℕ} {h active : List (Option ℕ)} {w u v z : World} {from to : List Activation} {arguments : List Value} {line : Entry} {work : Work} {last : ℕ} {r : Result (Unit {0}) Fault} →
+    active ≡ shows to ++ h → CallsIn p natives w u from to o m arguments → IsBegun p d active u o m arguments line work last → ArgumentsFit p u.store.tree o m arguments → AgreeIn p u → 0 < w.left → u.left ≡ w.left → v ≡ noted u (line ∷ []) →
+    RunsTo p natives d active v (top_of o m arguments last work ∷ []) z [] r → RunsTo p natives d h w from z to r
 ends-begun over calls is fit agree some same v_is x = ends-after (reaches-begun over calls is fit agree some same v_is) (ends-lifted over x)
 
 -- activations would nest too deep
-stops-begin : {p : Loaded} {d o m : ℕ} {h active : List (Option ℕ)} {w u : World} {from to : List Activation} {arguments : List Value} →
-    active ≡ shows to ++ h → CallsIn p w u from to o m arguments → ArgumentsFit p u.store.tree o m arguments → AgreeIn p u → 0 < w.left → d ≤ length active → StopsIn p d h w from w TooDeep
+stops-begin : {p : Loaded} {natives : NativeAnswers} {d o m : ℕ} {h active : List (Option ℕ)} {w u : World} {from to : List Activation} {arguments : List Value} →
+    active ≡ shows to ++ h → CallsIn p natives w u from to o m arguments → ArgumentsFit p u.store.tree o m arguments → AgreeIn p u → 0 < w.left → d ≤ length active → StopsIn p natives d h w from w TooDeep
 stops-begin {o = o} {m = m} {active = active} {w = w} {u = u} {from = from} {to = to} {arguments = arguments} over calls fit agree some deep =
     let target : World = begun_world u (length active + 1) fit.object m fit.method arguments in
     stops-deep some (λ below e. (
@@ -109,18 +114,19 @@ stops-begin {o = o} {m = m} {active = active} {w = w} {u = u} {from = from} {to 
     ))
 
 -- a method that fits doesn't begin
-pub stops-barred : {p : Loaded} {d o m : ℕ} {h active : List (Option ℕ)} {w u : World} {from to : List Activation} {arguments : List Value} {f : Fault} →
-    active ≡ shows to ++ h → CallsIn p w u from to o m arguments → ArgumentsFit p u.store.tree o m arguments → AgreeIn p u → 0 < w.left → IsBarred d active f → StopsIn p d h w from w f
+pub stops-barred : {p : Loaded} {natives : NativeAnswers} {d o m : ℕ} {h active : List (Option ℕ)} {w u : World} {from to : List Activation} {arguments : List Value} {f : Fault} →
+    active ≡ shows to ++ h → CallsIn p natives w u from to o m arguments → ArgumentsFit p u.store.tree o m arguments → AgreeIn p u → 0 < w.left → IsBarred d active f → StopsIn p natives d h w from w f
 stops-barred over calls fit agree some why = elim why [
   | inl deep ↦ stops-as deep.1 (stops-begin over calls fit agree some deep.0)
   | inr short ↦ stops-as short (stops-memory calls.goes_on some)
 ]
 
 -- there is no such method
-pub stops-no-member : {p : Loaded} {d o m : ℕ} {h : List (Option ℕ)} {w : World} {from to : List Activation} {arguments : List Value} →
-    Calls p w from to o m arguments → OnlyCalls p w from to o m arguments → ((x : Object) (method : MetaMethod) → ¬ IsMember p w.store.tree o m x method) → 0 < w.left → StopsIn p d h w from w BadType
-stops-no-member calls only none some =
-    stops-stuck calls.goes_on some (λ below t r. let b = only.begins below t r in none b.object b.method b.is) (λ below x q new next. absurd (only.writes_none below x q new next))
+pub stops-no-member : {p : Loaded} {natives : NativeAnswers} {d o m : ℕ} {h : List (Option ℕ)} {w : World} {from to : List Activation} {arguments : List Value} →
+    Calls p natives w from to o m arguments → OnlyCalls p natives w from to o m arguments → ((x : Object) (method : MetaMethod) → ¬ IsMember p w.store.tree o m x method) → 0 < w.left → StopsIn p natives d h w from w BadType
+stops-no-member {o = o} {m = m} {arguments = arguments} calls only none some =
+    stops-stuck calls.goes_on some (λ below t r. let b = only.begins below t r in none b.object b.method b.is) (λ below x q new next. let same : Write x q new ≡ Begin o m arguments = only.next below (Write x q new) next in absurd (cc same))
+    (λ below effects next. let same : TakeAnswer effects ≡ Begin o m arguments = only.next below (TakeAnswer effects) next in absurd (cc same))
 
 -- the arguments that fit are of the method's types
 fit-typed : {p : Loaded} {objects : List Object} {o m : ℕ} {x : Object} {method : MetaMethod} {arguments : List Value} → IsMember p objects o m x method → ArgumentsFit p objects o m arguments → ReadAs p objects arguments method.kinds
@@ -129,9 +135,9 @@ fit-typed {p} {objects} {o} {m} {x} {method} {arguments} is fit =
     subst Kinds (member-method fit.is is) fit.typed
 
 -- the arguments aren't of the method's types
-pub stops-ill-typed : {p : Loaded} {d o m : ℕ} {h : List (Option ℕ)} {w : World} {from to : List Activation} {x : Object} {method : MetaMethod} {arguments : List Value} →
-    Calls p w from to o m arguments → IsMember p w.store.tree o m x method → (¬ ReadAs p w.store.tree arguments method.kinds) → 0 < w.left → StopsIn p d h w from w BadType
-stops-ill-typed {p} {o = o} {m = m} {w = w} {from = from} {to = to} {x = x} {method = method} {arguments = arguments} calls is ill some =
+pub stops-ill-typed : {p : Loaded} {natives : NativeAnswers} {d o m : ℕ} {h : List (Option ℕ)} {w : World} {from to : List Activation} {x : Object} {method : MetaMethod} {arguments : List Value} →
+    Calls p natives w from to o m arguments → IsMember p w.store.tree o m x method → (¬ ReadAs p w.store.tree arguments method.kinds) → 0 < w.left → StopsIn p natives d h w from w BadType
+stops-ill-typed {p} {natives} {o = o} {m = m} {w = w} {from = from} {to = to} {x = x} {method = method} {arguments = arguments} calls is ill some =
     stops-ill some (λ below.
     let t : State = at (begun_world w (suc (length (to ++ below))) x m method arguments) (top_of o m arguments w.store.connections.last method.work ∷ to ++ below) in (
       t,
@@ -213,8 +219,8 @@ no-home {objects = objects} {o = o} is none =
     absurd (cc no)
 
 -- a connection that comes next begins its method, where it reaches its receiver at once
-pub delivery-calls : {p : Loaded} {w : World} {c : Connection} {x : Object} {method : MetaMethod} {arguments taken : List Value} {count : ℕ} (o g used last : ℕ) → next_used w.store.tree w.store.connections.connections o g used last ≡ Some c → IsMember p w.store.tree c.receiver c.method x method → taken ≡ take count arguments → count ≡ length method.kinds → {home : ℕ} → home_of w.store.tree c.receiver ≡ Some home → reaches_at_once c.kind home (running w.turn) ≡ true → CallsIn p w (having_used w c) (Emit o g arguments used last ∷ []) (Emit o g arguments c.number last ∷ []) c.receiver c.method taken
-delivery-calls {p} {w} {c} {x} {method} {arguments} {taken} {count} o g used last found is cut count_is {home} lives at_once = record {
+pub delivery-calls : {p : Loaded} {natives : NativeAnswers} {w : World} {c : Connection} {x : Object} {method : MetaMethod} {arguments taken : List Value} {count : ℕ} (o g used last : ℕ) → next_used w.store.tree w.store.connections.connections o g used last ≡ Some c → IsMember p w.store.tree c.receiver c.method x method → taken ≡ take count arguments → count ≡ length method.kinds → {home : ℕ} → home_of w.store.tree c.receiver ≡ Some home → reaches_at_once c.kind home (running w.turn) ≡ true → CallsIn p natives w (having_used w c) (Emit o g arguments used last ∷ []) (Emit o g arguments c.number last ∷ []) c.receiver c.method taken
+delivery-calls {p} {natives} {w} {c} {x} {method} {arguments} {taken} {count} o g used last found is cut count_is {home} lives at_once = record {
   no_lower = omega arith;
   objects = refl;
   goes_on = λ below. not-idle w _ below;
@@ -238,8 +244,8 @@ delivery-calls {p} {w} {c} {x} {method} {arguments} {taken} {count} o g used las
 }
 
 -- .. and else posts a call of it
-pub ends-posted : {p : Loaded} {d : ℕ} {h : List (Option ℕ)} {w v : World} {c : Connection} {x : Object} {method : MetaMethod} {arguments taken : List Value} {count : ℕ} (o g used last n : ℕ) (r : Result (Unit {0}) Fault) → next_used w.store.tree w.store.connections.connections o g used last ≡ Some c → IsMember p w.store.tree c.receiver c.method x method → taken ≡ take count arguments → count ≡ length method.kinds → {home : ℕ} → home_of w.store.tree c.receiver ≡ Some home → reaches_at_once c.kind home (running w.turn) ≡ false → length h < d → AgreeIn p w → 0 < w.left → n ≡ length h + 1 → PostsCall p w n c c.receiver c.method taken v r → Ends p d h w (Emit o g arguments used last ∷ []) v (Emit o g arguments c.number last ∷ []) r
-ends-posted {p} {w = w} {v = v} {c = c} {x = x} {method = method} {arguments = arguments} {taken = taken} o g used last n r found is cut count_is {home} lives later room agree some n_is posts =
+pub ends-posted : {p : Loaded} {natives : NativeAnswers} {d : ℕ} {h : List (Option ℕ)} {w v : World} {c : Connection} {x : Object} {method : MetaMethod} {arguments taken : List Value} {count : ℕ} (o g used last n : ℕ) (r : Result (Unit {0}) Fault) → next_used w.store.tree w.store.connections.connections o g used last ≡ Some c → IsMember p w.store.tree c.receiver c.method x method → taken ≡ take count arguments → count ≡ length method.kinds → {home : ℕ} → home_of w.store.tree c.receiver ≡ Some home → reaches_at_once c.kind home (running w.turn) ≡ false → length h < d → AgreeIn p w → 0 < w.left → n ≡ length h + 1 → PostsCall p w n c c.receiver c.method taken v r → RunsTo p natives d h w (Emit o g arguments used last ∷ []) v (Emit o g arguments c.number last ∷ []) r
+ends-posted {p} {natives} {w = w} {v = v} {c = c} {x = x} {method = method} {arguments = arguments} {taken = taken} o g used last n r found is cut count_is {home} lives later room agree some n_is posts =
     let target : World = posting (having_used w c) (entry_of_post w n posts.name posts.object posts.method taken ∷ []) posts.home (Call c.receiver c.method taken) in
     ends-noted target r
     (λ below k.
@@ -272,3 +278,11 @@ ends-posted {p} {w = w} {v = v} {c = c} {x = x} {method = method} {arguments = a
 pub not-true : (b : Bool) → b ≡ false → ¬ IsTrue b
 not-true true e h = absurd (cc e)
 not-true false e h = absurd (cc h)
+
+-- what is found of a method that may begin is what it does
+pub begun-work : {p : Loaded} {d o m : ℕ} {active : List (Option ℕ)} {w : World} {arguments : List Value} {line : Entry} {work : Work} {last : ℕ} → IsBegun p d active w o m arguments line work last → DoesWork p w.store.tree o m work
+begun-work x = record { object = x.object; method = x.method; is = x.is; is_work = x.is_work }
+
+-- .. also in a world with the same objects
+pub work-at : {p : Loaded} {o m : ℕ} {work : Work} {a b : List Object} → b ≡ a → DoesWork p a o m work → DoesWork p b o m work
+work-at {p} {o} {m} {work} same does = subst (λ (l : List Object). DoesWork p l o m work) (sym same) does

@@ -30,7 +30,7 @@ use Rattle.machine_rules.specs.Active.{shows, shows_body}
 use Rattle.machine_rules.specs.Destroying.{deleting, Dies, NextRule, ChildRule}
 use Rattle.machine_rules.specs.Good.{EmissionFits, of_dead, has_body, IsWell, Spares}
 use Rattle.machine_rules.specs.Keeps.{KeepsWorld}
-use Rattle.machine_rules.specs.Reaches.{Reaches, StopsIn, Ends, Deletes, Kills, entry_of_destroyed, Forgets}
+use Rattle.machine_rules.specs.Reaches.{Reaches, StopsIn, RunsTo, Deletes, Kills, entry_of_destroyed, Forgets}
 use Rattle.machine_rules.specs.Rules.{Rule}
 use Rattle.machine_rules.specs.There.{IsDead}
 use Rattle.machine_rules.proofs.Dying.{dead-no-life, died-dead, other-seen}
@@ -40,20 +40,21 @@ use Rattle.machine_rules.specs.Sound.{SendsThese}
 use Rattle.meta_model.specs.Sound.{IsSound}
 use Rattle.machine_rules.proofs.Frames.{high, has-shown}
 use Rattle.machine_rules.proofs.Reaching.{none-spared, reaches-low, reaches-high, stops-as, stops-memory, stops-steps, stops-deep, stops-fatal, ends-after, ends-lifted, not-idle}
+use Rattle.machine_rules.specs.Natives.{NativeAnswers}
 
 -- ---- a deletion begins
 
 -- .. and is carried out
-pub ends-deleting : {p : Loaded} {d x : ℕ} {h active : List (Option ℕ)} {w v u : World} {from to : List Activation} {r : Result (Unit {0}) Fault} → active ≡ shows to ++ h → Deletes p w from to x → length active < d → AgreeIn p w → Ticks w v (Ok tt) → Ends p d active v (Destroy (Some x) [] ∷ []) u [] r → Ends p d h w from u to r
-ends-deleting {p} {d} {x} {h} {active} {w} {v} {u} {from} {to} over deletes room agree ticks rest =
-    let Family : World → Type 0 = λ k. Reaches p d h w from k (Destroy (Some x) [] ∷ to) in
-    let went : Reaches p d h w from (ticked w) (Destroy (Some x) [] ∷ to) =
+pub ends-deleting : {p : Loaded} {natives : NativeAnswers} {d x : ℕ} {h active : List (Option ℕ)} {w v u : World} {from to : List Activation} {r : Result (Unit {0}) Fault} → active ≡ shows to ++ h → Deletes p natives w from to x → length active < d → AgreeIn p w → Ticks w v (Ok tt) → RunsTo p natives d active v (Destroy (Some x) [] ∷ []) u [] r → RunsTo p natives d h w from u to r
+ends-deleting {p} {natives} {d} {x} {h} {active} {w} {v} {u} {from} {to} over deletes room agree ticks rest =
+    let Family : World → Type 0 = λ k. Reaches p natives d h w from k (Destroy (Some x) [] ∷ to) in
+    let went : Reaches p natives d h w from (ticked w) (Destroy (Some x) [] ∷ to) =
     reaches-high over (λ below e. deletes.gives below) (λ below e. none-spared w.store.tree w.store.tree (from ++ below) (λ o gone. gone)) (λ below. tt) room agree refl ticks.0 in
     ends-after (subst Family (sym ticks.1) went) (ends-lifted over rest)
 
 -- .. or activations would nest too deep
-pub stops-deleting : {p : Loaded} {d x : ℕ} {h active : List (Option ℕ)} {w : World} {from to : List Activation} → active ≡ shows to ++ h → Deletes p w from to x → AgreeIn p w → 0 < w.left → d ≤ length active → StopsIn p d h w from w TooDeep
-stops-deleting {p} {d} {x} {h} {active} {w} {from} {to} over deletes agree some deep =
+pub stops-deleting : {p : Loaded} {natives : NativeAnswers} {d x : ℕ} {h active : List (Option ℕ)} {w : World} {from to : List Activation} → active ≡ shows to ++ h → Deletes p natives w from to x → AgreeIn p w → 0 < w.left → d ≤ length active → StopsIn p natives d h w from w TooDeep
+stops-deleting {p} {natives} {d} {x} {h} {active} {w} {from} {to} over deletes agree some deep =
     stops-deep some (λ below e. (
       deleting (at w (from ++ below)) (to ++ below) x,
       deletes.gives below,
@@ -96,15 +97,15 @@ unbodied-spared objects x stack none o body gone = ⊎_elim
 bodiless : (x : ℕ) {active : List (Option ℕ)} (below : List Activation) → shows below ≡ active → shows_body x active ≡ false → has_body x below ≡ false
 bodiless x below e none = has-shown x below ∙ ap (shows_body x) e ∙ none
 
-died-next : {p : Loaded} {w : World} {next : Option ℕ} {before torn : List ℕ} {x n : ℕ} {name : List ℕ} (below : List Activation) → Kills p w next before torn x → name_of w.store.tree x ≡ Some name → n ≡ suc (length below) → Rule p (at w (Destroy next before ∷ below)) (at (died_world w n x name) (announced w x ∷ Destroy (Some x) torn ∷ below))
-died-next {p} {w} {next} {before} {torn} {x} below kills named depth_is = kills.gives below _ (dies-there w (Destroy next before ∷ below) (Destroy (Some x) torn ∷ below) named depth_is)
+died-next : {p : Loaded} {natives : NativeAnswers} {w : World} {next : Option ℕ} {before torn : List ℕ} {x n : ℕ} {name : List ℕ} (below : List Activation) → Kills p natives w next before torn x → name_of w.store.tree x ≡ Some name → n ≡ suc (length below) → Rule p natives (at w (Destroy next before ∷ below)) (at (died_world w n x name) (announced w x ∷ Destroy (Some x) torn ∷ below))
+died-next {p} {natives} {w} {next} {before} {torn} {x} below kills named depth_is = kills.gives below _ (dies-there w (Destroy next before ∷ below) (Destroy (Some x) torn ∷ below) named depth_is)
 
-module _ {p : Loaded} {d : ℕ} {active : List (Option ℕ)} {w : World} {next : Option ℕ} {before torn : List ℕ} {x : ℕ} {name : List ℕ} (kills : Kills p w next before torn x) (named : name_of w.store.tree x ≡ Some name) (agree : AgreeIn p w) (some : 0 < w.left) where
+module _ {p : Loaded} {natives : NativeAnswers} {d : ℕ} {active : List (Option ℕ)} {w : World} {next : Option ℕ} {before torn : List ℕ} {x : ℕ} {name : List ℕ} (kills : Kills p natives w next before torn x) (named : name_of w.store.tree x ≡ Some name) (agree : AgreeIn p w) (some : 0 < w.left) where
   -- it dies by one rule
-  pub reaches-died : {v : World} {n last : ℕ} → shows_body x active ≡ false → suc (length active) < d → n ≡ suc (length active) → last ≡ w.store.connections.last → v ≡ died_world w n x name → Reaches p d active w (Destroy next before ∷ []) v (Emit x DESTROYED (value.Ref None ∷ []) 0 last ∷ Destroy (Some x) torn ∷ [])
+  pub reaches-died : {v : World} {n last : ℕ} → shows_body x active ≡ false → suc (length active) < d → n ≡ suc (length active) → last ≡ w.store.connections.last → v ≡ died_world w n x name → Reaches p natives d active w (Destroy next before ∷ []) v (Emit x DESTROYED (value.Ref None ∷ []) 0 last ∷ Destroy (Some x) torn ∷ [])
   reaches-died {v} {n} {last} none room n_is last_is v_is =
       let target : World = died_world w n x name in
-      let Family : World → ℕ → Type 0 = λ u l. Reaches p d active w (Destroy next before ∷ []) u (Emit x DESTROYED (value.Ref None ∷ []) 0 l ∷ Destroy (Some x) torn ∷ []) in
+      let Family : World → ℕ → Type 0 = λ u l. Reaches p natives d active w (Destroy next before ∷ []) u (Emit x DESTROYED (value.Ref None ∷ []) 0 l ∷ Destroy (Some x) torn ∷ []) in
       let went : Family target w.store.connections.last =
       reaches-high {active = None ∷ active} {from = Destroy next before ∷ []} {to = Destroy (Some x) torn ∷ []} refl
       (λ below e. died-next below kills named (omega (arith, n_is, high below e)))
@@ -114,7 +115,7 @@ module _ {p : Loaded} {d : ℕ} {active : List (Option ℕ)} {w : World} {next :
       subst (λ (u : World). Family u last) (sym v_is) (subst (λ (l : ℕ). Family target l) (sym last_is) went)
 
   -- a body of it is active
-  pub stops-in-use : is_living w.store.tree x ≡ true → shows_body x active ≡ true → StopsIn p d active w (Destroy next before ∷ []) w InUse
+  pub stops-in-use : is_living w.store.tree x ≡ true → shows_body x active ≡ true → StopsIn p natives d active w (Destroy next before ∷ []) w InUse
   stops-in-use lives bodied = stops-fatal some (λ below e.
       let s : State = at w (Destroy next before ∷ below) in
       let t : State = at (died_world w (suc (length below)) x name) (announced w x ∷ Destroy (Some x) torn ∷ below) in
@@ -127,7 +128,7 @@ module _ {p : Loaded} {d : ℕ} {active : List (Option ℕ)} {w : World} {next :
       living-dead objects o lives gone = let none : is_some (life_of objects o) ≡ false = ap (λ (life : Option Life). is_some life) (dead-no-life objects o gone) in let no : true ≡ false = sym lives ∙ none in absurd (cc no)
 
   -- activations would nest too deep
-  pub stops-announcing : shows_body x active ≡ false → d ≤ suc (length active) → StopsIn p d active w (Destroy next before ∷ []) w TooDeep
+  pub stops-announcing : shows_body x active ≡ false → d ≤ suc (length active) → StopsIn p natives d active w (Destroy next before ∷ []) w TooDeep
   stops-announcing none deep = stops-deep some (λ below e.
       let s : State = at w (Destroy next before ∷ below) in
       let t : State = at (died_world w (suc (length below)) x name) (announced w x ∷ Destroy (Some x) torn ∷ below) in
@@ -164,7 +165,7 @@ dead-after {v = v} x gone keeps = ap (λ (life : Option Life). is_some life) (de
 -- ---- the rules of a deletion
 
 -- the object that is deleted may die by the first rule, if it lives
-pub kills-first : {p : Loaded} (w : World) (x : ℕ) (torn : List ℕ) → is_living w.store.tree x ≡ true → Kills p w (Some x) torn torn x
+pub kills-first : {p : Loaded} {natives : NativeAnswers} (w : World) (x : ℕ) (torn : List ℕ) → is_living w.store.tree x ≡ true → Kills p natives w (Some x) torn torn x
 kills-first w x torn lives = record {
   gives = λ below t dies.
       let Next : Bool → Type 0 = λ b. NextRule (at w (Destroy (Some x) torn ∷ below)) below t x torn b in
@@ -172,35 +173,35 @@ kills-first w x torn lives = record {
 }
 
 -- .. and so may a child
-pub kills-child : {p : Loaded} (w : World) (parent child : ℕ) (torn : List ℕ) → find (is_living w.store.tree) (children_of w.store.tree parent) ≡ Some child → Kills p w None (parent ∷ torn) (parent ∷ torn) child
+pub kills-child : {p : Loaded} {natives : NativeAnswers} (w : World) (parent child : ℕ) (torn : List ℕ) → find (is_living w.store.tree) (children_of w.store.tree parent) ≡ Some child → Kills p natives w None (parent ∷ torn) (parent ∷ torn) child
 kills-child w parent child torn found = record {
   gives = λ below t dies.
       let Next : Option ℕ → Type 0 = λ c. ChildRule (at w (Destroy None (parent ∷ torn) ∷ below)) below t parent torn c in
       subst Next (sym found) dies;
 }
 
-module _ {p : Loaded} {d : ℕ} {active : List (Option ℕ)} {w v : World} (room : length active < d) (agree : AgreeIn p w) where
+module _ {p : Loaded} {natives : NativeAnswers} {d : ℕ} {active : List (Option ℕ)} {w v : World} (room : length active < d) (agree : AgreeIn p w) where
   -- a dead object is forgotten
-  pub reaches-forgotten : (x : ℕ) (torn : List ℕ) → is_living w.store.tree x ≡ false → 0 < w.left → v ≡ ending w x → Reaches p d active w (Destroy (Some x) torn ∷ []) v (Destroy None (x ∷ torn) ∷ [])
+  pub reaches-forgotten : (x : ℕ) (torn : List ℕ) → is_living w.store.tree x ≡ false → 0 < w.left → v ≡ ending w x → Reaches p natives d active w (Destroy (Some x) torn ∷ []) v (Destroy None (x ∷ torn) ∷ [])
   reaches-forgotten x torn gone some v_is =
       let target : World = ending w x in
-      let Family : World → Type 0 = λ u. Reaches p d active w (Destroy (Some x) torn ∷ []) u (Destroy None (x ∷ torn) ∷ []) in
+      let Family : World → Type 0 = λ u. Reaches p natives d active w (Destroy (Some x) torn ∷ []) u (Destroy None (x ∷ torn) ∷ []) in
       subst Family (sym v_is) (reaches-low {b = Destroy None (x ∷ torn) ∷ []}
       (λ below e. let Next : Bool → Type 0 = λ b. NextRule (at w (Destroy (Some x) torn ∷ below)) below (at target (Destroy None (x ∷ torn) ∷ below)) x torn b in subst Next (sym gone) refl)
       (λ o dead. dead) (omega arith) (omega (arith, room)) agree refl some)
 
   -- one without children left isn't torn down any more
-  pub reaches-torn : (parent : ℕ) (torn : List ℕ) → find (is_living w.store.tree) (children_of w.store.tree parent) ≡ None → Ticks w v (Ok tt) → Reaches p d active w (Destroy None (parent ∷ torn) ∷ []) v (Destroy None torn ∷ [])
+  pub reaches-torn : (parent : ℕ) (torn : List ℕ) → find (is_living w.store.tree) (children_of w.store.tree parent) ≡ None → Ticks w v (Ok tt) → Reaches p natives d active w (Destroy None (parent ∷ torn) ∷ []) v (Destroy None torn ∷ [])
   reaches-torn parent torn none ticks =
-      let Family : World → Type 0 = λ u. Reaches p d active w (Destroy None (parent ∷ torn) ∷ []) u (Destroy None torn ∷ []) in
+      let Family : World → Type 0 = λ u. Reaches p natives d active w (Destroy None (parent ∷ torn) ∷ []) u (Destroy None torn ∷ []) in
       subst Family (sym ticks.1) (reaches-low {b = Destroy None torn ∷ []}
       (λ below e. let Next : Option ℕ → Type 0 = λ c. ChildRule (at w (Destroy None (parent ∷ torn) ∷ below)) below (at (ticked w) (Destroy None torn ∷ below)) parent torn c in subst Next (sym none) refl)
       (λ o dead. dead) (omega arith) (omega (arith, room)) agree refl ticks.0)
 
 -- it isn't forgotten, since no rule is left or memory was refused
-pub stops-forgetting : {p : Loaded} {d : ℕ} {active : List (Option ℕ)} {w v : World} {a : Activation} (x : ℕ) (torn after : List ℕ) (f : Fault) → Forgets w torn x v after (Err f) → StopsIn p d active w (a ∷ []) v f
-stops-forgetting {p} {d} {active} {w} {v} {a} x torn after f forgets =
-    let Family : World → Type 0 = λ u. StopsIn p d active w (a ∷ []) u f in
+pub stops-forgetting : {p : Loaded} {natives : NativeAnswers} {d : ℕ} {active : List (Option ℕ)} {w v : World} {a : Activation} (x : ℕ) (torn after : List ℕ) (f : Fault) → Forgets w torn x v after (Err f) → StopsIn p natives d active w (a ∷ []) v f
+stops-forgetting {p} {natives} {d} {active} {w} {v} {a} x torn after f forgets =
+    let Family : World → Type 0 = λ u. StopsIn p natives d active w (a ∷ []) u f in
     subst Family (sym forgets.0) (elim forgets.1 [
       | inl undue ↦ stops-as undue.1 (stops-steps undue.0)
       | inr short ↦ stops-as short.1 (stops-memory (not-idle w a) short.0)
@@ -268,26 +269,26 @@ next-child objects torn front parent found e is lives =
         let same : y ≡ x = cc k in
         subst (λ (o : ℕ). is_living objects o ≡ true) same (child-lives objects some.parent y some.child)
 
-module _ {p : Loaded} (w : World) (torn : List ℕ) (some : 0 < length torn) (found : Option ℕ) (is : found ≡ next_in w.store.tree torn) (lives : MatchOption found (NoneIsNext w.store.tree torn) (IsNext w.store.tree torn)) where
+module _ {p : Loaded} {natives : NativeAnswers} (w : World) (torn : List ℕ) (some : 0 < length torn) (found : Option ℕ) (is : found ≡ next_in w.store.tree torn) (lives : MatchOption found (NoneIsNext w.store.tree torn) (IsNext w.store.tree torn)) where
   -- .. it may die by the next rule
-  pub kills-next : (child : ℕ) → found ≡ Some child → Kills p w None (reverse torn) (reverse torn) child
+  pub kills-next : (child : ℕ) → found ≡ Some child → Kills p natives w None (reverse torn) (reverse torn) child
   kills-next child e =
       let q = ends-with torn some in
-      let Over : List ℕ → Type 0 = λ l. Kills p w None l l child in
+      let Over : List ℕ → Type 0 = λ l. Kills p natives w None l l child in
       subst Over (sym (turned torn q.0 q.1 q.2)) (kills-child w q.1 child (reverse q.0) (next-child w.store.tree torn q.0 q.1 found q.2 is lives ∙ e))
 
   -- .. or the latest has none left
-  pub reaches-next : {d : ℕ} {active : List (Option ℕ)} {v : World} (rest : List ℕ) → length active < d → AgreeIn p w → found ≡ None → rest ≡ take (length torn - 1) torn → Ticks w v (Ok tt) → Reaches p d active w (Destroy None (reverse torn) ∷ []) v (Destroy None (reverse rest) ∷ [])
+  pub reaches-next : {d : ℕ} {active : List (Option ℕ)} {v : World} (rest : List ℕ) → length active < d → AgreeIn p w → found ≡ None → rest ≡ take (length torn - 1) torn → Ticks w v (Ok tt) → Reaches p natives d active w (Destroy None (reverse torn) ∷ []) v (Destroy None (reverse rest) ∷ [])
   reaches-next {d} {active} {v} rest room agree e rest_is ticks =
       let q = ends-with torn some in
-      let From : List ℕ → List ℕ → Type 0 = λ l m. Reaches p d active w (Destroy None l ∷ []) v (Destroy None (reverse m) ∷ []) in
+      let From : List ℕ → List ℕ → Type 0 = λ l m. Reaches p natives d active w (Destroy None l ∷ []) v (Destroy None (reverse m) ∷ []) in
       let went : From (q.1 ∷ reverse q.0) q.0 = reaches-torn room agree q.1 (reverse q.0) (next-child w.store.tree torn q.0 q.1 found q.2 is lives ∙ e) ticks in
       subst (λ (l : List ℕ). From l rest) (sym (turned torn q.0 q.1 q.2)) (subst (λ (m : List ℕ). From (q.1 ∷ reverse q.0) m) (sym (popped-is torn rest q.0 q.1 q.2 rest_is)) went)
 
 -- a dead object is forgotten, and is the latest that is torn down
-pub reaches-latest : {p : Loaded} {d : ℕ} {active : List (Option ℕ)} {w v : World} (x : ℕ) (torn after : List ℕ) → length active < d → AgreeIn p w → is_living w.store.tree x ≡ false → Forgets w torn x v after (Ok tt) → Reaches p d active w (Destroy (Some x) (reverse torn) ∷ []) v (Destroy None (reverse after) ∷ [])
-reaches-latest {p} {d} {active} {w} {v} x torn after room agree gone forgets =
-    let To : List ℕ → Type 0 = λ l. Reaches p d active w (Destroy (Some x) (reverse torn) ∷ []) v (Destroy None l ∷ []) in
+pub reaches-latest : {p : Loaded} {natives : NativeAnswers} {d : ℕ} {active : List (Option ℕ)} {w v : World} (x : ℕ) (torn after : List ℕ) → length active < d → AgreeIn p w → is_living w.store.tree x ≡ false → Forgets w torn x v after (Ok tt) → Reaches p natives d active w (Destroy (Some x) (reverse torn) ∷ []) v (Destroy None (reverse after) ∷ [])
+reaches-latest {p} {natives} {d} {active} {w} {v} x torn after room agree gone forgets =
+    let To : List ℕ → Type 0 = λ l. Reaches p natives d active w (Destroy (Some x) (reverse torn) ∷ []) v (Destroy None l ∷ []) in
     subst To (sym (turned after torn x forgets.2)) (reaches-forgotten room agree x (reverse torn) gone forgets.0 forgets.1)
 
 -- by which a rule is used

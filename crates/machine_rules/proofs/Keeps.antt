@@ -2,9 +2,8 @@
 use Rattle.std.proofs.Common.{◌≡◌, ◌⊎◌, inl, inr, ℕ, suc, ◌+◌, List, [], ◌∷◌, ◌++◌, Option, Some, None, refl, sym, ap, ◌∙◌, subst, arith, Result, Ok, Err, append_assoc, append-nil, ◌<◌, ◌≤◌, Bool, true, false, length, map}
 use Rattle.signatures.specs.declared.value.Value.{Value}
 use Rattle.meta_model.specs.Loaded.{Loaded}
-use Rattle.meta_model.specs.declared.object.Statement.{Statement}
 use Rattle.meta_model.specs.declared.object.Work.{Work}
-use Rattle.meta_model.specs.declared.object.Work.TheVariants.{Signal, Slot}
+use Rattle.meta_model.specs.declared.object.Work.TheVariants.{Signal, Slot, Native}
 use Rattle.meta_model.specs.declared.object.MetaMethod.{MetaMethod}
 use Rattle.std.specs.List.{AllByRecursion, find}
 use Rattle.event_loops.specs.declared.item.Item.{Item}
@@ -18,10 +17,10 @@ use Rattle.machine_state.specs.declared.world.World.{World}
 use Rattle.machine_state.specs.Worlds.{at}
 use Rattle.machine_state.proofs.Due.{last-used, all-used, all-removed}
 use Rattle.prop_bindings.specs.declared.place.Place.{Place}
-use Rattle.machine_state.specs.State.{State, Activation, Body, Emit, Update, Destroy}
+use Rattle.machine_state.specs.State.{Step, Run, Act, State, Activation, Body, Emit, Update, Destroy}
 use Rattle.machine_rules.specs.Destroying.{Dies, forgotten, deferred, NextRule, ChildRule, DestroyRule, living_child, DefersOnce, Schedules}
 use Rattle.machine_rules.specs.Rules.{RuleAt, BodyRule, Does, EmitRule, UpdateRule, NotifiesIf, Begins, BeginsIf, begun, with_used, linked, unlinked, TurnRule, Serves, Delivers, Arrives}
-use Rattle.machine_rules.specs.Doings.{Doing, Write, Begin, Choose, Connect, Disconnect, Delete, Schedule, Nothing}
+use Rattle.machine_rules.specs.Doings.{Doing, Write, Begin, Choose, Connect, Disconnect, Delete, Schedule, TakeAnswer, Nothing}
 use Rattle.machine_state.specs.Connections.{is_living, next_used, joins_these}
 use Rattle.connections.specs.Connected.{touches}
 use Rattle.machine_state.specs.declared.turn.Turn.{Turn}
@@ -59,6 +58,7 @@ use Rattle.prop_bindings.specs.Fits.{Agree}
 use Rattle.machine_rules.specs.Keeps.{StayThere, AllJoined, Grows, Keeps, KeepsWorld}
 use Rattle.object_tree.proofs.TypedObjects.{Follow, read-still}
 use Rattle.std.specs.Option.{option_map}
+use Rattle.machine_rules.specs.Natives.{NativeAnswers}
 
 -- ---- objects that stay
 
@@ -205,6 +205,7 @@ used-kept {p = p} {s = s} c = record {
 begun-kept : (p : Loaded) (s : State) (below : List Activation) (o : ℕ) (x : Object) (m : ℕ) (method : MetaMethod) (arguments : List Value) (work : Work) (t : State) → t ≡ begun s below o x m method arguments work → Keeps p s 1 t 0
 begun-kept p s below o x m method arguments Signal t e = keeps-is e (keeps-all _ (grows-by _))
 begun-kept p s below o x m method arguments (Slot statements) t e = keeps-is e (keeps-all _ (grows-by _))
+begun-kept p s below o x m method arguments (Native effects) t e = keeps-is e (keeps-all _ (grows-by _))
 
 pub begins-kept : {p : Loaded} {s : State} {below : List Activation} {o m : ℕ} {arguments : List Value} {t : State} → Begins p s below o m arguments t → Keeps p s 1 t 0
 begins-kept {p = p} {s = s} {below = below} {o = o} {m = m} {arguments = arguments} {t = t} x = begun-kept p s below o x.object m x.method arguments x.method.work t x.gives
@@ -342,21 +343,22 @@ schedules-kept p s stack x t (Some l) r = by_mark l.scheduled r
 
 -- ---- bodies
 
-does-kept : (p : Loaded) (s : State) (o m : ℕ) (arguments : List Value) (rest : List Statement) (below : List Activation) (d : Doing) (t : State) → Does p s o m arguments rest below d t → Keeps p s 1 t 0
-does-kept p s o m arguments rest below (Write x q new) t does = writes-kept does
-does-kept p s o m arguments rest below (Begin x n given) t does = begins-kept does
-does-kept p s o m arguments rest below (Choose block) t does = keeps-is does (keeps-all _ (grows-same s.trace))
-does-kept p s o m arguments rest below (Connect ends how) t does =
+does-kept : (p : Loaded) (natives : NativeAnswers) (s : State) (o m : ℕ) (arguments : List Value) (rest : List Step) (below : List Activation) (d : Doing) (t : State) → Does p natives s o m arguments rest below d t → Keeps p s 1 t 0
+does-kept p natives s o m arguments rest below (Write x q new) t does = writes-kept does
+does-kept p natives s o m arguments rest below (Begin x n given) t does = begins-kept does
+does-kept p natives s o m arguments rest below (Choose block) t does = keeps-is does (keeps-all _ (grows-same s.trace))
+does-kept p natives s o m arguments rest below (Connect ends how) t does =
     keeps-is does.gives (linked-kept p s (Body o m arguments rest ∷ below) ends how (names_of does.kept) does.spelled does.answer does.judged)
-does-kept p s o m arguments rest below (Disconnect ends) t does =
+does-kept p natives s o m arguments rest below (Disconnect ends) t does =
     keeps-is does.gives (unlinked-kept p s (Body o m arguments rest ∷ below) (kept_ends ends) (names_of does.kept) does.answer)
-does-kept p s o m arguments rest below (Delete x) t does = keeps-is does (keeps-all _ (grows-same s.trace))
-does-kept p s o m arguments rest below (Schedule x) t does = schedules-kept p s (Body o m arguments rest ∷ below) x t (life_of s.objects x) does
-does-kept p s o m arguments rest below Nothing t does = keeps-is does (keeps-all _ (grows-by _))
+does-kept p natives s o m arguments rest below (Delete x) t does = keeps-is does (keeps-all _ (grows-same s.trace))
+does-kept p natives s o m arguments rest below (Schedule x) t does = schedules-kept p s (Body o m arguments rest ∷ below) x t (life_of s.objects x) does
+does-kept p natives s o m arguments rest below (TakeAnswer effects) t does = keeps-is does.gives (keeps-all _ (grows-by _))
+does-kept p natives s o m arguments rest below Nothing t does = keeps-is does (keeps-all _ (grows-by _))
 
-body-kept : (p : Loaded) (s : State) (o m : ℕ) (arguments : List Value) (below : List Activation) (t : State) (left : List Statement) → BodyRule p s o m arguments below t left → Keeps p s 1 t 0
-body-kept p s o m arguments below t [] r = keeps-is r (keeps-all _ (grows-same s.trace))
-body-kept p s o m arguments below t (x ∷ rest) r = does-kept p s o m arguments rest below r.what t r.does
+body-kept : (p : Loaded) (natives : NativeAnswers) (s : State) (o m : ℕ) (arguments : List Value) (below : List Activation) (t : State) (left : List Step) → BodyRule p natives s o m arguments below t left → Keeps p s 1 t 0
+body-kept p natives s o m arguments below t [] r = keeps-is r (keeps-all _ (grows-same s.trace))
+body-kept p natives s o m arguments below t (x ∷ rest) r = does-kept p natives s o m arguments rest below r.what t r.does
 
 -- objects and connections are those that they were, and other items wait in the loops
 queues-kept : {p : Loaded} {s : State} {n : ℕ} (queues : Queues) (stack : List Activation) {trace : List Entry} → length queues.loops ≡ length s.queues.loops → queues.posted ≤ s.queues.posted + 1 → Grows s.trace trace → Keeps p s (suc n) (record s { queues = queues; stack = stack; trace = trace }) n
@@ -421,24 +423,24 @@ turn-kept : (p : Loaded) (s t : State) (turn : Option Turn) → TurnRule p s t t
 turn-kept p s t None r = absurd r
 turn-kept p s t (Some turn) r = serves-kept p s t turn (find (is_before turn.limit) (items_at s.queues.loops turn.home)) r
 
-pub rule-kept : (p : Loaded) (s t : State) (stack : List Activation) → RuleAt p s t stack → Keeps p s 1 t 0
-rule-kept p s t [] r = turn-kept p s t s.turn r
-rule-kept p s t (Body o m arguments left ∷ below) r = body-kept p s o m arguments below t left r
-rule-kept p s t (Emit o g arguments used last ∷ below) r = emit-kept p s o g arguments last below t (next_used s.objects s.connected.connections o g used last) r
-rule-kept p s t (Update places ∷ below) r = update-kept p s below t places r
-rule-kept p s t (Destroy next torn ∷ below) r = destroy-kept p s below t next torn r
+pub rule-kept : (p : Loaded) (natives : NativeAnswers) (s t : State) (stack : List Activation) → RuleAt p natives s t stack → Keeps p s 1 t 0
+rule-kept p natives s t [] r = turn-kept p s t s.turn r
+rule-kept p natives s t (Body o m arguments left ∷ below) r = body-kept p natives s o m arguments below t left r
+rule-kept p natives s t (Emit o g arguments used last ∷ below) r = emit-kept p s o g arguments last below t (next_used s.objects s.connected.connections o g used last) r
+rule-kept p natives s t (Update places ∷ below) r = update-kept p s below t places r
+rule-kept p natives s t (Destroy next torn ∷ below) r = destroy-kept p s below t next torn r
 
 -- a rule, whatever is left after it
 one-kept : {p : Loaded} {s t : State} (n : ℕ) → Keeps p s 1 t 0 → Keeps p s (suc n) t n
 one-kept n x = record { objects = x.objects; joined = x.joined; connected = x.connected; paid = omega (arith, x.paid); housed = x.housed; posted = omega (arith, x.posted); no_turn = x.no_turn; events = x.events; fewer = omega arith; grows = x.grows }
 
 -- so do runs of rules
-pub rules-kept : {p : Loaded} {d : ℕ} {s t : State} {n k : ℕ} → Rules p d s n t k → Keeps p s n t k
+pub rules-kept : {p : Loaded} {natives : NativeAnswers} {d : ℕ} {s t : State} {n k : ℕ} → Rules p natives d s n t k → Keeps p s n t k
 rules-kept done = keeps-same
-rules-kept {p} (then {s = s} {m = m} {n = n} r good rest) = keeps-then (one-kept n (rule-kept p s m s.stack r)) (rules-kept rest)
+rules-kept {p} {natives} (then {s = s} {m = m} {n = n} r good rest) = keeps-then (one-kept n (rule-kept p natives s m s.stack r)) (rules-kept rest)
 
 -- .. and properties and bindings agree after each
-pub rules-agree : {p : Loaded} {d : ℕ} {s t : State} {n k : ℕ} → Rules p d s n t k → Agree p s.objects s.bindings → Agree p t.objects t.bindings
+pub rules-agree : {p : Loaded} {natives : NativeAnswers} {d : ℕ} {s t : State} {n k : ℕ} → Rules p natives d s n t k → Agree p s.objects s.bindings → Agree p t.objects t.bindings
 rules-agree done agree = agree
 rules-agree (then r good rest) agree = rules-agree rest good.agree
 
@@ -467,8 +469,8 @@ some-all P each (body ∷ shown) = (each body, some-all P each shown)
 keeps-world : {p : Loaded} {w v : World} {a b : List Activation} → Keeps p (at w a) w.left (at v b) v.left → KeepsWorld p w v
 keeps-world x = record { objects = x.objects; joined = x.joined; connected = x.connected; paid = x.paid; housed = x.housed; posted = x.posted; no_turn = x.no_turn; events = x.events; fewer = x.fewer; grows = x.grows }
 
-pub reaches-keeps : {p : Loaded} {d : ℕ} {h : List (Option ℕ)} {w v : World} {a b : List Activation} → Reaches p d h w a v b → KeepsWorld p w v
+pub reaches-keeps : {p : Loaded} {natives : NativeAnswers} {d : ℕ} {h : List (Option ℕ)} {w v : World} {a b : List Activation} → Reaches p natives d h w a v b → KeepsWorld p w v
 reaches-keeps {h = h} x = let q = some-stack h in keeps-world (rules-kept (x.runs q.0 q.1))
 
-pub reaches-agree : {p : Loaded} {d : ℕ} {h : List (Option ℕ)} {w v : World} {a b : List Activation} → Reaches p d h w a v b → AgreeIn p w → AgreeIn p v
+pub reaches-agree : {p : Loaded} {natives : NativeAnswers} {d : ℕ} {h : List (Option ℕ)} {w v : World} {a b : List Activation} → Reaches p natives d h w a v b → AgreeIn p w → AgreeIn p v
 reaches-agree {h = h} x agree = let q = some-stack h in rules-agree (x.runs q.0 q.1) agree

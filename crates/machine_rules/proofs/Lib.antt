@@ -21,4 +21,7 @@ pub mod Deleting
 pub mod Soundness
 pub mod Agreeing
 pub mod Turning
+pub mod Answering
+pub mod Inherited
+pub mod Promised
 pub mod OneRule

@@ -25,7 +25,7 @@ use Rattle.machine_state.specs.Worlds.{at}
 use Rattle.machine_rules.specs.Good.{ArgumentsFit}
 use Rattle.machine_rules.specs.Keeps.{StayThere}
 use Rattle.machine_rules.specs.Reaches.{Calls}
-use Rattle.machine_rules.specs.Rules.{Rule, Notifies, NotifiesIf, begun}
+use Rattle.machine_rules.specs.Rules.{Rule, Notifies, NotifiesIf, begun, UpdateRule}
 use Rattle.machine_rules.specs.Settling.{property_in, signal_at, notified}
 use Rattle.machine_rules.specs.There.{IsMember, IsField}
 use Rattle.machine_rules.specs.Writing.{NotifiesBy, HasNotifier, MayNotify, Announces}
@@ -35,6 +35,7 @@ use Rattle.machine_rules.proofs.Fields.{life-unique, member-method, old-there, s
 use Rattle.machine_rules.proofs.Keeps.{lived}
 use Rattle.machine_rules.proofs.Lists.{all-weaken}
 use Rattle.machine_rules.proofs.Reaching.{not-idle}
+use Rattle.machine_rules.specs.Natives.{NativeAnswers}
 
 -- ---- the notify signal of a property
 
@@ -138,7 +139,7 @@ silent-dead {p} objects place may none = by_life (life_of objects place.object) 
         let both : None ≡ Some n.signal = sym none ∙ signal-is objects place is n in
         absurd (cc both)
 
-pub dead-rule : {p : Loaded} {found : Option ℕ} (w : World) (place : Place) (rest : List Place) (below : List Activation) → MayNotify p w.store.tree place → found ≡ signal_at p w.store.tree place → found ≡ None → Rule p (at w (Update (place ∷ rest) ∷ below)) (at w (Update rest ∷ below))
+pub dead-rule : {p : Loaded} {found : Option ℕ} (w : World) (place : Place) (rest : List Place) (below : List Activation) → MayNotify p w.store.tree place → found ≡ signal_at p w.store.tree place → found ≡ None → UpdateRule p (at w (Update (place ∷ rest) ∷ below)) below (at w (Update rest ∷ below)) (place ∷ rest)
 dead-rule {p} w place rest below may is none =
     let gone : life_of w.store.tree place.object ≡ None = silent-dead w.store.tree place may (sym is ∙ none) in
     let Next : Option Life → Type 0 = λ life. NotifiesIf p (at w (Update (place ∷ rest) ∷ below)) (Update rest ∷ below) place (at w (Update rest ∷ below)) life in
@@ -169,8 +170,8 @@ announced-fits {p} {objects} {place} {signal} {count} {x} {method} {present} {ta
     subst (λ (l : List Value). ArgumentsFit p objects place.object signal l) (sym taken_is) (fit-of (announced-member a) fits)
 
 -- the notify signal begins by the next rule of the update
-pub announcement-calls : {p : Loaded} {w : World} {place : Place} {signal count : ℕ} {x : Object} {method : MetaMethod} {present : Value} {taken : List Value} (rest : List Place) → Announces p w.store.tree place signal → IsMember p w.store.tree place.object signal x method → stored w.store.tree place.object place.property ≡ Some present → taken ≡ take count (present ∷ []) → count ≡ length method.kinds → Calls p w (Update (place ∷ rest) ∷ []) (Update rest ∷ []) place.object signal taken
-announcement-calls {p} {w} {place} {signal} {count} {x} {method} {present} {taken} rest a is is_present cut count_is = record {
+pub announcement-calls : {p : Loaded} {natives : NativeAnswers} {w : World} {place : Place} {signal count : ℕ} {x : Object} {method : MetaMethod} {present : Value} {taken : List Value} (rest : List Place) → Announces p w.store.tree place signal → IsMember p w.store.tree place.object signal x method → stored w.store.tree place.object place.property ≡ Some present → taken ≡ take count (present ∷ []) → count ≡ length method.kinds → Calls p natives w (Update (place ∷ rest) ∷ []) (Update rest ∷ []) place.object signal taken
+announcement-calls {p} {natives} {w} {place} {signal} {count} {x} {method} {present} {taken} rest a is is_present cut count_is = record {
   no_lower = omega arith;
   objects = refl;
   goes_on = λ below. not-idle w _ below;

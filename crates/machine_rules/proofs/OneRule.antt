@@ -3,7 +3,6 @@ use Rattle.std.proofs.Common.{◌≡◌, ℕ, suc, List, [], ◌∷◌, ◌++◌
 use Rattle.signatures.specs.declared.value.Value.{Value}
 use Rattle.meta_model.specs.declared.object.MetaMethod.{MetaMethod}
 use Rattle.meta_model.specs.declared.object.MetaProperty.{MetaProperty}
-use Rattle.meta_model.specs.declared.object.Statement.{Statement}
 use Rattle.meta_model.specs.declared.object.Work.TheVariants.{Signal}
 use Rattle.meta_model.specs.Loaded.{Loaded}
 use Rattle.meta_model.specs.Members.{IsMethod}
@@ -30,7 +29,7 @@ use Rattle.machine_state.specs.Connections.{is_living, next_used}
 use Rattle.machine_state.specs.declared.turn.Turn.{Turn}
 use Rattle.machine_state.specs.Turns.{running, reaches_at_once}
 use Rattle.prop_bindings.specs.declared.place.Place.{Place}
-use Rattle.machine_state.specs.State.{State, Activation, Body, Emit, Update, Destroy}
+use Rattle.machine_state.specs.State.{Step, Run, Act, State, Activation, Body, Emit, Update, Destroy}
 use Rattle.signatures.specs.declared.sig.Sig.{Sig}
 use Rattle.texts.specs.declared.connection.ConnectionType.{ConnectionType}
 use Rattle.texts.specs.declared.connection.Endpoints.{Endpoints as Named}
@@ -42,10 +41,12 @@ use Rattle.machine_rules.specs.Connecting.{AreThere, kept_ends, names_of, found_
 use Rattle.machine_rules.specs.Judgement.{HasOneAnswer}
 use Rattle.machine_rules.proofs.OneAnswer.{one-check, one-then}
 use Rattle.machine_rules.specs.Destroying.{Dies, died, NextRule, ChildRule, DestroyRule, living_child, Defers, deferred, DefersOnce, Schedules}
-use Rattle.machine_rules.specs.Doings.{Doing, Write, Begin, Choose, Connect, Disconnect, Delete, Schedule, Nothing}
+use Rattle.machine_rules.specs.Doings.{Doing, Write, Begin, Choose, Connect, Disconnect, Delete, Schedule, TakeAnswer, Nothing}
 use Rattle.machine_rules.specs.Rules.{Rule, RuleAt, BodyRule, Does, EmitRule, Uses, UpdateRule, Notifies, NotifiesIf, Begins, BeginsIf, begun, with_used, Connects, Disconnects, linked, unlinked, Arrives, posted, TurnRule, Serves, Delivers}
 use Rattle.machine_rules.specs.Settling.{Settles, Writes, Installs, notified}
+use Rattle.machine_rules.proofs.Answering.{answers-one}
 use Rattle.machine_rules.proofs.Fields.{some-is, life-unique, method-unique, member-object, member-method, field-property}
+use Rattle.machine_rules.specs.Natives.{NativeAnswers, AnswersOnce}
 
 -- two methods of one number of one life's class
 method-is : {p : Loaded} {x y : Life} {m n : ℕ} {a b : MetaMethod} → x ≡ y → m ≡ n → IsMethod p x.class m a → IsMethod p y.class n b → a ≡ b
@@ -164,23 +165,24 @@ schedules-one s t u stack x (Some l) a b = by_mark l.scheduled a b
 
 -- ---- bodies
 
-does-one : (p : Loaded) (s : State) (o m : ℕ) (arguments : List Value) (rest : List Statement) (below : List Activation) (d : Doing) (t u : State) → Agree p s.objects s.bindings → Does p s o m arguments rest below d t → Does p s o m arguments rest below d u → t ≡ u
-does-one p s o m arguments rest below (Write x q new) t u agree a b = writes-one agree a b
-does-one p s o m arguments rest below (Begin x n given) t u agree a b = begins-one a b
-does-one p s o m arguments rest below (Choose block) t u agree a b = a ∙ sym b
-does-one p s o m arguments rest below (Connect ends how) t u agree a b = connects-one a b
-does-one p s o m arguments rest below (Disconnect ends) t u agree a b = disconnects-one a b
-does-one p s o m arguments rest below (Delete x) t u agree a b = a ∙ sym b
-does-one p s o m arguments rest below (Schedule x) t u agree a b = schedules-one s t u (Body o m arguments rest ∷ below) x (life_of s.objects x) a b
-does-one p s o m arguments rest below Nothing t u agree a b = a ∙ sym b
+does-one : (p : Loaded) (natives : NativeAnswers) → AnswersOnce natives → (s : State) (o m : ℕ) (arguments : List Value) (rest : List Step) (below : List Activation) (d : Doing) (t u : State) → Agree p s.objects s.bindings → Does p natives s o m arguments rest below d t → Does p natives s o m arguments rest below d u → t ≡ u
+does-one p natives once s o m arguments rest below (Write x q new) t u agree a b = writes-one agree a b
+does-one p natives once s o m arguments rest below (Begin x n given) t u agree a b = begins-one a b
+does-one p natives once s o m arguments rest below (Choose block) t u agree a b = a ∙ sym b
+does-one p natives once s o m arguments rest below (Connect ends how) t u agree a b = connects-one a b
+does-one p natives once s o m arguments rest below (Disconnect ends) t u agree a b = disconnects-one a b
+does-one p natives once s o m arguments rest below (Delete x) t u agree a b = a ∙ sym b
+does-one p natives once s o m arguments rest below (Schedule x) t u agree a b = schedules-one s t u (Body o m arguments rest ∷ below) x (life_of s.objects x) a b
+does-one p natives once s o m arguments rest below (TakeAnswer effects) t u agree a b = answers-one once a b
+does-one p natives once s o m arguments rest below Nothing t u agree a b = a ∙ sym b
 
-body-one : (p : Loaded) (s : State) (o m : ℕ) (arguments : List Value) (below : List Activation) (t u : State) (left : List Statement) → Agree p s.objects s.bindings → BodyRule p s o m arguments below t left → BodyRule p s o m arguments below u left → t ≡ u
-body-one p s o m arguments below t u [] agree a b = a ∙ sym b
-body-one p s o m arguments below t u (x ∷ rest) agree a b =
+body-one : (p : Loaded) (natives : NativeAnswers) → AnswersOnce natives → (s : State) (o m : ℕ) (arguments : List Value) (below : List Activation) (t u : State) (left : List Step) → Agree p s.objects s.bindings → BodyRule p natives s o m arguments below t left → BodyRule p natives s o m arguments below u left → t ≡ u
+body-one p natives once s o m arguments below t u [] agree a b = a ∙ sym b
+body-one p natives once s o m arguments below t u (x ∷ rest) agree a b =
     let both : Some a.what ≡ Some b.what = sym a.is ∙ b.is in
     let same : a.what ≡ b.what = cc both in
-    let Done : Doing → Type 0 = λ d. Does p s o m arguments rest below d u in
-    does-one p s o m arguments rest below a.what t u agree a.does (subst Done (sym same) b.does)
+    let Done : Doing → Type 0 = λ d. Does p natives s o m arguments rest below d u in
+    does-one p natives once s o m arguments rest below a.what t u agree a.does (subst Done (sym same) b.does)
 
 arrives-one : {t u : State} (s : State) (stack : List Activation) (home o : ℕ) (x : Object) (m : ℕ) (method : MetaMethod) (arguments : List Value) (b : Bool) → Arrives s stack home o x m method arguments t b → Arrives s stack home o x m method arguments u b → t ≡ u
 arrives-one s stack home o x m method arguments true a b = a ∙ sym b
@@ -245,12 +247,12 @@ turn-one : (p : Loaded) (s t u : State) (turn : Option Turn) → TurnRule p s t 
 turn-one p s t u None a b = absurd a
 turn-one p s t u (Some turn) a b = serves-one p s t u turn (find (is_before turn.limit) (items_at s.queues.loops turn.home)) a b
 
-stack-one : (p : Loaded) (s t u : State) (stack : List Activation) → Agree p s.objects s.bindings → RuleAt p s t stack → RuleAt p s u stack → t ≡ u
-stack-one p s t u [] agree a b = turn-one p s t u s.turn a b
-stack-one p s t u (Body o m arguments left ∷ below) agree a b = body-one p s o m arguments below t u left agree a b
-stack-one p s t u (Emit o g arguments used last ∷ below) agree a b = emit-one p s o g arguments last below t u (next_used s.objects s.connected.connections o g used last) a b
-stack-one p s t u (Update places ∷ below) agree a b = update-one p s below t u places a b
-stack-one p s t u (Destroy next torn ∷ below) agree a b = destroy-one s below t u next torn a b
+stack-one : (p : Loaded) (natives : NativeAnswers) → AnswersOnce natives → (s t u : State) (stack : List Activation) → Agree p s.objects s.bindings → RuleAt p natives s t stack → RuleAt p natives s u stack → t ≡ u
+stack-one p natives once s t u [] agree a b = turn-one p s t u s.turn a b
+stack-one p natives once s t u (Body o m arguments left ∷ below) agree a b = body-one p natives once s o m arguments below t u left agree a b
+stack-one p natives once s t u (Emit o g arguments used last ∷ below) agree a b = emit-one p s o g arguments last below t u (next_used s.objects s.connected.connections o g used last) a b
+stack-one p natives once s t u (Update places ∷ below) agree a b = update-one p s below t u places a b
+stack-one p natives once s t u (Destroy next torn ∷ below) agree a b = destroy-one s below t u next torn a b
 
-pub rule-one : (p : Loaded) (s t u : State) → Agree p s.objects s.bindings → Rule p s t → Rule p s u → t ≡ u
-rule-one p s t u agree a b = stack-one p s t u s.stack agree a b
+pub rule-one : (p : Loaded) (natives : NativeAnswers) → AnswersOnce natives → (s t u : State) → Agree p s.objects s.bindings → Rule p natives s t → Rule p natives s u → t ≡ u
+rule-one p natives once s t u agree a b = stack-one p natives once s t u s.stack agree a b

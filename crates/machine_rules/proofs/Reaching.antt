@@ -10,40 +10,43 @@ use Rattle.machine_state.specs.declared.fault.Fault.TheVariants.{BadType, TooDee
 use Rattle.machine_state.specs.declared.world.World.{World}
 use Rattle.machine_state.specs.State.{State, Activation, IsIdle}
 use Rattle.machine_rules.specs.Rules.{Rule}
+use Rattle.machine_rules.specs.Doings.{TakeAnswer}
+use Rattle.meta_model.specs.declared.effects.MetaEffects.{MetaEffects}
 use Rattle.signatures.specs.declared.value.Value.{Value}
 use Rattle.prop_bindings.specs.Fits.{Agree}
 use Rattle.object_tree.specs.declared.object.Object.{Object}
 use Rattle.machine_rules.specs.There.{IsDead, NoneDied, LacksField}
 use Rattle.machine_rules.specs.Sound.{AgreeIn}
 use Rattle.machine_rules.specs.Good.{has_body, IsWell, Spares, IsGood, TopFits}
-use Rattle.machine_rules.specs.Runs.{Rules, done, then, WritesNext, WritesIll, WritesDeep, IsStuck, GoesIll, GoesFatal, GoesDeep, Reason}
+use Rattle.machine_rules.specs.Runs.{Rules, done, then, DoesNext, WritesNext, WritesIll, WritesDeep, IsStuck, GoesIll, GoesFatal, GoesDeep, Reason}
 use Rattle.machine_state.specs.Worlds.{at, KeepsTheRest, Ticks, GoesTo}
 use Rattle.machine_rules.specs.Active.{shows}
-use Rattle.machine_rules.specs.Reaches.{Reaches, Leaves, StopsIn, Ends}
+use Rattle.machine_rules.specs.Reaches.{Reaches, Leaves, StopsIn, RunsTo}
 use Rattle.machine_rules.proofs.Frames.{high, shows-over}
 use Rattle.machine_state.specs.Faults.{IsFaultOf}
+use Rattle.machine_rules.specs.Natives.{NativeAnswers}
 
-pub rules-trans : {p : Loaded} {d : ℕ} {s m t : State} {n k j : ℕ} → Rules p d s n m k → Rules p d m k t j → Rules p d s n t j
+pub rules-trans : {p : Loaded} {natives : NativeAnswers} {d : ℕ} {s m t : State} {n k j : ℕ} → Rules p natives d s n m k → Rules p natives d m k t j → Rules p natives d s n t j
 rules-trans done r = r
 rules-trans (then x ok rest) r = then x ok (rules-trans rest r)
 
-pub rules-one : {p : Loaded} {d : ℕ} {s t : State} {n k : ℕ} → Rule p s t → IsGood p d s t → 0 < n → k ≡ n - 1 → Rules p d s n t k
-rules-one {p} {d} {s} {t} {n} {k} x ok some e =
-    let Family : ℕ → Type 0 = λ a. Rules p d s a t k in
+pub rules-one : {p : Loaded} {natives : NativeAnswers} {d : ℕ} {s t : State} {n k : ℕ} → Rule p natives s t → IsGood p d s t → 0 < n → k ≡ n - 1 → Rules p natives d s n t k
+rules-one {p} {natives} {d} {s} {t} {n} {k} x ok some e =
+    let Family : ℕ → Type 0 = λ a. Rules p natives d s a t k in
     let suc_is : suc k ≡ n = omega (arith, e) in
     subst Family suc_is (then x ok done)
 
-pub reaches-same : {p : Loaded} {d : ℕ} {h : List (Option ℕ)} {w : World} {top : List Activation} → Reaches p d h w top w top
+pub reaches-same : {p : Loaded} {natives : NativeAnswers} {d : ℕ} {h : List (Option ℕ)} {w : World} {top : List Activation} → Reaches p natives d h w top w top
 reaches-same = record { runs = λ below e. done }
 
-pub reaches-then : {p : Loaded} {d : ℕ} {h : List (Option ℕ)} {w v u : World} {a b c : List Activation} → Reaches p d h w a v b → Reaches p d h v b u c → Reaches p d h w a u c
+pub reaches-then : {p : Loaded} {natives : NativeAnswers} {d : ℕ} {h : List (Option ℕ)} {w v u : World} {a b c : List Activation} → Reaches p natives d h w a v b → Reaches p natives d h v b u c → Reaches p natives d h w a u c
 reaches-then x y = record { runs = λ below e. rules-trans (x.runs below e) (y.runs below e) }
 
-pub stops-after : {p : Loaded} {d : ℕ} {h : List (Option ℕ)} {w v u : World} {a b : List Activation} {f : Fault} → Reaches p d h w a v b → StopsIn p d h v b u f → StopsIn p d h w a u f
+pub stops-after : {p : Loaded} {natives : NativeAnswers} {d : ℕ} {h : List (Option ℕ)} {w v u : World} {a b : List Activation} {f : Fault} → Reaches p natives d h w a v b → StopsIn p natives d h v b u f → StopsIn p natives d h w a u f
 stops-after x y = record { stops = λ below e. let q = y.stops below e in (q.0, q.1, q.2, rules-trans (x.runs below e) q.3, q.4) }
 
 -- a call that goes on from where another run came
-pub ends-after : {p : Loaded} {d : ℕ} {h : List (Option ℕ)} {w v u : World} {a b c : List Activation} {r : Result (Unit {0}) Fault} → Reaches p d h w a v b → Ends p d h v b u c r → Ends p d h w a u c r
+pub ends-after : {p : Loaded} {natives : NativeAnswers} {d : ℕ} {h : List (Option ℕ)} {w v u : World} {a b c : List Activation} {r : Result (Unit {0}) Fault} → Reaches p natives d h w a v b → RunsTo p natives d h v b u c r → RunsTo p natives d h w a u c r
 ends-after {r = Ok _} x y = record { cases = reaches-then x y.cases }
 ends-after {r = Err f} x y = record { cases = stops-after x y.cases }
 
@@ -55,8 +58,8 @@ pub same-spared : {old new : List Object} → new ≡ old → NoneDied old new
 same-spared e o gone = subst (λ (objects : List Object). IsDead objects o) e gone
 
 -- one rule that pushes nothing, to a world with one rule fewer left
-pub reaches-low : {p : Loaded} {d : ℕ} {h : List (Option ℕ)} {w v : World} {a b : List Activation} → ((below : List Activation) → shows below ≡ h → Rule p (at w (a ++ below)) (at v (b ++ below))) → NoneDied w.store.tree v.store.tree → length b ≤ length a → length b + length h ≤ d → AgreeIn p v → v.left ≡ w.left - 1 → 0 < w.left → Reaches p d h w a v b
-reaches-low {p} {d} {h} {w} {v} {a} {b} step none low fits agree less some = record {
+pub reaches-low : {p : Loaded} {natives : NativeAnswers} {d : ℕ} {h : List (Option ℕ)} {w v : World} {a b : List Activation} → ((below : List Activation) → shows below ≡ h → Rule p natives (at w (a ++ below)) (at v (b ++ below))) → NoneDied w.store.tree v.store.tree → length b ≤ length a → length b + length h ≤ d → AgreeIn p v → v.left ≡ w.left - 1 → 0 < w.left → Reaches p natives d h w a v b
+reaches-low {p} {natives} {d} {h} {w} {v} {a} {b} step none low fits agree less some = record {
   runs = λ below e.
       let shallow : length (b ++ below) ≤ d = omega (arith, length-append b below, high below e, fits) in
       let no_higher : length (b ++ below) ≤ length (a ++ below) = omega (arith, length-append b below, length-append a below, low) in
@@ -65,8 +68,8 @@ reaches-low {p} {d} {h} {w} {v} {a} {b} step none low fits agree less some = rec
 }
 
 -- one rule that pushes an activation, over a stack that shows `active`
-pub reaches-high : {p : Loaded} {d : ℕ} {h active : List (Option ℕ)} {w v : World} {from : List Activation} {top : Activation} {to : List Activation} → active ≡ shows to ++ h → ((below : List Activation) → shows below ≡ h → Rule p (at w (from ++ below)) (at v (top ∷ to ++ below))) → ((below : List Activation) → shows below ≡ h → Spares (at w (from ++ below)) (at v (top ∷ to ++ below))) → ((below : List Activation) → TopFits p v.store.tree (top ∷ to ++ below)) → length active < d → AgreeIn p v → v.left ≡ w.left - 1 → 0 < w.left → Reaches p d h w from v (top ∷ to)
-reaches-high {p} {d} {h} {active} {w} {v} {from} {top} {to} over step spared fit room agree less some = record {
+pub reaches-high : {p : Loaded} {natives : NativeAnswers} {d : ℕ} {h active : List (Option ℕ)} {w v : World} {from : List Activation} {top : Activation} {to : List Activation} → active ≡ shows to ++ h → ((below : List Activation) → shows below ≡ h → Rule p natives (at w (from ++ below)) (at v (top ∷ to ++ below))) → ((below : List Activation) → shows below ≡ h → Spares (at w (from ++ below)) (at v (top ∷ to ++ below))) → ((below : List Activation) → TopFits p v.store.tree (top ∷ to ++ below)) → length active < d → AgreeIn p v → v.left ≡ w.left - 1 → 0 < w.left → Reaches p natives d h w from v (top ∷ to)
+reaches-high {p} {natives} {d} {h} {active} {w} {v} {from} {top} {to} over step spared fit room agree less some = record {
   runs = λ below e.
       let shallow : length (top ∷ to ++ below) ≤ d = omega (arith, high (to ++ below) (shows-over to below over e), room) in
       let good : IsGood p d (at w (from ++ below)) (at v (top ∷ to ++ below)) = record { well = record { arguments = λ higher. fit below; values = agree.typed }; spared = spared below e; agree = agree; shallow = shallow } in
@@ -84,60 +87,60 @@ pub left-same : (w : World) (f : Fault) → Leaves w w f
 left-same w f = (refl, λ other. refl)
 
 -- no rule is left where one is due
-pub stops-steps : {p : Loaded} {d : ℕ} {h : List (Option ℕ)} {w : World} {a : Activation} → w.left ≡ 0 → StopsIn p d h w (a ∷ []) w Steps
+pub stops-steps : {p : Loaded} {natives : NativeAnswers} {d : ℕ} {h : List (Option ℕ)} {w : World} {a : Activation} → w.left ≡ 0 → StopsIn p natives d h w (a ∷ []) w Steps
 stops-steps {w = w} {a = a} none = record { stops = λ below e. (w, a ∷ below, left-same w Steps, done, (none, not-idle w a below)) }
 
 -- what is going on where a run stops
-module _ {p : Loaded} {d : ℕ} {h : List (Option ℕ)} {w : World} {from : List Activation} (goes_on : (below : List Activation) → ¬ IsIdle (at w (from ++ below))) (some : 0 < w.left) where
+module _ {p : Loaded} {natives : NativeAnswers} {d : ℕ} {h : List (Option ℕ)} {w : World} {from : List Activation} (goes_on : (below : List Activation) → ¬ IsIdle (at w (from ++ below))) (some : 0 < w.left) where
   -- memory was refused
-  pub stops-memory : StopsIn p d h w from w Memory
+  pub stops-memory : StopsIn p natives d h w from w Memory
   stops-memory = record { stops = λ below e. (w, from ++ below, left-same w Memory, done, (some, goes_on below)) }
 
   -- .. once objects and bindings had changed
-  pub stops-lost : {v : World} → KeepsTheRest w v → StopsIn p d h w from v Memory
+  pub stops-lost : {v : World} → KeepsTheRest w v → StopsIn p natives d h w from v Memory
   stops-lost rest = record { stops = λ below e. (w, from ++ below, (rest, λ other. absurd (other refl)), done, (some, goes_on below)) }
 
   -- no rule leads on
-  pub stops-stuck : ((below : List Activation) (t : State) → ¬ Rule p (at w (from ++ below)) t) → ((below : List Activation) (o q : ℕ) (new : Value) → WritesNext (at w (from ++ below)) o q new → LacksField p w.store.tree o q) → StopsIn p d h w from w BadType
-  stops-stuck stuck lacks = record {
+  pub stops-stuck : ((below : List Activation) (t : State) → ¬ Rule p natives (at w (from ++ below)) t) → ((below : List Activation) (o q : ℕ) (new : Value) → WritesNext (at w (from ++ below)) o q new → LacksField p w.store.tree o q) → ((below : List Activation) (effects : MetaEffects) → ¬ DoesNext (at w (from ++ below)) (TakeAnswer effects)) → StopsIn p natives d h w from w BadType
+  stops-stuck stuck lacks asks = record {
     stops = λ below e.
-        let is : IsStuck p (at w (from ++ below)) = record { goes_on = goes_on below; stuck = stuck below; lacks = lacks below } in
+        let is : IsStuck p natives (at w (from ++ below)) = record { goes_on = goes_on below; stuck = stuck below; lacks = lacks below; asks_none = asks below } in
         (w, from ++ below, left-same w BadType, done, (some, inl is));
   }
 
 -- the next rule gives a value that is not of its type
-pub stops-ill : {p : Loaded} {d : ℕ} {h : List (Option ℕ)} {w : World} {from : List Activation} → 0 < w.left → ((below : List Activation) → (t : State) × Rule p (at w (from ++ below)) t × (¬ IsWell p (at w (from ++ below)) t)) → StopsIn p d h w from w BadType
-stops-ill {p} {w = w} {from = from} some next = record {
+pub stops-ill : {p : Loaded} {natives : NativeAnswers} {d : ℕ} {h : List (Option ℕ)} {w : World} {from : List Activation} → 0 < w.left → ((below : List Activation) → (t : State) × Rule p natives (at w (from ++ below)) t × (¬ IsWell p (at w (from ++ below)) t)) → StopsIn p natives d h w from w BadType
+stops-ill {p} {natives} {w = w} {from = from} some next = record {
   stops = λ below e.
       let q = next below in
-      let is : GoesIll p (at w (from ++ below)) (λ t. Rule p (at w (from ++ below)) t) = record { t = q.0; follows = q.1; ill = q.2 } in
+      let is : GoesIll p (at w (from ++ below)) (λ t. Rule p natives (at w (from ++ below)) t) = record { t = q.0; follows = q.1; ill = q.2 } in
       (w, from ++ below, left-same w BadType, done, (some, inr (inr is)));
 }
 
 -- .. the next statement writes one
-pub stops-ill-write : {p : Loaded} {d : ℕ} {h : List (Option ℕ)} {w : World} {from : List Activation} → 0 < w.left → ((below : List Activation) → WritesIll p (at w (from ++ below))) → StopsIn p d h w from w BadType
+pub stops-ill-write : {p : Loaded} {natives : NativeAnswers} {d : ℕ} {h : List (Option ℕ)} {w : World} {from : List Activation} → 0 < w.left → ((below : List Activation) → WritesIll p (at w (from ++ below))) → StopsIn p natives d h w from w BadType
 stops-ill-write {w = w} {from = from} some ill = record { stops = λ below e. (w, from ++ below, left-same w BadType, done, (some, inr (inl (ill below)))) }
 
 -- by the next rule an object dies while a body of it is active
-pub stops-fatal : {p : Loaded} {d : ℕ} {h : List (Option ℕ)} {w : World} {from : List Activation} → 0 < w.left → ((below : List Activation) → shows below ≡ h → (t : State) × Rule p (at w (from ++ below)) t × IsWell p (at w (from ++ below)) t × (¬ Spares (at w (from ++ below)) t)) → StopsIn p d h w from w InUse
-stops-fatal {p} {w = w} {from = from} some next = record {
+pub stops-fatal : {p : Loaded} {natives : NativeAnswers} {d : ℕ} {h : List (Option ℕ)} {w : World} {from : List Activation} → 0 < w.left → ((below : List Activation) → shows below ≡ h → (t : State) × Rule p natives (at w (from ++ below)) t × IsWell p (at w (from ++ below)) t × (¬ Spares (at w (from ++ below)) t)) → StopsIn p natives d h w from w InUse
+stops-fatal {p} {natives} {w = w} {from = from} some next = record {
   stops = λ below e.
       let q = next below e in
-      let is : GoesFatal p (at w (from ++ below)) (λ t. Rule p (at w (from ++ below)) t) = record { t = q.0; follows = q.1; well = q.2; fatal = q.3 } in
+      let is : GoesFatal p (at w (from ++ below)) (λ t. Rule p natives (at w (from ++ below)) t) = record { t = q.0; follows = q.1; well = q.2; fatal = q.3 } in
       (w, from ++ below, left-same w InUse, done, (some, is));
 }
 
 -- the next rule nests too deep
-pub stops-deep : {p : Loaded} {d : ℕ} {h : List (Option ℕ)} {w : World} {from : List Activation} → 0 < w.left → ((below : List Activation) → shows below ≡ h → (t : State) × Rule p (at w (from ++ below)) t × IsWell p (at w (from ++ below)) t × Spares (at w (from ++ below)) t × Agree p t.objects t.bindings × (d < length t.stack)) → StopsIn p d h w from w TooDeep
-stops-deep {p} {d} {w = w} {from = from} some next = record {
+pub stops-deep : {p : Loaded} {natives : NativeAnswers} {d : ℕ} {h : List (Option ℕ)} {w : World} {from : List Activation} → 0 < w.left → ((below : List Activation) → shows below ≡ h → (t : State) × Rule p natives (at w (from ++ below)) t × IsWell p (at w (from ++ below)) t × Spares (at w (from ++ below)) t × Agree p t.objects t.bindings × (d < length t.stack)) → StopsIn p natives d h w from w TooDeep
+stops-deep {p} {natives} {d} {w = w} {from = from} some next = record {
   stops = λ below e.
       let q = next below e in
-      let is : GoesDeep p d (at w (from ++ below)) (λ t. Rule p (at w (from ++ below)) t) = record { t = q.0; follows = q.1; well = q.2; spared = q.3; agree = q.4; deep = q.5 } in
+      let is : GoesDeep p d (at w (from ++ below)) (λ t. Rule p natives (at w (from ++ below)) t) = record { t = q.0; follows = q.1; well = q.2; spared = q.3; agree = q.4; deep = q.5 } in
       (w, from ++ below, left-same w TooDeep, done, (some, inr is));
 }
 
 -- .. the next statement writes, and what that notifies would
-pub stops-deep-write : {p : Loaded} {d : ℕ} {h : List (Option ℕ)} {w : World} {from : List Activation} → 0 < w.left → ((below : List Activation) → shows below ≡ h → WritesDeep p d (at w (from ++ below))) → StopsIn p d h w from w TooDeep
+pub stops-deep-write : {p : Loaded} {natives : NativeAnswers} {d : ℕ} {h : List (Option ℕ)} {w : World} {from : List Activation} → 0 < w.left → ((below : List Activation) → shows below ≡ h → WritesDeep p d (at w (from ++ below))) → StopsIn p natives d h w from w TooDeep
 stops-deep-write {w = w} {from = from} some deep = record { stops = λ below e. (w, from ++ below, left-same w TooDeep, done, (some, inl (deep below e))) }
 
 -- a reason that stays one where more may follow
@@ -164,7 +167,7 @@ reason-more p d s left Stopped stuck closes follows due r = absurd r
 -- ---- what is left behind a `?`
 
 -- nothing is said of a call that failed
-pub ok-err : (P : Type 0) {p : Loaded} {d : ℕ} {h : List (Option ℕ)} {w v : World} {a : List Activation} {f : Fault} (r : Result (Unit {0}) Fault) → StopsIn p d h w a v f → IsErrAnd r (λ y. y ≡ f) → OnOk r P
+pub ok-err : (P : Type 0) {p : Loaded} {natives : NativeAnswers} {d : ℕ} {h : List (Option ℕ)} {w v : World} {a : List Activation} {f : Fault} (r : Result (Unit {0}) Fault) → StopsIn p natives d h w a v f → IsErrAnd r (λ y. y ≡ f) → OnOk r P
 ok-err P (Ok _) x is = absurd is
 ok-err P (Err y) x is = tt
 
@@ -173,65 +176,65 @@ ok-map P Q (Ok _) p f = f p
 ok-map P Q (Err _) p f = tt
 
 -- what a call that failed leaves
-pub ends-left : {p : Loaded} {d : ℕ} {h : List (Option ℕ)} {w v : World} {a b : List Activation} {f : Fault} (r : Result (Unit {0}) Fault) → StopsIn p d h w a v f → IsErrAnd r (λ y. y ≡ f) → Ends p d h w a v b r
+pub ends-left : {p : Loaded} {natives : NativeAnswers} {d : ℕ} {h : List (Option ℕ)} {w v : World} {a b : List Activation} {f : Fault} (r : Result (Unit {0}) Fault) → StopsIn p natives d h w a v f → IsErrAnd r (λ y. y ≡ f) → RunsTo p natives d h w a v b r
 ends-left (Ok _) x is = absurd is
-ends-left {p} {d} {h} {w} {v} {a} (Err y) x is = record { cases = subst (λ (q : Fault). StopsIn p d h w a v q) (sym is) x }
+ends-left {p} {natives} {d} {h} {w} {v} {a} (Err y) x is = record { cases = subst (λ (q : Fault). StopsIn p natives d h w a v q) (sym is) x }
 
 -- a fault that is known to be another one
-pub stops-as : {p : Loaded} {d : ℕ} {h : List (Option ℕ)} {w v : World} {a : List Activation} {f g : Fault} → f ≡ g → StopsIn p d h w a v g → StopsIn p d h w a v f
-stops-as {p} {d} {h} {w} {v} {a} is x = let Named : Fault → Type 0 = λ q. StopsIn p d h w a v q in subst Named (sym is) x
+pub stops-as : {p : Loaded} {natives : NativeAnswers} {d : ℕ} {h : List (Option ℕ)} {w v : World} {a : List Activation} {f g : Fault} → f ≡ g → StopsIn p natives d h w a v g → StopsIn p natives d h w a v f
+stops-as {p} {natives} {d} {h} {w} {v} {a} is x = let Named : Fault → Type 0 = λ q. StopsIn p natives d h w a v q in subst Named (sym is) x
 
 -- no rule was left
-pub ends-undue : {p : Loaded} {d : ℕ} {h : List (Option ℕ)} {w : World} {a : Activation} {b : List Activation} {f : Fault} (r : Result (Unit {0}) Fault) → (w.left ≡ 0) × (f ≡ Steps) → IsErrAnd r (λ y. y ≡ f) → Ends p d h w (a ∷ []) w b r
+pub ends-undue : {p : Loaded} {natives : NativeAnswers} {d : ℕ} {h : List (Option ℕ)} {w : World} {a : Activation} {b : List Activation} {f : Fault} (r : Result (Unit {0}) Fault) → (w.left ≡ 0) × (f ≡ Steps) → IsErrAnd r (λ y. y ≡ f) → RunsTo p natives d h w (a ∷ []) w b r
 ends-undue r none is = ends-left r (stops-as none.1 (stops-steps none.0)) is
 
 -- memory was refused
-pub ends-short : {p : Loaded} {d : ℕ} {h : List (Option ℕ)} {w : World} {from to : List Activation} (r : Result (Unit {0}) Fault) → ((below : List Activation) → ¬ IsIdle (at w (from ++ below))) → 0 < w.left → IsErrAnd r (λ y. y ≡ Memory) → Ends p d h w from w to r
+pub ends-short : {p : Loaded} {natives : NativeAnswers} {d : ℕ} {h : List (Option ℕ)} {w : World} {from to : List Activation} (r : Result (Unit {0}) Fault) → ((below : List Activation) → ¬ IsIdle (at w (from ++ below))) → 0 < w.left → IsErrAnd r (λ y. y ≡ Memory) → RunsTo p natives d h w from w to r
 ends-short r goes_on some is = ends-left r (stops-memory goes_on some) is
 
 -- .. to a function that then changed nothing
-pub ends-unchanged : {p : Loaded} {d : ℕ} {h : List (Option ℕ)} {w v : World} {from to : List Activation} {f : Fault} (r : Result (Unit {0}) Fault) → ((below : List Activation) → ¬ IsIdle (at w (from ++ below))) → 0 < w.left → (f ≡ Memory) × (v ≡ w) → IsErrAnd r (λ y. y ≡ f) → Ends p d h w from v to r
-ends-unchanged {p} {d} {h} {w} {v} {from} {to} {f} r goes_on some same is =
-    let Family : World → Type 0 = λ u. StopsIn p d h w from u f in
+pub ends-unchanged : {p : Loaded} {natives : NativeAnswers} {d : ℕ} {h : List (Option ℕ)} {w v : World} {from to : List Activation} {f : Fault} (r : Result (Unit {0}) Fault) → ((below : List Activation) → ¬ IsIdle (at w (from ++ below))) → 0 < w.left → (f ≡ Memory) × (v ≡ w) → IsErrAnd r (λ y. y ≡ f) → RunsTo p natives d h w from v to r
+ends-unchanged {p} {natives} {d} {h} {w} {v} {from} {to} {f} r goes_on some same is =
+    let Family : World → Type 0 = λ u. StopsIn p natives d h w from u f in
     ends-left r (subst Family (sym same.1) (stops-as same.0 (stops-memory goes_on some))) is
 
 -- .. to one that left objects and bindings changed
-pub ends-lost : {p : Loaded} {d : ℕ} {h : List (Option ℕ)} {w v : World} {from to : List Activation} {f : Fault} (r : Result (Unit {0}) Fault) → ((below : List Activation) → ¬ IsIdle (at w (from ++ below))) → 0 < w.left → (f ≡ Memory) × KeepsTheRest w v → IsErrAnd r (λ y. y ≡ f) → Ends p d h w from v to r
+pub ends-lost : {p : Loaded} {natives : NativeAnswers} {d : ℕ} {h : List (Option ℕ)} {w v : World} {from to : List Activation} {f : Fault} (r : Result (Unit {0}) Fault) → ((below : List Activation) → ¬ IsIdle (at w (from ++ below))) → 0 < w.left → (f ≡ Memory) × KeepsTheRest w v → IsErrAnd r (λ y. y ≡ f) → RunsTo p natives d h w from v to r
 ends-lost r goes_on some lost is = ends-left r (stops-as lost.0 (stops-lost goes_on some lost.1)) is
 
 -- an expression had no value, or memory was refused
-pub stops-faulted : {p : Loaded} {d : ℕ} {h : List (Option ℕ)} {w : World} {a : Activation} {f : Fault} (e : EvalFault) → 0 < w.left → (e ≡ eval.BadType → StopsIn p d h w (a ∷ []) w BadType) → IsFaultOf e f → StopsIn p d h w (a ∷ []) w f
+pub stops-faulted : {p : Loaded} {natives : NativeAnswers} {d : ℕ} {h : List (Option ℕ)} {w : World} {a : Activation} {f : Fault} (e : EvalFault) → 0 < w.left → (e ≡ eval.BadType → StopsIn p natives d h w (a ∷ []) w BadType) → IsFaultOf e f → StopsIn p natives d h w (a ∷ []) w f
 stops-faulted eval.BadType some ill is = stops-as is (ill refl)
 stops-faulted {w = w} {a = a} eval.Memory some ill is = stops-as is (stops-memory (not-idle w a) some)
 
-pub ends-faulted : {p : Loaded} {d : ℕ} {h : List (Option ℕ)} {w : World} {a : Activation} {b : List Activation} {e : EvalFault} (r : Result (Unit {0}) Fault) → 0 < w.left → (e ≡ eval.BadType → StopsIn p d h w (a ∷ []) w BadType) → IsErrAnd r (λ y. IsFaultOf e y) → Ends p d h w (a ∷ []) w b r
+pub ends-faulted : {p : Loaded} {natives : NativeAnswers} {d : ℕ} {h : List (Option ℕ)} {w : World} {a : Activation} {b : List Activation} {e : EvalFault} (r : Result (Unit {0}) Fault) → 0 < w.left → (e ≡ eval.BadType → StopsIn p natives d h w (a ∷ []) w BadType) → IsErrAnd r (λ y. IsFaultOf e y) → RunsTo p natives d h w (a ∷ []) w b r
 ends-faulted (Ok _) some ill is = absurd is
 ends-faulted {e = e} (Err f) some ill is = record { cases = stops-faulted e some ill is }
 
 -- ---- calls that carry out one rule
 
 -- .. which writes nothing down
-pub reaches-ticked : {p : Loaded} {d : ℕ} {h : List (Option ℕ)} {w v : World} {a : Activation} {b : List Activation} → ((below : List Activation) → shows below ≡ h → Rule p (at w (a ∷ below)) (at w (b ++ below))) → length b ≤ 1 → length h < d → AgreeIn p w → Ticks w v (Ok tt) → Reaches p d h w (a ∷ []) v b
-reaches-ticked {p} {d} {h} {w} {v} {a} {b} step low room agree x =
-    let Family : World → Type 0 = λ u. Reaches p d h w (a ∷ []) u b in
+pub reaches-ticked : {p : Loaded} {natives : NativeAnswers} {d : ℕ} {h : List (Option ℕ)} {w v : World} {a : Activation} {b : List Activation} → ((below : List Activation) → shows below ≡ h → Rule p natives (at w (a ∷ below)) (at w (b ++ below))) → length b ≤ 1 → length h < d → AgreeIn p w → Ticks w v (Ok tt) → Reaches p natives d h w (a ∷ []) v b
+reaches-ticked {p} {natives} {d} {h} {w} {v} {a} {b} step low room agree x =
+    let Family : World → Type 0 = λ u. Reaches p natives d h w (a ∷ []) u b in
     subst Family (sym x.1) (reaches-low step (λ o gone. gone) low (omega (arith, low, room)) agree refl x.0)
 
-pub ends-ticked : {p : Loaded} {d : ℕ} {h : List (Option ℕ)} {w v : World} {a : Activation} {b : List Activation} (r : Result (Unit {0}) Fault) → ((below : List Activation) → shows below ≡ h → Rule p (at w (a ∷ below)) (at w (b ++ below))) → length b ≤ 1 → length h < d → AgreeIn p w → Ticks w v r → Ends p d h w (a ∷ []) v b r
+pub ends-ticked : {p : Loaded} {natives : NativeAnswers} {d : ℕ} {h : List (Option ℕ)} {w v : World} {a : Activation} {b : List Activation} (r : Result (Unit {0}) Fault) → ((below : List Activation) → shows below ≡ h → Rule p natives (at w (a ∷ below)) (at w (b ++ below))) → length b ≤ 1 → length h < d → AgreeIn p w → Ticks w v r → RunsTo p natives d h w (a ∷ []) v b r
 ends-ticked (Ok _) step low room agree x = record { cases = reaches-ticked step low room agree x }
-ends-ticked {p} {d} {h} {w} {v} {a} {b} (Err f) step low room agree x =
-    let Family : World → Type 0 = λ u. StopsIn p d h w (a ∷ []) u f in
+ends-ticked {p} {natives} {d} {h} {w} {v} {a} {b} (Err f) step low room agree x =
+    let Family : World → Type 0 = λ u. StopsIn p natives d h w (a ∷ []) u f in
     record { cases = subst Family (sym x.2) (stops-as x.1 (stops-steps x.0)) }
 
 -- .. which writes an entry down, and leaves the stack as high as it was
-pub ends-noted : {p : Loaded} {d : ℕ} {h : List (Option ℕ)} {w v : World} {a b : Activation} (target : World) (r : Result (Unit {0}) Fault) → ((below : List Activation) → shows below ≡ h → Rule p (at w (a ∷ below)) (at target (b ∷ below))) → NoneDied w.store.tree target.store.tree → length h < d → AgreeIn p target → target.left ≡ w.left - 1 → 0 < w.left → GoesTo w target v r → Ends p d h w (a ∷ []) v (b ∷ []) r
-ends-noted {p} {d} {h} {w} {v} {a} {b} target (Ok _) step none room agree less some x =
-    let Family : World → Type 0 = λ u. Reaches p d h w (a ∷ []) u (b ∷ []) in
+pub ends-noted : {p : Loaded} {natives : NativeAnswers} {d : ℕ} {h : List (Option ℕ)} {w v : World} {a b : Activation} (target : World) (r : Result (Unit {0}) Fault) → ((below : List Activation) → shows below ≡ h → Rule p natives (at w (a ∷ below)) (at target (b ∷ below))) → NoneDied w.store.tree target.store.tree → length h < d → AgreeIn p target → target.left ≡ w.left - 1 → 0 < w.left → GoesTo w target v r → RunsTo p natives d h w (a ∷ []) v (b ∷ []) r
+ends-noted {p} {natives} {d} {h} {w} {v} {a} {b} target (Ok _) step none room agree less some x =
+    let Family : World → Type 0 = λ u. Reaches p natives d h w (a ∷ []) u (b ∷ []) in
     record { cases = subst Family (sym x) (reaches-low {b = b ∷ []} step none (omega arith) (omega (arith, room)) agree less some) }
-ends-noted {p} {d} {h} {w} {v} {a} {b} target (Err f) step none room agree less some x =
-    let Family : World → Type 0 = λ u. StopsIn p d h w (a ∷ []) u f in
+ends-noted {p} {natives} {d} {h} {w} {v} {a} {b} target (Err f) step none room agree less some x =
+    let Family : World → Type 0 = λ u. StopsIn p natives d h w (a ∷ []) u f in
     record { cases = subst Family (sym x.1) (stops-as x.0 (stops-memory (not-idle w a) some)) }
 
 -- what runs over more activations
-pub ends-lifted : {p : Loaded} {d : ℕ} {h active : List (Option ℕ)} {w v : World} {top : Activation} {to : List Activation} {r : Result (Unit {0}) Fault} → active ≡ shows to ++ h → Ends p d active w (top ∷ []) v [] r → Ends p d h w (top ∷ to) v to r
+pub ends-lifted : {p : Loaded} {natives : NativeAnswers} {d : ℕ} {h active : List (Option ℕ)} {w v : World} {top : Activation} {to : List Activation} {r : Result (Unit {0}) Fault} → active ≡ shows to ++ h → RunsTo p natives d active w (top ∷ []) v [] r → RunsTo p natives d h w (top ∷ to) v to r
 ends-lifted {to = to} {r = Ok _} over x = record { cases = record { runs = λ below e. x.cases.runs (to ++ below) (shows-over to below over e) } }
 ends-lifted {to = to} {r = Err f} over x = record { cases = record { stops = λ below e. x.cases.stops (to ++ below) (shows-over to below over e) } }

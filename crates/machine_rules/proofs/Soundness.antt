@@ -5,9 +5,8 @@ use Rattle.std.specs.Option.{option_map}
 use Rattle.std.proofs.lemmas.Option.{slice_get_within}
 use Rattle.signatures.specs.declared.value.Value.{Value}
 use Rattle.meta_model.specs.declared.object.MetaMethod.{MetaMethod}
-use Rattle.meta_model.specs.declared.object.Statement.{Statement}
 use Rattle.meta_model.specs.declared.object.Work.{Work}
-use Rattle.meta_model.specs.declared.object.Work.TheVariants.{Signal, Slot}
+use Rattle.meta_model.specs.declared.object.Work.TheVariants.{Signal, Slot, Native}
 use Rattle.meta_model.specs.Loaded.{Loaded}
 use Rattle.connections.specs.declared.connection.Connection.{Connection}
 use Rattle.event_loops.specs.declared.item.Item.{Item}
@@ -28,11 +27,11 @@ use Rattle.machine_state.specs.declared.turn.Turn.{Turn}
 use Rattle.machine_state.specs.declared.world.World.{World}
 use Rattle.machine_state.specs.Connections.{is_living, next_used}
 use Rattle.prop_bindings.specs.declared.place.Place.{Place}
-use Rattle.machine_state.specs.State.{State, Activation, Body, Emit, Update, Destroy}
+use Rattle.machine_state.specs.State.{Step, Run, Act, State, Activation, Body, Emit, Update, Destroy}
 use Rattle.machine_state.specs.Turns.{running, reaches_at_once}
 use Rattle.machine_state.specs.Worlds.{using, noted, HasWritten}
 use Rattle.machine_state.proofs.Due.{all-used, last-used}
-use Rattle.machine_rules.specs.Doings.{Doing, Write, Begin, Choose, Nothing, Connect, Disconnect, Delete, Schedule}
+use Rattle.machine_rules.specs.Doings.{Doing, Write, Begin, Choose, Nothing, Connect, Disconnect, Delete, Schedule, TakeAnswer}
 use Rattle.machine_rules.specs.Good.{ArgumentsFit, TopFits, IsWell}
 use Rattle.machine_rules.specs.Keeps.{StayThere, AllJoined, KeepsWorld}
 use Rattle.machine_rules.specs.Reaches.{Reaches}
@@ -54,6 +53,7 @@ use Rattle.machine_state.specs.declared.refusal.Refusal.{Refusal}
 use Rattle.texts.specs.declared.connection.ConnectionType.{ConnectionType}
 use Rattle.texts.specs.declared.connection.Endpoints.{Endpoints as Named}
 use Rattle.meta_model.specs.Sound.{IsSound}
+use Rattle.machine_rules.specs.Natives.{NativeAnswers}
 
 -- ---- as long as the objects stay there
 
@@ -114,6 +114,9 @@ begun-fair p program u t n below o x m method arguments Signal e higher fits wai
     let Family : State → Type 0 = λ v. (n < length v.stack → TopFits p v.objects v.stack) → Fair p v in
     subst Family (sym e) (λ top. record { waiting = waiting; emitted = (emission-sends program (top higher), lower) }) fits
 begun-fair p program u t n below o x m method arguments (Slot statements) e higher fits waiting lower =
+    let Family : State → Type 0 = λ v. Fair p v in
+    subst Family (sym e) (record { waiting = waiting; emitted = (tt, lower) })
+begun-fair p program u t n below o x m method arguments (Native effects) e higher fits waiting lower =
     let Family : State → Type 0 = λ v. Fair p v in
     subst Family (sym e) (record { waiting = waiting; emitted = (tt, lower) })
 
@@ -206,21 +209,22 @@ module _ {p : Loaded} {s t : State} (program : IsSound p) (well : IsWell p s t) 
       by_mark true e = quiet-fair e lower
       by_mark false d = deferred-fair stack d.loop l.home x d.name d.gives (named-created s.objects x d.named) lower
 
-  does-fair : (o m : ℕ) (arguments : List Value) (rest : List Statement) (below : List Activation) (d : Doing) → AllFit p s.objects below → length s.stack ≡ suc (length below) → Does p s o m arguments rest below d t → Fair p t
-  does-fair o m arguments rest below (Write y q new) lower high does = writes-fair does (tt, lower)
-  does-fair o m arguments rest below (Begin y n given) lower high does = begins-fair does (omega (arith, high)) (tt, lower)
-  does-fair o m arguments rest below (Choose block) lower high does = quiet-fair does (tt, lower)
-  does-fair o m arguments rest below (Connect ends how) lower high does =
+  does-fair : (natives : NativeAnswers) (o m : ℕ) (arguments : List Value) (rest : List Step) (below : List Activation) (d : Doing) → AllFit p s.objects below → length s.stack ≡ suc (length below) → Does p natives s o m arguments rest below d t → Fair p t
+  does-fair natives o m arguments rest below (Write y q new) lower high does = writes-fair does (tt, lower)
+  does-fair natives o m arguments rest below (Begin y n given) lower high does = begins-fair does (omega (arith, high)) (tt, lower)
+  does-fair natives o m arguments rest below (Choose block) lower high does = quiet-fair does (tt, lower)
+  does-fair natives o m arguments rest below (Connect ends how) lower high does =
       linked-fair (Body o m arguments rest ∷ below) (kept_ends ends) how (names_of does.kept) does.answer does.gives (tt, lower)
-  does-fair o m arguments rest below (Disconnect ends) lower high does =
+  does-fair natives o m arguments rest below (Disconnect ends) lower high does =
       unlinked-fair (Body o m arguments rest ∷ below) (kept_ends ends) (names_of does.kept) does.answer does.gives (tt, lower)
-  does-fair o m arguments rest below (Delete x) lower high does = quiet-fair does (tt, (tt, lower))
-  does-fair o m arguments rest below (Schedule x) lower high does = schedules-fair (Body o m arguments rest ∷ below) x (life_of s.objects x) does (tt, lower)
-  does-fair o m arguments rest below Nothing lower high does = quiet-fair does (tt, lower)
+  does-fair natives o m arguments rest below (Delete x) lower high does = quiet-fair does (tt, (tt, lower))
+  does-fair natives o m arguments rest below (Schedule x) lower high does = schedules-fair (Body o m arguments rest ∷ below) x (life_of s.objects x) does (tt, lower)
+  does-fair natives o m arguments rest below (TakeAnswer effects) lower high does = quiet-fair does.gives (tt, lower)
+  does-fair natives o m arguments rest below Nothing lower high does = quiet-fair does (tt, lower)
 
-  body-fair : (o m : ℕ) (arguments : List Value) (below : List Activation) (left : List Statement) → AllFit p s.objects below → length s.stack ≡ suc (length below) → BodyRule p s o m arguments below t left → Fair p t
-  body-fair o m arguments below [] lower high r = quiet-fair r lower
-  body-fair o m arguments below (x ∷ rest) lower high r = does-fair o m arguments rest below r.what lower high r.does
+  body-fair : (natives : NativeAnswers) (o m : ℕ) (arguments : List Value) (below : List Activation) (left : List Step) → AllFit p s.objects below → length s.stack ≡ suc (length below) → BodyRule p natives s o m arguments below t left → Fair p t
+  body-fair natives o m arguments below [] lower high r = quiet-fair r lower
+  body-fair natives o m arguments below (x ∷ rest) lower high r = does-fair natives o m arguments rest below r.what lower high r.does
 
   emission-fair : (o g : ℕ) (arguments : List Value) (used last : ℕ) (below : List Activation) (found : Option Connection) → AllJoined p s.objects s.connected.connections → next_used s.objects s.connected.connections o g used last ≡ found → SendsThese p s.objects o g arguments → AllFit p s.objects below → length s.stack ≡ suc (length below) → EmitRule p s o g arguments last below t found → Fair p t
   emission-fair o g arguments used last below None joined is fit lower high r = quiet-fair r lower
@@ -264,18 +268,18 @@ module _ {p : Loaded} {s t : State} (program : IsSound p) (well : IsWell p s t) 
           subst Family (sym e) (record { waiting = waiting; emitted = all })
       by_first (Some q) d = delivers-fair turn q.item low all d
 
-  pub rule-fair : (stack : List Activation) → AllJoined p s.objects s.connected.connections → AllFit p s.objects s.stack → AllFit p s.objects stack → length s.stack ≡ length stack → RuleAt p s t stack → Fair p t
-  rule-fair [] joined here all high r = turn-fair s.turn high here r
-  rule-fair (Body o m arguments left ∷ below) joined here all high r = body-fair o m arguments below left all.1 high r
-  rule-fair (Emit o g arguments used last ∷ below) joined here all high r = emission-fair o g arguments used last below (next_used s.objects s.connected.connections o g used last) joined refl all.0 all.1 high r
-  rule-fair (Update places ∷ below) joined here all high r = update-fair below places all.1 high r
-  rule-fair (Destroy next torn ∷ below) joined here all high r = destroy-fair below next torn all.1 high r
+  pub rule-fair : (natives : NativeAnswers) (stack : List Activation) → AllJoined p s.objects s.connected.connections → AllFit p s.objects s.stack → AllFit p s.objects stack → length s.stack ≡ length stack → RuleAt p natives s t stack → Fair p t
+  rule-fair natives [] joined here all high r = turn-fair s.turn high here r
+  rule-fair natives (Body o m arguments left ∷ below) joined here all high r = body-fair natives o m arguments below left all.1 high r
+  rule-fair natives (Emit o g arguments used last ∷ below) joined here all high r = emission-fair o g arguments used last below (next_used s.objects s.connected.connections o g used last) joined refl all.0 all.1 high r
+  rule-fair natives (Update places ∷ below) joined here all high r = update-fair below places all.1 high r
+  rule-fair natives (Destroy next torn ∷ below) joined here all high r = destroy-fair below next torn all.1 high r
 
 -- .. and so after runs of rules
-pub rules-fair : {p : Loaded} {d : ℕ} {s t : State} {n k : ℕ} → IsSound p → Rules p d s n t k → AllJoined p s.objects s.connected.connections → Fair p s → Fair p t
+pub rules-fair : {p : Loaded} {natives : NativeAnswers} {d : ℕ} {s t : State} {n k : ℕ} → IsSound p → Rules p natives d s n t k → AllJoined p s.objects s.connected.connections → Fair p s → Fair p t
 rules-fair program done joined fair = fair
-rules-fair {p} program (then {s = s} {m = m} r good rest) joined fair =
-    rules-fair program rest ((rule-kept p s m s.stack r).joined program joined) (rule-fair program good.well fair.waiting s.stack joined fair.emitted fair.emitted refl r)
+rules-fair {p} {natives} program (then {s = s} {m = m} r good rest) joined fair =
+    rules-fair program rest ((rule-kept p natives s m s.stack r).joined program joined) (rule-fair program good.well fair.waiting natives s.stack joined fair.emitted fair.emitted refl r)
 
 -- ---- the world stays sound
 
@@ -295,12 +299,12 @@ keeps-sound sound keeps agree waiting = record {
   room = omega (arith, keeps.posted, sound.room);
 }
 
-module _ {p : Loaded} {d : ℕ} {h : List (Option ℕ)} {w v : World} {a : List Activation} (fits : AllFit p w.store.tree a) (sound : IsSoundWorld p w) where
-  reaches-waiting : {b : List Activation} → Reaches p d h w a v b → AllWait p v.store.tree v.store.loops.loops
+module _ {p : Loaded} {natives : NativeAnswers} {d : ℕ} {h : List (Option ℕ)} {w v : World} {a : List Activation} (fits : AllFit p w.store.tree a) (sound : IsSoundWorld p w) where
+  reaches-waiting : {b : List Activation} → Reaches p natives d h w a v b → AllWait p v.store.tree v.store.loops.loops
   reaches-waiting x = let q = some-stack h in (rules-fair sound.program (x.runs q.0 q.1) sound.is.joined (record { waiting = sound.is.waiting; emitted = fit-over p w.store.tree a h fits })).waiting
 
   -- wherever a run of rules leads, the machine stays sound
-  pub reaches-sound : {b : List Activation} → Reaches p d h w a v b → IsSoundWorld p v
+  pub reaches-sound : {b : List Activation} → Reaches p natives d h w a v b → IsSoundWorld p v
   reaches-sound x = keeps-sound sound (reaches-keeps x) (reaches-agree x sound.is.agree) (reaches-waiting x)
 
 -- .. after a rule that uses a connection

@@ -21,7 +21,7 @@ use Rattle.machine_state.specs.State.{State, Activation, Destroy, IsIdle}
 use Rattle.machine_state.specs.Worlds.{at, with_queues, taking, taking_unwritten, turn_ended}
 use Rattle.machine_rules.specs.Active.{shows}
 use Rattle.machine_rules.specs.Good.{ArgumentsFit}
-use Rattle.machine_rules.specs.Reaches.{IsCalled, Reaches, StopsIn, Ends, Advances, IsBegun, IsBarred, top_of}
+use Rattle.machine_rules.specs.Reaches.{IsCalled, DoesWork, Reaches, StopsIn, RunsTo, Advances, IsBegun, IsBarred, top_of}
 use Rattle.machine_rules.specs.Rules.{Rule, TurnRule, Serves, Delivers, Begins, BeginsIf}
 use Rattle.machine_rules.specs.Runs.{done}
 use Rattle.machine_rules.specs.Sound.{Waits, IsSoundWorld, AgreeIn}
@@ -33,6 +33,7 @@ use Rattle.machine_state.specs.Connections.{is_living}
 use Rattle.machine_rules.proofs.Beginning.{has-life}
 use Rattle.machine_rules.proofs.Declared.{living-fits}
 use Rattle.machine_rules.proofs.Waiting.{length-change, housed-same, all-taken, first-waits}
+use Rattle.machine_rules.specs.Natives.{NativeAnswers}
 
 -- ---- while a turn goes on
 
@@ -41,18 +42,18 @@ pub turn-goes-on : {turn : Turn} (w : World) → w.turn ≡ Some turn → (below
 turn-goes-on {turn} w is below idle = let both : Some turn ≡ None = sym is ∙ idle.no_turn in absurd (cc both)
 
 -- .. and no rule is left
-pub stops-turn : {p : Loaded} {d : ℕ} {w : World} {turn : Turn} → w.turn ≡ Some turn → w.left ≡ 0 → StopsIn p d [] w [] w Steps
+pub stops-turn : {p : Loaded} {natives : NativeAnswers} {d : ℕ} {w : World} {turn : Turn} → w.turn ≡ Some turn → w.left ≡ 0 → StopsIn p natives d [] w [] w Steps
 stops-turn {w = w} is none = record { stops = λ below e. (w, below, left-same w Steps, done, (none, turn-goes-on w is below)) }
 
 -- .. or its next call doesn't begin
-pub advances-barred : {p : Loaded} {d : ℕ} {active : List (Option ℕ)} {w : World} {turn : Turn} {f : Fault} (r : Result (Unit {0}) Fault) → w.turn ≡ Some turn → active ≡ [] → 0 < d → 0 < w.left → IsBarred d active f → IsErrAnd r (λ y. y ≡ f) → Advances p d [] w [] w [] r
-advances-barred {p} {d} {w = w} {f = f} r is none room some why barred = elim why [
+pub advances-barred : {p : Loaded} {natives : NativeAnswers} {d : ℕ} {active : List (Option ℕ)} {w : World} {turn : Turn} {f : Fault} (r : Result (Unit {0}) Fault) → w.turn ≡ Some turn → active ≡ [] → 0 < d → 0 < w.left → IsBarred d active f → IsErrAnd r (λ y. y ≡ f) → Advances p natives d [] w [] w [] r
+advances-barred {p} {natives} {d} {w = w} {f = f} r is none room some why barred = elim why [
   | inl deep ↦ let none_active = ap (λ (l : List (Option ℕ)). length l) none in absurd (omega (arith, deep.0, none_active, room))
   | inr short ↦ advances-left f r (ends-unchanged r (turn-goes-on w is) some (short, refl) barred) barred
 ]
 
 -- .. or it isn't taken
-pub advances-unchanged : {p : Loaded} {d : ℕ} {w v : World} {turn : Turn} {f : Fault} (r : Result (Unit {0}) Fault) → w.turn ≡ Some turn → 0 < w.left → (f ≡ Memory) × (v ≡ w) → IsErrAnd r (λ y. y ≡ f) → Advances p d [] w [] v [] r
+pub advances-unchanged : {p : Loaded} {natives : NativeAnswers} {d : ℕ} {w v : World} {turn : Turn} {f : Fault} (r : Result (Unit {0}) Fault) → w.turn ≡ Some turn → 0 < w.left → (f ≡ Memory) × (v ≡ w) → IsErrAnd r (λ y. y ≡ f) → Advances p natives d [] w [] v [] r
 advances-unchanged {w = w} {f = f} r is some same failed = advances-left f r (ends-unchanged r (turn-goes-on w is) some same failed) failed
 
 -- a stack that shows nothing is empty
@@ -61,8 +62,8 @@ none-below [] e = refl
 none-below (a ∷ below) e = absurd (cc e)
 
 -- what the turn does is the rule of an empty stack
-turn-rule : (p : Loaded) (w : World) (t : State) {turn : Turn} (first : Option Posted) → w.turn ≡ Some turn → first ≡ find (is_before turn.limit) (items_at w.store.loops.loops turn.home) → Serves p (at w []) t turn first → Rule p (at w []) t
-turn-rule p w t {turn} first is found serves =
+turn-rule : (p : Loaded) (natives : NativeAnswers) (w : World) (t : State) {turn : Turn} (first : Option Posted) → w.turn ≡ Some turn → first ≡ find (is_before turn.limit) (items_at w.store.loops.loops turn.home) → Serves p (at w []) t turn first → Rule p natives (at w []) t
+turn-rule p natives w t {turn} first is found serves =
     let Next : Option Turn → Type 0 = λ x. TurnRule p (at w []) t x in
     let First : Option Posted → Type 0 = λ f. Serves p (at w []) t turn f in
     subst Next (sym is) (subst First found serves)
@@ -70,19 +71,19 @@ turn-rule p w t {turn} first is found serves =
 -- ---- its rules
 
 -- with nothing left the turn ends
-pub reaches-ended : {p : Loaded} {d : ℕ} {w v : World} {turn : Turn} → w.turn ≡ Some turn → None ≡ find (is_before turn.limit) (items_at w.store.loops.loops turn.home) → AgreeIn p w → 0 < w.left → v ≡ turn_ended w → Reaches p d [] w [] v []
-reaches-ended {p} {d} {w} {v} is none agree some v_is =
+pub reaches-ended : {p : Loaded} {natives : NativeAnswers} {d : ℕ} {w v : World} {turn : Turn} → w.turn ≡ Some turn → None ≡ find (is_before turn.limit) (items_at w.store.loops.loops turn.home) → AgreeIn p w → 0 < w.left → v ≡ turn_ended w → Reaches p natives d [] w [] v []
+reaches-ended {p} {natives} {d} {w} {v} is none agree some v_is =
     let target : World = turn_ended w in
-    let Over : List Activation → Type 0 = λ l. Rule p (at w l) (at target l) in
-    let Family : World → Type 0 = λ u. Reaches p d [] w [] u [] in
-    let ends : Rule p (at w []) (at target []) = turn-rule p w (at target []) None is none refl in
+    let Over : List Activation → Type 0 = λ l. Rule p natives (at w l) (at target l) in
+    let Family : World → Type 0 = λ u. Reaches p natives d [] w [] u [] in
+    let ends : Rule p natives (at w []) (at target []) = turn-rule p natives w (at target []) None is none refl in
     subst Family (sym v_is) (reaches-low {a = []} {b = []} (λ below e. subst Over (sym (none-below below e)) ends) (λ o gone. gone) (omega arith) (omega arith) agree refl some)
 
 -- the first item that the turn may deliver is taken, and its call begins
-pub reaches-served : {p : Loaded} {d o m : ℕ} {active : List (Option ℕ)} {w v : World} {turn : Turn} {q : Posted} {arguments : List Value} {line : Entry} {work : Work} {last : ℕ} →
+pub reaches-served : {p : Loaded} {natives : NativeAnswers} {d o m : ℕ} {active : List (Option ℕ)} {w v : World} {turn : Turn} {q : Posted} {arguments : List Value} {line : Entry} {work : Work} {last : ℕ} →
     w.turn ≡ Some turn → Some q ≡ find (is_before turn.limit) (items_at w.store.loops.loops turn.home) → q.item ≡ Call o m arguments → active ≡ [] → IsBegun p d active w o m arguments line work last → ArgumentsFit p w.store.tree o m arguments → AgreeIn p w → 0 < w.left → v ≡ taking w (line ∷ []) turn.home turn.limit →
-    Reaches p d [] w [] v (top_of o m arguments last work ∷ [])
-reaches-served {p} {d} {o} {m} {active} {w} {v} {turn} {q} {arguments} {line} {work} {last} is found item_is none begun fit agree some v_is =
+    Reaches p natives d [] w [] v (top_of o m arguments last work ∷ [])
+reaches-served {p} {natives} {d} {o} {m} {active} {w} {v} {turn} {q} {arguments} {line} {work} {last} is found item_is none begun fit agree some v_is =
     let none_active : length active ≡ 0 = ap (λ (l : List (Option ℕ)). length l) none in
     let took : World = with_queues w (taken_before turn.home turn.limit w.store.loops) in
     let target : World = begun_world took (length active + 1) begun.object m begun.method arguments in
@@ -90,46 +91,46 @@ reaches-served {p} {d} {o} {m} {active} {w} {v} {turn} {q} {arguments} {line} {w
     let begins : Begins p (at took []) [] o m arguments (at target stack) = begins-there took arguments [] [] begun.is (omega (arith, none_active)) in
     let Of : Item → Type 0 = λ i. Delivers p (at took []) (at target stack) i in
     let If : Option Life → Type 0 = λ life. BeginsIf p (at took []) o m arguments (at target stack) life in
-    let rule : Rule p (at w []) (at target stack) = turn-rule p w (at target stack) (Some q) is found (subst Of (sym item_is) (subst If (sym (life-of-lives begun.is.lives)) begins)) in
-    let Over : List Activation → Type 0 = λ l. Rule p (at w l) (at target (top_of o m arguments w.store.connections.last begun.method.work ∷ l)) in
+    let rule : Rule p natives (at w []) (at target stack) = turn-rule p natives w (at target stack) (Some q) is found (subst Of (sym item_is) (subst If (sym (life-of-lives begun.is.lives)) begins)) in
+    let Over : List Activation → Type 0 = λ l. Rule p natives (at w l) (at target (top_of o m arguments w.store.connections.last begun.method.work ∷ l)) in
     let room : 0 < d = omega (arith, none_active, begun.room) in
-    let went : Reaches p d [] w [] target stack = reaches-high {active = []} {from = []} {to = []} refl (λ below e. subst Over (sym (none-below below e)) rule) (λ below e. none-spared w.store.tree w.store.tree below (λ k gone. gone)) (λ below. top-fits w.store.connections.last begun.method.work below fit) room agree refl some in
-    let Pushed : World → Work → ℕ → Type 0 = λ u k l. Reaches p d [] w [] u (top_of o m arguments l k ∷ []) in
+    let went : Reaches p natives d [] w [] target stack = reaches-high {active = []} {from = []} {to = []} refl (λ below e. subst Over (sym (none-below below e)) rule) (λ below e. none-spared w.store.tree w.store.tree below (λ k gone. gone)) (λ below. top-fits w.store.connections.last begun.method.work below fit) room agree refl some in
+    let Pushed : World → Work → ℕ → Type 0 = λ u k l. Reaches p natives d [] w [] u (top_of o m arguments l k ∷ []) in
     let target_is : v ≡ target = v_is ∙ ap (λ (y : Entry). taking w (y ∷ []) turn.home turn.limit) begun.is_line in
     subst (λ (u : World). Pushed u work last) (sym target_is) (subst (λ (k : Work). Pushed target k last) (sym begun.is_work) (subst (λ (l : ℕ). Pushed target begun.method.work l) (sym begun.is_last) went))
 
 -- .. a call of a dead object begins nothing
-pub reaches-passed : {p : Loaded} {d o m : ℕ} {w v : World} {turn : Turn} {q : Posted} {arguments : List Value} → w.turn ≡ Some turn → Some q ≡ find (is_before turn.limit) (items_at w.store.loops.loops turn.home) → q.item ≡ Call o m arguments → None ≡ life_of w.store.tree o → AgreeIn p w → 0 < w.left → v ≡ taking_unwritten w turn.home turn.limit → Reaches p d [] w [] v []
-reaches-passed {p} {d} {o} {m} {w} {v} {turn} {q} {arguments} is found item_is gone agree some v_is =
+pub reaches-passed : {p : Loaded} {natives : NativeAnswers} {d o m : ℕ} {w v : World} {turn : Turn} {q : Posted} {arguments : List Value} → w.turn ≡ Some turn → Some q ≡ find (is_before turn.limit) (items_at w.store.loops.loops turn.home) → q.item ≡ Call o m arguments → None ≡ life_of w.store.tree o → AgreeIn p w → 0 < w.left → v ≡ taking_unwritten w turn.home turn.limit → Reaches p natives d [] w [] v []
+reaches-passed {p} {natives} {d} {o} {m} {w} {v} {turn} {q} {arguments} is found item_is gone agree some v_is =
     let took : World = with_queues w (taken_before turn.home turn.limit w.store.loops) in
     let target : World = taking_unwritten w turn.home turn.limit in
     let If : Option Life → Type 0 = λ life. BeginsIf p (at took []) o m arguments (at target []) life in
     let Of : Item → Type 0 = λ i. Delivers p (at took []) (at target []) i in
-    let rule : Rule p (at w []) (at target []) = turn-rule p w (at target []) (Some q) is found (subst Of (sym item_is) (subst If gone refl)) in
-    let Over : List Activation → Type 0 = λ l. Rule p (at w l) (at target l) in
-    let Family : World → Type 0 = λ u. Reaches p d [] w [] u [] in
+    let rule : Rule p natives (at w []) (at target []) = turn-rule p natives w (at target []) (Some q) is found (subst Of (sym item_is) (subst If gone refl)) in
+    let Over : List Activation → Type 0 = λ l. Rule p natives (at w l) (at target l) in
+    let Family : World → Type 0 = λ u. Reaches p natives d [] w [] u [] in
     subst Family (sym v_is) (reaches-low {a = []} {b = []} (λ below e. subst Over (sym (none-below below e)) rule) (λ k gone. gone) (omega arith) (omega arith) agree refl some)
 
 -- .. a deletion begins
-pub reaches-deleting : {p : Loaded} {d o : ℕ} {w v : World} {turn : Turn} {q : Posted} → w.turn ≡ Some turn → Some q ≡ find (is_before turn.limit) (items_at w.store.loops.loops turn.home) → q.item ≡ Deletion o → 0 < d → AgreeIn p w → 0 < w.left → v ≡ taking_unwritten w turn.home turn.limit → Reaches p d [] w [] v (Destroy (Some o) [] ∷ [])
-reaches-deleting {p} {d} {o} {w} {v} {turn} {q} is found item_is room agree some v_is =
+pub reaches-deleting : {p : Loaded} {natives : NativeAnswers} {d o : ℕ} {w v : World} {turn : Turn} {q : Posted} → w.turn ≡ Some turn → Some q ≡ find (is_before turn.limit) (items_at w.store.loops.loops turn.home) → q.item ≡ Deletion o → 0 < d → AgreeIn p w → 0 < w.left → v ≡ taking_unwritten w turn.home turn.limit → Reaches p natives d [] w [] v (Destroy (Some o) [] ∷ [])
+reaches-deleting {p} {natives} {d} {o} {w} {v} {turn} {q} is found item_is room agree some v_is =
     let took : World = with_queues w (taken_before turn.home turn.limit w.store.loops) in
     let target : World = taking_unwritten w turn.home turn.limit in
     let stack : List Activation = Destroy (Some o) [] ∷ [] in
     let Of : Item → Type 0 = λ i. Delivers p (at took []) (at target stack) i in
-    let rule : Rule p (at w []) (at target stack) = turn-rule p w (at target stack) (Some q) is found (subst Of (sym item_is) refl) in
-    let Over : List Activation → Type 0 = λ l. Rule p (at w l) (at target (Destroy (Some o) [] ∷ l)) in
-    let Family : World → Type 0 = λ u. Reaches p d [] w [] u (Destroy (Some o) [] ∷ []) in
+    let rule : Rule p natives (at w []) (at target stack) = turn-rule p natives w (at target stack) (Some q) is found (subst Of (sym item_is) refl) in
+    let Over : List Activation → Type 0 = λ l. Rule p natives (at w l) (at target (Destroy (Some o) [] ∷ l)) in
+    let Family : World → Type 0 = λ u. Reaches p natives d [] w [] u (Destroy (Some o) [] ∷ []) in
     subst Family (sym v_is) (reaches-high {active = []} {from = []} {to = []} refl (λ below e. subst Over (sym (none-below below e)) rule) (λ below e. none-spared w.store.tree w.store.tree below (λ k gone. gone)) (λ below. tt) room agree refl some)
 
 -- .. and is carried out
-pub advances-served : {p : Loaded} {d : ℕ} {active : List (Option ℕ)} {w v u : World} {from : List Activation} (r : Result (Unit {0}) Fault) → active ≡ [] → Reaches p d [] w [] v from → v.left ≡ w.left - 1 → 0 < w.left → Ends p d active v from u [] r → Advances p d [] w [] u [] r
-advances-served {p} {d} {v = v} {u = u} {from = from} (Ok _) none went less some ends =
-    let Shown : List (Option ℕ) → Type 0 = λ l. Reaches p d l v from u [] in
-    let more : Reaches p d [] v from u [] = subst Shown none ends.cases in
+pub advances-served : {p : Loaded} {natives : NativeAnswers} {d : ℕ} {active : List (Option ℕ)} {w v u : World} {from : List Activation} (r : Result (Unit {0}) Fault) → active ≡ [] → Reaches p natives d [] w [] v from → v.left ≡ w.left - 1 → 0 < w.left → RunsTo p natives d active v from u [] r → Advances p natives d [] w [] u [] r
+advances-served {p} {natives} {d} {v = v} {u = u} {from = from} (Ok _) none went less some ends =
+    let Shown : List (Option ℕ) → Type 0 = λ l. Reaches p natives d l v from u [] in
+    let more : Reaches p natives d [] v from u [] = subst Shown none ends.cases in
     record { cases = (reaches-then went more, omega (arith, (reaches-keeps more).fewer, less, some)) }
-advances-served {p} {d} {v = v} {u = u} {from = from} (Err f) none went less some ends =
-    let Shown : List (Option ℕ) → Type 0 = λ l. StopsIn p d l v from u f in
+advances-served {p} {natives} {d} {v = v} {u = u} {from = from} (Err f) none went less some ends =
+    let Shown : List (Option ℕ) → Type 0 = λ l. StopsIn p natives d l v from u f in
     record { cases = stops-after went (subst Shown none ends.cases) }
 
 -- ---- what is delivered
@@ -189,3 +190,9 @@ pub taken-fits : {p : Loaded} {v : World} {o m : ℕ} {arguments : List Value} (
 taken-fits {p} {o = o} {m = m} {arguments = arguments} w entries home number e fit =
     let Family : World → Type 0 = λ u. ArgumentsFit p u.store.tree o m arguments in
     subst Family (sym e) fit
+
+-- .. what its methods do
+pub taken-work : {p : Loaded} {v : World} {o m : ℕ} {work : Work} (w : World) (entries : List Entry) (home number : ℕ) → v ≡ taking w entries home number → DoesWork p w.store.tree o m work → DoesWork p v.store.tree o m work
+taken-work {p} {o = o} {m = m} {work = work} w entries home number e does =
+    let Family : World → Type 0 = λ u. DoesWork p u.store.tree o m work in
+    subst Family (sym e) does

@@ -3,8 +3,6 @@ use Rattle.std.proofs.Common.{◌≡◌, ℕ, suc, ◌+◌, ◌-◌, ◌<◌, �
 use Rattle.std.specs.Prelude.{IfOk, IfErr}
 use Rattle.signatures.specs.declared.value.Value.{Value}
 use Rattle.meta_model.specs.declared.object.MetaProperty.{MetaProperty}
-use Rattle.meta_model.specs.declared.object.Statement.{Statement}
-use Rattle.meta_model.specs.declared.object.Statement.TheViews.{out-Statement}
 use Rattle.meta_model.specs.Loaded.{Loaded}
 use Rattle.object_tree.specs.declared.object.Object.{Object}
 use Rattle.object_tree.specs.Typed.{ReadsAs}
@@ -17,13 +15,13 @@ use Rattle.machine_state.specs.declared.entry.Entry.{Entry}
 use Rattle.machine_state.specs.declared.fault.Fault.{Fault}
 use Rattle.machine_state.specs.declared.telling.Cause.TheVariants as cause
 use Rattle.machine_state.specs.declared.world.World.{World}
-use Rattle.machine_state.specs.State.{State, Activation, Body, Update}
+use Rattle.machine_state.specs.State.{Step, State, Activation, Body, Update}
 use Rattle.machine_state.specs.Telling.{AreTold}
 use Rattle.machine_state.specs.Worlds.{at, noted, HasWritten}
 use Rattle.machine_rules.specs.Active.{shows}
-use Rattle.machine_rules.specs.Doings.{Doing, Write, doing}
-use Rattle.machine_rules.specs.Reaches.{Reaches, StopsIn, Ends, MayNest, Sets}
-use Rattle.machine_rules.specs.Runs.{WritesNext, WritesIll, WritesDeep}
+use Rattle.machine_rules.specs.Doings.{Doing, Write, TakeAnswer, doing_step}
+use Rattle.machine_rules.specs.Reaches.{Reaches, StopsIn, RunsTo, MayNest, Sets}
+use Rattle.machine_rules.specs.Runs.{DoesNext, WritesNext, WritesIll, WritesDeep}
 use Rattle.machine_rules.specs.Settling.{Settles, Writes, notified}
 use Rattle.machine_rules.specs.Sound.{AgreeIn}
 use Rattle.machine_rules.specs.There.{IsField, LacksField}
@@ -31,6 +29,7 @@ use Rattle.machine_rules.specs.Writing.{MayWrite, IsUnwritten, missing, ill, dee
 use Rattle.machine_rules.proofs.Beginning.{one-more}
 use Rattle.machine_rules.proofs.Differing.{differ-spared}
 use Rattle.machine_rules.proofs.Reaching.{none-spared, reaches-high, ends-after, ends-lifted, stops-stuck, stops-ill-write, stops-deep-write}
+use Rattle.machine_rules.specs.Natives.{NativeAnswers}
 
 -- ---- a property is written
 
@@ -58,10 +57,10 @@ writes-there {p} {n} {place} {x} {property} {new} {changed} {v} w stack over f h
     }
 
 -- .. by one rule
-pub reaches-written : {p : Loaded} {d : ℕ} {h active : List (Option ℕ)} {place : Place} {w v : World} {from to : List Activation} {new : Value} {changed : List Place} →
-    active ≡ shows to ++ h → Sets p w from to place.object place.property new → 0 < w.left → MayWrite p d active w.store.tree place new → HasWritten p (length active + 1) place new w (noted w) changed v → AgreeIn p v →
-    Reaches p d h w from v (Update (notified p v.store.tree changed) ∷ to)
-reaches-written {p} {d} {h} {active} {place} {w} {v} {from} {to} over sets some may written agree =
+pub reaches-written : {p : Loaded} {natives : NativeAnswers} {d : ℕ} {h active : List (Option ℕ)} {place : Place} {w v : World} {from to : List Activation} {new : Value} {changed : List Place} →
+    active ≡ shows to ++ h → Sets p natives w from to place.object place.property new → 0 < w.left → MayWrite p d active w.store.tree place new → HasWritten p (length active + 1) place new w (noted w) changed v → AgreeIn p v →
+    Reaches p natives d h w from v (Update (notified p v.store.tree changed) ∷ to)
+reaches-written {p} {natives} {d} {h} {active} {place} {w} {v} {from} {to} over sets some may written agree =
     let less : v.left ≡ w.left - 1 = ap (λ (u : World). u.left) written.gives in
     reaches-high over
     (λ below e. sets.gives below _ (writes-there w (from ++ below) (to ++ below) may.is written (one-more to below over e)))
@@ -69,40 +68,43 @@ reaches-written {p} {d} {h} {active} {place} {w} {v} {from} {to} over sets some 
     (λ below. tt) may.room agree less some
 
 -- .. and its update runs
-pub ends-written : {p : Loaded} {d : ℕ} {h active : List (Option ℕ)} {place : Place} {w v u : World} {from to : List Activation} {new : Value} {changed : List Place} {r : Result (Unit {0}) Fault} →
-    active ≡ shows to ++ h → Sets p w from to place.object place.property new → 0 < w.left → MayWrite p d active w.store.tree place new → HasWritten p (length active + 1) place new w (noted w) changed v → AgreeIn p v →
-    Ends p d active v (Update (notified p v.store.tree changed) ∷ []) u [] r → Ends p d h w from u to r
+pub ends-written : {p : Loaded} {natives : NativeAnswers} {d : ℕ} {h active : List (Option ℕ)} {place : Place} {w v u : World} {from to : List Activation} {new : Value} {changed : List Place} {r : Result (Unit {0}) Fault} →
+    active ≡ shows to ++ h → Sets p natives w from to place.object place.property new → 0 < w.left → MayWrite p d active w.store.tree place new → HasWritten p (length active + 1) place new w (noted w) changed v → AgreeIn p v →
+    RunsTo p natives d active v (Update (notified p v.store.tree changed) ∷ []) u [] r → RunsTo p natives d h w from u to r
 ends-written over sets some may written agree rest = ends-after (reaches-written over sets some may written agree) (ends-lifted over rest)
 
 -- ---- a property isn't written
 
--- a statement writes one property
-one-write : {s : State} {o q a b : ℕ} {new value : Value} → WritesNext s o q new → WritesNext s a b value → (o ≡ a) × (q ≡ b)
-one-write {s} {o} {q} {a} {b} {new} {value} m n =
-    let stacks : (Body m.object m.method m.arguments (m.statement ∷ m.rest) ∷ m.below) ≡ (Body n.object n.method n.arguments (n.statement ∷ n.rest) ∷ n.below) = sym m.is_next ∙ n.is_next in
+-- a step does one thing
+one-doing : {s : State} {c d : Doing} → DoesNext s c → DoesNext s d → c ≡ d
+one-doing {s} {c} {d} m n =
+    let stacks : (Body m.object m.method m.arguments (m.step ∷ m.rest) ∷ m.below) ≡ (Body n.object n.method n.arguments (n.step ∷ n.rest) ∷ n.below) = sym m.is_next ∙ n.is_next in
     let object_is : m.object ≡ n.object = cc stacks in
     let arguments_is : m.arguments ≡ n.arguments = cc stacks in
-    let statement_is : m.statement ≡ n.statement = cc stacks in
-    let by_object : ℕ → Option Doing = λ k. doing s.objects k n.arguments (out-Statement n.statement) in
-    let by_arguments : List Value → Option Doing = λ l. doing s.objects m.object l (out-Statement n.statement) in
-    let by_statement : Statement → Option Doing = λ x. doing s.objects m.object m.arguments (out-Statement x) in
-    let both : Some (Write o q new) ≡ Some (Write a b value) = sym m.writes ∙ ap by_statement statement_is ∙ ap by_arguments arguments_is ∙ ap by_object object_is ∙ n.writes in
-    (cc both, cc both)
+    let step_is : m.step ≡ n.step = cc stacks in
+    let by_object : ℕ → Option Doing = λ k. doing_step s.objects k n.arguments n.step in
+    let by_arguments : List Value → Option Doing = λ l. doing_step s.objects m.object l n.step in
+    let by_step : Step → Option Doing = λ x. doing_step s.objects m.object m.arguments x in
+    let both : Some c ≡ Some d = sym m.does ∙ ap by_step step_is ∙ ap by_arguments arguments_is ∙ ap by_object object_is ∙ n.does in
+    cc both
 
-pub stops-unwritten : {p : Loaded} {d : ℕ} {h active : List (Option ℕ)} {place : Place} {w : World} {from to : List Activation} {new : Value} {f : Fault} →
-    active ≡ shows to ++ h → Sets p w from to place.object place.property new → 0 < w.left → IsUnwritten p d active w.store.tree place new f → StopsIn p d h w from w f
-stops-unwritten {p} {place = place} {w = w} over sets some (missing none) =
+pub stops-unwritten : {p : Loaded} {natives : NativeAnswers} {d : ℕ} {h active : List (Option ℕ)} {place : Place} {w : World} {from to : List Activation} {new : Value} {f : Fault} →
+    active ≡ shows to ++ h → Sets p natives w from to place.object place.property new → 0 < w.left → IsUnwritten p d active w.store.tree place new f → StopsIn p natives d h w from w f
+stops-unwritten {p} {natives} {place = place} {w = w} {new = new} over sets some (missing none) =
     stops-stuck sets.goes_on some
     (λ below t r. let k = sets.only below t r in none k.object k.property k.is)
     (λ below a b value next.
-    let same = one-write (sets.next below) next in
+    let same : Write place.object place.property new ≡ Write a b value = one-doing (sets.next below) next in
+    let object_is : place.object ≡ a = cc same in
+    let property_is : place.property ≡ b = cc same in
     let By : ℕ → ℕ → Type 0 = λ o q. LacksField p w.store.tree o q in
-    subst (λ (q : ℕ). By a q) same.1 (subst (λ (o : ℕ). By o place.property) same.0 none))
-stops-unwritten {p} {place = place} {w = w} {from = from} {new = new} over sets some (ill {x = x} {property = property} f not) =
+    subst (λ (q : ℕ). By a q) property_is (subst (λ (o : ℕ). By o place.property) object_is none))
+    (λ below effects next. let same : Write place.object place.property new ≡ TakeAnswer effects = one-doing (sets.next below) next in absurd (cc same))
+stops-unwritten {p} {natives} {place = place} {w = w} {from = from} {new = new} over sets some (ill {x = x} {property = property} f not) =
     stops-ill-write some (λ below.
     let is : WritesIll p (at w (from ++ below)) = record { object = place.object; number = place.property; value = new; next = sets.next below; it = x; property = property; is = f; ill = not } in
     is)
-stops-unwritten {p} {d} {active = active} {place = place} {w = w} {from = from} {to = to} {new = new} over sets some (deep {x = x} {property = property} f fits high) =
+stops-unwritten {p} {natives} {d} {active = active} {place = place} {w = w} {from = from} {to = to} {new = new} over sets some (deep {x = x} {property = property} f fits high) =
     stops-deep-write some (λ below e.
     let is : WritesDeep p d (at w (from ++ below)) = record {
       object = place.object;

@@ -1,17 +1,22 @@
--- What the statements of a body do (docs/machine.md, "Rules").
-use Rattle.std.specs.Prelude.{ℕ, true, false, List, Option, None, Some}
+-- What the steps of a body do: the statements of a slot, and what a native does (docs/machine.md, "Rules").
+use Rattle.std.specs.Prelude.{ℕ, true, false, List, Option, None, Some, slice_get}
 use Rattle.std.specs.Option.{option_map}
 use Rattle.signatures.specs.declared.value.Value.{Value}
 use Rattle.signatures.specs.declared.value.Value.TheVariants as value
 use Rattle.texts.specs.declared.connection.ConnectionType.{ConnectionType}
 use Rattle.meta_model.specs.declared.object.Statement.{Statement}
 use Rattle.meta_model.specs.declared.object.Statement.TheOpen as layer
+use Rattle.meta_model.specs.declared.object.Statement.TheViews.{out-Statement}
 use Rattle.meta_model.specs.declared.object.MetaEndpoints.{MetaEndpoints}
 use Rattle.object_tree.specs.declared.object.Object.{Object}
 use Rattle.machine_state.specs.declared.endpoints.Endpoints.{Endpoints}
+use Rattle.meta_model.specs.declared.effects.MetaEffects.{MetaEffects}
+use Rattle.native_slots.specs.declared.action.Action.{Action}
+use Rattle.native_slots.specs.declared.action.Action.TheVariants as action
+use Rattle.machine_state.specs.State.{Step, Run, Ask, Act}
 use Rattle.machine_rules.specs.Paths.{path_value, value_of, values_of}
 
--- what one statement does
+-- what one step does
 pub data Doing : Type 0 where
   -- a property of an object is written
   Write : (object property : ℕ) (value : Value) → Doing
@@ -27,6 +32,8 @@ pub data Doing : Type 0 where
   Delete : (object : ℕ) → Doing
   -- .. when control returns to the event loop in which it lives
   Schedule : (object : ℕ) → Doing
+  -- a native's answer is taken
+  TakeAnswer : (effects : MetaEffects) → Doing
   -- nothing, since a path leads to null
   Nothing : Doing
 
@@ -68,3 +75,14 @@ doing objects o arguments (layer.Disconnect ends) =
     on_ends Disconnect ends (path_value objects o arguments ends.sender) (path_value objects o arguments ends.receiver)
 doing objects o arguments (layer.Delete path) = on_object (λ x. Some (Delete x)) (path_value objects o arguments path)
 doing objects o arguments (layer.Later path) = on_object (λ x. Some (Schedule x)) (path_value objects o arguments path)
+
+-- an action of a native of object o: what is in this place of the lists of its effects is set or emitted
+abbrev pub doing_action : ℕ → MetaEffects → Action → Option Doing
+doing_action o effects (action.Set k value) = option_map (λ q. Write o q value) (slice_get effects.sets k)
+doing_action o effects (action.Emit k given) = option_map (λ g. Begin o g given) (slice_get effects.emits k)
+
+-- what a step of a body of object o does
+abbrev pub doing_step : List Object → ℕ → List Value → Step → Option Doing
+doing_step objects o arguments (Run statement) = doing objects o arguments (out-Statement statement)
+doing_step objects o arguments (Ask effects) = Some (TakeAnswer effects)
+doing_step objects o arguments (Act effects action) = doing_action o effects action

@@ -4,21 +4,23 @@ use Rattle.meta_model.specs.Loaded.{Loaded}
 use Rattle.prop_bindings.specs.Fits.{Agree}
 use Rattle.machine_state.specs.State.{State}
 use Rattle.machine_rules.specs.Good.{IsWell}
+use Rattle.machine_rules.specs.Natives.{NativeAnswers, AnswersOnce}
 use Rattle.machine_rules.specs.Rules.{Rule}
 use Rattle.machine_rules.specs.Runs.{Rules}
 
--- at most one state follows by a rule, where properties and bindings agree
-abbrev pub OneRule : Type 0
-OneRule = (p : Loaded) (s t u : State) → Agree p s.objects s.bindings → Rule p s t → Rule p s u → t ≡ u
+-- at most one state follows by a rule, where properties and bindings agree, if natives have one answer
+abbrev pub OneRule : NativeAnswers → Type 0
+OneRule natives =
+    AnswersOnce natives → (p : Loaded) (s t u : State) → Agree p s.objects s.bindings → Rule p natives s t → Rule p natives s u → t ≡ u
 
 -- what follows by a rule that gives no value of a wrong type keeps them in agreement: it settles the values again
-abbrev pub RuleSettles : Type 0
-RuleSettles =
-    (p : Loaded) (s t : State) → Agree p s.objects s.bindings → Rule p s t → IsWell p s t → Agree p t.objects t.bindings
+abbrev pub RuleSettles : NativeAnswers → Type 0
+RuleSettles natives =
+    (p : Loaded) (s t : State) → Agree p s.objects s.bindings → Rule p natives s t → IsWell p s t → Agree p t.objects t.bindings
 
 -- in every state of a run without a bad moment, from one in which they do, properties and bindings agree: so all values
 -- are settled
-abbrev pub StaysSettled : Type 0
-StaysSettled =
+abbrev pub StaysSettled : NativeAnswers → Type 0
+StaysSettled natives =
     (p : Loaded) (depth : ℕ) (s t : State) (left after : ℕ) →
-    Agree p s.objects s.bindings → Rules p depth s left t after → Agree p t.objects t.bindings
+    Agree p s.objects s.bindings → Rules p natives depth s left t after → Agree p t.objects t.bindings

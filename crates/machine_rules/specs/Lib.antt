@@ -1,4 +1,5 @@
 pub mod Paths
+pub mod Natives
 pub mod Doings
 pub mod Scope
 pub mod There

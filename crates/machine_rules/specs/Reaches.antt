@@ -1,11 +1,11 @@
 -- What a call of the machine's code does, whatever activations are below (docs/machine.md, "Runs").
-use Rattle.std.specs.Prelude.{◌≡◌, ◌≢◌, ℕ, ◌+◌, ◌-◌, ◌<◌, ◌≤◌, ◌⊎◌, List, ◌++◌, length, Result, Ok, Err, MatchResult, Bool, Option, Some, ◌∷◌, [], true, false}
+use Rattle.std.specs.Prelude.{◌≡◌, ◌≢◌, ℕ, ◌+◌, ◌-◌, ◌<◌, ◌≤◌, ◌⊎◌, List, ◌++◌, length, map, Result, Ok, Err, MatchResult, Bool, Option, Some, ◌∷◌, [], true, false}
 use Rattle.meta_model.specs.Loaded.{Loaded}
 use Rattle.signatures.specs.declared.value.Value.{Value}
 use Rattle.signatures.specs.declared.value.Value.TheVariants as value
 use Rattle.meta_model.specs.declared.object.MetaMethod.{MetaMethod}
 use Rattle.meta_model.specs.declared.object.Work.{Work}
-use Rattle.meta_model.specs.declared.object.Work.TheVariants.{Signal, Slot}
+use Rattle.meta_model.specs.declared.object.Work.TheVariants.{Signal, Slot, Native}
 use Rattle.expressions.specs.declared.evaluation.EvalFault.{EvalFault}
 use Rattle.expressions.specs.declared.evaluation.EvalFault.TheVariants.{BadType, Memory as NoMemory}
 use Rattle.connections.specs.declared.connection.Connection.{Connection}
@@ -23,7 +23,7 @@ use Rattle.machine_state.specs.declared.fault.Fault.{Fault}
 use Rattle.machine_state.specs.declared.fault.Fault.TheVariants.{BadType as IllTyped, TooDeep, Steps, Memory}
 use Rattle.machine_state.specs.declared.world.World.{World}
 use Rattle.machine_state.specs.Connections.{is_silent, is_living}
-use Rattle.machine_state.specs.State.{State, Activation, Body, Emit, Destroy, IsIdle}
+use Rattle.machine_state.specs.State.{Run, Ask, State, Activation, Body, Emit, Destroy, IsIdle}
 use Rattle.machine_state.specs.Objects.{all_shown}
 use Rattle.texts.specs.declared.connection.ConnectionType.{ConnectionType}
 use Rattle.texts.specs.declared.connection.Endpoints.{Endpoints as Named}
@@ -32,6 +32,8 @@ use Rattle.machine_state.specs.declared.refusal.Refusal.{Refusal}
 use Rattle.machine_rules.specs.Connecting.{AreThere, may_connect, found_ends, names_of}
 use Rattle.machine_rules.specs.declared.method_call.MethodCall.{MethodCall}
 use Rattle.machine_rules.specs.Good.{ArgumentsFit}
+use Rattle.machine_rules.specs.Natives.{NativeAnswers}
+use Rattle.machine_rules.specs.Doings.{Doing, Begin}
 use Rattle.machine_rules.specs.Rules.{Rule, Begins, Connects, Disconnects}
 use Rattle.machine_rules.specs.Settling.{Writes}
 use Rattle.meta_model.specs.Outlines.{destroyed}
@@ -41,7 +43,7 @@ use Rattle.machine_state.specs.declared.entry.Shown.TheVariants as show
 use Rattle.machine_rules.specs.Destroying.{deleting, Dies, Schedules}
 use Rattle.machine_rules.specs.There.{IsMember, NoneDied}
 use Rattle.machine_rules.specs.Active.{shows}
-use Rattle.machine_rules.specs.Runs.{Rules, RulesStop, WritesNext}
+use Rattle.machine_rules.specs.Runs.{Rules, RulesStop, DoesNext, WritesNext}
 use Rattle.machine_state.specs.Worlds.{at, having_used, posting, taking, ending, KeepsTheRest, GoesTo}
 
 -- ---- what a body's paths and expressions give to the code
@@ -61,11 +63,11 @@ Judges found (Err NoMemory) = Unit {0}
 -- ---- what calls of the machine's functions do
 
 -- over any stack that shows this, the machine goes from one world and top of the stack to another
-pub record Reaches (p : Loaded) (depth : ℕ) (shown : List (Option ℕ))
+pub record Reaches (p : Loaded) (natives : NativeAnswers) (depth : ℕ) (shown : List (Option ℕ))
     (w : World) (from : List Activation) (v : World) (to : List Activation) : Type 0 where
   pub runs :
       (below : List Activation) → shows below ≡ shown →
-      Rules p depth (at w (from ++ below)) w.left (at v (to ++ below)) v.left
+      Rules p natives depth (at w (from ++ below)) w.left (at v (to ++ below)) v.left
 
 -- what is left where a run stops in the world u: that world; where memory was refused, with other objects and bindings, of
 -- which nothing was written down
@@ -73,22 +75,22 @@ abbrev pub Leaves : World → World → Fault → Type 0
 Leaves u v fault = KeepsTheRest u v × (fault ≢ Memory → v ≡ u)
 
 -- over any stack that shows this, the machine comes to a state where it stops
-pub record StopsIn (p : Loaded) (depth : ℕ) (shown : List (Option ℕ))
+pub record StopsIn (p : Loaded) (natives : NativeAnswers) (depth : ℕ) (shown : List (Option ℕ))
     (w : World) (from : List Activation) (v : World) (fault : Fault) : Type 0 where
   pub stops :
       (below : List Activation) → shows below ≡ shown →
       (u : World) × (stack : List Activation) × Leaves u v fault ×
-      Rules p depth (at w (from ++ below)) w.left (at u stack) u.left × RulesStop p depth (at u stack) u.left fault
+      Rules p natives depth (at w (from ++ below)) w.left (at u stack) u.left × RulesStop p natives depth (at u stack) u.left fault
 
 -- a call went from one top of the stack to another, or stopped on the way
-pub record Ends (p : Loaded) (depth : ℕ) (shown : List (Option ℕ))
+pub record RunsTo (p : Loaded) (natives : NativeAnswers) (depth : ℕ) (shown : List (Option ℕ))
     (w : World) (from : List Activation) (v : World) (to : List Activation) (result : Result (Unit {0}) Fault) : Type 0 where
-  pub cases : MatchResult result (λ _. Reaches p depth shown w from v to) (StopsIn p depth shown w from v)
+  pub cases : MatchResult result (λ _. Reaches p natives depth shown w from v to) (StopsIn p natives depth shown w from v)
 
 -- a call carried out one rule or more, or stopped on the way
-pub record Advances (p : Loaded) (depth : ℕ) (shown : List (Option ℕ))
+pub record Advances (p : Loaded) (natives : NativeAnswers) (depth : ℕ) (shown : List (Option ℕ))
     (w : World) (from : List Activation) (v : World) (to : List Activation) (result : Result (Unit {0}) Fault) : Type 0 where
-  pub cases : MatchResult result (λ _. Reaches p depth shown w from v to × (v.left < w.left)) (StopsIn p depth shown w from v)
+  pub cases : MatchResult result (λ _. Reaches p natives depth shown w from v to × (v.left < w.left)) (StopsIn p natives depth shown w from v)
 
 -- whether an activation may be pushed over a stack that shows this
 abbrev pub MayNest : ℕ → List (Option ℕ) → Result (Unit {0}) Fault → Type 0
@@ -98,46 +100,46 @@ MayNest depth shown (Err fault) = (depth ≤ length shown) × (fault ≡ TooDeep
 -- ---- what begins and what is written, from any top of the stack, over what is left of it
 
 -- by the next rule of a world a method of an object may begin, in what the rule makes of the world before that
-pub record CallsIn (p : Loaded) (w u : World) (from to : List Activation) (o m : ℕ) (arguments : List Value) : Type 0 where
+pub record CallsIn (p : Loaded) (natives : NativeAnswers) (w u : World) (from to : List Activation) (o m : ℕ) (arguments : List Value) : Type 0 where
   pub no_lower : length from ≤ length to
   pub objects : u.store.tree ≡ w.store.tree
   pub goes_on : (below : List Activation) → ¬ IsIdle (at w (from ++ below))
   pub gives :
       (below : List Activation) (t : State) →
-      Begins p (at u (from ++ below)) (to ++ below) o m arguments t → Rule p (at w (from ++ below)) t
+      Begins p (at u (from ++ below)) (to ++ below) o m arguments t → Rule p natives (at w (from ++ below)) t
 
 -- .. in the world as it is
-abbrev pub Calls : Loaded → World → List Activation → List Activation → ℕ → ℕ → List Value → Type 0
-Calls p w from to o m arguments = CallsIn p w w from to o m arguments
+abbrev pub Calls : Loaded → NativeAnswers → World → List Activation → List Activation → ℕ → ℕ → List Value → Type 0
+Calls p natives w from to o m arguments = CallsIn p natives w w from to o m arguments
 
--- .. and nothing else may; what comes next is no write
-pub record OnlyCalls (p : Loaded) (w : World) (from to : List Activation) (o m : ℕ) (arguments : List Value) : Type 0 where
-  pub writes_none : (below : List Activation) (x q : ℕ) (new : Value) → ¬ WritesNext (at w (from ++ below)) x q new
+-- .. and nothing else may
+pub record OnlyCalls (p : Loaded) (natives : NativeAnswers) (w : World) (from to : List Activation) (o m : ℕ) (arguments : List Value) : Type 0 where
+  pub next : (below : List Activation) (what : Doing) → DoesNext (at w (from ++ below)) what → what ≡ Begin o m arguments
   pub begins :
       (below : List Activation) (t : State) →
-      Rule p (at w (from ++ below)) t → Begins p (at w (from ++ below)) (to ++ below) o m arguments t
+      Rule p natives (at w (from ++ below)) t → Begins p (at w (from ++ below)) (to ++ below) o m arguments t
 
--- the next rule is that a property of an object is written, by a statement
-pub record Sets (p : Loaded) (w : World) (from to : List Activation) (o q : ℕ) (new : Value) : Type 0 where
+-- the next rule is that a property of an object is written, by a statement or an action of a native
+pub record Sets (p : Loaded) (natives : NativeAnswers) (w : World) (from to : List Activation) (o q : ℕ) (new : Value) : Type 0 where
   pub as_high : length from ≡ length to
   pub goes_on : (below : List Activation) → ¬ IsIdle (at w (from ++ below))
   pub next : (below : List Activation) → WritesNext (at w (from ++ below)) o q new
   pub gives :
       (below : List Activation) (t : State) →
-      Writes p (at w (from ++ below)) (to ++ below) o q new t → Rule p (at w (from ++ below)) t
+      Writes p (at w (from ++ below)) (to ++ below) o q new t → Rule p natives (at w (from ++ below)) t
   pub only :
       (below : List Activation) (t : State) →
-      Rule p (at w (from ++ below)) t → Writes p (at w (from ++ below)) (to ++ below) o q new t
+      Rule p natives (at w (from ++ below)) t → Writes p (at w (from ++ below)) (to ++ below) o q new t
 
 -- by the next rule the deletion of an object begins
-pub record Deletes (p : Loaded) (w : World) (from to : List Activation) (x : ℕ) : Type 0 where
-  pub gives : (below : List Activation) → Rule p (at w (from ++ below)) (deleting (at w (from ++ below)) (to ++ below) x)
+pub record Deletes (p : Loaded) (natives : NativeAnswers) (w : World) (from to : List Activation) (x : ℕ) : Type 0 where
+  pub gives : (below : List Activation) → Rule p natives (at w (from ++ below)) (deleting (at w (from ++ below)) (to ++ below) x)
 
 -- by the next rule of a deletion an object may die, and is then the one whose `destroyed` goes on
-pub record Kills (p : Loaded) (w : World) (next : Option ℕ) (before torn : List ℕ) (x : ℕ) : Type 0 where
+pub record Kills (p : Loaded) (natives : NativeAnswers) (w : World) (next : Option ℕ) (before torn : List ℕ) (x : ℕ) : Type 0 where
   pub gives :
       (below : List Activation) (t : State) →
-      Dies (at w (Destroy next before ∷ below)) (Destroy (Some x) torn ∷ below) x t → Rule p (at w (Destroy next before ∷ below)) t
+      Dies (at w (Destroy next before ∷ below)) (Destroy (Some x) torn ∷ below) x t → Rule p natives (at w (Destroy next before ∷ below)) t
 
 -- the arguments of a call are those that its method declares
 abbrev pub CallFits : Loaded → List Object → MethodCall → Type 0
@@ -147,6 +149,7 @@ CallFits p objects call = ArgumentsFit p objects call.object call.method call.ar
 abbrev pub begin_entry : ℕ → Object → ℕ → List ℕ → List Shown → Work → Entry
 begin_entry depth x m method given Signal = At depth (happening.Emitted x.name method given (is_silent x m))
 begin_entry depth x m method given (Slot statements) = At depth (happening.Called x.name method given)
+begin_entry depth x m method given (Native effects) = At depth (happening.Called x.name method given)
 
 -- the entry of a method of an object that begins with these arguments, where so many activations are on the stack
 abbrev pub entry_of_call : World → ℕ → Object → ℕ → MetaMethod → List Value → Entry
@@ -177,7 +180,15 @@ pub record PostsCall (p : Loaded) (w : World) (depth : ℕ) (c : Connection) (o 
 -- what is pushed where a method begins
 abbrev pub top_of : ℕ → ℕ → List Value → ℕ → Work → Activation
 top_of o m arguments last Signal = Emit o m arguments 0 last
-top_of o m arguments last (Slot statements) = Body o m arguments statements
+top_of o m arguments last (Slot statements) = Body o m arguments (map Run statements)
+top_of o m arguments last (Native effects) = Body o m arguments (Ask effects ∷ [])
+
+-- a living object's method does this
+pub record DoesWork (p : Loaded) (objects : List Object) (o m : ℕ) (work : Work) : Type 0 where
+  pub object : Object
+  pub method : MetaMethod
+  pub is : IsMember p objects o m object method
+  pub is_work : work ≡ method.work
 
 -- what is found of a method that may begin over a stack that shows this: the line to be written, what is to run, and
 -- the last connection that was made before

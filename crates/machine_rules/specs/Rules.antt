@@ -1,15 +1,13 @@
 -- What may follow a state by one rule, beside the taking of events (docs/machine.md, "Rules"). No rule is forbidden
 -- because activations would nest too deep, a value is of a wrong type or an object dies while a body of it is active: those
 -- are faults of a run, and not of a rule.
-use Rattle.std.specs.Prelude.{◌≡◌, ℕ, List, [], ◌∷◌, ◌++◌, length, take, Option, None, Some, Result, Ok, Err, Bool, true, false}
+use Rattle.std.specs.Prelude.{◌≡◌, ℕ, List, [], ◌∷◌, ◌++◌, length, take, map, Option, None, Some, Result, Ok, Err, Bool, true, false}
 use Rattle.std.specs.List.{find}
 use Rattle.signatures.specs.declared.value.Value.{Value}
 use Rattle.texts.specs.declared.connection.ConnectionType.{ConnectionType}
 use Rattle.texts.specs.declared.connection.Endpoints.{Endpoints as Named}
-use Rattle.meta_model.specs.declared.object.Statement.{Statement}
-use Rattle.meta_model.specs.declared.object.Statement.TheViews.{out-Statement}
 use Rattle.meta_model.specs.declared.object.Work.{Work}
-use Rattle.meta_model.specs.declared.object.Work.TheVariants.{Signal, Slot}
+use Rattle.meta_model.specs.declared.object.Work.TheVariants.{Signal, Slot, Native}
 use Rattle.meta_model.specs.declared.object.MetaMethod.{MetaMethod}
 use Rattle.meta_model.specs.declared.object.MetaProperty.{MetaProperty}
 use Rattle.meta_model.specs.Loaded.{Loaded}
@@ -26,6 +24,9 @@ use Rattle.machine_state.specs.declared.entry.Entry.{Entry}
 use Rattle.machine_state.specs.declared.entry.Entry.TheVariants.{At}
 use Rattle.machine_state.specs.declared.entry.Happening.{Happening}
 use Rattle.machine_state.specs.declared.entry.Happening.TheVariants as happening
+use Rattle.machine_state.specs.declared.entry.ShownAction.{ShownAction}
+use Rattle.meta_model.specs.declared.effects.MetaEffects.{MetaEffects}
+use Rattle.native_slots.specs.declared.action.Action.{Action}
 use Rattle.machine_state.specs.declared.endpoints.Endpoints.{Endpoints}
 use Rattle.machine_state.specs.declared.refusal.Refusal.{Refusal}
 use Rattle.machine_state.specs.Refusals.{refusal_number}
@@ -36,9 +37,10 @@ use Rattle.machine_rules.specs.There.{IsMember, IsField}
 use Rattle.machine_rules.specs.Connecting.{AreThere, kept_ends, names_of, found_ends, may_connect, may_disconnect}
 use Rattle.machine_rules.specs.Destroying.{deleting, DestroyRule, Schedules}
 use Rattle.machine_rules.specs.Settling.{Writes}
-use Rattle.machine_rules.specs.Doings.{Doing, Write, Begin, Choose, Connect, Disconnect, Delete, Schedule, Nothing, doing}
+use Rattle.machine_rules.specs.Doings.{Doing, Write, Begin, Choose, Connect, Disconnect, Delete, Schedule, TakeAnswer, Nothing, doing_step}
+use Rattle.machine_rules.specs.Natives.{NativeAnswers, MayAnswer, AreShownAs}
 use Rattle.prop_bindings.specs.declared.place.Place.{Place}
-use Rattle.machine_state.specs.State.{State, Activation, Body, Emit, Update, Destroy}
+use Rattle.machine_state.specs.State.{Step, Run, Ask, Act, State, Activation, Body, Emit, Update, Destroy}
 use Rattle.machine_state.specs.Turns.{running, reaches_at_once}
 use Rattle.machine_state.specs.declared.turn.Turn.{Turn}
 
@@ -46,13 +48,17 @@ use Rattle.machine_state.specs.declared.turn.Turn.{Turn}
 abbrev pub pushed : State → Activation → List Activation → (ℕ → List Entry) → State
 pushed s top below notes = record s { stack = top ∷ below; trace = s.trace ++ notes (length (top ∷ below)) }
 
--- a method of an object begins: a signal is emitted, and its entry tells whether it calls nothing; a slot's body is called
+-- a method of an object begins: a signal is emitted, and its entry tells whether it calls nothing; a slot's body is called,
+-- or a native's, which begins with its answer
 abbrev pub begun : State → List Activation → ℕ → Object → ℕ → MetaMethod → List Value → Work → State
 begun s below o x m method arguments Signal =
     pushed s (Emit o m arguments 0 s.connected.last) below
     (λ d. At d (happening.Emitted x.name method.sig.name (all_shown s.objects arguments) (is_silent x m)) ∷ [])
 begun s below o x m method arguments (Slot statements) =
-    pushed s (Body o m arguments statements) below
+    pushed s (Body o m arguments (map Run statements)) below
+    (λ d. At d (happening.Called x.name method.sig.name (all_shown s.objects arguments)) ∷ [])
+begun s below o x m method arguments (Native effects) =
+    pushed s (Body o m arguments (Ask effects ∷ [])) below
     (λ d. At d (happening.Called x.name method.sig.name (all_shown s.objects arguments)) ∷ [])
 
 -- method m of object o begins with these arguments
@@ -119,28 +125,38 @@ pub record Disconnects (p : Loaded) (s : State) (stack : List Activation) (ends 
   pub judged : may_disconnect s.connected (kept_ends ends) answer
   pub gives : t ≡ unlinked s stack (kept_ends ends) (names_of kept) answer
 
--- this is done by a statement of the body of method m of object o, over what is left of the body and what is below it
-abbrev pub Does : Loaded → State → ℕ → ℕ → List Value → List Statement → List Activation → Doing → State → Type 0
-Does p s o m arguments rest below (Write x q new) t = Writes p s (Body o m arguments rest ∷ below) x q new t
-Does p s o m arguments rest below (Begin x n given) t = Begins p s (Body o m arguments rest ∷ below) x n given t
-Does p s o m arguments rest below (Choose block) t = t ≡ record s { stack = Body o m arguments (block ++ rest) ∷ below }
-Does p s o m arguments rest below (Connect ends how) t = Connects p s (Body o m arguments rest ∷ below) ends how t
-Does p s o m arguments rest below (Disconnect ends) t = Disconnects p s (Body o m arguments rest ∷ below) ends t
-Does p s o m arguments rest below (Delete x) t = t ≡ deleting s (Body o m arguments rest ∷ below) x
-Does p s o m arguments rest below (Schedule x) t = Schedules s (Body o m arguments rest ∷ below) x t (life_of s.objects x)
-Does p s o m arguments rest below Nothing t = t ≡ told s (Body o m arguments rest ∷ below) happening.OnNull
+-- A native's answer is taken, and written down; its actions come next. Which one it is, is the native's choice.
+pub record Answers (p : Loaded) (natives : NativeAnswers) (s : State) (o m : ℕ) (arguments : List Value) (effects : MetaEffects)
+    (rest : List Step) (below : List Activation) (t : State) : Type 0 where
+  pub actions : List Action
+  pub may : MayAnswer p natives s.objects o m arguments effects actions
+  pub lines : List ShownAction
+  pub are_shown : AreShownAs p s.objects o effects actions lines
+  pub gives : t ≡ told s (Body o m arguments (map (Act effects) actions ++ rest) ∷ below) (happening.Answered lines)
 
--- a statement is carried out, and `rest` follows it
-pub record StatementRule (p : Loaded) (s : State) (o m : ℕ) (arguments : List Value)
-    (statement : Statement) (rest : List Statement) (below : List Activation) (t : State) : Type 0 where
+-- this is done by a step of the body of method m of object o, over what is left of the body and what is below it
+abbrev pub Does : Loaded → NativeAnswers → State → ℕ → ℕ → List Value → List Step → List Activation → Doing → State → Type 0
+Does p natives s o m arguments rest below (Write x q new) t = Writes p s (Body o m arguments rest ∷ below) x q new t
+Does p natives s o m arguments rest below (Begin x n given) t = Begins p s (Body o m arguments rest ∷ below) x n given t
+Does p natives s o m arguments rest below (Choose block) t = t ≡ record s { stack = Body o m arguments (map Run block ++ rest) ∷ below }
+Does p natives s o m arguments rest below (Connect ends how) t = Connects p s (Body o m arguments rest ∷ below) ends how t
+Does p natives s o m arguments rest below (Disconnect ends) t = Disconnects p s (Body o m arguments rest ∷ below) ends t
+Does p natives s o m arguments rest below (Delete x) t = t ≡ deleting s (Body o m arguments rest ∷ below) x
+Does p natives s o m arguments rest below (Schedule x) t = Schedules s (Body o m arguments rest ∷ below) x t (life_of s.objects x)
+Does p natives s o m arguments rest below (TakeAnswer effects) t = Answers p natives s o m arguments effects rest below t
+Does p natives s o m arguments rest below Nothing t = t ≡ told s (Body o m arguments rest ∷ below) happening.OnNull
+
+-- a step is carried out, and `rest` follows it
+pub record StepRule (p : Loaded) (natives : NativeAnswers) (s : State) (o m : ℕ) (arguments : List Value)
+    (step : Step) (rest : List Step) (below : List Activation) (t : State) : Type 0 where
   pub what : Doing
-  pub is : doing s.objects o arguments (out-Statement statement) ≡ Some what
-  pub does : Does p s o m arguments rest below what t
+  pub is : doing_step s.objects o arguments step ≡ Some what
+  pub does : Does p natives s o m arguments rest below what t
 
--- the next statement is carried out; with none left the body ends
-abbrev pub BodyRule : Loaded → State → ℕ → ℕ → List Value → List Activation → State → List Statement → Type 0
-BodyRule p s o m arguments below t [] = t ≡ record s { stack = below }
-BodyRule p s o m arguments below t (statement ∷ rest) = StatementRule p s o m arguments statement rest below t
+-- the next step is carried out; with none left the body ends
+abbrev pub BodyRule : Loaded → NativeAnswers → State → ℕ → ℕ → List Value → List Activation → State → List Step → Type 0
+BodyRule p natives s o m arguments below t [] = t ≡ record s { stack = below }
+BodyRule p natives s o m arguments below t (step ∷ rest) = StepRule p natives s o m arguments step rest below t
 
 -- ---- emissions
 
@@ -209,14 +225,14 @@ TurnRule p s t (Some turn) = Serves p s t turn (find (is_before turn.limit) (ite
 -- ---- one rule
 
 -- what the activation on top does next; where there is none, what the turn does
-abbrev pub RuleAt : Loaded → State → State → List Activation → Type 0
-RuleAt p s t [] = TurnRule p s t s.turn
-RuleAt p s t (Body o m arguments left ∷ below) = BodyRule p s o m arguments below t left
-RuleAt p s t (Emit o g arguments used last ∷ below) =
+abbrev pub RuleAt : Loaded → NativeAnswers → State → State → List Activation → Type 0
+RuleAt p natives s t [] = TurnRule p s t s.turn
+RuleAt p natives s t (Body o m arguments left ∷ below) = BodyRule p natives s o m arguments below t left
+RuleAt p natives s t (Emit o g arguments used last ∷ below) =
     EmitRule p s o g arguments last below t (next_used s.objects s.connected.connections o g used last)
-RuleAt p s t (Update places ∷ below) = UpdateRule p s below t places
-RuleAt p s t (Destroy next torn ∷ below) = DestroyRule s below t next torn
+RuleAt p natives s t (Update places ∷ below) = UpdateRule p s below t places
+RuleAt p natives s t (Destroy next torn ∷ below) = DestroyRule s below t next torn
 
--- t follows s by one rule
-abbrev pub Rule : Loaded → State → State → Type 0
-Rule p s t = RuleAt p s t s.stack
+-- t follows s by one rule, where natives may answer so
+abbrev pub Rule : Loaded → NativeAnswers → State → State → Type 0
+Rule p natives s t = RuleAt p natives s t s.stack

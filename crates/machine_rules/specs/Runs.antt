@@ -2,41 +2,45 @@
 use Rattle.std.specs.Prelude.{◌≡◌, ℕ, suc, ◌<◌, ◌≤◌, ◌⊎◌, List, ◌∷◌, length, Some}
 use Rattle.signatures.specs.declared.value.Value.{Value}
 use Rattle.meta_model.specs.declared.object.MetaProperty.{MetaProperty}
-use Rattle.meta_model.specs.declared.object.Statement.{Statement}
-use Rattle.meta_model.specs.declared.object.Statement.TheViews.{out-Statement}
 use Rattle.meta_model.specs.Loaded.{Loaded}
 use Rattle.object_tree.specs.declared.object.Object.{Object}
 use Rattle.object_tree.specs.Typed.{ReadsAs}
 use Rattle.prop_bindings.specs.Fits.{Agree}
 use Rattle.machine_state.specs.declared.fault.Fault.{Fault}
 use Rattle.machine_state.specs.declared.fault.Fault.TheVariants.{BadType, TooDeep, BindingLoop, InUse, Steps, Memory, Stopped}
-use Rattle.machine_state.specs.State.{State, Activation, Body, IsIdle}
-use Rattle.machine_rules.specs.Doings.{Write, doing}
+use Rattle.machine_state.specs.State.{Step, State, Activation, Body, IsIdle}
+use Rattle.machine_rules.specs.Doings.{Doing, Write, TakeAnswer, doing_step}
+use Rattle.machine_rules.specs.Natives.{NativeAnswers}
 use Rattle.machine_rules.specs.Rules.{Rule}
+use Rattle.meta_model.specs.declared.effects.MetaEffects.{MetaEffects}
 use Rattle.machine_rules.specs.There.{IsField, LacksField}
 use Rattle.machine_rules.specs.Good.{IsWell, Spares, IsGood}
 
 -- From s, with so many rules left, to t, with so many left: each state follows the one before it by one rule that
 -- brings no bad moment.
-pub data Rules (p : Loaded) (depth : ℕ) : State → ℕ → State → ℕ → Type 0 where
-  done : {s : State} {n : ℕ} → Rules p depth s n s n
-  then : {s m t : State} {n k : ℕ} → Rule p s m → IsGood p depth s m → Rules p depth m n t k → Rules p depth s (suc n) t k
+pub data Rules (p : Loaded) (natives : NativeAnswers) (depth : ℕ) : State → ℕ → State → ℕ → Type 0 where
+  done : {s : State} {n : ℕ} → Rules p natives depth s n s n
+  then : {s m t : State} {n k : ℕ} → Rule p natives s m → IsGood p depth s m → Rules p natives depth m n t k → Rules p natives depth s (suc n) t k
 
--- ---- a statement that writes
+-- ---- what comes next
 
--- what is going on is a body whose next statement writes this value to a property
-pub record WritesNext (s : State) (o q : ℕ) (new : Value) : Type 0 where
+-- what is going on is a body whose next step does this
+pub record DoesNext (s : State) (what : Doing) : Type 0 where
   pub object : ℕ
   pub method : ℕ
   pub arguments : List Value
-  pub statement : Statement
-  pub rest : List Statement
+  pub step : Step
+  pub rest : List Step
   pub below : List Activation
-  pub is_next : s.stack ≡ Body object method arguments (statement ∷ rest) ∷ below
-  pub writes : doing s.objects object arguments (out-Statement statement) ≡ Some (Write o q new)
+  pub is_next : s.stack ≡ Body object method arguments (step ∷ rest) ∷ below
+  pub does : doing_step s.objects object arguments step ≡ Some what
+
+-- .. it writes this value to a property
+abbrev pub WritesNext : State → ℕ → ℕ → Value → Type 0
+WritesNext s o q new = DoesNext s (Write o q new)
 
 -- .. of an object's property, and the value is not of its type. What follows from the property need have no values then, so
--- this is told of the statement, and not of what it makes.
+-- this is told of the step, and not of what it makes.
 pub record WritesIll (p : Loaded) (s : State) : Type 0 where
   pub object : ℕ
   pub number : ℕ
@@ -61,11 +65,13 @@ pub record WritesDeep (p : Loaded) (depth : ℕ) (s : State) : Type 0 where
 
 -- ---- why a run stops
 
--- what is going on has no next rule; a statement that writes, only where its property isn't there
-pub record IsStuck (p : Loaded) (s : State) : Type 0 where
+-- What is going on has no next rule; a step that writes, only where its property isn't there. A native that is to answer
+-- isn't stuck, whatever it may answer.
+pub record IsStuck (p : Loaded) (natives : NativeAnswers) (s : State) : Type 0 where
   pub goes_on : ¬ IsIdle s
-  pub stuck : (t : State) → ¬ Rule p s t
+  pub stuck : (t : State) → ¬ Rule p natives s t
   pub lacks : (o q : ℕ) (new : Value) → WritesNext s o q new → LacksField p s.objects o q
+  pub asks_none : (effects : MetaEffects) → ¬ DoesNext s (TakeAnswer effects)
 
 -- what follows gives a property or a call a value that is not of its type
 pub record GoesIll (p : Loaded) (s : State) (Follows : State → Type 0) : Type 0 where
@@ -102,5 +108,5 @@ Reason Stuck Closes Follows Due p depth s left Memory = (0 < left) × Due
 Reason Stuck Closes Follows Due p depth s left Stopped = ⊥
 
 -- why rules stop in a state: none of them binds a property
-abbrev pub RulesStop : Loaded → ℕ → State → ℕ → Fault → Type 0
-RulesStop p depth s left fault = Reason (IsStuck p s) ⊥ (λ t. Rule p s t) (¬ IsIdle s) p depth s left fault
+abbrev pub RulesStop : Loaded → NativeAnswers → ℕ → State → ℕ → Fault → Type 0
+RulesStop p natives depth s left fault = Reason (IsStuck p natives s) ⊥ (λ t. Rule p natives s t) (¬ IsIdle s) p depth s left fault

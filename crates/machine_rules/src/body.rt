@@ -1,10 +1,11 @@
 //! Bodies of slots.
 
-ghost use Rattle.std.specs.Prelude.{◌≡◌, ◌<◌, length};
+ghost use Rattle.std.specs.Prelude.{◌≡◌, ◌<◌, length, map};
 ghost use Rattle.machine_rules.specs.Sound.{IsSoundWorld};
-ghost use Rattle.machine_state.specs.State.{Body};
+ghost use Rattle.machine_state.specs.State.{Run, Body};
 ghost use Rattle.machine_rules.specs.Coded.{meant};
 ghost use Rattle.machine_rules.specs.Calls.{Finishes, CarriesOut};
+ghost use Rattle.native_slots.specs.Promises.{Promises};
 
 use crate::active::Active;
 use crate::doing::Doing;
@@ -14,9 +15,10 @@ use crate::remaining::Remaining;
 use crate::setting::Setting;
 use machine_state::{Entry, Fault, Happening, World};
 use meta_objects::Statement;
+use native_slots::Answering;
 use signatures::ObjectId;
 
-impl Setting {
+impl<N: Answering> Setting<N> {
     /// Carries out the statements of a body, and ends it.
     #[cycle(machine)]
     pub fn run_body(
@@ -26,10 +28,11 @@ impl Setting {
         call: &MethodCall<'_>,
         statements: &[Statement],
     ) -> Result<(), Fault>
+        requires promises { Promises self.now.meta (N.takes self.now.natives) (N.gives self.now.natives) }
         requires room { length active.now < self.now.depth }
         requires sound { IsSoundWorld self.now.meta world.old }
-        ensures ends { Finishes self.now active.now
-            (Body call.now.object call.now.method call.now.arguments.now statements.now)
+        ensures ends { Finishes self.now.meta (N.gives self.now.natives) self.now.depth active.now
+            (Body call.now.object call.now.method call.now.arguments.now (map Run statements.now))
             world.old world.new result }
     {
         let mut left = Remaining::all(self.alloc, statements);
@@ -51,10 +54,11 @@ impl Setting {
         done: Doing<'p>,
         left: &mut Remaining<'p>,
     ) -> Result<(), Fault>
+        requires promises { Promises self.now.meta (N.takes self.now.natives) (N.gives self.now.natives) }
         requires room { length active.now < self.now.depth }
         requires sound { IsSoundWorld self.now.meta world.old }
         requires due { 0 < world.old.left }
-        ensures advances { CarriesOut self.now active.now
+        ensures advances { CarriesOut self.now.meta (N.gives self.now.natives) self.now.depth active.now
             object (meant done.entry) left.old left.new world.old world.new result }
     {
         let over = (&*active).over(Some(object));

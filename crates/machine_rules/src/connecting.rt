@@ -11,10 +11,11 @@ use crate::ends::{FoundEnds, kept_ends};
 use crate::setting::Setting;
 use machine_state::{Endpoints, Entry, Fault, Happening, Refusal, World};
 use meta_objects::Wired;
+use native_slots::Answering;
 use signatures::{Name, Sig};
 use texts::{self, ConnectionType};
 
-impl Setting {
+impl<N: Answering> Setting<N> {
     /// Connects by a statement, where `depth` activations are on the stack, or writes down why that is refused: the first
     /// of `NotWired`, `Incompatible` and `Exists` that holds. `BadType` where an object or its method isn't there, and
     /// `Memory`; then nothing changes.

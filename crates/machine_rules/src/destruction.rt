@@ -1,22 +1,24 @@
 //! Deletions of objects.
 
 ghost use Rattle.std.specs.Prelude.{◌≡◌, ◌<◌, true, false, [], length, Some, IfOk, OnOk};
-ghost use Rattle.machine_rules.specs.Calls.{Finishes, Leads, EndsDeath, EndsDeletion};
+ghost use Rattle.machine_rules.specs.Calls.{Finishes, Leads, RunsDeath, RunsDeletion};
 ghost use Rattle.machine_rules.specs.Reaches.{entry_of_destroyed, Forgets, SchedulesIn};
 ghost use Rattle.machine_rules.specs.Sound.{IsSoundWorld};
 ghost use Rattle.machine_state.specs.Connections.{is_living};
 ghost use Rattle.machine_state.specs.State.{Destroy};
+ghost use Rattle.native_slots.specs.Promises.{Promises};
 
 use crate::active::Active;
 use crate::method_call::MethodCall;
 use crate::setting::Setting;
 use machine_state::{Entry, Fault, Happening, Shown, World};
 use meta_model::DESTROYED;
+use native_slots::Answering;
 use signatures::{Name, ObjectId, Value};
 use sqlite_items::Items;
 use std::alloc::AllocError;
 
-impl Setting {
+impl<N: Answering> Setting<N> {
     /// Deletes an object, over what is left of the top of the stack.
     #[cycle(machine)]
     pub fn delete(
@@ -25,9 +27,10 @@ impl Setting {
         active: &Active<'_>,
         object: ObjectId,
     ) -> Result<(), Fault>
+        requires promises { Promises self.now.meta (N.takes self.now.natives) (N.gives self.now.natives) }
         requires sound { IsSoundWorld self.now.meta world.old }
         requires left { 0 < world.old.left }
-        ensures ends { EndsDeletion self.now active.now object world.old world.new result }
+        ensures ends { RunsDeletion self.now.meta (N.gives self.now.natives) self.now.depth active.now object world.old world.new result }
     {
         self.may_nest(active)?;
         world.tick()?;
@@ -43,9 +46,10 @@ impl Setting {
         active: &Active<'_>,
         object: ObjectId,
     ) -> Result<(), Fault>
+        requires promises { Promises self.now.meta (N.takes self.now.natives) (N.gives self.now.natives) }
         requires room { length active.now < self.now.depth }
         requires sound { IsSoundWorld self.now.meta world.old }
-        ensures ends { Finishes self.now active.now (Destroy (Some object) [])
+        ensures ends { Finishes self.now.meta (N.gives self.now.natives) self.now.depth active.now (Destroy (Some object) [])
             world.old world.new result }
     {
         self.announce_living(world, active, object)?;
@@ -74,9 +78,10 @@ impl Setting {
         active: &Active<'_>,
         object: ObjectId,
     ) -> Result<(), Fault>
+        requires promises { Promises self.now.meta (N.takes self.now.natives) (N.gives self.now.natives) }
         requires room { length active.now < self.now.depth }
         requires sound { IsSoundWorld self.now.meta world.old }
-        ensures ends { Leads self.now active.now (Destroy (Some object) []) (Destroy (Some object) [])
+        ensures ends { Leads self.now.meta (N.gives self.now.natives) self.now.depth active.now (Destroy (Some object) []) (Destroy (Some object) [])
             world.old world.new result }
         ensures dead { OnOk result (is_living world.new.store.tree object ≡ false) }
     {
@@ -95,10 +100,11 @@ impl Setting {
         active: &Active<'_>,
         object: ObjectId,
     ) -> Result<(), Fault>
+        requires promises { Promises self.now.meta (N.takes self.now.natives) (N.gives self.now.natives) }
         requires room { length active.now < self.now.depth }
         requires sound { IsSoundWorld self.now.meta world.old }
         requires lives { is_living world.old.store.tree object ≡ true }
-        ensures ends { EndsDeath self.now active.now object world.old world.new result }
+        ensures ends { RunsDeath self.now.meta (N.gives self.now.natives) self.now.depth active.now object world.old world.new result }
         ensures dead { OnOk result (is_living world.new.store.tree object ≡ false) }
     {
         world.require_rule()?;

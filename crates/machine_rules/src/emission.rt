@@ -3,9 +3,10 @@
 ghost use Rattle.std.specs.Prelude.{◌<◌, length, OnOk};
 ghost use Rattle.machine_rules.specs.Sound.{IsSoundWorld, SendsThese, IsDelivered};
 ghost use Rattle.machine_state.specs.State.{Emit};
-ghost use Rattle.machine_rules.specs.Calls.{Finishes, UsesNext, EndsCall, EndsUse, EndsOnlyCall};
-ghost use Rattle.machine_rules.specs.Reaches.{CallFits, top_of};
+ghost use Rattle.machine_rules.specs.Calls.{Finishes, UsesNext, RunsCall, RunsUse, RunsOnlyCall};
+ghost use Rattle.machine_rules.specs.Reaches.{CallFits, DoesWork, top_of};
 ghost use Rattle.machine_rules.specs.Keeps.{KeepsWorld};
+ghost use Rattle.native_slots.specs.Promises.{Promises};
 
 use crate::active::Active;
 use crate::method_call::{MethodCall, front};
@@ -13,9 +14,10 @@ use crate::setting::{Begun, Setting};
 use connections::Connection;
 use machine_state::{Fault, World, reaches_at_once};
 use meta_objects::Work;
+use native_slots::Answering;
 use signatures::Value;
 
-impl Setting {
+impl<N: Answering> Setting<N> {
     /// Uses the connections of an emission one after the other, and ends it.
     #[cycle(machine)]
     pub fn run_emission(
@@ -25,11 +27,12 @@ impl Setting {
         call: &MethodCall<'_>,
         last: u64,
     ) -> Result<(), Fault>
+        requires promises { Promises self.now.meta (N.takes self.now.natives) (N.gives self.now.natives) }
         requires room { length active.now < self.now.depth }
         requires sound { IsSoundWorld self.now.meta world.old }
         requires emitted { SendsThese self.now.meta world.old.store.tree
             call.now.object call.now.method call.now.arguments.now }
-        ensures ends { Finishes self.now active.now
+        ensures ends { Finishes self.now.meta (N.gives self.now.natives) self.now.depth active.now
             (Emit call.now.object call.now.method call.now.arguments.now 0 last)
             world.old world.new result }
         ensures keeps { OnOk result (KeepsWorld self.now.meta world.old world.new) }
@@ -52,10 +55,11 @@ impl Setting {
         connection: Connection,
         arguments: &[Value],
     ) -> Result<(), Fault>
+        requires promises { Promises self.now.meta (N.takes self.now.natives) (N.gives self.now.natives) }
         requires room { length active.now < self.now.depth }
         requires sound { IsSoundWorld self.now.meta world.old }
         requires takes { IsDelivered self.now.meta world.old.store.tree connection arguments.now }
-        ensures ends { UsesNext self.now active.now
+        ensures ends { UsesNext self.now.meta (N.gives self.now.natives) self.now.depth active.now
             connection arguments.now world.old world.new result }
     {
         world.require_rule()?;
@@ -89,10 +93,11 @@ impl Setting {
         connection: &Connection,
         call: &MethodCall<'_>,
     ) -> Result<(), Fault>
+        requires promises { Promises self.now.meta (N.takes self.now.natives) (N.gives self.now.natives) }
         requires sound { IsSoundWorld self.now.meta world.old }
         requires left { 0 < world.old.left }
         requires fit { CallFits self.now.meta world.old.store.tree call.now }
-        ensures ends { EndsUse self.now active.now
+        ensures ends { RunsUse self.now.meta (N.gives self.now.natives) self.now.depth active.now
             connection.now call.now world.old world.new result }
     {
         let (line, begun) = self.begun(world, active, call)?;
@@ -109,9 +114,10 @@ impl Setting {
         active: &Active<'_>,
         call: &MethodCall<'_>,
     ) -> Result<(), Fault>
+        requires promises { Promises self.now.meta (N.takes self.now.natives) (N.gives self.now.natives) }
         requires sound { IsSoundWorld self.now.meta world.old }
         requires left { 0 < world.old.left }
-        ensures ends { EndsOnlyCall self.now active.now call.now world.old world.new result }
+        ensures ends { RunsOnlyCall self.now.meta (N.gives self.now.natives) self.now.depth active.now call.now world.old world.new result }
     {
         let Some((_, declared)) = self.member(world, call.object, call.method) else {
             return Err(Fault::BadType);
@@ -134,10 +140,11 @@ impl Setting {
         active: &Active<'_>,
         call: &MethodCall<'_>,
     ) -> Result<(), Fault>
+        requires promises { Promises self.now.meta (N.takes self.now.natives) (N.gives self.now.natives) }
         requires sound { IsSoundWorld self.now.meta world.old }
         requires left { 0 < world.old.left }
         requires fit { CallFits self.now.meta world.old.store.tree call.now }
-        ensures ends { EndsCall self.now active.now call.now world.old world.new result }
+        ensures ends { RunsCall self.now.meta (N.gives self.now.natives) self.now.depth active.now call.now world.old world.new result }
     {
         let (line, begun) = self.begun(world, active, call)?;
         world.note(line)?;
@@ -153,10 +160,13 @@ impl Setting {
         call: &MethodCall<'_>,
         begun: &Begun<'_>,
     ) -> Result<(), Fault>
+        requires promises { Promises self.now.meta (N.takes self.now.natives) (N.gives self.now.natives) }
         requires room { length active.now < self.now.depth }
         requires sound { IsSoundWorld self.now.meta world.old }
         requires fit { CallFits self.now.meta world.old.store.tree call.now }
-        ensures ends { Finishes self.now active.now
+        requires work { DoesWork self.now.meta world.old.store.tree
+            call.now.object call.now.method begun.now.work.now }
+        ensures ends { Finishes self.now.meta (N.gives self.now.natives) self.now.depth active.now
             (top_of call.now.object call.now.method call.now.arguments.now
             begun.now.last begun.now.work.now)
             world.old world.new result }
@@ -164,6 +174,7 @@ impl Setting {
         match begun.work {
             Work::Signal => self.run_emission(world, active, call, begun.last),
             Work::Slot(body) => self.run_body(world, active, call, body.as_slice()),
+            Work::Native(effects) => self.run_native(world, active, call, effects),
         }
     }
 }

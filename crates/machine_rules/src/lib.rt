@@ -1,8 +1,9 @@
-//! The rules of a run: emissions, bodies of slots, connections that these make, writes of properties and what follows from
+//! The rules of a run: emissions, bodies of slots and natives, connections that these make, writes of properties and what follows from
 //! them, deletions of objects and turns of event loops.
 #![tactic(auto)]
 
 mod active;
+mod answer;
 mod body;
 mod connecting;
 mod destruction;
@@ -11,6 +12,7 @@ mod emission;
 mod ends;
 mod laws;
 mod method_call;
+mod native;
 mod paths;
 mod posting;
 mod remaining;

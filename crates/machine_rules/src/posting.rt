@@ -10,11 +10,12 @@ use connections::Connection;
 use event_loops::Item;
 use machine_state::{Entry, Fault, Happening, World, show_all};
 use meta_objects::MetaMethod;
+use native_slots::Answering;
 use object_tree::Object;
 use signatures::{Arguments, Name, Value};
 use std::alloc::AllocError;
 
-impl Setting {
+impl<N: Answering> Setting<N> {
     /// Uses a connection and posts its call to the event loop in which the object that is called lives, where `depth`
     /// activations are on the stack; without memory nothing changes.
     pub fn post(

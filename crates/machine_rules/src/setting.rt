@@ -6,21 +6,22 @@ ghost use Rattle.machine_rules.specs.There.{IsMember, IsField, LacksMember, Lack
 
 use crate::active::Active;
 use crate::method_call::MethodCall;
-use machine_state::{Entry, Fault, Happening, Natives, World, is_silent, show_all};
+use machine_state::{Entry, Fault, Happening, World, is_silent, show_all};
 use meta_objects::{Meta, MetaMethod, MetaProperty, Work};
+use native_slots::Answering;
 use object_tree::Object;
 use signatures::ObjectId;
 use std::alloc::{AllocError, Global};
 
 /// A program with its natives, and how deep activations may nest.
 #[derive(Drop)]
-pub struct Setting {
+pub struct Setting<N> {
     /// Where memory is asked for.
     pub alloc: Global,
     /// The program.
     pub meta: Meta,
     /// The program's natives.
-    pub natives: Natives,
+    pub natives: N,
     /// How many activations may nest, up to 256.
     pub depth: usize,
     ghost bounded: { depth ≤ 256 },
@@ -35,9 +36,9 @@ pub struct Begun<'s> {
     pub last: u64,
 }
 
-impl Setting {
+impl<N: Answering> Setting<N> {
     /// A program with its natives; at most `depth` activations nest, up to 256.
-    pub fn new(alloc: Global, meta: Meta, natives: Natives, depth: usize) -> Setting
+    pub fn new(alloc: Global, meta: Meta, natives: N, depth: usize) -> Setting<N>
         requires { depth ≤ 256 }
         ensures meta { result.meta ≡ meta }
         ensures natives { result.natives ≡ natives }
@@ -153,6 +154,11 @@ impl Setting {
                 blocked: is_silent(object, call.method),
             },
             Work::Slot(_) => Happening::Called {
+                object: name,
+                slot: called,
+                arguments,
+            },
+            Work::Native(_) => Happening::Called {
                 object: name,
                 slot: called,
                 arguments,

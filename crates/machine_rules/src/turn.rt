@@ -2,21 +2,24 @@
 
 ghost use Rattle.std.specs.Prelude.{◌≡◌, ◌<◌, [], Some, None, OnOk};
 ghost use Rattle.machine_rules.specs.Sound.{IsSoundWorld};
-ghost use Rattle.machine_rules.specs.Reaches.{Ends, Advances, IsCalled, TakesCall};
+ghost use Rattle.machine_rules.specs.Reaches.{RunsTo, Advances, IsCalled, TakesCall};
+ghost use Rattle.native_slots.specs.Promises.{Promises};
 
 use crate::active::Active;
 use crate::method_call::MethodCall;
 use crate::setting::Setting;
 use event_loops::{Item, Posted};
 use machine_state::{Entry, Fault, Turn, World};
+use native_slots::Answering;
 use signatures::Arguments;
 
-impl Setting {
+impl<N: Answering> Setting<N> {
     /// Carries the turn that goes on to its end, if one does.
     pub fn run_turn(&self, world: &mut World) -> Result<(), Fault>
+        requires promises { Promises self.now.meta (N.takes self.now.natives) (N.gives self.now.natives) }
         requires room { 0 < self.now.depth }
         requires sound { IsSoundWorld self.now.meta world.old }
-        ensures ends { Ends self.now.meta self.now.depth [] world.old [] world.new [] result }
+        ensures ends { RunsTo self.now.meta (N.gives self.now.natives) self.now.depth [] world.old [] world.new [] result }
         ensures over { OnOk result (world.new.turn ≡ None) }
     {
         while let Some(turn) = world.turn {
@@ -29,11 +32,12 @@ impl Setting {
     /// Delivers the first item that the turn may deliver, and runs the call or the deletion to its end; with none left the
     /// turn ends. A call of a dead object begins nothing.
     fn serve(&self, world: &mut World, turn: Turn) -> Result<(), Fault>
+        requires promises { Promises self.now.meta (N.takes self.now.natives) (N.gives self.now.natives) }
         requires room { 0 < self.now.depth }
         requires sound { IsSoundWorld self.now.meta world.old }
         requires goes_on { world.old.turn ≡ Some turn }
         requires left { 0 < world.old.left }
-        ensures { Advances self.now.meta self.now.depth [] world.old [] world.new [] result }
+        ensures { Advances self.now.meta (N.gives self.now.natives) self.now.depth [] world.old [] world.new [] result }
     {
         let Some(first) = world.store.loops.first_before(turn.home, turn.limit) else {
             world.end_turn();
@@ -57,12 +61,13 @@ impl Setting {
 
     /// Delivers the first item, which is a call of a living object, and runs it to its end.
     fn serve_call(&self, world: &mut World, turn: Turn) -> Result<(), Fault>
+        requires promises { Promises self.now.meta (N.takes self.now.natives) (N.gives self.now.natives) }
         requires room { 0 < self.now.depth }
         requires sound { IsSoundWorld self.now.meta world.old }
         requires goes_on { world.old.turn ≡ Some turn }
         requires left { 0 < world.old.left }
         requires first { IsCalled world.old turn }
-        ensures { Advances self.now.meta self.now.depth [] world.old [] world.new [] result }
+        ensures { Advances self.now.meta (N.gives self.now.natives) self.now.depth [] world.old [] world.new [] result }
     {
         let Turn { home, limit } = turn;
         let Some(first) = world.store.loops.first_before(home, limit) else {

@@ -3,20 +3,22 @@
 ghost use Rattle.std.specs.Prelude.{◌≡◌, ◌<◌, is_some, length, IfOk, IfErr, MatchOption};
 ghost use Rattle.machine_rules.specs.Sound.{IsSoundWorld};
 ghost use Rattle.machine_state.specs.State.{Update};
-ghost use Rattle.machine_rules.specs.Calls.{Finishes, NotifiesFirst, EndsWrite};
+ghost use Rattle.machine_rules.specs.Calls.{Finishes, NotifiesFirst, RunsWrite};
 ghost use Rattle.machine_rules.specs.Settling.{signal_at, notified};
 ghost use Rattle.machine_rules.specs.Writing.{MayWrite, IsUnwritten, MayNotify, Announces};
+ghost use Rattle.native_slots.specs.Promises.{Promises};
 
 use crate::active::Active;
 use crate::method_call::{MethodCall, front};
 use crate::setting::Setting;
 use machine_state::{Fault, World};
+use native_slots::Answering;
 use object_tree::Tree;
 use prop_bindings::Place;
 use signatures::Value;
 use std::alloc::AllocError;
 
-impl Setting {
+impl<N: Answering> Setting<N> {
     /// Writes a property of an object, over what is left of the top of the stack, and notifies what changes with it;
     /// `BadType` where the object has no such property, or the value isn't of its type.
     #[cycle(machine)]
@@ -27,9 +29,10 @@ impl Setting {
         place: &Place,
         value: Value,
     ) -> Result<(), Fault>
+        requires promises { Promises self.now.meta (N.takes self.now.natives) (N.gives self.now.natives) }
         requires sound { IsSoundWorld self.now.meta world.old }
         requires left { 0 < world.old.left }
-        ensures ends { EndsWrite self.now active.now place.now value world.old world.new result }
+        ensures ends { RunsWrite self.now.meta (N.gives self.now.natives) self.now.depth active.now place.now value world.old world.new result }
     {
         self.may_write(world, active, place, &value)?;
         let changed = world.write(&self.meta, active.count() + 1, place, value)?;
@@ -67,9 +70,10 @@ impl Setting {
         active: &Active<'_>,
         changed: &[Place],
     ) -> Result<(), Fault>
+        requires promises { Promises self.now.meta (N.takes self.now.natives) (N.gives self.now.natives) }
         requires room { length active.now < self.now.depth }
         requires sound { IsSoundWorld self.now.meta world.old }
-        ensures ends { Finishes self.now active.now
+        ensures ends { Finishes self.now.meta (N.gives self.now.natives) self.now.depth active.now
             (Update (notified self.now.meta world.old.store.tree changed.now))
             world.old world.new result }
     {
@@ -109,10 +113,11 @@ impl Setting {
     /// Notifies that a property has changed, if its object lives.
     #[cycle(machine)]
     fn notify(&self, world: &mut World, active: &Active<'_>, place: &Place) -> Result<(), Fault>
+        requires promises { Promises self.now.meta (N.takes self.now.natives) (N.gives self.now.natives) }
         requires room { length active.now < self.now.depth }
         requires sound { IsSoundWorld self.now.meta world.old }
         requires notifies { MayNotify self.now.meta world.old.store.tree place.now }
-        ensures ends { NotifiesFirst self.now active.now place.now world.old world.new result }
+        ensures ends { NotifiesFirst self.now.meta (N.gives self.now.natives) self.now.depth active.now place.now world.old world.new result }
     {
         match self.signal_at(&world.store.tree, place) {
             Some(signal) => self.emit_change(world, active, place, signal),
@@ -129,10 +134,11 @@ impl Setting {
         place: &Place,
         signal: usize,
     ) -> Result<(), Fault>
+        requires promises { Promises self.now.meta (N.takes self.now.natives) (N.gives self.now.natives) }
         requires room { length active.now < self.now.depth }
         requires sound { IsSoundWorld self.now.meta world.old }
         requires announces { Announces self.now.meta world.old.store.tree place.now signal }
-        ensures ends { NotifiesFirst self.now active.now place.now world.old world.new result }
+        ensures ends { NotifiesFirst self.now.meta (N.gives self.now.natives) self.now.depth active.now place.now world.old world.new result }
     {
         world.require_rule()?;
         let Some((_, declared)) = self.member(world, place.object, signal) else {

@@ -2,6 +2,8 @@
 use Rattle.std.specs.Prelude.{◌≡◌, ℕ, List, [], Option, None}
 use Rattle.signatures.specs.declared.value.Value.{Value}
 use Rattle.meta_model.specs.declared.object.Statement.{Statement}
+use Rattle.meta_model.specs.declared.effects.MetaEffects.{MetaEffects}
+use Rattle.native_slots.specs.declared.action.Action.{Action}
 use Rattle.object_tree.specs.declared.object.Object.{Object}
 use Rattle.connections.specs.Connected.{Connected}
 use Rattle.event_loops.specs.Queues.{Queues}
@@ -10,11 +12,20 @@ use Rattle.prop_bindings.specs.declared.place.Place.{Place}
 use Rattle.machine_state.specs.declared.entry.Entry.{Entry}
 use Rattle.machine_state.specs.declared.turn.Turn.{Turn}
 
+-- One thing that is left of a body to be done.
+pub data Step : Type 0 where
+  -- a statement is carried out
+  Run : (statement : Statement) → Step
+  -- the answer of a native with these effects is taken: a list of actions
+  Ask : (effects : MetaEffects) → Step
+  -- an action of such an answer is carried out
+  Act : (effects : MetaEffects) (action : Action) → Step
+
 -- What is going on. Objects are named by their creation number, methods by their number in the object's class. A deletion
 -- ends an object and then its children, one by one (Qt 6, "Object Trees & Ownership").
 pub data Activation : Type 0 where
-  -- a slot's body, with the statements that are left of it
-  Body : (object method : ℕ) (arguments : List Value) (left : List Statement) → Activation
+  -- a body of a slot or a native, with what is left of it
+  Body : (object method : ℕ) (arguments : List Value) (left : List Step) → Activation
   -- an emission, with the last connection used and the last one made when it began
   Emit : (object signal : ℕ) (arguments : List Value) (used last : ℕ) → Activation
   -- the notifications that follow a write or a bind, with the properties that are still to be notified

@@ -25,6 +25,25 @@ pub enum Shown {
     Null,
 }
 
+/// An action of a native as it is written down.
+#[derive(Drop)]
+pub enum ShownAction {
+    /// A property of its object is set.
+    Set {
+        /// The property.
+        property: Name,
+        /// Its new value.
+        value: Shown,
+    },
+    /// A signal of its object is emitted.
+    Emit {
+        /// The signal.
+        signal: Name,
+        /// With these arguments.
+        arguments: Items<Shown>,
+    },
+}
+
 /// What happens by a rule or an event.
 #[derive(Drop)]
 pub enum Happening {
@@ -39,14 +58,19 @@ pub enum Happening {
         /// Whether it calls nothing, since the object is blocked.
         blocked: bool,
     },
-    /// A slot is called.
+    /// A slot or a native is called.
     Called {
-        /// Whose slot.
+        /// Whose slot or native.
         object: Name,
-        /// The slot.
+        /// The slot or native.
         slot: Name,
         /// With these arguments.
         arguments: Items<Shown>,
+    },
+    /// A native that was called answers these actions, which come next.
+    Answered {
+        /// The actions, in their order.
+        actions: Items<ShownAction>,
     },
     /// A property is written.
     Written {

@@ -8,7 +8,6 @@ mod deleting;
 mod endpoints;
 mod entry;
 mod fault;
-mod natives;
 mod refusal;
 mod showing;
 mod telling;
@@ -16,9 +15,8 @@ mod turn;
 mod world;
 
 pub use endpoints::Endpoints;
-pub use entry::{Entry, Happening, Shown, Trace};
+pub use entry::{Entry, Happening, Shown, ShownAction, Trace};
 pub use fault::{Answer, Fault};
-pub use natives::Natives;
 pub use refusal::Refusal;
 pub use showing::{show, show_all};
 pub use telling::Cause;

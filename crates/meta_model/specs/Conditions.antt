@@ -17,6 +17,7 @@ use Rattle.meta_model.specs.Twice.{StandsTwice}
 use Rattle.meta_model.specs.Outlines.{base_name}
 use Rattle.meta_model.specs.Kinds.{LacksType}
 use Rattle.meta_model.specs.Sites.{RepeatsSite, UsesReference}
+use Rattle.meta_model.specs.Natives.{RepeatsEffectIn, HasReferenceNative}
 
 -- ---- names of classes
 -- no class may have this name
@@ -56,15 +57,17 @@ abbrev pub HasTwoMembers : Outline → Type 0
 HasTwoMembers outline =
     StandsTwice AreOneCall outline.methods ⊎ StandsTwice (λ (a b : Property). a.name ≡ b.name) outline.properties
 
--- two parameters of one name in a method of the class
-abbrev pub RepeatsParameter : Class → Type 0
-RepeatsParameter class =
-    Any (λ (signal : Signal). RepeatsName signal.parameters) class.signals
-    ⊎ Any (λ (slot : Slot). RepeatsName slot.parameters) class.slots
+-- two parameters of a slot or native have one name, or a name stands twice in a list of a native
+abbrev pub RepeatsInSlot : Slot → Type 0
+RepeatsInSlot slot = RepeatsName slot.parameters ⊎ RepeatsEffectIn slot.work
 
--- two parameters of a method, two binding sites or two formal sources of one have one name
+-- .. of the class, or two parameters of one of its signals have one name
+abbrev pub RepeatsInMethod : Class → Type 0
+RepeatsInMethod class = Any (λ (signal : Signal). RepeatsName signal.parameters) class.signals ⊎ Any RepeatsInSlot class.slots
+
+-- two parameters of a method, two names in a list of a native, two binding sites or two formal sources of one are one
 abbrev pub RepeatsDeclared : Program → Type 0
-RepeatsDeclared program = Any RepeatsParameter program.classes ⊎ RepeatsSite program.sites
+RepeatsDeclared program = Any RepeatsInMethod program.classes ⊎ RepeatsSite program.sites
 
 abbrev pub DuplicateMember : Program → List Outline → Type 0
 DuplicateMember program outlines = Any HasTwoMembers outlines ⊎ RepeatsDeclared program
@@ -110,6 +113,11 @@ LacksTypes outlines outline =
 abbrev pub LacksAnyType : List Outline → Type 0
 LacksAnyType outlines = Any (LacksTypes outlines) outlines
 
--- .. or a binding's target, or a property that a binding reads, is a reference
+-- a binding's target, or a property that a binding reads, is a reference, or a native takes, reads, emits or sets one
+abbrev pub MisusesReference : Program → List Outline → Type 0
+MisusesReference program outlines =
+    Any (UsesReference outlines) program.sites ⊎ Any (HasReferenceNative outlines) program.classes
+
+-- a type isn't there, or a reference stands where only values may
 abbrev pub NoType : Program → List Outline → Type 0
-NoType program outlines = LacksAnyType outlines ⊎ Any (UsesReference outlines) program.sites
+NoType program outlines = LacksAnyType outlines ⊎ MisusesReference program outlines

@@ -13,6 +13,7 @@ pub mod Outlines
 pub mod Kinds
 pub mod Ends
 pub mod Sites
+pub mod Natives
 pub mod Conditions
 pub mod Indexed
 pub mod FaultNumbers

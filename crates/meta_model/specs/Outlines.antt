@@ -60,12 +60,12 @@ kinds_of parameters = map (λ (p : Parameter). p.kind) parameters
 abbrev pub signal_heading : Signal → Heading
 signal_heading signal = heading (sig_of signal.name (kinds_of signal.parameters)) sort.Signal
 
--- the slots of class i of the program, from place j on
+-- the slots and natives of class i of the program, from place j on
 abbrev pub slot_headings : ℕ → ℕ → List Slot → List Heading
 slot_headings i j [] = []
 slot_headings i j (slot ∷ slots) = heading (sig_of slot.name (kinds_of slot.parameters)) (sort.Slot i j) ∷ slot_headings i (suc j) slots
 
--- a class's own methods: its signals, then its slots, each as declared
+-- a class's own methods: its signals, then its slots and natives, each as declared
 abbrev pub own_methods : ℕ → Class → List Heading
 own_methods i class = map signal_heading class.signals ++ slot_headings i 0 class.slots
 

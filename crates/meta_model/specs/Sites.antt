@@ -81,13 +81,17 @@ literals_step (layer.Binary op vs ws) = vs ++ ws
 abbrev pub literals_in : {P : Type 0} → Expr P → List Value
 literals_in {P} = fold-Expr P (List Value) literals_step
 
--- the target is a reference
-pub record BindsReference (outlines : List Outline) (site : Site) : Type 0 where
+-- the property of this name, in the class of this name, is a reference
+pub record IsReferenceIn (outlines : List Outline) (class name : List ℕ) : Type 0 where
   pub number : ℕ
   pub place : ℕ
   pub property : Property
-  pub target : IsPropertyIn outlines site.class site.property number place property
+  pub is : IsPropertyIn outlines class name number place property
   pub pointer : property.kind.pointer ≡ true
+
+-- the target is a reference
+abbrev pub BindsReference : List Outline → Site → Type 0
+BindsReference outlines site = IsReferenceIn outlines site.class site.property
 
 -- the path is a reference
 pub record ReadsReference (outlines : List Outline) (site : Site) (path : Path) : Type 0 where

@@ -1,6 +1,6 @@
 -- What every loaded program keeps: class 0 is `QObject`, which is above all others; numbers are those of members, and no
--- two members are alike; a body speaks of objects of the class that declares its slot; literals hold no object
--- (docs/machine.md, "Loading").
+-- two members are alike; a body, and a native's effects, speak of objects of the class that declares them; literals hold no
+-- object (docs/machine.md, "Loading").
 use Rattle.std.specs.Prelude.{◌≡◌, ◌≢◌, All, ℕ, ◌<◌, ◌⊎◌, Bool, true, false, List, [], ◌∷◌, ◌++◌, length, None, Some, slice_get, codes}
 use Rattle.std.specs.List.{AllZip}
 use Rattle.signatures.specs.declared.qtype.QType.{QType}
@@ -23,7 +23,8 @@ use Rattle.meta_model.specs.declared.object.Statement.{Statement}
 use Rattle.meta_model.specs.declared.object.Statement.TheOpen as statement
 use Rattle.meta_model.specs.declared.object.Statement.TheViews.{out-Statement}
 use Rattle.meta_model.specs.declared.object.Work.{Work}
-use Rattle.meta_model.specs.declared.object.Work.TheVariants.{Signal, Slot}
+use Rattle.meta_model.specs.declared.object.Work.TheVariants.{Signal, Slot, Native}
+use Rattle.meta_model.specs.declared.effects.MetaEffects.{MetaEffects}
 use Rattle.meta_model.specs.declared.object.MetaObject.{MetaObject}
 use Rattle.meta_model.specs.declared.object.MetaMethod.{MetaMethod}
 use Rattle.meta_model.specs.declared.object.MetaProperty.{MetaProperty}
@@ -37,6 +38,7 @@ use Rattle.meta_model.specs.Members.{IsClass, IsClassNamed, IsMethod, IsProperty
 use Rattle.meta_model.specs.Literals.{HoldsNoObject}
 use Rattle.meta_model.specs.Root.{root_class, BeginsAsRoot}
 use Rattle.meta_model.specs.Sites.{paths_in, literals_in}
+use Rattle.meta_model.specs.Twice.{StandsTwice}
 
 -- ---- types
 -- a declared type, its class replaced by its number
@@ -98,14 +100,13 @@ pub record IsSoundEmit (p : Loaded) (me : ℕ) (kinds : List ValueType) (m : ℕ
   pub counted : length signal.kinds ≡ length es
   pub values : AreSoundExprs p me kinds es
 
--- `call`: the object's class has the slot, with as many parameters
+-- `call`: the object's class has the slot or native, with as many parameters
 pub record IsSoundCall (p : Loaded) (me : ℕ) (kinds : List ValueType) (path : MetaPath) (m : ℕ) (es : List (Expr MetaPath)) : Type 0 where
   pub class : ℕ
   pub leads : LeadsToClass p me kinds path class
   pub slot : MetaMethod
   pub is : IsMethod p class m slot
-  pub body : List Statement
-  pub slots : slot.work ≡ Slot body
+  pub callable : slot.work ≢ Signal
   pub counted : length slot.kinds ≡ length es
   pub values : AreSoundExprs p me kinds es
 
@@ -160,9 +161,51 @@ pub record IsSoundBody (p : Loaded) (c m : ℕ) (kinds : List ValueType) (body :
   pub declares : Declares p declaring m
   pub sound : AreSound p declaring kinds body
 
+-- ---- natives
+-- no reference
+abbrev pub IsPlain : ValueType → Type 0
+IsPlain kind = (class : ℕ) (constant : Bool) → kind ≢ type.Reference class constant
+
+-- property q of class c is there, and is of a value type
+pub record IsPlainProperty (p : Loaded) (c q : ℕ) : Type 0 where
+  pub property : MetaProperty
+  pub is : IsProperty p c q property
+  pub plain : IsPlain property.kind
+
+-- method m of class c is there, and is a signal of values that the runtime doesn't emit by itself
+pub record IsPlainSignal (p : Loaded) (c m : ℕ) : Type 0 where
+  pub signal : MetaMethod
+  pub is : IsMethod p c m signal
+  pub signals : signal.work ≡ Signal
+  pub emitted : OBJECT_NAME_CHANGED < m
+  pub plain : All IsPlain signal.kinds
+
+-- no number stands twice in the list
+abbrev pub AreOnce : List ℕ → Type 0
+AreOnce numbers = ¬ StandsTwice (λ (a b : ℕ). a ≡ b) numbers
+
+-- the effects' numbers are those of members of class c, each once in its list, of value types
+pub record AreSoundEffects (p : Loaded) (c : ℕ) (effects : MetaEffects) : Type 0 where
+  pub reads : All (IsPlainProperty p c) effects.reads
+  pub reads_once : AreOnce effects.reads
+  pub emits : All (IsPlainSignal p c) effects.emits
+  pub emits_once : AreOnce effects.emits
+  pub sets : All (IsPlainProperty p c) effects.sets
+  pub sets_once : AreOnce effects.sets
+
+-- the native that is method m of class c takes values, and its effects are those of the class that declares it, which is c
+-- or above it
+pub record IsSoundNative (p : Loaded) (c m : ℕ) (kinds : List ValueType) (effects : MetaEffects) : Type 0 where
+  pub declaring : ℕ
+  pub below : Below p c declaring
+  pub declares : Declares p declaring m
+  pub plain : All IsPlain kinds
+  pub sound : AreSoundEffects p declaring effects
+
 abbrev pub IsSoundWork : Loaded → ℕ → ℕ → List ValueType → Work → Type 0
 IsSoundWork p c m kinds Signal = Unit {0}
 IsSoundWork p c m kinds (Slot body) = IsSoundBody p c m kinds body
+IsSoundWork p c m kinds (Native effects) = IsSoundNative p c m kinds effects
 
 -- ---- members of class c
 pub record IsSoundMethod (p : Loaded) (c m : ℕ) (method : MetaMethod) : Type 0 where
@@ -220,16 +263,6 @@ IsSoundWire p wire = AreConnectable p wire.sender wire.signal wire.receiver wire
 pub record IsSoundOwns (p : Loaded) (owns : MetaOwns) : Type 0 where
   pub parent : owns.parent < length p.classes
   pub child : owns.child < length p.classes
-
--- no reference
-abbrev pub IsPlain : ValueType → Type 0
-IsPlain kind = (class : ℕ) (constant : Bool) → kind ≢ type.Reference class constant
-
--- property q of class c is there, and is of a value type
-pub record IsPlainProperty (p : Loaded) (c q : ℕ) : Type 0 where
-  pub property : MetaProperty
-  pub is : IsProperty p c q property
-  pub plain : IsPlain property.kind
 
 -- the name stands for a property of a value type, in the class that the formal source is declared with
 pub record IsSoundSource (p : Loaded) (formals : List ℕ) (s : SourceProperty) : Type 0 where

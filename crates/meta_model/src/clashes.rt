@@ -3,11 +3,13 @@
 ghost use Rattle.std.specs.Prelude.{◌≡◌, ◌↔◌, IsTrue, Any};
 ghost use Rattle.meta_model.specs.Twice.{StandsTwice};
 ghost use Rattle.meta_model.specs.Conditions.{IsTaken, DuplicateClass};
-ghost use Rattle.meta_model.specs.Conditions.{RepeatsParameter, RepeatsName, AreOneParameter, RepeatsDeclared};
+ghost use Rattle.meta_model.specs.Conditions.{RepeatsInMethod, RepeatsInSlot, RepeatsName, AreOneParameter};
+ghost use Rattle.meta_model.specs.Conditions.{RepeatsDeclared};
+ghost use Rattle.meta_model.specs.Natives.{RepeatsAction, RepeatsEffect, RepeatsEffectIn};
 ghost use Rattle.meta_model.specs.Sites.{RepeatsSite, RepeatsFormal};
 
-use signatures::Name;
-use texts::{Class, Formal, Parameter, Program, Signal, Site, Slot};
+use signatures::{Name, Sig};
+use texts::{Class, EffectNames, Formal, Parameter, Program, Signal, Site, Slot, SlotWork};
 
 /// What may not stand twice in a list.
 trait Alike {
@@ -53,6 +55,22 @@ impl Alike for Site {
     }
 }
 
+impl Alike for Name {
+    ghost alike = { λ a b. a ≡ b };
+
+    fn is_alike(&self, other: &Name) -> bool {
+        self.is_same(other)
+    }
+}
+
+impl Alike for Sig {
+    ghost alike = { λ a b. a.name ≡ b.name };
+
+    fn is_alike(&self, other: &Sig) -> bool {
+        self.name.is_same(&other.name)
+    }
+}
+
 /// Whether an item is alike to a later one.
 fn stands_twice<T: Alike>(items: &[T]) -> bool
     ensures { IsTrue result ↔ StandsTwice T.alike items.now }
@@ -93,29 +111,30 @@ fn is_taken(name: &Name) -> bool
         || bytes == b"QString".as_slice()
 }
 
-/// Whether two parameters of a method, two binding sites or two formal sources of one have one name.
+/// Whether two parameters of a method, two binding sites or two formal sources of one have one name, or a name stands twice
+/// in a list of a native.
 pub fn has_repeated_name(program: &Program) -> bool
     ensures { IsTrue result ↔ RepeatsDeclared program.now }
 {
     let classes = program.classes.as_slice();
     let sites = program.sites.as_slice();
-    has_repeated_parameter(classes) || has_repeated_site(sites)
+    repeats_in_classes(classes) || has_repeated_site(sites)
 }
 
-/// Whether a parameter stands twice in a method of one of the classes.
-fn has_repeated_parameter(classes: &[Class]) -> bool
-    ensures { IsTrue result ↔ Any RepeatsParameter classes.now }
+/// Whether a parameter stands twice in a method of one of the classes, or a name in a list of a native.
+fn repeats_in_classes(classes: &[Class]) -> bool
+    ensures { IsTrue result ↔ Any RepeatsInMethod classes.now }
 {
-    classes.iter().any(|class| repeats_parameter(class))
+    classes.iter().any(|class| repeats_in_method(class))
 }
 
-/// Whether a parameter stands twice in a method of the class.
-fn repeats_parameter(class: &Class) -> bool
-    ensures { IsTrue result ↔ RepeatsParameter class.now }
+/// Whether a parameter stands twice in a method of the class, or a name in a list of a native.
+fn repeats_in_method(class: &Class) -> bool
+    ensures { IsTrue result ↔ RepeatsInMethod class.now }
 {
     let signals = class.signals.as_slice();
     let slots = class.slots.as_slice();
-    repeats_signal_parameter(signals) || repeats_slot_parameter(slots)
+    repeats_signal_parameter(signals) || repeats_in_slots(slots)
 }
 
 /// Whether a parameter stands twice in a signal.
@@ -127,13 +146,45 @@ fn repeats_signal_parameter(signals: &[Signal]) -> bool
         .any(|signal| stands_twice(signal.parameters.as_slice()))
 }
 
-/// Whether a parameter stands twice in a slot.
-fn repeats_slot_parameter(slots: &[Slot]) -> bool
-    ensures { IsTrue result ↔ Any (λ slot. RepeatsName slot.parameters) slots.now }
+/// Whether a parameter stands twice in a slot or native, or a name in a list of a native.
+fn repeats_in_slots(slots: &[Slot]) -> bool
+    ensures { IsTrue result ↔ Any RepeatsInSlot slots.now }
 {
-    slots
-        .iter()
-        .any(|slot| stands_twice(slot.parameters.as_slice()))
+    slots.iter().any(|slot| repeats_in_slot(slot))
+}
+
+/// Whether a parameter stands twice in the slot or native, or a name in a list of the native.
+fn repeats_in_slot(slot: &Slot) -> bool
+    ensures { IsTrue result ↔ RepeatsInSlot slot.now }
+{
+    stands_twice(slot.parameters.as_slice()) || repeats_effect_in(&slot.work)
+}
+
+/// Whether a name stands twice in a list of what is a native.
+fn repeats_effect_in(work: &SlotWork) -> bool
+    ensures { IsTrue result ↔ RepeatsEffectIn work.now }
+{
+    match work {
+        SlotWork::Body(_) => false,
+        SlotWork::Native(effects) => repeats_effect(effects),
+    }
+}
+
+/// Whether a property that the native reads or one that it sets, or the name of a signal that it emits, stands twice.
+fn repeats_effect(effects: &EffectNames) -> bool
+    ensures { IsTrue result ↔ RepeatsEffect effects.now }
+{
+    let reads = effects.reads.as_slice();
+    stands_twice(reads) || repeats_action(effects)
+}
+
+/// Whether the name of a signal that the native emits, or a property that it sets, stands twice.
+fn repeats_action(effects: &EffectNames) -> bool
+    ensures { IsTrue result ↔ RepeatsAction effects.now }
+{
+    let emits = effects.emits.as_slice();
+    let sets = effects.sets.as_slice();
+    stands_twice(emits) || stands_twice(sets)
 }
 
 /// Whether two binding sites have one name, or two formal sources of one.

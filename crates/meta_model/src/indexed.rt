@@ -68,7 +68,7 @@ impl IndexedOutline {
         self.outline.base
     }
 
-    /// The base's methods, then its own signals, then its own slots.
+    /// The base's methods, then its own signals, then its own slots and natives.
     pub fn methods(&self) -> &[Heading]
         ensures { result.now ≡ self.now.methods }
     {

@@ -3,11 +3,13 @@
 ghost use Rattle.std.specs.Prelude.{◌≡◌, ◌↔◌, ℕ, List, IsTrue, IfOk, Any};
 ghost use Rattle.std.specs.List.{AllZip};
 ghost use Rattle.meta_model.specs.Kinds.{IsKindIn, LacksType, IsReadAs};
-ghost use Rattle.meta_model.specs.Conditions.{LacksPropertyType, LacksParameterType, LacksTypes, LacksAnyType, NoType};
+ghost use Rattle.meta_model.specs.Conditions.{LacksPropertyType, LacksParameterType, LacksTypes, LacksAnyType};
+ghost use Rattle.meta_model.specs.Conditions.{MisusesReference, NoType};
 ghost use Rattle.meta_model.specs.LookUps.{LooksUp};
 ghost use Rattle.signatures.specs.Types.{value_type};
 
 use crate::indexed::IndexedOutline;
+use crate::native_types::touches_references;
 use crate::object::ValueType;
 use crate::outline::Heading;
 use crate::places::place_of;
@@ -78,12 +80,20 @@ fn lacks_type(outlines: &[IndexedOutline], declared: &QType) -> bool
 }
 
 /// Whether the type of a property or a parameter isn't there, or a binding's target or a property that it reads is a
-/// reference.
+/// reference, or a native takes, reads, emits or sets one.
 pub fn has_no_type(program: &Program, outlines: &[IndexedOutline]) -> bool
     ensures { IsTrue result ↔ NoType program.now outlines.now }
 {
+    lacks_any_type(outlines) || misuses_reference(program, outlines)
+}
+
+/// Whether a binding's target or a property that it reads is a reference, or a native takes, reads, emits or sets one.
+fn misuses_reference(program: &Program, outlines: &[IndexedOutline]) -> bool
+    ensures { IsTrue result ↔ MisusesReference program.now outlines.now }
+{
     let sites = program.sites.as_slice();
-    lacks_any_type(outlines) || has_reference(outlines, sites)
+    let classes = program.classes.as_slice();
+    has_reference(outlines, sites) || touches_references(outlines, classes)
 }
 
 /// Whether the type of a property or a parameter isn't there.

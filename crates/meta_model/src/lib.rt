@@ -4,10 +4,12 @@
 
 mod call_index;
 mod clashes;
+mod effects;
 mod fault;
 mod indexed;
 mod kinds;
 mod name_index;
+mod native_types;
 mod notify;
 mod object;
 mod outline;
@@ -20,6 +22,7 @@ mod slot_body;
 
 pub use call_index::{Called, find_call, index_calls};
 pub use clashes::{has_duplicate_class, has_repeated_name};
+pub use effects::MetaEffects;
 pub use fault::MetaFault;
 pub use indexed::{IndexedOutline, index_outlines};
 pub use kinds::{has_no_type, kind_of, read_kind, read_kinds};

@@ -1,6 +1,7 @@
 ghost use Rattle.std.specs.Prelude.{◌≡◌, IfOk};
 ghost use Rattle.meta_model.specs.Values.{default};
 
+use crate::effects::MetaEffects;
 use crate::slot_body::SlotBody;
 use signatures::{Kind, Name, QType, Sig, Text, Value};
 use sqlite_items::Items;
@@ -72,7 +73,8 @@ pub struct MetaEndpoints {
     pub signal: usize,
     /// The receiver's path.
     pub receiver: MetaPath,
-    /// The slot or signal, in the class that the receiver's path is declared to lead to and in every class below that.
+    /// The slot, native or signal, in the class that the receiver's path is declared to lead to and in every class below
+    /// that.
     pub method: usize,
 }
 
@@ -104,6 +106,8 @@ pub enum Work {
     Signal,
     /// A slot has a body.
     Slot(SlotBody),
+    /// A native's work stands outside the program, which declares what it may read and do.
+    Native(MetaEffects),
 }
 
 /// A method of a class.
@@ -133,14 +137,14 @@ pub struct MetaProperty {
 }
 
 /// A class. A method's or a property's number is its place here, from 0: the base's members come first, then the
-/// class's own, signals before slots, each as declared.
+/// class's own, signals before slots and natives, each as declared.
 #[derive(Drop)]
 pub struct MetaObject {
     /// The class's name.
     pub name: Name,
     /// The number of its base; only `QObject`, which has the number 0, has none.
     pub base: Option<usize>,
-    /// The base's methods, then its own signals, then its own slots.
+    /// The base's methods, then its own signals, then its own slots and natives.
     pub methods: Items<MetaMethod>,
     /// The base's properties, then its own.
     pub properties: Items<MetaProperty>,
@@ -155,7 +159,7 @@ pub struct MetaWire {
     pub signal: usize,
     /// The class of the receiver.
     pub receiver: usize,
-    /// The slot or signal, in the receiver's class.
+    /// The slot, native or signal, in the receiver's class.
     pub method: usize,
     /// How the connection reaches its receiver.
     pub kind: Kind,

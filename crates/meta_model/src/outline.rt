@@ -5,23 +5,24 @@ use signatures::{Name, Sig};
 use sqlite_items::Items;
 use texts::Property;
 
-/// Where a method's body stands in the program.
+/// Where a method's work stands in the program.
 #[derive(Clone, Copy, Debug, PartialEq, Eq)]
 pub enum Sort {
     /// A signal has none.
     Signal,
-    /// `deleteLater()` has one that stands in no program.
+    /// `deleteLater()` has a body that stands in no program.
     DeleteLater,
-    /// A slot has one: the number of its class among the program's, and its place among that class's slots.
+    /// A slot or native has it: the number of its class among the program's, and its place among that class's slots and
+    /// natives.
     Slot(usize, usize),
 }
 
-/// A method before its types and its body are resolved.
+/// A method before its types and its work are resolved.
 #[derive(Drop)]
 pub struct Heading {
     /// Its name and its parameters' types, as declared.
     pub sig: Sig,
-    /// Where its body stands.
+    /// Where its work stands.
     pub sort: Sort,
 }
 
@@ -42,7 +43,7 @@ pub struct Outline {
     pub name: Name,
     /// The number of its base; only `QObject`, which has the number 0, has none.
     pub base: Option<usize>,
-    /// The base's methods, then its own signals, then its own slots.
+    /// The base's methods, then its own signals, then its own slots and natives.
     pub methods: Items<Heading>,
     /// The base's properties, then its own.
     pub properties: Items<Property>,

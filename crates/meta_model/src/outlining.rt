@@ -99,7 +99,7 @@ fn copy_headings(alloc: Global, headings: &[Heading]) -> Result<Items<Heading>, 
     Ok(copy)
 }
 
-/// The class's signals, then its slots.
+/// The class's signals, then its slots and natives.
 fn own_headings(alloc: Global, number: usize, class: &Class) -> Result<Items<Heading>, AllocError>
     ensures { IfOk result (λ headings. headings ≡ own_methods number class.now) }
 {
@@ -124,7 +124,7 @@ fn signal_headings(alloc: Global, signals: &[Signal]) -> Result<Items<Heading>, 
     Ok(headings)
 }
 
-/// The slots, as declared, of the class of this number among the program's.
+/// The slots and natives, as declared, of the class of this number among the program's.
 fn slot_headings(alloc: Global, number: usize, slots: &[Slot]) -> Result<Items<Heading>, AllocError>
     ensures { IfOk result (λ headings. headings ≡ slot_headings number 0 slots.now) }
 {

@@ -2,7 +2,7 @@
 
 ghost use Rattle.std.specs.Prelude.{◌↔◌, IsTrue, Any};
 ghost use Rattle.meta_model.specs.Sites.{FindsProperty, FindsSource};
-ghost use Rattle.meta_model.specs.Sites.{BindsReference, ReadsReference, UsesReference, paths_in};
+ghost use Rattle.meta_model.specs.Sites.{IsReferenceIn, ReadsReference, UsesReference, paths_in};
 
 use crate::indexed::IndexedOutline;
 use crate::places::find;
@@ -78,14 +78,15 @@ pub fn has_reference(outlines: &[IndexedOutline], sites: &[Site]) -> bool
 fn uses_reference(outlines: &[IndexedOutline], site: &Site) -> bool
     ensures { IsTrue result ↔ UsesReference outlines.now site.now }
 {
-    binds_reference(outlines, site) || reads_reference(outlines, site, &site.expression)
+    is_reference_in(outlines, &site.class, &site.property)
+        || reads_reference(outlines, site, &site.expression)
 }
 
-/// Whether the site's target is a reference.
-fn binds_reference(outlines: &[IndexedOutline], site: &Site) -> bool
-    ensures { IsTrue result ↔ BindsReference outlines.now site.now }
+/// Whether the property of this name, in the class of this name, is a reference.
+pub fn is_reference_in(outlines: &[IndexedOutline], class: &Name, name: &Name) -> bool
+    ensures { IsTrue result ↔ IsReferenceIn outlines.now class.now name.now }
 {
-    match property_in(outlines, &site.class, &site.property) {
+    match property_in(outlines, class, name) {
         Some(found) => found.property.kind.pointer,
         None => false,
     }

@@ -16,3 +16,4 @@ pub mod OnlyAnswer
 pub mod SitePieces
 pub mod OneSite
 pub mod Sited
+pub mod Natives

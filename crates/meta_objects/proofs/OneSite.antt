@@ -6,7 +6,6 @@ use Rattle.texts.specs.declared.syntax.Expr.TheOpen as expr
 use Rattle.texts.specs.declared.syntax.Expr.TheViews.{out-Expr, roll-Expr, roll-out-Expr}
 use Rattle.texts.specs.declared.syntax.Path.{Path}
 use Rattle.texts.specs.declared.program.Formal.{Formal}
-use Rattle.texts.specs.declared.program.Property.{Property}
 use Rattle.texts.specs.declared.program.Site.{Site}
 use Rattle.meta_model.specs.declared.site.SourceProperty.{SourceProperty}
 use Rattle.meta_model.specs.declared.site.MetaSite.{MetaSite}

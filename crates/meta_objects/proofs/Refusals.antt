@@ -3,7 +3,6 @@ use Rattle.std.proofs.Common.{◌≡◌, List, [], ◌∷◌, Result, Ok, Err, I
 use Rattle.texts.specs.declared.program.Program.{Program}
 use Rattle.meta_model.specs.declared.fault.MetaFault.{MetaFault}
 use Rattle.meta_model.specs.declared.fault.MetaFault.TheVariants as fault
-use Rattle.meta_model.specs.declared.object.Statement.{Statement}
 use Rattle.meta_model.specs.declared.object.MetaWire.{MetaWire}
 use Rattle.meta_model.specs.declared.object.MetaOwns.{MetaOwns}
 use Rattle.meta_model.specs.declared.site.MetaSite.{MetaSite}
@@ -12,7 +11,8 @@ use Rattle.meta_model.specs.Loaded.{Loaded}
 use Rattle.meta_model.specs.Outlines.{Outlines, qobject}
 use Rattle.meta_model.specs.Conditions.{DuplicateClass, NoBase, HasTwoMembers, RepeatsDeclared, DuplicateMember}
 use Rattle.meta_model.specs.Indexed.{AreIndexed}
-use Rattle.meta_objects.specs.Bodies.{IsBody, AreBodies, LacksInSlot, LacksInClass}
+use Rattle.meta_objects.specs.declared.body_resolution.work.ResolvedWork.{ResolvedWork}
+use Rattle.meta_objects.specs.Bodies.{IsSlotWork, AreWorks, LacksInSlot, LacksInClass}
 use Rattle.meta_objects.specs.Sites.{IsSite, LacksInSite}
 use Rattle.meta_objects.specs.Loading.{IsWire, LacksEnd, IsOwns, LacksClass, LacksMember, HasUses}
 use Rattle.meta_model.specs.PartAnswers.{Loads}
@@ -24,15 +24,15 @@ pub outlined : (program : Program) (o : List Outline) → (¬ DuplicateClass pro
 outlined program o distinct are = record { distinct = distinct; based = none_lack program.classes (qobject ∷ []) 0 o are; are = are }
 
 -- what is resolved lacks no member
-pub nothing_lacks : (program : Program) (o : List Outline) (bodies : List (List (List Statement))) (wires : List MetaWire) (owns : List MetaOwns) (sites : List MetaSite) → HasUses program o bodies wires owns sites → ¬ LacksMember program o
-nothing_lacks program o bodies wires owns sites h (inl any) =
-    none_of_zip (AreBodies o) (LacksInClass o) program.classes bodies h.are_bodies
-    (λ class bs are. none_of_zip (IsBody o class) (LacksInSlot o class) class.slots bs are (λ slot b is lacks. lacks b is)) any
-nothing_lacks program o bodies wires owns sites h (inr (inl any)) =
+pub nothing_lacks : (program : Program) (o : List Outline) (works : List (List ResolvedWork)) (wires : List MetaWire) (owns : List MetaOwns) (sites : List MetaSite) → HasUses program o works wires owns sites → ¬ LacksMember program o
+nothing_lacks program o works wires owns sites h (inl any) =
+    none_of_zip (AreWorks o) (LacksInClass o) program.classes works h.are_works
+    (λ class ws are. none_of_zip (IsSlotWork o class) (LacksInSlot o class) class.slots ws are (λ slot w is lacks. lacks w is)) any
+nothing_lacks program o works wires owns sites h (inr (inl any)) =
     none_of_zip (IsWire o) (LacksEnd o) program.wires wires h.wired (λ wire w is lacks. lacks w is) any
-nothing_lacks program o bodies wires owns sites h (inr (inr (inl any))) =
+nothing_lacks program o works wires owns sites h (inr (inr (inl any))) =
     none_of_zip (IsOwns o) (LacksClass o) program.owns owns h.owned (λ one w is lacks. lacks w is) any
-nothing_lacks program o bodies wires owns sites h (inr (inr (inr any))) =
+nothing_lacks program o works wires owns sites h (inr (inr (inr any))) =
     none_of_zip (IsSite o) (LacksInSite o) program.sites sites h.sited (λ one w is lacks. lacks w is) any
 
 -- an answer that is this fault

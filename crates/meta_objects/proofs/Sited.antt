@@ -1,5 +1,5 @@
 -- Binding sites that are resolved in outlines, as they are loaded.
-use Rattle.std.proofs.Common.{◌≡◌, ℕ, ◌<◌, true, List, [], ◌∷◌, ◌++◌, length, get_or, slice_get, Some, ◌⊎◌, inl, inr, refl, sym, ap, ◌∙◌, subst}
+use Rattle.std.proofs.Common.{◌≡◌, ℕ, ◌<◌, true, List, [], ◌∷◌, ◌++◌, length, get_or, slice_get, Some, inl, inr, refl, sym, ap, ◌∙◌, subst}
 use Rattle.std.specs.Prelude.{All}
 use Rattle.std.specs.List.{AllZip}
 use Rattle.std.proofs.lemmas.Option.{slice_get_within, slice_get-get_or}
@@ -11,7 +11,6 @@ use Rattle.texts.specs.declared.syntax.Path.{Path}
 use Rattle.texts.specs.declared.program.Formal.{Formal}
 use Rattle.texts.specs.declared.program.Property.{Property}
 use Rattle.texts.specs.declared.program.Site.{Site}
-use Rattle.meta_model.specs.declared.object.Statement.{Statement}
 use Rattle.meta_model.specs.declared.object.ValueType.{ValueType}
 use Rattle.meta_model.specs.declared.object.ValueType.TheVariants as type
 use Rattle.meta_model.specs.declared.site.SourceProperty.{SourceProperty}
@@ -24,6 +23,7 @@ use Rattle.meta_model.specs.Members.{IsClassNamed, IsPropertyNamed}
 use Rattle.meta_model.specs.Outlines.{IsOutlineNamed}
 use Rattle.meta_model.specs.Sites.{IsPropertyIn, IsSourceProperty, paths_in, literals_in, ReadsReference, UsesReference, by_target, by_source}
 use Rattle.meta_model.specs.Sound.{IsPlain, IsPlainProperty, IsSoundSource, IsSoundSite}
+use Rattle.meta_objects.specs.declared.body_resolution.work.ResolvedWork.{ResolvedWork}
 use Rattle.meta_objects.specs.Loading.{IsObject}
 use Rattle.meta_objects.specs.Sites.{IsFormula, literal_is, path_is, unary_is, binary_is, IsSite, IsLoadedSource, IsLoadedFormula, literal_loads, path_loads, unary_loads, binary_loads, IsLoadedSite}
 use Rattle.meta_model.proofs.PathsIn.{paths_of, literals_of}
@@ -33,7 +33,7 @@ use Rattle.meta_objects.proofs.SoundBodies.{no_object}
 use Rattle.meta_objects.proofs.Soundness.{object_at, named, FoundProperty, property_at}
 
 -- what holds of each element by its place
-all_of : {X : Type 0} (P : X → Type 0) (xs : List X) → ((k : ℕ) (x : X) → slice_get xs k ≡ Some x → P x) → All P xs
+pub all_of : {X : Type 0} (P : X → Type 0) (xs : List X) → ((k : ℕ) (x : X) → slice_get xs k ≡ Some x → P x) → All P xs
 all_of P xs has k d inside = has k (get_or xs k d) (slice_get-get_or xs k d inside)
 
 zip_by : {A B : Type 0} (R : A → B → Type 0) (xs us : List A) (ys vs : List B) → xs ≡ us → ys ≡ vs → AllZip R us vs → AllZip R xs ys
@@ -71,12 +71,12 @@ module _ (outlines : List Outline) (site : Site) where
       (zip_append IsLiteralOf (literals_in x) (literals_in u) (literals_in y) (literals_in v) (literals_zip x y h) (literals_zip u v k))
 
 -- ---- the loaded classes are those of these outlines
-module _ (outlines : List Outline) (bodies : List (List (List Statement))) (p : Loaded) (objects : AllZip (IsObject outlines bodies) outlines p.classes) where
-  found_in : (class name : List ℕ) (c q : ℕ) (x : Property) → IsPropertyIn outlines class name c q x → FoundProperty outlines bodies p objects c q x
+module _ (outlines : List Outline) (works : List (List ResolvedWork)) (p : Loaded) (objects : AllZip (IsObject outlines works) outlines p.classes) where
+  pub found_in : (class name : List ℕ) (c q : ℕ) (x : Property) → IsPropertyIn outlines class name c q x → FoundProperty outlines works p objects c q x
   found_in class name c q x h =
-      property_at outlines bodies p objects c h.of_class.at.item h.of_class.at.is q x (h.place.at.is ∙ ap (λ (y : Property). Some y) h.is)
+      property_at outlines works p objects c h.of_class.at.item h.of_class.at.is q x (h.place.at.is ∙ ap (λ (y : Property). Some y) h.is)
 
-  named_in : (class name : List ℕ) (c q : ℕ) (x : Property) → IsPropertyIn outlines class name c q x → IsPropertyNamed p c name q
+  pub named_in : (class name : List ℕ) (c q : ℕ) (x : Property) → IsPropertyIn outlines class name c q x → IsPropertyNamed p c name q
   named_in class name c q x h =
       let found = found_in class name c q x h in
       record {
@@ -88,21 +88,21 @@ module _ (outlines : List Outline) (bodies : List (List (List Statement))) (p : 
       }
 
   -- what isn't declared as a pointer is read as no reference
-  plain_kind : (T : QType) (k : ValueType) → (¬ (T.pointer ≡ true)) → IsReadAs outlines T k → IsPlain k
+  pub plain_kind : (T : QType) (k : ValueType) → (¬ (T.pointer ≡ true)) → IsReadAs outlines T k → IsPlain k
   plain_kind T type.Int not h class constant e = absurd (cc)
   plain_kind T type.Bool not h class constant e = absurd (cc)
   plain_kind T type.Text not h class constant e = absurd (cc)
   plain_kind T (type.Reference c k) not (inl h) class constant e = absurd (not h.0)
   plain_kind T (type.Reference c k) not (inr h) class constant e = let read_as_int = h.1 in absurd (cc)
 
-  plain_in : (class name : List ℕ) (c q : ℕ) (x : Property) → IsPropertyIn outlines class name c q x → (¬ (x.kind.pointer ≡ true)) → IsPlainProperty p c q
+  pub plain_in : (class name : List ℕ) (c q : ℕ) (x : Property) → IsPropertyIn outlines class name c q x → (¬ (x.kind.pointer ≡ true)) → IsPlainProperty p c q
   plain_in class name c q x h not =
       let found = found_in class name c q x h in
       record { property = found.loaded; is = found.is; plain = plain_kind x.kind found.loaded.kind not found.kind }
 
   class_there : (name : List ℕ) (c : ℕ) → IsOutlineNamed outlines name c → c < length p.classes
   class_there name c h =
-      let x = object_at outlines bodies p objects c h.at.item h.at.is in slice_get_within p.classes c x.0 x.1
+      let x = object_at outlines works p objects c h.at.item h.at.is in slice_get_within p.classes c x.0 x.1
 
   abbrev IsClassOf : Formal → ℕ → Type 0
   IsClassOf f c = IsOutlineNamed outlines f.class c
@@ -135,17 +135,17 @@ module _ (outlines : List Outline) (bodies : List (List (List Statement))) (p : 
     pub site_loads : IsLoadedSite p declared site
     site_loads = record {
       named = is.named;
-      class = named outlines bodies p objects declared.class site.class is.target.of_class;
+      class = named outlines works p objects declared.class site.class is.target.of_class;
       property = named_in declared.class declared.property site.class site.property is.property is.target;
       formals = zip_also IsClassOf (λ (f : Formal) (c : ℕ). IsClassNamed p f.class c) declared.formals site.formals
-          (λ f c h. named outlines bodies p objects f.class c h) is.formals;
+          (λ f c h. named outlines works p objects f.class c h) is.formals;
       formula = formula_loads declared.expression site.formula is.formula;
     }
 
     -- ---- where no reference is used
     module _ (none : ¬ UsesReference outlines declared) where
       not_bound : ¬ (is.property.kind.pointer ≡ true)
-      not_bound pointer = none (by_target (record { number = site.class; place = site.property; property = is.property; target = is.target; pointer = pointer }))
+      not_bound pointer = none (by_target (record { number = site.class; place = site.property; property = is.property; is = is.target; pointer = pointer }))
 
       source_sound : (k : ℕ) (s : SourceProperty) → slice_get (paths_in site.formula) k ≡ Some s → IsSoundSource p site.formals s
       source_sound k s e =

@@ -119,8 +119,7 @@ module _ (s : Site) (counted : (c m : ℕ) (method : MetaMethod) → IsMethod s.
           leads = object_sound path found h.class h.object;
           slot = h.slot.method;
           is = h.slot.is;
-          body = h.body;
-          slots = h.slots;
+          callable = h.callable;
           counted = sym (counted h.class m h.slot.method h.slot.is) ∙ h.slot.counted ∙ zip_length (IsLoadedExpr s) es fs h.values;
           values = exprs_sound es fs h.values;
         })

@@ -1,5 +1,5 @@
 -- Bodies that are resolved in outlines, as they are loaded: by the numbers of the members with their names.
-use Rattle.std.proofs.Common.{◌≡◌, ◌≢◌, ℕ, zero, suc, ◌<◌, Bool, false, List, [], ◌∷◌, map, length, slice_get, Some, true, inl, refl, sym, ap, ◌∙◌, subst}
+use Rattle.std.proofs.Common.{◌≡◌, ◌≢◌, ℕ, zero, suc, ◌<◌, Bool, false, List, [], ◌∷◌, map, length, slice_get, Option, Some, None, true, inl, refl, sym, ap, ◌∙◌, subst}
 use Rattle.std.specs.List.{AllZip}
 use Rattle.std.proofs.lemmas.Option.{none-some, same_Some}
 use Rattle.signatures.specs.declared.qtype.QType.{QType}
@@ -34,16 +34,17 @@ use Rattle.meta_model.specs.Loaded.{Loaded}
 use Rattle.meta_model.specs.Members.{IsClassNamed, IsMethod, IsMethodNamed, IsProperty}
 use Rattle.meta_model.specs.Sound.{IsKind}
 use Rattle.meta_model.specs.Outlines.{IsOutlineNamed, kinds_of}
-use Rattle.meta_model.specs.Root.{delete_later_body}
 use Rattle.meta_model.specs.declared.qobject.TheConstants.{OBJECT_NAME_CHANGED}
 use Rattle.meta_model.specs.Places.{StandsFirst}
 use Rattle.meta_model.specs.Kinds.{IsKindIn, IsReadAs}
 use Rattle.meta_model.specs.Conditions.{IsSignalOf}
 use Rattle.meta_model.specs.Ends.{IsSigned}
 use Rattle.meta_objects.specs.LoadedEnds.{Connects}
+use Rattle.meta_objects.specs.declared.body_resolution.work.ResolvedWork.{ResolvedWork}
+use Rattle.meta_objects.specs.declared.body_resolution.work.ResolvedWork.TheVariants as resolved
 use Rattle.meta_objects.specs.Bodies.{Scope, IsRoot, this_root, parameter_root, PointsTo, HasMember, AreSteps, IsPath, IsExpr, literal_is, path_is, unary_is, binary_is, AreExprs, IsObjectPath, IsReferencePath, IsCallOf, IsSet, IsEmit, IsCall, AreEnds, IsStatement, set_is, emit_is, call_is, if_is, connect_is, disconnect_is, delete_is, later_is, AreStatements, none_are, next_is}
 use Rattle.meta_objects.specs.LoadedBodies.{Site, site, IsLoadedRoot, this_loaded, parameter_loaded, HasProperty, AreLoadedSteps, no_steps, step_on, IsLoadedPath, IsLoadedObject, IsLoadedExpr, literal_loaded, path_loaded, unary_loaded, binary_loaded, AreLoadedExprs, IsLoadedSet, IsLoadedEmit, IsLoadedCall, AreLoadedEnds, IsLoadedStatement, set_loaded, emit_loaded, call_loaded, if_loaded, connect_loaded, disconnect_loaded, delete_loaded, later_loaded, AreLoadedStatements, none_loaded, next_loaded}
-use Rattle.meta_objects.specs.Loading.{body_at, found_body, work_of, IsMethodOf, IsPropertyOf, IsObject}
+use Rattle.meta_objects.specs.Loading.{work_at, found_work, work_of, IsMethodOf, IsPropertyOf, IsObject}
 use Rattle.meta_model.proofs.Zips.{zip_left, zip_right}
 use Rattle.meta_model.proofs.Searches.{same_first}
 use Rattle.meta_model.proofs.ReadTypes.{same_read}
@@ -64,10 +65,10 @@ map_at f (y ∷ xs) zero x e = ap (λ z. Some (f z)) (same_Some _ _ e)
 map_at f (y ∷ xs) (suc i) x e = map_at f xs i x e
 
 -- the loaded classes are those of these outlines
-module _ (outlines : List Outline) (bodies : List (List (List Statement))) (p : Loaded) (objects : AllZip (IsObject outlines bodies) outlines p.classes) where
+module _ (outlines : List Outline) (works : List (List ResolvedWork)) (p : Loaded) (objects : AllZip (IsObject outlines works) outlines p.classes) where
   -- ---- classes and members by their numbers
-  pub object_at : (c : ℕ) (o : Outline) → slice_get outlines c ≡ Some o → (x : MetaObject) × (slice_get p.classes c ≡ Some x) × IsObject outlines bodies o x
-  object_at c o e = zip_left (IsObject outlines bodies) outlines p.classes objects c o e
+  pub object_at : (c : ℕ) (o : Outline) → slice_get outlines c ≡ Some o → (x : MetaObject) × (slice_get p.classes c ≡ Some x) × IsObject outlines works o x
+  object_at c o e = zip_left (IsObject outlines works) outlines p.classes objects c o e
 
   pub named : (name : List ℕ) (c : ℕ) → IsOutlineNamed outlines name c → IsClassNamed p name c
   named name c h =
@@ -97,12 +98,12 @@ module _ (outlines : List Outline) (bodies : List (List (List Statement))) (p : 
   pub record FoundMethod (c m : ℕ) (h : Heading) : Type 0 where
     pub loaded : MetaMethod
     pub is : IsMethod p c m loaded
-    pub by : IsMethodOf outlines bodies h loaded
+    pub by : IsMethodOf outlines works h loaded
 
   pub method_at : (c : ℕ) (o : Outline) → slice_get outlines c ≡ Some o → (m : ℕ) (h : Heading) → slice_get o.methods m ≡ Some h → FoundMethod c m h
   method_at c o e m h at =
       let x = object_at c o e in
-      let y = zip_left (IsMethodOf outlines bodies) o.methods x.0.methods x.2.methods m h at in
+      let y = zip_left (IsMethodOf outlines works) o.methods x.0.methods x.2.methods m h at in
       record { loaded = y.0; is = record { class = x.0; is_class = record { is = x.1 }; is = y.1 }; by = y.2 }
 
   -- a signal and a method that are found, as they are loaded
@@ -114,7 +115,7 @@ module _ (outlines : List Outline) (bodies : List (List (List Statement))) (p : 
       let method = method_at d u at_d m second.at.item second.at.is in
       record {
         signal = record { method = signal.loaded; is = signal.is; signed = signal.by.signed ∙ first.at.has.0 };
-        signals = signal.by.work ∙ ap (λ s. work_of bodies s) first.at.has.1;
+        signals = signal.by.work ∙ ap (λ s. work_of works s) first.at.has.1;
         method = record { method = method.loaded; is = method.is; signed = method.by.signed ∙ second.at.has };
         called = called;
       }
@@ -122,8 +123,8 @@ module _ (outlines : List Outline) (bodies : List (List (List Statement))) (p : 
   -- as many types as parameters
   pub kinds_counted : (c m : ℕ) (method : MetaMethod) → IsMethod p c m method → length method.sig.types ≡ length method.kinds
   kinds_counted c m method h =
-      let o = zip_right (IsObject outlines bodies) outlines p.classes objects c h.class h.is_class.is in
-      let x = zip_right (IsMethodOf outlines bodies) o.0.methods h.class.methods o.2.methods m method h.is in
+      let o = zip_right (IsObject outlines works) outlines p.classes objects c h.class h.is_class.is in
+      let x = zip_right (IsMethodOf outlines works) o.0.methods h.class.methods o.2.methods m method h.is in
       ap (λ (s : Sig). length s.types) x.2.signed ∙ zip_length (IsReadAs outlines) x.0.sig.types method.kinds x.2.kinds
 
   -- a pointer is read as a reference
@@ -219,11 +220,16 @@ module _ (outlines : List Outline) (bodies : List (List (List Statement))) (p : 
           value = expr_loads e f h.value;
         }
 
-    -- a signal's work, and a slot's
-    sort_slot : (s : Sort) → s ≢ sort.Signal → (body : List Statement) × (work_of bodies s ≡ work.Slot body)
-    sort_slot sort.Signal callable = absurd (callable refl)
-    sort_slot sort.DeleteLater callable = (delete_later_body, refl)
-    sort_slot (sort.Slot i j) callable = (found_body (body_at bodies i j), refl)
+    -- no slot and no native does what a signal does
+    found_called : (w : Option ResolvedWork) → found_work w ≢ work.Signal
+    found_called None e = absurd (cc)
+    found_called (Some (resolved.Body body)) e = absurd (cc)
+    found_called (Some (resolved.Native effects)) e = absurd (cc)
+
+    sort_called : (s : Sort) → s ≢ sort.Signal → work_of works s ≢ work.Signal
+    sort_called sort.Signal callable e = callable refl
+    sort_called sort.DeleteLater callable e = absurd (cc)
+    sort_called (sort.Slot i j) callable e = found_called (work_at works i j) e
 
     -- the method that a name and a number of parameters are resolved to has them
     abbrev method_named : (c m : ℕ) (h : Heading) → FoundMethod c m h → (n : List ℕ) (count : ℕ) → IsCallOf n count h → IsMethodNamed p c n count m
@@ -241,7 +247,7 @@ module _ (outlines : List Outline) (bodies : List (List (List Statement))) (p : 
         let found = method_at me h.class.at.item at_me m h.method.at.item h.method.at.is in
         record {
           signal = method_named me m h.method.at.item found n (length es) h.method.at.has;
-          signals = found.by.work ∙ ap (λ s. work_of bodies s) h.signal;
+          signals = found.by.work ∙ ap (λ s. work_of works s) h.signal;
           emitted = h.emitted;
           values = exprs_load es fs h.values;
         }
@@ -249,13 +255,11 @@ module _ (outlines : List Outline) (bodies : List (List (List Statement))) (p : 
     call_loads : (path : Path) (n : List ℕ) (es : List (Expr Path)) (found : MetaPath) (m : ℕ) (fs : List (Expr MetaPath)) → IsCall scope path n es found m fs → IsLoadedCall loaded_site path n es found m fs
     call_loads path n es found m fs h =
         let method = method_at h.object.number h.class (target_at path found h.class h.object) m h.method.at.item h.method.at.is in
-        let body = sort_slot h.method.at.item.sort h.callable in
         record {
           class = h.object.number;
           object = object_loads path found h.class h.object;
           slot = method_named h.object.number m h.method.at.item method n (length es) h.method.at.has;
-          body = body.0;
-          slots = method.by.work ∙ body.1;
+          callable = λ e. sort_called h.method.at.item.sort h.callable (sym method.by.work ∙ e);
           values = exprs_load es fs h.values;
         }
 

@@ -6,12 +6,16 @@ use Rattle.signatures.specs.declared.sig.Sig.{Sig}
 use Rattle.signatures.specs.declared.kind.Kind.{Kind}
 use Rattle.signatures.specs.declared.value.Value.{Value}
 use Rattle.texts.specs.declared.program.Property.{Property}
+use Rattle.texts.specs.declared.program.EffectNames.{EffectNames}
+use Rattle.texts.specs.declared.program.SlotWork.{SlotWork}
+use Rattle.texts.specs.declared.program.SlotWork.TheVariants as declared
+use Rattle.texts.specs.declared.program.Slot.{Slot}
 use Rattle.texts.specs.declared.program.Class.{Class}
 use Rattle.texts.specs.declared.program.Wire.{Wire}
 use Rattle.texts.specs.declared.program.Owns.{Owns}
 use Rattle.texts.specs.declared.program.Program.{Program}
+use Rattle.meta_model.specs.declared.effects.MetaEffects.{MetaEffects}
 use Rattle.meta_model.specs.declared.object.ValueType.{ValueType}
-use Rattle.meta_model.specs.declared.object.Statement.{Statement}
 use Rattle.meta_model.specs.declared.object.Work.{Work}
 use Rattle.meta_model.specs.declared.object.MetaMethod.{MetaMethod}
 use Rattle.meta_model.specs.declared.object.MetaProperty.{MetaProperty}
@@ -26,12 +30,16 @@ use Rattle.meta_model.specs.Places.{IsPlace}
 use Rattle.meta_model.specs.Outlines.{IsOutline, AreOutlines, Outlines, base_name, own_methods, qobject}
 use Rattle.meta_model.specs.Kinds.{IsReadAs}
 use Rattle.meta_model.specs.Conditions.{IsSignalOf}
-use Rattle.meta_objects.specs.Bodies.{IsBody, AreBodies, AllBodies}
+use Rattle.meta_objects.specs.declared.body_resolution.work.ResolvedWork.{ResolvedWork}
+use Rattle.meta_objects.specs.declared.body_resolution.work.ResolvedWork.TheVariants as loads
+use Rattle.meta_objects.specs.Natives.{HasPropertyIn, HasSignalIn, AreEffects}
+use Rattle.meta_objects.specs.Bodies.{scope_of, IsWork, IsSlotWork, AreWorks, AllWorks}
 use Rattle.meta_objects.specs.Loading.{IsMethodOf, IsNotify, IsPropertyOf, IsObject, IsWire, IsOwns, IsLoaded, initial_of}
 use Rattle.meta_objects.specs.Sites.{IsSite}
 use Rattle.meta_objects.specs.Builds.{OneLoading}
 use Rattle.meta_model.proofs.Searches.{same_first}
 use Rattle.meta_model.proofs.Firsts.{first_item}
+use Rattle.meta_model.proofs.SiteProperties.{one_property_in}
 use Rattle.meta_objects.proofs.Ends.{one_end}
 use Rattle.meta_objects.proofs.Bodies.{same_statements}
 use Rattle.meta_objects.proofs.OneSite.{same_zip, same_site}
@@ -71,12 +79,15 @@ wire_of c s d m k = record { sender = c; signal = s; receiver = d; method = m; k
 abbrev owns_of : ℕ → ℕ → MetaOwns
 owns_of c d = record { parent = c; child = d }
 
+abbrev effects_of : List ℕ → List ℕ → List ℕ → MetaEffects
+effects_of rs es ss = record { reads = rs; emits = es; sets = ss }
+
 abbrev loaded_of : List MetaObject → List MetaWire → List MetaOwns → List MetaSite → Loaded
 loaded_of cs ws os ss = record { classes = cs; wires = ws; owns = os; sites = ss }
 
 module _ (outlines : List Outline) where
-  pub same_method : (bodies : List (List (List Statement))) (h : Heading) (m n : MetaMethod) → IsMethodOf outlines bodies h m → IsMethodOf outlines bodies h n → m ≡ n
-  same_method bodies h m n a b =
+  pub same_method : (works : List (List ResolvedWork)) (h : Heading) (m n : MetaMethod) → IsMethodOf outlines works h m → IsMethodOf outlines works h n → m ≡ n
+  same_method works h m n a b =
       ap (λ s. method_of s m.kinds m.work) (a.signed ∙ sym b.signed)
       ∙ ap (λ ks. method_of n.sig ks m.work) (same_zip (IsReadAs outlines) h.sig.types m.kinds n.kinds (same_read outlines) a.kinds b.kinds)
       ∙ ap (λ w. method_of n.sig n.kinds w) (a.work ∙ sym b.work)
@@ -104,17 +115,37 @@ module _ (outlines : List Outline) where
   same_property : (o : Outline) (d : Property) (p q : MetaProperty) → IsPropertyOf outlines o d p → IsPropertyOf outlines o d q → p ≡ q
   same_property o d p q a b = same_property_by o o d p q a b (same_notify o d.notify p.notify q.notify a.notify b.notify)
 
-  pub same_object : (bodies : List (List (List Statement))) (o : Outline) (x y : MetaObject) → IsObject outlines bodies o x → IsObject outlines bodies o y → x ≡ y
-  same_object bodies o x y a b =
+  pub same_object : (works : List (List ResolvedWork)) (o : Outline) (x y : MetaObject) → IsObject outlines works o x → IsObject outlines works o y → x ≡ y
+  same_object works o x y a b =
       ap (λ n. object_of n x.base x.methods x.properties) (a.named ∙ sym b.named)
       ∙ ap (λ n. object_of y.name n x.methods x.properties) (a.based ∙ sym b.based)
-      ∙ ap (λ ms. object_of y.name y.base ms x.properties) (same_zip (IsMethodOf outlines bodies) o.methods x.methods y.methods (same_method bodies) a.methods b.methods)
+      ∙ ap (λ ms. object_of y.name y.base ms x.properties) (same_zip (IsMethodOf outlines works) o.methods x.methods y.methods (same_method works) a.methods b.methods)
       ∙ ap (λ ps. object_of y.name y.base y.methods ps) (same_zip (IsPropertyOf outlines o) o.properties x.properties y.properties (same_property o) a.properties b.properties)
 
-  same_bodies : (classes : List Class) (xs ys : List (List (List Statement))) → AllBodies outlines classes xs → AllBodies outlines classes ys → xs ≡ ys
-  same_bodies classes xs ys a b =
-      same_zip (AreBodies outlines) classes xs ys
-      (λ class us vs h k. same_zip (IsBody outlines class) class.slots us vs (λ slot u v p q. same_statements _ slot.body u v p q) h k) a b
+  same_named : (class name : List ℕ) (q r : ℕ) → HasPropertyIn outlines class name q → HasPropertyIn outlines class name r → q ≡ r
+  same_named class name q r h k = (one_property_in outlines class class name name refl refl h.number q k.number r h.property k.property h.is k.is).1
+
+  same_emitted : (class : List ℕ) (sig : Sig) (m n : ℕ) → HasSignalIn outlines class sig m → HasSignalIn outlines class sig n → m ≡ n
+  same_emitted class sig m n h k = (one_end _ outlines class h.number m k.number n h.is k.is).1
+
+  same_effects : (class : List ℕ) (names : EffectNames) (a b : MetaEffects) → AreEffects outlines class names a → AreEffects outlines class names b → a ≡ b
+  same_effects class names a b h k =
+      ap (λ x. effects_of x a.emits a.sets) (same_zip (HasPropertyIn outlines class) names.reads a.reads b.reads (same_named class) h.reads k.reads)
+      ∙ ap (λ x. effects_of b.reads x a.sets) (same_zip (HasSignalIn outlines class) names.emits a.emits b.emits (same_emitted class) h.emits k.emits)
+      ∙ ap (λ x. effects_of b.reads b.emits x) (same_zip (HasPropertyIn outlines class) names.sets a.sets b.sets (same_named class) h.sets k.sets)
+
+  same_work : (class : Class) (slot : Slot) (w : SlotWork) (a b : ResolvedWork) → IsWork (scope_of outlines class slot) w a → IsWork (scope_of outlines class slot) w b → a ≡ b
+  same_work class slot (declared.Body body) (loads.Body x) (loads.Body y) h k = ap (λ z. loads.Body z) (same_statements (scope_of outlines class slot) body x y h k)
+  same_work class slot (declared.Body body) (loads.Body x) (loads.Native y) h k = absurd k
+  same_work class slot (declared.Body body) (loads.Native x) b h k = absurd h
+  same_work class slot (declared.Native names) (loads.Native x) (loads.Native y) h k = ap (λ z. loads.Native z) (same_effects class.name names x y h k)
+  same_work class slot (declared.Native names) (loads.Native x) (loads.Body y) h k = absurd k
+  same_work class slot (declared.Native names) (loads.Body x) b h k = absurd h
+
+  same_works : (classes : List Class) (xs ys : List (List ResolvedWork)) → AllWorks outlines classes xs → AllWorks outlines classes ys → xs ≡ ys
+  same_works classes xs ys a b =
+      same_zip (AreWorks outlines) classes xs ys
+      (λ class us vs h k. same_zip (IsSlotWork outlines class) class.slots us vs (λ slot u v p q. same_work class slot slot.work u v p q) h k) a b
 
   same_wire : (wire : Wire) (v w : MetaWire) → IsWire outlines wire v → IsWire outlines wire w → v ≡ w
   same_wire wire v w a b =
@@ -133,10 +164,10 @@ module _ (outlines : List Outline) where
 
   same_loaded : (program : Program) (a b : Loaded) → IsLoaded program outlines a → IsLoaded program outlines b → a ≡ b
   same_loaded program a b h k =
-      let bodies = same_bodies program.classes h.bodies k.bodies h.uses.are_bodies k.uses.are_bodies in
+      let works = same_works program.classes h.works k.works h.uses.are_works k.uses.are_works in
       let classes =
-      same_zip (IsObject outlines h.bodies) outlines a.classes b.classes (same_object h.bodies) h.objects
-      (subst (λ bs. AllZip (IsObject outlines bs) outlines b.classes) (sym bodies) k.objects) in
+      same_zip (IsObject outlines h.works) outlines a.classes b.classes (same_object h.works) h.objects
+      (subst (λ ws. AllZip (IsObject outlines ws) outlines b.classes) (sym works) k.objects) in
       ap (λ x. loaded_of x a.wires a.owns a.sites) classes
       ∙ ap (λ x. loaded_of b.classes x a.owns a.sites) (same_zip (IsWire outlines) program.wires a.wires b.wires same_wire h.uses.wired k.uses.wired)
       ∙ ap (λ x. loaded_of b.classes b.wires x a.sites) (same_zip (IsOwns outlines) program.owns a.owns b.owns same_owns h.uses.owned k.uses.owned)

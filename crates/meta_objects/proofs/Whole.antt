@@ -10,13 +10,14 @@ use Rattle.texts.specs.declared.syntax.Literal.{Literal}
 use Rattle.texts.specs.declared.syntax.Literal.TheVariants as literal
 use Rattle.texts.specs.declared.program.Property.{Property}
 use Rattle.texts.specs.declared.program.Signal.{Signal}
+use Rattle.texts.specs.declared.program.SlotWork.{SlotWork}
+use Rattle.texts.specs.declared.program.SlotWork.TheVariants as does
 use Rattle.texts.specs.declared.program.Slot.{Slot}
 use Rattle.texts.specs.declared.program.Class.{Class}
 use Rattle.texts.specs.declared.program.Wire.{Wire}
 use Rattle.texts.specs.declared.program.Owns.{Owns}
 use Rattle.texts.specs.declared.program.Site.{Site}
 use Rattle.texts.specs.declared.program.Program.{Program}
-use Rattle.meta_model.specs.declared.object.Statement.{Statement}
 use Rattle.meta_model.specs.declared.object.ValueType.{ValueType}
 use Rattle.meta_model.specs.declared.object.ValueType.TheVariants as type
 use Rattle.meta_model.specs.declared.object.MetaMethod.{MetaMethod}
@@ -32,20 +33,23 @@ use Rattle.meta_model.specs.declared.outline.Outline.{Outline}
 use Rattle.meta_model.specs.Loaded.{Loaded}
 use Rattle.meta_model.specs.Places.{StandsAt, StandsFirst}
 use Rattle.meta_model.specs.Members.{IsClass, IsProperty, methods_in, method_count, methods_before, method_offset, Declares, base_of, Below, same, under, IsIn}
-use Rattle.meta_model.specs.Sound.{IsKind, AreSound, IsSoundBody, IsSoundWork, IsSoundMethod, IsNotifier, IsSoundProperty, IsUnder, HasDistinctMethods, HasDistinctProperties, IsSoundClass, IsSoundWire, IsSoundOwns, IsSoundSite, AreDistinctSites, IsSound}
+use Rattle.meta_model.specs.Sound.{IsKind, IsSoundWork, IsSoundMethod, IsNotifier, IsSoundProperty, IsUnder, HasDistinctMethods, HasDistinctProperties, IsSoundClass, IsSoundWire, IsSoundOwns, IsSoundSite, AreDistinctSites, IsSound}
 use Rattle.meta_model.specs.Literals.{HoldsNoObject}
 use Rattle.meta_model.specs.Sites.{UsesReference}
 use Rattle.meta_model.specs.Root.{root_methods, root_class, BeginsAsRoot}
 use Rattle.meta_model.specs.Outlines.{IsOutlineNamed, kinds_of, signal_heading, slot_headings, own_methods, heading, destroyed, destroyed_alone, name_changed, qobject}
 use Rattle.meta_model.specs.Kinds.{LacksType, IsReadAs}
-use Rattle.meta_model.specs.Conditions.{AreOneCall, HasTwoMembers, IsSignalOf, LacksNotifier, LacksTypes}
-use Rattle.meta_objects.specs.Bodies.{IsBody, AreBodies}
-use Rattle.meta_objects.specs.Loading.{body_at, found_body, work_of, initial_of, IsMethodOf, IsNotify, IsPropertyOf, IsObject, IsWire, IsOwns, HasUses, IsLoaded}
+use Rattle.meta_model.specs.Conditions.{AreOneCall, HasTwoMembers, RepeatsName, RepeatsInSlot, RepeatsInMethod, IsSignalOf, LacksNotifier, LacksTypes}
+use Rattle.meta_model.specs.Natives.{RepeatsEffectIn, TouchesReference, HasReferenceNative}
+use Rattle.meta_objects.specs.declared.body_resolution.work.ResolvedWork.{ResolvedWork}
+use Rattle.meta_objects.specs.declared.body_resolution.work.ResolvedWork.TheVariants as resolved
+use Rattle.meta_objects.specs.Bodies.{scope_of, IsWork, IsSlotWork, AreWorks}
+use Rattle.meta_objects.specs.Loading.{work_at, found_work, work_of, initial_of, IsMethodOf, IsNotify, IsPropertyOf, IsObject, IsWire, IsOwns, HasUses, IsLoaded}
 use Rattle.meta_objects.specs.Builds.{HasOutlines, IsClean, IsLoadedForm}
 use Rattle.meta_objects.specs.Sites.{IsSite, IsLoadedSite}
-use Rattle.meta_objects.specs.LoadedBodies.{site, AreLoadedStatements}
+use Rattle.meta_objects.specs.LoadedBodies.{site}
 use Rattle.meta_objects.specs.LoadedEnds.{Connects}
-use Rattle.meta_objects.specs.Classes.{IsLoadedSignal, IsLoadedSlot, HasNotifier, IsLoadedProperty, IsLoadedClass, HasLoadedClass, IsLoadedWire, IsLoadedOwns, IsLoadedProgram}
+use Rattle.meta_objects.specs.Classes.{IsLoadedSignal, IsLoadedWork, IsLoadedSlot, HasNotifier, IsLoadedProperty, IsLoadedClass, HasLoadedClass, IsLoadedWire, IsLoadedOwns, IsLoadedProgram}
 use Rattle.meta_model.proofs.Zips.{zip_left, zip_right, zip_split, zip_also, zip_both, same_zip_by, get_front, get_back}
 use Rattle.meta_model.proofs.Searches.{place_in}
 use Rattle.meta_model.proofs.Once.{once, none_at, get_split_at}
@@ -56,6 +60,7 @@ use Rattle.meta_objects.proofs.Unique.{same_method, same_property_by, same_place
 use Rattle.meta_model.proofs.Outlined.{Declared, Reaches, here, up, HasSlot, outline_of, slot_of, outlines_count, root_at, reaches_root, delete_later_in_root, distinct_outlines}
 use Rattle.meta_objects.proofs.Soundness.{IsTyped, zip_length, object_at, named, kind_in, connects, kinds_counted, statements_load}
 use Rattle.meta_objects.proofs.Sited.{site_loads, site_sound}
+use Rattle.meta_objects.proofs.Natives.{plain_parameters, effects_load, effects_sound}
 use Rattle.meta_objects.proofs.SoundBodies.{connects_sound, delete_later_sound, statements_sound}
 
 -- an element of a front
@@ -126,16 +131,16 @@ module _ (program : Program) (o : List Outline) (outlined : HasOutlines program 
   record OutlineOf (c : ℕ) (class : MetaObject) : Type 0 where
     pub outline : Outline
     pub is : slice_get o c ≡ Some outline
-    pub by : IsObject o loaded.bodies outline class
+    pub by : IsObject o loaded.works outline class
 
   outline_at : (c : ℕ) (class : MetaObject) → slice_get p.classes c ≡ Some class → OutlineOf c class
   outline_at c class e =
-      let x = zip_right (IsObject o loaded.bodies) o p.classes loaded.objects c class e in
+      let x = zip_right (IsObject o loaded.works) o p.classes loaded.objects c class e in
       record { outline = x.0; is = x.1; by = x.2 }
 
   base_is : (c : ℕ) (u : Outline) → slice_get o c ≡ Some u → base_of p c ≡ u.base
   base_is c u e =
-      let x = object_at o loaded.bodies p loaded.objects c u e in
+      let x = object_at o loaded.works p loaded.objects c u e in
       ap (λ found. option_and_then (λ (class : MetaObject). class.base) found) x.1 ∙ x.2.based
 
   below : (c d : ℕ) (class : MetaObject) → IsClass p d class → Reaches o c d → Below p c d
@@ -145,14 +150,14 @@ module _ (program : Program) (o : List Outline) (outlined : HasOutlines program 
   -- the class of an outline
   class_is : (c : ℕ) (u : Outline) → slice_get o c ≡ Some u → (class : MetaObject) × IsClass p c class
   class_is c u e =
-      let x = object_at o loaded.bodies p loaded.objects c u e in
+      let x = object_at o loaded.works p loaded.objects c u e in
       (x.0, record { is = x.1 })
 
   -- as many methods as outlined
   count_is : (c : ℕ) (u : Outline) → slice_get o c ≡ Some u → method_count p c ≡ length u.methods
   count_is c u e =
-      let x = object_at o loaded.bodies p loaded.objects c u e in
-      ap methods_in x.1 ∙ sym (zip_length (IsMethodOf o loaded.bodies) u.methods x.0.methods x.2.methods)
+      let x = object_at o loaded.works p loaded.objects c u e in
+      ap methods_in x.1 ∙ sym (zip_length (IsMethodOf o loaded.works) u.methods x.0.methods x.2.methods)
 
   -- class i declares its slots
   slot_declared : (c i j m : ℕ) (h : Heading) → HasSlot program.classes o c i j m h → Declares p (suc i) m
@@ -167,7 +172,7 @@ module _ (program : Program) (o : List Outline) (outlined : HasOutlines program 
   has_types c u e = none_at (LacksTypes o) o (λ any. clean.types (inl any)) c u e
 
   kind_sound : (T : QType) (k : ValueType) → (¬ LacksType o T) → IsReadAs o T k → IsKind p T k
-  kind_sound T k has (inl h) = kind_in o loaded.bodies p loaded.objects T k h
+  kind_sound T k has (inl h) = kind_in o loaded.works p loaded.objects T k h
   kind_sound T k has (inr h) = absurd (has h.0)
 
   kinds_sound : (types : List QType) (kinds : List ValueType) → ((i : ℕ) (T : QType) → slice_get types i ≡ Some T → ¬ LacksType o T) → AllZip (IsReadAs o) types kinds → AllZip (IsKind p) types kinds
@@ -192,34 +197,77 @@ module _ (program : Program) (o : List Outline) (outlined : HasOutlines program 
     first = λ k less at. let same_place : k ≡ c = distinct_outlines program o outlined.are outlined.distinct k c at.item u at.is e (at.has ∙ sym named) in absurd (omega (arith, same_place));
   }
 
-  -- the body of slot j of class i, as it is loaded
-  body_loaded : (i : ℕ) (class : Class) → slice_get program.classes i ≡ Some class → (u : Outline) → slice_get o (suc i) ≡ Some u → u.name ≡ class.name → (j : ℕ) (slot : Slot) → slice_get class.slots j ≡ Some slot → (kinds : List ValueType) → AllZip (IsTyped o p) (kinds_of slot.parameters) kinds → AreLoadedStatements (site p (suc i) slot.parameters kinds) slot.body (found_body (body_at loaded.bodies i j))
-  body_loaded i class is_class u is_outline u_named j slot is_slot kinds typed =
-      let of_class = zip_left (AreBodies o) program.classes loaded.bodies loaded.uses.are_bodies i class is_class in
-      let body = zip_left (IsBody o class) class.slots of_class.0 of_class.2 j slot is_slot in
-      let found : found_body (body_at loaded.bodies i j) ≡ body.0 =
-      ap (λ bs. found_body (option_and_then (λ of_class. slice_get of_class j) bs)) of_class.1 ∙ ap found_body body.1 in
-      subst (λ b. AreLoadedStatements (site p (suc i) slot.parameters kinds) slot.body b) (sym found)
-      (statements_load o loaded.bodies p loaded.objects properties_typed class.name slot.parameters (suc i)
-      (is_first class.name (suc i) u is_outline u_named) kinds typed slot.body body.0 body.2)
+  -- what slot or native j of class i does, as it is resolved
+  work_found : (i : ℕ) (class : Class) → slice_get program.classes i ≡ Some class → (j : ℕ) (slot : Slot) → slice_get class.slots j ≡ Some slot → (w : ResolvedWork) × (work_at loaded.works i j ≡ Some w) × IsSlotWork o class slot w
+  work_found i class is_class j slot is_slot =
+      let of_class = zip_left (AreWorks o) program.classes loaded.works loaded.uses.are_works i class is_class in
+      let work = zip_left (IsSlotWork o class) class.slots of_class.0 of_class.2 j slot is_slot in
+      (work.0, ap (λ ws. option_and_then (λ of_class. slice_get of_class j) ws) of_class.1 ∙ work.1, work.2)
 
-  body_sound : (c i j m : ℕ) (h : Heading) (kinds : List ValueType) → HasSlot program.classes o c i j m h → AllZip (IsTyped o p) h.sig.types kinds → AreSound p (suc i) kinds (found_body (body_at loaded.bodies i j))
-  body_sound c i j m h kinds slot typed =
-      let types : AllZip (IsTyped o p) (kinds_of slot.slot.parameters) kinds = subst (λ (s : Sig). AllZip (IsTyped o p) s.types kinds) slot.signed typed in
-      statements_sound (site p (suc i) slot.slot.parameters kinds) (kinds_counted o loaded.bodies p loaded.objects) slot.slot.body _
-      (body_loaded i slot.class slot.is_class slot.outline slot.is_outline slot.named j slot.slot slot.is_slot kinds types)
+  -- .. as it is loaded
+  loads_by : (i : ℕ) (class : Class) → IsOutlineNamed o class.name (suc i) → (slot : Slot) (kinds : List ValueType) → AllZip (IsTyped o p) (kinds_of slot.parameters) kinds
+      → (declared : SlotWork) (w : ResolvedWork) → IsWork (scope_of o class slot) declared w → IsLoadedWork (site p (suc i) slot.parameters kinds) declared (found_work (Some w))
+  loads_by i class is_me slot kinds typed (does.Body body) (resolved.Body statements) h =
+      statements_load o loaded.works p loaded.objects properties_typed class.name slot.parameters (suc i) is_me kinds typed body statements h
+  loads_by i class is_me slot kinds typed (does.Native names) (resolved.Native effects) h = effects_load o loaded.works p loaded.objects class.name (suc i) is_me names effects h
+  loads_by i class is_me slot kinds typed (does.Body body) (resolved.Native effects) h = absurd h
+  loads_by i class is_me slot kinds typed (does.Native names) (resolved.Body statements) h = absurd h
 
-  slot_sound : (c i j m : ℕ) (h : Heading) (kinds : List ValueType) → HasSlot program.classes o c i j m h → AllZip (IsTyped o p) h.sig.types kinds → IsSoundBody p c m kinds (found_body (body_at loaded.bodies i j))
+  work_loaded : (i : ℕ) (class : Class) → slice_get program.classes i ≡ Some class → (u : Outline) → slice_get o (suc i) ≡ Some u → u.name ≡ class.name → (j : ℕ) (slot : Slot) → slice_get class.slots j ≡ Some slot → (kinds : List ValueType) → AllZip (IsTyped o p) (kinds_of slot.parameters) kinds → IsLoadedWork (site p (suc i) slot.parameters kinds) slot.work (found_work (work_at loaded.works i j))
+  work_loaded i class is_class u is_outline u_named j slot is_slot kinds typed =
+      let found = work_found i class is_class j slot is_slot in
+      subst (λ w. IsLoadedWork (site p (suc i) slot.parameters kinds) slot.work (found_work w)) (sym found.1)
+      (loads_by i class (is_first class.name (suc i) u is_outline u_named) slot kinds typed slot.work found.0 found.2)
+
+  -- no name stands twice in a list of a native, and it touches no reference
+  once_in_slot : (i : ℕ) (class : Class) → slice_get program.classes i ≡ Some class → (j : ℕ) (slot : Slot) → slice_get class.slots j ≡ Some slot → ¬ RepeatsInSlot slot
+  once_in_slot i class is_class j slot is_slot =
+      none_at RepeatsInSlot class.slots (λ any. none_at RepeatsInMethod program.classes (λ twice. clean.members (inr (inl twice))) i class is_class (inr any)) j slot is_slot
+
+  no_reference : (i : ℕ) (class : Class) → slice_get program.classes i ≡ Some class → (j : ℕ) (slot : Slot) → slice_get class.slots j ≡ Some slot → ¬ TouchesReference o class.name slot.parameters slot.work
+  no_reference i class is_class j slot is_slot =
+      none_at (λ (x : Slot). TouchesReference o class.name x.parameters x.work) class.slots
+      (none_at (HasReferenceNative o) program.classes (λ any. clean.types (inr (inr any))) i class is_class) j slot is_slot
+
+  slot_sound : (c i j m : ℕ) (h : Heading) (kinds : List ValueType) → HasSlot program.classes o c i j m h → AllZip (IsTyped o p) h.sig.types kinds → IsSoundWork p c m kinds (found_work (work_at loaded.works i j))
   slot_sound c i j m h kinds slot typed =
-      let declaring = class_is (suc i) slot.outline slot.is_outline in
-      record {
+      let found = work_found i slot.class slot.is_class j slot.slot slot.is_slot in
+      subst (λ w. IsSoundWork p c m kinds (found_work w)) (sym found.1)
+      (sound_by slot.slot.work found.0 found.2 (once_in_slot i slot.class slot.is_class j slot.slot slot.is_slot) (no_reference i slot.class slot.is_class j slot.slot slot.is_slot))
+    where
+      declaring : (class : MetaObject) × IsClass p (suc i) class
+      declaring = class_is (suc i) slot.outline slot.is_outline
+
+      types : AllZip (IsTyped o p) (kinds_of slot.slot.parameters) kinds
+      types = subst (λ (s : Sig). AllZip (IsTyped o p) s.types kinds) slot.signed typed
+
+      is_me : IsOutlineNamed o slot.class.name (suc i)
+      is_me = is_first slot.class.name (suc i) slot.outline slot.is_outline slot.named
+
+      sound_by : (declared : SlotWork) (w : ResolvedWork) → IsWork (scope_of o slot.class slot.slot) declared w
+          → (¬ (RepeatsName slot.slot.parameters ⊎ RepeatsEffectIn declared)) → (¬ TouchesReference o slot.class.name slot.slot.parameters declared)
+          → IsSoundWork p c m kinds (found_work (Some w))
+      sound_by (does.Body body) (resolved.Body statements) is once plain = record {
         declaring = suc i;
         below = below c (suc i) declaring.0 declaring.1 slot.reaches;
         declares = slot_declared c i j m h slot;
-        sound = body_sound c i j m h kinds slot typed;
+        sound =
+            statements_sound (site p (suc i) slot.slot.parameters kinds) (kinds_counted o loaded.works p loaded.objects) body statements
+            (loads_by i slot.class is_me slot.slot kinds types (does.Body body) (resolved.Body statements) is);
       }
+      sound_by (does.Native names) (resolved.Native effects) is once plain = record {
+        declaring = suc i;
+        below = below c (suc i) declaring.0 declaring.1 slot.reaches;
+        declares = slot_declared c i j m h slot;
+        plain = plain_parameters o loaded.works p loaded.objects slot.slot.parameters kinds types (λ takes. plain (inl takes));
+        sound =
+            effects_sound o loaded.works p loaded.objects slot.class.name (suc i) is_me names effects is (λ twice. once (inr twice))
+            (λ touches. plain (inr touches));
+      }
+      sound_by (does.Body body) (resolved.Native effects) is once plain = absurd is
+      sound_by (does.Native names) (resolved.Body statements) is once plain = absurd is
 
-  work_sound : (c : ℕ) (u : Outline) → slice_get o c ≡ Some u → (m : ℕ) (h : Heading) → slice_get u.methods m ≡ Some h → (kinds : List ValueType) → AllZip (IsTyped o p) h.sig.types kinds → (s : Sort) → h.sort ≡ s → IsSoundWork p c m kinds (work_of loaded.bodies s)
+  work_sound : (c : ℕ) (u : Outline) → slice_get o c ≡ Some u → (m : ℕ) (h : Heading) → slice_get u.methods m ≡ Some h → (kinds : List ValueType) → AllZip (IsTyped o p) h.sig.types kinds → (s : Sort) → h.sort ≡ s → IsSoundWork p c m kinds (work_of loaded.works s)
   work_sound c u e m h at kinds typed sort.Signal is = tt
   work_sound c u e m h at kinds typed sort.DeleteLater is =
       let root = class_is 0 qobject (root_at program.classes o outlined.are) in
@@ -236,7 +284,7 @@ module _ (program : Program) (o : List Outline) (outlined : HasOutlines program 
 
   method_sound : (c : ℕ) (class : MetaObject) (u : OutlineOf c class) (m : ℕ) (method : MetaMethod) → slice_get class.methods m ≡ Some method → IsSoundMethod p c m method
   method_sound c class u m method at =
-      let h = zip_right (IsMethodOf o loaded.bodies) u.outline.methods class.methods u.by.methods m method at in
+      let h = zip_right (IsMethodOf o loaded.works) u.outline.methods class.methods u.by.methods m method at in
       let kinded = kinds_sound h.0.sig.types method.kinds
       (λ i T e. none_at (LacksType o) h.0.sig.types (none_at (λ (x : Heading). Any (LacksType o) x.sig.types) u.outline.methods (λ any. has_types c u.outline u.is (inr any)) m h.0 h.1) i T e)
       h.2.kinds in
@@ -251,7 +299,7 @@ module _ (program : Program) (o : List Outline) (outlined : HasOutlines program 
   notifier c class u q d at property by None given m is notify = absurd (none-some m (sym notify))
   notifier c class u q d at property by (Some sig) given m is notify =
       let h = notify.at in
-      let x = zip_left (IsMethodOf o loaded.bodies) u.outline.methods class.methods u.by.methods m h.item h.is in
+      let x = zip_left (IsMethodOf o loaded.works) u.outline.methods class.methods u.by.methods m h.item h.is in
       let typed : AllZip (IsReadAs o) sig.types x.0.kinds = subst (λ (s : Sig). AllZip (IsReadAs o) s.types x.0.kinds) h.has.0 x.2.kinds in
       let fits : (sig.types ≡ []) ⊎ (sig.types ≡ d.kind ∷ []) =
       elim (carries sig.types d.kind) [
@@ -264,7 +312,7 @@ module _ (program : Program) (o : List Outline) (outlined : HasOutlines program 
       record {
         signal = x.0;
         is = x.1;
-        signals = x.2.work ∙ ap (λ s. work_of loaded.bodies s) h.has.1;
+        signals = x.2.work ∙ ap (λ s. work_of loaded.works s) h.has.1;
         fits = elim fits [
           | inl none ↦ inl (no_kinds o sig.types x.0.kinds typed none)
           | inr one ↦ inr (one_kind o sig.types x.0.kinds typed d.kind property.kind by.kind one)
@@ -293,7 +341,7 @@ module _ (program : Program) (o : List Outline) (outlined : HasOutlines program 
       same_place o (IsSignalOf sig) u.methods x (Some m) h first
 
   -- ---- the own members of a class
-  signals_loaded : (signals : List Signal) (ys : List MetaMethod) → ((k : ℕ) (y : MetaMethod) → slice_get ys k ≡ Some y → AllZip (IsKind p) y.sig.types y.kinds) → AllZip (IsMethodOf o loaded.bodies) (map signal_heading signals) ys → AllZip (IsLoadedSignal p) signals ys
+  signals_loaded : (signals : List Signal) (ys : List MetaMethod) → ((k : ℕ) (y : MetaMethod) → slice_get ys k ≡ Some y → AllZip (IsKind p) y.sig.types y.kinds) → AllZip (IsMethodOf o loaded.works) (map signal_heading signals) ys → AllZip (IsLoadedSignal p) signals ys
   signals_loaded [] [] typed h = tt
   signals_loaded [] (y ∷ ys) typed h = absurd h
   signals_loaded (signal ∷ signals) [] typed h = absurd h
@@ -303,22 +351,22 @@ module _ (program : Program) (o : List Outline) (outlined : HasOutlines program 
   )
 
   slots_loaded : (i from : ℕ) (slots : List Slot) (ys : List MetaMethod)
-      → ((k j : ℕ) (slot : Slot) → slice_get slots k ≡ Some slot → from + k ≡ j → (kinds : List ValueType) → AllZip (IsTyped o p) (kinds_of slot.parameters) kinds → AreLoadedStatements (site p (suc i) slot.parameters kinds) slot.body (found_body (body_at loaded.bodies i j)))
+      → ((k j : ℕ) (slot : Slot) → slice_get slots k ≡ Some slot → from + k ≡ j → (kinds : List ValueType) → AllZip (IsTyped o p) (kinds_of slot.parameters) kinds → IsLoadedWork (site p (suc i) slot.parameters kinds) slot.work (found_work (work_at loaded.works i j)))
       → ((k : ℕ) (y : MetaMethod) → slice_get ys k ≡ Some y → AllZip (IsKind p) y.sig.types y.kinds)
-      → AllZip (IsMethodOf o loaded.bodies) (slot_headings i from slots) ys → AllZip (IsLoadedSlot p (suc i)) slots ys
-  slots_loaded i from [] [] bodies typed h = tt
-  slots_loaded i from [] (y ∷ ys) bodies typed h = absurd h
-  slots_loaded i from (slot ∷ slots) [] bodies typed h = absurd h
-  slots_loaded i from (slot ∷ slots) (y ∷ ys) bodies typed h =
+      → AllZip (IsMethodOf o loaded.works) (slot_headings i from slots) ys → AllZip (IsLoadedSlot p (suc i)) slots ys
+  slots_loaded i from [] [] works typed h = tt
+  slots_loaded i from [] (y ∷ ys) works typed h = absurd h
+  slots_loaded i from (slot ∷ slots) [] works typed h = absurd h
+  slots_loaded i from (slot ∷ slots) (y ∷ ys) works typed h =
       let kinded : AllZip (IsKind p) (kinds_of slot.parameters) y.kinds = subst (λ (g : Sig). AllZip (IsKind p) g.types y.kinds) h.0.signed (typed 0 y refl) in (
         record {
           signed = h.0.signed;
           typed = kinded;
-          body = found_body (body_at loaded.bodies i from);
-          slots = h.0.work;
-          resolved = bodies 0 from slot refl (omega arith) y.kinds (zip_both (IsReadAs o) (IsKind p) (kinds_of slot.parameters) y.kinds h.0.kinds kinded);
+          does =
+              subst (λ w. IsLoadedWork (site p (suc i) slot.parameters y.kinds) slot.work w) (sym h.0.work)
+              (works 0 from slot refl (omega arith) y.kinds (zip_both (IsReadAs o) (IsKind p) (kinds_of slot.parameters) y.kinds h.0.kinds kinded));
         },
-        slots_loaded i (suc from) slots ys (λ k j s e at. bodies (suc k) j s e (omega (arith, at))) (λ k. typed (suc k)) h.1,
+        slots_loaded i (suc from) slots ys (λ k j s e at. works (suc k) j s e (omega (arith, at))) (λ k. typed (suc k)) h.1,
       )
 
   has_notifier : (c : ℕ) (class : MetaObject) (u : OutlineOf c class) (q : ℕ) (d : Property) → slice_get u.outline.properties q ≡ Some d → (s : Option Sig) → d.notify ≡ s → (n : Option ℕ) → IsNotify u.outline s n → HasNotifier class s n
@@ -328,8 +376,8 @@ module _ (program : Program) (o : List Outline) (outlined : HasOutlines program 
       (none_at (λ (v : Outline). Any (λ (y : Property). LacksNotifier v y y.notify) v.properties) o clean.notifiers c u.outline u.is)
       q d at (subst (λ g. LacksNotifier u.outline d g) (sym given) (λ n by_it. h n by_it.signal.at)))
   has_notifier c class u q d at (Some sig) given (Some m) h =
-      let x = zip_left (IsMethodOf o loaded.bodies) u.outline.methods class.methods u.by.methods m h.at.item h.at.is in
-      record { signal = x.0; is = x.1; signed = x.2.signed ∙ h.at.has.0; signals = x.2.work ∙ ap (λ s. work_of loaded.bodies s) h.at.has.1 }
+      let x = zip_left (IsMethodOf o loaded.works) u.outline.methods class.methods u.by.methods m h.at.item h.at.is in
+      record { signal = x.0; is = x.1; signed = x.2.signed ∙ h.at.has.0; signals = x.2.work ∙ ap (λ s. work_of loaded.works s) h.at.has.1 }
 
   properties_loaded : (class : MetaObject) (u : Outline) (ds : List Property) (ys : List MetaProperty)
       → ((k : ℕ) (y : MetaProperty) → slice_get ys k ≡ Some y → IsKind p y.declared y.kind)
@@ -351,15 +399,15 @@ module _ (program : Program) (o : List Outline) (outlined : HasOutlines program 
 
   loaded_class : (c : ℕ) (class : MetaObject) (u : OutlineOf c class) (d : Declared program.classes o c u.outline) → IsLoadedClass p c d.class class
   loaded_class c class u d =
-      let base = object_at o loaded.bodies p loaded.objects d.base_number d.base d.is_base in
+      let base = object_at o loaded.works p loaded.objects d.base_number d.base d.is_base in
       let outlined_methods : u.outline.methods ≡ d.base.methods ++ own_methods d.i d.class = ap (λ (v : Outline). v.methods) d.shape in
       let outlined_properties : u.outline.properties ≡ d.base.properties ++ d.class.properties = ap (λ (v : Outline). v.properties) d.shape in
-      let methods = zip_split (IsMethodOf o loaded.bodies) d.base.methods (own_methods d.i d.class) class.methods
-      (subst (λ hs. AllZip (IsMethodOf o loaded.bodies) hs class.methods) outlined_methods u.by.methods) in
-      let own = zip_split (IsMethodOf o loaded.bodies) (map signal_heading d.class.signals) (slot_headings d.i 0 d.class.slots) methods.1 methods.4 in
+      let methods = zip_split (IsMethodOf o loaded.works) d.base.methods (own_methods d.i d.class) class.methods
+      (subst (λ hs. AllZip (IsMethodOf o loaded.works) hs class.methods) outlined_methods u.by.methods) in
+      let own = zip_split (IsMethodOf o loaded.works) (map signal_heading d.class.signals) (slot_headings d.i 0 d.class.slots) methods.1 methods.4 in
       let properties = zip_split (IsPropertyOf o u.outline) d.base.properties d.class.properties class.properties
       (subst (λ ps. AllZip (IsPropertyOf o u.outline) ps class.properties) outlined_properties u.by.properties) in
-      let same_methods = same_zip (IsMethodOf o loaded.bodies) d.base.methods methods.0 base.0.methods (same_method o loaded.bodies) methods.3 base.2.methods in
+      let same_methods = same_zip (IsMethodOf o loaded.works) d.base.methods methods.0 base.0.methods (same_method o loaded.works) methods.3 base.2.methods in
       let same_properties =
       same_zip_by (IsPropertyOf o u.outline) (IsPropertyOf o d.base) d.base.properties properties.0 base.0.properties
       (λ i y e v w h k. same_property_by o u.outline d.base y v w h k
@@ -371,10 +419,10 @@ module _ (program : Program) (o : List Outline) (outlined : HasOutlines program 
       λ k y e. let at = get_back properties.0 properties.1 k y e in (property_sound c class u at.0 y (ap (λ ps. slice_get ps at.0) properties.2 ∙ at.1)).kind in
       let is_outline : slice_get o (suc d.i) ≡ Some u.outline = subst (λ n. slice_get o n ≡ Some u.outline) d.number u.is in
       let outline_named : u.outline.name ≡ d.class.name = ap (λ (v : Outline). v.name) d.shape in
-      let bodies : (k j : ℕ) (slot : Slot) → slice_get d.class.slots k ≡ Some slot → 0 + k ≡ j → (kinds : List ValueType) → AllZip (IsTyped o p) (kinds_of slot.parameters) kinds → AreLoadedStatements (site p (suc d.i) slot.parameters kinds) slot.body (found_body (body_at loaded.bodies d.i j)) =
+      let works : (k j : ℕ) (slot : Slot) → slice_get d.class.slots k ≡ Some slot → 0 + k ≡ j → (kinds : List ValueType) → AllZip (IsTyped o p) (kinds_of slot.parameters) kinds → IsLoadedWork (site p (suc d.i) slot.parameters kinds) slot.work (found_work (work_at loaded.works d.i j)) =
       λ k j slot e at.
       let same : k ≡ j = omega (arith, at) in
-      body_loaded d.i d.class d.is u.outline is_outline outline_named j slot (subst (λ n. slice_get d.class.slots n ≡ Some slot) same e) in
+      work_loaded d.i d.class d.is u.outline is_outline outline_named j slot (subst (λ n. slice_get d.class.slots n ≡ Some slot) same e) in
       let notified : (k : ℕ) (y : Property) → slice_get d.class.properties k ≡ Some y → (n : Option ℕ) → IsNotify u.outline y.notify n → HasNotifier class y.notify n =
       λ k y e n h.
       let at = get_back d.base.properties d.class.properties k y e in
@@ -392,7 +440,7 @@ module _ (program : Program) (o : List Outline) (outlined : HasOutlines program 
         slots = own.1;
         are_slots =
             subst (λ n. AllZip (IsLoadedSlot p n) d.class.slots own.1) (sym d.number)
-            (slots_loaded d.i 0 d.class.slots own.1 bodies
+            (slots_loaded d.i 0 d.class.slots own.1 works
             (λ k y e. let at = get_back own.0 own.1 k y e in method_typed at.0 y (ap (λ ms. slice_get ms at.0) own.2 ∙ at.1))
             own.4);
         methods = methods.2 ∙ ap (λ ms. ms ++ methods.1) same_methods ∙ ap (λ ms. base.0.methods ++ ms) own.2 ∙ sym (append_assoc base.0.methods own.0 own.1);
@@ -426,7 +474,7 @@ module _ (program : Program) (o : List Outline) (outlined : HasOutlines program 
   named_root : IsOutlineNamed o (codes "QObject") 0
   named_root = is_first (codes "QObject") 0 qobject (root_at program.classes o outlined.are) refl
 
-  root_object : IsObject o loaded.bodies qobject root_class
+  root_object : IsObject o loaded.works qobject root_class
   root_object = record {
     named = refl;
     based = refl;
@@ -442,8 +490,8 @@ module _ (program : Program) (o : List Outline) (outlined : HasOutlines program 
 
   root_is : slice_get p.classes 0 ≡ Some root_class
   root_is =
-      let x = object_at o loaded.bodies p loaded.objects 0 qobject (root_at program.classes o outlined.are) in
-      x.1 ∙ ap Some (same_object o loaded.bodies qobject x.0 root_class x.2 root_object)
+      let x = object_at o loaded.works p loaded.objects 0 qobject (root_at program.classes o outlined.are) in
+      x.1 ∙ ap Some (same_object o loaded.works qobject x.0 root_class x.2 root_object)
 
   is_rooted : (c : ℕ) (class : MetaObject) → OutlineOf c class → class.base ≡ None → c ≡ 0
   is_rooted c class u none =
@@ -477,8 +525,8 @@ module _ (program : Program) (o : List Outline) (outlined : HasOutlines program 
 
   distinct_methods : (c : ℕ) (class : MetaObject) → OutlineOf c class → HasDistinctMethods class
   distinct_methods c class u i j a b ea eb name count =
-      let h = zip_right (IsMethodOf o loaded.bodies) u.outline.methods class.methods u.by.methods i a ea in
-      let k = zip_right (IsMethodOf o loaded.bodies) u.outline.methods class.methods u.by.methods j b eb in
+      let h = zip_right (IsMethodOf o loaded.works) u.outline.methods class.methods u.by.methods i a ea in
+      let k = zip_right (IsMethodOf o loaded.works) u.outline.methods class.methods u.by.methods j b eb in
       let n : h.0.sig.name ≡ k.0.sig.name = sym (ap (λ (s : Sig). s.name) h.2.signed) ∙ name ∙ ap (λ (s : Sig). s.name) k.2.signed in
       let m : length h.0.sig.types ≡ length k.0.sig.types = sym (ap (λ (s : Sig). length s.types) h.2.signed) ∙ count ∙ ap (λ (s : Sig). length s.types) k.2.signed in
       once AreOneCall u.outline.methods (λ t. has_one c u.outline u.is (inl t)) i j h.0 k.0 h.1 k.1 (n, m) (sym n, sym m)
@@ -508,7 +556,7 @@ module _ (program : Program) (o : List Outline) (outlined : HasOutlines program 
   wire_connects wire found is =
       let from = is.from.class.at in
       let to = is.to.class.at in
-      connects o loaded.bodies p loaded.objects found.sender from.item from.is wire.signal found.signal is.from.method found.receiver to.item to.is wire.method found.method is.to.method is.called
+      connects o loaded.works p loaded.objects found.sender from.item from.is wire.signal found.signal is.from.method found.receiver to.item to.is wire.method found.method is.to.method is.called
 
   wire_sound : (wire : MetaWire) → IsIn wire p.wires → IsSoundWire p wire
   wire_sound wire in_it =
@@ -518,7 +566,7 @@ module _ (program : Program) (o : List Outline) (outlined : HasOutlines program 
 
   class_there : (name : List ℕ) (c : ℕ) → IsOutlineNamed o name c → c < length p.classes
   class_there name c h =
-      let x = object_at o loaded.bodies p loaded.objects c h.at.item h.at.is in slice_get_within p.classes c x.0 x.1
+      let x = object_at o loaded.works p loaded.objects c h.at.item h.at.is in slice_get_within p.classes c x.0 x.1
 
   owns_sound : (owns : MetaOwns) → IsIn owns p.owns → IsSoundOwns p owns
   owns_sound owns in_it =
@@ -529,7 +577,7 @@ module _ (program : Program) (o : List Outline) (outlined : HasOutlines program 
   sound_site : (i : ℕ) (site : MetaSite) → slice_get p.sites i ≡ Some site → IsSoundSite p site
   sound_site i site e =
       let w = zip_right (IsSite o) program.sites p.sites loaded.uses.sited i site e in
-      site_sound o loaded.bodies p loaded.objects w.0 site w.2 (none_at (UsesReference o) program.sites (λ any. clean.types (inr any)) i w.0 w.1)
+      site_sound o loaded.works p loaded.objects w.0 site w.2 (none_at (UsesReference o) program.sites (λ any. clean.types (inr (inl any))) i w.0 w.1)
 
   distinct_sites : AreDistinctSites p.sites
   distinct_sites i j a b ea eb name =
@@ -554,7 +602,7 @@ module _ (program : Program) (o : List Outline) (outlined : HasOutlines program 
 
   -- ---- the program as declared
   class_counted : length p.classes ≡ suc (length program.classes)
-  class_counted = sym (zip_length (IsObject o loaded.bodies) o p.classes loaded.objects) ∙ outlines_count program.classes o outlined.are
+  class_counted = sym (zip_length (IsObject o loaded.works) o p.classes loaded.objects) ∙ outlines_count program.classes o outlined.are
 
   has_loaded : (i : ℕ) (declared : Class) → slice_get program.classes i ≡ Some declared → HasLoadedClass p (suc i) declared
   has_loaded i declared at =
@@ -573,16 +621,16 @@ module _ (program : Program) (o : List Outline) (outlined : HasOutlines program 
 
   wire_loaded : (wire : Wire) (found : MetaWire) → IsWire o wire found → IsLoadedWire p wire found
   wire_loaded wire found is = record {
-    sender = named o loaded.bodies p loaded.objects wire.sender found.sender is.from.class;
-    receiver = named o loaded.bodies p loaded.objects wire.receiver found.receiver is.to.class;
+    sender = named o loaded.works p loaded.objects wire.sender found.sender is.from.class;
+    receiver = named o loaded.works p loaded.objects wire.receiver found.receiver is.to.class;
     connects = wire_connects wire found is;
     same_kind = is.same_kind;
   }
 
   owns_loaded : (owns : Owns) (found : MetaOwns) → IsOwns o owns found → IsLoadedOwns p owns found
   owns_loaded owns found is = record {
-    parent = named o loaded.bodies p loaded.objects owns.parent found.parent is.parent;
-    child = named o loaded.bodies p loaded.objects owns.child found.child is.child;
+    parent = named o loaded.works p loaded.objects owns.parent found.parent is.parent;
+    child = named o loaded.works p loaded.objects owns.child found.child is.child;
   }
 
   pub as_declared : IsLoadedProgram program p
@@ -592,11 +640,11 @@ module _ (program : Program) (o : List Outline) (outlined : HasOutlines program 
     classes = has_loaded;
     wires = zip_also (IsWire o) (IsLoadedWire p) program.wires p.wires wire_loaded loaded.uses.wired;
     owns = zip_also (IsOwns o) (IsLoadedOwns p) program.owns p.owns owns_loaded loaded.uses.owned;
-    sites = zip_also (IsSite o) (IsLoadedSite p) program.sites p.sites (λ d s is. site_loads o loaded.bodies p loaded.objects d s is) loaded.uses.sited;
+    sites = zip_also (IsSite o) (IsLoadedSite p) program.sites p.sites (λ d s is. site_loads o loaded.works p loaded.objects d s is) loaded.uses.sited;
   }
 
 -- what the resolved parts of a program make
-pub loaded_form : (program : Program) (o : List Outline) (bodies : List (List (List Statement))) (p : Loaded) → HasOutlines program o → IsClean program o → HasUses program o bodies p.wires p.owns p.sites → AllZip (IsObject o bodies) o p.classes → IsLoadedForm program p
-loaded_form program o bodies p outlined clean uses objects =
-    let loaded : IsLoaded program o p = record { bodies = bodies; uses = uses; objects = objects } in
+pub loaded_form : (program : Program) (o : List Outline) (works : List (List ResolvedWork)) (p : Loaded) → HasOutlines program o → IsClean program o → HasUses program o works p.wires p.owns p.sites → AllZip (IsObject o works) o p.classes → IsLoadedForm program p
+loaded_form program o works p outlined clean uses objects =
+    let loaded : IsLoaded program o p = record { works = works; uses = uses; objects = objects } in
     record { declared = as_declared program o outlined clean p loaded; outlines = o; outlined = outlined; clean = clean; looked_up = loaded }

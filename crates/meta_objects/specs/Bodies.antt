@@ -1,4 +1,4 @@
--- How the names in slot bodies are resolved: where a part has no resolved form, one of its names isn't there
+-- How the names in slot bodies and natives are resolved: where a part has no resolved form, one of its names isn't there
 -- (docs/language.md, "Names").
 use Rattle.std.specs.Prelude.{◌≡◌, ◌≢◌, ℕ, ◌<◌, true, List, [], ◌∷◌, length, Some, Any}
 use Rattle.std.specs.List.{AllZip}
@@ -19,6 +19,8 @@ use Rattle.texts.specs.declared.syntax.Stmt.TheOpen as stmt
 use Rattle.texts.specs.declared.syntax.Stmt.TheViews.{out-Stmt}
 use Rattle.texts.specs.declared.program.Parameter.{Parameter}
 use Rattle.texts.specs.declared.program.Property.{Property}
+use Rattle.texts.specs.declared.program.SlotWork.{SlotWork}
+use Rattle.texts.specs.declared.program.SlotWork.TheVariants as declared
 use Rattle.texts.specs.declared.program.Slot.{Slot}
 use Rattle.texts.specs.declared.program.Class.{Class}
 use Rattle.meta_model.specs.declared.object.MetaRoot.{MetaRoot}
@@ -39,6 +41,9 @@ use Rattle.meta_model.specs.Literals.{literal}
 use Rattle.meta_model.specs.Kinds.{IsReadAs}
 use Rattle.meta_model.specs.Conditions.{IsSignalOf}
 use Rattle.meta_model.specs.Ends.{IsSigned}
+use Rattle.meta_objects.specs.declared.body_resolution.work.ResolvedWork.{ResolvedWork}
+use Rattle.meta_objects.specs.declared.body_resolution.work.ResolvedWork.TheVariants as loads
+use Rattle.meta_objects.specs.Natives.{AreEffects}
 
 -- where a body stands: the classes, the name of its own, and its slot's parameters
 pub record Scope : Type 0 where
@@ -138,7 +143,7 @@ pub record IsEmit (s : Scope) (name : List ℕ) (es : List (Expr Path)) (m : ℕ
   pub emitted : OBJECT_NAME_CHANGED < m
   pub values : AreExprs s es fs
 
--- `call`: the object's class has the slot
+-- `call`: the object's class has the slot or native
 pub record IsCall (s : Scope) (path : Path) (name : List ℕ) (es : List (Expr Path)) (found : MetaPath) (m : ℕ)
     (fs : List (Expr MetaPath)) : Type 0 where
   pub class : Outline
@@ -194,23 +199,31 @@ IsStatementOf s x y = IsStatement s (out-Stmt x) (out-Statement y)
 abbrev pub LacksInBody : Scope → List Stmt → Type 0
 LacksInBody s xs = (ys : List Statement) → ¬ AreStatements s xs ys
 
--- ---- the bodies of slots
+-- ---- what slots and natives do
 abbrev pub scope_of : List Outline → Class → Slot → Scope
 scope_of outlines class slot =
     record { outlines = outlines; me = class.name; parameters = slot.parameters }
 
-abbrev pub IsBody : List Outline → Class → Slot → List Statement → Type 0
-IsBody outlines class slot body = AreStatements (scope_of outlines class slot) slot.body body
+-- a slot's statements, their names resolved, or a native's effects
+abbrev pub IsWork : Scope → SlotWork → ResolvedWork → Type 0
+IsWork s (declared.Body body) (loads.Body statements) = AreStatements s body statements
+IsWork s (declared.Body body) (loads.Native effects) = ⊥
+IsWork s (declared.Native names) (loads.Body statements) = ⊥
+IsWork s (declared.Native names) (loads.Native effects) = AreEffects s.outlines s.me names effects
 
--- the bodies of a class's slots, and of the slots of all classes
-abbrev pub AreBodies : List Outline → Class → List (List Statement) → Type 0
-AreBodies outlines class bodies = AllZip (IsBody outlines class) class.slots bodies
+abbrev pub IsSlotWork : List Outline → Class → Slot → ResolvedWork → Type 0
+IsSlotWork outlines class slot work = IsWork (scope_of outlines class slot) slot.work work
 
-abbrev pub AllBodies : List Outline → List Class → List (List (List Statement)) → Type 0
-AllBodies outlines classes bodies = AllZip (AreBodies outlines) classes bodies
+-- what the slots and natives of a class do, and those of all classes
+abbrev pub AreWorks : List Outline → Class → List ResolvedWork → Type 0
+AreWorks outlines class works = AllZip (IsSlotWork outlines class) class.slots works
 
+abbrev pub AllWorks : List Outline → List Class → List (List ResolvedWork) → Type 0
+AllWorks outlines classes works = AllZip (AreWorks outlines) classes works
+
+-- a name in the slot or native isn't there
 abbrev pub LacksInSlot : List Outline → Class → Slot → Type 0
-LacksInSlot outlines class slot = LacksInBody (scope_of outlines class slot) slot.body
+LacksInSlot outlines class slot = (work : ResolvedWork) → ¬ IsSlotWork outlines class slot work
 
 abbrev pub LacksInClass : List Outline → Class → Type 0
 LacksInClass outlines class = Any (LacksInSlot outlines class) class.slots

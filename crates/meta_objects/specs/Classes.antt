@@ -5,12 +5,14 @@ use Rattle.std.specs.List.{AllZip}
 use Rattle.signatures.specs.declared.sig.Sig.{Sig}
 use Rattle.texts.specs.declared.program.Property.{Property}
 use Rattle.texts.specs.declared.program.Signal.{Signal}
+use Rattle.texts.specs.declared.program.SlotWork.{SlotWork}
+use Rattle.texts.specs.declared.program.SlotWork.TheVariants as slot
 use Rattle.texts.specs.declared.program.Slot.{Slot}
 use Rattle.texts.specs.declared.program.Class.{Class}
 use Rattle.texts.specs.declared.program.Wire.{Wire}
 use Rattle.texts.specs.declared.program.Owns.{Owns}
 use Rattle.texts.specs.declared.program.Program.{Program}
-use Rattle.meta_model.specs.declared.object.Statement.{Statement}
+use Rattle.meta_model.specs.declared.object.Work.{Work}
 use Rattle.meta_model.specs.declared.object.Work.TheVariants as work
 use Rattle.meta_model.specs.declared.object.MetaMethod.{MetaMethod}
 use Rattle.meta_model.specs.declared.object.MetaProperty.{MetaProperty}
@@ -24,8 +26,9 @@ use Rattle.meta_model.specs.Outlines.{sig_of, kinds_of, base_name}
 use Rattle.meta_model.specs.Root.{root_class}
 use Rattle.meta_model.specs.Sound.{IsKind}
 use Rattle.meta_objects.specs.Loading.{initial_of}
-use Rattle.meta_objects.specs.LoadedBodies.{site, AreLoadedStatements}
+use Rattle.meta_objects.specs.LoadedBodies.{Site, site, AreLoadedStatements}
 use Rattle.meta_objects.specs.LoadedEnds.{Connects}
+use Rattle.meta_objects.specs.Natives.{AreLoadedEffects}
 use Rattle.meta_objects.specs.Sites.{IsLoadedSite}
 
 -- ---- members
@@ -35,13 +38,20 @@ pub record IsLoadedSignal (p : Loaded) (declared : Signal) (method : MetaMethod)
   pub typed : AllZip (IsKind p) (kinds_of declared.parameters) method.kinds
   pub signals : method.work ≡ work.Signal
 
--- a slot of class c: likewise, and its body, whose names are resolved where `this` is of that class
+-- what a slot or native does: a slot's statements, and a native's effects, their names resolved
+abbrev pub IsLoadedWork : Site → SlotWork → Work → Type 0
+IsLoadedWork s (slot.Body body) (work.Slot statements) = AreLoadedStatements s body statements
+IsLoadedWork s (slot.Body body) (work.Native effects) = ⊥
+IsLoadedWork s (slot.Body body) work.Signal = ⊥
+IsLoadedWork s (slot.Native names) (work.Native effects) = AreLoadedEffects s.program s.me names effects
+IsLoadedWork s (slot.Native names) (work.Slot statements) = ⊥
+IsLoadedWork s (slot.Native names) work.Signal = ⊥
+
+-- a slot or native of class c: likewise, and what it does, in whose names `this` is of that class
 pub record IsLoadedSlot (p : Loaded) (c : ℕ) (declared : Slot) (method : MetaMethod) : Type 0 where
   pub signed : method.sig ≡ sig_of declared.name (kinds_of declared.parameters)
   pub typed : AllZip (IsKind p) (kinds_of declared.parameters) method.kinds
-  pub body : List Statement
-  pub slots : method.work ≡ work.Slot body
-  pub resolved : AreLoadedStatements (site p c declared.parameters method.kinds) declared.body body
+  pub does : IsLoadedWork (site p c declared.parameters method.kinds) declared.work method.work
 
 -- method m of the class is the signal of this signature
 pub record IsSignalAt (class : MetaObject) (sig : Sig) (m : ℕ) : Type 0 where
@@ -64,8 +74,8 @@ pub record IsLoadedProperty (p : Loaded) (class : MetaObject) (declared : Proper
   pub notified : HasNotifier class declared.notify property.notify
 
 -- ---- classes
--- Class c: its methods are its base's, then its own signals, then its own slots; its properties are its base's, then its
--- own.
+-- Class c: its methods are its base's, then its own signals, then its own slots and natives; its properties are its base's,
+-- then its own.
 pub record IsLoadedClass (p : Loaded) (c : ℕ) (declared : Class) (class : MetaObject) : Type 0 where
   pub named : class.name ≡ declared.name
   pub base_number : ℕ

@@ -1,6 +1,6 @@
 -- A slot's body as it is loaded: each name is replaced by the number of what has it, among the loaded program's members and
 -- the slot's parameters (docs/language.md, "Names"; docs/machine.md, "Loading").
-use Rattle.std.specs.Prelude.{◌≡◌, ℕ, ◌<◌, Bool, false, List, [], ◌∷◌, length, Some, slice_get}
+use Rattle.std.specs.Prelude.{◌≡◌, ◌≢◌, ℕ, ◌<◌, Bool, false, List, [], ◌∷◌, length, Some, slice_get}
 use Rattle.std.specs.List.{AllZip}
 use Rattle.signatures.specs.declared.value.Value.{Value}
 use Rattle.texts.specs.declared.syntax.Unary.{Unary}
@@ -28,7 +28,7 @@ use Rattle.meta_model.specs.declared.object.MetaProperty.{MetaProperty}
 use Rattle.meta_model.specs.declared.object.Statement.{Statement}
 use Rattle.meta_model.specs.declared.object.Statement.TheOpen as statement
 use Rattle.meta_model.specs.declared.object.Statement.TheViews.{out-Statement}
-use Rattle.meta_model.specs.declared.object.Work.TheVariants.{Signal, Slot}
+use Rattle.meta_model.specs.declared.object.Work.TheVariants.{Signal}
 use Rattle.meta_model.specs.declared.qobject.TheConstants.{OBJECT_NAME_CHANGED}
 use Rattle.meta_model.specs.Loaded.{Loaded}
 use Rattle.meta_model.specs.Places.{StandsFirst}
@@ -115,14 +115,13 @@ pub record IsLoadedEmit (s : Site) (name : List ℕ) (es : List (Expr Path)) (m 
   pub emitted : OBJECT_NAME_CHANGED < m
   pub values : AreLoadedExprs s es fs
 
--- `call`: the object's class has the slot, with as many parameters
+-- `call`: the object's class has the slot or native, with as many parameters
 pub record IsLoadedCall (s : Site) (path : Path) (name : List ℕ) (es : List (Expr Path)) (found : MetaPath) (m : ℕ)
     (fs : List (Expr MetaPath)) : Type 0 where
   pub class : ℕ
   pub object : IsLoadedObject s path found class
   pub slot : IsMethodNamed s.program class name (length es) m
-  pub body : List Statement
-  pub slots : slot.method.work ≡ Slot body
+  pub callable : slot.method.work ≢ Signal
   pub values : AreLoadedExprs s es fs
 
 -- `connect` and `disconnect`: the sender's class has the signal, the receiver's the method

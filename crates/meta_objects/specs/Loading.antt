@@ -12,7 +12,6 @@ use Rattle.texts.specs.declared.program.Wire.{Wire}
 use Rattle.texts.specs.declared.program.Owns.{Owns}
 use Rattle.texts.specs.declared.program.Program.{Program}
 use Rattle.meta_model.specs.declared.object.ValueType.{ValueType}
-use Rattle.meta_model.specs.declared.object.Statement.{Statement}
 use Rattle.meta_model.specs.declared.object.Work.{Work}
 use Rattle.meta_model.specs.declared.object.Work.TheVariants as work
 use Rattle.meta_model.specs.declared.object.MetaMethod.{MetaMethod}
@@ -34,30 +33,33 @@ use Rattle.meta_model.specs.Values.{default}
 use Rattle.meta_model.specs.Conditions.{IsSignalOf}
 use Rattle.meta_model.specs.Ends.{IsSigned, IsEnd}
 use Rattle.meta_model.specs.declared.site.MetaSite.{MetaSite}
-use Rattle.meta_objects.specs.Bodies.{AllBodies, LacksInClass}
+use Rattle.meta_objects.specs.declared.body_resolution.work.ResolvedWork.{ResolvedWork}
+use Rattle.meta_objects.specs.declared.body_resolution.work.ResolvedWork.TheVariants as resolved
+use Rattle.meta_objects.specs.Bodies.{AllWorks, LacksInClass}
 use Rattle.meta_objects.specs.Sites.{IsSite, LacksInSite}
 
 -- ---- methods
--- the body of slot j of class i
-abbrev pub body_at : List (List (List Statement)) → ℕ → ℕ → Option (List Statement)
-body_at bodies i j = option_and_then (λ of_class. slice_get of_class j) (slice_get bodies i)
+-- what slot or native j of class i does
+abbrev pub work_at : List (List ResolvedWork) → ℕ → ℕ → Option ResolvedWork
+work_at works i j = option_and_then (λ of_class. slice_get of_class j) (slice_get works i)
 
-abbrev pub found_body : Option (List Statement) → List Statement
-found_body None = []
-found_body (Some body) = body
+abbrev pub found_work : Option ResolvedWork → Work
+found_work None = work.Slot []
+found_work (Some (resolved.Body body)) = work.Slot body
+found_work (Some (resolved.Native effects)) = work.Native effects
 
-abbrev pub work_of : List (List (List Statement)) → Sort → Work
-work_of bodies sort.Signal = work.Signal
-work_of bodies sort.DeleteLater = work.Slot delete_later_body
-work_of bodies (sort.Slot i j) = work.Slot (found_body (body_at bodies i j))
+abbrev pub work_of : List (List ResolvedWork) → Sort → Work
+work_of works sort.Signal = work.Signal
+work_of works sort.DeleteLater = work.Slot delete_later_body
+work_of works (sort.Slot i j) = found_work (work_at works i j)
 
-pub record IsMethodOf (outlines : List Outline) (bodies : List (List (List Statement))) (h : Heading) (method : MetaMethod) : Type 0 where
+pub record IsMethodOf (outlines : List Outline) (works : List (List ResolvedWork)) (h : Heading) (method : MetaMethod) : Type 0 where
   pub signed : method.sig ≡ h.sig
   pub kinds : AllZip (IsReadAs outlines) h.sig.types method.kinds
-  pub work : method.work ≡ work_of bodies h.sort
+  pub work : method.work ≡ work_of works h.sort
 
-abbrev pub AreMethodsOf : List Outline → List (List (List Statement)) → List Heading → List MetaMethod → Type 0
-AreMethodsOf outlines bodies headings methods = AllZip (IsMethodOf outlines bodies) headings methods
+abbrev pub AreMethodsOf : List Outline → List (List ResolvedWork) → List Heading → List MetaMethod → Type 0
+AreMethodsOf outlines works headings methods = AllZip (IsMethodOf outlines works) headings methods
 
 -- ---- properties
 -- what a property is at first: its literal, or else the default of its type
@@ -81,14 +83,14 @@ abbrev pub ArePropertiesOf : List Outline → Outline → List MetaProperty → 
 ArePropertiesOf outlines outline properties = AllZip (IsPropertyOf outlines outline) outline.properties properties
 
 -- ---- classes
-pub record IsObject (outlines : List Outline) (bodies : List (List (List Statement))) (outline : Outline) (object : MetaObject) : Type 0 where
+pub record IsObject (outlines : List Outline) (works : List (List ResolvedWork)) (outline : Outline) (object : MetaObject) : Type 0 where
   pub named : object.name ≡ outline.name
   pub based : object.base ≡ outline.base
-  pub methods : AreMethodsOf outlines bodies outline.methods object.methods
+  pub methods : AreMethodsOf outlines works outline.methods object.methods
   pub properties : ArePropertiesOf outlines outline object.properties
 
-abbrev pub AreObjects : List Outline → List (List (List Statement)) → List MetaObject → Type 0
-AreObjects outlines bodies objects = AllZip (IsObject outlines bodies) outlines objects
+abbrev pub AreObjects : List Outline → List (List ResolvedWork) → List MetaObject → Type 0
+AreObjects outlines works objects = AllZip (IsObject outlines works) outlines objects
 
 -- ---- wires and owns
 -- a wire leads from a signal to a slot or a signal, which isn't one that the runtime emits
@@ -109,21 +111,21 @@ abbrev pub LacksClass : List Outline → Owns → Type 0
 LacksClass outlines owns = (loaded : MetaOwns) → ¬ IsOwns outlines owns loaded
 
 -- ---- the program
--- a name that is used in a body, a wire, an owns or a binding isn't there
+-- a name that is used in a body, a native, a wire, an owns or a binding isn't there
 abbrev pub LacksMember : Program → List Outline → Type 0
 LacksMember program outlines =
     Any (LacksInClass outlines) program.classes ⊎ Any (LacksEnd outlines) program.wires ⊎ Any (LacksClass outlines) program.owns
     ⊎ Any (LacksInSite outlines) program.sites
 
--- the bodies, the wires, the owns and the binding sites of the program, in its order
-pub record HasUses (program : Program) (outlines : List Outline) (bodies : List (List (List Statement))) (wires : List MetaWire) (owns : List MetaOwns) (sites : List MetaSite) : Type 0 where
-  pub are_bodies : AllBodies outlines program.classes bodies
+-- what the slots and natives of the program do, its wires, its owns and its binding sites, in its order
+pub record HasUses (program : Program) (outlines : List Outline) (works : List (List ResolvedWork)) (wires : List MetaWire) (owns : List MetaOwns) (sites : List MetaSite) : Type 0 where
+  pub are_works : AllWorks outlines program.classes works
   pub wired : AllZip (IsWire outlines) program.wires wires
   pub owned : AllZip (IsOwns outlines) program.owns owns
   pub sited : AllZip (IsSite outlines) program.sites sites
 
 -- the program's meta-objects are those of its outlines, with these
 pub record IsLoaded (program : Program) (outlines : List Outline) (loaded : Loaded) : Type 0 where
-  pub bodies : List (List (List Statement))
-  pub uses : HasUses program outlines bodies loaded.wires loaded.owns loaded.sites
-  pub objects : AreObjects outlines bodies loaded.classes
+  pub works : List (List ResolvedWork)
+  pub uses : HasUses program outlines works loaded.wires loaded.owns loaded.sites
+  pub objects : AreObjects outlines works loaded.classes

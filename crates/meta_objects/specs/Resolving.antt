@@ -13,7 +13,6 @@ use Rattle.meta_model.specs.declared.fault.MetaFault.TheVariants as fault
 use Rattle.meta_model.specs.declared.object.MetaRoot.{MetaRoot}
 use Rattle.meta_model.specs.declared.object.MetaPath.{MetaPath}
 use Rattle.meta_model.specs.declared.object.Step.{Step}
-use Rattle.meta_model.specs.declared.object.Statement.{Statement}
 use Rattle.meta_model.specs.declared.outline.Heading.{Heading}
 use Rattle.meta_model.specs.declared.outline.Outline.{Outline}
 use Rattle.meta_model.specs.Ends.{IsEnd}
@@ -21,8 +20,9 @@ use Rattle.meta_model.specs.PartAnswers.{Loads}
 use Rattle.meta_objects.specs.declared.body_resolution.path.Led.{Led}
 use Rattle.meta_objects.specs.declared.body_resolution.path.Target.{Target}
 use Rattle.meta_objects.specs.declared.body_resolution.scope.Scope.{Scope as ScopeGiven}
+use Rattle.meta_objects.specs.declared.body_resolution.work.ResolvedWork.{ResolvedWork}
 use Rattle.meta_objects.specs.declared.resolve_uses.Uses.{Uses}
-use Rattle.meta_objects.specs.Bodies.{Scope, PointsTo, PointsToThis, HasMember, AreSteps, IsPath, IsObjectPath, AllBodies, LacksInClass}
+use Rattle.meta_objects.specs.Bodies.{Scope, PointsTo, PointsToThis, HasMember, AreSteps, IsPath, IsObjectPath, AllWorks, LacksInClass}
 use Rattle.meta_objects.specs.Loading.{LacksMember, HasUses}
 
 -- what the names in a body mean there
@@ -75,13 +75,13 @@ FindsEnd P outlines name answer =
     MatchOption answer ((c m : ℕ) → ¬ IsEnd P outlines name c m) (λ found. IsEnd P outlines name found.0 found.1)
 
 -- ---- the program
--- the bodies of all slots of these classes
-abbrev pub ResolvesBodies : List Outline → List Class → Result (List (List (List Statement))) MetaFault → Type 0
-ResolvesBodies outlines classes result =
-    Loads fault.NoMember (Any (LacksInClass outlines) classes) (AllBodies outlines classes) result
+-- what all slots and natives of these classes do
+abbrev pub ResolvesWorks : List Outline → List Class → Result (List (List ResolvedWork)) MetaFault → Type 0
+ResolvesWorks outlines classes result =
+    Loads fault.NoMember (Any (LacksInClass outlines) classes) (AllWorks outlines classes) result
 
--- the bodies, the wires, the owns and the binding sites
+-- what slots and natives do, the wires, the owns and the binding sites
 abbrev pub ResolvesUses : Program → List Outline → Result Uses MetaFault → Type 0
 ResolvesUses program outlines result =
     Loads fault.NoMember (LacksMember program outlines)
-    (λ (uses : Uses). HasUses program outlines uses.bodies uses.wires uses.owns uses.sites) result
+    (λ (uses : Uses). HasUses program outlines uses.works uses.wires uses.owns uses.sites) result

@@ -6,6 +6,7 @@ mod class_index;
 mod laws;
 mod literals;
 mod meta;
+mod resolve_native;
 mod resolve_object;
 mod resolve_site;
 mod resolve_uses;
@@ -14,6 +15,7 @@ mod resolve_wire;
 pub use laws::{loaded_as_declared, one_answer, one_loading};
 pub use meta::{Meta, Wired};
 pub use meta_model::{
-    Formula, MetaEndpoints, MetaFault, MetaMethod, MetaObject, MetaOwns, MetaPath, MetaProperty,
-    MetaRoot, MetaSite, MetaWire, SlotBody, SourceProperty, Statement, Step, ValueType, Work,
+    Formula, MetaEffects, MetaEndpoints, MetaFault, MetaMethod, MetaObject, MetaOwns, MetaPath,
+    MetaProperty, MetaRoot, MetaSite, MetaWire, SlotBody, SourceProperty, Statement, Step,
+    ValueType, Work,
 };

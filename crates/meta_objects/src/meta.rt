@@ -68,11 +68,12 @@ impl Meta {
     /// `DuplicateClass`, where two classes have one name, or one is called `QObject`, `int`, `bool` or `QString`;
     /// `NoBase`, where a class's base is neither `QObject` nor a class that stands before it; `DuplicateMember`, where
     /// two methods of a class, inherited ones too, have one name and one number of parameters, two of its properties one
-    /// name, or two parameters of a method, two binding sites or two formal sources of one site one name; `NoMember`,
-    /// where a class, a member, a parameter or a formal source that a body, a wire, an owns or a site uses isn't there;
-    /// `BadNotify`, where a notify signature isn't a signal of the class or of a user base, without parameter or with
-    /// one of the property's type; `NoType`, where the type of a property or a parameter isn't there, or a site binds or
-    /// reads a reference. `Memory` comes only where a growth of memory was refused.
+    /// name, or two parameters of a method, two binding sites, two formal sources of one site or two names in one list of
+    /// a native one name; `NoMember`, where a class, a member, a parameter or a formal source that a body, a native, a
+    /// wire, an owns or a site uses isn't there; `BadNotify`, where a notify signature isn't a signal of the class or of
+    /// a user base, without parameter or with one of the property's type; `NoType`, where the type of a property or a
+    /// parameter isn't there, a site binds or reads a reference, or a native takes, reads, emits or sets one. `Memory`
+    /// comes only where a growth of memory was refused.
     pub fn build(alloc: Global, program: &Program) -> Result<Meta, MetaFault>
         ensures { Builds program.now result }
     {
@@ -87,7 +88,7 @@ impl Meta {
             return Err(MetaFault::DuplicateMember);
         }
         let Uses {
-            bodies,
+            works,
             wires,
             owns,
             sites,
@@ -98,7 +99,7 @@ impl Meta {
         if has_no_type(program, all) {
             return Err(MetaFault::NoType);
         }
-        let classes = resolve_objects(alloc, all, bodies.as_slice())?;
+        let classes = resolve_objects(alloc, all, works.as_slice())?;
         let index = ClassIndex::new(alloc, classes.as_slice())?;
         let site_names = index_sites(alloc, sites.as_slice())?;
         Ok(Meta {

@@ -1,10 +1,11 @@
 //! Classes whose members are resolved.
 
 ghost use Rattle.std.specs.Prelude.{◌≡◌, ℕ, [], IfOk, option_copied};
-ghost use Rattle.meta_objects.specs.Loading.{IsMethodOf, AreMethodsOf, work_of, body_at, found_body};
+ghost use Rattle.meta_objects.specs.Loading.{IsMethodOf, AreMethodsOf, work_of, work_at, found_work};
 ghost use Rattle.meta_objects.specs.Loading.{IsNotify, IsPropertyOf, ArePropertiesOf, initial_of};
 ghost use Rattle.meta_objects.specs.Loading.{IsObject, AreObjects};
 
+use crate::body_resolution::ResolvedWork;
 use meta_model::{
     Heading, IndexedOutline, MetaMethod, MetaObject, MetaProperty, SlotBody, Sort, ValueType, Work,
     delete_later_body, read_kind, read_kinds,
@@ -14,17 +15,17 @@ use sqlite_items::Items;
 use std::alloc::{AllocError, Global};
 use texts::{Literal, Property};
 
-/// The classes in their order, with these bodies of the program's slots.
+/// The classes in their order, where the program's slots and natives do this.
 pub fn resolve_objects(
     alloc: Global,
     outlines: &[IndexedOutline],
-    bodies: &[Items<SlotBody>],
+    works: &[Items<ResolvedWork>],
 ) -> Result<Items<MetaObject>, AllocError>
-    ensures { IfOk result (AreObjects outlines.now bodies.now) }
+    ensures { IfOk result (AreObjects outlines.now works.now) }
 {
     let mut objects = Items::new(alloc);
     for outline in outlines {
-        let object = resolve_object(alloc, outlines, bodies, outline)?;
+        let object = resolve_object(alloc, outlines, works, outline)?;
         objects.push(object)?;
     }
     Ok(objects)
@@ -34,13 +35,13 @@ pub fn resolve_objects(
 fn resolve_object(
     alloc: Global,
     outlines: &[IndexedOutline],
-    bodies: &[Items<SlotBody>],
+    works: &[Items<ResolvedWork>],
     outline: &IndexedOutline,
 ) -> Result<MetaObject, AllocError>
-    ensures { IfOk result (IsObject outlines.now bodies.now outline.now) }
+    ensures { IfOk result (IsObject outlines.now works.now outline.now) }
 {
     let name = outline.name().copy()?;
-    let methods = resolve_methods(alloc, outlines, bodies, outline.methods())?;
+    let methods = resolve_methods(alloc, outlines, works, outline.methods())?;
     let properties = resolve_properties(alloc, outlines, outline)?;
     Ok(MetaObject {
         name,
@@ -54,37 +55,37 @@ fn resolve_object(
 fn resolve_methods(
     alloc: Global,
     outlines: &[IndexedOutline],
-    bodies: &[Items<SlotBody>],
+    works: &[Items<ResolvedWork>],
     headings: &[Heading],
 ) -> Result<Items<MetaMethod>, AllocError>
-    ensures { IfOk result (AreMethodsOf outlines.now bodies.now headings.now) }
+    ensures { IfOk result (AreMethodsOf outlines.now works.now headings.now) }
 {
     let mut methods = Items::new(alloc);
     for heading in headings {
-        let method = resolve_method(alloc, outlines, bodies, heading)?;
+        let method = resolve_method(alloc, outlines, works, heading)?;
         methods.push(method)?;
     }
     Ok(methods)
 }
 
-/// The method with its types and its body.
+/// The method with its types and what it does.
 fn resolve_method(
     alloc: Global,
     outlines: &[IndexedOutline],
-    bodies: &[Items<SlotBody>],
+    works: &[Items<ResolvedWork>],
     heading: &Heading,
 ) -> Result<MetaMethod, AllocError>
-    ensures { IfOk result (IsMethodOf outlines.now bodies.now heading.now) }
+    ensures { IfOk result (IsMethodOf outlines.now works.now heading.now) }
 {
     let sig = heading.sig.copy(alloc)?;
     let kinds = read_kinds(alloc, outlines, heading.sig.types.as_slice())?;
-    let work = work_of(alloc, bodies, heading.sort)?;
+    let work = work_of(alloc, works, heading.sort)?;
     Ok(MetaMethod { sig, kinds, work })
 }
 
 /// What a method of this sort does.
-fn work_of(alloc: Global, bodies: &[Items<SlotBody>], sort: Sort) -> Result<Work, AllocError>
-    ensures { IfOk result (λ work. work ≡ work_of bodies.now sort) }
+fn work_of(alloc: Global, works: &[Items<ResolvedWork>], sort: Sort) -> Result<Work, AllocError>
+    ensures { IfOk result (λ work. work ≡ work_of works.now sort) }
 {
     match sort {
         Sort::Signal => Ok(Work::Signal),
@@ -92,10 +93,7 @@ fn work_of(alloc: Global, bodies: &[Items<SlotBody>], sort: Sort) -> Result<Work
             let body = delete_later_body(alloc)?;
             Ok(Work::Slot(body))
         }
-        Sort::Slot(class, slot) => {
-            let body = found_body(alloc, bodies, class, slot)?;
-            Ok(Work::Slot(body))
-        }
+        Sort::Slot(class, slot) => found_work(alloc, works, class, slot),
     }
 }
 
@@ -106,26 +104,36 @@ fn empty_body(alloc: Global) -> Result<SlotBody, AllocError>
     SlotBody::new(alloc, Items::new(alloc))
 }
 
-/// The body of this slot of this class, which is shared; it is among the bodies of a program's slots.
-fn found_body(
+/// What this slot or native of this class does, of which a body is shared; it is among what a program's slots and natives do.
+fn found_work(
     alloc: Global,
-    bodies: &[Items<SlotBody>],
+    works: &[Items<ResolvedWork>],
     class: usize,
     slot: usize,
-) -> Result<SlotBody, AllocError>
-    ensures { IfOk result (λ body. body ≡ found_body (body_at bodies.now class slot)) }
+) -> Result<Work, AllocError>
+    ensures { IfOk result (λ work. work ≡ found_work (work_at works.now class slot)) }
 {
-    match body_at(bodies, class, slot) {
-        Some(body) => body.copy(),
-        None => empty_body(alloc),
+    match work_at(works, class, slot) {
+        Some(ResolvedWork::Body(body)) => {
+            let body = body.copy()?;
+            Ok(Work::Slot(body))
+        }
+        Some(ResolvedWork::Native(effects)) => {
+            let effects = effects.copy(alloc)?;
+            Ok(Work::Native(effects))
+        }
+        None => {
+            let body = empty_body(alloc)?;
+            Ok(Work::Slot(body))
+        }
     }
 }
 
-/// The body of this slot of this class.
-fn body_at(bodies: &[Items<SlotBody>], class: usize, slot: usize) -> Option<&SlotBody>
-    ensures { option_copied result ≡ body_at bodies.now class slot }
+/// What this slot or native of this class does.
+fn work_at(works: &[Items<ResolvedWork>], class: usize, slot: usize) -> Option<&ResolvedWork>
+    ensures { option_copied result ≡ work_at works.now class slot }
 {
-    bodies.get(class)?.get(slot)
+    works.get(class)?.get(slot)
 }
 
 /// The class's properties in their order.

@@ -2,24 +2,24 @@
 
 ghost use Rattle.meta_objects.specs.Resolving.{ResolvesUses};
 
-use crate::body_resolution::resolve_bodies;
+use crate::body_resolution::{ResolvedWork, resolve_works};
 use crate::resolve_site::resolve_sites;
 use crate::resolve_wire::{resolve_owns, resolve_wires};
-use meta_model::{IndexedOutline, MetaFault, MetaOwns, MetaSite, MetaWire, SlotBody};
+use meta_model::{IndexedOutline, MetaFault, MetaOwns, MetaSite, MetaWire};
 use sqlite_items::Items;
 use std::alloc::Global;
 use texts::Program;
 
-/// The slots' bodies by class, the wires, the owns and the binding sites, their names resolved.
+/// What slots and natives do, by class, the wires, the owns and the binding sites, their names resolved.
 #[derive(Drop)]
 pub struct Uses {
-    pub bodies: Items<Items<SlotBody>>,
+    pub works: Items<Items<ResolvedWork>>,
     pub wires: Items<MetaWire>,
     pub owns: Items<MetaOwns>,
     pub sites: Items<MetaSite>,
 }
 
-/// The bodies, the wires, the owns and the binding sites; `NoMember` where a name in one of them isn't there.
+/// What slots and natives do, the wires, the owns and the binding sites; `NoMember` where a name in one of them isn't there.
 pub fn resolve_uses(
     alloc: Global,
     program: &Program,
@@ -27,12 +27,12 @@ pub fn resolve_uses(
 ) -> Result<Uses, MetaFault>
     ensures { ResolvesUses program.now outlines.now result }
 {
-    let bodies = resolve_bodies(alloc, outlines, program.classes.as_slice())?;
+    let works = resolve_works(alloc, outlines, program.classes.as_slice())?;
     let wires = resolve_wires(alloc, outlines, program.wires.as_slice())?;
     let owns = resolve_owns(alloc, outlines, program.owns.as_slice())?;
     let sites = resolve_sites(alloc, outlines, program.sites.as_slice())?;
     Ok(Uses {
-        bodies,
+        works,
         wires,
         owns,
         sites,

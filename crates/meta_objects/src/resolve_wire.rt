@@ -57,7 +57,7 @@ fn resolve_wire(outlines: &[IndexedOutline], wire: &Wire) -> Option<MetaWire>
 }
 
 /// The numbers of the class of this name and of its signal of this signature.
-fn signal_end(outlines: &[IndexedOutline], name: &Name, sig: &Sig) -> Option<(usize, usize)>
+pub fn signal_end(outlines: &[IndexedOutline], name: &Name, sig: &Sig) -> Option<(usize, usize)>
     ensures { FindsEnd (IsSignalOf sig.now) outlines.now name.now result }
 {
     let Some((class, found)) = find(outlines, name) else {

@@ -5,6 +5,7 @@ use Rattle.script_lang.specs.declared.event.Event.{Event}
 use Rattle.meta_model.specs.Loaded.{Loaded}
 use Rattle.machine_state.specs.declared.fault.Fault.{Fault}
 use Rattle.machine_state.specs.State.{State}
+use Rattle.machine_rules.specs.Natives.{NativeAnswers}
 use Rattle.machine_rules.proofs.Reaching.{reason-more}
 use Rattle.prop_bindings.specs.declared.binding.Binding.{Binding}
 use Rattle.machine_rules.specs.Runs.{IsStuck}
@@ -14,20 +15,20 @@ use Rattle.qt_runtime.specs.Seen.{Seen, Completes, Halts, Stays, RunsAll}
 use Rattle.machine_state.specs.Worlds.{at}
 use Rattle.qt_runtime.proofs.Running.{runs-trans}
 
-pub completes-none : {a : Seen} → a.stopped ≡ false → a.world.turn ≡ None → Completes a [] a
+pub completes-none : {N : Type 0} {gives : N → NativeAnswers} {a : Seen N} → a.stopped ≡ false → a.world.turn ≡ None → Completes gives a [] a
 completes-none went none = record { went = went; same = refl; whole = record { runs = done; ends = record { empty = refl; no_turn = none } } }
 
 -- a run goes on where another came
-pub completes-then : {a b c : Seen} {es fs : List Event} → Completes a es b → Completes b fs c → Completes a (es ++ fs) c
-completes-then {a} {b} {c} {es} {fs} x y =
-    let Family : Seen → Type 0 = λ s. Completes s fs c in
-    let z : Completes (record a { world = b.world }) fs c = subst Family x.same y in
+pub completes-then : {N : Type 0} {gives : N → NativeAnswers} {a b c : Seen N} {es fs : List Event} → Completes gives a es b → Completes gives b fs c → Completes gives a (es ++ fs) c
+completes-then {N} {gives} {a} {b} {c} {es} {fs} x y =
+    let Family : Seen N → Type 0 = λ s. Completes gives s fs c in
+    let z : Completes gives (record a { world = b.world }) fs c = subst Family x.same y in
     record { went = x.went; same = z.same; whole = record { runs = runs-trans x.whole.runs z.whole.runs; ends = z.whole.ends } }
 
-pub halts-after : {a b c : Seen} {f : Fault} {es fs : List Event} → Completes a es b → Halts b fs f c → Halts a (es ++ fs) f c
-halts-after {a} {b} {c} {f} {es} {fs} x y =
-    let Family : Seen → Type 0 = λ s. Halts s fs f c in
-    let z : Halts (record a { world = b.world }) fs f c = subst Family x.same y in
+pub halts-after : {N : Type 0} {gives : N → NativeAnswers} {a b c : Seen N} {f : Fault} {es fs : List Event} → Completes gives a es b → Halts gives b fs f c → Halts gives a (es ++ fs) f c
+halts-after {N} {gives} {a} {b} {c} {f} {es} {fs} x y =
+    let Family : Seen N → Type 0 = λ s. Halts gives s fs f c in
+    let z : Halts gives (record a { world = b.world }) fs f c = subst Family x.same y in
     record {
       went = x.went;
       same = z.same;
@@ -48,7 +49,7 @@ due-more : {s : State} {es : List Event} (more : List Event) → IsDue s es → 
 due-more more (goes_on x) = goes_on x
 due-more more (is_next x) = is_next x
 
-follows-more : {p : Loaded} {s t : State} {es : List Event} (more : List Event) → Follows p s t es → Follows p s t (es ++ more)
+follows-more : {p : Loaded} {natives : NativeAnswers} {s t : State} {es : List Event} (more : List Event) → Follows p natives s t es → Follows p natives s t (es ++ more)
 follows-more more (by_rule x) = by_rule x
 follows-more more (by_event x) = by_event x
 
@@ -56,16 +57,16 @@ follows-more more (by_event x) = by_event x
 next-more : {p : Loaded} {s : State} {es : List Event} {b : Binding} (more : List Event) → BindsNext p s es b → BindsNext p s (es ++ more) b
 next-more more x = record { idle = x.idle; site = x.site; target = x.target; sources = x.sources; rest = x.rest ++ more; is_next = ap (λ (l : List Event). l ++ more) x.is_next; may = x.may }
 
-cause-more : (p : Loaded) (d left : ℕ) (s : State) (es more : List Event) (f : Fault) → Cause p d s left es f → Cause p d s left (es ++ more) f
-cause-more p d left s es more f r = reason-more p d s left f held (λ loop. record { binding = loop.binding; next = next-more more loop.next; fit = loop.fit; closes = loop.closes }) (λ t follows. follows-more more follows) (λ due. due-more more due) r
+cause-more : (p : Loaded) (natives : NativeAnswers) (d left : ℕ) (s : State) (es more : List Event) (f : Fault) → Cause p natives d s left es f → Cause p natives d s left (es ++ more) f
+cause-more p natives d left s es more f r = reason-more p d s left f held (λ loop. record { binding = loop.binding; next = next-more more loop.next; fit = loop.fit; closes = loop.closes }) (λ t follows. follows-more more follows) (λ due. due-more more due) r
   where
-    held : IsStuck p s × LacksValue s ⊎ BindsIll p s es → IsStuck p s × LacksValue s ⊎ BindsIll p s (es ++ more)
+    held : IsStuck p natives s × LacksValue s ⊎ BindsIll p s es → IsStuck p natives s × LacksValue s ⊎ BindsIll p s (es ++ more)
     held (inl stuck) = inl stuck
     held (inr ill) = inr (record { binding = ill.binding; next = next-more more ill.next; ill = ill.ill })
 
 -- a run that stopped takes no further event
-pub halts-more : {a c : Seen} {f : Fault} {es : List Event} (more : List Event) → Halts a es f c → Halts a (es ++ more) f c
-halts-more {a} {c} {f} {es} more x = record {
+pub halts-more : {N : Type 0} {gives : N → NativeAnswers} {a c : Seen N} {f : Fault} {es : List Event} (more : List Event) → Halts gives a es f c → Halts gives a (es ++ more) f c
+halts-more {N} {gives} {a} {c} {f} {es} more x = record {
   went = x.went;
   same = x.same;
   world = x.world;
@@ -77,20 +78,20 @@ halts-more {a} {c} {f} {es} more x = record {
     split = ap (λ (l : List Event). l ++ more) x.front.split ∙ append_assoc x.front.taken x.front.rest more;
     runs = x.front.runs;
   };
-  cause = cause-more a.program a.depth x.world.left (at x.world x.stack) x.front.rest more f x.cause;
+  cause = cause-more a.program (gives a.natives) a.depth x.world.left (at x.world x.stack) x.front.rest more f x.cause;
 }
 
 -- where a run completed the machine has not stopped
-pub still-goes : {a b : Seen} {es : List Event} → Completes a es b → b.stopped ≡ false
-still-goes x = ap (λ (s : Seen). s.stopped) x.same ∙ x.went
+pub still-goes : {N : Type 0} {gives : N → NativeAnswers} {a b : Seen N} {es : List Event} → Completes gives a es b → b.stopped ≡ false
+still-goes {N} x = ap (λ (s : Seen N). s.stopped) x.same ∙ x.went
 
 -- the events so far were taken, and the next one stopped the machine, behind a `?`
-pub run-stops : {a b c : Seen} {f : Fault} {es : List Event} {e : Event} (more : List Event) (r : Result (Unit {0}) Fault) → Completes a es b → Halts b (e ∷ []) f c ⊎ Stays b f c → IsErrAnd r (λ y. y ≡ f) → RunsAll a (es ++ e ∷ more) r c
+pub run-stops : {N : Type 0} {gives : N → NativeAnswers} {a b c : Seen N} {f : Fault} {es : List Event} {e : Event} (more : List Event) (r : Result (Unit {0}) Fault) → Completes gives a es b → Halts gives b (e ∷ []) f c ⊎ Stays b f c → IsErrAnd r (λ y. y ≡ f) → RunsAll gives a (es ++ e ∷ more) r c
 run-stops more (Ok _) x y is = absurd is
-run-stops {a} {b} {c} {f} {es} {e} more (Err g) x y is =
+run-stops {N} {gives} {a} {b} {c} {f} {es} {e} more (Err g) x y is =
     let split : (es ++ e ∷ []) ++ more ≡ es ++ e ∷ more = append_assoc es (e ∷ []) more in
-    let Events : List Event → Type 0 = λ l. Halts a l f c in
-    let Named : Fault → Type 0 = λ h. Halts a (es ++ e ∷ more) h c ⊎ Stays a h c in
+    let Events : List Event → Type 0 = λ l. Halts gives a l f c in
+    let Named : Fault → Type 0 = λ h. Halts gives a (es ++ e ∷ more) h c ⊎ Stays a h c in
     elim y [
       | inl halts ↦ subst Named (sym is) (inl (subst Events split (halts-more more (halts-after x halts))))
       | inr stays ↦ let no : true ≡ false = sym stays.stopped ∙ still-goes x in absurd (cc no)

@@ -9,6 +9,7 @@ use Rattle.machine_state.specs.declared.fault.Answer.{Answer}
 use Rattle.machine_state.specs.declared.fault.Answer.TheVariants as answer
 use Rattle.machine_state.specs.declared.fault.Fault.{Fault}
 use Rattle.machine_state.specs.declared.world.World.{World}
+use Rattle.machine_rules.specs.Natives.{NativeAnswers}
 use Rattle.machine_rules.specs.Sound.{IsSoundWorld}
 use Rattle.qt_runtime.specs.Seen.{Seen, Completes, AcceptsEvent, RefusesEvent, OnDone, OnRefused, Halts, Stays}
 use Rattle.qt_runtime.specs.Taking.{Took}
@@ -17,37 +18,37 @@ use Rattle.qt_runtime.proofs.Preservation.{runs-invariant}
 use Rattle.qt_runtime.proofs.Progress.{cause-of}
 
 -- a machine with this world
-abbrev pub seen : Loaded → ℕ → World → Bool → Seen
-seen p depth w stopped = record { program = p; depth = depth; world = w; stopped = stopped }
+abbrev pub seen : {N : Type 0} → Loaded → N → ℕ → World → Bool → Seen N
+seen p natives depth w stopped = record { program = p; natives = natives; depth = depth; world = w; stopped = stopped }
 
-module _ {p : Loaded} {depth : ℕ} {w v : World} {e : Event} {went stopped : Bool} where
+module _ {N : Type 0} (gives : N → NativeAnswers) (natives : N) {p : Loaded} {depth : ℕ} {w v : World} {e : Event} {went stopped : Bool} where
   -- what `take_event` did, as what `apply` does
-  pub applied-done : (r : Result Answer Fault) → Took p depth w e v r → went ≡ false → stopped ≡ is_err r → OnDone r (AcceptsEvent (seen p depth w went) e (seen p depth v stopped))
-  applied-done (Ok answer.Done) took goes is = record { completes = record { went = goes; same = ap (λ (b : Bool). seen p depth v b) (is ∙ sym goes); whole = took.cases.0 }; accepted = took.cases.1 }
+  pub applied-done : (r : Result Answer Fault) → Took p (gives natives) depth w e v r → went ≡ false → stopped ≡ is_err r → OnDone r (AcceptsEvent gives (seen p natives depth w went) e (seen p natives depth v stopped))
+  applied-done (Ok answer.Done) took goes is = record { completes = record { went = goes; same = ap (λ (b : Bool). seen p natives depth v b) (is ∙ sym goes); whole = took.cases.0 }; accepted = took.cases.1 }
   applied-done (Ok (answer.Refused n)) took goes is = tt
   applied-done (Err f) took goes is = tt
 
-  pub applied-refused : (r : Result Answer Fault) → Took p depth w e v r → went ≡ false → stopped ≡ is_err r → OnRefused r (λ n. RefusesEvent (seen p depth w went) e n (seen p depth v stopped))
+  pub applied-refused : (r : Result Answer Fault) → Took p (gives natives) depth w e v r → went ≡ false → stopped ≡ is_err r → OnRefused r (λ n. RefusesEvent gives (seen p natives depth w went) e n (seen p natives depth v stopped))
   applied-refused (Ok answer.Done) took goes is = tt
-  applied-refused (Ok (answer.Refused n)) took goes is = record { completes = record { went = goes; same = ap (λ (b : Bool). seen p depth v b) (is ∙ sym goes); whole = took.cases.0 }; refused = took.cases.1 }
+  applied-refused (Ok (answer.Refused n)) took goes is = record { completes = record { went = goes; same = ap (λ (b : Bool). seen p natives depth v b) (is ∙ sym goes); whole = took.cases.0 }; refused = took.cases.1 }
   applied-refused (Err f) took goes is = tt
 
-  pub applied-stopped : (r : Result Answer Fault) → IsSound p → IsSoundWorld p w → Took p depth w e v r → went ≡ false → stopped ≡ is_err r → IfErr r (λ f. Halts (seen p depth w went) (e ∷ []) f (seen p depth v stopped) ⊎ Stays (seen p depth w went) f (seen p depth v stopped))
+  pub applied-stopped : (r : Result Answer Fault) → IsSound p → IsSoundWorld p w → Took p (gives natives) depth w e v r → went ≡ false → stopped ≡ is_err r → IfErr r (λ f. Halts gives (seen p natives depth w went) (e ∷ []) f (seen p natives depth v stopped) ⊎ Stays (seen p natives depth w went) f (seen p natives depth v stopped))
   applied-stopped (Ok x) sound whole took goes is = tt
   applied-stopped (Err f) sound whole took goes is =
       let halted = took.cases in
       let up = runs-invariant sound halted.front.runs (invariant-at w whole) in
       inl (record {
         went = goes;
-        same = ap (λ (b : Bool). seen p depth v b) is;
+        same = ap (λ (b : Bool). seen p natives depth v b) is;
         world = halted.u;
         leaves = halted.leaves;
         stack = halted.stack;
         front = halted.front;
-        cause = cause-of sound up depth halted.u.left halted.front.rest f halted.reason;
+        cause = cause-of sound up (gives natives) depth halted.u.left halted.front.rest f halted.reason;
       })
 
 -- an event that was answered is taken
-pub completes-of : {a b : Seen} {e : Event} (x : Answer) → OnDone (Ok x) (AcceptsEvent a e b) → OnRefused (Ok x) (λ n. RefusesEvent a e n b) → Completes a (e ∷ []) b
+pub completes-of : {N : Type 0} {gives : N → NativeAnswers} {a b : Seen N} {e : Event} (x : Answer) → OnDone (Ok x) (AcceptsEvent gives a e b) → OnRefused (Ok x) (λ n. RefusesEvent gives a e n b) → Completes gives a (e ∷ []) b
 completes-of answer.Done done refused = done.completes
 completes-of (answer.Refused n) done refused = refused.completes

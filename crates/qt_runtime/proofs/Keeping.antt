@@ -18,6 +18,7 @@ use Rattle.machine_state.specs.declared.world.World.{World}
 use Rattle.machine_state.specs.Accepting.{accepted}
 use Rattle.machine_state.specs.State.{State, Activation}
 use Rattle.machine_state.specs.Worlds.{at, untouched}
+use Rattle.machine_rules.specs.Natives.{NativeAnswers}
 use Rattle.machine_rules.specs.Sound.{IsSoundWorld}
 use Rattle.machine_rules.specs.Keeps.{Grows, Keeps}
 use Rattle.machine_rules.proofs.Keeps.{grows-by, grows-same, grows-then, begins-kept, writes-kept, installs-kept, schedules-kept, rules-kept, rules-agree}
@@ -88,7 +89,7 @@ pub record Pays (s : State) (n : ℕ) (t : State) (k : ℕ) : Type 0 where
   pub posted : t.queues.posted + k ≤ s.queues.posted + n
   pub grows : Grows s.trace t.trace
 
-pub runs-pay : {p : Loaded} {d : ℕ} {s t : State} {n k : ℕ} {es : List Event} → Runs p d s n es t k → Pays s n t k
+pub runs-pay : {p : Loaded} {natives : NativeAnswers} {d : ℕ} {s t : State} {n k : ℕ} {es : List Event} → Runs p natives d s n es t k → Pays s n t k
 runs-pay {s = s} done = record { events = omega arith; connected = omega arith; posted = omega arith; grows = grows-same s.trace }
 runs-pay (rules r rest) =
     let kept = rules-kept r in
@@ -105,7 +106,7 @@ runs-pay (takes x good rest) =
 pub invariant-at : {p : Loaded} (w : World) → IsSoundWorld p w → Invariant p (at w [])
 invariant-at w sound = record { sound = record { agree = sound.is.agree; joined = sound.is.joined; housed = sound.is.housed; waiting = sound.is.waiting }; stands = tt; emitted = tt }
 
-keeps-run : {p : Loaded} {d : ℕ} {w v : World} {stack : List Activation} {es : List Event} → IsSound p → WorldInvariant p w → Runs p d (at w []) w.left es (at v stack) v.left → WorldInvariant p v
+keeps-run : {p : Loaded} {natives : NativeAnswers} {d : ℕ} {w v : World} {stack : List Activation} {es : List Event} → IsSound p → WorldInvariant p w → Runs p natives d (at w []) w.left es (at v stack) v.left → WorldInvariant p v
 keeps-run {w = w} sound keeps runs =
     let up = runs-invariant sound runs (invariant-at w keeps.sound) in
     let pays = runs-pay runs in
@@ -119,17 +120,17 @@ keeps-run {w = w} sound keeps runs =
       events = omega (arith, keeps.events, pays.events);
     }
 
-pub keeps-took : {p : Loaded} {d : ℕ} {w v : World} {e : Event} (r : Result Answer Fault) → IsSound p → WorldInvariant p w → Took p d w e v r → is_err r ≡ false → WorldInvariant p v
+pub keeps-took : {p : Loaded} {natives : NativeAnswers} {d : ℕ} {w v : World} {e : Event} (r : Result Answer Fault) → IsSound p → WorldInvariant p w → Took p natives d w e v r → is_err r ≡ false → WorldInvariant p v
 keeps-took (Ok a) sound keeps took goes = keeps-run sound keeps took.cases.0.runs
 keeps-took (Err f) sound keeps took goes = absurd (cc goes)
 
 -- .. so all values are settled after an event that was answered
-pub settled-took : {p : Loaded} {d : ℕ} {w v : World} {e : Event} (r : Result Answer Fault) → IsSound p → WorldInvariant p w → Took p d w e v r → IfOk r (λ _. Settled (binding_at v.store.bindings) (values_in v.store.tree))
+pub settled-took : {p : Loaded} {natives : NativeAnswers} {d : ℕ} {w v : World} {e : Event} (r : Result Answer Fault) → IsSound p → WorldInvariant p w → Took p natives d w e v r → IfOk r (λ _. Settled (binding_at v.store.bindings) (values_in v.store.tree))
 settled-took (Ok a) sound keeps took = (keeps-took (Ok a) sound keeps took refl).sound.is.agree.settled
 settled-took (Err f) sound keeps took = tt
 
 -- an event that was answered leaves no turn
-pub idle-took : {p : Loaded} {d : ℕ} {w v : World} {e : Event} (r : Result Answer Fault) → Took p d w e v r → is_err r ≡ false → v.turn ≡ None
+pub idle-took : {p : Loaded} {natives : NativeAnswers} {d : ℕ} {w v : World} {e : Event} (r : Result Answer Fault) → Took p natives d w e v r → is_err r ≡ false → v.turn ≡ None
 idle-took (Ok a) took goes = took.cases.0.ends.no_turn
 idle-took (Err f) took goes = absurd (cc goes)
 
@@ -163,12 +164,12 @@ untouched-sound p steps program few = record {
 -- ---- values stay settled
 
 -- where objects and bindings agree at the start of a run, they do in every state that it comes to
-pub runs-agree : {p : Loaded} {d : ℕ} {s t : State} {n k : ℕ} {es : List Event} → Runs p d s n es t k → Agree p s.objects s.bindings → Agree p t.objects t.bindings
+pub runs-agree : {p : Loaded} {natives : NativeAnswers} {d : ℕ} {s t : State} {n k : ℕ} {es : List Event} → Runs p natives d s n es t k → Agree p s.objects s.bindings → Agree p t.objects t.bindings
 runs-agree done agree = agree
 runs-agree (rules r rest) agree = runs-agree rest (rules-agree r agree)
 runs-agree (takes x good rest) agree = runs-agree rest good.agree
 
-pub always_settled : AlwaysSettled
-always_settled p depth steps events t k front =
+pub always_settled : (natives : NativeAnswers) → AlwaysSettled natives
+always_settled natives p depth steps events t k front =
     let agree = runs-agree front.runs (agree-none p) in
     (agree.settled, agree.acyclic)

@@ -1,5 +1,5 @@
--- What a statement of a body that stands does is possible: what it names is there.
-use Rattle.std.proofs.Common.{◌≡◌, ℕ, true, false, List, ◌∷◌, Option, Some, None, subst}
+-- What a step of a body that stands does is possible: what it names is there.
+use Rattle.std.proofs.Common.{◌≡◌, ℕ, true, false, List, ◌∷◌, Option, Some, None, subst, sym, ap, ◌∙◌}
 use Rattle.std.specs.Prelude.{IfSome}
 use Rattle.std.specs.Option.{option_map}
 use Rattle.signatures.specs.declared.value.Value.{Value}
@@ -13,19 +13,23 @@ use Rattle.meta_model.specs.declared.object.ValueType.{ValueType}
 use Rattle.meta_model.specs.Loaded.{Loaded}
 use Rattle.meta_model.specs.Members.{Below}
 use Rattle.meta_model.specs.declared.object.MetaPath.{MetaPath}
-use Rattle.meta_model.specs.Sound.{LeadsToClass, IsSound, AreSound, AreSoundEnds, IsSoundStatement, next_sound, set_sound, emit_sound, call_sound, if_sound, connect_sound, disconnect_sound, delete_sound, later_sound}
+use Rattle.meta_model.specs.Sound.{LeadsToClass, IsSound, AreSound, AreSoundEnds, IsSoundStatement, set_sound, emit_sound, call_sound, if_sound, connect_sound, disconnect_sound, delete_sound, later_sound}
 use Rattle.object_tree.specs.declared.life.Life.{Life}
 use Rattle.object_tree.specs.declared.object.Object.{Object}
 use Rattle.object_tree.specs.Objects.{Lives}
 use Rattle.meta_model.specs.declared.object.MetaEndpoints.{MetaEndpoints}
 use Rattle.machine_state.specs.declared.endpoints.Endpoints.{Endpoints}
+use Rattle.machine_state.specs.State.{Step, Run, Ask, Act}
+use Rattle.meta_model.specs.declared.effects.MetaEffects.{MetaEffects}
+use Rattle.native_slots.specs.declared.action.Action.{Action}
+use Rattle.native_slots.specs.declared.action.Action.TheVariants as action
 use Rattle.machine_rules.specs.Connecting.{AreThere}
-use Rattle.machine_rules.specs.Doings.{Doing, Write, Begin, Choose, Connect, Disconnect, Delete, Schedule, Nothing, on_object, on_ends, chosen_by, doing}
+use Rattle.machine_rules.specs.Doings.{Doing, Write, Begin, Choose, Connect, Disconnect, Delete, Schedule, TakeAnswer, Nothing, on_object, on_ends, chosen_by, doing, doing_action, doing_step}
 use Rattle.object_tree.specs.Typed.{AreTyped}
 use Rattle.machine_rules.specs.Paths.{path_value, value_of, values_of}
 use Rattle.machine_rules.specs.There.{IsMember, IsField}
 use Rattle.qt_runtime.proofs.Inherited.{method-below, property-below}
-use Rattle.qt_runtime.proofs.Standing.{BodyStands}
+use Rattle.qt_runtime.proofs.Standing.{ActionStands, StepStands, BodyStands}
 use Rattle.qt_runtime.proofs.TypedPaths.{Reaches, to_null, to_object, path-reaches}
 
 -- the members that are named are there, and a block that is chosen is sound for the body
@@ -37,6 +41,7 @@ IsPossible p objects me kinds (Connect ends how) = AreThere p objects ends
 IsPossible p objects me kinds (Disconnect ends) = AreThere p objects ends
 IsPossible p objects me kinds (Delete x) = Unit {0}
 IsPossible p objects me kinds (Schedule x) = Unit {0}
+IsPossible p objects me kinds (TakeAnswer effects) = Unit {0}
 IsPossible p objects me kinds Nothing = Unit {0}
 
 -- ---- what is so of all that may be found
@@ -61,7 +66,7 @@ chosen-so P block other (Some (value.Ref n)) first second = tt
 -- ---- statements
 
 module _ {p : Loaded} {objects : List Object} (sound : IsSound p) (typed : AreTyped p objects) where
-  module _ {o : ℕ} {arguments : List Value} {left : List Statement} (body : BodyStands p objects o arguments left) where
+  module _ {o : ℕ} {arguments : List Value} {left : List Step} (body : BodyStands p objects o arguments left) where
     abbrev Possible : Doing → Type 0
     Possible d = IsPossible p objects body.declaring body.kinds d
 
@@ -110,11 +115,32 @@ module _ {p : Loaded} {objects : List Object} (sound : IsSound p) (typed : AreTy
     statement-so f (delete_sound {path = path} leads) = object-alone Delete path leads (λ y. tt)
     statement-so f (later_sound {path = path} leads) = object-alone Schedule path leads (λ y. tt)
 
--- the first statement of what is left of a body
-pub possible : {p : Loaded} {objects : List Object} {o : ℕ} {arguments : List Value} {x : Statement} {rest : List Statement} → IsSound p → AreTyped p objects → (body : BodyStands p objects o arguments (x ∷ rest)) → (d : Doing) → doing objects o arguments (out-Statement x) ≡ Some d → IsPossible p objects body.declaring body.kinds d
+    -- the property or the signal that an action names is there
+    action-so : (effects : MetaEffects) (it : Action) → ActionStands p body.life.class effects it → IfSome (doing_action o effects it) Possible
+    action-so effects (action.Set k v) is =
+        let Found : Option ℕ → Type 0 = λ found. IfSome (option_map (λ (q : ℕ). Write o q v) found) Possible in
+        subst Found (sym is.2) (body.object, is.1, record { life = body.life; lives = body.lives; class = is.3.class; is_class = is.3.is_class; is_property = is.3.is })
+    action-so effects (action.Emit k given) is =
+        let Found : Option ℕ → Type 0 = λ found. IfSome (option_map (λ (g : ℕ). Begin o g given) found) Possible in
+        subst Found (sym is.2) (body.object, is.1, record { life = body.life; lives = body.lives; is_method = is.3 })
+
+    step-so : (x : Step) → StepStands p body.life.class body.declaring body.kinds x → IfSome (doing_step objects o arguments x) Possible
+    step-so (Run x) is = statement-so (out-Statement x) is
+    step-so (Ask effects) is = tt
+    step-so (Act effects it) is = action-so effects it is
+
+-- the first step of what is left of a body
+pub possible : {p : Loaded} {objects : List Object} {o : ℕ} {arguments : List Value} {x : Step} {rest : List Step} → IsSound p → AreTyped p objects → (body : BodyStands p objects o arguments (x ∷ rest)) → (d : Doing) → doing_step objects o arguments x ≡ Some d → IsPossible p objects body.declaring body.kinds d
 possible {p} {objects} {x = x} sound typed body d is =
     let Found : Option Doing → Type 0 = λ f. IfSome f (λ e. IsPossible p objects body.declaring body.kinds e) in
-    subst Found is (statement-so sound typed body (out-Statement x) (first body.sound))
+    subst Found is (step-so sound typed body x body.steps.0)
+
+-- an action of a body that stands does something
+pub acts : {p : Loaded} {objects : List Object} {o : ℕ} {arguments : List Value} {effects : MetaEffects} {it : Action} {rest : List Step} → (body : BodyStands p objects o arguments (Act effects it ∷ rest)) → doing_action o effects it ≡ None → ⊥
+acts {p} {o = o} {effects = effects} {it = it} body is = by_action body.life.class it body.steps.0 is
   where
-    first : {me : ℕ} {kinds : List ValueType} {y : Statement} {more : List Statement} → AreSound p me kinds (y ∷ more) → IsSoundStatement p me kinds (out-Statement y)
-    first (next_sound one more) = one
+    by_action : (c : ℕ) (a : Action) → ActionStands p c effects a → doing_action o effects a ≡ None → ⊥
+    by_action c (action.Set k v) there none =
+        let same : Some (Write o there.0 v) ≡ None = sym (ap (option_map (λ (q : ℕ). Write o q v)) there.2) ∙ none in absurd (cc same)
+    by_action c (action.Emit k given) there none =
+        let same : Some (Begin o there.0 given) ≡ None = sym (ap (option_map (λ (g : ℕ). Begin o g given)) there.2) ∙ none in absurd (cc same)

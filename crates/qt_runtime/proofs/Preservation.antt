@@ -1,17 +1,20 @@
 -- Why what is going on goes on: its members and statements are there, and the objects whose bodies are active live.
-use Rattle.std.proofs.Common.{◌≡◌, ℕ, suc, ◌+◌, ◌<◌, Bool, List, [], ◌∷◌, ◌++◌, length, take, true, false, Option, Some, None, slice_get, refl, sym, ap, IsTrue, inl, length-append, ◌∙◌, subst, Ok, arith}
+use Rattle.std.proofs.Common.{◌≡◌, ℕ, suc, ◌+◌, ◌<◌, Bool, List, [], ◌∷◌, ◌++◌, map, length, take, true, false, Option, Some, None, slice_get, refl, sym, ap, IsTrue, inl, length-append, ◌∙◌, subst, Ok, arith}
 use Rattle.std.specs.List.{AllByRecursion, find}
 use Rattle.signatures.specs.declared.value.Value.{Value}
 use Rattle.script_lang.specs.declared.event.Event.{Event}
 use Rattle.script_lang.specs.declared.event.Event.TheVariants.{Loop, Turn, New, Adopt, Connect, Disconnect, Set, Bind, Emit as EmitEvent, Call as CallEvent, Block, Unblock, Delete as DeleteEvent, Later as LaterEvent}
 use Rattle.meta_model.specs.declared.object.MetaMethod.{MetaMethod}
 use Rattle.meta_model.specs.declared.object.Statement.{Statement}
-use Rattle.meta_model.specs.declared.object.Statement.TheViews.{out-Statement}
+use Rattle.meta_model.specs.declared.effects.MetaEffects.{MetaEffects}
+use Rattle.meta_model.specs.Members.{IsMethod, IsProperty}
+use Rattle.native_slots.specs.declared.action.Action.{Action}
+use Rattle.machine_state.specs.declared.entry.ShownAction.{ShownAction}
 use Rattle.meta_model.specs.declared.object.ValueType.{ValueType}
 use Rattle.meta_model.specs.declared.object.Work.{Work}
-use Rattle.meta_model.specs.declared.object.Work.TheVariants.{Signal, Slot}
+use Rattle.meta_model.specs.declared.object.Work.TheVariants.{Signal, Slot, Native}
 use Rattle.meta_model.specs.Loaded.{Loaded}
-use Rattle.meta_model.specs.Sound.{IsSound, IsSoundWork, IsSoundBody, AreSound, none_sound, next_sound}
+use Rattle.meta_model.specs.Sound.{IsSound, IsSoundWork, IsSoundBody, IsSoundNative, AreSound, none_sound, next_sound}
 use Rattle.connections.specs.declared.connection.Connection.{Connection}
 use Rattle.object_tree.specs.declared.life.Life.{Life}
 use Rattle.object_tree.specs.declared.object.Object.{Object}
@@ -19,7 +22,7 @@ use Rattle.object_tree.specs.Adopting.{IsAdopted}
 use Rattle.object_tree.specs.Creating.{begun as begun_life, fresh, initial_values}
 use Rattle.object_tree.specs.Family.{moved}
 use Rattle.object_tree.specs.Family.{without_life}
-use Rattle.object_tree.specs.Objects.{life_of, change_life, with_life, blocked}
+use Rattle.object_tree.specs.Objects.{Lives, life_of, change_life, with_life, blocked}
 use Rattle.object_tree.proofs.Changing.{length-change}
 use Rattle.object_tree.specs.Typed.{AreTyped, ReadAs}
 use Rattle.prop_bindings.specs.declared.binding.Binding.{Binding}
@@ -30,13 +33,14 @@ use Rattle.object_tree.proofs.TypedObjects.{class-more, seen-appended, shape_in,
 use Rattle.std.specs.Prelude.{Result, Err}
 use Rattle.machine_state.specs.declared.endpoints.Endpoints.{Endpoints}
 use Rattle.machine_state.specs.declared.refusal.Refusal.{Refusal}
+use Rattle.machine_rules.specs.Natives.{NativeAnswers, IsShownAs, set_shown, emit_shown, AreShownAs}
 use Rattle.machine_rules.specs.Connecting.{AreThere, kept_ends, names_of}
-use Rattle.machine_rules.specs.Doings.{Doing, Write, Begin, Choose, Connect as Link, Disconnect as Unlink, Delete, Schedule, Nothing, doing}
+use Rattle.machine_rules.specs.Doings.{Doing, Write, Begin, Choose, Connect as Link, Disconnect as Unlink, Delete, Schedule, TakeAnswer, Nothing, doing_step}
 use Rattle.machine_rules.specs.Destroying.{Dies, NextRule, ChildRule, DestroyRule, living_child, DefersOnce, Schedules}
 use Rattle.qt_runtime.proofs.Possible.{possible}
-use Rattle.qt_runtime.proofs.Standing.{BodyStands, Stands, Invariant, AllStand, SparedIn, all-stand-still}
+use Rattle.qt_runtime.proofs.Standing.{ActionStands, StepStands, BodyStands, Stands, Invariant, AllStand, SparedIn, all-stand-still}
 use Rattle.machine_state.specs.declared.telling.Cause.{Cause}
-use Rattle.machine_state.specs.State.{State, IsIdle, Activation, Body, Emit, Update, Destroy}
+use Rattle.machine_state.specs.State.{Step, Run, Ask, Act, State, IsIdle, Activation, Body, Emit, Update, Destroy}
 use Rattle.machine_rules.specs.Rules.{Rule, RuleAt, BodyRule, Does, EmitRule, UpdateRule, Begins, begun, with_used, linked, unlinked, TurnRule, Serves, Delivers, Arrives, BeginsIf, NotifiesIf}
 use Rattle.machine_rules.specs.Settling.{Settles, Writes, Installs}
 use Rattle.machine_rules.specs.Writing.{MayNotify}
@@ -84,32 +88,56 @@ use Rattle.qt_runtime.proofs.Homes.{housed-more, housed-loop, waiting-loop, home
 use Rattle.machine_rules.proofs.Soundness.{AllFit, Fair, rule-fair, begins-fair, writes-fair, installs-fair, schedules-fair, all-wait-still}
 use Rattle.machine_rules.proofs.Waiting.{housed-same, home-change}
 
--- ---- statements
+-- ---- steps
 
-sound-append : {p : Loaded} {me : ℕ} {kinds : List ValueType} {chosen rest : List Statement} → AreSound p me kinds chosen → AreSound p me kinds rest → AreSound p me kinds (chosen ++ rest)
-sound-append none_sound b = b
-sound-append (next_sound one more) b = next_sound one (sound-append more b)
+-- statements that are sound stand
+run-steps : (p : Loaded) (c me : ℕ) (kinds : List ValueType) (statements : List Statement) → AreSound p me kinds statements → AllByRecursion (StepStands p c me kinds) (map Run statements)
+run-steps p c me kinds [] none_sound = tt
+run-steps p c me kinds (x ∷ rest) (next_sound one more) = (one, run-steps p c me kinds rest more)
 
--- what follows a statement
-sound-rest : {p : Loaded} {me : ℕ} {kinds : List ValueType} {x : Statement} {rest : List Statement} → AreSound p me kinds (x ∷ rest) → AreSound p me kinds rest
-sound-rest (next_sound one more) = more
+steps-append : (P : Step → Type 0) (first rest : List Step) → AllByRecursion P first → AllByRecursion P rest → AllByRecursion P (first ++ rest)
+steps-append P [] rest a b = b
+steps-append P (x ∷ first) rest a b = (a.0, steps-append P first rest a.1 b)
 
-body-with : {p : Loaded} {objects : List Object} {o : ℕ} {arguments : List Value} {left : List Statement} (x : BodyStands p objects o arguments left) (rest : List Statement) → AreSound p x.declaring x.kinds rest → BodyStands p objects o arguments rest
-body-with x rest sound = record { object = x.object; life = x.life; lives = x.lives; declaring = x.declaring; below = x.below; kinds = x.kinds; typed = x.typed; sound = sound }
+-- an action that is written down names what the object's class has
+action-stands : {p : Loaded} {objects : List Object} {o : ℕ} {x : Object} {l : Life} {effects : MetaEffects} {it : Action} {line : ShownAction} → Lives objects o x l → IsShownAs p objects o effects it line → ActionStands p l.class effects it
+action-stands {p} lives (set_shown {q = q} {property = property} placed field) =
+    let Class : Life → Type 0 = λ k. IsProperty p k.class q property in
+    (q, property, placed, subst Class (life-unique field.lives lives) (record { class = field.class; is_class = field.is_class; is = field.is_property }))
+action-stands {p} lives (emit_shown {g = g} {signal = signal} placed member) =
+    let Class : Life → Type 0 = λ k. IsMethod p k.class g signal in
+    (g, signal, placed, subst Class (life-unique member.lives lives) member.is_method)
 
-body-rest : {p : Loaded} {objects : List Object} {o : ℕ} {arguments : List Value} {x : Statement} {rest : List Statement} → BodyStands p objects o arguments (x ∷ rest) → BodyStands p objects o arguments rest
-body-rest {rest = rest} x = body-with x rest (sound-rest x.sound)
+answer-steps : (p : Loaded) {objects : List Object} {o : ℕ} {x : Object} {l : Life} (me : ℕ) (kinds : List ValueType) (effects : MetaEffects) (actions : List Action) (lines : List ShownAction) → Lives objects o x l → AreShownAs p objects o effects actions lines → AllByRecursion (StepStands p l.class me kinds) (map (Act effects) actions)
+answer-steps p me kinds effects [] lines lives shown = tt
+answer-steps p me kinds effects (it ∷ actions) [] lives shown = absurd shown
+answer-steps p me kinds effects (it ∷ actions) (line ∷ lines) lives shown = (action-stands lives shown.0, answer-steps p me kinds effects actions lines lives shown.1)
+
+body-with : {p : Loaded} {objects : List Object} {o : ℕ} {arguments : List Value} {left : List Step} (x : BodyStands p objects o arguments left) (rest : List Step) → AllByRecursion (StepStands p x.life.class x.declaring x.kinds) rest → BodyStands p objects o arguments rest
+body-with x rest steps = record { object = x.object; life = x.life; lives = x.lives; declaring = x.declaring; below = x.below; kinds = x.kinds; typed = x.typed; steps = steps }
+
+body-rest : {p : Loaded} {objects : List Object} {o : ℕ} {arguments : List Value} {x : Step} {rest : List Step} → BodyStands p objects o arguments (x ∷ rest) → BodyStands p objects o arguments rest
+body-rest {rest = rest} x = body-with x rest x.steps.1
 
 -- ---- rules
 
 -- a slot that is called with arguments that fit
-called-stands : {p : Loaded} {objects : List Object} {o m : ℕ} {x : Object} {method : MetaMethod} {arguments : List Value} {statements : List Statement} → IsSound p → IsMember p objects o m x method → method.work ≡ Slot statements → ArgumentsFit p objects o m arguments → BodyStands p objects o arguments statements
+called-stands : {p : Loaded} {objects : List Object} {o m : ℕ} {x : Object} {method : MetaMethod} {arguments : List Value} {statements : List Statement} → IsSound p → IsMember p objects o m x method → method.work ≡ Slot statements → ArgumentsFit p objects o m arguments → BodyStands p objects o arguments (map Run statements)
 called-stands {p} {objects} {m = m} {x = x} {method = method} {arguments = arguments} {statements = statements} sound is work_is fit =
     let method_is : fit.method ≡ method = member-method fit.is is in
     let Typed : MetaMethod → Type 0 = λ k. ReadAs p objects arguments k.kinds in
     let Sound_work : Work → Type 0 = λ w. IsSoundWork p is.life.class m method.kinds w in
     let body : IsSoundBody p is.life.class m method.kinds statements = subst Sound_work work_is ((sound.classes is.life.class is.is_method.class is.is_method.is_class).methods m method is.is_method.is).work in
-    record { object = x; life = is.life; lives = is.lives; declaring = body.declaring; below = body.below; kinds = method.kinds; typed = subst Typed method_is fit.typed; sound = body.sound }
+    record { object = x; life = is.life; lives = is.lives; declaring = body.declaring; below = body.below; kinds = method.kinds; typed = subst Typed method_is fit.typed; steps = run-steps p is.life.class body.declaring method.kinds statements body.sound }
+
+-- .. a native that is
+asked-stands : {p : Loaded} {objects : List Object} {o m : ℕ} {x : Object} {method : MetaMethod} {arguments : List Value} {effects : MetaEffects} → IsSound p → IsMember p objects o m x method → method.work ≡ Native effects → ArgumentsFit p objects o m arguments → BodyStands p objects o arguments (Ask effects ∷ [])
+asked-stands {p} {objects} {m = m} {x = x} {method = method} {arguments = arguments} {effects = effects} sound is work_is fit =
+    let method_is : fit.method ≡ method = member-method fit.is is in
+    let Typed : MetaMethod → Type 0 = λ k. ReadAs p objects arguments k.kinds in
+    let Sound_work : Work → Type 0 = λ w. IsSoundWork p is.life.class m method.kinds w in
+    let native : IsSoundNative p is.life.class m method.kinds effects = subst Sound_work work_is ((sound.classes is.life.class is.is_method.class is.is_method.is_class).methods m method is.is_method.is).work in
+    record { object = x; life = is.life; lives = is.lives; declaring = native.declaring; below = native.below; kinds = method.kinds; typed = subst Typed method_is fit.typed; steps = (tt, tt) }
 
 -- a method that begins, over what stands
 begun-stands : (p : Loaded) (s : State) (below : List Activation) (o : ℕ) (x : Object) (m : ℕ) (method : MetaMethod) (arguments : List Value) (work : Work) (t : State) → IsSound p → IsMember p s.objects o m x method → method.work ≡ work → t ≡ begun s below o x m method arguments work → length s.stack < suc (length below) → IsWell p s t → AllByRecursion (Stands p s.objects) below → AllStand p t
@@ -121,6 +149,11 @@ begun-stands p s below o x m method arguments (Slot statements) t sound is work_
     let Fit : State → Type 0 = λ u. length s.stack < length u.stack → TopFits p u.objects u.stack in
     let fits : Fit (begun s below o x m method arguments (Slot statements)) = subst Fit e well.arguments in
     subst Family (sym e) (called-stands sound is work_is (fits higher), lower)
+begun-stands p s below o x m method arguments (Native effects) t sound is work_is e higher well lower =
+    let Family : State → Type 0 = λ u. AllStand p u in
+    let Fit : State → Type 0 = λ u. length s.stack < length u.stack → TopFits p u.objects u.stack in
+    let fits : Fit (begun s below o x m method arguments (Native effects)) = subst Fit e well.arguments in
+    subst Family (sym e) (asked-stands sound is work_is (fits higher), lower)
 
 module _ {p : Loaded} {s t : State} (sound : IsSound p) (well : IsWell p s t) where
   begins-stands : {below : List Activation} {o m : ℕ} {arguments : List Value} → Begins p s below o m arguments t → length s.stack < suc (length below) → AllByRecursion (Stands p s.objects) below → AllStand p t
@@ -159,23 +192,29 @@ module _ {p : Loaded} {s t : State} (sound : IsSound p) (well : IsWell p s t) wh
       by_mark true e = as-is e all
       by_mark false d = as-is d.gives (all-stand-still p s.objects _ stack (scheduled-stay s.objects x) (λ o body gone. sym (scheduled-seen s.objects x o) ∙ gone) all)
 
-  -- what a statement does, over what stands
-  does-stands : AreTyped p s.objects → (o m : ℕ) (arguments : List Value) (x : Statement) (rest : List Statement) (below : List Activation) (d : Doing) → BodyStands p s.objects o arguments (x ∷ rest) → doing s.objects o arguments (out-Statement x) ≡ Some d → AllByRecursion (Stands p s.objects) below → length s.stack ≡ suc (length below) → Does p s o m arguments rest below d t → AllStand p t
-  does-stands typed o m arguments x rest below (Write y q new) body is lower high does = writes-stands does (body-rest body, lower)
-  does-stands typed o m arguments x rest below (Begin y n given) body is lower high does = begins-stands does (omega (arith, high)) (body-rest body, lower)
-  does-stands typed o m arguments x rest below (Choose block) body is lower high does =
-      as-is does (body-with body (block ++ rest) (sound-append (possible sound typed body (Choose block) is) (sound-rest body.sound)), lower)
-  does-stands typed o m arguments x rest below (Link ends how) body is lower high does =
+  -- what a step does, over what stands
+  does-stands : (natives : NativeAnswers) → AreTyped p s.objects → (o m : ℕ) (arguments : List Value) (x : Step) (rest : List Step) (below : List Activation) (d : Doing) → BodyStands p s.objects o arguments (x ∷ rest) → doing_step s.objects o arguments x ≡ Some d → AllByRecursion (Stands p s.objects) below → length s.stack ≡ suc (length below) → Does p natives s o m arguments rest below d t → AllStand p t
+  does-stands natives typed o m arguments x rest below (Write y q new) body is lower high does = writes-stands does (body-rest body, lower)
+  does-stands natives typed o m arguments x rest below (Begin y n given) body is lower high does = begins-stands does (omega (arith, high)) (body-rest body, lower)
+  does-stands natives typed o m arguments x rest below (Choose block) body is lower high does =
+      let Stood : Step → Type 0 = StepStands p body.life.class body.declaring body.kinds in
+      let chosen = run-steps p body.life.class body.declaring body.kinds block (possible sound typed body (Choose block) is) in
+      as-is does (body-with body (map Run block ++ rest) (steps-append Stood (map Run block) rest chosen body.steps.1), lower)
+  does-stands natives typed o m arguments x rest below (Link ends how) body is lower high does =
       as-is does.gives (linked-stands (Body o m arguments rest ∷ below) (kept_ends ends) how (names_of does.kept) does.answer (body-rest body, lower))
-  does-stands typed o m arguments x rest below (Unlink ends) body is lower high does =
+  does-stands natives typed o m arguments x rest below (Unlink ends) body is lower high does =
       as-is does.gives (unlinked-stands (Body o m arguments rest ∷ below) (kept_ends ends) (names_of does.kept) does.answer (body-rest body, lower))
-  does-stands typed o m arguments x rest below (Delete y) body is lower high does = as-is does (tt, (body-rest body, lower))
-  does-stands typed o m arguments x rest below (Schedule y) body is lower high does = schedules-stands (Body o m arguments rest ∷ below) y (life_of s.objects y) (body-rest body, lower) does
-  does-stands typed o m arguments x rest below Nothing body is lower high does = as-is does (body-rest body, lower)
+  does-stands natives typed o m arguments x rest below (Delete y) body is lower high does = as-is does (tt, (body-rest body, lower))
+  does-stands natives typed o m arguments x rest below (Schedule y) body is lower high does = schedules-stands (Body o m arguments rest ∷ below) y (life_of s.objects y) (body-rest body, lower) does
+  does-stands natives typed o m arguments x rest below (TakeAnswer effects) body is lower high does =
+      let Stood : Step → Type 0 = StepStands p body.life.class body.declaring body.kinds in
+      let answered = answer-steps p body.declaring body.kinds effects does.actions does.lines body.lives does.are_shown in
+      as-is does.gives (body-with body (map (Act effects) does.actions ++ rest) (steps-append Stood (map (Act effects) does.actions) rest answered body.steps.1), lower)
+  does-stands natives typed o m arguments x rest below Nothing body is lower high does = as-is does (body-rest body, lower)
 
-  body-stands : AreTyped p s.objects → (o m : ℕ) (arguments : List Value) (below : List Activation) (left : List Statement) → BodyStands p s.objects o arguments left → AllByRecursion (Stands p s.objects) below → length s.stack ≡ suc (length below) → BodyRule p s o m arguments below t left → AllStand p t
-  body-stands typed o m arguments below [] body lower high r = as-is r lower
-  body-stands typed o m arguments below (x ∷ rest) body lower high r = does-stands typed o m arguments x rest below r.what body r.is lower high r.does
+  body-stands : (natives : NativeAnswers) → AreTyped p s.objects → (o m : ℕ) (arguments : List Value) (below : List Activation) (left : List Step) → BodyStands p s.objects o arguments left → AllByRecursion (Stands p s.objects) below → length s.stack ≡ suc (length below) → BodyRule p natives s o m arguments below t left → AllStand p t
+  body-stands natives typed o m arguments below [] body lower high r = as-is r lower
+  body-stands natives typed o m arguments below (x ∷ rest) body lower high r = does-stands natives typed o m arguments x rest below r.what body r.is lower high r.does
 
   -- a method begins, or a call of it is posted
   arrives-stands : (u : State) (stack : List Activation) (home o : ℕ) (x : Object) (m : ℕ) (method : MetaMethod) (arguments : List Value) (b : Bool) → IsWell p u t → IsMember p u.objects o m x method → length u.stack < suc (length stack) → AllByRecursion (Stands p u.objects) stack → Arrives u stack home o x m method arguments t b → AllStand p t
@@ -234,21 +273,21 @@ module _ {p : Loaded} {s t : State} (sound : IsSound p) (well : IsWell p s t) wh
       by_first None e = as-is e all
       by_first (Some q) d = delivers-stands (taken_before turn.home turn.limit s.queues) q.item low all d
 
-  rule-stands : AreTyped p s.objects → Spares s t → (stack : List Activation) → s.stack ≡ stack → AllStand p s → AllByRecursion (Stands p s.objects) stack → RuleAt p s t stack → AllStand p t
-  rule-stands typed spares [] is here all r = turn-stands s.turn (ap (λ (l : List Activation). length l) is) here r
-  rule-stands typed spares (Body o m arguments left ∷ below) is here all r = body-stands typed o m arguments below left all.0 all.1 (ap (λ (l : List Activation). length l) is) r
-  rule-stands typed spares (Emit o g arguments used last ∷ below) is here all r =
+  rule-stands : (natives : NativeAnswers) → AreTyped p s.objects → Spares s t → (stack : List Activation) → s.stack ≡ stack → AllStand p s → AllByRecursion (Stands p s.objects) stack → RuleAt p natives s t stack → AllStand p t
+  rule-stands natives typed spares [] is here all r = turn-stands s.turn (ap (λ (l : List Activation). length l) is) here r
+  rule-stands natives typed spares (Body o m arguments left ∷ below) is here all r = body-stands natives typed o m arguments below left all.0 all.1 (ap (λ (l : List Activation). length l) is) r
+  rule-stands natives typed spares (Emit o g arguments used last ∷ below) is here all r =
       emission-stands o g arguments last below (next_used s.objects s.connected.connections o g used last) all.1 (ap (λ (l : List Activation). length l) is) r
-  rule-stands typed spares (Update places ∷ below) is here all r = update-stands below places all.0 all.1 r
-  rule-stands typed spares (Destroy next torn ∷ below) is here all r =
+  rule-stands natives typed spares (Update places ∷ below) is here all r = update-stands below places all.0 all.1 r
+  rule-stands natives typed spares (Destroy next torn ∷ below) is here all r =
       destroy-stands below next torn (λ o body gone. spares o (subst (λ (l : List Activation). IsTrue (has_body o l)) (sym is) body) gone) all.1 r
 
   -- what is going on stands where the stack does
   kept-invariant : Agree p t.objects t.bindings → Invariant p s → Keeps p s 1 t 0 → AllStand p t → Fair p t → Invariant p t
   kept-invariant agree up kept stands fair = record { sound = record { agree = agree; joined = kept.joined sound up.sound.joined; housed = kept.housed up.sound.housed; waiting = fair.waiting }; stands = stands; emitted = fair.emitted }
 
-  rule-invariant : Spares s t → Agree p t.objects t.bindings → Invariant p s → Rule p s t → Invariant p t
-  rule-invariant spares agree up r = kept-invariant agree up (rule-kept p s t s.stack r) (rule-stands up.sound.agree.typed spares s.stack refl up.stands up.stands r) (rule-fair sound well up.sound.waiting s.stack up.sound.joined up.emitted up.emitted refl r)
+  rule-invariant : (natives : NativeAnswers) → Spares s t → Agree p t.objects t.bindings → Invariant p s → Rule p natives s t → Invariant p t
+  rule-invariant natives spares agree up r = kept-invariant agree up (rule-kept p natives s t s.stack r) (rule-stands natives up.sound.agree.typed spares s.stack refl up.stands up.stands r) (rule-fair sound well up.sound.waiting natives s.stack up.sound.joined up.emitted up.emitted refl r)
 
 -- ---- events
 
@@ -388,12 +427,12 @@ takes-invariant {e = e} sound up (accepts idle x) well agree = judged-invariant 
 takes-invariant sound up (refuses k idle x) well agree = record { sound = record { agree = up.sound.agree; joined = up.sound.joined; housed = up.sound.housed; waiting = up.sound.waiting }; stands = up.stands; emitted = up.emitted }
 
 -- every state that rules lead to stands
-rules-invariant : {p : Loaded} {d : ℕ} {s t : State} {n k : ℕ} → IsSound p → Rules p d s n t k → Invariant p s → Invariant p t
+rules-invariant : {p : Loaded} {natives : NativeAnswers} {d : ℕ} {s t : State} {n k : ℕ} → IsSound p → Rules p natives d s n t k → Invariant p s → Invariant p t
 rules-invariant sound of_rules.done up = up
-rules-invariant sound (of_rules.then r good rest) up = rules-invariant sound rest (rule-invariant sound good.well good.spared good.agree up r)
+rules-invariant {natives = natives} sound (of_rules.then r good rest) up = rules-invariant sound rest (rule-invariant sound good.well natives good.spared good.agree up r)
 
 -- every state of a run keeps it
-pub runs-invariant : {p : Loaded} {d : ℕ} {s t : State} {n k : ℕ} {es : List Event} → IsSound p → Runs p d s n es t k → Invariant p s → Invariant p t
+pub runs-invariant : {p : Loaded} {natives : NativeAnswers} {d : ℕ} {s t : State} {n k : ℕ} {es : List Event} → IsSound p → Runs p natives d s n es t k → Invariant p s → Invariant p t
 runs-invariant sound done up = up
 runs-invariant sound (rules r rest) up = runs-invariant sound rest (rules-invariant sound r up)
 runs-invariant sound (takes x good rest) up = runs-invariant sound rest (takes-invariant sound up x good.well good.agree)

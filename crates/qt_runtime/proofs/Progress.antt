@@ -5,12 +5,12 @@ use Rattle.signatures.specs.declared.value.Value.{Value}
 use Rattle.script_lang.specs.declared.event.Event.{Event}
 use Rattle.meta_model.specs.declared.object.ValueType.{ValueType}
 use Rattle.meta_model.specs.declared.object.MetaMethod.{MetaMethod}
-use Rattle.meta_model.specs.declared.object.Statement.{Statement}
-use Rattle.meta_model.specs.declared.object.Statement.TheViews.{out-Statement}
+use Rattle.meta_model.specs.declared.effects.MetaEffects.{MetaEffects}
 use Rattle.meta_model.specs.Loaded.{Loaded}
 use Rattle.machine_state.specs.declared.endpoints.Endpoints.{Endpoints}
 use Rattle.machine_state.specs.declared.refusal.Refusal.{Refusal}
 use Rattle.texts.specs.declared.connection.ConnectionType.{ConnectionType}
+use Rattle.machine_rules.specs.Natives.{NativeAnswers}
 use Rattle.machine_rules.specs.Connecting.{AreThere}
 use Rattle.machine_rules.specs.Judgement.{Check, Then, holds, fails, goes_on as next_is, ends as ends_so}
 use Rattle.machine_rules.proofs.Linking.{kept-there}
@@ -18,10 +18,10 @@ use Rattle.meta_model.specs.Sound.{IsSound}
 use Rattle.connections.specs.declared.connection.Connection.{Connection}
 use Rattle.machine_state.specs.declared.fault.Fault.{Fault}
 use Rattle.object_tree.specs.declared.object.Object.{Object}
-use Rattle.machine_state.specs.State.{State, Activation, Body, Emit, Update, Destroy}
-use Rattle.machine_rules.specs.Rules.{RuleAt, StatementRule, Does, EmitRule, UpdateRule, Connects, Disconnects, TurnRule, Serves, Delivers, Arrives, with_used, BeginsIf, NotifiesIf}
+use Rattle.machine_state.specs.State.{Step, Run, Ask, Act, State, Activation, Body, Emit, Update, Destroy}
+use Rattle.machine_rules.specs.Rules.{RuleAt, StepRule, Does, EmitRule, UpdateRule, Connects, Disconnects, TurnRule, Serves, Delivers, Arrives, with_used, BeginsIf, NotifiesIf}
 use Rattle.machine_rules.specs.Destroying.{Dies, NextRule, ChildRule, DestroyRule, living_child, DefersOnce, Schedules}
-use Rattle.machine_rules.specs.Doings.{Doing, Write, Begin, Choose, Connect, Disconnect, Delete, Schedule, Nothing, doing}
+use Rattle.machine_rules.specs.Doings.{Doing, Write, Begin, Choose, Connect, Disconnect, Delete, Schedule, TakeAnswer, Nothing, doing_step}
 use Rattle.std.specs.Prelude.{is_some}
 use Rattle.std.specs.List.{find}
 use Rattle.object_tree.specs.Family.{children_of}
@@ -38,7 +38,7 @@ use Rattle.prop_bindings.specs.declared.place.Place.{Place}
 use Rattle.machine_state.specs.declared.turn.Turn.{Turn}
 use Rattle.machine_state.specs.Turns.{running, reaches_at_once}
 use Rattle.machine_state.specs.Connections.{is_living, next_used}
-use Rattle.machine_rules.specs.Runs.{IsStuck}
+use Rattle.machine_rules.specs.Runs.{DoesNext, IsStuck}
 use Rattle.machine_rules.proofs.Reaching.{reason-more}
 use Rattle.qt_runtime.specs.Runs.{BindsIll, RunStops}
 use Rattle.qt_runtime.specs.Causes.{LacksValue, Cause}
@@ -46,7 +46,7 @@ use Rattle.machine_rules.specs.There.{IsField, LacksField}
 use Rattle.machine_rules.specs.Writing.{MayNotify}
 use Rattle.machine_rules.proofs.Beginning.{next-delivered}
 use Rattle.machine_rules.proofs.Fields.{old-there}
-use Rattle.qt_runtime.proofs.Possible.{IsPossible, possible}
+use Rattle.qt_runtime.proofs.Possible.{IsPossible, possible, acts}
 use Rattle.qt_runtime.proofs.Standing.{BodyStands, Stands, Invariant}
 use Rattle.machine_rules.specs.Sound.{IsDelivered, Waits}
 use Rattle.machine_rules.proofs.Soundness.{AllFit}
@@ -125,26 +125,35 @@ module _ {p : Loaded} {s : State} (sound : IsSound p) (up : Invariant p s) where
           stays _ (record { loop = named.0; is_loop = named.1; name = there.0.name; named = ap (option_map (λ (y : Object). y.name)) there.1.is; gives = refl })
 
   -- what is possible is done by some rule
-  possible-goes : (o m : ℕ) (arguments : List Value) (rest : List Statement) (below : List Activation) (me : ℕ) (kinds : List ValueType) (d : Doing) → IsPossible p s.objects me kinds d → ((x q : ℕ) (new : Value) → d ≡ Write x q new → LacksField p s.objects x q) → ((t : State) → ¬ Does p s o m arguments rest below d t) → ⊥
-  possible-goes o m arguments rest below me kinds (Write x q new) may lacks none = lacks x q new refl may.0 may.1 may.2
-  possible-goes o m arguments rest below me kinds (Begin x n given) may lacks none = none _ (record { object = may.0; method = may.1; is = may.2; gives = refl })
-  possible-goes o m arguments rest below me kinds (Choose block) may lacks none = none _ refl
-  possible-goes o m arguments rest below me kinds (Connect ends how) may lacks none = no-connect may none
-  possible-goes o m arguments rest below me kinds (Disconnect ends) may lacks none = no-disconnect may none
-  possible-goes o m arguments rest below me kinds (Delete x) may lacks none = none _ refl
-  possible-goes o m arguments rest below me kinds (Schedule x) may lacks none = no-schedule (Body o m arguments rest ∷ below) x (life_of s.objects x) refl none
-  possible-goes o m arguments rest below me kinds Nothing may lacks none = none _ refl
+  possible-goes : (natives : NativeAnswers) (o m : ℕ) (arguments : List Value) (rest : List Step) (below : List Activation) (me : ℕ) (kinds : List ValueType) (d : Doing) → IsPossible p s.objects me kinds d → ((x q : ℕ) (new : Value) → d ≡ Write x q new → LacksField p s.objects x q) → ((effects : MetaEffects) → d ≡ TakeAnswer effects → ⊥) → ((t : State) → ¬ Does p natives s o m arguments rest below d t) → ⊥
+  possible-goes natives o m arguments rest below me kinds (Write x q new) may lacks asks none = lacks x q new refl may.0 may.1 may.2
+  possible-goes natives o m arguments rest below me kinds (Begin x n given) may lacks asks none = none _ (record { object = may.0; method = may.1; is = may.2; gives = refl })
+  possible-goes natives o m arguments rest below me kinds (Choose block) may lacks asks none = none _ refl
+  possible-goes natives o m arguments rest below me kinds (Connect ends how) may lacks asks none = no-connect may none
+  possible-goes natives o m arguments rest below me kinds (Disconnect ends) may lacks asks none = no-disconnect may none
+  possible-goes natives o m arguments rest below me kinds (Delete x) may lacks asks none = none _ refl
+  possible-goes natives o m arguments rest below me kinds (Schedule x) may lacks asks none = no-schedule (Body o m arguments rest ∷ below) x (life_of s.objects x) refl none
+  possible-goes natives o m arguments rest below me kinds (TakeAnswer effects) may lacks asks none = asks effects refl
+  possible-goes natives o m arguments rest below me kinds Nothing may lacks asks none = none _ refl
 
-  -- a statement that has no next rule lacks a value
-  statement-lacks : (o m : ℕ) (arguments : List Value) (x : Statement) (rest : List Statement) (below : List Activation) → s.stack ≡ Body o m arguments (x ∷ rest) ∷ below → IsStuck p s → BodyStands p s.objects o arguments (x ∷ rest) → ((t : State) → ¬ StatementRule p s o m arguments x rest below t) → doing s.objects o arguments (out-Statement x) ≡ None
-  statement-lacks o m arguments x rest below e halts body stuck = by_found (doing s.objects o arguments (out-Statement x)) refl
+  -- a step that has no next rule does nothing that is possible
+  step-none : {natives : NativeAnswers} (o m : ℕ) (arguments : List Value) (x : Step) (rest : List Step) (below : List Activation) → s.stack ≡ Body o m arguments (x ∷ rest) ∷ below → IsStuck p natives s → BodyStands p s.objects o arguments (x ∷ rest) → ((t : State) → ¬ StepRule p natives s o m arguments x rest below t) → doing_step s.objects o arguments x ≡ None
+  step-none {natives} o m arguments x rest below e halts body stuck = by_found (doing_step s.objects o arguments x) refl
     where
-      by_found : (found : Option Doing) → doing s.objects o arguments (out-Statement x) ≡ found → doing s.objects o arguments (out-Statement x) ≡ None
+      by_found : (found : Option Doing) → doing_step s.objects o arguments x ≡ found → doing_step s.objects o arguments x ≡ None
       by_found None is = is
       by_found (Some d) is =
-          absurd (possible-goes o m arguments rest below body.declaring body.kinds d (possible sound up.sound.agree.typed body d is)
-          (λ y q new same. halts.lacks y q new (record { object = o; method = m; arguments = arguments; statement = x; rest = rest; below = below; is_next = e; writes = is ∙ ap (λ (k : Doing). Some k) same }))
+          let next : (k : Doing) → d ≡ k → DoesNext s k = λ k same. record { object = o; method = m; arguments = arguments; step = x; rest = rest; below = below; is_next = e; does = is ∙ ap (λ (k : Doing). Some k) same } in
+          absurd (possible-goes natives o m arguments rest below body.declaring body.kinds d (possible sound up.sound.agree.typed body d is)
+          (λ y q new same. halts.lacks y q new (next (Write y q new) same)) (λ effects same. halts.asks_none effects (next (TakeAnswer effects) same))
           (λ t does. stuck t (record { what = d; is = is; does = does })))
+
+  -- .. so it is a statement that lacks a value
+  step-lacks : {natives : NativeAnswers} (o m : ℕ) (arguments : List Value) (x : Step) (rest : List Step) (below : List Activation) → s.stack ≡ Body o m arguments (x ∷ rest) ∷ below → IsStuck p natives s → BodyStands p s.objects o arguments (x ∷ rest) → ((t : State) → ¬ StepRule p natives s o m arguments x rest below t) → LacksValue s
+  step-lacks o m arguments (Run x) rest below e halts body stuck =
+      record { object = o; method = m; arguments = arguments; statement = x; rest = rest; below = below; is_next = e; lacks = step-none o m arguments (Run x) rest below e halts body stuck }
+  step-lacks o m arguments (Ask effects) rest below e halts body stuck = absurd (cc (step-none o m arguments (Ask effects) rest below e halts body stuck))
+  step-lacks o m arguments (Act effects it) rest below e halts body stuck = absurd (acts body (step-none o m arguments (Act effects it) rest below e halts body stuck))
 
   -- an emission has a next rule
   emission-goes : (o g : ℕ) (arguments : List Value) (last : ℕ) (below : List Activation) (found : Option Connection) → ((c : Connection) → found ≡ Some c → IsDelivered p s.objects c arguments) → ((t : State) → ¬ EmitRule p s o g arguments last below t found) → ⊥
@@ -200,27 +209,26 @@ module _ {p : Loaded} {s : State} (sound : IsSound p) (up : Invariant p s) where
             gives = refl;
           })
 
-  stack-lacks : (stack : List Activation) → s.stack ≡ stack → IsStuck p s → AllByRecursion (Stands p s.objects) stack → AllFit p s.objects stack → ((t : State) → ¬ RuleAt p s t stack) → LacksValue s
+  stack-lacks : {natives : NativeAnswers} (stack : List Activation) → s.stack ≡ stack → IsStuck p natives s → AllByRecursion (Stands p s.objects) stack → AllFit p s.objects stack → ((t : State) → ¬ RuleAt p natives s t stack) → LacksValue s
   stack-lacks [] e halts all fit stuck = by_turn s.turn refl stuck
     where
       by_turn : (found : Option Turn) → s.turn ≡ found → ((t : State) → ¬ TurnRule p s t found) → LacksValue s
       by_turn None none stays = absurd (halts.goes_on (record { empty = e; no_turn = none }))
       by_turn (Some turn) is stays = absurd (turn-goes turn (find (is_before turn.limit) (items_at s.queues.loops turn.home)) (λ q found. first-waits p s.objects s.queues.loops turn.home turn.limit q up.sound.waiting found) stays)
   stack-lacks (Body o m arguments [] ∷ below) e halts all fit stuck = absurd (stuck _ refl)
-  stack-lacks (Body o m arguments (x ∷ rest) ∷ below) e halts all fit stuck =
-      record { object = o; method = m; arguments = arguments; statement = x; rest = rest; below = below; is_next = e; lacks = statement-lacks o m arguments x rest below e halts all.0 stuck }
+  stack-lacks (Body o m arguments (x ∷ rest) ∷ below) e halts all fit stuck = step-lacks o m arguments x rest below e halts all.0 stuck
   stack-lacks (Emit o g arguments used last ∷ below) e halts all fit stuck =
       absurd (emission-goes o g arguments last below (next_used s.objects s.connected.connections o g used last) (λ c found. next-delivered s.connected.connections o g used last c up.sound.joined fit.0 found) stuck)
   stack-lacks (Update places ∷ below) e halts all fit stuck = absurd (update-goes below places all.0 stuck)
   stack-lacks (Destroy next torn ∷ below) e halts all fit stuck = absurd (destroy-somehow s below next torn stuck)
 
   -- what goes on without a next rule lacks a value
-  pub stuck-lacks : IsStuck p s → LacksValue s
+  pub stuck-lacks : {natives : NativeAnswers} → IsStuck p natives s → LacksValue s
   stuck-lacks x = stack-lacks s.stack refl x up.stands up.emitted x.stuck
 
-  pub cause-of : (d left : ℕ) (es : List Event) (f : Fault) → RunStops p d s left es f → Cause p d s left es f
-  cause-of d left es f r = reason-more p d s left f held (λ closes. closes) (λ t follows. follows) (λ due. due) r
+  pub cause-of : (natives : NativeAnswers) (d left : ℕ) (es : List Event) (f : Fault) → RunStops p natives d s left es f → Cause p natives d s left es f
+  cause-of natives d left es f r = reason-more p d s left f held (λ closes. closes) (λ t follows. follows) (λ due. due) r
     where
-      held : IsStuck p s ⊎ BindsIll p s es → IsStuck p s × LacksValue s ⊎ BindsIll p s es
+      held : IsStuck p natives s ⊎ BindsIll p s es → IsStuck p natives s × LacksValue s ⊎ BindsIll p s es
       held (inl stuck) = inl (stuck, stuck-lacks stuck)
       held (inr ill) = inr ill

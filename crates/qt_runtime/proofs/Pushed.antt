@@ -5,7 +5,7 @@ use Rattle.signatures.specs.declared.value.Value.{Value}
 use Rattle.script_lang.specs.declared.event.Event.{Event}
 use Rattle.meta_model.specs.declared.object.MetaMethod.{MetaMethod}
 use Rattle.meta_model.specs.declared.object.Work.{Work}
-use Rattle.meta_model.specs.declared.object.Work.TheVariants.{Signal, Slot}
+use Rattle.meta_model.specs.declared.object.Work.TheVariants.{Signal, Slot, Native}
 use Rattle.meta_model.specs.Loaded.{Loaded}
 use Rattle.object_tree.specs.declared.object.Object.{Object}
 use Rattle.machine_state.specs.declared.entry.Entry.{Entry}
@@ -20,7 +20,8 @@ use Rattle.machine_state.specs.Accepting.{accepted}
 use Rattle.machine_state.specs.Worlds.{at, accepting_entries, accepting_turn, with_bound, HasWritten, HasBound, KeepsTheRest}
 use Rattle.qt_runtime.specs.Runs.{done, is_next}
 use Rattle.qt_runtime.specs.Takes.{judged, accepts}
-use Rattle.machine_rules.specs.Reaches.{Ends, begin_entry, top_of, IsBegun, IsBarred}
+use Rattle.machine_rules.specs.Natives.{NativeAnswers}
+use Rattle.machine_rules.specs.Reaches.{RunsTo, begin_entry, top_of, IsBegun, IsBarred}
 use Rattle.prop_bindings.specs.declared.binding.Binding.{Binding}
 use Rattle.prop_bindings.specs.declared.place.Place.{Place}
 use Rattle.prop_bindings.specs.Bindings.{binding_at, Settled}
@@ -42,6 +43,7 @@ begun-here : (w : World) (o : ℕ) (x : Object) (m : ℕ) (method : MetaMethod) 
     at (accepting_entries w (begin_entry 1 x m method.sig.name (all_shown w.store.tree values) work ∷ [])) (top_of o m values w.store.connections.last work ∷ []) ≡ begun (accepted (at w [])) [] o x m method values work
 begun-here w o x m method values Signal = refl
 begun-here w o x m method values (Slot statements) = refl
+begun-here w o x m method values (Native effects) = refl
 
 -- a method begins
 pub judged-begun : {p : Loaded} {d o m : ℕ} {v : World} {values : List Value} {line : Entry} {work : Work} {last : ℕ} (w : World) (e : Event) → AsksFor p w o m values e → IsBegun p d [] w o m values line work last → v ≡ accepting_entries w (line ∷ []) → judged p (at w []) e (Ok (at v (top_of o m values last work ∷ [])))
@@ -104,9 +106,9 @@ installed {p} {v} {changed = changed} w has =
 
 -- ---- .. and it runs to its end, or stops on the way
 
-pub began : {p : Loaded} {d o m : ℕ} {w v u : World} {values : List Value} {line : Entry} {work : Work} {last : ℕ} {r : Result (Unit {0}) Fault} (e : Event) → Agree p w.store.tree w.store.bindings → ArgumentsFit p w.store.tree o m values → Ready w → AsksFor p w o m values e → IsBegun p d [] w o m values line work last → v ≡ accepting_entries w (line ∷ []) → Ends p d [] v (top_of o m values last work ∷ []) u [] r →
-    MatchResult r (λ _. Took p d w e u (Ok Done)) (λ f. Halted p d w e u f)
-began {p} {d} {o} {m} {w} {v} {u} {values = values} {work = work} {last = last} {r = r} e agree fit some asks is v_is ends =
+pub began : {p : Loaded} {natives : NativeAnswers} {d o m : ℕ} {w v u : World} {values : List Value} {line : Entry} {work : Work} {last : ℕ} {r : Result (Unit {0}) Fault} (e : Event) → Agree p w.store.tree w.store.bindings → ArgumentsFit p w.store.tree o m values → Ready w → AsksFor p w o m values e → IsBegun p d [] w o m values line work last → v ≡ accepting_entries w (line ∷ []) → RunsTo p natives d [] v (top_of o m values last work ∷ []) u [] r →
+    MatchResult r (λ _. Took p natives d w e u (Ok Done)) (λ f. Halted p natives d w e u f)
+began {p} {natives} {d} {o} {m} {w} {v} {u} {values = values} {work = work} {last = last} {r = r} e agree fit some asks is v_is ends =
     let Agrees : World → Type 0 = λ z. Agree p z.store.tree z.store.bindings in
     let Fits : World → Type 0 = λ z. TopFits p z.store.tree (top_of o m values last work ∷ []) in
     let agree_after : Agree p v.store.tree v.store.bindings = subst Agrees (sym v_is) agree in
@@ -118,25 +120,25 @@ began {p} {d} {o} {m} {w} {v} {u} {values = values} {work = work} {last = last} 
     took-run e (accepts (idle w some.no_turn) begun) (good-pushed w v agree_after fits (omega (arith, room))) (record { effect = _; why = begun }) some.some less none ends
 
 -- a method that fits begins, unless memory is refused
-pub barred-short : {p : Loaded} {d : ℕ} {w : World} {f : Fault} (e : Event) (r : Result Answer Fault) → 0 < d → Ready w → IsBarred d [] f → IsErrAnd r (λ y. y ≡ f) → Took p d w e w r
+pub barred-short : {p : Loaded} {natives : NativeAnswers} {d : ℕ} {w : World} {f : Fault} (e : Event) (r : Result Answer Fault) → 0 < d → Ready w → IsBarred d [] f → IsErrAnd r (λ y. y ≡ f) → Took p natives d w e w r
 barred-short e r room some why is = elim why [
   | inl high ↦ absurd (omega (arith, room, high.0))
   | inr memory ↦ took-unchanged e r some (memory, refl) is
 ]
 
 -- values have changed, and what is notified runs to its end, or stops on the way
-pub changed-run : {p : Loaded} {d : ℕ} {w v u : World} {r : Result (Unit {0}) Fault} (lines : List Entry) (changed : List Place) (e : Event) → Agree p v.store.tree v.store.bindings → 0 < d → Ready w → judged p (at w []) e (Ok (at v (updates p v changed))) → v ≡ with_bound (accepting_entries w lines) v.store.tree v.store.bindings → Ends p d [] v (updates p v changed) u [] r →
-    MatchResult r (λ _. Took p d w e u (Ok Done)) (λ f. Halted p d w e u f)
+pub changed-run : {p : Loaded} {natives : NativeAnswers} {d : ℕ} {w v u : World} {r : Result (Unit {0}) Fault} (lines : List Entry) (changed : List Place) (e : Event) → Agree p v.store.tree v.store.bindings → 0 < d → Ready w → judged p (at w []) e (Ok (at v (updates p v changed))) → v ≡ with_bound (accepting_entries w lines) v.store.tree v.store.bindings → RunsTo p natives d [] v (updates p v changed) u [] r →
+    MatchResult r (λ _. Took p natives d w e u (Ok Done)) (λ f. Halted p natives d w e u f)
 changed-run {w = w} {v = v} lines changed e agree room some judged is ends =
     let less : v.left ≡ w.left - 1 = ap (λ (z : World). z.left) is in
     let none : v.turn ≡ None = ap (λ (z : World). z.turn) is ∙ some.no_turn in
     took-run e (accepts (idle w some.no_turn) judged) (good-pushed w v agree tt (omega (arith, room))) (record { effect = _; why = judged }) some.some less none ends
 
 -- memory is refused as values have changed, and nothing is written down
-pub changed-short : {p : Loaded} {d : ℕ} {w v : World} {f : Fault} (e : Event) (r : Result Answer Fault) → Ready w → (f ≡ Memory) × KeepsTheRest w v → IsErrAnd r (λ y. y ≡ f) → Took p d w e v r
+pub changed-short : {p : Loaded} {natives : NativeAnswers} {d : ℕ} {w v : World} {f : Fault} (e : Event) (r : Result Answer Fault) → Ready w → (f ≡ Memory) × KeepsTheRest w v → IsErrAnd r (λ y. y ≡ f) → Took p natives d w e v r
 changed-short e (Ok a) some why is = absurd is
-changed-short {p} {d} {w} {v} e (Err y) some why is =
-    let Named : Fault → Type 0 = λ g. Halted p d w e v g in
+changed-short {p} {natives} {d} {w} {v} e (Err y) some why is =
+    let Named : Fault → Type 0 = λ g. Halted p natives d w e v g in
     record { cases = subst Named (sym (is ∙ why.0)) (record { u = w; leaves = (why.1, λ other. absurd (other refl)); stack = []; front = record { taken = []; rest = e ∷ []; split = refl; runs = done }; reason = (some.some, is_next (idle w some.no_turn)) }) }
 
 -- ---- what stays sound meanwhile

@@ -1,19 +1,24 @@
 -- What stands in a run: an object lives as long as a body of it is active, the properties that are to be notified are
 -- there as long as their objects live, and bodies are sound.
-use Rattle.std.proofs.Common.{◌≡◌, ℕ, eqb, ◌||◌, Bool, true, false, IsTrue, List, [], ◌∷◌, sym, subst, refl}
+use Rattle.std.proofs.Common.{◌≡◌, ℕ, eqb, Some, slice_get, ◌||◌, Bool, true, false, IsTrue, List, [], ◌∷◌, sym, subst, refl}
 use Rattle.std.specs.List.{AllByRecursion}
 use Rattle.std.proofs.lemmas.Bool.{eq-eqb}
 use Rattle.signatures.specs.declared.value.Value.{Value}
-use Rattle.meta_model.specs.declared.object.Statement.{Statement}
+use Rattle.meta_model.specs.declared.effects.MetaEffects.{MetaEffects}
+use Rattle.meta_model.specs.declared.object.MetaMethod.{MetaMethod}
+use Rattle.meta_model.specs.declared.object.MetaProperty.{MetaProperty}
+use Rattle.meta_model.specs.declared.object.Statement.TheViews.{out-Statement}
 use Rattle.meta_model.specs.declared.object.ValueType.{ValueType}
 use Rattle.meta_model.specs.Loaded.{Loaded}
-use Rattle.meta_model.specs.Members.{Below}
-use Rattle.meta_model.specs.Sound.{AreSound}
+use Rattle.meta_model.specs.Members.{IsMethod, IsProperty, Below}
+use Rattle.meta_model.specs.Sound.{IsSoundStatement}
+use Rattle.native_slots.specs.declared.action.Action.{Action}
+use Rattle.native_slots.specs.declared.action.Action.TheVariants as action
 use Rattle.object_tree.specs.declared.life.Life.{Life}
 use Rattle.object_tree.specs.declared.object.Object.{Object}
 use Rattle.object_tree.specs.Objects.{Lives}
 use Rattle.object_tree.specs.Typed.{ReadAs}
-use Rattle.machine_state.specs.State.{State, Activation, Body, Emit, Update, Destroy}
+use Rattle.machine_state.specs.State.{Step, Run, Ask, Act, State, Activation, Body, Emit, Update, Destroy}
 use Rattle.machine_rules.specs.Good.{has_body}
 use Rattle.machine_rules.specs.Keeps.{StayThere}
 use Rattle.machine_rules.proofs.Soundness.{AllFit}
@@ -26,8 +31,19 @@ use Rattle.machine_rules.proofs.Notifying.{all-may-still}
 
 -- ---- what stands
 
+-- a class has the property or the signal that an action of a native names
+abbrev pub ActionStands : Loaded → ℕ → MetaEffects → Action → Type 0
+ActionStands p c effects (action.Set k v) = (q : ℕ) × (property : MetaProperty) × (slice_get effects.sets k ≡ Some q) × IsProperty p c q property
+ActionStands p c effects (action.Emit k given) = (g : ℕ) × (signal : MetaMethod) × (slice_get effects.emits k ≡ Some g) × IsMethod p c g signal
+
+-- a step of a body: a statement is sound, and an action names what the object's class has
+abbrev pub StepStands : Loaded → ℕ → ℕ → List ValueType → Step → Type 0
+StepStands p c me kinds (Run x) = IsSoundStatement p me kinds (out-Statement x)
+StepStands p c me kinds (Ask effects) = Unit {0}
+StepStands p c me kinds (Act effects it) = ActionStands p c effects it
+
 -- a body is of a living object, and what is left of it is sound for the arguments
-pub record BodyStands (p : Loaded) (objects : List Object) (o : ℕ) (arguments : List Value) (left : List Statement) : Type 0 where
+pub record BodyStands (p : Loaded) (objects : List Object) (o : ℕ) (arguments : List Value) (left : List Step) : Type 0 where
   pub object : Object
   pub life : Life
   pub lives : Lives objects o object life
@@ -35,7 +51,7 @@ pub record BodyStands (p : Loaded) (objects : List Object) (o : ℕ) (arguments 
   pub below : Below p life.class declaring
   pub kinds : List ValueType
   pub typed : ReadAs p objects arguments kinds
-  pub sound : AreSound p declaring kinds left
+  pub steps : AllByRecursion (StepStands p life.class declaring kinds) left
 
 abbrev pub Stands : Loaded → List Object → Activation → Type 0
 Stands p objects (Body o m arguments left) = BodyStands p objects o arguments left
@@ -51,10 +67,11 @@ pub record Invariant (p : Loaded) (s : State) : Type 0 where
 
 -- ---- it stands as long as no object dies that has a body
 
-body-still : (p : Loaded) (old new : List Object) → StayThere old new → (o : ℕ) (arguments : List Value) (left : List Statement) → (IsDead new o → IsDead old o) → BodyStands p old o arguments left → BodyStands p new o arguments left
+body-still : (p : Loaded) (old new : List Object) → StayThere old new → (o : ℕ) (arguments : List Value) (left : List Step) → (IsDead new o → IsDead old o) → BodyStands p old o arguments left → BodyStands p new o arguments left
 body-still p old new stay o arguments left spared x =
     let y = lives-on old new o stay (λ gone. lives-not-dead x.lives (spared gone)) x.lives in
     let Classes : ℕ → Type 0 = λ k. Below p k x.declaring in
+    let Steps : ℕ → Type 0 = λ k. AllByRecursion (StepStands p k x.declaring x.kinds) left in
     record {
       object = y.0;
       life = y.1;
@@ -63,7 +80,7 @@ body-still p old new stay o arguments left spared x =
       below = subst Classes (sym y.3) x.below;
       kinds = x.kinds;
       typed = values-stay p stay arguments x.kinds x.typed;
-      sound = x.sound;
+      steps = subst Steps (sym y.3) x.steps;
     }
 
 -- no object has died that has a body among these

@@ -10,6 +10,7 @@ use Rattle.script_lang.specs.declared.event.Event.{Event}
 use Rattle.machine_state.specs.declared.refusal.Refusal.{Refusal}
 use Rattle.machine_state.specs.State.{State}
 use Rattle.machine_state.specs.Worlds.{at, untouched}
+use Rattle.machine_rules.specs.Natives.{NativeAnswers, AnswersOnce}
 use Rattle.qt_runtime.specs.Runs.{RunsWhole, RunsFront, IsFront}
 use Rattle.qt_runtime.specs.Takes.{judged, Takes}
 
@@ -34,27 +35,27 @@ OneTaking =
     (p : Loaded) (e : Event) (s t u : State) → IsSound p → Agree p s.objects s.bindings →
     Takes p e s t → Takes p e s u → IsAcyclic t → t ≡ u
 
--- from one state, with so many rules left, all whole runs of these events end in one state with the same rules left:
--- the trace of that state is the trace
-abbrev pub OneRun : Type 0
-OneRun =
-    (p : Loaded) (depth : ℕ) (s : State) (n : ℕ) (events : List Event) (t u : State) (j k : ℕ) →
+-- where natives have one answer to one question: from one state, with so many rules left, all whole runs of these events end
+-- in one state with the same rules left: the trace of that state is the trace
+abbrev pub OneRun : NativeAnswers → Type 0
+OneRun natives =
+    AnswersOnce natives → (p : Loaded) (depth : ℕ) (s : State) (n : ℕ) (events : List Event) (t u : State) (j k : ℕ) →
     IsSound p → Agree p s.objects s.bindings →
-    RunsWhole p depth s n events t j → RunsWhole p depth s n events u k → (t ≡ u) × (j ≡ k)
+    RunsWhole p natives depth s n events t j → RunsWhole p natives depth s n events u k → (t ≡ u) × (j ≡ k)
 
--- of two runs of fronts of one list of events, from one state and with as many rules left, one goes on where the other
+-- .. of two runs of fronts of one list of events, from one state and with as many rules left, one goes on where the other
 -- ends, and writes after what that one wrote: so a run that stops on the way is a front of the whole one
-abbrev pub OneFront : Type 0
-OneFront =
-    (p : Loaded) (depth : ℕ) (s : State) (n : ℕ) (events : List Event) (t u : State) (j k : ℕ) →
+abbrev pub OneFront : NativeAnswers → Type 0
+OneFront natives =
+    AnswersOnce natives → (p : Loaded) (depth : ℕ) (s : State) (n : ℕ) (events : List Event) (t u : State) (j k : ℕ) →
     IsSound p → Agree p s.objects s.bindings →
-    (a : RunsFront p depth s n events t j) (b : RunsFront p depth s n events u k) → IsFront a b ⊎ IsFront b a
+    (a : RunsFront p natives depth s n events t j) (b : RunsFront p natives depth s n events u k) → IsFront a b ⊎ IsFront b a
 
 -- In every state that a run comes to, each bound property has the value of its binding's expression, and no chain of
 -- bindings leads from a property back to itself: whatever was connected, bound, written and deleted, and whatever is going
 -- on.
-abbrev pub AlwaysSettled : Type 0
-AlwaysSettled =
+abbrev pub AlwaysSettled : NativeAnswers → Type 0
+AlwaysSettled natives =
     (p : Loaded) (depth steps : ℕ) (events : List Event) (t : State) (k : ℕ) →
-    RunsFront p depth (at (untouched steps) []) steps events t k →
+    RunsFront p natives depth (at (untouched steps) []) steps events t k →
     Settled (binding_at t.bindings) (values_in t.objects) × IsAcyclic t

@@ -29,6 +29,7 @@ use Rattle.machine_state.specs.State.{State, Activation}
 use Rattle.machine_state.specs.Worlds.{at, after, with_connection, without_connections, Rejects}
 use Rattle.machine_rules.specs.declared.setting.Setting.{Setting}
 use Rattle.machine_rules.specs.Judgement.{numbered}
+use Rattle.machine_rules.specs.Natives.{NativeAnswers}
 use Rattle.machine_rules.specs.Reaches.{Leaves}
 use Rattle.machine_rules.specs.Rules.{Begins}
 use Rattle.machine_rules.specs.Settling.{Writes}
@@ -50,12 +51,12 @@ pub record WorldInvariant (p : Loaded) (w : World) : Type 0 where
   pub events : w.events + w.left < 2 ^ 63
 
 -- the machine stopped before or after it took the event, in the world u, and v is left of it
-pub record Halted (p : Loaded) (depth : ℕ) (w : World) (e : Event) (v : World) (f : Fault) : Type 0 where
+pub record Halted (p : Loaded) (natives : NativeAnswers) (depth : ℕ) (w : World) (e : Event) (v : World) (f : Fault) : Type 0 where
   pub u : World
   pub leaves : Leaves u v f
   pub stack : List Activation
-  pub front : RunsFront p depth (at w []) w.left (e ∷ []) (at u stack) u.left
-  pub reason : RunStops p depth (at u stack) u.left front.rest f
+  pub front : RunsFront p natives depth (at w []) w.left (e ∷ []) (at u stack) u.left
+  pub reason : RunStops p natives depth (at u stack) u.left front.rest f
 
 -- the event is accepted
 pub record IsAccepted (p : Loaded) (w : World) (e : Event) : Type 0 where
@@ -73,17 +74,17 @@ abbrev pub Answered : Loaded → World → Event → World → Answer → Type 0
 Answered p w e v answer.Done = IsAccepted p w e
 Answered p w e v (answer.Refused n) = IsRefusedAs p w e n v
 
-abbrev pub TookCases : Loaded → ℕ → World → Event → World → Result Answer Fault → Type 0
-TookCases p depth w e v (Ok a) = RunsWhole p depth (at w []) w.left (e ∷ []) (at v []) v.left × Answered p w e v a
-TookCases p depth w e v (Err f) = Halted p depth w e v f
+abbrev pub TookCases : Loaded → NativeAnswers → ℕ → World → Event → World → Result Answer Fault → Type 0
+TookCases p natives depth w e v (Ok a) = RunsWhole p natives depth (at w []) w.left (e ∷ []) (at v []) v.left × Answered p w e v a
+TookCases p natives depth w e v (Err f) = Halted p natives depth w e v f
 
 -- the event was taken and the run went on to its end, or stopped
-pub record Took (p : Loaded) (depth : ℕ) (w : World) (e : Event) (v : World) (result : Result Answer Fault) : Type 0 where
-  pub cases : TookCases p depth w e v result
+pub record Took (p : Loaded) (natives : NativeAnswers) (depth : ℕ) (w : World) (e : Event) (v : World) (result : Result Answer Fault) : Type 0 where
+  pub cases : TookCases p natives depth w e v result
 
 -- .. in the setting of a run
-abbrev pub Answers : Setting → Event → World → World → Result Answer Fault → Type 0
-Answers setting e w v result = Took setting.meta setting.depth w e v result
+abbrev pub Answers : {N : Type 0} → (N → NativeAnswers) → Setting N → Event → World → World → Result Answer Fault → Type 0
+Answers gives setting e w v result = Took setting.meta (gives setting.natives) setting.depth w e v result
 
 -- what becomes of an event that isn't accepted
 abbrev pub IsRefused : World → NotAccepted → World → Result Answer Fault → Type 0

@@ -2,6 +2,8 @@
 
 ghost use Rattle.qt_runtime.specs.Laws.{AlwaysSettled, OneFront, OneJudgement, OneRun, OneTaking};
 
+use native_slots::Answering;
+
 /// An event is accepted with one effect or refused for one reason, and not both; but a bind that closes a chain of bindings
 /// may have several effects.
 pub fn one_judgement()
@@ -13,19 +15,20 @@ pub fn one_taking()
     ensures { OneTaking }
 {}
 
-/// For one list of events, depth and number of rules there is one run: two that go on until nothing is going on end in
+/// Where each of these natives has one answer to one question, for one list of events, depth and number of rules there is
+/// one run: two that go on until nothing is going on end in
 /// the same state, with the same trace and the same rules left.
-pub fn one_run()
-    ensures { OneRun }
+pub fn one_run<N: Answering>(_natives: &N)
+    ensures { OneRun (N.gives _natives.now) }
 {}
 
-/// Of two runs of fronts of one list of events, from one state and with as many rules left, one goes on where the other
+/// Where they have, of two runs of fronts of one list of events, from one state and with as many rules left, one goes on where the other
 /// ends, and its trace begins with the other's: a run that a fault stops has taken the way of every other one.
-pub fn one_front()
-    ensures { OneFront }
+pub fn one_front<N: Answering>(_natives: &N)
+    ensures { OneFront (N.gives _natives.now) }
 {}
 
 /// In every state of a run all values are settled: each bound property has the value of its binding's expression.
-pub fn always_settled()
-    ensures { AlwaysSettled }
+pub fn always_settled<N: Answering>(_natives: &N)
+    ensures { AlwaysSettled (N.gives _natives.now) }
 {}

@@ -9,6 +9,7 @@ mod taking;
 
 pub use laws::{always_settled, one_front, one_judgement, one_run, one_taking};
 pub use machine::Machine;
-pub use machine_state::{Answer, Entry, Fault, Happening, Natives, Shown};
+pub use machine_state::{Answer, Entry, Fault, Happening, Shown, ShownAction};
 pub use meta_objects::{Meta, MetaFault};
+pub use native_slots::{Answering, Natives};
 pub use script_lang::{Event, ScriptFault, read_script};

@@ -1,37 +1,42 @@
 ghost use Rattle.std.specs.Prelude.{◌≡◌, ◌<◌, ◌≤◌, ◌^◌, ◌∷◌, [], IfOk, IfErr, false, None};
-ghost use Rattle.qt_runtime.specs.Seen.{OnDone, OnRefused, AcceptsEvent, RefusesEvent, IsSettled, Stops, RunsAll, begun};
+ghost use Rattle.native_slots.specs.Promises.{Promises};
+ghost use Rattle.qt_runtime.specs.Seen.{AreKept, OnDone, OnRefused, AcceptsEvent, RefusesEvent, IsSettled, Stops, RunsAll, begun};
 
 use crate::taking::take_event;
 use machine_rules::Setting;
-use machine_state::{Answer, Entry, Fault, Natives, World};
+use machine_state::{Answer, Entry, Fault, World};
 use meta_objects::Meta;
+use native_slots::Answering;
+use rank_check::Checked;
 use script_lang::Event;
 use std::alloc::{AllocError, Global};
 use std::marker::Model;
 
 /// A run of a program, event by event.
 #[derive(Drop)]
-pub struct Machine {
-    setting: Setting,
+pub struct Machine<N> {
+    setting: Setting<N>,
     world: World,
     stopped: bool,
 }
 
-impl Model for Machine {
+impl<N> Model for Machine<N> {
     ghost use Rattle.std.specs.Coded.{codes};
     ghost use Rattle.texts.specs.contracts.syntax.Expr as expr;
     ghost use Rattle.meta_model.specs.contracts.object.Statement as statement;
     ghost use Rattle.meta_model.specs.contracts.site.SourceProperty as source;
+    ghost use Rattle.native_slots.specs.Promises.{Promises};
     ghost use Rattle.qt_runtime.specs.Seen.{Seen};
     ghost use Rattle.qt_runtime.specs.Taking.{MachineInvariant};
 
-    ghost Value = { Seen };
+    ghost Value = { Seen N };
 
     ghost coded = { Prim.hlevel
         (codes, statement.the_row.coded, (expr.the_row source.the_row).coded) };
 
     ghost view = { λ m. record {
       program = m.setting.meta;
+      natives = m.setting.natives;
       depth = m.setting.depth;
       world = m.world;
       stopped = m.stopped;
@@ -40,19 +45,21 @@ impl Model for Machine {
     ghost invariant = { λ m. MachineInvariant m.setting.meta m.setting.depth m.world m.stopped };
 }
 
-impl Machine {
-    /// A machine for a program that need not be checked, before anything has happened. At most `depth` activations
+impl<N: Answering + Drop> Machine<N> {
+    /// A machine for a program that need not be checked, before anything has happened, with natives that keep what the
+    /// program declares of them ([`Natives::fits`] tells). At most `depth` activations
     /// nest, from 1 to 256, and at most `steps` rules are used, from 1 to 2^63 - 1.
     pub fn unchecked(
         alloc: Global,
         meta: Meta,
-        natives: Natives,
+        natives: N,
         depth: usize,
         steps: u64,
-    ) -> Result<Machine, AllocError>
+    ) -> Result<Machine<N>, AllocError>
         requires depth { (1 ≤ depth) × (depth ≤ 256) }
         requires steps { (1 ≤ steps) × (steps < 2 ^ 63) }
-        ensures { IfOk result (λ machine. machine ≡ begun meta depth steps) }
+        requires promises { Promises meta (N.takes natives) (N.gives natives) }
+        ensures { IfOk result (λ machine. machine ≡ begun meta natives depth steps) }
     {
         // The contract of `classes` says that the numbers in bodies are those of members.
         let _ = meta.classes();
@@ -64,6 +71,23 @@ impl Machine {
         })
     }
 
+    /// A machine for a program whose certificate is valid: it nests as many activations as the certificate's bound says.
+    /// The rest is as in [`Machine::unchecked`].
+    pub fn checked(
+        alloc: Global,
+        program: Checked,
+        natives: N,
+        steps: u64,
+    ) -> Result<Machine<N>, AllocError>
+        requires steps { (1 ≤ steps) × (steps < 2 ^ 63) }
+        requires promises { Promises program.program (N.takes natives) (N.gives natives) }
+        ensures { IfOk result (λ machine. machine
+            ≡ begun program.program natives program.certificate.bound steps) }
+    {
+        let depth = program.bound();
+        Machine::unchecked(alloc, program.into_meta(), natives, depth, steps)
+    }
+
     /// Applies an event: takes it, and runs until nothing is going on. `Refused` tells the first of the event's
     /// conditions that doesn't hold; then only its line is written. A fault stops the machine: `BadType` where the next
     /// statement lacks a value that it needs, or the next rule would give a value of a wrong type; `InUse` where by it
@@ -72,11 +96,13 @@ impl Machine {
     /// is due and none is left; `Memory` where a growth of memory was refused. The trace then ends with the last whole
     /// rule. On a machine that has stopped the answer is `Stopped`, and nothing changes.
     pub fn apply(&mut self, event: &Event) -> Result<Answer, Fault>
-        ensures done { OnDone result (AcceptsEvent self.old event.now self.new) }
+        requires { AreKept N.takes N.gives self.old }
+        ensures done { OnDone result (AcceptsEvent N.gives self.old event.now self.new) }
         ensures refused { OnRefused result
-            (λ number. RefusesEvent self.old event.now number self.new) }
-        ensures stopped { IfErr result (λ fault. Stops self.old (event.now ∷ []) fault self.new) }
+            (λ number. RefusesEvent N.gives self.old event.now number self.new) }
+        ensures stopped { IfErr result (λ fault. Stops N.gives self.old (event.now ∷ []) fault self.new) }
         ensures settled { IfOk result (λ _. IsSettled self.new) }
+        ensures kept { AreKept N.takes N.gives self.new }
     {
         if self.stopped {
             return Err(Fault::Stopped);
@@ -90,7 +116,9 @@ impl Machine {
 
     /// Applies events in their order until a fault comes, as `apply` does each.
     pub fn run(&mut self, events: &[Event]) -> Result<(), Fault>
-        ensures { RunsAll self.old events.now result self.new }
+        requires { AreKept N.takes N.gives self.old }
+        ensures ran { RunsAll N.gives self.old events.now result self.new }
+        ensures kept { AreKept N.takes N.gives self.new }
     {
         if self.is_stopped() {
             return Err(Fault::Stopped);

@@ -1,6 +1,7 @@
 //! The taking of events.
 
 ghost use Rattle.std.specs.Prelude.{◌<◌, ◌≡◌, None};
+ghost use Rattle.native_slots.specs.Promises.{Promises};
 ghost use Rattle.qt_runtime.specs.Taking.{WorldInvariant, Answers};
 
 use crate::events::add_loop::add_loop;
@@ -17,14 +18,20 @@ use crate::events::later::later;
 use crate::events::turn::turn;
 use machine_rules::Setting;
 use machine_state::{Answer, Fault, World};
+use native_slots::Answering;
 use script_lang::Event;
 
 /// Takes an event, and runs until nothing is going on.
-pub fn take_event(setting: &Setting, world: &mut World, event: &Event) -> Result<Answer, Fault>
+pub fn take_event<N: Answering>(
+    setting: &Setting<N>,
+    world: &mut World,
+    event: &Event,
+) -> Result<Answer, Fault>
     requires depth { 0 < setting.now.depth }
+    requires promises { Promises setting.now.meta (N.takes setting.now.natives) (N.gives setting.now.natives) }
     requires idle { world.old.turn ≡ None }
     requires keeps { WorldInvariant setting.now.meta world.old }
-    ensures { Answers setting.now event.now world.old world.new result }
+    ensures { Answers N.gives setting.now event.now world.old world.new result }
 {
     if world.left == 0 {
         return Err(Fault::Steps);

@@ -6,15 +6,17 @@ use Rattle.signatures.specs.declared.normal.ConstPlace.TheVariants.{Nowhere, Bef
 use Rattle.signatures.specs.declared.normal.TypeEnding.{TypeEnding}
 use Rattle.signatures.specs.declared.normal.TypeEnding.TheVariants.{Bare, Reference, Pointer}
 use Rattle.texts.specs.declared.syntax.Literal.TheVariants as literal
-use Rattle.texts.specs.Lists.{IsPart, spell_others, spell_listed}
+use Rattle.texts.specs.Lists.{IsPart, EndsAtComma, EndsParts, EndsAfter, spell_further, spell_parts, trees_of_parts, spell_after, spell_others, spell_listed}
 use Rattle.texts.specs.Literals.{UnsignedReading, plain, truth, quoted, null, token_of_unsigned, tree_of_unsigned, unsigned, negative, spell_literal, tree_of_literal}
 use Rattle.texts.specs.Numerals.{value_of}
 use Rattle.texts.specs.Optional.{spell_optional_name, EndsWithoutName}
 use Rattle.texts.specs.Reading.{EndsAnywhere}
 use Rattle.texts.specs.Signatures.{spelled_type, spell_ending, Named, spell_place, EndsNamed, spell_type, tree_of_type, EndsType, sig, spell_sig, tree_of_sig, spell_kind}
-use Rattle.texts.specs.declared.symbol.Symbol.TheVariants.{Minus}
+use Rattle.texts.specs.declared.symbol.Symbol.TheVariants.{Close, Minus}
+use Rattle.signatures.specs.declared.word.Word.{Word}
 use Rattle.texts.specs.declared.token.Token.{Token}
-use Rattle.texts.proofs.Listed.{ends_others}
+use Rattle.texts.specs.declared.token.Token.TheVariants as token
+use Rattle.texts.proofs.Listed.{ends_further, ends_at_close}
 use Rattle.texts.proofs.Literals.{no_symbol}
 use Rattle.texts.proofs.Signatures.{types_are_parts, ends_at_ending}
 
@@ -22,26 +24,38 @@ use Rattle.texts.proofs.Signatures.{types_are_parts, ends_at_ending}
 abbrev pub HasOneTree : {R A : Type 0} → (R → List Token → List Token) → (R → A) → (List Token → Type 0) → Type 0
 HasOneTree {R} spell tree Ends = (a b : R) (r s : List Token) → Ends r → Ends s → spell a r ≡ spell b s → (tree a ≡ tree b) × (r ≡ s)
 
--- ---- lists in parentheses
+-- ---- lists
 
-module _ {R A : Type 0} (spell : R → List Token → List Token) (tree : R → A) (Ends : List Token → Type 0) (part : IsPart spell Ends) (one : HasOneTree spell tree Ends) where
-  one_tree_of_others : (as_ bs : List R) (r s : List Token) → spell_others spell as_ r ≡ spell_others spell bs s → (map tree as_ ≡ map tree bs) × (r ≡ s)
-  one_tree_of_others [] [] r s e = (refl, cc)
-  one_tree_of_others [] (b ∷ bs) r s e = cc
-  one_tree_of_others (a ∷ as_) [] r s e = cc
-  one_tree_of_others (a ∷ as_) (b ∷ bs) r s e =
-      let h : (tree a ≡ tree b) × (spell_others spell as_ r ≡ spell_others spell bs s) = one a b (spell_others spell as_ r) (spell_others spell bs s) (ends_others spell tree Ends part as_ r) (ends_others spell tree Ends part bs s) cc in
-      let k = one_tree_of_others as_ bs r s h.1 in
+module _ {R A : Type 0} (spell : R → List Token → List Token) (tree : R → A) (Ends : List Token → Type 0) (at_comma : EndsAtComma Ends) (one : HasOneTree spell tree Ends) where
+  one_tree_of_further : HasOneTree (spell_further spell) (map tree) (EndsParts Ends)
+  one_tree_of_further [] [] r s er es e = (refl, e)
+  one_tree_of_further [] (b ∷ bs) r s er es e = absurd (er.no_comma (spell b (spell_further spell bs s)) e)
+  one_tree_of_further (a ∷ as_) [] r s er es e = absurd (es.no_comma (spell a (spell_further spell as_ r)) (sym e))
+  one_tree_of_further (a ∷ as_) (b ∷ bs) r s er es e =
+      let h : (tree a ≡ tree b) × (spell_further spell as_ r ≡ spell_further spell bs s) = one a b (spell_further spell as_ r) (spell_further spell bs s) (ends_further spell tree Ends at_comma as_ r er) (ends_further spell tree Ends at_comma bs s es) cc in
+      let k = one_tree_of_further as_ bs r s er es h.1 in
       (cc, k.1)
 
+  one_tree_of_parts : HasOneTree (spell_parts spell) (trees_of_parts tree) (EndsParts Ends)
+  one_tree_of_parts (a, as_) (b, bs) r s er es e =
+      let h : (tree a ≡ tree b) × (spell_further spell as_ r ≡ spell_further spell bs s) = one a b (spell_further spell as_ r) (spell_further spell bs s) (ends_further spell tree Ends at_comma as_ r er) (ends_further spell tree Ends at_comma bs s es) e in
+      let k = one_tree_of_further as_ bs r s er es h.1 in
+      (cc, k.1)
+
+  pub one_tree_of_list_after : (word : Word) → HasOneTree (spell_after word spell) (map tree) (EndsAfter word Ends)
+  one_tree_of_list_after word [] [] r s er es e = (refl, e)
+  one_tree_of_list_after word [] (b ∷ bs) r s er es e = absurd (er.no_word (spell_parts spell (b, bs) s) e)
+  one_tree_of_list_after word (a ∷ as_) [] r s er es e = absurd (es.no_word (spell_parts spell (a, as_) r) (sym e))
+  one_tree_of_list_after word (a ∷ as_) (b ∷ bs) r s er es e = one_tree_of_parts (a, as_) (b, bs) r s er.parts es.parts cc
+
+module _ {R A : Type 0} (spell : R → List Token → List Token) (tree : R → A) (Ends : List Token → Type 0) (part : IsPart spell Ends) (one : HasOneTree spell tree Ends) where
   pub one_tree_of_listed : HasOneTree (spell_listed spell) (map tree) EndsAnywhere
   one_tree_of_listed [] [] r s er es e = (refl, cc)
   one_tree_of_listed [] (b ∷ bs) r s er es e = absurd (part.unclosed b (spell_others spell bs s) r cc)
   one_tree_of_listed (a ∷ as_) [] r s er es e = absurd (part.unclosed a (spell_others spell as_ r) s cc)
   one_tree_of_listed (a ∷ as_) (b ∷ bs) r s er es e =
-      let h : (tree a ≡ tree b) × (spell_others spell as_ r ≡ spell_others spell bs s) = one a b (spell_others spell as_ r) (spell_others spell bs s) (ends_others spell tree Ends part as_ r) (ends_others spell tree Ends part bs s) cc in
-      let k = one_tree_of_others as_ bs r s h.1 in
-      (cc, k.1)
+      let h : (trees_of_parts tree (a, as_) ≡ trees_of_parts tree (b, bs)) × (token.Symbol Close ∷ r ≡ token.Symbol Close ∷ s) = one_tree_of_parts spell tree Ends part.at_comma one (a, as_) (b, bs) (token.Symbol Close ∷ r) (token.Symbol Close ∷ s) (ends_at_close spell tree Ends part r) (ends_at_close spell tree Ends part s) cc in
+      (h.0, cc)
 
 -- ---- a name that may be missing
 

@@ -1,5 +1,7 @@
 -- Lists of parts in a grammar. `spell` gives the tokens of a part's reading, and what follows them.
 use Rattle.std.specs.Prelude.{◌≡◌, List, [], ◌∷◌, map, Result}
+use Rattle.signatures.specs.declared.word.Word.{Word}
+use Rattle.texts.specs.Cursor.{NotAt, NotAtWord}
 use Rattle.texts.specs.Reading.{Reads, EndsAnywhere}
 use Rattle.texts.specs.declared.fault.ParseFault.{ParseFault}
 use Rattle.texts.specs.declared.symbol.Symbol.TheVariants.{Open, Close, Comma}
@@ -11,10 +13,26 @@ abbrev pub spell_each : {R : Type 0} → (R → List Token → List Token) → L
 spell_each spell [] after = after
 spell_each spell (r ∷ rs) after = spell r (spell_each spell rs after)
 
+-- {"," part}
+abbrev pub spell_further : {R : Type 0} → (R → List Token → List Token) → List R → List Token → List Token
+spell_further spell [] after = after
+spell_further spell (r ∷ rs) after = token.Symbol Comma ∷ spell r (spell_further spell rs after)
+
+-- part {"," part}: the first one and the others
+abbrev pub spell_parts : {R : Type 0} → (R → List Token → List Token) → R × List R → List Token → List Token
+spell_parts spell parts after = spell parts.0 (spell_further spell parts.1 after)
+
+abbrev pub trees_of_parts : {R A : Type 0} → (R → A) → R × List R → List A
+trees_of_parts tree parts = tree parts.0 ∷ map tree parts.1
+
+-- [word part {"," part}]
+abbrev pub spell_after : {R : Type 0} → Word → (R → List Token → List Token) → List R → List Token → List Token
+spell_after word spell [] after = after
+spell_after word spell (r ∷ rs) after = token.Word word ∷ spell_parts spell (r, rs) after
+
 -- {"," part} ")"
 abbrev pub spell_others : {R : Type 0} → (R → List Token → List Token) → List R → List Token → List Token
-spell_others spell [] after = token.Symbol Close ∷ after
-spell_others spell (r ∷ rs) after = token.Symbol Comma ∷ spell r (spell_others spell rs after)
+spell_others spell rs after = spell_further spell rs (token.Symbol Close ∷ after)
 
 -- "(" [part {"," part}] ")"
 abbrev pub spell_listed : {R : Type 0} → (R → List Token → List Token) → List R → List Token → List Token
@@ -25,8 +43,30 @@ spell_listed spell (r ∷ rs) after = token.Symbol Open ∷ spell r (spell_other
 abbrev pub ReadsList : {R A : Type 0} → (R → List Token → List Token) → (R → A) → List Token → Result (List A) ParseFault → List Token → Type 0
 ReadsList spell tree before result after = Reads (spell_listed spell) (map tree) EndsAnywhere before result after
 
+-- a part may end here, and no comma comes next
+pub record EndsParts (Ends : List Token → Type 0) (after : List Token) : Type 0 where
+  pub part : Ends after
+  pub no_comma : NotAt Comma after
+
+-- nor does the word
+pub record EndsAfter (word : Word) (Ends : List Token → Type 0) (after : List Token) : Type 0 where
+  pub parts : EndsParts Ends after
+  pub no_word : NotAtWord word after
+
+-- the trees of the parts, of which there is one at least
+abbrev pub ReadsParts : {R A : Type 0} → (R → List Token → List Token) → (R → A) → (List Token → Type 0) → List Token → Result (List A) ParseFault → List Token → Type 0
+ReadsParts spell tree Ends before result after = Reads (spell_parts spell) (trees_of_parts tree) (EndsParts Ends) before result after
+
+-- the trees of the parts behind the word, and none without it
+abbrev pub ReadsAfter : {R A : Type 0} → Word → (R → List Token → List Token) → (R → A) → (List Token → Type 0) → List Token → Result (List A) ParseFault → List Token → Type 0
+ReadsAfter word spell tree Ends before result after = Reads (spell_after word spell) (map tree) (EndsAfter word Ends) before result after
+
+-- a part may end at a comma
+abbrev pub EndsAtComma : (List Token → Type 0) → Type 0
+EndsAtComma Ends = (rest : List Token) → Ends (token.Symbol Comma ∷ rest)
+
 -- a part may end at a comma and at the closing parenthesis, and doesn't begin with that
 pub record IsPart {R : Type 0} (spell : R → List Token → List Token) (Ends : List Token → Type 0) : Type 0 where
-  pub at_comma : (rest : List Token) → Ends (token.Symbol Comma ∷ rest)
+  pub at_comma : EndsAtComma Ends
   pub at_close : (rest : List Token) → Ends (token.Symbol Close ∷ rest)
   pub unclosed : (r : R) (rest after : List Token) → spell r rest ≡ token.Symbol Close ∷ after → ⊥

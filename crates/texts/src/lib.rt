@@ -22,9 +22,12 @@ pub use depth::nesting;
 pub use fault::ParseFault;
 pub use lexer::{LexFault, one_cut, split_piece, tokens};
 pub use lines::split_line;
-pub use lists::{Part, list};
+pub use lists::{Part, list, list_after};
 pub use literal::unsigned_literal;
-pub use program::{Class, Formal, Owns, Parameter, Program, Property, Signal, Site, Slot, Wire};
+pub use program::{
+    Class, EffectNames, Formal, Owns, Parameter, Program, Property, Signal, Site, Slot, SlotWork,
+    Wire,
+};
 pub use signature::{
     TypePart, has_few_types, has_plain_reference, one_normal_form_of_signatures,
     one_normal_form_of_types,

@@ -8,12 +8,12 @@ use signatures::{Kind, Name, QType, Sig};
 use sqlite_items::Items;
 use std::alloc::Global;
 
-/// A parameter of a signal or a slot.
+/// A parameter of a signal, a slot or a native.
 #[derive(Drop)]
 pub struct Parameter {
     /// Its type, in its normal form.
     pub kind: QType,
-    /// Its name, which a signal's parameter may leave out.
+    /// Its name, which a signal's or a native's parameter may leave out.
     pub name: Option<Name>,
 }
 
@@ -39,15 +39,35 @@ pub struct Signal {
     pub parameters: Items<Parameter>,
 }
 
-/// `slot m(..) { .. }`
+/// `reads p, .. emits s(..), .. sets q, ..`: what a native is given of its object, and what its answers may do.
+#[derive(Drop)]
+pub struct EffectNames {
+    /// The properties whose values it is given, in their order; there may be none.
+    pub reads: Items<Name>,
+    /// The signals that it may emit, in their order, each with at most 8 types; there may be none.
+    pub emits: Items<Sig>,
+    /// The properties that it may set, in their order; there may be none.
+    pub sets: Items<Name>,
+}
+
+/// What a slot does.
+#[derive(Drop)]
+pub enum SlotWork {
+    /// The statements of its block.
+    Body(Body),
+    /// What a closure of the host answers, within these effects: the slot is a native.
+    Native(EffectNames),
+}
+
+/// `slot m(..) { .. }` or `native m(..) ..;`
 #[derive(Drop)]
 pub struct Slot {
     /// What it is called in its class.
     pub name: Name,
-    /// At most 8, in their order, each with its name.
+    /// At most 8, in their order, each with its name where the slot has a body.
     pub parameters: Items<Parameter>,
     /// What it does.
-    pub body: Body,
+    pub work: SlotWork,
 }
 
 /// `class C : B { .. }`, with the members of each sort in the order in which they are declared.
@@ -61,7 +81,7 @@ pub struct Class {
     pub properties: Items<Property>,
     /// At most 64, together with the slots.
     pub signals: Items<Signal>,
-    /// At most 64, together with the signals.
+    /// The slots and natives in one list; at most 64, together with the signals.
     pub slots: Items<Slot>,
 }
 
@@ -116,7 +136,7 @@ pub struct Site {
 /// The declarations of a text, those of each sort in their order.
 #[derive(Drop)]
 pub struct Program {
-    /// At most 64.
+    /// At most 64, with at most 64 natives in all of them together.
     pub classes: Items<Class>,
     /// At most 1,000.
     pub wires: Items<Wire>,

@@ -1,13 +1,23 @@
 -- From the bytes that were sent to the answer of a command.
 use Rattle.std.proofs.Common.{◌≡◌, ℕ, ◌≤◌, List, [], ◌∷◌, length, Option, Result, Ok, Err, sym, subst, arith}
-use Rattle.trace_tool.specs.Commands.{Answers, CommandWrites, InputWrites, MetaWrites, RunWrites, other_texts, does, read, unread, memory}
+use Rattle.certificate_lang.specs.declared.certificate.Certificate.{Certificate}
+use Rattle.meta_model.specs.Loaded.{Loaded}
+use Rattle.native_slots.specs.declared.fault.NativeFault.{NativeFault}
+use Rattle.native_slots.specs.declared.head.NativeHead.{NativeHead}
+use Rattle.native_slots.specs.FaultNumbers.{number_of}
+use Rattle.native_slots.specs.Fitting.{Fit}
+use Rattle.script_lang.specs.declared.event.Event.{Event}
+use Rattle.machine_rules.specs.Natives.{NativeAnswers}
+use Rattle.trace_tool.specs.Commands.{Answers, AreNotRunnable, AreRead, AreChecked, MayNotRun, CommandWrites, InputWrites, MetaWrites, CheckWrites, CheckedRunWrites, RunWrites, of_closures, not_fit, other_texts, does, read, unread, memory}
 use Rattle.trace_tool.specs.Cut.{AreTexts}
 use Rattle.trace_tool.specs.Refusals.{memory_line, usage_line}
 use Rattle.trace_tool.specs.Words.{IsCommand}
+use Rattle.trace_tool.specs.declared.refusal.Refusal.{Refusal}
+use Rattle.trace_tool.specs.declared.refusal.Refusal.TheVariants.{Numbered}
 use Rattle.trace_tool.specs.declared.input.InputFault.{InputFault}
 use Rattle.trace_tool.specs.declared.input.InputFault.TheVariants.{Unread, Memory}
 use Rattle.trace_tool.specs.declared.words.Command.{Command}
-use Rattle.trace_tool.specs.declared.words.Command.TheVariants.{Meta, Run}
+use Rattle.trace_tool.specs.declared.words.Command.TheVariants.{Meta, Check, Run, RunUnchecked}
 use Rattle.trace_tool.specs.declared.words.Options.{Options}
 use Rattle.trace_tool.specs.Sent.{SendsWith}
 
@@ -19,33 +29,57 @@ answered {Writes} {before} {after} {bytes} {expected} {status} meaning s = recor
   meaning = subst (Writes bytes) (sym s.is) meaning;
 }
 
-pub read_done : {words : List (List ℕ)} {found : Result (List ℕ) InputFault} {command : Command} {input : List ℕ} {before after : Option (List ℕ)} {status : ℕ} →
-    IsCommand words command → found ≡ Ok input → Answers (InputWrites command input) before after status → Answers (CommandWrites words found) before after status
-read_done {words} {found} {command} {input} {before} {after} {status} said is a = record {
+-- the texts are read, and the closures don't fit
+pub unfit : {heads : List NativeHead} {program script : List ℕ} {loaded : Loaded} {events : List Event} {refusal : Refusal} (fault : NativeFault) →
+    AreRead program script loaded events → Fit heads loaded (Err fault) → refusal ≡ Numbered (number_of fault) → AreNotRunnable heads program script refusal
+unfit {heads} {program} {script} {loaded} {events} {refusal} fault are fit is =
+    subst (AreNotRunnable heads program script) (sym is) (of_closures loaded events fault are fit)
+
+-- .. of a run with a certificate
+pub unfit_checked : {heads : List NativeHead} {program certificate script : List ℕ} {loaded asked : Loaded} {certified : Certificate} {events : List Event} {refusal : Refusal} (fault : NativeFault) →
+    AreChecked program certificate script loaded certified events → asked ≡ loaded → Fit heads asked (Err fault) → refusal ≡ Numbered (number_of fault) →
+    MayNotRun heads program certificate script refusal
+unfit_checked {heads} {program} {certificate} {script} {loaded} {asked} {certified} {events} {refusal} fault are same fit is =
+    subst (MayNotRun heads program certificate script) (sym is) (not_fit loaded certified events fault are (subst (λ p. Fit heads p (Err fault)) same fit))
+
+pub read_done : {N : Type 0} {gives : N → NativeAnswers} {heads : List NativeHead} {natives : N} {words : List (List ℕ)} {found : Result (List ℕ) InputFault} {command : Command} {input : List ℕ} {before after : Option (List ℕ)} {status : ℕ} →
+    IsCommand words command → found ≡ Ok input → Answers (InputWrites gives heads natives command input) before after status → Answers (CommandWrites gives heads natives words found) before after status
+read_done {N} {gives} {heads} {natives} {words} {found} {command} {input} {before} {after} {status} said is a = record {
   bytes = a.bytes;
   appended = a.appended;
-  meaning = subst (λ r. CommandWrites words r a.bytes status) (sym is) (read command input a.bytes status said a.meaning);
+  meaning = subst (λ r. CommandWrites gives heads natives words r a.bytes status) (sym is) (read command input a.bytes status said a.meaning);
 }
 
-pub unread_done : {words : List (List ℕ)} {found : Result (List ℕ) InputFault} (command : Command) →
-    IsCommand words command → found ≡ Err Unread → CommandWrites words found [] 1
-unread_done {words} {found} command said is = subst (λ r. CommandWrites words r [] 1) (sym is) (unread command said)
+pub unread_done : {N : Type 0} {gives : N → NativeAnswers} {heads : List NativeHead} {natives : N} {words : List (List ℕ)} {found : Result (List ℕ) InputFault} (command : Command) →
+    IsCommand words command → found ≡ Err Unread → CommandWrites gives heads natives words found [] 1
+unread_done {N} {gives} {heads} {natives} {words} {found} command said is = subst (λ r. CommandWrites gives heads natives words r [] 1) (sym is) (unread command said)
 
-pub memory_done : {words : List (List ℕ)} {found : Result (List ℕ) InputFault} (command : Command) →
-    IsCommand words command → found ≡ Err Memory → CommandWrites words found memory_line 1
-memory_done {words} {found} command said is = subst (λ r. CommandWrites words r memory_line 1) (sym is) (memory command said)
+pub memory_done : {N : Type 0} {gives : N → NativeAnswers} {heads : List NativeHead} {natives : N} {words : List (List ℕ)} {found : Result (List ℕ) InputFault} (command : Command) →
+    IsCommand words command → found ≡ Err Memory → CommandWrites gives heads natives words found memory_line 1
+memory_done {N} {gives} {heads} {natives} {words} {found} command said is = subst (λ r. CommandWrites gives heads natives words r memory_line 1) (sym is) (memory command said)
 
 -- ---- by the command
 
-pub meta_done : {command : Command} {input program bytes : List ℕ} {status : ℕ} → command ≡ Meta → length input ≤ 67108864 → AreTexts input (program ∷ []) →
-    MetaWrites program bytes status → InputWrites command input bytes status
-meta_done {command} {input} {program} {bytes} {status} e few cut w =
-    subst (λ k. InputWrites k input bytes status) (sym e) (does (program ∷ []) bytes status few cut w)
+pub meta_done : {N : Type 0} {gives : N → NativeAnswers} {heads : List NativeHead} {natives : N} {command : Command} {input program bytes : List ℕ} {status : ℕ} → command ≡ Meta → length input ≤ 67108864 → AreTexts input (program ∷ []) →
+    MetaWrites program bytes status → InputWrites gives heads natives command input bytes status
+meta_done {N} {gives} {heads} {natives} {command} {input} {program} {bytes} {status} e few cut w =
+    subst (λ k. InputWrites gives heads natives k input bytes status) (sym e) (does (program ∷ []) bytes status few cut w)
 
-pub run_done : {command : Command} {input program script bytes : List ℕ} {status : ℕ} (options : Options) → command ≡ Run options → length input ≤ 67108864 →
-    AreTexts input (program ∷ script ∷ []) → RunWrites program script options.depth options.steps bytes status → InputWrites command input bytes status
-run_done {command} {input} {program} {script} {bytes} {status} options e few cut w =
-    subst (λ k. InputWrites k input bytes status) (sym e) (does (program ∷ script ∷ []) bytes status few cut w)
+pub check_done : {N : Type 0} {gives : N → NativeAnswers} {heads : List NativeHead} {natives : N} {command : Command} {input program certificate bytes : List ℕ} {status : ℕ} → command ≡ Check → length input ≤ 67108864 →
+    AreTexts input (program ∷ certificate ∷ []) → CheckWrites program certificate bytes status → InputWrites gives heads natives command input bytes status
+check_done {N} {gives} {heads} {natives} {command} {input} {program} {certificate} {bytes} {status} e few cut w =
+    subst (λ k. InputWrites gives heads natives k input bytes status) (sym e) (does (program ∷ certificate ∷ []) bytes status few cut w)
+
+pub run_done : {N : Type 0} {gives : N → NativeAnswers} {heads : List NativeHead} {natives : N} {command : Command} {input program certificate script bytes : List ℕ} {status : ℕ} (steps : ℕ) → command ≡ Run steps → length input ≤ 67108864 →
+    AreTexts input (program ∷ certificate ∷ script ∷ []) → CheckedRunWrites gives heads natives program certificate script steps bytes status →
+    InputWrites gives heads natives command input bytes status
+run_done {N} {gives} {heads} {natives} {command} {input} {program} {certificate} {script} {bytes} {status} steps e few cut w =
+    subst (λ k. InputWrites gives heads natives k input bytes status) (sym e) (does (program ∷ certificate ∷ script ∷ []) bytes status few cut w)
+
+pub unchecked_done : {N : Type 0} {gives : N → NativeAnswers} {heads : List NativeHead} {natives : N} {command : Command} {input program script bytes : List ℕ} {status : ℕ} (options : Options) → command ≡ RunUnchecked options → length input ≤ 67108864 →
+    AreTexts input (program ∷ script ∷ []) → RunWrites gives heads natives program script options.depth options.steps bytes status → InputWrites gives heads natives command input bytes status
+unchecked_done {N} {gives} {heads} {natives} {command} {input} {program} {script} {bytes} {status} options e few cut w =
+    subst (λ k. InputWrites gives heads natives k input bytes status) (sym e) (does (program ∷ script ∷ []) bytes status few cut w)
 
 one_only : (input : List ℕ) → ((text : List ℕ) → AreTexts input (text ∷ []) → ⊥) → (texts : List (List ℕ)) → AreTexts input texts → length texts ≡ 1 → ⊥
 one_only input h [] are e = are
@@ -58,10 +92,25 @@ two_only input h (text ∷ []) are e = omega (arith, e)
 two_only input h (first ∷ second ∷ []) are e = h first second are
 two_only input h (first ∷ second ∷ next ∷ texts) are e = omega (arith, e)
 
-pub meta_undone : {command : Command} {input : List ℕ} → command ≡ Meta → length input ≤ 67108864 → ((text : List ℕ) → AreTexts input (text ∷ []) → ⊥) →
-    InputWrites command input usage_line 1
-meta_undone {command} {input} e few h = subst (λ k. InputWrites k input usage_line 1) (sym e) (other_texts few (one_only input h))
+three_only : (input : List ℕ) → ((first second third : List ℕ) → AreTexts input (first ∷ second ∷ third ∷ []) → ⊥) → (texts : List (List ℕ)) → AreTexts input texts → length texts ≡ 3 → ⊥
+three_only input h [] are e = are
+three_only input h (text ∷ []) are e = omega (arith, e)
+three_only input h (first ∷ second ∷ []) are e = omega (arith, e)
+three_only input h (first ∷ second ∷ third ∷ []) are e = h first second third are
+three_only input h (first ∷ second ∷ third ∷ next ∷ texts) are e = omega (arith, e)
 
-pub run_undone : {command : Command} {input : List ℕ} (options : Options) → command ≡ Run options → length input ≤ 67108864 →
-    ((first second : List ℕ) → AreTexts input (first ∷ second ∷ []) → ⊥) → InputWrites command input usage_line 1
-run_undone {command} {input} options e few h = subst (λ k. InputWrites k input usage_line 1) (sym e) (other_texts few (two_only input h))
+pub meta_undone : {N : Type 0} {gives : N → NativeAnswers} {heads : List NativeHead} {natives : N} {command : Command} {input : List ℕ} → command ≡ Meta → length input ≤ 67108864 → ((text : List ℕ) → AreTexts input (text ∷ []) → ⊥) →
+    InputWrites gives heads natives command input usage_line 1
+meta_undone {N} {gives} {heads} {natives} {command} {input} e few h = subst (λ k. InputWrites gives heads natives k input usage_line 1) (sym e) (other_texts few (one_only input h))
+
+pub check_undone : {N : Type 0} {gives : N → NativeAnswers} {heads : List NativeHead} {natives : N} {command : Command} {input : List ℕ} → command ≡ Check → length input ≤ 67108864 →
+    ((first second : List ℕ) → AreTexts input (first ∷ second ∷ []) → ⊥) → InputWrites gives heads natives command input usage_line 1
+check_undone {N} {gives} {heads} {natives} {command} {input} e few h = subst (λ k. InputWrites gives heads natives k input usage_line 1) (sym e) (other_texts few (two_only input h))
+
+pub run_undone : {N : Type 0} {gives : N → NativeAnswers} {heads : List NativeHead} {natives : N} {command : Command} {input : List ℕ} (steps : ℕ) → command ≡ Run steps → length input ≤ 67108864 →
+    ((first second third : List ℕ) → AreTexts input (first ∷ second ∷ third ∷ []) → ⊥) → InputWrites gives heads natives command input usage_line 1
+run_undone {N} {gives} {heads} {natives} {command} {input} steps e few h = subst (λ k. InputWrites gives heads natives k input usage_line 1) (sym e) (other_texts few (three_only input h))
+
+pub unchecked_undone : {N : Type 0} {gives : N → NativeAnswers} {heads : List NativeHead} {natives : N} {command : Command} {input : List ℕ} (options : Options) → command ≡ RunUnchecked options → length input ≤ 67108864 →
+    ((first second : List ℕ) → AreTexts input (first ∷ second ∷ []) → ⊥) → InputWrites gives heads natives command input usage_line 1
+unchecked_undone {N} {gives} {heads} {natives} {command} {input} options e few h = subst (λ k. InputWrites gives heads natives k input usage_line 1) (sym e) (other_texts few (two_only input h))

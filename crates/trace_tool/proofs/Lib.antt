@@ -3,3 +3,4 @@ pub mod Inputs
 pub mod Marks
 pub mod Sending
 pub mod Described
+pub mod Saying

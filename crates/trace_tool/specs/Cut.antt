@@ -53,3 +53,7 @@ IsNoText input = (text : List ℕ) → AreTexts input (text ∷ []) → ⊥
 -- the input isn't two texts
 abbrev pub AreNotTwo : List ℕ → Type 0
 AreNotTwo input = (first second : List ℕ) → AreTexts input (first ∷ second ∷ []) → ⊥
+
+-- the input isn't three texts
+abbrev pub AreNotThree : List ℕ → Type 0
+AreNotThree input = (first second third : List ℕ) → AreTexts input (first ∷ second ∷ third ∷ []) → ⊥

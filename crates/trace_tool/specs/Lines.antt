@@ -10,10 +10,12 @@ use Rattle.texts.specs.declared.connection.ConnectionType.{ConnectionType}
 use Rattle.texts.specs.declared.connection.Endpoints.{Endpoints}
 use Rattle.machine_state.specs.declared.entry.Shown.{Shown}
 use Rattle.machine_state.specs.declared.entry.Shown.TheVariants as show
+use Rattle.machine_state.specs.declared.entry.ShownAction.{ShownAction}
+use Rattle.machine_state.specs.declared.entry.ShownAction.TheVariants as action
 use Rattle.machine_state.specs.declared.entry.Entry.{Entry}
 use Rattle.machine_state.specs.declared.entry.Entry.TheVariants.{Accepted, Refused, At}
 use Rattle.machine_state.specs.declared.entry.Happening.{Happening}
-use Rattle.machine_state.specs.declared.entry.Happening.TheVariants.{Emitted, Called, Written, Bound, Followed, OnNull, Connected, Disconnected, Refused as RefusedStatement, Posted, Scheduled, Died}
+use Rattle.machine_state.specs.declared.entry.Happening.TheVariants.{Emitted, Called, Answered, Written, Bound, Followed, OnNull, Connected, Disconnected, Refused as RefusedStatement, Posted, Scheduled, Died}
 
 abbrev pub newline : List ℕ
 newline = codes "\n"
@@ -107,9 +109,24 @@ ends_text ends = end_text ends.sender ends.signal ++ (codes " " ++ end_text ends
 abbrev pub connected_text : Endpoints (List ℕ) → ConnectionType → List ℕ
 connected_text ends how = codes "connect " ++ (ends_text ends ++ (codes " " ++ type_text how))
 
+-- `s(args)`
+abbrev pub bare_call_text : List ℕ → List Shown → List ℕ
+bare_call_text method arguments = method ++ codes "(" ++ arguments_text arguments ++ codes ")"
+
+-- `set p v` or `emit s(args)`
+abbrev pub action_text : ShownAction → List ℕ
+action_text (action.Set property value) = codes "set " ++ property ++ codes " " ++ value_text value
+action_text (action.Emit signal arguments) = codes "emit " ++ bare_call_text signal arguments
+
+-- a blank and the actions, separated by `, `; nothing where there is none
+abbrev pub actions_text : List ShownAction → List ℕ
+actions_text [] = []
+actions_text (a ∷ more) = codes " " ++ action_text a ++ flat_map (λ b. codes ", " ++ action_text b) more
+
 abbrev pub happening_text : Happening → List ℕ
 happening_text (Emitted object signal arguments blocked) = emitted_text object signal arguments blocked
 happening_text (Called object slot arguments) = called_text object slot arguments
+happening_text (Answered actions) = codes "native" ++ actions_text actions
 happening_text (Posted event_loop object method arguments) = posted_text event_loop object method arguments
 happening_text (Scheduled event_loop object) = scheduled_text event_loop object
 happening_text (Died object) = died_text object

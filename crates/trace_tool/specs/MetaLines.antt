@@ -8,7 +8,7 @@ use Rattle.meta_model.specs.declared.object.MetaObject.{MetaObject}
 use Rattle.meta_model.specs.declared.object.MetaMethod.{MetaMethod}
 use Rattle.meta_model.specs.declared.object.MetaProperty.{MetaProperty}
 use Rattle.meta_model.specs.declared.object.Work.{Work}
-use Rattle.meta_model.specs.declared.object.Work.TheVariants.{Signal, Slot}
+use Rattle.meta_model.specs.declared.object.Work.TheVariants.{Signal, Slot, Native}
 use Rattle.trace_tool.specs.Lines.{newline}
 
 -- the class that a class stands under
@@ -37,8 +37,9 @@ class_line class base =
 abbrev pub work_text : Work → List ℕ
 work_text Signal = codes " signal "
 work_text (Slot statements) = codes " slot "
+work_text (Native effects) = codes " native "
 
--- `n signal s(types)` or `n slot s(types)`
+-- `n signal s(types)`, `n slot s(types)` or `n native s(types)`
 abbrev pub method_line : ℕ → MetaMethod → List ℕ
 method_line number method = decimal number ++ work_text method.work ++ text_of_sig method.sig ++ newline
 

@@ -1,8 +1,8 @@
 -- The words of a command line (docs/commands.md, "The command line").
-use Rattle.std.specs.Prelude.{◌≡◌, ◌≢◌, ℕ, ◌-◌, ◌^◌, ◌≤◌, ◌⊎◌, List, [], ◌∷◌, codes}
+use Rattle.std.specs.Prelude.{◌≡◌, ◌≢◌, ℕ, ◌-◌, ◌^◌, ◌<◌, ◌≤◌, ◌⊎◌, List, [], ◌∷◌, codes}
 use Rattle.std.specs.Str.Parse.{AllDigits, digits_value}
 use Rattle.trace_tool.specs.declared.words.Command.{Command}
-use Rattle.trace_tool.specs.declared.words.Command.TheVariants.{Meta, Run}
+use Rattle.trace_tool.specs.declared.words.Command.TheVariants.{Meta, Check, Run, RunUnchecked}
 
 -- decimal digits that write a number from 1 to the largest one; leading zeros are allowed, a sign isn't
 pub record IsNumber (largest : ℕ) (word : List ℕ) (n : ℕ) : Type 0 where
@@ -16,8 +16,14 @@ abbrev pub IsLimit : List (List ℕ) → ℕ → Type 0
 IsLimit words steps = ((words ≡ []) × (steps ≡ 1000000))
     ⊎ ((word : List ℕ) × (words ≡ codes "--steps" ∷ word ∷ []) × IsNumber (2 ^ 63 - 1) word steps)
 
+-- `run`, and then the limit
+pub record IsRun (words : List (List ℕ)) (steps : ℕ) : Type 0 where
+  pub options : List (List ℕ)
+  pub are : words ≡ codes "run" ∷ options
+  pub limited : IsLimit options steps
+
 -- `run --unchecked N`, and then the limit
-pub record IsRun (words : List (List ℕ)) (depth steps : ℕ) : Type 0 where
+pub record IsUncheckedRun (words : List (List ℕ)) (depth steps : ℕ) : Type 0 where
   pub word : List ℕ
   pub options : List (List ℕ)
   pub are : words ≡ codes "run" ∷ codes "--unchecked" ∷ word ∷ options
@@ -33,7 +39,20 @@ pub record IsFirstNumber (largest : ℕ) (words : List (List ℕ)) (n : ℕ) (re
 -- the words are this command's
 abbrev pub IsCommand : List (List ℕ) → Command → Type 0
 IsCommand words Meta = words ≡ codes "meta" ∷ []
-IsCommand words (Run options) = IsRun words options.depth options.steps
+IsCommand words Check = words ≡ codes "check" ∷ []
+IsCommand words (Run steps) = IsRun words steps
+IsCommand words (RunUnchecked options) = IsUncheckedRun words options.depth options.steps
+
+-- the numbers of steps from 1 to the largest
+abbrev pub AreSteps : ℕ → Type 0
+AreSteps steps = (1 ≤ steps) × (steps < 2 ^ 63)
+
+-- a command's numbers are within their limits
+abbrev pub IsWithinLimits : Command → Type 0
+IsWithinLimits Meta = Unit {0}
+IsWithinLimits Check = Unit {0}
+IsWithinLimits (Run steps) = AreSteps steps
+IsWithinLimits (RunUnchecked options) = (1 ≤ options.depth) × (options.depth ≤ 256) × AreSteps options.steps
 
 -- what the words don't say
 abbrev pub IsNoNumber : ℕ → List ℕ → Type 0
@@ -43,7 +62,10 @@ abbrev pub IsNoLimit : List (List ℕ) → Type 0
 IsNoLimit words = (steps : ℕ) → IsLimit words steps → ⊥
 
 abbrev pub IsNoRun : List (List ℕ) → Type 0
-IsNoRun words = (depth steps : ℕ) → IsRun words depth steps → ⊥
+IsNoRun words = (steps : ℕ) → IsRun words steps → ⊥
+
+abbrev pub IsNoUncheckedRun : List (List ℕ) → Type 0
+IsNoUncheckedRun words = (depth steps : ℕ) → IsUncheckedRun words depth steps → ⊥
 
 abbrev pub IsNoCommand : List (List ℕ) → Type 0
 IsNoCommand words = (command : Command) → IsCommand words command → ⊥

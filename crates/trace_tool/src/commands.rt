@@ -1,19 +1,19 @@
-ghost use Rattle.std.specs.Prelude.{◌≡◌, ◌≤◌, ◌<◌, ◌^◌, map, IfOk};
+ghost use Rattle.std.specs.Prelude.{◌≡◌, map, IfOk};
 ghost use Rattle.trace_tool.specs.Commands.{Answers, AnswersCommand, CommandWrites, InputWrites, read_of};
 ghost use Rattle.trace_tool.specs.Refusals.{usage_line};
 ghost use Rattle.trace_tool.specs.Sent.{SendsWith};
-ghost use Rattle.trace_tool.specs.Words.{IsCommand};
+ghost use Rattle.trace_tool.specs.Words.{IsCommand, IsWithinLimits};
 ghost use Rattle.trace_tool.specs.declared.words.Command.{Command as ACommand};
-ghost use Rattle.trace_tool.specs.declared.words.Command.TheVariants.{Run};
 
-use crate::cut::{one_text, two_texts};
+use crate::checks::check;
+use crate::cut::{one_text, three_texts, two_texts};
 use crate::description::meta;
 use crate::fault::WriteFault;
 use crate::input::{InputFault, LARGEST_INPUT, read_input};
 use crate::refusal::{Refusal, UNDONE};
-use crate::run::{refuse, run_unchecked};
+use crate::runs::{refuse, run, run_unchecked};
 use crate::words::Command;
-use qt_runtime::Natives;
+use native_slots::{Answering, Natives};
 use std::alloc::Global;
 use std::io::{Read, Write};
 
@@ -28,8 +28,9 @@ pub fn command<R: Read, W: Write>(
     w: &mut W,
 ) -> Result<u8, WriteFault>
     ensures answers { let said = map (λ word. word.now) words.now in
+        let heads = map (λ slot. slot.head) natives.slots.items in
         IfOk result (λ status.
-        AnswersCommand said (R.remaining reader.old)
+        AnswersCommand ⟦<Natives as Answering>⟧.gives heads natives said (R.remaining reader.old)
         (W.contents w.old) (W.contents w.new) status) }
     ensures unread { let said = map (λ word. word.now) words.now in
         ((c : ACommand) → IsCommand said c → ⊥) → reader.new ≡ reader.old }
@@ -47,6 +48,9 @@ pub fn command<R: Read, W: Write>(
 /// status.
 ///
 /// - `meta` takes one text, a program, and writes its classes.
+/// - `check` takes two texts, a program and its certificate, and writes `yes` or the checker's no.
+/// - `run [--steps M]` takes three texts, a program, its certificate and a script, checks the program, and runs it on the
+///   script.
 /// - `run --unchecked N [--steps M]` takes two texts, a program and a script, with a line `%%` between them, and runs
 ///   the one on the other; N is from 1 to 256, M from 1 to 2^63 - 1, or 1,000,000 where it isn't given.
 ///
@@ -62,7 +66,8 @@ pub fn respond<W: Write>(
     w: &mut W,
 ) -> Result<u8, WriteFault>
     ensures { let given = map (λ word. word.now) words.now in
-        let Writes = CommandWrites given (read_of input.entry) in
+        let heads = map (λ slot. slot.head) natives.slots.items in
+        let Writes = CommandWrites ⟦<Natives as Answering>⟧.gives heads natives given (read_of input.entry) in
         IfOk result (λ status. Answers Writes (W.contents w.old) (W.contents w.new) status) }
 {
     let Some(command) = Command::of(words) else {
@@ -83,9 +88,9 @@ fn perform<W: Write>(
     natives: Natives,
     w: &mut W,
 ) -> Result<u8, WriteFault>
-    requires depth { (o : _) → command ≡ Run o → (1 ≤ o.depth) × (o.depth ≤ 256) }
-    requires steps { (o : _) → command ≡ Run o → (1 ≤ o.steps) × (o.steps < 2 ^ 63) }
-    ensures { let Writes = InputWrites command input.now in
+    requires limits { IsWithinLimits command }
+    ensures { let heads = map (λ slot. slot.head) natives.slots.items in
+        let Writes = InputWrites ⟦<Natives as Answering>⟧.gives heads natives command input.now in
         IfOk result (λ status. Answers Writes (W.contents w.old) (W.contents w.new) status) }
 {
     if input.len() > LARGEST_INPUT {
@@ -96,7 +101,17 @@ fn perform<W: Write>(
             Some(program) => meta(alloc, program, w),
             None => refuse_usage(w),
         },
-        Command::Run(options) => match two_texts(input) {
+        Command::Check => match two_texts(input) {
+            Some((program, certificate)) => check(alloc, program, certificate, w),
+            None => refuse_usage(w),
+        },
+        Command::Run(steps) => match three_texts(input) {
+            Some((program, certificate, script)) => {
+                run(alloc, program, certificate, script, natives, steps, w)
+            }
+            None => refuse_usage(w),
+        },
+        Command::RunUnchecked(options) => match two_texts(input) {
             Some((program, script)) => run_unchecked(
                 alloc,
                 program,

@@ -3,7 +3,7 @@
 ghost use Rattle.std.specs.Prelude.{◌≡◌, ◌-◌, ◌<◌, ◌≤◌, ◌⊎◌, ◌↔◌, [], ◌∷◌};
 ghost use Rattle.std.specs.Prelude.{length, slice_index, IsTrue, IfSome, MatchOption};
 ghost use Rattle.trace_tool.specs.Cut.{IsMarkAt, HasNoMark, IsFirstMark, EndsLine, IsParted, IsWholeInput};
-ghost use Rattle.trace_tool.specs.Cut.{AreTexts, AreOnly, IsNoText, AreNotTwo};
+ghost use Rattle.trace_tool.specs.Cut.{AreTexts, AreOnly, IsNoText, AreNotTwo, AreNotThree};
 
 /// The one text of an input that has no line `%%`.
 pub fn one_text(input: &[u8]) -> Option<&[u8]>
@@ -32,6 +32,19 @@ pub fn two_texts(input: &[u8]) -> Option<(&[u8], &[u8])>
         return None;
     }
     Some((first, second))
+}
+
+/// The three texts of an input that has just two lines `%%`.
+pub fn three_texts(input: &[u8]) -> Option<(&[u8], &[u8], &[u8])>
+    ensures cut { MatchOption result (AreNotThree input.now)
+        (λ texts. AreTexts input.now (texts.0.now ∷ texts.1.now ∷ texts.2.now ∷ [])) }
+    ensures only { IfSome result (λ texts.
+        AreOnly input.now (texts.0.now ∷ texts.1.now ∷ texts.2.now ∷ [])) }
+{
+    let (first, after) = first_text(input);
+    let rest = after?;
+    let (second, third) = two_texts(rest)?;
+    Some((first, second, third))
 }
 
 /// The first text, and what comes after the line `%%` that ends it, if one does.

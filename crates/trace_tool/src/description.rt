@@ -7,7 +7,7 @@ ghost use Rattle.trace_tool.specs.Sent.{SendsWith};
 
 use crate::fault::WriteFault;
 use crate::output::Output;
-use crate::run::{load_program, refuse};
+use crate::runs::{load_program, refuse};
 use meta_objects::Meta;
 use std::alloc::Global;
 use std::io::Write;

@@ -1,6 +1,7 @@
 //! The program's commands: from words and bytes to the bytes that are written and an exit status.
 #![tactic(auto)]
 
+mod checks;
 mod commands;
 mod connection_line;
 mod cut;
@@ -11,12 +12,13 @@ mod line;
 mod meta_line;
 mod output;
 mod refusal;
-mod run;
+mod runs;
 mod words;
 
+pub use checks::check;
 pub use commands::{command, respond};
 pub use description::meta;
 pub use fault::WriteFault;
 pub use input::InputFault;
 pub use refusal::Refusal;
-pub use run::run_unchecked;
+pub use runs::{run, run_unchecked};

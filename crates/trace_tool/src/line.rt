@@ -1,7 +1,7 @@
 //! The text of the output's lines.
 
 ghost use Rattle.std.specs.Prelude.{◌++◌, codes, decimal, OnOk};
-ghost use Rattle.trace_tool.specs.Lines.{newline, value_text, arguments_text, member_text, call_text, blocked_text, emitted_text, called_text, property_text, happening_text, depth_line, refused_event_line, entry_line, trace_text, post_text, posted_text, scheduled_text, died_text};
+ghost use Rattle.trace_tool.specs.Lines.{newline, value_text, bare_call_text, action_text, actions_text, arguments_text, member_text, call_text, blocked_text, emitted_text, called_text, property_text, happening_text, depth_line, refused_event_line, entry_line, trace_text, post_text, posted_text, scheduled_text, died_text};
 ghost use Rattle.trace_tool.specs.Refusals.{refusal_line};
 ghost use Rattle.trace_tool.specs.Sent.{Adds};
 
@@ -9,7 +9,7 @@ use crate::fault::WriteFault;
 use crate::output::Output;
 use crate::refusal::Refusal;
 use itoa::{Buffer, Integer};
-use qt_runtime::{Entry, Happening, Shown};
+use qt_runtime::{Entry, Happening, Shown, ShownAction};
 use signatures::{Name, Text};
 use std::io::Write;
 
@@ -146,6 +146,82 @@ impl Output {
         Ok(())
     }
 
+    /// Adds what a native answers.
+    fn answered<W: Write>(&mut self, w: &mut W, actions: &[ShownAction]) -> Result<(), WriteFault>
+        ensures { OnOk result (Adds (W.contents w.old) self.old (W.contents w.new) self.new
+            (codes "native" ++ actions_text actions.now)) }
+    {
+        self.put(w, b"native")?;
+        self.actions(w, actions)?;
+        Ok(())
+    }
+
+    /// Adds a blank and the actions, separated by `, `.
+    fn actions<W: Write>(&mut self, w: &mut W, actions: &[ShownAction]) -> Result<(), WriteFault>
+        ensures { OnOk result (Adds (W.contents w.old) self.old (W.contents w.new) self.new
+            (actions_text actions.now)) }
+    {
+        let Some((first, rest)) = actions.split_first() else {
+            return Ok(());
+        };
+        self.put(w, b" ")?;
+        self.action(w, first)?;
+        for action in rest {
+            self.put(w, b", ")?;
+            self.action(w, action)?;
+        }
+        Ok(())
+    }
+
+    /// Adds an action of a native.
+    fn action<W: Write>(&mut self, w: &mut W, action: &ShownAction) -> Result<(), WriteFault>
+        ensures { OnOk result (Adds (W.contents w.old) self.old (W.contents w.new) self.new
+            (action_text action.now)) }
+    {
+        match action {
+            ShownAction::Set { property, value } => self.set_action(w, property, value)?,
+            ShownAction::Emit { signal, arguments } => {
+                self.emit_action(w, signal, arguments.as_slice())?
+            }
+        }
+        Ok(())
+    }
+
+    /// Adds that an action sets a property.
+    fn set_action<W: Write>(
+        &mut self,
+        w: &mut W,
+        property: &Name,
+        value: &Shown,
+    ) -> Result<(), WriteFault>
+        ensures { OnOk result (Adds (W.contents w.old) self.old (W.contents w.new) self.new
+            (codes "set " ++ property.now ++ codes " " ++ value_text value.now)) }
+    {
+        self.put(w, b"set ")?;
+        self.put(w, property.bytes())?;
+        self.put(w, b" ")?;
+        self.value(w, value)?;
+        Ok(())
+    }
+
+    /// Adds that an action emits a signal.
+    fn emit_action<W: Write>(
+        &mut self,
+        w: &mut W,
+        signal: &Name,
+        arguments: &[Shown],
+    ) -> Result<(), WriteFault>
+        ensures { OnOk result (Adds (W.contents w.old) self.old (W.contents w.new) self.new
+            (codes "emit " ++ bare_call_text signal.now arguments.now)) }
+    {
+        self.put(w, b"emit ")?;
+        self.put(w, signal.bytes())?;
+        self.put(w, b"(")?;
+        self.arguments(w, arguments)?;
+        self.put(w, b")")?;
+        Ok(())
+    }
+
     /// Adds a call that is posted to an event loop.
     fn posted<W: Write>(
         &mut self,
@@ -236,6 +312,7 @@ impl Output {
                 slot,
                 arguments,
             } => self.called(w, object, slot, arguments.as_slice())?,
+            Happening::Answered { actions } => self.answered(w, actions.as_slice())?,
             Happening::Posted {
                 event_loop,
                 object,
@@ -334,6 +411,7 @@ impl Output {
         match refusal {
             Refusal::Numbered(number) => self.numbered(w, b"refused ", *number)?,
             Refusal::BadLine(line) => self.numbered(w, b"refused 16 line ", *line)?,
+            Refusal::Denied(number) => self.numbered(w, b"no ", *number)?,
             Refusal::Memory => self.put(w, b"memory\n")?,
         }
         Ok(())

@@ -273,6 +273,7 @@ fn work_text(work: &Work) -> &'static [u8]
     match work {
         Work::Signal => b" signal ",
         Work::Slot(_) => b" slot ",
+        Work::Native(_) => b" native ",
     }
 }
 

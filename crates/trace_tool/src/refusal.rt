@@ -1,20 +1,27 @@
 ghost use Rattle.std.specs.Prelude.{◌≡◌};
 ghost use Rattle.trace_tool.specs.Refusals.{numbered, refusal_status};
 
+use certificate_lang::CertificateFault;
 use class_lang::TextFault;
 use meta_objects::MetaFault;
+use native_slots::NativeFault;
+use rank_check::No;
 use script_lang::ScriptFault;
 use thiserror::Error;
 
-/// Why a program and its script aren't run.
+/// Why a program isn't checked or run, with its certificate, its script and its natives.
 #[derive(Debug, Drop, Error)]
 pub enum Refusal {
-    /// The program is refused for the reason of this number, or the script is too large, which is 7.
+    /// The program, its certificate or one of its natives is refused for the reason of this number, or the script is too
+    /// large, which is 7.
     #[error("refused {0}")]
     Numbered(u8),
     /// The first line of the script that is no event, counted from 1.
     #[error("refused 16 line {0}")]
     BadLine(usize),
+    /// The certificate isn't valid for the program, for the reason of this number, from 70 to 76.
+    #[error("no {0}")]
+    Denied(u8),
     /// A growth of memory was refused.
     #[error("out of memory")]
     Memory,
@@ -22,8 +29,10 @@ pub enum Refusal {
 
 /// The exit status where nothing was done.
 pub const UNDONE: u8 = 1;
-/// The exit status where a text is refused.
+/// The exit status where a text or a native is refused.
 const REFUSED: u8 = 2;
+/// The exit status where the checker says no.
+const DENIED: u8 = 3;
 
 impl Refusal {
     /// The exit status.
@@ -32,6 +41,7 @@ impl Refusal {
     {
         match self {
             Refusal::Numbered(_) | Refusal::BadLine(_) => REFUSED,
+            Refusal::Denied(_) => DENIED,
             Refusal::Memory => UNDONE,
         }
     }
@@ -68,6 +78,45 @@ impl From<MetaFault> for Refusal {
 
     fn from(fault: MetaFault) -> Refusal {
         Refusal::numbered(fault.number())
+    }
+}
+
+impl From<NativeFault> for Refusal {
+    ghost use Rattle.std.specs.Prelude.{◌≡◌};
+    ghost use Rattle.native_slots.specs.FaultNumbers.{number_of};
+    ghost use Rattle.trace_tool.specs.declared.refusal.Refusal.TheVariants.{Numbered};
+
+    ghost from_gives = { λ fault refusal. refusal ≡ Numbered (number_of fault) };
+
+    fn from(fault: NativeFault) -> Refusal {
+        Refusal::Numbered(fault.number())
+    }
+}
+
+impl From<CertificateFault> for Refusal {
+    ghost use Rattle.std.specs.Prelude.{◌≡◌};
+    ghost use Rattle.certificate_lang.specs.Reads.{number_of};
+    ghost use Rattle.trace_tool.specs.Refusals.{numbered};
+
+    ghost from_gives = { λ fault refusal. refusal ≡ numbered (number_of fault) };
+
+    fn from(fault: CertificateFault) -> Refusal {
+        Refusal::numbered(fault.number())
+    }
+}
+
+impl From<No> for Refusal {
+    ghost use Rattle.std.specs.Prelude.{◌≡◌};
+    ghost use Rattle.rank_check.specs.Checks.{number_of};
+    ghost use Rattle.trace_tool.specs.Refusals.{denied};
+
+    ghost from_gives = { λ no refusal. refusal ≡ denied (number_of no) };
+
+    fn from(no: No) -> Refusal {
+        match no.number() {
+            Some(number) => Refusal::Denied(number),
+            None => Refusal::Memory,
+        }
     }
 }
 

@@ -2,10 +2,9 @@
 
 ghost use Rattle.std.specs.Prelude.{◌≡◌, ◌↔◌, Some, ◌≤◌, ◌<◌, ◌^◌, [], ◌∷◌, map, codes};
 ghost use Rattle.std.specs.Prelude.{IsTrue, IfSome, MatchOption};
-ghost use Rattle.trace_tool.specs.Words.{IsNumber, IsFirstNumber, IsLimit, IsRun, IsCommand};
-ghost use Rattle.trace_tool.specs.Words.{IsNoNumber, IsNoLimit, IsNoRun, IsNoCommand};
-ghost use Rattle.trace_tool.specs.Words.{BeginsOtherwise, BeginsWithNoNumber};
-ghost use Rattle.trace_tool.specs.declared.words.Command.TheVariants.{Run};
+ghost use Rattle.trace_tool.specs.Words.{IsNumber, IsFirstNumber, IsLimit, IsRun, IsUncheckedRun, IsCommand};
+ghost use Rattle.trace_tool.specs.Words.{IsNoNumber, IsNoLimit, IsNoRun, IsNoUncheckedRun, IsNoCommand};
+ghost use Rattle.trace_tool.specs.Words.{BeginsOtherwise, BeginsWithNoNumber, IsWithinLimits};
 
 const LARGEST_DEPTH: u64 = 256;
 
@@ -18,8 +17,12 @@ const DEFAULT_STEPS: u64 = 1000000;
 pub enum Command {
     /// `meta`: the classes of a program are written.
     Meta,
+    /// `check`: a program is checked with its certificate.
+    Check,
+    /// `run [--steps M]`: a program runs on a script where its certificate is valid, with this limit of rules.
+    Run(u64),
     /// `run --unchecked N [--steps M]`: a program runs on a script.
-    Run(Options),
+    RunUnchecked(Options),
 }
 
 impl Command {
@@ -27,32 +30,43 @@ impl Command {
     pub fn of(words: &[&str]) -> Option<Command>
         ensures said { let said = map (λ w. w.now) words.now in
             MatchOption result (IsNoCommand said) (λ c. IsCommand said c) }
-        ensures depth { (o : _) → result ≡ Some (Run o) →
-            (1 ≤ o.depth) × (o.depth ≤ 256) }
-        ensures steps { (o : _) → result ≡ Some (Run o) →
-            (1 ≤ o.steps) × (o.steps < 2 ^ 63) }
+        ensures limits { IfSome result IsWithinLimits }
     {
-        if is_meta(words) {
+        if is_only(words, "meta") {
             return Some(Command::Meta);
         }
-        match Options::of(words) {
-            Some(options) => Some(Command::Run(options)),
-            None => None,
+        if is_only(words, "check") {
+            return Some(Command::Check);
         }
+        if let Some(steps) = steps_of_run(words) {
+            return Some(Command::Run(steps));
+        }
+        let options = Options::of(words)?;
+        Some(Command::RunUnchecked(options))
     }
 }
 
-/// Whether the only word is `meta`.
-fn is_meta(words: &[&str]) -> bool
-    ensures { IsTrue result ↔ (map (λ w. w.now) words.now ≡ codes "meta" ∷ []) }
+/// Whether there is this word and no other.
+fn is_only(words: &[&str], word: &str) -> bool
+    ensures { IsTrue result ↔ (map (λ w. w.now) words.now ≡ word.now ∷ []) }
 {
-    match after(words, "meta") {
+    match after(words, word) {
         Some(rest) => are_over(rest),
         None => false,
     }
 }
 
-/// How a run is limited.
+/// The limit of rules in the words `run [--steps M]`, if they are those of a run with a certificate.
+fn steps_of_run(words: &[&str]) -> Option<u64>
+    ensures said { let said = map (λ w. w.now) words.now in
+        MatchOption result (IsNoRun said) (λ steps. IsRun said steps) }
+    ensures within { IfSome result (λ steps. (1 ≤ steps) × (steps < 2 ^ 63)) }
+{
+    let words = after(words, "run")?;
+    limit(words)
+}
+
+/// How a run without a certificate is limited.
 #[derive(Clone, Copy)]
 pub struct Options {
     /// How many activations may nest.
@@ -62,10 +76,11 @@ pub struct Options {
 }
 
 impl Options {
-    /// What the words `run --unchecked N [--steps M]` say, if they are those of a run.
+    /// What the words `run --unchecked N [--steps M]` say, if they are those of a run without a
+    /// certificate.
     pub fn of(words: &[&str]) -> Option<Options>
         ensures said { let said = map (λ w. w.now) words.now in
-            MatchOption result (IsNoRun said) (λ o. IsRun said o.depth o.steps) }
+            MatchOption result (IsNoUncheckedRun said) (λ o. IsUncheckedRun said o.depth o.steps) }
         ensures depth { IfSome result (λ o. (1 ≤ o.depth) × (o.depth ≤ 256)) }
         ensures steps { IfSome result (λ o. (1 ≤ o.steps) × (o.steps < 2 ^ 63)) }
     {

@@ -35,6 +35,12 @@ const ROWS: &[Row] = &[
         program: "class Cell { property int x; } class Sub : Cell { } class Adder { property int sum; } binding b Adder.sum (Cell c, Cell d) = c.x + d.x * c.x; owns Adder Cell; owns Cell Adder;",
         edges: "Cell.x Adder.sum\n~Cell Sub.destroyed(QObject*)\n~Cell Adder.destroyed(QObject*)\nSub.x Adder.sum\n~Sub Cell.destroyed(QObject*)\n~Sub Adder.destroyed(QObject*)\n~Adder Cell.destroyed(QObject*)\n~Adder Sub.destroyed(QObject*)\n",
     },
+    // a native leads to the signals that it emits and the properties that it sets, in the class of its object, and not to
+    // those that it reads; a call reaches it as it does a slot
+    Row {
+        program: "class D { property int x; property int out; signal done(int); native twice(int) reads x emits done(int) sets out; } class E : D { } class U { property D* d; slot go() { call this.d.twice(1); } }",
+        edges: "D.twice(int) D.done(int)\nD.twice(int) D.out\nE.twice(int) E.done(int)\nE.twice(int) E.out\nU.go() D.twice(int)\nU.go() E.twice(int)\n",
+    },
 ];
 
 /// A program, the place of its first wire that doesn't fit, and what its first part that isn't typed is called.
@@ -164,7 +170,7 @@ fn show_loaded(alloc: Global, meta: &Meta, text: &mut Vec<u8>) -> Result<(), Fai
 }
 
 /// The program, loaded.
-fn load(alloc: Global, program: &str) -> Result<Meta, Fail> {
+pub fn load(alloc: Global, program: &str) -> Result<Meta, Fail> {
     let program = read_program(alloc, program.as_bytes())?;
     let meta = Meta::build(alloc, &program)?;
     Ok(meta)

@@ -18,7 +18,7 @@ mod rows;
 mod trees;
 mod values;
 
-use qt_runtime::Natives;
+use native_slots::Natives;
 use std::alloc::{AllocError, Global};
 use std::process::Abort;
 use std::str;
@@ -94,7 +94,7 @@ pub fn expect(
         rt.alloc(),
         words.as_slice(),
         &mut reader,
-        Natives::none(),
+        Natives::of(Vec::new(rt.alloc())),
         &mut found,
     )?;
     assert_eq!(rt; str::from_utf8(found.as_slice())?, text, "at {line}");

@@ -2,6 +2,7 @@
 
 mod bindings;
 mod bodies;
+mod natives;
 mod normal_forms;
 mod scripts;
 mod types;

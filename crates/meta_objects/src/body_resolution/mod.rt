@@ -1,10 +1,10 @@
-//! Slot bodies whose names are resolved to numbers.
+//! Slot bodies and natives whose names are resolved to numbers.
 
 mod block;
-mod body;
 mod ends;
 mod expr;
 mod path;
 mod scope;
+mod work;
 
-pub use body::resolve_bodies;
+pub use work::{ResolvedWork, resolve_works};

@@ -15,6 +15,7 @@ use Rattle.object_tree.specs.Family.{moved}
 use Rattle.prop_bindings.specs.declared.binding.Binding.{Binding}
 use Rattle.prop_bindings.specs.Fits.{Agree}
 use Rattle.delete_later.proofs.Agreeing.{agree-on, live-moved}
+use Rattle.machine_rules.specs.Natives.{NativeAnswers}
 use Rattle.machine_rules.specs.Judgement.{Numbered, holds, fails, becomes, goes_on, ends}
 use Rattle.qt_runtime.specs.Judgement.{IsNotAccepted}
 use Rattle.qt_runtime.specs.declared.judgement.NotAccepted.{NotAccepted}
@@ -24,7 +25,7 @@ use Rattle.qt_runtime.specs.events.Named.{IsLiving, living}
 use Rattle.object_tree.proofs.TypedObjects.{typed-moved}
 use Rattle.qt_runtime.proofs.Changes.{adopted-by}
 use Rattle.qt_runtime.proofs.Judged.{then-ends, then-on}
-use Rattle.qt_runtime.proofs.Taken.{Ready, halted-short}
+use Rattle.qt_runtime.proofs.Taken.{no_natives, Ready, halted-short}
 use Rattle.qt_runtime.proofs.Judging.Naming.{living-ok}
 
 -- the parent's name isn't accepted
@@ -47,20 +48,20 @@ module _ (p : Loaded) (w : World) (parent child : List ℕ) (a : Numbered Life) 
         (goes_on tt (holds may.owns) (goes_on tt (holds may.no_cycle) (goes_on tt (holds may.one_loop) (becomes (record { objects = new; is = is; gives = refl }))))))
 
     -- the object isn't adopted
-    pub not-adopted : (d : ℕ) {f : AdoptFault} → IsNotAdopted p w.store.tree a.number c.number a.it c.it f → Ready w → MatchResult (adoption_reason f) (λ k. adopt p (at w []) parent child (Err k)) (λ g. Halted p d w (Adopt parent child) w g)
-    not-adopted d (not_owned none) some = goes_on a (living-ok a above) (goes_on c (living-ok c below) (ends (fails none)))
-    not-adopted d (cycle owns over) some =
+    pub not-adopted : (natives : NativeAnswers) (d : ℕ) {f : AdoptFault} → IsNotAdopted p w.store.tree a.number c.number a.it c.it f → Ready w → MatchResult (adoption_reason f) (λ k. adopt p (at w []) parent child (Err k)) (λ g. Halted p natives d w (Adopt parent child) w g)
+    not-adopted natives d (not_owned none) some = goes_on a (living-ok a above) (goes_on c (living-ok c below) (ends (fails none)))
+    not-adopted natives d (cycle owns over) some =
         goes_on a (living-ok a above) (goes_on c (living-ok c below) (goes_on tt (holds owns) (ends (fails (λ free. free over)))))
-    not-adopted d (other_loop owns free apart) some =
+    not-adopted natives d (other_loop owns free apart) some =
         goes_on a (living-ok a above) (goes_on c (living-ok c below) (goes_on tt (holds owns) (goes_on tt (holds free) (ends (fails apart)))))
-    not-adopted d no_memory some = halted-short (Adopt parent child) some
+    not-adopted natives d no_memory some = halted-short (Adopt parent child) some
 
-    pub adoption-stops : (d : ℕ) {f : AdoptFault} {g : Fault} → IsNotAdopted p w.store.tree a.number c.number a.it c.it f → Ready w → Err g ≡ adoption_reason f → Halted p d w (Adopt parent child) w g
-    adoption-stops d is some e =
-        let Decides : Result Refusal Fault → Type 0 = λ r. MatchResult r (λ k. adopt p (at w []) parent child (Err k)) (λ h. Halted p d w (Adopt parent child) w h) in
-        subst Decides (sym e) (not-adopted d is some)
+    pub adoption-stops : {natives : NativeAnswers} (d : ℕ) {f : AdoptFault} {g : Fault} → IsNotAdopted p w.store.tree a.number c.number a.it c.it f → Ready w → Err g ≡ adoption_reason f → Halted p natives d w (Adopt parent child) w g
+    adoption-stops {natives = natives} d is some e =
+        let Decides : Result Refusal Fault → Type 0 = λ r. MatchResult r (λ k. adopt p (at w []) parent child (Err k)) (λ h. Halted p natives d w (Adopt parent child) w h) in
+        subst Decides (sym e) (not-adopted natives d is some)
 
     pub adoption-refuses : {f : AdoptFault} {k : Refusal} → IsNotAdopted p w.store.tree a.number c.number a.it c.it f → Ready w → Ok k ≡ adoption_reason f → adopt p (at w []) parent child (Err k)
     adoption-refuses is some e =
-        let Decides : Result Refusal Fault → Type 0 = λ r. MatchResult r (λ k. adopt p (at w []) parent child (Err k)) (λ h. Halted p 0 w (Adopt parent child) w h) in
-        subst Decides (sym e) (not-adopted 0 is some)
+        let Decides : Result Refusal Fault → Type 0 = λ r. MatchResult r (λ k. adopt p (at w []) parent child (Err k)) (λ h. Halted p no_natives 0 w (Adopt parent child) w h) in
+        subst Decides (sym e) (not-adopted no_natives 0 is some)

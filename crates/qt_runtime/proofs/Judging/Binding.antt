@@ -1,5 +1,5 @@
 -- `bind`.
-use Rattle.std.proofs.Common.{◌≡◌, ◌≢◌, ℕ, ◌<◌, List, [], ◌∷◌, length, Some, Result, Ok, Err, MatchResult, inl, inr, refl, sym, ◌∙◌, subst, slice_get}
+use Rattle.std.proofs.Common.{◌≡◌, ◌≢◌, ℕ, List, [], ◌∷◌, length, Some, Result, Ok, Err, MatchResult, inl, inr, refl, sym, ◌∙◌, subst, slice_get}
 use Rattle.meta_model.specs.declared.site.MetaSite.{MetaSite}
 use Rattle.meta_model.specs.Loaded.{Loaded}
 use Rattle.meta_model.specs.Sites.{IsSiteNamed}
@@ -18,6 +18,7 @@ use Rattle.machine_state.specs.declared.world.World.{World}
 use Rattle.machine_state.specs.Accepting.{accepted}
 use Rattle.machine_state.specs.State.{State}
 use Rattle.machine_state.specs.Worlds.{at, KeepsTheRest}
+use Rattle.machine_rules.specs.Natives.{NativeAnswers}
 use Rattle.machine_rules.specs.Judgement.{Numbered, numbered, Check, Gives, ◌>>=◌, found, missing, holds, fails, gives, becomes, goes_on, ends}
 use Rattle.machine_rules.specs.Settling.{Installs}
 use Rattle.qt_runtime.specs.declared.judgement.NotAccepted.{NotAccepted}
@@ -29,7 +30,7 @@ use Rattle.qt_runtime.specs.events.Bind.{IsSiteOf, may_bind}
 use Rattle.qt_runtime.specs.events.Named.{IsLiving, living, all_living}
 use Rattle.qt_runtime.proofs.Judged.{then-ends, then-on}
 use Rattle.qt_runtime.proofs.Judging.Naming.{living-ok}
-use Rattle.qt_runtime.proofs.Taken.{idle, Ready}
+use Rattle.qt_runtime.proofs.Taken.{idle, no_natives, Ready}
 
 -- ---- what is named
 
@@ -99,29 +100,29 @@ module _ {p : Loaded} {w : World} {name target : List ℕ} {sources : List (List
 
   module _ {v : World} (rest : KeepsTheRest w v) where
     -- nothing changed, or memory was refused for what changes
-    halted-before : {d : ℕ} {f : Fault} → (f ≢ Memory → v ≡ w) → RunStops p d (at w []) w.left (event ∷ []) f → Halted p d w event v f
+    halted-before : {natives : NativeAnswers} {d : ℕ} {f : Fault} → (f ≢ Memory → v ≡ w) → RunStops p natives d (at w []) w.left (event ∷ []) f → Halted p natives d w event v f
     halted-before same reason = record { u = w; leaves = (rest, same); stack = []; front = record { taken = []; rest = event ∷ []; split = refl; runs = done }; reason = reason }
 
     -- why no binding is installed
-    pub not-bound : (d : ℕ) {f : BindFault} → Ready w → (f ≢ bind_fault.Memory → v ≡ w) → IsNotBound p w.store.tree w.store.bindings number o objects f →
-        MatchResult (binding_reason f) (λ k. judged p (at w []) event (Err k) × (v ≡ w)) (λ g. Halted p d w event v g)
-    not-bound d some same (bad_source none) =
+    pub not-bound : (natives : NativeAnswers) (d : ℕ) {f : BindFault} → Ready w → (f ≢ bind_fault.Memory → v ≡ w) → IsNotBound p w.store.tree w.store.bindings number o objects f →
+        MatchResult (binding_reason f) (λ k. judged p (at w []) event (Err k) × (v ≡ w)) (λ g. Halted p natives d w event v g)
+    not-bound natives d some same (bad_source none) =
         let judges : may_bind p (at w []) name target sources (Err BadSource) = on-found asks.site asks.is.is (ends (fails (λ covers. none (record { site = asks.site; is = asks.is.is; covers = covers })))) in
         (ends judges, same (λ e. absurd (cc e)))
-    not-bound d some same (other_loop sited apart) =
+    not-bound natives d some same (other_loop sited apart) =
         (ends (on-found sited.site sited.is (goes_on tt (holds sited.covers) (ends (fails apart)))), same (λ e. absurd (cc e)))
-    not-bound d some same (bad_type may ill) =
+    not-bound natives d some same (bad_type may ill) =
         halted-before (λ _. same (λ e. absurd (cc e))) (some.some, inl (inr (record { binding = new_binding may; next = next-bind some (may-ok may); ill = ill })))
-    not-bound d some same (closes may fit loop) =
+    not-bound natives d some same (closes may fit loop) =
         halted-before (λ _. same (λ e. absurd (cc e))) (some.some, record { binding = new_binding may; next = next-bind some (may-ok may); fit = fit; closes = loop })
-    not-bound d some same no_memory = halted-before (λ other. absurd (other refl)) (some.some, is_next (idle w some.no_turn))
+    not-bound natives d some same no_memory = halted-before (λ other. absurd (other refl)) (some.some, is_next (idle w some.no_turn))
 
-    pub binding-stops : (d : ℕ) {f : BindFault} {g : Fault} → Ready w → (f ≢ bind_fault.Memory → v ≡ w) → IsNotBound p w.store.tree w.store.bindings number o objects f → Err g ≡ binding_reason f → Halted p d w event v g
-    binding-stops d some same is e =
-        let Decides : Result Refusal Fault → Type 0 = λ r. MatchResult r (λ k. judged p (at w []) event (Err k) × (v ≡ w)) (λ h. Halted p d w event v h) in
-        subst Decides (sym e) (not-bound d some same is)
+    pub binding-stops : {natives : NativeAnswers} (d : ℕ) {f : BindFault} {g : Fault} → Ready w → (f ≢ bind_fault.Memory → v ≡ w) → IsNotBound p w.store.tree w.store.bindings number o objects f → Err g ≡ binding_reason f → Halted p natives d w event v g
+    binding-stops {natives = natives} d some same is e =
+        let Decides : Result Refusal Fault → Type 0 = λ r. MatchResult r (λ k. judged p (at w []) event (Err k) × (v ≡ w)) (λ h. Halted p natives d w event v h) in
+        subst Decides (sym e) (not-bound natives d some same is)
 
     pub binding-refuses : {f : BindFault} {k : Refusal} → Ready w → (f ≢ bind_fault.Memory → v ≡ w) → IsNotBound p w.store.tree w.store.bindings number o objects f → Ok k ≡ binding_reason f → judged p (at w []) event (Err k) × (v ≡ w)
     binding-refuses some same is e =
-        let Decides : Result Refusal Fault → Type 0 = λ r. MatchResult r (λ k. judged p (at w []) event (Err k) × (v ≡ w)) (λ h. Halted p 0 w event v h) in
-        subst Decides (sym e) (not-bound 0 some same is)
+        let Decides : Result Refusal Fault → Type 0 = λ r. MatchResult r (λ k. judged p (at w []) event (Err k) × (v ≡ w)) (λ h. Halted p no_natives 0 w event v h) in
+        subst Decides (sym e) (not-bound no_natives 0 some same is)

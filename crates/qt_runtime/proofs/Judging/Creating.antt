@@ -19,6 +19,7 @@ use Rattle.machine_state.specs.State.{State}
 use Rattle.machine_state.specs.Worlds.{at}
 use Rattle.prop_bindings.specs.Fits.{Agree}
 use Rattle.delete_later.proofs.Agreeing.{agree-on, live-created}
+use Rattle.machine_rules.specs.Natives.{NativeAnswers}
 use Rattle.machine_rules.specs.Good.{IsWell}
 use Rattle.machine_rules.proofs.Fields.{class-unique}
 use Rattle.machine_rules.specs.Judgement.{NothingIs, found, missing, holds, fails, gives, goes_on, ends}
@@ -26,7 +27,7 @@ use Rattle.qt_runtime.specs.Runs.{done, by_event}
 use Rattle.qt_runtime.specs.Takes.{accepts}
 use Rattle.qt_runtime.specs.Taking.{Halted, creation_reason}
 use Rattle.qt_runtime.specs.events.Create.{create, IsClassOf, IsHome}
-use Rattle.qt_runtime.proofs.Taken.{idle, Ready, halted-short, leaves-same}
+use Rattle.qt_runtime.proofs.Taken.{idle, no_natives, Ready, halted-short, leaves-same}
 
 -- the class of a name
 class-of : {p : Loaded} {name : List ℕ} {number : ℕ} {kind : MetaObject} → IsClassNamed p name number → IsClass p number kind → IsClassOf p name (record { number = number; it = kind })
@@ -53,7 +54,7 @@ module _ (p : Loaded) (w : World) (name class : List ℕ) (loop : Option (List �
       (agree-on p w.store.tree _ (live-created w.store.tree (made name home is.number is.kind)) w.store.bindings (typed-made p w.store.tree name is.number home is.kind is.may.is is.may.begins agree.typed) agree)
 
   -- an initial value isn't of its property's type
-  halted-ill : {d number : ℕ} {kind : MetaObject} → Ready w → IsFree w.store.tree name → IsClassNamed p class number → IsClass p number kind → length w.store.tree < most_objects → (¬ BeginsWell p w.store.tree number kind) → Halted p d w (New name class loop) w BadType
+  halted-ill : {natives : NativeAnswers} {d number : ℕ} {kind : MetaObject} → Ready w → IsFree w.store.tree name → IsClassNamed p class number → IsClass p number kind → length w.store.tree < most_objects → (¬ BeginsWell p w.store.tree number kind) → Halted p natives d w (New name class loop) w BadType
   halted-ill {number = number} {kind = kind} some free named is room ill =
       let after : State = record (accepted (at w [])) { objects = w.store.tree ++ made name home number kind ∷ [] } in
       let not_well : IsWell p (at w []) after → ⊥ = λ well.
@@ -67,23 +68,23 @@ module _ (p : Loaded) (w : World) (name class : List ℕ) (loop : Option (List �
       }
 
   -- no object is created
-  pub not-created : (d : ℕ) {f : CreateFault} → Ready w → IsNotCreated p w.store.tree name class f → MatchResult (creation_reason f) (λ k. create p (at w []) name class loop (Err k)) (λ g. Halted p d w (New name class loop) w g)
-  not-created d some (name_used is) = ends (fails (λ free. free _ is.named))
-  not-created d some (no_class free none) = goes_on tt (holds free) (ends (missing (λ c is. none c.number (record { class = c.it; is = is.is; named = is.named }))))
-  not-created d some (too_many {c = c} free named many) =
+  pub not-created : (natives : NativeAnswers) (d : ℕ) {f : CreateFault} → Ready w → IsNotCreated p w.store.tree name class f → MatchResult (creation_reason f) (λ k. create p (at w []) name class loop (Err k)) (λ g. Halted p natives d w (New name class loop) w g)
+  not-created natives d some (name_used is) = ends (fails (λ free. free _ is.named))
+  not-created natives d some (no_class free none) = goes_on tt (holds free) (ends (missing (λ c is. none c.number (record { class = c.it; is = is.is; named = is.named }))))
+  not-created natives d some (too_many {c = c} free named many) =
       goes_on tt (holds free) (goes_on (record { number = c; it = named.class }) (found (record { is = named.is; named = named.named })) (goes_on home (found lives) (ends (fails (λ few. absurd (omega (arith, few, many)))))))
-  not-created d some (bad_type free named is room ill) = halted-ill some free named is room ill
-  not-created d some no_memory = halted-short (New name class loop) some
+  not-created natives d some (bad_type free named is room ill) = halted-ill some free named is room ill
+  not-created natives d some no_memory = halted-short (New name class loop) some
 
-  pub creation-stops : (d : ℕ) {f : CreateFault} {g : Fault} → Ready w → IsNotCreated p w.store.tree name class f → Err g ≡ creation_reason f → Halted p d w (New name class loop) w g
-  creation-stops d some is e =
-      let Decides : Result Refusal Fault → Type 0 = λ r. MatchResult r (λ k. create p (at w []) name class loop (Err k)) (λ h. Halted p d w (New name class loop) w h) in
-      subst Decides (sym e) (not-created d some is)
+  pub creation-stops : {natives : NativeAnswers} (d : ℕ) {f : CreateFault} {g : Fault} → Ready w → IsNotCreated p w.store.tree name class f → Err g ≡ creation_reason f → Halted p natives d w (New name class loop) w g
+  creation-stops {natives = natives} d some is e =
+      let Decides : Result Refusal Fault → Type 0 = λ r. MatchResult r (λ k. create p (at w []) name class loop (Err k)) (λ h. Halted p natives d w (New name class loop) w h) in
+      subst Decides (sym e) (not-created natives d some is)
 
   pub creation-refuses : {f : CreateFault} {k : Refusal} → Ready w → IsNotCreated p w.store.tree name class f → Ok k ≡ creation_reason f → create p (at w []) name class loop (Err k)
   creation-refuses some is e =
-      let Decides : Result Refusal Fault → Type 0 = λ r. MatchResult r (λ k. create p (at w []) name class loop (Err k)) (λ h. Halted p 0 w (New name class loop) w h) in
-      subst Decides (sym e) (not-created 0 some is)
+      let Decides : Result Refusal Fault → Type 0 = λ r. MatchResult r (λ k. create p (at w []) name class loop (Err k)) (λ h. Halted p no_natives 0 w (New name class loop) w h) in
+      subst Decides (sym e) (not-created no_natives 0 some is)
 
 -- there is no such loop
 pub no-home : (p : Loaded) (w : World) (name class : List ℕ) (loop : Option (List ℕ)) {number : ℕ} → IsFree w.store.tree name → IsClassNamed p class number → NothingIs (IsHome w.store.loops.loops loop) → create p (at w []) name class loop (Err NoLoop)

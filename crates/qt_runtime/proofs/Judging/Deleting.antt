@@ -20,9 +20,10 @@ use Rattle.machine_state.specs.Accepting.{accepted, with_entries}
 use Rattle.machine_state.specs.State.{State, Activation, Destroy}
 use Rattle.machine_state.specs.Worlds.{at, store_of, with_store, with_scheduled, accepting, accepting_schedule}
 use Rattle.machine_state.proofs.Deferring.{scheduled-now}
+use Rattle.machine_rules.specs.Natives.{NativeAnswers}
 use Rattle.machine_rules.specs.Destroying.{deferred, DefersOnce}
 use Rattle.machine_rules.specs.Judgement.{Numbered, becomes, gives, goes_on}
-use Rattle.machine_rules.specs.Reaches.{Ends}
+use Rattle.machine_rules.specs.Reaches.{RunsTo}
 use Rattle.machine_rules.specs.Sound.{IsSoundWorld}
 use Rattle.qt_runtime.specs.declared.judgement.NotAccepted.{NotAccepted}
 use Rattle.qt_runtime.specs.Judgement.{IsNotAccepted}
@@ -57,8 +58,8 @@ module _ (p : Loaded) (w : World) (name : List ℕ) where
     deletes = goes_on o (living-ok o lives) gives
 
     -- the deletion begins, and is carried to its end, or stops on the way
-    pub deleted : {d : ℕ} {m v : World} {r : Result (Unit {0}) Fault} → Agree p w.store.tree w.store.bindings → Ready w → 0 < d → m ≡ accepting w → Ends p d [] m (Destroy (Some o.number) [] ∷ []) v [] r →
-        MatchResult r (λ _. Took p d w (Delete name) v (Ok answer.Done)) (λ f. Halted p d w (Delete name) v f)
+    pub deleted : {natives : NativeAnswers} {d : ℕ} {m v : World} {r : Result (Unit {0}) Fault} → Agree p w.store.tree w.store.bindings → Ready w → 0 < d → m ≡ accepting w → RunsTo p natives d [] m (Destroy (Some o.number) [] ∷ []) v [] r →
+        MatchResult r (λ _. Took p natives d w (Delete name) v (Ok answer.Done)) (λ f. Halted p natives d w (Delete name) v f)
     deleted {m = m} agree some room m_is ends =
         let Effect : World → Type 0 = λ z. judged p (at w []) (Delete name) (Ok (at z deletion)) in
         let Agrees : World → Type 0 = λ z. Agree p z.store.tree z.store.bindings in
@@ -74,7 +75,7 @@ module _ (p : Loaded) (w : World) (name : List ℕ) where
         let Once : Bool → Type 0 = λ b. DefersOnce (accepted (at w [])) [] o.it.home o.number (accepted (at w [])) b in
         goes_on o (living-ok o lives) (becomes (subst Once (sym marked) refl))
 
-    pub later-again : {d : ℕ} {v : World} → o.it.scheduled ≡ true → Agree p w.store.tree w.store.bindings → Ready w → v ≡ accepting w → Took p d w (Later name) v (Ok answer.Done)
+    pub later-again : {natives : NativeAnswers} {d : ℕ} {v : World} → o.it.scheduled ≡ true → Agree p w.store.tree w.store.bindings → Ready w → v ≡ accepting w → Took p natives d w (Later name) v (Ok answer.Done)
     later-again marked agree some v_is = took-quiet (accepted (at w [])) (Later name) (again marked) refl agree some some.no_turn v_is
 
     -- .. or it is scheduled now
@@ -94,7 +95,7 @@ module _ (p : Loaded) (w : World) (name : List ℕ) where
           let put : with_scheduled noted o.number ≡ deferred (accepted (at w [])) [] loop o.it.home o.number name = ap (λ (store : Store). with_store noted store) now in
           goes_on o (living-ok o lives) (becomes (subst Once (sym unmarked) (record { loop = loop; is_loop = is_loop; name = name; named = lives.named.named; gives = put })))
 
-      pub later-once : {d : ℕ} {v : World} → Agree p w.store.tree w.store.bindings → Ready w → v ≡ accepting_schedule w (At 0 (Scheduled loop name) ∷ []) o.number → Took p d w (Later name) v (Ok answer.Done)
+      pub later-once : {natives : NativeAnswers} {d : ℕ} {v : World} → Agree p w.store.tree w.store.bindings → Ready w → v ≡ accepting_schedule w (At 0 (Scheduled loop name) ∷ []) o.number → Took p natives d w (Later name) v (Ok answer.Done)
       later-once agree some v_is =
           let Agrees : Store → Type 0 = λ store. Agree p store.tree store.bindings in
           let after : Agree p (change_life o.number scheduled w.store.tree) w.store.bindings =

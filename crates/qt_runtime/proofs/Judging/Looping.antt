@@ -11,7 +11,8 @@ use Rattle.machine_state.specs.Accepting.{accepted}
 use Rattle.machine_state.specs.State.{State}
 use Rattle.machine_state.specs.Worlds.{at, begun_turn, accepting_turn}
 use Rattle.prop_bindings.specs.Fits.{Agree}
-use Rattle.machine_rules.specs.Reaches.{Ends}
+use Rattle.machine_rules.specs.Natives.{NativeAnswers}
+use Rattle.machine_rules.specs.Reaches.{RunsTo}
 use Rattle.machine_rules.specs.Judgement.{found, missing, holds, fails, gives, goes_on, ends}
 use Rattle.qt_runtime.specs.Takes.{judged, accepts}
 use Rattle.qt_runtime.specs.Taking.{Took, Halted}
@@ -28,8 +29,8 @@ module _ (p : Loaded) (w : World) (name : List ℕ) where
   no-loop none = ends (missing (λ home is. none (home, is.has)))
 
   -- a turn begins, and is carried to its end, or stops on the way
-  pub turned : {d home : ℕ} {v u : World} {r : Result (Unit {0}) Fault} → IsNamed w.store.loops.loops name home → Agree p w.store.tree w.store.bindings → Ready w → v ≡ accepting_turn w home → Ends p d [] v [] u [] r → OnOk r (u.turn ≡ None) →
-      MatchResult r (λ _. Took p d w (Turn name) u (Ok answer.Done)) (λ f. Halted p d w (Turn name) u f)
+  pub turned : {natives : NativeAnswers} {d home : ℕ} {v u : World} {r : Result (Unit {0}) Fault} → IsNamed w.store.loops.loops name home → Agree p w.store.tree w.store.bindings → Ready w → v ≡ accepting_turn w home → RunsTo p natives d [] v [] u [] r → OnOk r (u.turn ≡ None) →
+      MatchResult r (λ _. Took p natives d w (Turn name) u (Ok answer.Done)) (λ f. Halted p natives d w (Turn name) u f)
   turned {home = home} {v = v} is agree some v_is went over =
       let target : State = begun_turn (accepted (at w [])) home in
       let begins : judged p (at w []) (Turn name) (Ok target) = goes_on home (found is) gives in

@@ -6,14 +6,19 @@ ghost use Rattle.qt_runtime.specs.Taking.{WorldInvariant, Answers};
 
 use machine_rules::Setting;
 use machine_state::{Answer, Fault, Refusal, World};
+use native_slots::Answering;
 use signatures::Name;
 
 /// Adds an event loop.
-pub fn add_loop(setting: &Setting, world: &mut World, name: &Name) -> Result<Answer, Fault>
+pub fn add_loop<N: Answering>(
+    setting: &Setting<N>,
+    world: &mut World,
+    name: &Name,
+) -> Result<Answer, Fault>
     requires left { 0 < world.old.left }
     requires idle { world.old.turn ≡ None }
     requires keeps { WorldInvariant setting.now.meta world.old }
-    ensures { Answers setting.now (Loop name.now) world.old world.new result }
+    ensures { Answers N.gives setting.now (Loop name.now) world.old world.new result }
 {
     match world.store.loops.find(name) {
         Some(_) => world.refuse(Refusal::LoopExists),

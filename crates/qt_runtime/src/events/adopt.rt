@@ -9,12 +9,13 @@ use crate::events::named::find_living;
 use crate::judgement::refuse;
 use machine_rules::Setting;
 use machine_state::{Answer, Fault, Refusal, World};
+use native_slots::Answering;
 use object_tree::AdoptFault;
 use signatures::{Name, ObjectId};
 
 /// Makes one object the parent of another.
-pub fn adopt(
-    setting: &Setting,
+pub fn adopt<N: Answering>(
+    setting: &Setting<N>,
     world: &mut World,
     parent: &Name,
     child: &Name,
@@ -22,7 +23,7 @@ pub fn adopt(
     requires left { 0 < world.old.left }
     requires idle { world.old.turn ≡ None }
     requires keeps { WorldInvariant setting.now.meta world.old }
-    ensures { Answers setting.now (Adopt parent.now child.now) world.old world.new result }
+    ensures { Answers N.gives setting.now (Adopt parent.now child.now) world.old world.new result }
 {
     let parent = match find_living(world, parent) {
         Ok((number, _)) => ObjectId::new(number),

@@ -5,6 +5,7 @@ ghost use Rattle.script_lang.specs.declared.event.Event.TheVariants.{Set};
 ghost use Rattle.prop_bindings.specs.Fits.{FitsAt};
 ghost use Rattle.machine_state.specs.Worlds.{at};
 ghost use Rattle.machine_rules.specs.Judgement.{NothingIs, numbered};
+ghost use Rattle.native_slots.specs.Promises.{Promises};
 ghost use Rattle.qt_runtime.specs.Judgement.{IsNotAccepted};
 ghost use Rattle.qt_runtime.specs.Taking.{WorldInvariant, Answers, WritesTo};
 ghost use Rattle.qt_runtime.specs.events.Assign.{assign, IsPropertyOf};
@@ -16,6 +17,7 @@ use crate::judgement::{NotAccepted, refuse};
 use machine_rules::{Active, Setting};
 use machine_state::{Answer, Fault, Refusal, World};
 use meta_objects::{Meta, MetaProperty};
+use native_slots::Answering;
 use prop_bindings::Place;
 use script_lang::Input;
 use signatures::{Name, ObjectId, Value};
@@ -28,18 +30,19 @@ struct Assignment {
 }
 
 /// Writes a property, and runs what it notifies.
-pub fn assign(
-    setting: &Setting,
+pub fn assign<N: Answering>(
+    setting: &Setting<N>,
     world: &mut World,
     name: &Name,
     property: &Name,
     input: &Input,
 ) -> Result<Answer, Fault>
     requires depth { 0 < setting.now.depth }
+    requires promises { Promises setting.now.meta (N.takes setting.now.natives) (N.gives setting.now.natives) }
     requires left { 0 < world.old.left }
     requires idle { world.old.turn ≡ None }
     requires keeps { WorldInvariant setting.now.meta world.old }
-    ensures { Answers setting.now (Set name.now property.now input.now)
+    ensures { Answers N.gives setting.now (Set name.now property.now input.now)
         world.old world.new result }
 {
     match judge(setting, world, name, property, input) {
@@ -49,8 +52,8 @@ pub fn assign(
 }
 
 /// What the event writes, or why it isn't accepted.
-fn judge(
-    setting: &Setting,
+fn judge<N: Answering>(
+    setting: &Setting<N>,
     world: &World,
     name: &Name,
     property: &Name,
@@ -96,15 +99,21 @@ fn property_of<'m>(meta: &'m Meta, class: usize, name: &Name) -> Option<(usize, 
 }
 
 /// Writes a property for an event that is accepted, and runs what it notifies.
-fn write(setting: &Setting, world: &mut World, place: &Place, value: Value) -> Result<Answer, Fault>
+fn write<N: Answering>(
+    setting: &Setting<N>,
+    world: &mut World,
+    place: &Place,
+    value: Value,
+) -> Result<Answer, Fault>
     requires depth { 0 < setting.now.depth }
+    requires promises { Promises setting.now.meta (N.takes setting.now.natives) (N.gives setting.now.natives) }
     requires left { 0 < world.old.left }
     requires idle { world.old.turn ≡ None }
     requires keeps { WorldInvariant setting.now.meta world.old }
     requires fits { FitsAt setting.now.meta world.old.store.tree place.now value }
     ensures { (e : AnEvent) →
         WritesTo setting.now.meta world.old place.now.object place.now.property value e →
-        Answers setting.now e world.old world.new result }
+        Answers N.gives setting.now e world.old world.new result }
 {
     let changed = world.accept_write(&setting.meta, place, value)?;
     setting.run_update(world, &Active::nothing(), changed.as_slice())?;

@@ -3,6 +3,7 @@
 ghost use Rattle.std.specs.Prelude.{◌≡◌, ℕ, ◌<◌, List, [], IfOk, IfErr, None};
 ghost use Rattle.script_lang.specs.declared.event.Event.TheVariants.{Bind};
 ghost use Rattle.machine_state.specs.Worlds.{at};
+ghost use Rattle.native_slots.specs.Promises.{Promises};
 ghost use Rattle.qt_runtime.specs.Judgement.{IsNotAccepted};
 ghost use Rattle.qt_runtime.specs.Taking.{WorldInvariant, Answers, AsksToBind, binding_reason};
 ghost use Rattle.qt_runtime.specs.events.Bind.{may_bind};
@@ -11,6 +12,7 @@ use crate::events::named::{find_all_living, find_living};
 use crate::judgement::{NotAccepted, refuse};
 use machine_rules::{Active, Setting};
 use machine_state::{Answer, Fault, Refusal, World};
+use native_slots::Answering;
 use prop_bindings::BindFault;
 use signatures::{Name, ObjectId};
 use sqlite_items::Items;
@@ -24,18 +26,19 @@ struct Asked {
 }
 
 /// Binds a property, and runs what is notified.
-pub fn bind(
-    setting: &Setting,
+pub fn bind<N: Answering>(
+    setting: &Setting<N>,
     world: &mut World,
     site: &Name,
     target: &Name,
     sources: &[Name],
 ) -> Result<Answer, Fault>
     requires depth { 0 < setting.now.depth }
+    requires promises { Promises setting.now.meta (N.takes setting.now.natives) (N.gives setting.now.natives) }
     requires left { 0 < world.old.left }
     requires idle { world.old.turn ≡ None }
     requires keeps { WorldInvariant setting.now.meta world.old }
-    ensures { Answers setting.now (Bind site.now target.now sources.now)
+    ensures { Answers N.gives setting.now (Bind site.now target.now sources.now)
         world.old world.new result }
 {
     match judge(setting, world, site, target, sources) {
@@ -46,8 +49,8 @@ pub fn bind(
 
 /// What is to be bound, or why the event isn't accepted. Whether the site covers the objects is judged as the binding is
 /// installed.
-fn judge(
-    setting: &Setting,
+fn judge<N: Answering>(
+    setting: &Setting<N>,
     world: &World,
     site: &Name,
     target: &Name,
@@ -77,15 +80,20 @@ fn judge(
 }
 
 /// Installs the binding, and runs what is notified; or refuses the event.
-fn install(setting: &Setting, world: &mut World, asked: &Asked) -> Result<Answer, Fault>
+fn install<N: Answering>(
+    setting: &Setting<N>,
+    world: &mut World,
+    asked: &Asked,
+) -> Result<Answer, Fault>
     requires depth { 0 < setting.now.depth }
+    requires promises { Promises setting.now.meta (N.takes setting.now.natives) (N.gives setting.now.natives) }
     requires left { 0 < world.old.left }
     requires idle { world.old.turn ≡ None }
     requires keeps { WorldInvariant setting.now.meta world.old }
     ensures { (site target : List ℕ) (sources : List (List ℕ)) →
         AsksToBind setting.now.meta world.old site target sources
         asked.now.site asked.now.target asked.now.sources →
-        Answers setting.now (Bind site target sources) world.old world.new result }
+        Answers N.gives setting.now (Bind site target sources) world.old world.new result }
 {
     let sources = asked.sources.as_slice();
     match world.accept_bind(&setting.meta, asked.site, asked.target, sources) {

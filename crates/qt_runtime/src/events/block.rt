@@ -7,14 +7,20 @@ use crate::events::named::find_living;
 use crate::judgement::refuse;
 use machine_rules::Setting;
 use machine_state::{Answer, Fault, World};
+use native_slots::Answering;
 use signatures::{Name, ObjectId};
 
 /// Blocks an object, or lets it emit again.
-pub fn block(setting: &Setting, world: &mut World, name: &Name, on: bool) -> Result<Answer, Fault>
+pub fn block<N: Answering>(
+    setting: &Setting<N>,
+    world: &mut World,
+    name: &Name,
+    on: bool,
+) -> Result<Answer, Fault>
     requires left { 0 < world.old.left }
     requires idle { world.old.turn ≡ None }
     requires keeps { WorldInvariant setting.now.meta world.old }
-    ensures { Answers setting.now (blocking on name.now) world.old world.new result }
+    ensures { Answers N.gives setting.now (blocking on name.now) world.old world.new result }
 {
     let object = match find_living(world, name) {
         Ok((number, _)) => ObjectId::new(number),

@@ -11,12 +11,13 @@ use crate::events::ends::find_ends;
 use crate::judgement::{NotAccepted, refuse};
 use machine_rules::Setting;
 use machine_state::{Answer, Endpoints, Fault, World};
+use native_slots::Answering;
 use signatures::Name;
 use texts::{self, ConnectionType};
 
 /// Makes a connection.
-pub fn connect(
-    setting: &Setting,
+pub fn connect<N: Answering>(
+    setting: &Setting<N>,
     world: &mut World,
     named: &texts::Endpoints<Name>,
     how: ConnectionType,
@@ -24,7 +25,7 @@ pub fn connect(
     requires left { 0 < world.old.left }
     requires idle { world.old.turn ≡ None }
     requires keeps { WorldInvariant setting.now.meta world.old }
-    ensures { Answers setting.now (Connect named.now how) world.old world.new result }
+    ensures { Answers N.gives setting.now (Connect named.now how) world.old world.new result }
 {
     match judge(setting, world, named, how) {
         Err(reason) => refuse(world, reason),
@@ -36,8 +37,8 @@ pub fn connect(
 }
 
 /// What is connected, or why the event isn't accepted.
-fn judge(
-    setting: &Setting,
+fn judge<N: Answering>(
+    setting: &Setting<N>,
     world: &World,
     named: &texts::Endpoints<Name>,
     how: ConnectionType,

@@ -10,12 +10,13 @@ ghost use Rattle.qt_runtime.specs.events.Create.{create, IsHome};
 
 use machine_rules::Setting;
 use machine_state::{Answer, Fault, MAIN, Refusal, World};
+use native_slots::Answering;
 use object_tree::CreateFault;
 use signatures::{LoopId, Name};
 
 /// Creates an object in the event loop of a name, or in `main` where none is named.
-pub fn create(
-    setting: &Setting,
+pub fn create<N: Answering>(
+    setting: &Setting<N>,
     world: &mut World,
     name: &Name,
     class: &Name,
@@ -24,7 +25,7 @@ pub fn create(
     requires left { 0 < world.old.left }
     requires idle { world.old.turn ≡ None }
     requires keeps { WorldInvariant setting.now.meta world.old }
-    ensures { Answers setting.now (New name.now class.now home.now) world.old world.new result }
+    ensures { Answers N.gives setting.now (New name.now class.now home.now) world.old world.new result }
 {
     let Some(home) = home_of(world, home) else {
         let refusal = refusal_without_loop(setting, world, name, class);
@@ -51,7 +52,12 @@ fn home_of(world: &World, name: &Option<Name>) -> Option<LoopId>
 }
 
 /// Why the event is refused where there is no such event loop.
-fn refusal_without_loop(setting: &Setting, world: &World, name: &Name, class: &Name) -> Refusal
+fn refusal_without_loop<N: Answering>(
+    setting: &Setting<N>,
+    world: &World,
+    name: &Name,
+    class: &Name,
+) -> Refusal
     ensures { (home : Option (List ℕ)) → NothingIs (IsHome world.now.store.loops.loops home) →
         create setting.now.meta (at world.now []) name.now class.now home (Err result) }
 {

@@ -12,19 +12,20 @@ use crate::events::ends::find_ends;
 use crate::judgement::{NotAccepted, refuse};
 use machine_rules::Setting;
 use machine_state::{Answer, Endpoints, Fault, Refusal, World};
+use native_slots::Answering;
 use signatures::Name;
 use texts;
 
 /// Removes the connections between two objects' methods.
-pub fn disconnect(
-    setting: &Setting,
+pub fn disconnect<N: Answering>(
+    setting: &Setting<N>,
     world: &mut World,
     named: &texts::Endpoints<Name>,
 ) -> Result<Answer, Fault>
     requires left { 0 < world.old.left }
     requires idle { world.old.turn ≡ None }
     requires keeps { WorldInvariant setting.now.meta world.old }
-    ensures { Answers setting.now (Disconnect named.now) world.old world.new result }
+    ensures { Answers N.gives setting.now (Disconnect named.now) world.old world.new result }
 {
     match judge(setting, world, named) {
         Err(reason) => refuse(world, reason),
@@ -36,8 +37,8 @@ pub fn disconnect(
 }
 
 /// What is no longer connected, or why the event isn't accepted.
-fn judge(
-    setting: &Setting,
+fn judge<N: Answering>(
+    setting: &Setting<N>,
     world: &World,
     named: &texts::Endpoints<Name>,
 ) -> Result<Endpoints, NotAccepted>

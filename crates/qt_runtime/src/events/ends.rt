@@ -11,12 +11,13 @@ use crate::judgement::NotAccepted;
 use machine_rules::{FoundEnds, Setting, named_signal};
 use machine_state::{Endpoints, Refusal, World};
 use meta_objects::{Meta, MetaMethod, Work};
+use native_slots::Answering;
 use signatures::{Name, ObjectId, Sig};
 use texts;
 
 /// The objects and methods that are named, or why the event isn't accepted.
-pub fn find_ends(
-    setting: &Setting,
+pub fn find_ends<N: Answering>(
+    setting: &Setting<N>,
     world: &World,
     named: &texts::Endpoints<Name>,
 ) -> Result<FoundEnds, NotAccepted>

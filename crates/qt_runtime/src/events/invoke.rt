@@ -5,6 +5,7 @@ ghost use Rattle.machine_state.specs.Worlds.{at};
 ghost use Rattle.machine_rules.specs.Reaches.{CallFits};
 ghost use Rattle.machine_rules.specs.Good.{ArgumentsFit};
 ghost use Rattle.machine_rules.specs.Judgement.{NothingIs, numbered};
+ghost use Rattle.native_slots.specs.Promises.{Promises};
 ghost use Rattle.qt_runtime.specs.Judgement.{IsNotAccepted};
 ghost use Rattle.qt_runtime.specs.Taking.{WorldInvariant, Answers, AsksFor, invoking};
 ghost use Rattle.qt_runtime.specs.events.Invoke.{invoke, May, IsAskedOf};
@@ -18,6 +19,7 @@ use machine_rules::{Active, MethodCall, Setting};
 use machine_state::{Answer, Fault, Refusal, World};
 use meta_model::OBJECT_NAME_CHANGED;
 use meta_objects::{Meta, MetaMethod};
+use native_slots::Answering;
 use script_lang::Input;
 use signatures::{Arguments, Name, ObjectId};
 
@@ -51,8 +53,8 @@ struct Invoked {
 }
 
 /// Emits a signal or calls a slot, and runs it.
-pub fn invoke(
-    setting: &Setting,
+pub fn invoke<N: Answering>(
+    setting: &Setting<N>,
     world: &mut World,
     invocation: Invocation,
     name: &Name,
@@ -60,10 +62,11 @@ pub fn invoke(
     inputs: &[Input],
 ) -> Result<Answer, Fault>
     requires depth { 0 < setting.now.depth }
+    requires promises { Promises setting.now.meta (N.takes setting.now.natives) (N.gives setting.now.natives) }
     requires left { 0 < world.old.left }
     requires idle { world.old.turn ≡ None }
     requires keeps { WorldInvariant setting.now.meta world.old }
-    ensures { Answers setting.now (invoking invocation name.now called.now inputs.now)
+    ensures { Answers N.gives setting.now (invoking invocation name.now called.now inputs.now)
         world.old world.new result }
 {
     match judge(setting, world, invocation, name, called, inputs) {
@@ -86,8 +89,8 @@ pub fn invoke(
 }
 
 /// What the event begins, or why it isn't accepted.
-fn judge(
-    setting: &Setting,
+fn judge<N: Answering>(
+    setting: &Setting<N>,
     world: &World,
     invocation: Invocation,
     name: &Name,
@@ -149,15 +152,20 @@ fn method_of<'m>(
 }
 
 /// Begins a method for an event that is accepted, and runs it.
-fn begin(setting: &Setting, world: &mut World, call: &MethodCall<'_>) -> Result<Answer, Fault>
+fn begin<N: Answering>(
+    setting: &Setting<N>,
+    world: &mut World,
+    call: &MethodCall<'_>,
+) -> Result<Answer, Fault>
     requires depth { 0 < setting.now.depth }
+    requires promises { Promises setting.now.meta (N.takes setting.now.natives) (N.gives setting.now.natives) }
     requires left { 0 < world.old.left }
     requires idle { world.old.turn ≡ None }
     requires keeps { WorldInvariant setting.now.meta world.old }
     requires fit { CallFits setting.now.meta world.old.store.tree call.now }
     ensures { (e : AnEvent) →
         AsksFor setting.now.meta world.old call.now.object call.now.method call.now.arguments.now e →
-        Answers setting.now e world.old world.new result }
+        Answers N.gives setting.now e world.old world.new result }
 {
     let below = Active::nothing();
     let (line, begun) = setting.begun(world, &below, call)?;

@@ -8,14 +8,19 @@ use crate::events::named::find_living;
 use crate::judgement::refuse;
 use machine_rules::Setting;
 use machine_state::{Answer, Entry, Fault, Happening, World};
+use native_slots::Answering;
 use signatures::{Name, ObjectId};
 
 /// Schedules an object for deletion, unless it is scheduled already.
-pub fn later(setting: &Setting, world: &mut World, name: &Name) -> Result<Answer, Fault>
+pub fn later<N: Answering>(
+    setting: &Setting<N>,
+    world: &mut World,
+    name: &Name,
+) -> Result<Answer, Fault>
     requires left { 0 < world.old.left }
     requires idle { world.old.turn ≡ None }
     requires keeps { WorldInvariant setting.now.meta world.old }
-    ensures { Answers setting.now (Later name.now) world.old world.new result }
+    ensures { Answers N.gives setting.now (Later name.now) world.old world.new result }
 {
     let (object, life) = match find_living(world, name) {
         Ok((number, life)) => (ObjectId::new(number), life),

@@ -1,5 +1,5 @@
 use Rattle.std.proofs.Common.{◌∙◌, sym}
-use Rattle.class_lang.proofs.Sequences.{property_member, signal_member, slot_member}
+use Rattle.class_lang.proofs.Sequences.{property_member, signal_member, slot_member, native_member}
 use Rattle.class_lang.proofs.members.next_member.Goals as goal
 
 pub returns-in_ok-property-clause-reads : goal.returns-in_ok-property-clause-reads
@@ -10,3 +10,6 @@ returns-in_ok-signal-clause-reads c = signal_member (sym c.if-eat_word.ensures.f
 
 pub returns-in_ok-slot-clause-reads : goal.returns-in_ok-slot-clause-reads
 returns-in_ok-slot-clause-reads c = slot_member (sym c.if-eat_word.ensures.found.0 ∙ (sym c.if-eat_word-2.ensures.found.0 ∙ c.if-eat_word-3.ensures.found)) c.in_ok-slot.ensures.reads
+
+pub returns-in_ok-native-clause-reads : goal.returns-in_ok-native-clause-reads
+returns-in_ok-native-clause-reads c = native_member (sym c.if-eat_word.ensures.found.0 ∙ (sym c.if-eat_word-2.ensures.found.0 ∙ (sym c.if-eat_word-3.ensures.found.0 ∙ c.if-eat_word-4.ensures.found))) c.in_ok-native.ensures.reads

@@ -1,4 +1,4 @@
-use Rattle.std.proofs.Common.{◌≡◌, ◌<◌, ℕ, length, ap, arith}
+use Rattle.std.proofs.Common.{◌<◌, length, ap, arith}
 use Rattle.effect_scan.proofs.Relating.{row_width, listed_low, is_after, closing_none, closing_more, closed_all}
 use Rattle.effect_scan.proofs.closure.close.Goals as goal
 

@@ -1,4 +1,3 @@
-use Rattle.std.proofs.Common.{length}
 use Rattle.effect_scan.specs.Destroying.{Closing}
 use Rattle.effect_scan.proofs.closure.close.Given as goal
 

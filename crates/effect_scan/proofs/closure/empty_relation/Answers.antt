@@ -1,5 +1,4 @@
-use Rattle.std.proofs.Common.{◌≡◌, List, Bool, subst, sym, ℕ}
-use Rattle.effect_scan.proofs.Relating.{EmptyFirst, empty_none, empty_more}
+use Rattle.effect_scan.proofs.Relating.{empty_none, empty_more}
 use Rattle.effect_scan.proofs.closure.empty_relation.Goals as goal
 
 pub loop-class-init : goal.loop-class-init

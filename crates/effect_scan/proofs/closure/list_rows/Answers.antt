@@ -1,4 +1,4 @@
-use Rattle.std.proofs.Common.{subst, List, Bool, ℕ, length}
+use Rattle.std.proofs.Common.{subst, List, Bool, length}
 use Rattle.meta_model.proofs.Zips.{zip_push}
 use Rattle.effect_scan.specs.Places.{Lists}
 use Rattle.effect_scan.specs.Destroying.{IsMarked}

@@ -1,5 +1,5 @@
-use Rattle.std.proofs.Common.{◌∙◌, ◌≡◌, Bool, true, false}
-use Rattle.effect_scan.proofs.Listing.{lists_none, lists_yes, lists_no}
+use Rattle.std.proofs.Common.{◌∙◌}
+use Rattle.effect_scan.proofs.Listing.{lists_yes, lists_no}
 use Rattle.effect_scan.proofs.closure.marked.Goals.{then-is_marked+in_ok-push, else-is_marked}
 use Rattle.effect_scan.proofs.closure.marked.Goals as goal
 

@@ -1,4 +1,4 @@
-use Rattle.std.proofs.Common.{◌≡◌, ◌<◌, ℕ, Bool, true, false, length, ap, arith}
+use Rattle.std.proofs.Common.{◌<◌, true, false, length, ap, arith}
 use Rattle.std.specs.List.{Contains}
 use Rattle.effect_scan.proofs.Relating.{row_width, extends_at, square_after, holds_at, pass_yes, pass_no, pass_all}
 use Rattle.effect_scan.proofs.closure.pass.Goals.{then-as_slice-class, else-as_slice-class}

@@ -1,4 +1,4 @@
-use Rattle.std.proofs.Common.{ℕ, ◌<◌}
+use Rattle.std.proofs.Common.{◌<◌}
 use Rattle.effect_scan.specs.Destroying.{Extends, Passes}
 use Rattle.effect_scan.proofs.closure.pass.Given as goal
 

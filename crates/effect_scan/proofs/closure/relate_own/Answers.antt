@@ -1,4 +1,4 @@
-use Rattle.std.proofs.Common.{◌≡◌, ◌<◌, ℕ, length, get_or, arith}
+use Rattle.std.proofs.Common.{◌≡◌, ◌<◌, length, arith}
 use Rattle.effect_scan.proofs.Relating.{row_width, extends_at, square_after, mark_one, own_more}
 use Rattle.effect_scan.proofs.closure.relate_own.Goals as goal
 

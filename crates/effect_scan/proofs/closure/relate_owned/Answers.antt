@@ -1,4 +1,4 @@
-use Rattle.std.proofs.Common.{◌<◌, ℕ, List, length, subst, arith}
+use Rattle.std.proofs.Common.{ℕ, List, subst, arith}
 use Rattle.std.specs.List.{Contains}
 use Rattle.std.proofs.lemmas.Option.{slice_get-get_or}
 use Rattle.effect_scan.proofs.Relating.{owned_more, owned_all}

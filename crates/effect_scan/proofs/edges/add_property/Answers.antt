@@ -1,7 +1,7 @@
 use Rattle.std.proofs.lemmas.Result.{IfOk-weaker}
-use Rattle.effect_scan.proofs.Adding.{adds_none, join_leads}
+use Rattle.effect_scan.proofs.Adding.{join_leads}
 use Rattle.effect_scan.proofs.Listing.{one_low}
-use Rattle.effect_scan.proofs.Joined.{property_both, property_none}
+use Rattle.effect_scan.proofs.Joined.{property_both}
 use Rattle.effect_scan.proofs.edges.add_property.Goals as goal
 
 pub join-requires : goal.join-requires

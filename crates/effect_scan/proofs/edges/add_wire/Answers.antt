@@ -1,7 +1,7 @@
 use Rattle.std.proofs.lemmas.Result.{IfOk-weaker}
-use Rattle.effect_scan.proofs.Adding.{adds_none, join_leads}
+use Rattle.effect_scan.proofs.Adding.{join_leads}
 use Rattle.effect_scan.proofs.Listing.{each_low}
-use Rattle.effect_scan.proofs.Joined.{wire_both, wire_queued}
+use Rattle.effect_scan.proofs.Joined.{wire_both}
 use Rattle.effect_scan.proofs.edges.add_wire.Goals as goal
 
 pub join-requires : goal.join-requires

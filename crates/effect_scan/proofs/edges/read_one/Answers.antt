@@ -1,5 +1,5 @@
-use Rattle.std.proofs.Common.{sym, ◌∙◌, ℕ, Option, Some}
-use Rattle.std.proofs.lemmas.Option.{same_Some, none-some}
+use Rattle.std.proofs.Common.{sym, ◌∙◌}
+use Rattle.std.proofs.lemmas.Option.{none-some}
 use Rattle.std.proofs.lemmas.Result.{IfOk-weaker}
 use Rattle.effect_scan.specs.declared.node.Member.TheVariants.{Property}
 use Rattle.effect_scan.specs.Places.{AreJust, InBelow, IsRead}

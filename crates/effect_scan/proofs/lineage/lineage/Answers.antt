@@ -1,4 +1,4 @@
-use Rattle.std.proofs.Common.{◌≡◌, ℕ, length, ap, arith}
+use Rattle.std.proofs.Common.{◌≡◌, length, ap, arith}
 use Rattle.meta_model.specs.Members.{Below}
 use Rattle.effect_scan.specs.Places.{Lists}
 use Rattle.effect_scan.proofs.Listing.{rows_push}

@@ -4,4 +4,4 @@ use Rattle.meta_objects.specs.Loading.{IsMethodOf}
 use Rattle.meta_objects.proofs.resolve_object.resolve_methods.Given as goal
 
 abbrev pub invariant-loop-heading : goal.invariant-loop-heading
-invariant-loop-heading l = AllZip (IsMethodOf l.outlines l.bodies) (take l.heading-index l.headings) l.methods
+invariant-loop-heading l = AllZip (IsMethodOf l.outlines l.works) (take l.heading-index l.headings) l.methods

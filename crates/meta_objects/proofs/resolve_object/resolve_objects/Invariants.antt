@@ -4,4 +4,4 @@ use Rattle.meta_objects.specs.Loading.{IsObject}
 use Rattle.meta_objects.proofs.resolve_object.resolve_objects.Given as goal
 
 abbrev pub invariant-loop-outline : goal.invariant-loop-outline
-invariant-loop-outline l = AllZip (IsObject l.outlines l.bodies) (take l.outline-index l.outlines) l.objects
+invariant-loop-outline l = AllZip (IsObject l.outlines l.works) (take l.outline-index l.outlines) l.objects

@@ -2,4 +2,4 @@ use Rattle.qt_runtime.proofs.Keeping as law
 use Rattle.qt_runtime.proofs.laws.always_settled.Goals as goal
 
 pub returns : goal.returns
-returns c = law.always_settled
+returns g c = law.always_settled (g.N.Answering.gives c.args._natives.now)

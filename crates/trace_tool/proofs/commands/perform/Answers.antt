@@ -1,6 +1,6 @@
 use Rattle.std.proofs.Common.{◌<◌, ◌≤◌, length, arith}
 use Rattle.std.proofs.lemmas.Result.{IfOk-weaker}
-use Rattle.trace_tool.proofs.Answering.{answered, meta_done, meta_undone, run_done, run_undone}
+use Rattle.trace_tool.proofs.Answering.{answered, meta_done, meta_undone, check_done, check_undone, run_done, run_undone, unchecked_done, unchecked_undone}
 use Rattle.trace_tool.specs.Commands.{large}
 use Rattle.trace_tool.proofs.commands.perform.Goals as goal
 
@@ -16,8 +16,8 @@ returns-in-Some g c =
     (λ status a. record { bytes = a.bytes; appended = a.appended; meaning = meta_done c.in-Meta.is few c.in-Some.ensures.cut a.meaning })
     c.meta.ensures
 
-pub returns-in-None : goal.returns-in-None
-returns-in-None g c =
+pub returns-in-Meta : goal.returns-in-Meta
+returns-in-Meta g c =
     let few : length c.args.input.now ≤ 67108864 = omega (arith, c.if-input-gt-LARGEST_INPUT.false) in
     IfOk-weaker c.refuse_usage-in-None.result _ _
     (λ status s. answered (meta_undone c.in-Meta.is few (rw c.in-None.is at c.one_text.ensures.cut)) s)
@@ -26,13 +26,41 @@ returns-in-None g c =
 pub returns-in-Some-two_texts : goal.returns-in-Some-two_texts
 returns-in-Some-two_texts g c =
     let few : length c.args.input.now ≤ 67108864 = omega (arith, c.if-input-gt-LARGEST_INPUT.false) in
-    IfOk-weaker c.run_unchecked.result _ _
-    (λ status a. record { bytes = a.bytes; appended = a.appended; meaning = run_done c.in-Run.options c.in-Run.is few c.in-Some-two_texts.ensures.cut a.meaning })
-    c.run_unchecked.ensures
+    IfOk-weaker c.check.result _ _
+    (λ status a. record { bytes = a.bytes; appended = a.appended; meaning = check_done c.in-Check.is few c.in-Some-two_texts.ensures.cut a.meaning })
+    c.check.ensures
 
-pub returns-in-None-two_texts : goal.returns-in-None-two_texts
-returns-in-None-two_texts g c =
+pub returns-in-Check : goal.returns-in-Check
+returns-in-Check g c =
     let few : length c.args.input.now ≤ 67108864 = omega (arith, c.if-input-gt-LARGEST_INPUT.false) in
     IfOk-weaker c.refuse_usage-in-None-two_texts.result _ _
-    (λ status s. answered (run_undone c.in-Run.options c.in-Run.is few (rw c.in-None-two_texts.is at c.two_texts.ensures.cut)) s)
+    (λ status s. answered (check_undone c.in-Check.is few (rw c.in-None-two_texts.is at c.two_texts.ensures.cut)) s)
     c.refuse_usage-in-None-two_texts.ensures
+
+pub returns-in-Some-three_texts : goal.returns-in-Some-three_texts
+returns-in-Some-three_texts g c =
+    let few : length c.args.input.now ≤ 67108864 = omega (arith, c.if-input-gt-LARGEST_INPUT.false) in
+    IfOk-weaker c.run.result _ _
+    (λ status a. record { bytes = a.bytes; appended = a.appended; meaning = run_done c.in-Run.steps c.in-Run.is few c.in-Some-three_texts.ensures.cut a.meaning })
+    c.run.ensures
+
+pub returns-in-Run : goal.returns-in-Run
+returns-in-Run g c =
+    let few : length c.args.input.now ≤ 67108864 = omega (arith, c.if-input-gt-LARGEST_INPUT.false) in
+    IfOk-weaker c.refuse_usage-in-None-three_texts.result _ _
+    (λ status s. answered (run_undone c.in-Run.steps c.in-Run.is few (rw c.in-None-three_texts.is at c.three_texts.ensures.cut)) s)
+    c.refuse_usage-in-None-three_texts.ensures
+
+pub returns-in-Some-two_texts-2 : goal.returns-in-Some-two_texts-2
+returns-in-Some-two_texts-2 g c =
+    let few : length c.args.input.now ≤ 67108864 = omega (arith, c.if-input-gt-LARGEST_INPUT.false) in
+    IfOk-weaker c.run_unchecked.result _ _
+    (λ status a. record { bytes = a.bytes; appended = a.appended; meaning = unchecked_done c.in-RunUnchecked.options c.in-RunUnchecked.is few c.in-Some-two_texts-2.ensures.cut a.meaning })
+    c.run_unchecked.ensures
+
+pub returns : goal.returns
+returns g c =
+    let few : length c.args.input.now ≤ 67108864 = omega (arith, c.if-input-gt-LARGEST_INPUT.false) in
+    IfOk-weaker c.refuse_usage-in-None-two_texts-2.result _ _
+    (λ status s. answered (unchecked_undone c.in-RunUnchecked.options c.in-RunUnchecked.is few (rw c.in-None-two_texts-2.is at c.two_texts-in-RunUnchecked.ensures.cut)) s)
+    c.refuse_usage-in-None-two_texts-2.ensures

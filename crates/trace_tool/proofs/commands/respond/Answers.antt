@@ -17,8 +17,8 @@ pub returns-in-Err-Unread : goal.returns-in-Err-Unread
 returns-in-Err-Unread g c =
     answered (unread_done c.in-Some.command c.in-Some.ensures.said (ap read_of c.in-Err-Unread.is ∙ ap Err (rw c.in-Err-Unread.is at c.in-Err-Unread.field-0-is))) (record { sends = none_sent _; is = refl })
 
-pub returns-in-Err-Memory : goal.returns-in-Err-Memory
-returns-in-Err-Memory g c =
+pub returns : goal.returns
+returns g c =
     IfOk-weaker c.refuse.result _ _
     (λ status s. answered (memory_done c.in-Some.command c.in-Some.ensures.said (ap read_of c.in-Err-Memory.is ∙ ap Err (rw c.in-Err-Memory.is at c.in-Err-Memory.field-0-is))) s)
     c.refuse.ensures

@@ -1,6 +1,6 @@
-use Rattle.std.proofs.Common.{◌≡◌, ◌∙◌, ◌+◌, ℕ, length, sym, ap, arith}
+use Rattle.std.proofs.Common.{◌≡◌, ◌∙◌, ◌+◌, ℕ, length, sym, ap}
 use Rattle.std.proofs.lemmas.List.{length-append}
-use Rattle.effect_scan.proofs.Numbered.{numbers_none, numbers_more, same_shape, shapes_more, nodes_all}
+use Rattle.effect_scan.proofs.Numbered.{numbers_more, same_shape, shapes_more, nodes_all}
 use Rattle.effect_scan.proofs.numbering.Numbering.of.Goals as goal
 
 pub loop-number-preserved : goal.loop-number-preserved

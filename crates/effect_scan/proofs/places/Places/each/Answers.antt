@@ -1,5 +1,5 @@
 use Rattle.std.proofs.Common.{◌∙◌}
-use Rattle.effect_scan.proofs.Listing.{each_none, each_yes, each_no, each_all}
+use Rattle.effect_scan.proofs.Listing.{each_yes, each_no, each_all}
 use Rattle.effect_scan.proofs.places.Places.each.Goals.{in-Some+in_ok-push-in-Some, in-None}
 use Rattle.effect_scan.proofs.places.Places.each.Goals as goal
 

@@ -1,4 +1,3 @@
-use Rattle.std.proofs.Common.{IfOk}
 use Rattle.effect_scan.proofs.places.Places.reached.Goals as goal
 
 pub returns-in-Below : goal.returns-in-Below

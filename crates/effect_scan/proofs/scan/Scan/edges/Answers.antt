@@ -1,5 +1,5 @@
-use Rattle.std.proofs.Common.{◌≡◌, ◌∙◌, ◌++◌, ◌<◌, ◌≤◌, ℕ, List, length, map, get_or, take, refl, sym, ap, subst, arith}
-use Rattle.effect_scan.proofs.Pairing.{pair, pairs_of_row}
+use Rattle.std.proofs.Common.{◌∙◌, ap}
+use Rattle.effect_scan.proofs.Pairing.{pairs_of_row}
 use Rattle.effect_scan.proofs.scan.Scan.edges.Goals as goal
 
 pub loop-from-preserved : goal.loop-from-preserved

@@ -2,13 +2,13 @@ use Rattle.machine_rules.proofs.Linking.{lacks-signal, lacks-method}
 use Rattle.machine_rules.proofs.setting.Setting.judged.Goals as goal
 
 pub returns-in_default-method_at : goal.returns-in_default-method_at
-returns-in_default-method_at c = lacks-signal c.in-Some.ensures.value c.in_default-method_at.ensures.value
+returns-in_default-method_at g c = lacks-signal c.in-Some.ensures.value c.in_default-method_at.ensures.value
 
 pub returns-in_default-method_at-2 : goal.returns-in_default-method_at-2
-returns-in_default-method_at-2 c = lacks-method c.in-Some-get.ensures.value c.in_default-method_at-2.ensures.value
+returns-in_default-method_at-2 g c = lacks-method c.in-Some-get.ensures.value c.in_default-method_at-2.ensures.value
 
 pub returns : goal.returns
-returns c = record {
+returns g c = record {
   spelled = record {
     sender = c.in-Some.field-0-0.now;
     signal = c.in-Some-method_at.signal.now;

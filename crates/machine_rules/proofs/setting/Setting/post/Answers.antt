@@ -3,10 +3,10 @@ use Rattle.machine_rules.proofs.Beginning.{no-home, becomes-short}
 use Rattle.machine_rules.proofs.setting.Setting.post.Goals as goal
 
 pub unreachable-requires-in_default-home : goal.unreachable-requires-in_default-home
-unreachable-requires-in_default-home c = no-home c.in-Some.ensures c.in_default-home.ensures
+unreachable-requires-in_default-home g c = no-home c.in-Some.ensures c.in_default-home.ensures
 
 pub returns-in_err-entry : goal.returns-in_err-entry
-returns-in_err-entry c = record {
+returns-in_err-entry g c = record {
   object = c.in-Some.receiver.now;
   method = c.in-Some.declared.now;
   is = c.in-Some.ensures;
@@ -18,7 +18,7 @@ returns-in_err-entry c = record {
 }
 
 pub returns-in_err-arguments : goal.returns-in_err-arguments
-returns-in_err-arguments c = record {
+returns-in_err-arguments g c = record {
   object = c.in-Some.receiver.now;
   method = c.in-Some.declared.now;
   is = c.in-Some.ensures;
@@ -30,7 +30,7 @@ returns-in_err-arguments c = record {
 }
 
 pub returns : goal.returns
-returns c = record {
+returns g c = record {
   object = c.in-Some.receiver.now;
   method = c.in-Some.declared.now;
   is = c.in-Some.ensures;

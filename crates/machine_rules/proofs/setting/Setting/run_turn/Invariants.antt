@@ -4,11 +4,11 @@ use Rattle.machine_rules.specs.Reaches.{Reaches}
 use Rattle.machine_rules.proofs.setting.Setting.run_turn.Given as goal
 
 abbrev pub invariant-loop-world : goal.invariant-loop-world
-invariant-loop-world l =
+invariant-loop-world g l =
     record {
-      reaches : Reaches l.self.meta l.self.depth [] l.fn.world [] l.world [];
+      reaches : Reaches l.self.meta (g.N.Answering.gives l.self.natives) l.self.depth [] l.fn.world [] l.world [];
       sound : IsSoundWorld l.self.meta l.world;
     }
 
 abbrev pub decreases-loop-world : goal.decreases-loop-world
-decreases-loop-world l = l.world.left
+decreases-loop-world g l = l.world.left

@@ -25,21 +25,21 @@ pub returns-then-has_repeated_name : goal.returns-then-has_repeated_name
 returns-then-has_repeated_name c =
     (_, (outlined _ _ (fails _ c.has_duplicate_class.ensures c.if-has_duplicate_class.false) (rw c.as_slice-declared.ensures at c.in_ok-outlines.ensures)), inr (c.has_repeated_name.ensures.0 c.if-has_repeated_name.true))
 
-pub returns-in_err-bodies : goal.returns-in_err-bodies
-returns-in_err-bodies c =
+pub returns-in_err-works : goal.returns-in_err-works
+returns-in_err-works c =
     answers _ _
     (refused_use _ _ _ (outlined _ _ (fails _ c.has_duplicate_class.ensures c.if-has_duplicate_class.false) (rw c.as_slice-declared.ensures at c.in_ok-outlines.ensures))
     (members_once c.args.program.now c.in_ok-outlines.outlines.items _ c.in_ok-indexed.ensures (fails _ c.has_repeated_name.ensures c.if-has_repeated_name.false))
-    (λ (uses : Uses). HasUses c.args.program.now c.in_ok-outlines.outlines.items uses.bodies uses.wires uses.owns uses.sites)
-    (rw (c.as_slice-all.ensures, c.in_ok-indexed.ensures.same) at c.in_err-bodies.ensures))
-    _ c.from_residual-in_err-bodies.ensures.0 c.from_residual-in_err-bodies.ensures.1
+    (λ (uses : Uses). HasUses c.args.program.now c.in_ok-outlines.outlines.items uses.works uses.wires uses.owns uses.sites)
+    (rw (c.as_slice-all.ensures, c.in_ok-indexed.ensures.same) at c.in_err-works.ensures))
+    _ c.from_residual-in_err-works.ensures.0 c.from_residual-in_err-works.ensures.1
 
 pub returns-then-has_bad_notify : goal.returns-then-has_bad_notify
 returns-then-has_bad_notify c = (
   _,
   (outlined _ _ (fails _ c.has_duplicate_class.ensures c.if-has_duplicate_class.false) (rw c.as_slice-declared.ensures at c.in_ok-outlines.ensures)),
   (members_once c.args.program.now c.in_ok-outlines.outlines.items _ c.in_ok-indexed.ensures (fails _ c.has_repeated_name.ensures c.if-has_repeated_name.false)),
-  nothing_lacks _ _ _ _ _ _ (rw (c.as_slice-all.ensures, c.in_ok-indexed.ensures.same) at c.in_ok-bodies.ensures),
+  nothing_lacks _ _ _ _ _ _ (rw (c.as_slice-all.ensures, c.in_ok-indexed.ensures.same) at c.in_ok-works.ensures),
   rw (c.as_slice-all.ensures, c.in_ok-indexed.ensures.same) at (c.has_bad_notify.ensures.0 c.if-has_bad_notify.true),
 )
 
@@ -48,14 +48,14 @@ returns-then-has_no_type c = (
   _,
   (outlined _ _ (fails _ c.has_duplicate_class.ensures c.if-has_duplicate_class.false) (rw c.as_slice-declared.ensures at c.in_ok-outlines.ensures)),
   (members_once c.args.program.now c.in_ok-outlines.outlines.items _ c.in_ok-indexed.ensures (fails _ c.has_repeated_name.ensures c.if-has_repeated_name.false)),
-  nothing_lacks _ _ _ _ _ _ (rw (c.as_slice-all.ensures, c.in_ok-indexed.ensures.same) at c.in_ok-bodies.ensures),
+  nothing_lacks _ _ _ _ _ _ (rw (c.as_slice-all.ensures, c.in_ok-indexed.ensures.same) at c.in_ok-works.ensures),
   rw (c.as_slice-all.ensures, c.in_ok-indexed.ensures.same) at (fails _ c.has_bad_notify.ensures c.if-has_bad_notify.false),
   rw (c.as_slice-all.ensures, c.in_ok-indexed.ensures.same) at (c.has_no_type.ensures.0 c.if-has_no_type.true),
 )
 
 pub returns : goal.returns
 returns c =
-    let uses = rw (c.as_slice-all.ensures, c.in_ok-indexed.ensures.same) at c.in_ok-bodies.ensures in
+    let uses = rw (c.as_slice-all.ensures, c.in_ok-indexed.ensures.same) at c.in_ok-works.ensures in
     let outlines = outlined _ _ (fails _ c.has_duplicate_class.ensures c.if-has_duplicate_class.false) (rw c.as_slice-declared.ensures at c.in_ok-outlines.ensures) in
     let clean : IsClean c.args.program.now c.in_ok-outlines.outlines.items = record {
       members = members_once c.args.program.now c.in_ok-outlines.outlines.items _ c.in_ok-indexed.ensures (fails _ c.has_repeated_name.ensures c.if-has_repeated_name.false);
@@ -67,7 +67,7 @@ returns c =
 
 pub invariant_of-result : goal.invariant_of-result
 invariant_of-result c =
-    let uses = rw (c.as_slice-all.ensures, c.in_ok-indexed.ensures.same) at c.in_ok-bodies.ensures in
+    let uses = rw (c.as_slice-all.ensures, c.in_ok-indexed.ensures.same) at c.in_ok-works.ensures in
     let outlines = outlined _ _ (fails _ c.has_duplicate_class.ensures c.if-has_duplicate_class.false) (rw c.as_slice-declared.ensures at c.in_ok-outlines.ensures) in
     let clean : IsClean c.args.program.now c.in_ok-outlines.outlines.items = record {
       members = members_once c.args.program.now c.in_ok-outlines.outlines.items _ c.in_ok-indexed.ensures (fails _ c.has_repeated_name.ensures c.if-has_repeated_name.false);
@@ -76,7 +76,7 @@ invariant_of-result c =
       types = rw (c.as_slice-all.ensures, c.in_ok-indexed.ensures.same) at (fails _ c.has_no_type.ensures c.if-has_no_type.false);
     } in (
       sound c.args.program.now _ outlines clean _
-          (record { bodies = _; uses = uses; objects = rw (c.as_slice-all.ensures, c.in_ok-indexed.ensures.same, c.as_slice.ensures) at c.in_ok-classes.ensures }),
+          (record { works = _; uses = uses; objects = rw (c.as_slice-all.ensures, c.in_ok-indexed.ensures.same, c.as_slice.ensures) at c.in_ok-classes.ensures }),
       rw c.as_slice-2.ensures at c.in_ok-index.ensures,
       rw c.as_slice-3.ensures at c.in_ok-site_names.ensures,
     )

@@ -9,17 +9,17 @@ use Rattle.qt_runtime.proofs.Taken.{took-quiet, took-halted, took-refused-from, 
 use Rattle.qt_runtime.proofs.events.adopt.adopt.Goals as goal
 
 pub returns-in-Err : goal.returns-in-Err
-returns-in-Err c =
+returns-in-Err g c =
     took-not-accepted _ c.refuse.result c.requires.keeps.sound.is.agree (no-parent c.args.setting.now.meta c.args.world.now c.args.parent.now c.args.child.now c.in-Err.ensures.refused) (ready c.requires.left c.requires.idle) c.refuse.ensures
 
 pub returns-in-Err-find_living : goal.returns-in-Err-find_living
-returns-in-Err-find_living c =
+returns-in-Err-find_living g c =
     let a : Numbered Life = record { number = c.in-Ok.number; it = c.in-Ok.field-0-1.now } in
     took-not-accepted _ c.refuse-in-Err-find_living.result c.requires.keeps.sound.is.agree
     (no-child c.args.setting.now.meta c.args.world.now c.args.parent.now c.args.child.now a c.in-Ok.ensures.found c.in-Err-find_living.ensures.refused) (ready c.requires.left c.requires.idle) c.refuse-in-Err-find_living.ensures
 
 pub returns-in-Ok-adopt : goal.returns-in-Ok-adopt
-returns-in-Ok-adopt c =
+returns-in-Ok-adopt g c =
     let a : Numbered Life = record { number = c.in-Ok.number; it = c.in-Ok.field-0-1.now } in
     let b : Numbered Life = record { number = c.in-Ok-find_living.number; it = c.in-Ok-find_living.field-0-1.now } in
     let above = c.in-Ok.ensures.found in
@@ -31,7 +31,7 @@ returns-in-Ok-adopt c =
     (agree-adopted c.requires.keeps.sound.is.agree is.1) (ready c.requires.left c.requires.idle) c.requires.idle c.in-Ok-adopt.ensures.ok
 
 pub returns-in_err-refusal-in-Err-adopt : goal.returns-in_err-refusal-in-Err-adopt
-returns-in_err-refusal-in-Err-adopt c =
+returns-in_err-refusal-in-Err-adopt g c =
     let a : Numbered Life = record { number = c.in-Ok.number; it = c.in-Ok.field-0-1.now } in
     let b : Numbered Life = record { number = c.in-Ok-find_living.number; it = c.in-Ok-find_living.field-0-1.now } in
     let above = c.in-Ok.ensures.found in
@@ -42,7 +42,7 @@ returns-in_err-refusal-in-Err-adopt c =
     took-halted _ c.from_residual.result (adoption-stops c.args.setting.now.meta c.args.world.now c.args.parent.now c.args.child.now a above b below c.args.setting.now.depth is.0 (ready c.requires.left c.requires.idle) c.in_err-refusal-in-Err-adopt.ensures) c.in-Err-adopt.ensures.err c.from_residual.ensures.1
 
 pub returns-in_ok-refusal-in-Err-adopt : goal.returns-in_ok-refusal-in-Err-adopt
-returns-in_ok-refusal-in-Err-adopt c =
+returns-in_ok-refusal-in-Err-adopt g c =
     let a : Numbered Life = record { number = c.in-Ok.number; it = c.in-Ok.field-0-1.now } in
     let b : Numbered Life = record { number = c.in-Ok-find_living.number; it = c.in-Ok-find_living.field-0-1.now } in
     let above = c.in-Ok.ensures.found in

@@ -4,15 +4,15 @@ use Rattle.qt_runtime.proofs.Taken.{took-stopped, ready}
 use Rattle.qt_runtime.proofs.events.assign.write.Goals as goal
 
 pub returns-in_err-changed : goal.returns-in_err-changed
-returns-in_err-changed c = λ e writes. changed-short e _ (ready c.requires.left c.requires.idle) c.in_err-changed.ensures.value c.from_residual.ensures.1
+returns-in_err-changed g c = λ e writes. changed-short e _ (ready c.requires.left c.requires.idle) c.in_err-changed.ensures.value c.from_residual.ensures.1
 
 pub run_update-requires-clause-sound : goal.run_update-requires-clause-sound
-run_update-requires-clause-sound c =
+run_update-requires-clause-sound g c =
     let has = c.in_ok-changed.ensures.value in
     sound-changed c.args.world.now has.lines c.requires.keeps.sound c.in_ok-changed.ensures.agree has.writes.objects has.gives
 
 pub returns-in_err-run_update : goal.returns-in_err-run_update
-returns-in_err-run_update c = λ e writes.
+returns-in_err-run_update g c = λ e writes.
     let has = c.in_ok-changed.ensures.value in
     let ends = rw (c.nothing.ensures, c.as_slice.ensures) at c.in_err-run_update.ensures.ends in
     took-stopped e _
@@ -20,7 +20,7 @@ returns-in_err-run_update c = λ e writes.
     c.from_residual-in_err-run_update.ensures.1
 
 pub returns : goal.returns
-returns c = λ e writes.
+returns g c = λ e writes.
     let has = c.in_ok-changed.ensures.value in
     let ends = rw (c.nothing.ensures, c.as_slice.ensures) at c.in_ok-run_update.ensures.ends in
     changed-run {r = Ok tt} has.lines _ e c.in_ok-changed.ensures.agree c.requires.depth (ready c.requires.left c.requires.idle) (judged-written c.args.world.now e writes c.requires.fits has) has.gives ends

@@ -6,17 +6,17 @@ use Rattle.qt_runtime.proofs.Taken.{took-unchanged, took-stopped, took-not-accep
 use Rattle.qt_runtime.proofs.events.delete.delete.Goals as goal
 
 pub returns-in-Err : goal.returns-in-Err
-returns-in-Err c =
+returns-in-Err g c =
     took-not-accepted _ c.refuse.result c.requires.keeps.sound.is.agree (not-deleted c.args.setting.now.meta c.args.world.now c.args.name.now c.in-Err.ensures.refused) (ready c.requires.left c.requires.idle) c.refuse.ensures
 
 pub returns-in_err-accept : goal.returns-in_err-accept
-returns-in_err-accept c = took-unchanged _ _ (ready c.requires.left c.requires.idle) c.in_err-accept.ensures c.from_residual.ensures.1
+returns-in_err-accept g c = took-unchanged _ _ (ready c.requires.left c.requires.idle) c.in_err-accept.ensures c.from_residual.ensures.1
 
 pub run_deletion-requires-clause-sound : goal.run_deletion-requires-clause-sound
-run_deletion-requires-clause-sound c = sound-accepted c.args.world.now c.requires.keeps.sound c.in_ok-accept.ensures
+run_deletion-requires-clause-sound g c = sound-accepted c.args.world.now c.requires.keeps.sound c.in_ok-accept.ensures
 
 pub returns-in_err-run_deletion : goal.returns-in_err-run_deletion
-returns-in_err-run_deletion c =
+returns-in_err-run_deletion g c =
     let o : Numbered Life = record { number = c.in-Ok.number; it = c.in-Ok.field-0-1.now } in
     let ends = rw (c.nothing-below.ensures, c.new-object.ensures) at c.in_err-run_deletion.ensures.ends in
     took-stopped _ _
@@ -24,7 +24,7 @@ returns-in_err-run_deletion c =
     c.from_residual-in_err-run_deletion.ensures.1
 
 pub returns : goal.returns
-returns c =
+returns g c =
     let o : Numbered Life = record { number = c.in-Ok.number; it = c.in-Ok.field-0-1.now } in
     let ends = rw (c.nothing-below.ensures, c.new-object.ensures) at c.in_ok-run_deletion.ensures.ends in
     deleted c.args.setting.now.meta c.args.world.now c.args.name.now o c.in-Ok.ensures.found {r = Ok tt} c.requires.keeps.sound.is.agree (ready c.requires.left c.requires.idle) c.requires.depth c.in_ok-accept.ensures ends

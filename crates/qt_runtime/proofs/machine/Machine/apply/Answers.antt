@@ -1,28 +1,39 @@
 use Rattle.std.proofs.Common.{subst, sym, ◌∙◌, ◌⊎◌, ◌∷◌, []}
 use Rattle.std.specs.Prelude.{IfErr}
-use Rattle.qt_runtime.specs.Seen.{Seen, OnDone, OnRefused, AcceptsEvent, RefusesEvent, Halts, Stays}
+use Rattle.qt_runtime.specs.Seen.{Seen, AreKept, OnDone, OnRefused, AcceptsEvent, RefusesEvent, Halts, Stays}
 use Rattle.qt_runtime.proofs.Halting.{seen, applied-done, applied-refused, applied-stopped}
 use Rattle.qt_runtime.proofs.Keeping.{keeps-took, settled-took, idle-took}
 use Rattle.qt_runtime.proofs.machine.Machine.apply.Goals as goal
 
 pub invariant_of-self : goal.invariant_of-self
-invariant_of-self c = record { room = c.self.invariant.room; keeps = λ goes. keeps-took c.take_event-result.result c.classes.ensures.sound (c.self.invariant.keeps c.if-self.false) c.take_event-result.ensures (sym c.is_err-self-inside.ensures.value ∙ goes); idle = λ goes. idle-took c.take_event-result.result c.take_event-result.ensures (sym c.is_err-self-inside.ensures.value ∙ goes) }
+invariant_of-self g c = record { room = c.self.invariant.room; keeps = λ goes. keeps-took c.take_event-result.result c.classes.ensures.sound (c.self.invariant.keeps c.if-self.false) c.take_event-result.ensures (sym c.is_err-self-inside.ensures.value ∙ goes); idle = λ goes. idle-took c.take_event-result.result c.take_event-result.ensures (sym c.is_err-self-inside.ensures.value ∙ goes) }
+
+-- the natives of the machine are the setting's
+pub take_event-result-requires-clause-promises : goal.take_event-result-requires-clause-promises
+take_event-result-requires-clause-promises g c =
+    let Kept : Seen _ → Type 0 = λ m. AreKept g.N.Answering.takes g.N.Answering.gives m in
+    subst Kept (sym c.self.view_is) c.requires
+
+pub returns-clause-kept : goal.returns-clause-kept
+returns-clause-kept g c =
+    let Kept : Seen _ → Type 0 = λ m. AreKept g.N.Answering.takes g.N.Answering.gives m in
+    subst Kept (sym c.self.view_is) c.requires
 
 pub returns-clause-done : goal.returns-clause-done
-returns-clause-done c =
-    let From : Seen → Type 0 = λ a. OnDone c.take_event-result.result (AcceptsEvent a c.args.event.now (seen c.self.inside.setting.meta c.self.inside.setting.depth c.take_event-result.new.world c.is_err-self-inside.result)) in
-    subst From c.self.view_is (applied-done c.take_event-result.result c.take_event-result.ensures c.if-self.false c.is_err-self-inside.ensures.value)
+returns-clause-done g c =
+    let From : Seen _ → Type 0 = λ a. OnDone c.take_event-result.result (AcceptsEvent g.N.Answering.gives a c.args.event.now (seen c.self.inside.setting.meta c.self.inside.setting.natives c.self.inside.setting.depth c.take_event-result.new.world c.is_err-self-inside.result)) in
+    subst From c.self.view_is (applied-done g.N.Answering.gives c.self.inside.setting.natives c.take_event-result.result c.take_event-result.ensures c.if-self.false c.is_err-self-inside.ensures.value)
 
 pub returns-clause-refused : goal.returns-clause-refused
-returns-clause-refused c =
-    let From : Seen → Type 0 = λ a. OnRefused c.take_event-result.result (λ n. RefusesEvent a c.args.event.now n (seen c.self.inside.setting.meta c.self.inside.setting.depth c.take_event-result.new.world c.is_err-self-inside.result)) in
-    subst From c.self.view_is (applied-refused c.take_event-result.result c.take_event-result.ensures c.if-self.false c.is_err-self-inside.ensures.value)
+returns-clause-refused g c =
+    let From : Seen _ → Type 0 = λ a. OnRefused c.take_event-result.result (λ n. RefusesEvent g.N.Answering.gives a c.args.event.now n (seen c.self.inside.setting.meta c.self.inside.setting.natives c.self.inside.setting.depth c.take_event-result.new.world c.is_err-self-inside.result)) in
+    subst From c.self.view_is (applied-refused g.N.Answering.gives c.self.inside.setting.natives c.take_event-result.result c.take_event-result.ensures c.if-self.false c.is_err-self-inside.ensures.value)
 
 pub returns-clause-stopped : goal.returns-clause-stopped
-returns-clause-stopped c =
-    let after : Seen = seen c.self.inside.setting.meta c.self.inside.setting.depth c.take_event-result.new.world c.is_err-self-inside.result in
-    let From : Seen → Type 0 = λ a. IfErr c.take_event-result.result (λ f. Halts a (c.args.event.now ∷ []) f after ⊎ Stays a f after) in
-    subst From c.self.view_is (applied-stopped c.take_event-result.result c.classes.ensures.sound (c.self.invariant.keeps c.if-self.false).sound c.take_event-result.ensures c.if-self.false c.is_err-self-inside.ensures.value)
+returns-clause-stopped g c =
+    let after : Seen _ = seen c.self.inside.setting.meta c.self.inside.setting.natives c.self.inside.setting.depth c.take_event-result.new.world c.is_err-self-inside.result in
+    let From : Seen _ → Type 0 = λ a. IfErr c.take_event-result.result (λ f. Halts g.N.Answering.gives a (c.args.event.now ∷ []) f after ⊎ Stays a f after) in
+    subst From c.self.view_is (applied-stopped g.N.Answering.gives c.self.inside.setting.natives c.take_event-result.result c.classes.ensures.sound (c.self.invariant.keeps c.if-self.false).sound c.take_event-result.ensures c.if-self.false c.is_err-self-inside.ensures.value)
 
 pub returns-clause-settled : goal.returns-clause-settled
-returns-clause-settled c = settled-took c.take_event-result.result c.classes.ensures.sound (c.self.invariant.keeps c.if-self.false) c.take_event-result.ensures
+returns-clause-settled g c = settled-took c.take_event-result.result c.classes.ensures.sound (c.self.invariant.keeps c.if-self.false) c.take_event-result.ensures

@@ -7,17 +7,17 @@ use Rattle.qt_runtime.proofs.Applying.{completes-none, completes-then, run-stops
 use Rattle.qt_runtime.proofs.machine.Machine.run.Goals as goal
 
 pub loop-event-init : goal.loop-event-init
-loop-event-init c = completes-none (sym c.is_stopped.ensures.value ∙ c.if-is_stopped.false) (c.is_stopped.ensures.idle c.if-is_stopped.false)
+loop-event-init g c = record { taken = completes-none (sym c.is_stopped.ensures.value ∙ c.if-is_stopped.false) (c.is_stopped.ensures.idle c.if-is_stopped.false); kept = c.requires }
 
 pub loop-event-preserved : goal.loop-event-preserved
-loop-event-preserved c =
+loop-event-preserved g c =
     let more = take_more c.args.events.now c.loop-event.event-index c.event-item.result c.loop-event-test.true in
-    rw (more, ← c.event-item.is) (completes-then c.loop-event.invariant (completes-of c.in_ok-_answer._answer c.in_ok-_answer.ensures.done c.in_ok-_answer.ensures.refused))
+    record { taken = rw (more, ← c.event-item.is) (completes-then c.loop-event.invariant.taken (completes-of c.in_ok-_answer._answer c.in_ok-_answer.ensures.done c.in_ok-_answer.ensures.refused)); kept = c.in_ok-_answer.ensures.kept }
 
-pub returns-in_err-_answer : goal.returns-in_err-_answer
-returns-in_err-_answer c =
+pub returns-in_err-_answer-clause-ran : goal.returns-in_err-_answer-clause-ran
+returns-in_err-_answer-clause-ran g c =
     let more = drop_more c.args.events.now c.loop-event.event-index c.event-item.result c.loop-event-test.true in
     let rest = drop (c.loop-event.event-index + 1) c.args.events.now in
     let split : take c.loop-event.event-index c.args.events.now ++ c.event-item.result ∷ rest ≡ c.args.events.now =
     ap (λ (l : List Event). take c.loop-event.event-index c.args.events.now ++ l) (sym (rw (← c.event-item.is) at more)) ∙ take-append-drop c.loop-event.event-index c.args.events.now in
-    subst (λ (l : List Event). RunsAll c.args.self.now l c.from_residual.result c.apply.new.self) split (run-stops rest _ c.loop-event.invariant c.in_err-_answer.ensures.stopped c.from_residual.ensures.1)
+    subst (λ (l : List Event). RunsAll g.N.Answering.gives c.args.self.now l c.from_residual.result c.apply.new.self) split (run-stops rest _ c.loop-event.invariant.taken c.in_err-_answer.ensures.stopped c.from_residual.ensures.1)

@@ -1,7 +1,10 @@
 use Rattle.std.proofs.Common.{take}
-use Rattle.qt_runtime.specs.Seen.{Completes}
+use Rattle.qt_runtime.specs.Seen.{AreKept, Completes}
 use Rattle.qt_runtime.proofs.machine.Machine.run.Given as goal
 
 -- the events so far were taken
 abbrev pub invariant-loop-event : goal.invariant-loop-event
-invariant-loop-event l = Completes l.fn.self (take l.event-index l.events) l.self
+invariant-loop-event g l = record {
+  taken : Completes g.N.Answering.gives l.fn.self (take l.event-index l.events) l.self;
+  kept : AreKept g.N.Answering.takes g.N.Answering.gives l.self;
+}

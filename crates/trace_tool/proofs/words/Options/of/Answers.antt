@@ -1,9 +1,7 @@
-use Rattle.std.proofs.Common.{◌≡◌, List, ℕ, ◌∷◌, sym, subst}
+use Rattle.std.proofs.Common.{sym, subst}
 use Rattle.trace_tool.specs.Words.{IsLimit}
+use Rattle.trace_tool.proofs.Saying.{after_first}
 use Rattle.trace_tool.proofs.words.Options.of.Goals as goal
-
-after_first : (words rest others : List (List ℕ)) (word other : List ℕ) → words ≡ word ∷ rest → words ≡ other ∷ others → rest ≡ others
-after_first words rest others word other p q = cc
 
 pub returns-in_err-words-2-clause-said : goal.returns-in_err-words-2-clause-said
 returns-in_err-words-2-clause-said c =

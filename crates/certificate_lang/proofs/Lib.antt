@@ -1,0 +1,5 @@
+pub mod Names
+pub mod Nodes
+pub mod OneTree
+pub mod Rows
+pub mod Certificates

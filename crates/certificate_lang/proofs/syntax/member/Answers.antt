@@ -1,0 +1,12 @@
+use Rattle.std.proofs.Common.{◌∙◌}
+use Rattle.certificate_lang.proofs.Nodes.{property_found, method_found}
+use Rattle.certificate_lang.proofs.Certificates.{is_not_so}
+use Rattle.certificate_lang.proofs.syntax.member.Goals as goal
+
+pub returns-then-not-is_at_open : goal.returns-then-not-is_at_open
+returns-then-not-is_at_open c =
+    let other = is_not_so c.is_at_open.result c.if-not-is_at_open.true c.is_at_open.ensures in
+    property_found c.in_ok-name.ensures.reads (λ after e. other (after, c.rest.ensures ∙ e))
+
+pub returns : goal.returns
+returns c = method_found c.in_ok-name.ensures.reads c.in_ok-types.ensures.reads

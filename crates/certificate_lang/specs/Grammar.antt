@@ -1,0 +1,107 @@
+-- The grammar of a certificate's lines. A value of a type below is a way to read tokens by its rule
+-- (docs/certificate.md, "The certificate").
+--
+--   setting = Name number                    "certificate" and "bound" are names
+--   line    = node number {Name}
+--   node    = "~" Name | Name "." member
+--   member  = sig | Name
+--
+-- A number is at most 2147483647.
+use Rattle.std.specs.Prelude.{◌≡◌, ℕ, List, [], ◌∷◌, Result}
+use Rattle.texts.specs.Cursor.{NotAt}
+use Rattle.texts.specs.Lists.{spell_each}
+use Rattle.texts.specs.Literals.{greatest}
+use Rattle.texts.specs.Numerals.{Numeral, spell_numeral, value_of}
+use Rattle.texts.specs.Reading.{Reads, EndsAnywhere, IsAtEnd, spell_name}
+use Rattle.texts.specs.Signatures.{SigReading, spell_sig, tree_of_sig, HasFewTypes, HasPlainReference}
+use Rattle.texts.specs.declared.fault.ParseFault.{ParseFault}
+use Rattle.texts.specs.declared.symbol.Symbol.TheVariants.{Open, Dot, Tilde}
+use Rattle.texts.specs.declared.token.Token.{Token}
+use Rattle.texts.specs.declared.token.Token.TheVariants as token
+use Rattle.certificate_lang.specs.declared.certificate.MemberName.{MemberName}
+use Rattle.certificate_lang.specs.declared.certificate.MemberName.TheVariants as member
+use Rattle.certificate_lang.specs.declared.certificate.NodeName.{NodeName}
+use Rattle.certificate_lang.specs.declared.certificate.Line.{Line}
+
+-- ---- a name with a number
+abbrev pub spell_setting : List ℕ → Numeral greatest → List Token → List Token
+spell_setting name n after = token.Name name ∷ spell_numeral greatest n after
+
+-- the tokens are this name and this number
+pub record IsSetting (name : List ℕ) (tokens : List Token) (n : ℕ) : Type 0 where
+  pub numeral : Numeral greatest
+  pub spelled : tokens ≡ spell_setting name numeral []
+  pub value : value_of numeral.digits ≡ n
+
+-- ---- nodes
+pub data MemberReading : Type 0 where
+  method : SigReading → MemberReading
+  property : (name : List ℕ) → MemberReading
+
+abbrev pub spell_member : MemberReading → List Token → List Token
+spell_member (method m) after = spell_sig m after
+spell_member (property name) after = token.Name name ∷ after
+
+abbrev pub tree_of_member : MemberReading → MemberName
+tree_of_member (method m) = member.Method (tree_of_sig m)
+tree_of_member (property name) = member.Property name
+
+pub data NodeReading : Type 0 where
+  destruction : (class : List ℕ) → NodeReading
+  of_class : (class : List ℕ) → MemberReading → NodeReading
+
+abbrev pub spell_node : NodeReading → List Token → List Token
+spell_node (destruction class) after = token.Symbol Tilde ∷ token.Name class ∷ after
+spell_node (of_class class m) after = token.Name class ∷ token.Symbol Dot ∷ spell_member m after
+
+abbrev pub tree_of_node : NodeReading → NodeName
+tree_of_node (destruction class) = record { class = class; member = member.Destruction }
+tree_of_node (of_class class m) = record { class = class; member = tree_of_member m }
+
+-- a property's name doesn't go on as a signature
+abbrev pub EndsNode : List Token → Type 0
+EndsNode after = NotAt Open after
+
+-- ---- lines of nodes
+pub record LineReading : Type 0 where
+  pub node : NodeReading
+  pub rank : Numeral greatest
+  pub destroys : List (List ℕ)
+
+abbrev pub spell_line : LineReading → List Token → List Token
+spell_line r after = spell_node r.node (spell_numeral greatest r.rank (spell_each spell_name r.destroys after))
+
+abbrev pub tree_of_line : LineReading → Line
+tree_of_line r = record { node = tree_of_node r.node; rank = value_of r.rank.digits; destroys = r.destroys }
+
+-- a method has at most 8 parameters
+abbrev pub HasFewParameters : MemberName → Type 0
+HasFewParameters (member.Method sig) = HasFewTypes sig
+HasFewParameters (member.Property name) = Unit {0}
+HasFewParameters member.Destruction = Unit {0}
+
+-- the tokens are this line
+pub record IsNodeLine (tokens : List Token) (line : Line) : Type 0 where
+  pub reading : LineReading
+  pub spelled : tokens ≡ spell_line reading []
+  pub tree : tree_of_line reading ≡ line
+  pub few : HasFewParameters line.node.member
+  -- signatures have a normal form
+  pub normal : ¬ HasPlainReference tokens
+
+-- ---- what the readers answer
+abbrev pub ReadsSetting : List ℕ → List Token → Result ℕ ParseFault → List Token → Type 0
+ReadsSetting name before result after = Reads (spell_setting name) (λ n. value_of n.digits) EndsAnywhere before result after
+
+abbrev pub IsAtOpen : List Token → Type 0
+IsAtOpen tokens = (after : List Token) × (tokens ≡ token.Symbol Open ∷ after)
+
+abbrev pub ReadsMember : List Token → Result MemberName ParseFault → List Token → Type 0
+ReadsMember before result after = Reads spell_member tree_of_member EndsNode before result after
+
+abbrev pub ReadsNode : List Token → Result NodeName ParseFault → List Token → Type 0
+ReadsNode before result after = Reads spell_node tree_of_node EndsNode before result after
+
+-- .. for all tokens of a line
+abbrev pub ReadsNodeLine : List Token → Result Line ParseFault → List Token → Type 0
+ReadsNodeLine before result after = Reads spell_line tree_of_line IsAtEnd before result after

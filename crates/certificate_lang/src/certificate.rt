@@ -1,0 +1,46 @@
+//! Certificates: what they say of each node of a program.
+
+use signatures::{Name, Sig};
+use sqlite_items::Items;
+
+/// A member of a class, as a certificate names it.
+#[derive(Drop)]
+pub enum MemberName {
+    /// `m(T, ..)`: a method, by its signature in normal form.
+    Method(Sig),
+    /// `p`: a property.
+    Property(Name),
+    /// `~`, in front of the class: the destruction of its objects.
+    Destruction,
+}
+
+/// A node, as a certificate names it: `C.m(T, ..)`, `C.p` or `~C`.
+#[derive(Drop)]
+pub struct NodeName {
+    /// The class.
+    pub class: Name,
+    /// The member.
+    pub member: MemberName,
+}
+
+/// What a certificate says of a node: `NODE RANK {CLASS}`.
+#[derive(Drop)]
+pub struct Line {
+    /// The node.
+    pub node: NodeName,
+    /// Its rank, which is above the rank of each node that it may lead to at once.
+    pub rank: u32,
+    /// Its destroy set, by the names of classes: those whose objects may be destroyed in a chain of calls that begins at
+    /// the node. They may stand in any order, and one may stand twice.
+    pub destroys: Items<Name>,
+}
+
+/// A certificate: a bound on how deep activations nest, and a rank and a destroy set for each node. Whether it is valid
+/// for a program is told by `check`.
+#[derive(Drop)]
+pub struct Certificate {
+    /// The bound, which is above each rank.
+    pub bound: u32,
+    /// The lines of the nodes, in any order.
+    pub lines: Items<Line>,
+}

@@ -1,0 +1,121 @@
+//! Reads a certificate, line by line.
+
+ghost use Rattle.std.specs.Prelude.{ℕ, List, ◌<◌, length, IfOk, IfSome};
+ghost use Rattle.certificate_lang.specs.Reads.{ReadsCertificate, SplitsRow, SplitsSetting, ReadsNodeLines, ReadsWholeSetting, ReadsLine, HasOneCertificate};
+
+use crate::certificate::{Certificate, Line};
+use crate::fault::CertificateFault;
+use crate::syntax::{has_few_parameters, line, setting};
+use sqlite_items::Items;
+use std::alloc::Global;
+use texts::{Cursor, Token, has_plain_reference, split_line, tokens};
+
+/// The version of the format.
+const VERSION: u32 = 1;
+
+/// Reads a certificate: `certificate 1`, `bound N`, and a line `NODE RANK {CLASS}` for each node, where a node is
+/// `C.m(T, ..)`, `C.p` or `~C`. A line ends at a newline or at the end of the text; lines that are empty, that is blank or
+/// a comment, are passed over. Numbers are at most 2147483647, and signatures are read in their normal form. Time and
+/// memory are linear in the text.
+///
+/// - `Format`: the text isn't such.
+/// - `Memory`: a growth of memory was refused.
+pub fn read_certificate(alloc: Global, bytes: &[u8]) -> Result<Certificate, CertificateFault>
+    ensures { ReadsCertificate bytes.now result }
+{
+    let (version, after) = setting_line(alloc, bytes, b"certificate")?;
+    if version != VERSION {
+        return Err(CertificateFault::Format);
+    }
+    let (bound, rest) = setting_line(alloc, after, b"bound")?;
+    let lines = node_lines(alloc, rest)?;
+    Ok(Certificate { bound, lines })
+}
+
+/// A text is at most one certificate.
+pub fn one_reading()
+    ensures { (text : List ℕ) → HasOneCertificate text }
+{}
+
+/// Takes the first line that isn't empty, which has to be this name and a number: the number, and what follows the line.
+fn setting_line<'a>(
+    alloc: Global,
+    text: &'a [u8],
+    name: &[u8],
+) -> Result<(u32, &'a [u8]), CertificateFault>
+    ensures { SplitsSetting name.now text.now result }
+{
+    match next_row(alloc, text)? {
+        Some((tokens, after)) => {
+            let number = whole_setting(alloc, tokens.as_slice(), name)?;
+            Ok((number, after))
+        }
+        None => Err(CertificateFault::Format),
+    }
+}
+
+/// The lines of nodes that the text is.
+fn node_lines(alloc: Global, text: &[u8]) -> Result<Items<Line>, CertificateFault>
+    ensures { ReadsNodeLines text.now result }
+{
+    let mut lines = Items::new(alloc);
+    let mut rest = text;
+    while let Some((tokens, after)) = next_row(alloc, rest)? {
+        let line = node_line(alloc, tokens.as_slice())?;
+        lines.push(line)?;
+        rest = after;
+    }
+    Ok(lines)
+}
+
+/// The tokens of the first line that isn't empty, and what follows the line; or `None` where all are empty.
+fn next_row<'a>(
+    alloc: Global,
+    text: &'a [u8],
+) -> Result<Option<(Items<Token>, &'a [u8])>, CertificateFault>
+    ensures splits { SplitsRow text.now result }
+    ensures shorter { IfOk result (λ row.
+        IfSome row (λ parts. length parts.1.now < length text.now)) }
+{
+    let mut rest = text;
+    while let Some((line, after)) = split_line(rest) {
+        let tokens = tokens(alloc, line)?;
+        if !tokens.is_empty() {
+            return Ok(Some((tokens, after)));
+        }
+        rest = after;
+    }
+    Ok(None)
+}
+
+/// The number of the setting that the tokens are.
+fn whole_setting(alloc: Global, tokens: &[Token], name: &[u8]) -> Result<u32, CertificateFault>
+    ensures { ReadsWholeSetting name.now tokens.now result }
+{
+    let mut cursor = Cursor::new(alloc, tokens);
+    let number = setting(&mut cursor, name)?;
+    if cursor.is_empty() {
+        Ok(number)
+    } else {
+        Err(CertificateFault::Format)
+    }
+}
+
+/// The line of a node that the tokens are.
+fn node_line(alloc: Global, tokens: &[Token]) -> Result<Line, CertificateFault>
+    ensures { ReadsLine tokens.now result }
+{
+    if has_plain_reference(tokens) {
+        return Err(CertificateFault::Format);
+    }
+    let mut cursor = Cursor::new(alloc, tokens);
+    let line = line(&mut cursor)?;
+    if !cursor.is_empty() {
+        return Err(CertificateFault::Format);
+    }
+    if has_few_parameters(&line.node.member) {
+        Ok(line)
+    } else {
+        Err(CertificateFault::Format)
+    }
+}

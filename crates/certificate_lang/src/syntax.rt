@@ -1,0 +1,99 @@
+//! The grammar of a certificate's lines, one function a rule.
+
+ghost use Rattle.std.specs.Prelude.{◌↔◌, IsTrue};
+ghost use Rattle.certificate_lang.specs.Grammar.{ReadsSetting, IsAtOpen, ReadsMember, ReadsNode, ReadsNodeLine, HasFewParameters};
+ghost use Rattle.texts.specs.Lists.{spell_each};
+ghost use Rattle.texts.specs.Reading.{Reads, IsAtEnd, spell_name};
+
+use crate::certificate::{Line, MemberName, NodeName};
+use signatures::{Name, Sig};
+use sqlite_items::Items;
+use texts::{Cursor, ParseFault, Symbol, Token, TypePart, has_few_types, list};
+
+/// The greatest number of a certificate.
+const GREATEST: u32 = 2147483647;
+
+/// `NAME number`, for this name: the number.
+pub fn setting(cursor: &mut Cursor, name: &[u8]) -> Result<u32, ParseFault>
+    ensures { ReadsSetting name.now cursor.old result cursor.new }
+{
+    match cursor.next()? {
+        Token::Name(found) if found.bytes() == name => cursor.number(GREATEST),
+        _ => Err(ParseFault::Syntax),
+    }
+}
+
+/// `NODE RANK {CLASS}`: what is left behind it has to be judged by the caller.
+pub fn line(cursor: &mut Cursor) -> Result<Line, ParseFault>
+    ensures { ReadsNodeLine cursor.old result cursor.new }
+{
+    let node = node(cursor)?;
+    let rank = cursor.number(GREATEST)?;
+    let destroys = names(cursor)?;
+    Ok(Line {
+        node,
+        rank,
+        destroys,
+    })
+}
+
+/// `~C`, `C.m(T, ..)` or `C.p`.
+fn node(cursor: &mut Cursor) -> Result<NodeName, ParseFault>
+    ensures { ReadsNode cursor.old result cursor.new }
+{
+    if cursor.eat(Symbol::Tilde) {
+        let class = cursor.name()?;
+        return Ok(NodeName {
+            class,
+            member: MemberName::Destruction,
+        });
+    }
+    let class = cursor.name()?;
+    cursor.expect(Symbol::Dot)?;
+    let member = member(cursor)?;
+    Ok(NodeName { class, member })
+}
+
+/// `m(T, ..)` or `p`.
+fn member(cursor: &mut Cursor) -> Result<MemberName, ParseFault>
+    ensures { ReadsMember cursor.old result cursor.new }
+{
+    let name = cursor.name()?;
+    if !is_at_open(cursor.rest()) {
+        return Ok(MemberName::Property(name));
+    }
+    let types = list::<TypePart>(cursor)?;
+    Ok(MemberName::Method(Sig { name, types }))
+}
+
+/// Whether `(` comes next.
+fn is_at_open(tokens: &[Token]) -> bool
+    ensures { IsTrue result ↔ IsAtOpen tokens.now }
+{
+    match tokens.split_first() {
+        Some((Token::Symbol(symbol), _)) => *symbol == Symbol::Open,
+        _ => false,
+    }
+}
+
+/// Names up to the end.
+fn names(cursor: &mut Cursor) -> Result<Items<Name>, ParseFault>
+    ensures { Reads (spell_each spell_name) (λ names. names) IsAtEnd cursor.old result cursor.new }
+{
+    let mut names = Items::new(cursor.alloc());
+    while !cursor.is_empty() {
+        let name = cursor.name()?;
+        names.push(name)?;
+    }
+    Ok(names)
+}
+
+/// Whether the member has at most 8 parameters.
+pub fn has_few_parameters(member: &MemberName) -> bool
+    ensures { IsTrue result ↔ HasFewParameters member.now }
+{
+    match member {
+        MemberName::Method(sig) => has_few_types(sig),
+        MemberName::Property(_) | MemberName::Destruction => true,
+    }
+}

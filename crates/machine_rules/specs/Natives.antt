@@ -1,0 +1,96 @@
+-- What natives answer (docs/machine.md, "Natives").
+use Rattle.std.specs.Prelude.{◌≡◌, ℕ, ◌<◌, List, Option, Some, slice_get}
+use Rattle.std.specs.List.{AllByRecursion, AllZip}
+use Rattle.signatures.specs.declared.sig.Sig.{Sig}
+use Rattle.signatures.specs.declared.value.Value.{Value}
+use Rattle.meta_model.specs.declared.object.MetaMethod.{MetaMethod}
+use Rattle.meta_model.specs.declared.object.MetaObject.{MetaObject}
+use Rattle.meta_model.specs.declared.object.MetaProperty.{MetaProperty}
+use Rattle.meta_model.specs.Loaded.{Loaded}
+use Rattle.meta_model.specs.Members.{IsClass, Declares, base_of, method_count}
+use Rattle.object_tree.specs.declared.object.Object.{Object}
+use Rattle.object_tree.specs.Objects.{stored}
+use Rattle.meta_model.specs.declared.effects.MetaEffects.{MetaEffects}
+use Rattle.native_slots.specs.declared.action.Action.{Action}
+use Rattle.native_slots.specs.declared.action.Action.TheVariants as action
+use Rattle.machine_state.specs.declared.entry.Entry.{Entry}
+use Rattle.machine_state.specs.declared.entry.Entry.TheVariants.{At}
+use Rattle.machine_state.specs.declared.entry.Happening.TheVariants.{Answered}
+use Rattle.machine_state.specs.declared.entry.ShownAction.{ShownAction}
+use Rattle.machine_state.specs.declared.entry.ShownAction.TheVariants as show
+use Rattle.machine_state.specs.Objects.{shown, all_shown}
+use Rattle.machine_rules.specs.There.{IsMember, IsField}
+
+-- Which lists of actions a native may answer: of the name of the class that declares it, its signature, its arguments, and
+-- the present values of the properties that it reads.
+abbrev pub NativeAnswers : Type 1
+NativeAnswers = List ℕ → Sig → List Value → List Value → List Action → Type 0
+
+-- natives have one answer to one question
+abbrev pub AnswersOnce : NativeAnswers → Type 0
+AnswersOnce gives =
+    (class : List ℕ) (sig : Sig) (arguments reads : List Value) (a b : List Action) →
+    gives class sig arguments reads a → gives class sig arguments reads b → a ≡ b
+
+-- the class that declares method m of a class: this one, unless its base has the method
+pub data DeclaredBy (p : Loaded) (m : ℕ) : ℕ → ℕ → Type 0 where
+  own : {c : ℕ} → Declares p c m → DeclaredBy p m c c
+  inherited : {c b d : ℕ} → base_of p c ≡ Some b → m < method_count p b → DeclaredBy p m b d → DeclaredBy p m c d
+
+-- these are the present values of properties of an object
+abbrev pub AreRead : List Object → ℕ → List ℕ → List Value → Type 0
+AreRead objects o properties values = AllZip (λ q value. stored objects o q ≡ Some value) properties values
+
+-- the native that is method m of object o may answer these actions
+pub record MayAnswer (p : Loaded) (natives : NativeAnswers) (objects : List Object) (o m : ℕ) (arguments : List Value)
+    (effects : MetaEffects) (actions : List Action) : Type 0 where
+  pub object : Object
+  pub method : MetaMethod
+  pub is : IsMember p objects o m object method
+  pub number : ℕ
+  pub declared : DeclaredBy p m is.life.class number
+  pub class : MetaObject
+  pub is_class : IsClass p number class
+  pub reads : List Value
+  pub are_read : AreRead objects o effects.reads reads
+  pub gives : natives class.name method.sig arguments reads actions
+
+-- an action of an answer is written down so: with the name of the property or the signal
+pub data IsShownAs (p : Loaded) (objects : List Object) (o : ℕ) (effects : MetaEffects) : Action → ShownAction → Type 0 where
+  set_shown : {k q : ℕ} {value : Value} {x : Object} {property : MetaProperty} →
+      slice_get effects.sets k ≡ Some q → IsField p objects o q x property →
+      IsShownAs p objects o effects (action.Set k value) (show.Set property.name (shown objects value))
+  emit_shown : {k g : ℕ} {arguments : List Value} {x : Object} {signal : MetaMethod} →
+      slice_get effects.emits k ≡ Some g → IsMember p objects o g x signal →
+      IsShownAs p objects o effects (action.Emit k arguments) (show.Emit signal.sig.name (all_shown objects arguments))
+
+-- .. a list of them
+abbrev pub AreShownAs : Loaded → List Object → ℕ → MetaEffects → List Action → List ShownAction → Type 0
+AreShownAs p objects o effects actions lines = AllZip (IsShownAs p objects o effects) actions lines
+
+-- ---- what the code asks
+
+-- the number of the property or of the signal that an action names by its place
+abbrev pub place_of : MetaEffects → Action → Option ℕ
+place_of effects (action.Set k value) = slice_get effects.sets k
+place_of effects (action.Emit k arguments) = slice_get effects.emits k
+
+-- the object has a value of the property
+pub record HasStored (objects : List Object) (o q : ℕ) : Type 0 where
+  pub value : Value
+  pub is : stored objects o q ≡ Some value
+
+-- an action can be written down
+pub record IsTellable (p : Loaded) (objects : List Object) (o : ℕ) (effects : MetaEffects) (action : Action) : Type 0 where
+  pub line : ShownAction
+  pub is : IsShownAs p objects o effects action line
+
+-- .. each of a list
+abbrev pub AreTellable : Loaded → List Object → ℕ → MetaEffects → List Action → Type 0
+AreTellable p objects o effects actions = AllByRecursion (IsTellable p objects o effects) actions
+
+-- the entry of these actions
+pub record TellsAnswer (p : Loaded) (objects : List Object) (depth o : ℕ) (effects : MetaEffects) (actions : List Action) (entry : Entry) : Type 0 where
+  pub lines : List ShownAction
+  pub are : AreShownAs p objects o effects actions lines
+  pub is : entry ≡ At depth (Answered lines)

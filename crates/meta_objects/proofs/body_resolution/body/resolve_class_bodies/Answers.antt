@@ -1,7 +1,0 @@
-use Rattle.std.proofs.Common.{rules}
-use Rattle.meta_model.proofs.Zips.{zip_push}
-use Rattle.meta_objects.proofs.body_resolution.body.resolve_class_bodies.Goals as goal
-
-pub loop-slot-preserved : goal.loop-slot-preserved
-loop-slot-preserved c =
-    zip_push _ _ _ _ _ _ _ c.loop-slot-test.true c.slot-item.is (search rules) c.loop-slot.invariant c.in_ok-push.ensures.ok

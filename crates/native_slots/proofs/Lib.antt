@@ -1,0 +1,6 @@
+pub mod Sameness
+pub mod Finding
+pub mod PlainValues
+pub mod Joining
+pub mod Asking
+pub mod Promising

@@ -1,0 +1,7 @@
+pub mod Plain
+pub mod Heads
+pub mod Effects
+pub mod Answers
+pub mod Promises
+pub mod Fitting
+pub mod FaultNumbers

@@ -1,0 +1,103 @@
+//! Whether the effects that a closure keeps to are those that a program declares.
+
+ghost use Rattle.std.specs.Prelude.{◌≡◌, ◌↔◌, IsTrue, slice_get, Some};
+ghost use Rattle.std.specs.List.{AllZip};
+ghost use Rattle.native_slots.specs.Effects.{kinds_of};
+ghost use Rattle.native_slots.specs.Fitting.{IsPropertyAs, IsSignalAs, AreAsDeclared, lower_of};
+
+use crate::effects::{Effects, PlainProperty, PlainSignal};
+use crate::fault::NativeFault;
+use crate::plain_type::PlainType;
+use meta_objects::{MetaEffects, MetaMethod, MetaObject, ValueType};
+
+/// Whether the effects are those declared of a native, which is this method of this class, each list in its order.
+pub fn are_as_declared(
+    class: &MetaObject,
+    method: &MetaMethod,
+    declared: &MetaEffects,
+    kept: &Effects,
+) -> bool
+    ensures { IsTrue result ↔ AreAsDeclared class.now method.now declared.now kept.now }
+{
+    are_kinds(method.kinds.as_slice(), kept.parameters.as_slice())
+        && are_properties(class, declared.reads.as_slice(), kept.reads.as_slice())
+        && are_signals(class, declared.emits.as_slice(), kept.emits.as_slice())
+        && are_properties(class, declared.sets.as_slice(), kept.sets.as_slice())
+}
+
+/// Whether both lists hold the same types in the same order.
+fn are_kinds(kinds: &[ValueType], types: &[PlainType]) -> bool
+    ensures { IsTrue result ↔ (kinds.now ≡ kinds_of types.now) }
+{
+    match (kinds.split_first(), types.split_first()) {
+        (None, None) => true,
+        (Some((kind, more)), Some((plain, others))) => {
+            *kind == plain.kind() && are_kinds(more, others)
+        }
+        _ => false,
+    }
+}
+
+/// Whether the class's properties of these numbers have these names and types.
+fn are_properties(class: &MetaObject, numbers: &[usize], properties: &[PlainProperty]) -> bool
+    ensures { IsTrue result ↔ AllZip (IsPropertyAs class.now) numbers.now properties.now }
+{
+    match (numbers.split_first(), properties.split_first()) {
+        (None, None) => true,
+        (Some((number, more)), Some((property, others))) => {
+            is_property(class, *number, property) && are_properties(class, more, others)
+        }
+        _ => false,
+    }
+}
+
+/// Whether the class's property of this number has this name and type.
+fn is_property(class: &MetaObject, number: usize, property: &PlainProperty) -> bool
+    ensures { IsTrue result ↔ IsPropertyAs class.now number property.now }
+{
+    match class.properties.get(number) {
+        Some(found) => { found.name.is_same(&property.name) && found.kind == property.kind.kind() }
+        None => false,
+    }
+}
+
+/// Whether the class's methods of these numbers have these names and parameters of these types.
+fn are_signals(class: &MetaObject, numbers: &[usize], signals: &[PlainSignal]) -> bool
+    ensures { IsTrue result ↔ AllZip (IsSignalAs class.now) numbers.now signals.now }
+{
+    match (numbers.split_first(), signals.split_first()) {
+        (None, None) => true,
+        (Some((number, more)), Some((signal, others))) => {
+            is_signal(class, *number, signal) && are_signals(class, more, others)
+        }
+        _ => false,
+    }
+}
+
+/// Whether the class's method of this number has this name and parameters of these types.
+fn is_signal(class: &MetaObject, number: usize, signal: &PlainSignal) -> bool
+    ensures { IsTrue result ↔ IsSignalAs class.now number signal.now }
+{
+    match class.methods.get(number) {
+        Some(found) => {
+            found.sig.name.is_same(&signal.name)
+                && are_kinds(found.kinds.as_slice(), signal.types.as_slice())
+        }
+        None => false,
+    }
+}
+
+/// Of two answers the one of the lower number.
+pub fn lower(
+    one: Result<(), NativeFault>,
+    other: Result<(), NativeFault>,
+) -> Result<(), NativeFault>
+    ensures { result ≡ lower_of one other }
+{
+    match (one, other) {
+        (Ok(()), _) => other,
+        (Err(NativeFault::NoNative), _) => Err(NativeFault::NoNative),
+        (Err(NativeFault::EffectsDiffer), Ok(())) => Err(NativeFault::EffectsDiffer),
+        (Err(NativeFault::EffectsDiffer), Err(fault)) => Err(fault),
+    }
+}

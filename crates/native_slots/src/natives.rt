@@ -1,0 +1,157 @@
+//! The closures that a caller hands in.
+
+use crate::action::Action;
+use crate::answering::Answering;
+use crate::fault::NativeFault;
+use crate::fitting::{are_as_declared, lower};
+use crate::head::NativeHead;
+use crate::native_slot::{NativeSlot, Work};
+use meta_objects::{Meta, MetaMethod, MetaObject, Work as MethodWork};
+use signatures::{Name, Sig, Value};
+use std::alloc::AllocError;
+
+/// Closures for natives, in the order in which they were given. Of two for one native the first counts, and one for what
+/// isn't declared as a native in that very class is never called.
+#[derive(Drop)]
+pub struct Natives {
+    /// The closures in their order.
+    pub slots: Vec<NativeSlot>,
+}
+
+impl Natives {
+    ghost use Rattle.std.specs.Prelude.{◌≡◌, ◌<◌, IsTrue, IfOk, length, map, position, slice_get, Some, OnOk};
+    ghost use Rattle.std.specs.Fn.{FnReturnsAtPair};
+    ghost use Rattle.std.specs.Option.{option_copied};
+    ghost use Rattle.native_slots.specs.Answers.{takes_any, MayAnswer};
+    ghost use Rattle.native_slots.specs.Effects.{accepts, are_within};
+    ghost use Rattle.native_slots.specs.Fitting.{Fit, FitAmong, IsNativeFrom, IsThis};
+    ghost use Rattle.native_slots.specs.Heads.{is_for, first_for};
+    ghost use Rattle.native_slots.specs.Promises.{Promises};
+
+    /// These closures.
+    pub fn of(slots: Vec<NativeSlot>) -> Natives
+        ensures { result.slots ≡ slots }
+    {
+        Natives { slots }
+    }
+
+    /// Whether each native that the program declares has a closure that keeps to the effects declared: their parameter
+    /// types, the names and types of what they read and set and the names and parameter types of what they emit, each
+    /// list in its order. `NoNative`, where a native has no closure; else `EffectsDiffer`, where a native's first closure
+    /// keeps to other effects.
+    pub fn fits(&self, meta: &Meta) -> Result<(), NativeFault>
+        ensures exact { Fit (map (λ slot. slot.head) self.now.slots.items) meta.now result }
+        // Where they fit, they keep what the program may expect of its natives.
+        ensures promises { OnOk result (Promises meta.now
+            (λ class sig arguments reads.
+            takes_any (map (λ slot. slot.head) self.now.slots.items) class sig arguments reads)
+            (λ class sig arguments reads actions.
+            MayAnswer (λ slot. slot.head) (λ slot. FnReturnsAtPair Work.Fn slot.work) self.now.slots.items
+            class sig arguments reads actions)) }
+    {
+        let mut answer = Ok(());
+        let classes = meta.classes();
+        for number in 0..classes.len() {
+            let inherited = meta.method_offset(number);
+            answer = lower(answer, self.class_fits(&classes[number], inherited));
+        }
+        answer
+    }
+
+    /// The same of the class's natives from this method on.
+    fn class_fits(&self, class: &MetaObject, first: usize) -> Result<(), NativeFault>
+        ensures { FitAmong (map (λ slot. slot.head) self.now.slots.items) (IsNativeFrom class.now first) result }
+    {
+        let methods = class.methods.as_slice();
+        let mut answer = Ok(());
+        for number in first..methods.len() {
+            answer = lower(answer, self.method_fits(class, &methods[number]));
+        }
+        answer
+    }
+
+    /// The same of one method of the class.
+    fn method_fits(&self, class: &MetaObject, method: &MetaMethod) -> Result<(), NativeFault>
+        ensures { FitAmong (map (λ slot. slot.head) self.now.slots.items) (IsThis class.now method.now) result }
+    {
+        let MethodWork::Native(declared) = &method.work else {
+            return Ok(());
+        };
+        match self.head_for(&class.name, &method.sig) {
+            None => Err(NativeFault::NoNative),
+            Some(head) => {
+                if are_as_declared(class, method, declared, &head.effects) {
+                    Ok(())
+                } else {
+                    Err(NativeFault::EffectsDiffer)
+                }
+            }
+        }
+    }
+
+    /// What the first closure for the native of this class and signature is for, or `None` where there is none.
+    fn head_for(&self, class: &Name, sig: &Sig) -> Option<&NativeHead>
+        ensures { option_copied result ≡ first_for class.now sig.now (map (λ slot. slot.head) self.now.slots.items) }
+    {
+        match self.find(class, sig) {
+            Some(place) => Some(&self.slots[place].head),
+            None => None,
+        }
+    }
+
+    /// The place of the first closure for the native of this class and signature, or `None` where there is none.
+    pub fn find(&self, class: &Name, sig: &Sig) -> Option<usize>
+        ensures { result ≡ position (λ slot. is_for class.now sig.now slot.head) self.now.slots.items }
+    {
+        let slots = self.slots.as_slice();
+        for place in 0..slots.len() {
+            if slots[place].head.is_for(class, sig) {
+                return Some(place);
+            }
+        }
+        None
+    }
+
+    /// What the closure at this place answers; the error is its own, or want of memory.
+    pub fn call(
+        &self,
+        place: usize,
+        arguments: &[Value],
+        reads: &[Value],
+    ) -> Result<Vec<Action>, AllocError>
+        requires there { place < length self.now.slots.items }
+        requires accepted { (slot : _) → slice_get self.now.slots.items place ≡ Some slot
+            → IsTrue (accepts slot.head.effects arguments.now reads.now) }
+        ensures answers { (slot : _) → slice_get self.now.slots.items place ≡ Some slot
+            → FnReturnsAtPair Work.Fn slot.work arguments.now reads.now result }
+        ensures within { (slot : _) → slice_get self.now.slots.items place ≡ Some slot
+            → IfOk result (λ actions. IsTrue (are_within slot.head.effects actions.items)) }
+    {
+        self.slots[place].call(arguments, reads)
+    }
+}
+
+impl Answering for Natives {
+    ghost use Rattle.std.specs.Prelude.{map};
+    ghost use Rattle.std.specs.Fn.{FnReturnsAtPair};
+    ghost use Rattle.native_slots.specs.Answers.{takes_any, MayAnswer};
+
+    ghost takes = { λ natives class sig arguments reads.
+        takes_any (map (λ slot. slot.head) natives.slots.items) class sig arguments reads };
+
+    ghost gives = { λ natives class sig arguments reads actions.
+        MayAnswer (λ slot. slot.head) (λ slot. FnReturnsAtPair Work.Fn slot.work) natives.slots.items class sig arguments reads actions };
+
+    fn answer(
+        &self,
+        class: &Name,
+        sig: &Sig,
+        arguments: &[Value],
+        reads: &[Value],
+    ) -> Result<Vec<Action>, AllocError> {
+        match self.find(class, sig) {
+            Some(place) => self.call(place, arguments, reads),
+            None => unreachable!(),
+        }
+    }
+}

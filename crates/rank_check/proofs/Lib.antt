@@ -1,0 +1,6 @@
+pub mod Elements
+pub mod Named
+pub mod Placing
+pub mod Listing
+pub mod Assembled
+pub mod Conditions

@@ -1,0 +1,51 @@
+-- What a check answers (docs/certificate.md, "The check").
+use Rattle.std.specs.Prelude.{◌≡◌, ℕ, Option, Some, None, Result, Ok, Err}
+use Rattle.meta_model.specs.Loaded.{Loaded}
+use Rattle.certificate_lang.specs.declared.certificate.Certificate.{Certificate}
+use Rattle.typing.specs.Wires.{AreFitWires}
+use Rattle.typing.specs.Typed.{IsTypedProgram}
+use Rattle.rank_check.specs.declared.no.No.{No}
+use Rattle.rank_check.specs.declared.no.No.TheVariants.{Wire, BodyType, Missing, Extra, Edge, Destroys, Bound, Memory}
+use Rattle.rank_check.specs.Valid.{HasEachNode, HasNothingElse, RanksFall, SetsHold, IsBounded, IsValid}
+
+-- the number of a no; want of memory has none
+abbrev pub number_of : No → Option ℕ
+number_of Wire = Some 70
+number_of BodyType = Some 71
+number_of Missing = Some 72
+number_of Extra = Some 73
+number_of Edge = Some 74
+number_of Destroys = Some 75
+number_of Bound = Some 76
+number_of Memory = None
+
+-- a program with a certificate that is valid for it
+pub record Checking : Type 0 where
+  pub program : Loaded
+  pub certificate : Certificate
+
+-- The condition of the no doesn't hold, and those of the nos with lower numbers do; want of memory says nothing.
+abbrev pub IsNo : Loaded → Certificate → No → Type 0
+IsNo p certificate Wire = ¬ AreFitWires p
+IsNo p certificate BodyType = AreFitWires p × ¬ IsTypedProgram p
+IsNo p certificate Missing = AreFitWires p × IsTypedProgram p × ¬ HasEachNode p certificate
+IsNo p certificate Extra = AreFitWires p × IsTypedProgram p × HasEachNode p certificate × ¬ HasNothingElse p certificate
+IsNo p certificate Edge =
+    AreFitWires p × IsTypedProgram p × HasEachNode p certificate × HasNothingElse p certificate × ¬ RanksFall p certificate
+IsNo p certificate Destroys =
+    AreFitWires p × IsTypedProgram p × HasEachNode p certificate × HasNothingElse p certificate × RanksFall p certificate
+    × ¬ SetsHold p certificate
+IsNo p certificate Bound =
+    AreFitWires p × IsTypedProgram p × HasEachNode p certificate × HasNothingElse p certificate × RanksFall p certificate
+    × SetsHold p certificate × ¬ IsBounded certificate
+IsNo p certificate Memory = Unit {0}
+
+-- nothing is wrong where the certificate is valid
+abbrev pub Judges : Loaded → Certificate → Result (Unit {0}) No → Type 0
+Judges p certificate (Ok _) = IsValid p certificate
+Judges p certificate (Err reason) = IsNo p certificate reason
+
+-- yes exactly where the certificate is valid, with the program and the certificate that were taken
+abbrev pub Checks : Loaded → Certificate → Result Checking No → Type 0
+Checks p certificate (Ok checked) = (checked.program ≡ p) × (checked.certificate ≡ certificate) × IsValid p certificate
+Checks p certificate (Err reason) = IsNo p certificate reason

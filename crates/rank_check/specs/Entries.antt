@@ -1,0 +1,152 @@
+-- What a check keeps of a certificate, by the numbers of lines, nodes and classes.
+use Rattle.std.specs.Prelude.{◌≡◌, ◌↔◌, ◌<◌, ℕ, Bool, List, length, Option, Some, None, Result, Ok, Err, MatchOption, slice_get, slice_index_or}
+use Rattle.std.specs.List.{Contains, AllZip}
+use Rattle.meta_model.specs.Loaded.{Loaded}
+use Rattle.meta_model.specs.LookUps.{LooksUp, FindsOnly}
+use Rattle.effect_scan.specs.declared.node.Node.{Node}
+use Rattle.effect_scan.specs.Nodes.{nodes_of, IsAt}
+use Rattle.effect_scan.specs.Destroying.{IsMarked}
+use Rattle.typing.specs.Wires.{AreFitWires}
+use Rattle.typing.specs.Typed.{IsTypedProgram}
+use Rattle.certificate_lang.specs.declared.certificate.NodeName.{NodeName}
+use Rattle.certificate_lang.specs.declared.certificate.Line.{Line}
+use Rattle.certificate_lang.specs.declared.certificate.Certificate.{Certificate}
+use Rattle.rank_check.specs.declared.no.No.{No}
+use Rattle.rank_check.specs.declared.entries.Entry.{Entry}
+use Rattle.rank_check.specs.Names.{IsNodeNamed}
+use Rattle.rank_check.specs.Valid.{IsLineOf, AreClassesThere, IsListed, HasEachNode, HasNothingElse}
+use Rattle.rank_check.specs.Checks.{IsNo}
+
+-- ---- the nodes of lines
+-- the node of this number is named so
+pub record IsNumberNamed (p : Loaded) (name : NodeName) (n : ℕ) : Type 0 where
+  pub node : Node
+  pub named : IsNodeNamed p name node
+  pub at : IsAt (nodes_of p) node n
+
+-- the number of the node that the line is for, if it is for one
+pub record HasNumber (p : Loaded) (line : Line) (number : Option ℕ) : Type 0 where
+  pub found : LooksUp (IsNumberNamed p line.node) number
+  pub only : FindsOnly (IsNumberNamed p line.node) number
+
+-- .. for each of the lines
+abbrev pub AreNumbers : Loaded → List Line → List (Option ℕ) → Type 0
+AreNumbers p lines numbers = AllZip (HasNumber p) lines numbers
+
+-- a line of this place is for node n
+abbrev pub IsFor : List (Option ℕ) → ℕ → ℕ → Type 0
+IsFor numbers k n = slice_get numbers k ≡ Some (Some n)
+
+-- all these nodes are among the first ones
+abbrev pub AreBelow : ℕ → List (Option ℕ) → Type 0
+AreBelow count numbers = (k n : ℕ) → IsFor numbers k n → n < count
+
+-- ---- the lines of nodes
+abbrev pub place_at : List (Option ℕ) → ℕ → Option ℕ
+place_at places n = slice_index_or places n None
+
+-- for each node the place of a line that is for it, where one of the first lines is
+pub record PlacesFirst (count end : ℕ) (numbers places : List (Option ℕ)) : Type 0 where
+  pub counted : length places ≡ count
+  pub is_for : (n k : ℕ) → place_at places n ≡ Some k → IsFor numbers k n
+  pub each : (n k : ℕ) → k < end → IsFor numbers k n → ¬ (place_at places n ≡ None)
+
+-- .. where a line is
+abbrev pub PlacesEach : ℕ → List (Option ℕ) → List (Option ℕ) → Type 0
+PlacesEach count numbers places = PlacesFirst count (length numbers) numbers places
+
+-- some node has no place
+pub record LacksPlace (places : List (Option ℕ)) : Type 0 where
+  pub node : ℕ
+  pub inside : node < length places
+  pub none : place_at places node ≡ None
+
+-- all the places, or that one isn't there
+abbrev pub FindsAll : List (Option ℕ) → Option (List ℕ) → Type 0
+FindsAll places found = MatchOption found (LacksPlace places) (λ all. AllZip (λ place k. place ≡ Some k) places all)
+
+-- each node has a line: these are their places
+pub record ArePlaces (count : ℕ) (numbers : List (Option ℕ)) (places : List ℕ) : Type 0 where
+  pub counted : length places ≡ count
+  pub is_for : (n k : ℕ) → slice_get places n ≡ Some k → IsFor numbers k n
+
+-- no line is for this node
+pub record LacksLine (count : ℕ) (numbers : List (Option ℕ)) : Type 0 where
+  pub node : ℕ
+  pub inside : node < count
+  pub none : (k : ℕ) → ¬ IsFor numbers k node
+
+-- the places of the nodes' lines, or that a node has none
+abbrev pub FindsPlaces : ℕ → List (Option ℕ) → Option (List ℕ) → Type 0
+FindsPlaces count numbers found = MatchOption found (LacksLine count numbers) (ArePlaces count numbers)
+
+-- the line of this place is that of its node
+pub record IsPlaced (numbers : List (Option ℕ)) (places : List ℕ) (k : ℕ) : Type 0 where
+  pub node : ℕ
+  pub is_for : IsFor numbers k node
+  pub placed : slice_get places node ≡ Some k
+
+-- .. each line is
+abbrev pub AreOnce : List (Option ℕ) → List ℕ → Type 0
+AreOnce numbers places = (k : ℕ) → k < length numbers → IsPlaced numbers places k
+
+-- ---- ranks and sets
+-- the classes that are marked are those that are listed by their names, which are all there
+pub record IsSet (p : Loaded) (names : List (List ℕ)) (set : List Bool) : Type 0 where
+  pub there : AreClassesThere p names
+  pub marks : (d : ℕ) → IsMarked set d ↔ IsListed p names d
+
+-- the set, or that a class isn't there
+abbrev pub FindsSet : Loaded → List (List ℕ) → Option (List Bool) → Type 0
+FindsSet p names found = MatchOption found (¬ AreClassesThere p names) (IsSet p names)
+
+-- the rank and the set of the line
+pub record IsEntry (p : Loaded) (line : Line) (entry : Entry) : Type 0 where
+  pub rank : entry.rank ≡ line.rank
+  pub destroys : IsSet p line.destroys entry.destroys
+
+abbrev pub FindsEntry : Loaded → Line → Option Entry → Type 0
+FindsEntry p line found = MatchOption found (¬ AreClassesThere p line.destroys) (IsEntry p line)
+
+-- .. of the line at this place
+pub record IsEntryAt (p : Loaded) (lines : List Line) (k : ℕ) (entry : Entry) : Type 0 where
+  pub line : Line
+  pub stands : slice_get lines k ≡ Some line
+  pub is : IsEntry p line entry
+
+-- a class of some line isn't there
+pub record LacksClass (p : Loaded) (lines : List Line) : Type 0 where
+  pub line : Line
+  pub stands : Contains lines line
+  pub lacks : ¬ AreClassesThere p line.destroys
+
+-- the entries of the lines at these places
+abbrev pub FindsEntries : Loaded → List Line → List ℕ → Option (List Entry) → Type 0
+FindsEntries p lines places found = MatchOption found (LacksClass p lines) (AllZip (IsEntryAt p lines) places)
+
+-- an entry for each node, in their order
+pub record AreEntries (p : Loaded) (certificate : Certificate) (entries : List Entry) : Type 0 where
+  pub count : length entries ≡ length (nodes_of p)
+  pub entry : (n : ℕ) (x : Node) (line : Line) (e : Entry) → IsAt (nodes_of p) x n → IsLineOf p certificate x line
+      → slice_get entries n ≡ Some e → IsEntry p line e
+
+-- the lines name each node once, and nothing else
+pub record NamesNodes (p : Loaded) (certificate : Certificate) (entries : List Entry) : Type 0 where
+  pub each_node : HasEachNode p certificate
+  pub nothing_else : HasNothingElse p certificate
+  pub are : AreEntries p certificate entries
+
+-- in a program whose wires fit and whose parts are typed
+pub record IsReady (p : Loaded) : Type 0 where
+  pub wires : AreFitWires p
+  pub typed : IsTypedProgram p
+
+-- the program's own conditions are judged, whatever the certificate
+abbrev pub JudgesProgram : Loaded → Result (Unit {0}) No → Type 0
+JudgesProgram p (Ok _) = IsReady p
+JudgesProgram p (Err reason) = (certificate : Certificate) → IsNo p certificate reason
+
+-- the entries of the nodes, where the lines name each once and nothing else
+abbrev pub GivesEntries : Loaded → Certificate → Result (List Entry) No → Type 0
+GivesEntries p certificate (Ok entries) = NamesNodes p certificate entries
+GivesEntries p certificate (Err reason) = IsReady p → IsNo p certificate reason

@@ -1,0 +1,19 @@
+//! Whether a certificate is valid for a program.
+#![tactic(auto)]
+
+mod checked;
+mod destroys;
+mod entries;
+mod judging;
+mod naming;
+mod no;
+mod places;
+mod ranks;
+mod sets;
+
+pub use certificate_lang::{
+    Certificate, CertificateFault, Line, MemberName, NodeName, read_certificate,
+};
+pub use checked::{Checked, check};
+pub use no::No;
+pub use typing::{Spot, unfit_wire, untyped};

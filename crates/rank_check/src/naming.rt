@@ -1,0 +1,61 @@
+//! The nodes that lines are for.
+
+ghost use Rattle.std.specs.Prelude.{IfOk};
+ghost use Rattle.meta_model.specs.LookUps.{LooksUp, FindsOnly};
+ghost use Rattle.effect_scan.specs.Scans.{IsScan};
+ghost use Rattle.rank_check.specs.Names.{IsMemberNamed};
+ghost use Rattle.rank_check.specs.Entries.{IsNumberNamed, AreNumbers};
+
+use certificate_lang::{Line, MemberName, NodeName};
+use effect_scan::{Member, Node, Scan};
+use meta_objects::Meta;
+use sqlite_items::Items;
+use std::alloc::{AllocError, Global};
+
+/// For each line the number of the node that it is for, or `None` where it is for none; its error is that memory was
+/// refused.
+pub fn line_numbers(
+    alloc: Global,
+    meta: &Meta,
+    scan: &Scan,
+    lines: &[Line],
+) -> Result<Items<Option<usize>>, AllocError>
+    requires { IsScan meta.now scan.now }
+    ensures { IfOk result (AreNumbers meta.now lines.now) }
+{
+    let mut numbers = Items::new(alloc);
+    for line in lines {
+        let number = node_number(meta, scan, &line.node);
+        numbers.push(number)?;
+    }
+    Ok(numbers)
+}
+
+/// The number of the node of this name, or `None` where there is none.
+fn node_number(meta: &Meta, scan: &Scan, name: &NodeName) -> Option<usize>
+    requires { IsScan meta.now scan.now }
+    ensures value { LooksUp (IsNumberNamed meta.now name.now) result }
+    ensures only { FindsOnly (IsNumberNamed meta.now name.now) result }
+{
+    let class = meta.class(&name.class)?;
+    let member = member_named(meta, class, &name.member)?;
+    scan.number(Node { class, member })
+}
+
+/// The member of this name, in the class of this number, or `None` where there is none.
+fn member_named(meta: &Meta, class: usize, name: &MemberName) -> Option<Member>
+    ensures value { LooksUp (IsMemberNamed meta.now class name.now) result }
+    ensures only { FindsOnly (IsMemberNamed meta.now class name.now) result }
+{
+    match name {
+        MemberName::Method(sig) => {
+            let method = meta.method(class, sig)?;
+            Some(Member::Method(method))
+        }
+        MemberName::Property(name) => {
+            let property = meta.property(class, name)?;
+            Some(Member::Property(property))
+        }
+        MemberName::Destruction => Some(Member::Destruction),
+    }
+}

@@ -1,0 +1,55 @@
+//! Sets of classes, by their numbers.
+
+ghost use Rattle.std.specs.Prelude.{◌≡◌, ◌↔◌, length, replicate, false, IsTrue, IfOk, MatchBool};
+ghost use Rattle.effect_scan.specs.Destroying.{IsMarked};
+ghost use Rattle.rank_check.specs.Entries.{FindsSet};
+ghost use Rattle.rank_check.specs.ByNumbers.{IsWithin};
+
+use meta_objects::Meta;
+use signatures::Name;
+use sqlite_items::Items;
+use std::alloc::{AllocError, Global};
+
+/// The set of the classes with these names, or `None` where one isn't there. Its error is that memory was refused.
+pub fn set_of(alloc: Global, meta: &Meta, names: &[Name]) -> Result<Option<Items<bool>>, AllocError>
+    ensures { IfOk result (FindsSet meta.now names.now) }
+{
+    let mut set = empty_set(alloc, meta.classes().len())?;
+    for name in names {
+        match meta.class(name) {
+            Some(class) => set.set(class, true),
+            None => return Ok(None),
+        }
+    }
+    Ok(Some(set))
+}
+
+/// No class is in the set.
+fn empty_set(alloc: Global, count: usize) -> Result<Items<bool>, AllocError>
+    ensures { IfOk result (λ set. set ≡ replicate count false) }
+{
+    let mut set = Items::new(alloc);
+    for _class in 0..count {
+        set.push(false)?;
+    }
+    Ok(set)
+}
+
+/// Whether the class is in the set.
+pub fn is_marked(set: &[bool], class: usize) -> bool
+    ensures { IsTrue result ↔ IsMarked set.now class }
+{
+    class < set.len() && set[class]
+}
+
+/// Whether each class of the set is in the other one.
+pub fn is_within(set: &[bool], other: &[bool]) -> bool
+    ensures { MatchBool result (IsWithin set.now other.now) (IsWithin set.now other.now → ⊥) }
+{
+    for (class, holds) in set.iter().enumerate() {
+        if *holds && !is_marked(other, class) {
+            return false;
+        }
+    }
+    true
+}

@@ -1,0 +1,13 @@
+use Rattle.std.proofs.lemmas.Result.{err_from_is_err_and}
+use Rattle.trace_tool.specs.Commands.{text, load}
+use Rattle.trace_tool.proofs.runs.load_program.Goals as goal
+
+pub returns-in_err-program : goal.returns-in_err-program
+returns-in_err-program c =
+    let p = err_from_is_err_and c.from_residual.result c.from_residual.ensures.1 in
+    rw (p.1, p.2) (text _ c.in_err-program.ensures)
+
+pub returns-in_err-meta : goal.returns-in_err-meta
+returns-in_err-meta c =
+    let p = err_from_is_err_and c.from_residual-in_err-meta.result c.from_residual-in_err-meta.ensures.1 in
+    rw (p.1, p.2) (load c.in_ok-program.program _ c.in_ok-program.ensures c.in_err-meta.ensures)

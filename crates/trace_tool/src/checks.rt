@@ -1,0 +1,73 @@
+//! Programs with their certificates.
+
+ghost use Rattle.std.specs.Prelude.{IfOk, MatchResult};
+ghost use Rattle.trace_tool.specs.Commands.{AreCertified, AreUncertified, AreValid, AreInvalid, CheckWrites, Answers};
+ghost use Rattle.trace_tool.specs.Refusals.{yes_line};
+ghost use Rattle.trace_tool.specs.Sent.{SendsWith};
+
+use crate::fault::WriteFault;
+use crate::refusal::Refusal;
+use crate::runs::{load_program, refuse};
+use certificate_lang::{Certificate, read_certificate};
+use qt_runtime::Meta;
+use rank_check::{Checked, check as judge};
+use std::alloc::Global;
+use std::io::Write;
+
+/// The exit status after a yes.
+const AGREED: u8 = 0;
+
+/// Checks a program with its certificate, and writes `yes`, or why there is none.
+///
+/// The answer is the exit status: 0 after a yes, 3 after a no, 2 where a text is refused, 1 for want of memory.
+/// There is a `WriteFault` only where the writer failed; nothing is written after that.
+pub fn check<W: Write>(
+    alloc: Global,
+    program: &[u8],
+    certificate: &[u8],
+    w: &mut W,
+) -> Result<u8, WriteFault>
+    ensures { let Writes = CheckWrites program.now certificate.now in
+        IfOk result (λ status. Answers Writes (W.contents w.old) (W.contents w.new) status) }
+{
+    if let Err(refusal) = load_valid(alloc, program, certificate) {
+        return refuse(alloc, &refusal, w);
+    }
+    agree(w)
+}
+
+/// Reads and loads a program, reads its certificate, and checks the one with the other.
+fn load_valid(alloc: Global, program: &[u8], certificate: &[u8]) -> Result<Checked, Refusal>
+    ensures { MatchResult result
+        (λ checked. AreValid program.now certificate.now checked.program checked.certificate)
+        (AreInvalid program.now certificate.now) }
+{
+    let (meta, certificate) = load_certified(alloc, program, certificate)?;
+    let checked = judge(alloc, meta, certificate)?;
+    Ok(checked)
+}
+
+/// Reads and loads a program, and reads its certificate.
+pub fn load_certified(
+    alloc: Global,
+    program: &[u8],
+    certificate: &[u8],
+) -> Result<(Meta, Certificate), Refusal>
+    ensures { MatchResult result
+        (λ loaded. AreCertified program.now certificate.now loaded.0 loaded.1)
+        (AreUncertified program.now certificate.now) }
+{
+    let meta = load_program(alloc, program)?;
+    let certificate = read_certificate(alloc, certificate)?;
+    Ok((meta, certificate))
+}
+
+/// Writes that a certificate is valid.
+fn agree<W: Write>(w: &mut W) -> Result<u8, WriteFault>
+    ensures { IfOk result (λ status.
+        SendsWith (W.contents w.old) (W.contents w.new) yes_line 0 status) }
+{
+    w.write_all(b"yes\n")?;
+    w.flush()?;
+    Ok(AGREED)
+}

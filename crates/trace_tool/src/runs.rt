@@ -1,0 +1,162 @@
+ghost use Rattle.std.specs.Prelude.{◌<◌, ◌≤◌, ◌^◌, map, IfOk, MatchResult};
+ghost use Rattle.trace_tool.specs.Commands.{Loads, IsRefused, AreRead, AreRefused, AreChecked, AreUnchecked};
+ghost use Rattle.trace_tool.specs.Commands.{RunWrites, CheckedRunWrites, Answers, run_text, run_status};
+ghost use Rattle.trace_tool.specs.Refusals.{refusal_line, refusal_status};
+ghost use Rattle.trace_tool.specs.Sent.{SendsWith};
+
+use crate::checks::load_certified;
+use crate::fault::WriteFault;
+use crate::output::Output;
+use crate::refusal::Refusal;
+use class_lang::read_program;
+use native_slots::{Answering, Natives};
+use qt_runtime::{Entry, Event, Fault, Machine, Meta, read_script};
+use rank_check::{Checked, check as judge};
+use sqlite_items::Items;
+use std::alloc::Global;
+use std::io::Write;
+
+/// The exit status after a fault.
+const FAULT: u8 = 4;
+
+/// Checks a program with its certificate, runs it on a script, and writes the trace, or why there is none.
+///
+/// At most as many activations nest as the certificate's bound says, and at most `steps` rules are used (1 to 2^63 - 1).
+/// The answer is the exit status: 0 after a whole run, 4 after a fault, 3 where the certificate isn't valid, 2 where a
+/// text or a native is refused, 1 for want of memory outside the run.
+/// There is a `WriteFault` only where the writer failed; nothing is written after that.
+pub fn run<W: Write>(
+    alloc: Global,
+    program: &[u8],
+    certificate: &[u8],
+    script: &[u8],
+    natives: Natives,
+    steps: u64,
+    w: &mut W,
+) -> Result<u8, WriteFault>
+    requires steps { (1 ≤ steps) × (steps < 2 ^ 63) }
+    ensures { let heads = map (λ slot. slot.head) natives.slots.items in
+        let Writes = CheckedRunWrites ⟦<Natives as Answering>⟧.gives heads natives program.now certificate.now script.now steps in
+        IfOk result (λ status. Answers Writes (W.contents w.old) (W.contents w.new) status) }
+{
+    let (checked, events) = match load_checked(alloc, program, certificate, script) {
+        Ok(loaded) => loaded,
+        Err(refusal) => return refuse(alloc, &refusal, w),
+    };
+    if let Err(fault) = natives.fits(checked.meta()) {
+        return refuse(alloc, &Refusal::from(fault), w);
+    }
+    let Ok(mut machine) = Machine::checked(alloc, checked, natives, steps) else {
+        return refuse(alloc, &Refusal::Memory, w);
+    };
+    let ended = machine.run(events.as_slice());
+    report(alloc, machine.trace(), ended, w)
+}
+
+/// Reads and loads a program, reads its certificate and its script, and checks the program.
+fn load_checked(
+    alloc: Global,
+    program: &[u8],
+    certificate: &[u8],
+    script: &[u8],
+) -> Result<(Checked, Items<Event>), Refusal>
+    ensures { MatchResult result
+        (λ loaded. AreChecked program.now certificate.now script.now loaded.0.program loaded.0.certificate loaded.1)
+        (AreUnchecked program.now certificate.now script.now) }
+{
+    let (meta, certificate) = load_certified(alloc, program, certificate)?;
+    let events = read_script(alloc, script)?;
+    let checked = judge(alloc, meta, certificate)?;
+    Ok((checked, events))
+}
+
+/// Runs a program, which need not be checked, on a script, and writes the trace, or why there is none.
+///
+/// At most `depth` activations nest (1 to 256), and at most `steps` rules are used (1 to 2^63 - 1). The answer is the
+/// exit status: 0 after a whole run, 4 after a fault, 2 where a text or a native is refused, 1 for want of memory outside
+/// the run.
+/// There is a `WriteFault` only where the writer failed; nothing is written after that.
+pub fn run_unchecked<W: Write>(
+    alloc: Global,
+    program: &[u8],
+    script: &[u8],
+    natives: Natives,
+    depth: usize,
+    steps: u64,
+    w: &mut W,
+) -> Result<u8, WriteFault>
+    requires depth { (1 ≤ depth) × (depth ≤ 256) }
+    requires steps { (1 ≤ steps) × (steps < 2 ^ 63) }
+    ensures { let heads = map (λ slot. slot.head) natives.slots.items in
+        let Writes = RunWrites ⟦<Natives as Answering>⟧.gives heads natives program.now script.now depth steps in
+        IfOk result (λ status. Answers Writes (W.contents w.old) (W.contents w.new) status) }
+{
+    let (meta, events) = match load(alloc, program, script) {
+        Ok(loaded) => loaded,
+        Err(refusal) => return refuse(alloc, &refusal, w),
+    };
+    if let Err(fault) = natives.fits(&meta) {
+        return refuse(alloc, &Refusal::from(fault), w);
+    }
+    let Ok(mut machine) = Machine::unchecked(alloc, meta, natives, depth, steps) else {
+        return refuse(alloc, &Refusal::Memory, w);
+    };
+    let ended = machine.run(events.as_slice());
+    report(alloc, machine.trace(), ended, w)
+}
+
+/// Reads and loads a program, and reads its script.
+fn load(alloc: Global, program: &[u8], script: &[u8]) -> Result<(Meta, Items<Event>), Refusal>
+    ensures { MatchResult result
+        (λ loaded. AreRead program.now script.now loaded.0 loaded.1)
+        (AreRefused program.now script.now) }
+{
+    let meta = load_program(alloc, program)?;
+    let events = read_script(alloc, script)?;
+    Ok((meta, events))
+}
+
+/// Reads and loads a program.
+pub fn load_program(alloc: Global, program: &[u8]) -> Result<Meta, Refusal>
+    ensures { MatchResult result (Loads program.now) (IsRefused program.now) }
+{
+    let program = read_program(alloc, program)?;
+    let meta = Meta::build(alloc, &program)?;
+    Ok(meta)
+}
+
+/// Writes a refusal's line.
+pub fn refuse<W: Write>(alloc: Global, refusal: &Refusal, w: &mut W) -> Result<u8, WriteFault>
+    ensures { IfOk result (λ status.
+        SendsWith (W.contents w.old) (W.contents w.new)
+        (refusal_line refusal.now) (refusal_status refusal.now) status) }
+{
+    let mut output = Output::new(alloc);
+    output.refusal(w, refusal)?;
+    output.finish(w)?;
+    Ok(refusal.status())
+}
+
+/// Writes the trace of a run, and the fault that stopped it.
+fn report<W: Write>(
+    alloc: Global,
+    trace: &[Entry],
+    ended: Result<(), Fault>,
+    w: &mut W,
+) -> Result<u8, WriteFault>
+    ensures { IfOk result (λ status.
+        SendsWith (W.contents w.old) (W.contents w.new)
+        (run_text trace.now ended) (run_status ended) status) }
+{
+    let mut output = Output::new(alloc);
+    output.entries(w, trace)?;
+    let status = match ended {
+        Ok(()) => 0,
+        Err(fault) => {
+            output.numbered(w, b"fault ", fault.number())?;
+            FAULT
+        }
+    };
+    output.finish(w)?;
+    Ok(status)
+}
