@@ -8,5 +8,5 @@ thermostat_effects = record {
   parameters = plain.Int ∷ [];
   reads = record { name = codes "wanted"; kind = plain.Int } ∷ record { name = codes "heating"; kind = plain.Bool } ∷ [];
   emits = record { name = codes "switched"; types = plain.Bool ∷ [] } ∷ [];
-  sets = record { name = codes "room"; kind = plain.Int } ∷ record { name = codes "heating"; kind = plain.Bool } ∷ []
+  sets = record { name = codes "room"; kind = plain.Int } ∷ record { name = codes "heating"; kind = plain.Bool } ∷ [];
 }
