@@ -1,24 +1,22 @@
 -- Classes in groups.
-use Rattle.std.proofs.Common.{◌≡◌, ℕ, zero, suc, ◌+◌, ◌*◌, ◌/◌, ◌%◌, ◌≤◌, ◌<◌, ◌↔◌, ◌||◌, ◌==◌, Bool, true, false, ◌⊎◌, inl, inr, List, [], ◌∷◌, ◌++◌, length, get_or, take, slice_get, Some, refl, sym, ap, ◌∙◌, subst, arith}
+use Rattle.std.proofs.Common.{◌≡◌, ℕ, zero, suc, ◌+◌, ◌*◌, ◌/◌, ◌%◌, ◌≤◌, ◌<◌, ◌↔◌, ◌||◌, ◌==◌, true, inl, inr, List, [], ◌∷◌, ◌++◌, length, get_or, take, refl, sym, ap, ◌∙◌, subst, arith}
 use Rattle.std.specs.List.{Contains, AllZip}
-use Rattle.std.proofs.lemmas.Bool.{cases_eq, cases_lt, false≢true, or_cases, or_left, or_right, eqb-true, eq-eqb}
-use Rattle.std.proofs.lemmas.List.{get_or_push, get_or_append_left, get_or_past, length_push, take_more, take_all}
+use Rattle.std.proofs.lemmas.Bool.{or_cases, or_left, or_right, eqb-true, eq-eqb}
+use Rattle.std.proofs.lemmas.List.{get_or_past, take_more, take_all}
 use Rattle.std.proofs.lemmas.List.Elements.{Contains-push, Contains-push_cases, Contains-append_left}
-use Rattle.std.proofs.lemmas.Option.{none-some, same_Some, get_or_from_slice_get}
+use Rattle.std.proofs.lemmas.Option.{none-some, same_Some}
 use Rattle.effect_scan.specs.Rows.{row, Edge}
 use Rattle.rank_graph.specs.declared.bits.TheConstants.{SIZE}
 use Rattle.rank_graph.specs.declared.bits.Bits.{Bits}
 use Rattle.rank_graph.specs.declared.path.Entry.{Entry}
 use Rattle.rank_graph.specs.declared.solution.Solution.{Solution}
 use Rattle.rank_graph.specs.Bits.{has}
-use Rattle.rank_graph.specs.Entries.{owns, IsSearched}
+use Rattle.rank_graph.specs.Entries.{owns}
 use Rattle.rank_graph.specs.Groups.{HasGroup, AreGroup, IsGroup}
 use Rattle.rank_graph.specs.Solutions.{AreRanks, AreClasses, entries_of, rank_of, leads_of}
 use Rattle.rank_graph.proofs.Ranking.{ranks_found, classes_found}
 
 -- ---- one node's classes
-pub group_none : (k : ℕ) (s : Bits) → ((c : ℕ) → has s c ≡ false) → HasGroup k [] s
-group_none k s none = λ c low. (λ e. absurd (false≢true (sym (none c) ∙ e)), λ e. absurd (omega (arith, e.1)))
 
 -- the place and the group of a class tell it
 pub class_of_place : (x k c : ℕ) → x / SIZE ≡ k → c ≡ x % SIZE → x ≡ SIZE * k + c
@@ -47,7 +45,7 @@ group_other k x xs s is h = λ c low. (
   λ held. elim (Contains-push_cases xs x (SIZE * k + c) held) [ inl old ↦ (h c low).1 old | inr new ↦ absurd (is (place_of_class x k c low new).0) ],
 )
 
--- .. in the words of a loop over a list of them
+-- what holds of the first of them and the next one
 pub group_taken : (k i : ℕ) (xs : List ℕ) (s : Bits) → i < length xs → HasGroup k (take i xs ++ get_or xs i 0 ∷ []) s → HasGroup k (take (i + 1) xs) s
 group_taken k i xs s within h = subst (λ (l : List ℕ). HasGroup k l s) (sym (take_more xs i 0 within)) h
 
@@ -91,24 +89,6 @@ are_group_all k n own bits end z = are_group k own bits (subst (λ (l : List (Li
 pub record Grouped (rows own : List (List ℕ)) (n : ℕ) (groups : List (List Entry)) : Type 0 where
   pub count : length groups ≡ n
   pub each : (k : ℕ) → k < n → IsGroup rows own k (get_or groups k [])
-
-pub grouped_none : (rows own : List (List ℕ)) (groups : List (List Entry)) → groups ≡ [] → Grouped rows own 0 groups
-grouped_none rows own groups e = record { count = ap length e; each = λ k h. absurd (omega arith) }
-
-pub is_group : (rows own : List (List ℕ)) (k : ℕ) (bits seen : List Bits) (es : List Entry) → AreGroup k own bits → seen ≡ bits → IsSearched rows seen es → IsGroup rows own k es
-is_group rows own k bits seen es are e searched = record { bits = bits; are = are; searched = subst (λ (l : List Bits). IsSearched rows l es) e searched }
-
-pub grouped_more : (rows own : List (List ℕ)) (n : ℕ) (groups more : List (List Entry)) (es : List Entry) → more ≡ groups ++ es ∷ [] → IsGroup rows own n es → Grouped rows own n groups → Grouped rows own (n + 1) more
-grouped_more rows own n groups more es e new g =
-    let pushed : Grouped rows own (n + 1) (groups ++ es ∷ []) = record {
-      count = length_push groups es ∙ ap (λ (x : ℕ). x + 1) g.count;
-      each = λ k h.
-          elim (cases_eq k n) [
-            | inl same ↦ subst (λ (x : ℕ). IsGroup rows own x (get_or (groups ++ es ∷ []) x [])) (sym same) (subst (λ (l : List Entry). IsGroup rows own n l) (sym (get_or_push groups es [] n g.count)) new)
-            | inr ne ↦ subst (λ (l : List Entry). IsGroup rows own k l) (sym (get_or_append_left groups (es ∷ []) [] k (omega (arith, g.count)))) (g.each k (omega arith))
-          ];
-    } in
-    subst (Grouped rows own (n + 1)) (sym e) pushed
 
 pub ranks_of_groups : (rows own : List (List ℕ)) (n : ℕ) (s : Solution) (groups : List (List Entry)) → s.groups ≡ groups → 0 < n → Grouped rows own n groups → AreRanks rows (rank_of s)
 unfolding entries_of

@@ -1,5 +1,5 @@
 -- Why ranks are the lengths of the longest chains, and classes those that nodes lead to.
-use Rattle.std.proofs.Common.{◌≡◌, ℕ, zero, suc, ◌+◌, ◌*◌, ◌/◌, ◌%◌, ◌≤◌, ◌<◌, ◌↔◌, Bool, true, false, ◌⊎◌, inl, inr, List, [], ◌∷◌, length, slice_get, Option, None, Some, refl, sym, ap, ◌∙◌, subst, arith}
+use Rattle.std.proofs.Common.{◌≡◌, ℕ, zero, suc, ◌+◌, ◌*◌, ◌/◌, ◌%◌, ◌≤◌, ◌<◌, ◌↔◌, Bool, true, inl, inr, List, [], ◌∷◌, refl, sym, ap, ◌∙◌, subst, arith}
 use Rattle.std.proofs.Math.Nat.{div-add-mod}
 use Rattle.std.proofs.lemmas.Bool.{cases_lt, false≢true}
 use Rattle.effect_scan.specs.Rows.{Edge}
@@ -9,7 +9,7 @@ use Rattle.rank_graph.specs.declared.path.Entry.{Entry}
 use Rattle.rank_graph.specs.declared.solution.Solution.{Solution}
 use Rattle.rank_graph.specs.Graphs.{Chain, Leads}
 use Rattle.rank_graph.specs.Entries.{owns, rank_at, leads_at, IsSearched}
-use Rattle.rank_graph.specs.Groups.{AreGroup, IsGroup}
+use Rattle.rank_graph.specs.Groups.{IsGroup}
 use Rattle.rank_graph.specs.Solutions.{AreRanks, LeadsTo, AreClasses, entries_of, rank_of, leads_of}
 
 -- what falls along edges falls along a chain

@@ -1,16 +1,14 @@
 -- Walks along edges.
-use Rattle.std.proofs.Common.{◌≡◌, ℕ, zero, suc, ◌+◌, ◌-◌, ◌≤◌, ◌<◌, eqb, Bool, true, false, ◌⊎◌, inl, inr, List, [], ◌∷◌, ◌++◌, length, get_or, slice_get, unwrap_or, Option, None, Some, refl, sym, ap, ◌∙◌, subst, arith}
+use Rattle.std.proofs.Common.{◌≡◌, ℕ, suc, ◌-◌, ◌≤◌, ◌<◌, eqb, Bool, true, false, List, [], ◌∷◌, ◌++◌, get_or, slice_get, unwrap_or, Option, None, Some, sym, ap, ◌∙◌, subst, arith}
 use Rattle.std.specs.List.{Contains, list_any}
-use Rattle.std.proofs.lemmas.Bool.{cases_eq, eqb-true, eq-eqb, false≢true}
-use Rattle.std.proofs.lemmas.List.{get_or_default, length_push}
+use Rattle.std.proofs.lemmas.Bool.{eqb-true, eq-eqb, false≢true}
 use Rattle.std.proofs.lemmas.List.Folds.{list_any_at, Any-from_list_any}
 use Rattle.std.proofs.lemmas.Option.{get_or_from_slice_get, unwrap_or-slice_get}
 use Rattle.effect_scan.specs.Rows.{row, Edge}
 use Rattle.rank_graph.specs.declared.path.Entry.{Entry}
 use Rattle.rank_graph.specs.declared.solution.Solution.{Solution}
-use Rattle.rank_graph.specs.Graphs.{Chain, Leads, IsPathTo, IsChainFrom}
-use Rattle.rank_graph.specs.Entries.{rank_in, leads_in}
-use Rattle.rank_graph.specs.Solutions.{AreRanks, LeadsTo, AreClasses, entries_of, rank_of, leads_of}
+use Rattle.rank_graph.specs.Graphs.{Chain, Leads}
+use Rattle.rank_graph.specs.Solutions.{AreRanks, AreClasses, entries_of}
 use Rattle.rank_graph.proofs.Searching.{leads_push}
 
 -- ---- what a solution tells of a node
@@ -28,10 +26,6 @@ entry_none s g a gs o e whole is =
     e ∙ sym (ap (λ (l : List Entry). slice_get l a) none)
 
 -- ---- a row
--- what holds of each place of a row holds of each that it contains
-pub of_each : (P : ℕ → Type 0) (xs : List ℕ) → ((k : ℕ) → k < length xs → P (get_or xs k 0)) → (b : ℕ) → Contains xs b → P b
-of_each P xs all b h = subst P (get_or_default xs h.0 0 b h.1 ∙ h.2) (all h.0 h.1)
-
 pub edge_of : (rows : List (List ℕ)) (a b : ℕ) (r : List ℕ) → r ≡ row rows a → Contains r b → Edge rows a b
 edge_of rows a b r e h = subst (λ (x : List ℕ). Contains x b) e h
 
@@ -47,9 +41,6 @@ has_any q xs h = let a = Any-from_list_any (λ (y : ℕ). eqb y q) xs h in subst
 -- ---- walks
 abbrev pub Walked : List (List ℕ) → ℕ → ℕ → List ℕ → Type 0
 Walked rows from at nodes = (after : List ℕ) × (nodes ≡ from ∷ after) × Leads rows from after at
-
-pub walk_none : (rows : List (List ℕ)) (from : ℕ) (none nodes : List ℕ) → none ≡ [] → nodes ≡ none ++ from ∷ [] → Walked rows from from nodes
-walk_none rows from none nodes e pushed = ([], pushed ∙ ap (λ (l : List ℕ). l ++ from ∷ []) e, refl)
 
 -- one more node of a walk
 pub walk_step : (rows : List (List ℕ)) (from at b : ℕ) (r nodes more : List ℕ) → r ≡ row rows at → Contains r b → more ≡ nodes ++ b ∷ [] → Walked rows from at nodes → Walked rows from b more
@@ -74,10 +65,6 @@ not_at_end rows own leads a c r mine classes holds here lacks e none =
     (λ has. false≢true (lacks ∙ any_has c mine (row_has own a c mine here has)))
     (λ b edge. none b (row_has rows a b r e edge))
 
-pub path_found : (rows own : List (List ℕ)) (c from at : ℕ) (mine nodes : List ℕ) → Walked rows from at nodes → mine ≡ row own at → true ≡ list_any (λ y. eqb y c) mine → IsPathTo rows own c from nodes
-path_found rows own c from at mine nodes w here has =
-    record { after = w.0; to = at; nodes_are = w.1; leads = w.2; has = edge_of own at c mine here (has_any c mine (sym has)) }
-
 -- ---- chains
 -- from a node of rank above 0 some edge leads to one of the rank below
 pub next_there : (rows : List (List ℕ)) (rank : ℕ → ℕ) (a n : ℕ) (r : List ℕ) → AreRanks rows rank → rank a ≡ suc n → r ≡ row rows a → ((b : ℕ) → Contains r b → rank b ≡ n → ⊥) → ⊥
@@ -91,8 +78,3 @@ next_there rows rank a n r ranks is e none =
 pub no_next : (rows : List (List ℕ)) (rank : ℕ → ℕ) (a m : ℕ) (r : List ℕ) → AreRanks rows rank → m ≡ rank a → 0 < rank a → r ≡ row rows a → ((b : ℕ) → Contains r b → rank b ≡ m - 1 → ⊥) → ⊥
 no_next rows rank a m r ranks is some e none =
     next_there rows rank a (rank a - 1) r ranks (omega arith) e (λ b has same. none b has (omega arith))
-
-pub chain_found : (rows : List (List ℕ)) (n from at : ℕ) (nodes : List ℕ) → Walked rows from at nodes → length nodes ≡ n + 1 → IsChainFrom rows n from nodes
-chain_found rows n from at nodes w count =
-    let l : length nodes ≡ suc (length w.0) = ap length w.1 in
-    record { after = w.0; to = at; nodes_are = w.1; leads = w.2; count = omega arith }

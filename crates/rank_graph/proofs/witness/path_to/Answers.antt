@@ -1,5 +1,4 @@
-use Rattle.std.proofs.Common.{sym, ◌∙◌}
-use Rattle.rank_graph.proofs.Walking.{walk_step, rank_falls, not_at_end, path_found}
+use Rattle.rank_graph.proofs.Walking.{walk_step, rank_falls, not_at_end}
 use Rattle.rank_graph.proofs.witness.path_to.Goals as goal
 
 pub loop-class-smaller : goal.loop-class-smaller
