@@ -1,0 +1,4 @@
+pub mod Placed
+pub mod Barred
+pub mod Numbers
+pub mod Lined
