@@ -30,11 +30,12 @@ pub fn told_cycle(
     requires cycle { IsCycleByNumber scan.now.rows numbers }
     ensures { IfOk result (IsToldCycle meta.now) }
 {
+    let first = match numbers.as_slice().first() {
+        Some(first) => *first,
+        None => unreachable!(),
+    };
     let mut closed = numbers;
-    if let Some(first) = closed.as_slice().first() {
-        let first = *first;
-        closed.push(first)?;
-    }
+    closed.push(first)?;
     nodes_at(alloc, scan, closed.as_slice())
 }
 
