@@ -1,14 +1,12 @@
 -- A search of all nodes.
-use Rattle.std.proofs.Common.{◌≡◌, ℕ, zero, suc, ◌+◌, ◌<◌, ◌≤◌, Bool, true, false, ◌⊎◌, inl, inr, List, [], ◌∷◌, length, map, replicate, get_or, slice_get, Option, Some, None, refl, sym, ap, ◌∙◌, subst, arith}
-use Rattle.std.specs.List.{Contains}
+use Rattle.std.proofs.Common.{◌≡◌, ℕ, zero, suc, ◌+◌, ◌<◌, true, false, inl, inr, List, [], ◌∷◌, length, map, replicate, slice_get, Option, Some, refl, sym, ap, ◌∙◌, subst, arith}
 use Rattle.std.proofs.lemmas.Bool.{cases_eq, cases_lt}
 use Rattle.std.proofs.lemmas.List.{get_or_past, length-map, get_or-replicate, length-replicate}
 use Rattle.std.proofs.lemmas.Option.{slice_get_past, slice_get_within}
-use Rattle.rank_graph.specs.Bits.{has}
 use Rattle.effect_scan.specs.Rows.{row, Edge}
 use Rattle.rank_graph.specs.Entries.{owns}
-use Rattle.rank_graph.specs.Searching.{state_of, Joins, Finished, NoneOpen, AllDone, Grows, Visited}
-use Rattle.rank_graph.specs.Entries.{rank_in, leads_in, rank_at, leads_at, IsSearched}
+use Rattle.rank_graph.specs.Searching.{state_of, Joins, Finished, NoneOpen, AllDone, Visited}
+use Rattle.rank_graph.specs.Entries.{rank_in, leads_in, rank_at, IsSearched}
 use Rattle.rank_graph.specs.declared.bits.Bits.{Bits}
 use Rattle.rank_graph.specs.declared.path.Entry.{Entry}
 use Rattle.rank_graph.specs.declared.path.State.{State}

@@ -1,14 +1,14 @@
 -- The steps of a search in depth.
-use Rattle.std.proofs.Common.{◌≡◌, ◌≢◌, ℕ, zero, suc, ◌+◌, ◌-◌, ◌≤◌, ◌<◌, max, Bool, true, false, ◌||◌, ◌⊎◌, inl, inr, List, [], ◌∷◌, ◌++◌, length, take, drop, reverse, set, get_or, slice_get, Some, refl, sym, ap, ◌∙◌, subst, arith}
+use Rattle.std.proofs.Common.{◌≡◌, ◌≢◌, ℕ, zero, suc, ◌+◌, ◌-◌, ◌≤◌, ◌<◌, max, true, ◌||◌, ◌⊎◌, inl, inr, List, [], ◌∷◌, ◌++◌, length, take, reverse, set, get_or, slice_get, Some, refl, sym, ap, ◌∙◌, subst, arith}
 use Rattle.std.specs.List.{Contains}
 use Rattle.std.proofs.lemmas.Bool.{cases_eq, cases_lt, or_cases, or_left, or_right}
-use Rattle.std.proofs.lemmas.List.{get_or-set_same, get_or-set_other, get_or_past, take_more, take_all, get_or_default, length-set, reverse-append}
+use Rattle.std.proofs.lemmas.List.{get_or-set_same, get_or-set_other, take_more, take_all, length-set, reverse-append}
 use Rattle.std.proofs.lemmas.List.Elements.{Contains-push, Contains-push_cases, Contains-append_left, Contains-get_or}
 use Rattle.rank_graph.specs.Bits.{has}
 use Rattle.effect_scan.specs.Rows.{row, Edge}
 use Rattle.rank_graph.specs.Graphs.{InRange, Leads, IsCycle}
 use Rattle.rank_graph.specs.Entries.{owns}
-use Rattle.rank_graph.specs.Searching.{state_of, Joins, room, Finished, NoneOpen, OnPath, Visiting, HeldOne, Held, Searching, Grows, Visited, Since, left, left_below, Climbs}
+use Rattle.rank_graph.specs.Searching.{state_of, Joins, room, Finished, NoneOpen, OnPath, Visiting, Held, Searching, Grows, Visited, Since, left, left_below, Climbs}
 use Rattle.rank_graph.specs.declared.bits.Bits.{Bits}
 use Rattle.rank_graph.specs.declared.path.Entry.{Entry}
 use Rattle.rank_graph.specs.declared.path.State.{State}
@@ -23,10 +23,6 @@ state-set_same states a s h = get_or-set_same states a s New h
 pub state-set_other : (states : List State) (a b : ℕ) (s : State) → b ≢ a → state_of (set states a s) b ≡ state_of states b
 unfolding state_of
 state-set_other states a b s h = get_or-set_other states a b s New h
-
-pub state_inside : (states : List State) (a : ℕ) → (state_of states a ≡ New → ⊥) → a < length states
-unfolding state_of
-state_inside states a h = elim (cases_lt a (length states)) [ inl l ↦ l | inr m ↦ absurd (h (get_or_past states a New m)) ]
 
 pub grows_set : (states : List State) (a : ℕ) (s : State) → ((d : Entry) → state_of states a ≡ Done d → ⊥) → Grows states (set states a s)
 grows_set states a s h = λ b d is.

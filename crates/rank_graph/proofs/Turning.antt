@@ -1,9 +1,8 @@
 -- A cycle from another of its nodes on.
-use Rattle.std.proofs.Common.{◌≡◌, ℕ, zero, suc, ◌+◌, ◌-◌, ◌<◌, ◌≤◌, ◌⊎◌, inl, inr, List, [], ◌∷◌, ◌++◌, length, get_or, take, drop, refl, sym, ap, ◌∙◌, subst, arith}
+use Rattle.std.proofs.Common.{◌≡◌, ℕ, ◌-◌, ◌<◌, ◌≤◌, inl, inr, List, [], ◌∷◌, ◌++◌, length, get_or, take, drop, refl, sym, ap, ◌∙◌, subst, arith}
 use Rattle.std.specs.List.{Contains}
 use Rattle.std.proofs.lemmas.List.{append-nil, append_assoc, take-append-drop, get_or_append_left, get_or-drop, length-drop, get_or_default, take_rest}
 use Rattle.std.proofs.lemmas.List.Elements.{Contains-append_left, Contains-append_right, Contains-append_cases}
-use Rattle.effect_scan.specs.Rows.{Edge}
 use Rattle.rank_graph.specs.Graphs.{Leads, IsCycle, BeginsLeast}
 
 pub leads_split : (rows : List (List ℕ)) (a : ℕ) (xs : List ℕ) (b : ℕ) (ys : List ℕ) (c : ℕ) → Leads rows a (xs ++ b ∷ ys) c → Leads rows a (xs ++ b ∷ []) b × Leads rows b ys c
@@ -41,10 +40,6 @@ begins_least nodes all p e inside least = λ b has.
     let same : get_or nodes there.0 0 ≡ b = get_or_default nodes there.0 0 b there.1 ∙ there.2 in
     let head : get_or all 0 0 ≡ get_or nodes p 0 = ap (λ (l : List ℕ). get_or l 0 0) e ∙ first in
     omega arith
-
-pub some_node : (rows : List (List ℕ)) (nodes : List ℕ) → IsCycle rows nodes → 0 < length nodes
-some_node rows [] h = absurd h
-some_node rows (a ∷ xs) h = omega arith
 
 pub joined : (nodes : List ℕ) (p : ℕ) {b c d : List ℕ} → d ≡ c ++ take p nodes → c ≡ b ++ take (length nodes - p) (drop p nodes) → b ≡ [] → d ≡ drop p nodes ++ take p nodes
 joined nodes p e f rows = e ∙ ap (λ (l : List ℕ). l ++ take p nodes) (f ∙ ap (λ (l : List ℕ). l ++ take (length nodes - p) (drop p nodes)) rows ∙ take_rest nodes p)

@@ -1,4 +1,4 @@
-use Rattle.std.proofs.Common.{◌≡◌, ℕ, ◌<◌, List, length, reverse, arith, sym, ◌∙◌, ap, subst}
+use Rattle.std.proofs.Common.{length, arith, sym, ◌∙◌, ap, subst}
 use Rattle.std.proofs.lemmas.List.{length_push, length-reverse}
 use Rattle.rank_graph.specs.Graphs.{IsToldCycle}
 use Rattle.rank_graph.proofs.Searching.{climb_on, climb_step, climbed}

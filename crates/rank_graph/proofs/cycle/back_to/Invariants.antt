@@ -1,5 +1,4 @@
 use Rattle.std.proofs.Common.{◌≡◌, ◌⊎◌, List, ℕ, ◌<◌, length, reverse, ◌∷◌}
-use Rattle.effect_scan.specs.Rows.{Edge}
 use Rattle.rank_graph.specs.Graphs.{Leads}
 use Rattle.rank_graph.specs.Searching.{OnPath, Climbs}
 use Rattle.rank_graph.proofs.cycle.back_to.Given as goal

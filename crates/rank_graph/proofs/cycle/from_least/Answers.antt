@@ -1,4 +1,3 @@
-use Rattle.std.proofs.Common.{◌∙◌, ap, ◌++◌, List, ℕ, take}
 use Rattle.rank_graph.proofs.Turning.{turned_at, begins_least, joined}
 use Rattle.rank_graph.proofs.cycle.from_least.Goals as goal
 

@@ -1,5 +1,4 @@
-use Rattle.std.proofs.Common.{◌∙◌, ap, length}
-use Rattle.std.proofs.lemmas.List.{length-replicate}
+use Rattle.std.proofs.Common.{◌∙◌}
 use Rattle.rank_graph.proofs.Driving.{all_fresh}
 use Rattle.rank_graph.proofs.search.search.Goals as goal
 

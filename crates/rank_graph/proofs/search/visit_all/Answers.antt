@@ -1,7 +1,6 @@
-use Rattle.std.proofs.Common.{arith, subst, sym, List}
+use Rattle.std.proofs.Common.{arith}
 use Rattle.rank_graph.specs.Searching.{state_of}
-use Rattle.rank_graph.specs.declared.path.State.{State}
-use Rattle.rank_graph.proofs.Driving.{Come, all_new, come_visit, come_past}
+use Rattle.rank_graph.proofs.Driving.{all_new, come_visit, come_past}
 use Rattle.rank_graph.proofs.search.visit_all.Goals as goal
 use Rattle.rank_graph.proofs.search.visit_all.Goals.{in-New+in_ok-visit, in_default}
 

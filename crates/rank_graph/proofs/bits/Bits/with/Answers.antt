@@ -1,7 +1,6 @@
-use Rattle.std.proofs.Common.{◌≡◌, ℕ, ◌<◌, w64, max, ◌||◌, eqb, Bool, ◌∙◌, ap, refl, inl, inr, subst, sym, arith}
+use Rattle.std.proofs.Common.{w64, eqb, refl, inl, inr, sym, arith}
 use Rattle.std.proofs.lemmas.Nat.Bits.{bit_at_set_same, bit_at_set_other}
 use Rattle.std.proofs.lemmas.Bool.{cases_eq, eq-eqb, ne_eqb, or_right}
-use Rattle.std.proofs.lemmas.Bool.Decides.{nat_tests}
 use Rattle.std.specs.Int.{bit_at}
 use Rattle.rank_graph.specs.Bits.{has}
 use Rattle.rank_graph.proofs.bits.Bits.with.Goals as goal
