@@ -11,12 +11,11 @@ const SLOTS: usize = 60;
 /// How many classes there are.
 const CLASSES: usize = 5;
 
-/// The slot of this number, which calls the next one: its own class's, or the first of the next class.
-fn slot(alloc: Global, number: usize, calls: bool) -> Result<Vec<u8>, AllocError> {
-    let next = number + 1;
+/// The slot of this number, which calls the next one, if there is one: its own class's, or the first of the next class.
+fn slot(alloc: Global, number: usize, next: Option<usize>) -> Result<Vec<u8>, AllocError> {
     let mut text = Vec::new(alloc);
     text.extend_from_slice(format!(in alloc; "slot s{number}() {{")?.as_bytes())?;
-    if calls {
+    if let Some(next) = next {
         let path = if next % SLOTS == 0 {
             "this.next"
         } else {
@@ -38,7 +37,9 @@ fn chain(alloc: Global, count: usize) -> Result<Vec<u8>, AllocError> {
         for place in 0..SLOTS {
             let number = class * SLOTS + place;
             if number < count {
-                let text = slot(alloc, number, number + 1 < count)?;
+                let next = number + 1;
+                let called = if next < count { Some(next) } else { None };
+                let text = slot(alloc, number, called)?;
                 program.extend_from_slice(text.as_slice())?;
             }
         }
