@@ -10,7 +10,7 @@ use Rattle.meta_model.specs.declared.qobject.TheConstants.{DESTROYED, OBJECT_NAM
 use Rattle.meta_model.specs.Loaded.{Loaded}
 use Rattle.meta_model.specs.Members.{IsClass, IsClassNamed, HasSig, IsMethodNamed, IsPropertyNamed, Owns}
 use Rattle.meta_model.specs.Root.{root_methods, BeginsAsRoot}
-use Rattle.meta_model.specs.Sound.{IsSound}
+use Rattle.meta_model.specs.Sound.{IsSound, IsSoundClass}
 use Rattle.meta_model.proofs.OneAnswer.{one_class, one_named, one_property}
 use Rattle.effect_scan.specs.declared.node.Node.{Node}
 use Rattle.effect_scan.specs.declared.node.Member.{Member}
@@ -30,9 +30,6 @@ use Rattle.rank_check.specs.Names.{IsMemberNamed, IsNodeNamed}
 use Rattle.rank_make.specs.Solved.{HasMember}
 
 module _ (p : Loaded) where
-  shapes : List Shape
-  shapes = map shape_of p.classes
-
   -- where a node stands: in its class, at the place of its member
   record Place (x : Node) (n : ℕ) : Type 0 where
     shape : Shape
@@ -79,34 +76,34 @@ module _ (p : Loaded) where
       let c = class_at (slice_get p.classes x.class) h.shape (sym (slice_get-map shape_of p.classes x.class) ∙ h.is) in
       (c.0, record { is = c.1 })
 
+  -- a class has `destroyed(QObject*)` at least
+  some_method : (c : ℕ) (class : MetaObject) → IsSoundClass p c class → 0 < length class.methods
+  some_method c class sound =
+      let begins = sound.begins in
+      let count = ap (λ (ms : List MetaMethod). length ms) begins.methods in
+      let sum = length-append root_methods begins.own_methods in
+      omega arith
+
+  element : {X : Type 0} (xs : List X) (k : ℕ) → k < length xs → (x : X) × (slice_get xs k ≡ Some x)
+  element [] k h = absurd (omega arith)
+  element (x ∷ xs) zero h = (x, refl)
+  element (x ∷ xs) (suc k) h = element xs k (omega arith)
+
+  member_of : (class : MetaObject) (m : Member) (k : ℕ) → 0 < length class.methods → IsPlaceIn (shape_of class) m k → HasMember class m
+  member_of class (member.Method m) k some (inl first) = element class.methods m (omega (arith, first.0))
+  member_of class (member.Method m) k some (inr later) = element class.methods m (omega (arith, later.1))
+  member_of class (member.Property q) k some h = element class.properties q (omega (arith, h.0))
+  member_of class member.Destruction k some h = tt
+
+  pub has_member : (x : Node) → IsNode p x → (class : MetaObject) → IsClass p x.class class → IsSoundClass p x.class class → HasMember class x.member
+  has_member x is class is_class sound =
+      let h = place_in x is.0 is.1 in
+      let c = class_at (slice_get p.classes x.class) h.shape (sym (slice_get-map shape_of p.classes x.class) ∙ h.is) in
+      let same : c.0 ≡ class = same_Some c.0 class (sym c.1 ∙ is_class.is) in
+      let shape : h.shape ≡ shape_of class = sym c.2 ∙ ap shape_of same in
+      member_of class x.member h.place (some_method x.class class sound) (subst (λ (s : Shape). IsPlaceIn s x.member h.place) shape h.placed)
+
   module _ (sound : IsSound p) where
-    -- a class has `destroyed(QObject*)` at least
-    some_method : (c : ℕ) (class : MetaObject) → IsClass p c class → 0 < length class.methods
-    some_method c class is =
-        let begins = (sound.classes c class is).begins in
-        let count = ap (λ (ms : List MetaMethod). length ms) begins.methods in
-        let sum = length-append root_methods begins.own_methods in
-        omega arith
-
-    element : {X : Type 0} (xs : List X) (k : ℕ) → k < length xs → (x : X) × (slice_get xs k ≡ Some x)
-    element [] k h = absurd (omega arith)
-    element (x ∷ xs) zero h = (x, refl)
-    element (x ∷ xs) (suc k) h = element xs k (omega arith)
-
-    member_of : (class : MetaObject) (m : Member) (k : ℕ) → 0 < length class.methods → IsPlaceIn (shape_of class) m k → HasMember class m
-    member_of class (member.Method m) k some (inl first) = element class.methods m (omega (arith, first.0))
-    member_of class (member.Method m) k some (inr later) = element class.methods m (omega (arith, later.1))
-    member_of class (member.Property q) k some h = element class.properties q (omega (arith, h.0))
-    member_of class member.Destruction k some h = tt
-
-    pub has_member : (x : Node) → IsNode p x → (class : MetaObject) → IsClass p x.class class → HasMember class x.member
-    has_member x is class is_class =
-        let h = place_in x is.0 is.1 in
-        let c = class_at (slice_get p.classes x.class) h.shape (sym (slice_get-map shape_of p.classes x.class) ∙ h.is) in
-        let same : c.0 ≡ class = same_Some c.0 class (sym c.1 ∙ is_class.is) in
-        let shape : h.shape ≡ shape_of class = sym c.2 ∙ ap shape_of same in
-        member_of class x.member h.place (some_method x.class class is_class) (subst (λ (s : Shape). IsPlaceIn s x.member h.place) shape h.placed)
-
     -- ---- names
     named_by_sig : (c : ℕ) (sig : Sig) (m : ℕ) → HasSig p c sig m → IsMethodNamed p c sig.name (length sig.types) m
     named_by_sig c sig m h = record {

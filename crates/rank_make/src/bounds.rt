@@ -1,6 +1,6 @@
 //! The greatest ranks.
 
-ghost use Rattle.std.specs.Prelude.{ℕ, ◌≡◌, ◌≤◌, ◌<◌, ◌+◌, ◌⊎◌, ◌×◌, MatchOption};
+ghost use Rattle.std.specs.Prelude.{ℕ, ◌≡◌, ◌≤◌, ◌<◌, ◌+◌, ◌⊎◌, MatchOption};
 ghost use Rattle.rank_check.specs.Valid.{most_bound};
 ghost use Rattle.rank_graph.specs.Solutions.{rank_of};
 ghost use Rattle.rank_make.specs.Solved.{AreLow};

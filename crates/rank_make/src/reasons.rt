@@ -30,12 +30,14 @@ pub fn told_cycle(
     requires cycle { IsCycleByNumber scan.now.rows numbers }
     ensures { IfOk result (IsToldCycle meta.now) }
 {
+    let first = match numbers.as_slice().first() {
+        Some(first) => *first,
+        None => unreachable!(),
+    };
     let mut closed = numbers;
-    if let Some(first) = closed.as_slice().first() {
-        let first = *first;
-        closed.push(first)?;
-    }
-    nodes_at(alloc, scan, closed.as_slice())
+    closed.push(first)?;
+    let nodes = nodes_at(alloc, scan, closed.as_slice())?;
+    Ok(nodes)
 }
 
 /// A path from a slot or native to the destruction of an object of its class, if there is one. Its error is that memory
