@@ -1,12 +1,15 @@
 -- Why no certificate is valid where a walk isn't allowed: along a walk ranks fall, and sets are carried back.
-use Rattle.std.proofs.Common.{◌≡◌, ℕ, ◌+◌, ◌<◌, ◌≤◌, List, [], ◌∷◌, length, slice_get, Some, refl, sym, ap, ◌∙◌, subst, arith}
-use Rattle.std.proofs.lemmas.Option.{same_Some}
+use Rattle.std.proofs.Common.{◌≡◌, ℕ, zero, suc, ◌+◌, ◌<◌, ◌≤◌, List, [], ◌∷◌, length, slice_get, Some, refl, sym, ap, ◌∙◌, subst, arith}
+use Rattle.std.proofs.lemmas.Option.{same_Some, none-some}
+use Rattle.std.specs.List.{Contains}
 use Rattle.meta_model.specs.Loaded.{Loaded}
 use Rattle.effect_scan.specs.declared.node.Node.{Node}
 use Rattle.effect_scan.specs.declared.node.Member.TheVariants as member
 use Rattle.effect_scan.specs.Laws.{IsNode, EdgesJoinNodes}
 use Rattle.certificate_lang.specs.declared.certificate.Line.{Line}
 use Rattle.certificate_lang.specs.declared.certificate.Certificate.{Certificate}
+use Rattle.typing.specs.declared.spot.Spot.TheVariants as spot
+use Rattle.typing.specs.Typed.{FindsUntyped}
 use Rattle.rank_check.specs.Valid.{IsLineOf, Destroys, HasBody, IsValid}
 use Rattle.rank_check.proofs.Elements.{place_of}
 use Rattle.rank_make.specs.Walks.{Leads, IsWalk, IsCycleFrom, IsToldCycle, IsDestroyPath, IsHighChain}
@@ -92,3 +95,32 @@ module _ (p : Loaded) (join : EdgesJoinNodes p) where
 
   pub chain_bars : (nodes : List Node) → IsHighChain p nodes → NoneIsValid p
   chain_bars nodes chain certificate valid = chain_invalid certificate valid nodes chain
+
+  -- ---- what a reason names are nodes
+  walk_nodes : (x : Node) (zs : List Node) (y : Node) → Leads p x zs y → IsNode p x → (k : ℕ) (z : Node) → slice_get (x ∷ zs) k ≡ Some z → IsNode p z
+  walk_nodes x zs y leads node zero z at = subst (λ (n : Node). IsNode p n) (same_Some x z at) node
+  walk_nodes x [] y leads node (suc k) z at = absurd (none-some z at)
+  walk_nodes x (w ∷ ws) y leads node (suc k) z at = walk_nodes w ws y leads.1 ((join x w leads.0).1) k z at
+
+  named_nodes : (x y : Node) (nodes : List Node) → IsWalk p x y nodes → 1 < length nodes → (z : Node) → Contains nodes z → IsNode p z
+  named_nodes x y nodes walk more z held =
+      let count = ap (λ (ns : List Node). length ns) walk.nodes_are in
+      let some : 0 < length walk.after = omega arith in
+      let at = place_of nodes z held in
+      walk_nodes x walk.after y walk.leads (begins_at_node x walk.after y walk.leads some) at.0 z (subst (λ (ns : List Node). slice_get ns at.0 ≡ Some z) walk.nodes_are at.1)
+
+  pub cycle_nodes : (nodes : List Node) → IsToldCycle p nodes → (z : Node) → Contains nodes z → IsNode p z
+  cycle_nodes nodes told = named_nodes told.first told.first nodes told.cycle.walk told.cycle.some
+
+  pub path_nodes : (nodes : List Node) → IsDestroyPath p nodes → (z : Node) → Contains nodes z → IsNode p z
+  path_nodes nodes path =
+      let walk = path.walk in
+      let count = ap (λ (ns : List Node). length ns) walk.nodes_are in
+      let some = path_some path.from walk.after path.to walk.leads path.body path.destruction in
+      named_nodes path.from path.to nodes walk (omega arith)
+
+  pub chain_nodes : (nodes : List Node) → IsHighChain p nodes → (z : Node) → Contains nodes z → IsNode p z
+  chain_nodes nodes chain = let count = chain.count in named_nodes chain.from chain.to nodes chain.walk (omega arith)
+
+pub spot_node : (p : Loaded) (x : Node) → FindsUntyped p (Some (spot.Node x)) → IsNode p x
+spot_node p x h = (h.number, h.first.is)
