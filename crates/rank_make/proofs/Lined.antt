@@ -1,33 +1,29 @@
 -- Why the certificate that is made is valid, and least.
 use Rattle.std.proofs.Common.{◌≡◌, ◌⊎◌, inl, inr, ◌↔◌, ℕ, zero, suc, ◌+◌, ◌<◌, ◌≤◌, Bool, true, List, [], ◌∷◌, length, slice_get, Some, refl, sym, ap, ◌∙◌, subst, arith}
-use Rattle.std.specs.List.{Contains, AllZip}
-use Rattle.std.proofs.lemmas.Option.{slice_get_within, same_Some}
+use Rattle.std.specs.List.{AllZip}
+use Rattle.std.proofs.lemmas.Option.{slice_get_within}
 use Rattle.meta_model.specs.Loaded.{Loaded}
 use Rattle.meta_model.specs.Members.{IsClassNamed}
 use Rattle.meta_model.specs.Sound.{IsSound}
 use Rattle.meta_model.proofs.OneAnswer.{one_class}
 use Rattle.meta_model.proofs.Zips.{zip_left, zip_right}
 use Rattle.effect_scan.specs.declared.node.Node.{Node}
-use Rattle.effect_scan.specs.declared.node.Member.TheVariants.{Destruction}
 use Rattle.effect_scan.specs.Nodes.{nodes_of, IsAt}
 use Rattle.effect_scan.specs.Rows.{Edge}
-use Rattle.effect_scan.specs.Edges.{MayLead}
 use Rattle.effect_scan.specs.Destroying.{Closure}
-use Rattle.effect_scan.specs.Laws.{IsNode, EdgesJoinNodes}
+use Rattle.effect_scan.specs.Laws.{EdgesJoinNodes}
 use Rattle.effect_scan.specs.Scans.{Scanned, IsScan}
 use Rattle.certificate_lang.specs.declared.certificate.Line.{Line}
 use Rattle.certificate_lang.specs.declared.certificate.Certificate.{Certificate}
 use Rattle.rank_check.specs.Names.{IsNodeNamed}
-use Rattle.rank_check.specs.Valid.{IsLineOf, IsListed, Destroys, AreClassesThere, HasBody, HasEachNode, HasNothingElse, RanksFall, SetsHold, IsBounded, IsValid, most_bound}
+use Rattle.rank_check.specs.Valid.{IsLineOf, Destroys, AreClassesThere, HasEachNode, HasNothingElse, RanksFall, SetsHold, IsBounded, IsValid, most_bound}
 use Rattle.rank_check.specs.Entries.{IsReady}
 use Rattle.rank_check.proofs.Elements.{some_inside, place_of, element_at}
 use Rattle.rank_graph.specs.Graphs.{Chain, Leads as LeadsByNumber}
 use Rattle.rank_graph.specs.Solutions.{LeadsTo}
-use Rattle.rank_make.specs.Walks.{Leads}
 use Rattle.rank_make.specs.Least.{IsLeast, AreInOrder, IsInOrder, IsLeastValid}
-use Rattle.rank_make.specs.Solved.{own_rows, IsSolved, EndsItself, NoneEnds, AreNames, IsLineFor, AreLinesFor}
+use Rattle.rank_make.specs.Solved.{own_rows, IsSolved, NoneEnds, IsLineFor, AreLinesFor}
 use Rattle.rank_make.proofs.Placed.{one_number, one_at, one_name, closure_low}
-use Rattle.rank_make.proofs.Barred.{walk_carries}
 use Rattle.rank_make.proofs.Numbers.{edge_of, edge_leads, own_has, own_is, rank_falls, leads_back}
 
 -- two lists related element by element

@@ -1,11 +1,10 @@
 -- Walks between nodes and between their numbers.
-use Rattle.std.proofs.Common.{◌≡◌, ◌↔◌, ℕ, zero, suc, ◌+◌, ◌<◌, ◌≤◌, Bool, true, List, [], ◌∷◌, ◌++◌, length, map, slice_get, Option, Some, None, refl, sym, ap, ◌∙◌, subst, arith}
+use Rattle.std.proofs.Common.{◌≡◌, ℕ, suc, ◌+◌, ◌<◌, ◌≤◌, Bool, true, List, [], ◌∷◌, length, slice_get, Some, refl, sym, ap, ◌∙◌, subst, arith}
 use Rattle.std.specs.List.{Contains, AllZip}
 use Rattle.std.specs.Option.{option_map}
 use Rattle.std.proofs.lemmas.List.{length-map}
-use Rattle.std.proofs.lemmas.Option.{slice_get-map, slice_get_within, none-some}
+use Rattle.std.proofs.lemmas.Option.{slice_get-map}
 use Rattle.meta_model.specs.Loaded.{Loaded}
-use Rattle.meta_model.proofs.Zips.{zip_right}
 use Rattle.effect_scan.specs.declared.node.Node.{Node}
 use Rattle.effect_scan.specs.declared.node.Member.{Member}
 use Rattle.effect_scan.specs.declared.node.Member.TheVariants.{Method, Property, Destruction}
@@ -13,15 +12,14 @@ use Rattle.effect_scan.specs.Nodes.{nodes_of, IsAt}
 use Rattle.effect_scan.specs.Rows.{row, Edge}
 use Rattle.effect_scan.specs.Edges.{MayLead}
 use Rattle.effect_scan.specs.Destroying.{Closure}
-use Rattle.effect_scan.specs.Laws.{IsNode, EdgesJoinNodes}
+use Rattle.effect_scan.specs.Laws.{EdgesJoinNodes}
 use Rattle.effect_scan.specs.Scans.{Scanned, IsScan}
-use Rattle.effect_scan.proofs.Adding.{row_found, row_past, no_members, edge_inside}
-use Rattle.rank_check.specs.Valid.{HasBody, most_bound}
-use Rattle.rank_check.proofs.Elements.{some_inside, place_of}
-use Rattle.rank_graph.specs.Graphs.{Chain, Leads as LeadsByNumber}
-use Rattle.rank_graph.specs.Solutions.{AreRanks, LeadsTo, AreClasses}
-use Rattle.rank_make.specs.Walks.{Leads, IsWalk, IsCycleFrom, NoCycle, IsDestroyPath, NoDestroyPath}
-use Rattle.rank_make.specs.Solved.{own_by, own_of, own_rows, IsSolved, EndsItself, NoneEnds}
+use Rattle.effect_scan.proofs.Adding.{row_found, no_members, edge_inside}
+use Rattle.rank_check.proofs.Elements.{some_inside}
+use Rattle.rank_graph.specs.Graphs.{Leads as LeadsByNumber}
+use Rattle.rank_graph.specs.Solutions.{LeadsTo}
+use Rattle.rank_make.specs.Walks.{Leads, NoCycle, NoDestroyPath}
+use Rattle.rank_make.specs.Solved.{own_by, own_of, own_rows, IsSolved, NoneEnds}
 use Rattle.rank_make.proofs.Placed.{one_number, one_at}
 use Rattle.rank_make.proofs.Barred.{begins_at_node, path_some}
 

@@ -1,22 +1,21 @@
 -- A node has one place, and a name is that of one node.
-use Rattle.std.proofs.Common.{◌≡◌, ◌⊎◌, inl, inr, ℕ, zero, suc, ◌+◌, ◌-◌, ◌<◌, ◌≤◌, List, [], ◌∷◌, ◌++◌, length, map, take, slice_get, Option, Some, None, refl, sym, ap, ◌∙◌, subst, arith}
+use Rattle.std.proofs.Common.{◌≡◌, inl, inr, ℕ, zero, suc, ◌+◌, ◌<◌, List, [], ◌∷◌, length, map, take, slice_get, Option, Some, None, refl, sym, ap, ◌∙◌, subst, arith}
 use Rattle.std.specs.Option.{option_map}
 use Rattle.std.proofs.lemmas.List.{length-append}
 use Rattle.std.proofs.lemmas.Option.{slice_get-map, slice_get_within, same_Some, none-some}
 use Rattle.signatures.specs.declared.sig.Sig.{Sig}
 use Rattle.meta_model.specs.declared.object.MetaMethod.{MetaMethod}
 use Rattle.meta_model.specs.declared.object.MetaObject.{MetaObject}
-use Rattle.meta_model.specs.declared.qobject.TheConstants.{DESTROYED, OBJECT_NAME_CHANGED}
 use Rattle.meta_model.specs.Loaded.{Loaded}
-use Rattle.meta_model.specs.Members.{IsClass, IsClassNamed, HasSig, IsMethodNamed, IsPropertyNamed, Owns}
-use Rattle.meta_model.specs.Root.{root_methods, BeginsAsRoot}
+use Rattle.meta_model.specs.Members.{IsClass, HasSig, IsMethodNamed}
+use Rattle.meta_model.specs.Root.{root_methods}
 use Rattle.meta_model.specs.Sound.{IsSound, IsSoundClass}
 use Rattle.meta_model.proofs.OneAnswer.{one_class, one_named, one_property}
 use Rattle.effect_scan.specs.declared.node.Node.{Node}
 use Rattle.effect_scan.specs.declared.node.Member.{Member}
 use Rattle.effect_scan.specs.declared.node.Member.TheVariants as member
 use Rattle.effect_scan.specs.declared.numbering.Shape.{Shape}
-use Rattle.effect_scan.specs.Nodes.{node, shape_of, class_nodes, nodes_from, nodes_of, IsAt}
+use Rattle.effect_scan.specs.Nodes.{node, shape_of, nodes_from, nodes_of, IsAt}
 use Rattle.effect_scan.specs.Numbering.{IsPlaceIn}
 use Rattle.effect_scan.specs.Laws.{IsNode}
 use Rattle.effect_scan.specs.Destroying.{Closure, itself, child}

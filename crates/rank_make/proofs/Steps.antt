@@ -1,6 +1,6 @@
 -- Rows, names and lines that are made element by element.
-use Rattle.std.proofs.Common.{◌≡◌, ◌⊎◌, inl, inr, Bool, ℕ, zero, suc, ◌+◌, ◌<◌, ◌≤◌, List, [], ◌∷◌, ◌++◌, length, map, get_or, take, slice_get, Some, None, refl, sym, ap, ◌∙◌, subst, arith}
-use Rattle.std.specs.List.{Contains, AllZip}
+use Rattle.std.proofs.Common.{◌≡◌, inl, inr, Bool, ℕ, zero, suc, ◌+◌, ◌<◌, List, [], ◌∷◌, ◌++◌, length, map, get_or, take, slice_get, Some, refl, sym, ap, ◌∙◌, subst, arith}
+use Rattle.std.specs.List.{AllZip}
 use Rattle.std.proofs.lemmas.List.{length-append, take_more, map-append, get_or_default}
 use Rattle.std.proofs.lemmas.Option.{slice_get-get_or, same_Some, none-some}
 use Rattle.meta_model.specs.Loaded.{Loaded}

@@ -1,5 +1,5 @@
 -- Walks as they are told, from their numbers.
-use Rattle.std.proofs.Common.{◌≡◌, inl, inr, ℕ, zero, suc, ◌+◌, ◌<◌, ◌≤◌, Bool, true, List, [], ◌∷◌, ◌++◌, length, get_or, slice_get, Some, refl, sym, ap, ◌∙◌, subst, arith}
+use Rattle.std.proofs.Common.{◌≡◌, inl, inr, ℕ, zero, suc, ◌<◌, ◌≤◌, List, [], ◌∷◌, ◌++◌, length, get_or, slice_get, Some, refl, sym, ap, ◌∙◌, subst, arith}
 use Rattle.std.specs.List.{Contains, AllZip}
 use Rattle.std.proofs.lemmas.List.{length-append}
 use Rattle.std.proofs.lemmas.List.Elements.{Contains-push_cases}
@@ -7,7 +7,6 @@ use Rattle.std.proofs.lemmas.Option.{slice_get_within, get_or_from_slice_get, sa
 use Rattle.meta_model.specs.Loaded.{Loaded}
 use Rattle.meta_model.proofs.Zips.{zip_right}
 use Rattle.effect_scan.specs.declared.node.Node.{Node}
-use Rattle.effect_scan.specs.declared.node.Member.TheVariants.{Destruction}
 use Rattle.effect_scan.specs.Nodes.{nodes_of, IsAt}
 use Rattle.effect_scan.specs.Rows.{Edge}
 use Rattle.effect_scan.specs.Destroying.{Closure}
@@ -17,9 +16,9 @@ use Rattle.effect_scan.proofs.Relating.{zip_length}
 use Rattle.rank_check.specs.Valid.{HasBody, most_bound}
 use Rattle.rank_check.proofs.Conditions.{edges_inside}
 use Rattle.rank_check.proofs.Elements.{some_inside, place_of, element_at}
-use Rattle.rank_graph.specs.Graphs.{Leads as LeadsByNumber, IsCycle as IsCycleByNumber, BeginsLeast, IsToldCycle as IsToldByNumber, IsPathTo, IsChainFrom}
-use Rattle.rank_make.specs.Walks.{Leads, IsWalk, IsCycleFrom, IsToldCycle, IsDestroyPath, IsHighChain}
-use Rattle.rank_make.specs.Solved.{own_rows, EndsItself}
+use Rattle.rank_graph.specs.Graphs.{Leads as LeadsByNumber, IsCycle as IsCycleByNumber, IsToldCycle as IsToldByNumber, IsPathTo, IsChainFrom}
+use Rattle.rank_make.specs.Walks.{IsWalk, IsToldCycle, IsDestroyPath, IsHighChain}
+use Rattle.rank_make.specs.Solved.{own_rows}
 use Rattle.rank_make.proofs.Placed.{one_number, one_at}
 use Rattle.rank_make.proofs.Numbers.{lift, own_is}
 

@@ -24,10 +24,10 @@ IsReason p (DestroyPath nodes) = IsReady p × NoCycle p × IsDestroyPath p nodes
 IsReason p (TooHigh nodes) = IsReady p × NoCycle p × NoDestroyPath p × IsHighChain p nodes × NoneIsValid p
 IsReason p Memory = Unit {0}
 
--- the reasons that the program gives whatever the certificate, before its edges are looked at
-abbrev pub JudgesProgram : Loaded → Result (Unit {0}) Why → Type 0
-JudgesProgram p (Ok _) = IsReady p
-JudgesProgram p (Err why) = IsReason p why
+-- the program is ready for a certificate, or this is the reason that it is not
+abbrev pub ReadyOrReason : Loaded → Result (Unit {0}) Why → Type 0
+ReadyOrReason p (Ok _) = IsReady p
+ReadyOrReason p (Err why) = IsReason p why
 
 -- a valid certificate that is least, or the first reason why none is valid
 abbrev pub Makes : Loaded → Result Certificate Why → Type 0

@@ -4,7 +4,7 @@ ghost use Rattle.std.specs.Prelude.{◌≡◌, length, IfOk};
 ghost use Rattle.effect_scan.specs.Scans.{IsScan};
 ghost use Rattle.rank_check.specs.Entries.{IsReady};
 ghost use Rattle.rank_graph.specs.Solutions.{rank_of, leads_of};
-ghost use Rattle.rank_make.specs.Makes.{Makes, JudgesProgram};
+ghost use Rattle.rank_make.specs.Makes.{Makes, ReadyOrReason};
 ghost use Rattle.rank_make.specs.Solved.{own_rows, IsSolved};
 
 use crate::bounds::bound_of;
@@ -39,7 +39,7 @@ pub fn make(alloc: Global, meta: &Meta) -> Result<Certificate, Why>
 
 /// The reasons that the program's wires, literals, bodies and bindings give.
 fn judge_program(alloc: Global, meta: &Meta) -> Result<(), Why>
-    ensures { JudgesProgram meta.now result }
+    ensures { ReadyOrReason meta.now result }
 {
     if let Some(wire) = unfit_wire(meta) {
         return Err(Why::Wire(wire));

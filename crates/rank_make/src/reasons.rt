@@ -36,8 +36,7 @@ pub fn told_cycle(
     };
     let mut closed = numbers;
     closed.push(first)?;
-    let nodes = nodes_at(alloc, scan, closed.as_slice())?;
-    Ok(nodes)
+    nodes_at(alloc, scan, closed.as_slice())
 }
 
 /// A path from a slot or native to the destruction of an object of its class, if there is one. Its error is that memory

@@ -22,7 +22,7 @@ pub fn own_rows(alloc: Global, scan: &Scan) -> Result<Items<Items<usize>>, Alloc
     Ok(rows)
 }
 
-/// .. for one node.
+/// The classes whose objects are destroyed at once with this node. Its error is that memory was refused.
 fn own_row(alloc: Global, scan: &Scan, node: Node) -> Result<Items<usize>, AllocError>
     ensures { IfOk result (λ row. row ≡ own_of scan.now.closures node) }
 {

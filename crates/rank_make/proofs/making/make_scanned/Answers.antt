@@ -1,4 +1,3 @@
-use Rattle.std.proofs.Common.{refl}
 use Rattle.rank_check.proofs.Conditions.{edges_inside}
 use Rattle.rank_make.proofs.Barred.{cycle_bars}
 use Rattle.rank_make.proofs.Placed.{closure_low}
