@@ -1,6 +1,7 @@
-//! Runs with the thermostat's closure. The expected texts are worked out by hand.
+//! Runs with the closures of a thermostat and of a doubler. The expected texts are worked out by hand.
 
 mod checked;
+mod doubling;
 mod unchecked;
 
 use crate::thermostat::{effects, judged, measured};
@@ -33,7 +34,7 @@ pub struct Row {
 }
 
 /// The texts with lines `%%` between them.
-fn joined(alloc: Global, texts: &[&str]) -> Result<Vec<u8>, AllocError> {
+pub fn joined(alloc: Global, texts: &[&str]) -> Result<Vec<u8>, AllocError> {
     let mut input = Vec::new(alloc);
     for (place, text) in texts.iter().enumerate() {
         if place > 0 {
@@ -45,7 +46,7 @@ fn joined(alloc: Global, texts: &[&str]) -> Result<Vec<u8>, AllocError> {
 }
 
 /// The words of a command line, which blanks part.
-fn parted(alloc: Global, line: &'static str) -> Result<Vec<&'static str>, AllocError> {
+pub fn parted(alloc: Global, line: &'static str) -> Result<Vec<&'static str>, AllocError> {
     let mut words = Vec::new(alloc);
     for word in line.split(' ') {
         words.push(word)?;
