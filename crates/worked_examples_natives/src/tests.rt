@@ -1,6 +1,7 @@
 //! Runs with the thermostat's closure. The expected texts are worked out by hand.
 
 mod checked;
+mod machine;
 mod unchecked;
 
 use crate::thermostat::{effects, judged, measured};
