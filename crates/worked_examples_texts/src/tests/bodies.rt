@@ -82,7 +82,7 @@ fn bodies_connect_and_disconnect(rt: HostRuntime) -> Result<(), Fail> {
 }
 
 #[test]
-fn other_connections_are_refused(rt: HostRuntime) -> Result<(), Fail> {
+fn other_statements_are_refused(rt: HostRuntime) -> Result<(), Fail> {
     let cases = [
         ("{ connect this, s(), p, hit(), auto, single, unique; }", 5),
         ("{ connect this, s(), p, hit(), auto, unique, unique; }", 5),
@@ -104,6 +104,14 @@ fn other_connections_are_refused(rt: HostRuntime) -> Result<(), Fail> {
             "{ if (true) { disconnect this, f(int,int,int,int,int,int,int,int,int), p, m(); } }",
             3,
         ),
+        ("{ delete ; }", 5),
+        ("{ delete this }", 5),
+        ("{ delete this, p; }", 5),
+        ("{ delete null; }", 5),
+        ("{ later this.; }", 5),
+        ("{ later this.f(); }", 5),
+        ("{ later delete; }", 5),
+        ("{ deleteLater this; }", 5),
     ];
     for (body, number) in cases {
         let tokens = tokens(rt.alloc(), body.as_bytes())?;
@@ -137,27 +145,6 @@ fn bodies_destroy_at_once_or_later(rt: HostRuntime) -> Result<(), Fail> {
     for (body, end) in cases {
         let found = first_end(rt.alloc(), body)?;
         assert_eq!(rt; found, end, "in {body}");
-    }
-    Ok(())
-}
-
-#[test]
-fn other_ends_are_refused(rt: HostRuntime) -> Result<(), Fail> {
-    let cases = [
-        "{ delete ; }",
-        "{ delete this }",
-        "{ delete this, p; }",
-        "{ delete null; }",
-        "{ later this.; }",
-        "{ later this.f(); }",
-        "{ later delete; }",
-        "{ deleteLater this; }",
-    ];
-    for body in cases {
-        let tokens = tokens(rt.alloc(), body.as_bytes())?;
-        let fault = parse_body(rt.alloc(), tokens.as_slice()).err();
-        let found = fault.and_then(|fault| fault.number());
-        assert_eq!(rt; found, Some(5), "for {body}");
     }
     Ok(())
 }
