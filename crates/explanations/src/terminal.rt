@@ -5,12 +5,6 @@ use texts::{Symbol, Token, Word};
 /// The most bytes of a text.
 const MOST_BYTES: usize = 255;
 
-/// The greatest number, by its digits.
-const GREATEST: &[u8] = b"2147483647";
-
-/// The greatest number behind a `-`, by its digits.
-const DEEPEST: &[u8] = b"2147483648";
-
 /// A token as far as a grammar cares.
 #[derive(Clone, Copy, Debug, PartialEq, Eq)]
 pub enum Terminal {
@@ -50,21 +44,16 @@ impl Terminal {
 
 /// How great the number with these digits is.
 fn of_number(digits: &[u8]) -> Terminal {
-    let value = significant(digits);
-    if value.len() < GREATEST.len() || value.len() == GREATEST.len() && value <= GREATEST {
-        Terminal::Number
-    } else if value == DEEPEST {
-        Terminal::Deepest
-    } else {
-        Terminal::TooGreat
+    let mut value = 0u64;
+    for digit in digits {
+        let next = value
+            .saturating_mul(10)
+            .saturating_add(u64::from(digit.saturating_sub(b'0')));
+        value = next;
     }
-}
-
-/// The digits from the first on that isn't 0.
-fn significant(digits: &[u8]) -> &[u8] {
-    let mut left = digits;
-    while let Some((b'0', rest)) = left.split_first() {
-        left = rest;
+    match value {
+        0..=2147483647 => Terminal::Number,
+        2147483648 => Terminal::Deepest,
+        _ => Terminal::TooGreat,
     }
-    left
 }
