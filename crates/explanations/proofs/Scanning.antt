@@ -23,17 +23,17 @@ more_pieces text (p ∷ ps) left piece rest h front = (h.0, h.1, more_pieces h.0
 
 module _ {text : List ℕ} {marks : List Mark} {left : List ℕ} (h : ScannedSoFar text marks left) where
   -- a token
-  pub scan_token : (at : ℕ) (token : Token) (rest : List ℕ) → at < length text → length rest < length left → Cuts left (Some token) rest → ScannedSoFar text (marks ++ record { at = at; token = token } ∷ []) rest
-  scan_token at token rest lt less c = record {
+  pub scan_token : (at end : ℕ) (token : Token) (rest : List ℕ) → at < length text → length rest < length left → Cuts left (Some token) rest → ScannedSoFar text (marks ++ record { at = at; end = end; token = token } ∷ []) rest
+  scan_token at end token rest lt less c = record {
     cut =
-        let m : Mark = record { at = at; token = token } in
+        let m : Mark = record { at = at; end = end; token = token } in
         let P : List Token → Type 0 = λ ts. CutSoFar text ts rest in
         subst P (sym (map-append (λ (n : Mark). n.token) marks (m ∷ []))) (cut_token h.cut c);
     pieces = h.pieces ++ c.piece ∷ [];
     front = more_pieces text h.pieces left c.piece rest h.front c.front;
     shorter = let k = h.shorter in omega arith;
     within =
-        let m : Mark = record { at = at; token = token } in
+        let m : Mark = record { at = at; end = end; token = token } in
         All-append (λ (n : Mark). n.at < length text) marks (m ∷ []) h.within (search rules);
   }
 

@@ -67,7 +67,7 @@ fn at_name(misfit: &Misfit) -> Option<&'static str> {
         }
         _ => {}
     }
-    if misfit.name_before() == b"public" {
+    if misfit.name_before() == b"public".as_slice() {
         return Some("a base has no `public`: write `class A : B`");
     }
     if misfit.wants(MORE_TYPES) {

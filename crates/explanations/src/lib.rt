@@ -2,18 +2,32 @@
 #![tactic(auto)]
 
 mod advice;
+mod bad_byte;
 mod declarations;
+mod excerpt;
+mod explain;
 mod expressions;
+mod flaw;
+mod limits;
+mod line_flaw;
 mod lines;
+mod meanings;
 mod misfit;
 mod part;
 mod place;
 mod recogniser;
 mod scan;
+mod spans;
 mod spelling;
 mod statements;
+mod telling;
 mod terminal;
 mod types;
+mod usage;
 
+pub use explain::{Answer, explanation};
+pub use flaw::{Flaw, program_flaw};
+pub use line_flaw::{certificate_flaw, script_flaw};
+pub use meanings::meaning;
 pub use place::Place;
 pub use scan::{Mark, ScanFault, marks};

@@ -42,6 +42,11 @@ const LAST_OPTION: Part = Part::Line(LineRule::LastOption);
 
 pub const NODE: Part = Part::Line(LineRule::Node);
 
+/// What follows `certificate`.
+pub const VERSION: [Part; 1] = [NUMBER];
+/// What follows `bound`.
+pub const BOUND: [Part; 1] = [NUMBER];
+
 const NODE_TYPES: Part = Part::Line(LineRule::NodeTypes);
 
 impl LineRule {

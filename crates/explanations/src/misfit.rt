@@ -7,6 +7,7 @@ use crate::terminal::Terminal;
 use texts::Token;
 
 /// A token that can't stand where it does, or the end where it comes too early.
+#[derive(Clone, Copy)]
 pub struct Misfit<'a> {
     /// The tokens of the text.
     pub tokens: &'a [Mark],

@@ -13,6 +13,8 @@ use thiserror::Error;
 pub struct Mark {
     /// Its first byte, counted from 0.
     pub at: usize,
+    /// What follows its last byte.
+    pub end: usize,
     pub token: Token,
 }
 
@@ -51,7 +53,8 @@ pub fn marks(alloc: Global, text: &[u8]) -> Result<Items<Mark>, ScanFault>
         match split_piece(alloc, rest) {
             Ok((token, after)) => {
                 if let Some(token) = token {
-                    found.push(Mark { at, token })?;
+                    let end = text.len() - after.len();
+                    found.push(Mark { at, end, token })?;
                 }
                 rest = after;
             }

@@ -10,7 +10,7 @@ loop-rest-preserved-in_ok-push-in-Ok c =
     let less : length c.in-Ok.after.now < length left = c.in-Ok.ensures.shorter in
     let no_longer : length left ≤ length text = c.loop-rest.invariant.shorter in
     let lt : length text - length left < length text = omega arith in
-    rw c.in_ok-push-in-Ok.ensures.ok (scan_token c.loop-rest.invariant (length text - length left) c.in-Some.token c.in-Ok.after.now lt less (rw c.in-Some.is at c.in-Ok.ensures.cut))
+    rw c.in_ok-push-in-Ok.ensures.ok (scan_token c.loop-rest.invariant (length text - length left) (length text - length c.in-Ok.after.now) c.in-Some.token c.in-Ok.after.now lt less (rw c.in-Some.is at c.in-Ok.ensures.cut))
 
 pub loop-rest-preserved : goal.loop-rest-preserved
 loop-rest-preserved c = scan_blank c.loop-rest.invariant c.in-Ok.after.now c.in-Ok.ensures.shorter (rw c.in_default.is at c.in-Ok.ensures.cut)
