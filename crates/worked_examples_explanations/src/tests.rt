@@ -1,28 +1,43 @@
 //! What must be said is worked out by hand from docs/language.md.
 
-mod programs;
+mod bodies;
+mod classes;
+mod command_lines;
+mod declarations;
+mod expressions;
+mod script_lines;
 
-use explanations::{Answer, explain};
-use std::alloc::{AllocError, Global};
+use explanations::{Answer, explanation};
 use std::process::Abort;
 use std::test::Fail;
 
-/// A faulty text in an input, the answer to it, and what the explanation has to say.
+/// A faulty input, and what its explanation has to say: the place in the input, and what to write instead.
 #[derive(Clone, Copy)]
 pub struct Row {
     pub input: &'static str,
-    pub answer: Answer,
-    pub says: [&'static str; 2],
+    pub place: &'static str,
+    pub help: &'static str,
 }
 
-/// Checks that each row's explanation says what it has to.
-pub fn expect_rows(rt: &(impl Abort + AllocGlobal), words: &[&str], rows: &[Row]) -> Result<(), Fail> {
+/// Checks that each row's explanation of the answer says what it has to.
+pub fn expect_rows(
+    rt: &(impl Abort + AllocGlobal),
+    answer: Answer,
+    rows: &[Row],
+) -> Result<(), Fail> {
     for row in rows {
-        let input = row.input;
-        let text = explain(rt.alloc(), words, input.as_bytes(), row.answer)?;
-        for said in row.says {
-            assert!(rt; text.as_str().contains(said), "{input}: {text} lacks {said}");
-        }
+        let text = explanation(rt.alloc(), &["meta"], row.input.as_bytes(), answer)?;
+        let text = text.as_str();
+        assert!(rt;
+            text.contains(row.place),
+            "{} isn't placed in\n{text}",
+            row.input
+        );
+        assert!(rt;
+            text.contains(row.help),
+            "{} isn't helped by\n{text}",
+            row.input
+        );
     }
     Ok(())
 }
