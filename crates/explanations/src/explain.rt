@@ -23,6 +23,41 @@ pub enum Answer {
     Fault(u8),
 }
 
+impl Answer {
+    /// The answer that a line of the program's output is, without its newline; `None` where it is none of these.
+    pub fn of(line: &[u8]) -> Option<Answer> {
+        if line == b"usage".as_slice() {
+            return Some(Answer::Usage);
+        }
+        if let Some(digits) = line.strip_prefix(b"refused 16 line ".as_slice()) {
+            return Some(Answer::BadLine(number_of(digits)));
+        }
+        if let Some(digits) = line.strip_prefix(b"refused ".as_slice()) {
+            return Some(Answer::Refused(short(digits)));
+        }
+        if let Some(digits) = line.strip_prefix(b"no ".as_slice()) {
+            return Some(Answer::No(short(digits)));
+        }
+        let digits = line.strip_prefix(b"fault ".as_slice())?;
+        Some(Answer::Fault(short(digits)))
+    }
+}
+
+/// The number with these digits, or the greatest where it is greater.
+fn number_of(digits: &[u8]) -> usize {
+    let mut value = 0usize;
+    for digit in digits {
+        let unit = usize::from(digit.saturating_sub(b'0'));
+        value = value.saturating_mul(10).saturating_add(unit);
+    }
+    value
+}
+
+/// The same, up to 255.
+fn short(digits: &[u8]) -> u8 {
+    number_of(digits).min(255) as u8
+}
+
 /// A text of an input, as a person calls it.
 #[derive(Clone, Copy, Debug, PartialEq, Eq)]
 enum TextKind {

@@ -24,6 +24,7 @@ mod telling;
 mod terminal;
 mod types;
 mod usage;
+mod watching;
 
 pub use explain::{Answer, explanation};
 pub use flaw::{Flaw, program_flaw};
@@ -31,3 +32,4 @@ pub use line_flaw::{certificate_flaw, script_flaw};
 pub use meanings::meaning;
 pub use place::Place;
 pub use scan::{Mark, ScanFault, marks};
+pub use watching::{KeptReader, WatchedWriter};
