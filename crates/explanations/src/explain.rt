@@ -1,62 +1,13 @@
 //! Explanations: what an answer of the program means, and where in the input its reason lies.
 
+use crate::answer::{Answer, Reason};
 use crate::excerpt::{push_excerpt, push_place};
-use crate::flaw::{Flaw, program_flaw};
+use crate::flaw::{Flaw, program_flaw, wire_flaw};
 use crate::line_flaw::{certificate_flaw, script_flaw};
 use crate::meanings::meaning;
 use crate::spans::text_spans;
 use crate::usage::push_usage;
 use std::alloc::{AllocError, Global};
-
-/// An answer of the program that a person may want explained.
-#[derive(Clone, Copy, Debug, PartialEq, Eq)]
-pub enum Answer {
-    /// `usage`
-    Usage,
-    /// `refused k`
-    Refused(u8),
-    /// `refused 16 line n`
-    BadLine(usize),
-    /// `no k`
-    No(u8),
-    /// `fault k`
-    Fault(u8),
-}
-
-impl Answer {
-    /// The answer that a line of the program's output is, without its newline; `None` where it is none of these.
-    pub fn of(line: &[u8]) -> Option<Answer> {
-        if line == b"usage".as_slice() {
-            return Some(Answer::Usage);
-        }
-        if let Some(digits) = line.strip_prefix(b"refused 16 line ".as_slice()) {
-            return Some(Answer::BadLine(number_of(digits)));
-        }
-        if let Some(digits) = line.strip_prefix(b"refused ".as_slice()) {
-            return Some(Answer::Refused(short(digits)));
-        }
-        if let Some(digits) = line.strip_prefix(b"no ".as_slice()) {
-            return Some(Answer::No(short(digits)));
-        }
-        let digits = line.strip_prefix(b"fault ".as_slice())?;
-        Some(Answer::Fault(short(digits)))
-    }
-}
-
-/// The number with these digits, or the greatest where it is greater.
-fn number_of(digits: &[u8]) -> usize {
-    let mut value = 0usize;
-    for digit in digits {
-        let unit = usize::from(digit.saturating_sub(b'0'));
-        value = value.saturating_mul(10).saturating_add(unit);
-    }
-    value
-}
-
-/// The same, up to 255.
-fn short(digits: &[u8]) -> u8 {
-    number_of(digits).min(255) as u8
-}
 
 /// A text of an input, as a person calls it.
 #[derive(Clone, Copy, Debug, PartialEq, Eq)]
@@ -78,36 +29,66 @@ impl TextKind {
 
 /// Explains an answer to these words and this input: what it means, in one sentence; and where the input is at fault,
 /// what is wrong there, its line and column in the input and in its text, that line with a caret below the place, and
-/// what to write instead, where that is known.
+/// what to write instead, where that is known. Where the input isn't known no place is told.
 pub fn explanation(
     alloc: Global,
     words: &[&str],
-    input: &[u8],
+    input: Option<&[u8]>,
     answer: Answer,
 ) -> Result<String, AllocError> {
     let mut text = String::new(alloc);
+    push_meaning(&mut text, answer)?;
     match answer {
         Answer::Usage => push_usage(&mut text, alloc, words, input)?,
-        Answer::Refused(number) => {
-            let about = meaning(number).unwrap_or("");
-            writeln!(text, "refused {number}: {about}")?;
-            push_refusal(&mut text, alloc, input, number)?;
-        }
-        Answer::BadLine(line) => {
-            let about = meaning(16).unwrap_or("");
-            writeln!(text, "refused 16: {about}")?;
-            push_bad_line(&mut text, alloc, input, line)?;
-        }
-        Answer::No(number) => {
-            let about = meaning(number).unwrap_or("");
-            writeln!(text, "no {number}: {about}")?;
-        }
-        Answer::Fault(number) => {
-            let about = meaning(number).unwrap_or("");
-            writeln!(text, "fault {number}: {about}")?;
+        _ => {
+            if let Some(input) = input {
+                push_where(&mut text, alloc, input, answer)?;
+            }
         }
     }
     Ok(text)
+}
+
+/// Adds what an answer means, but for `usage`, which depends on the words.
+fn push_meaning(text: &mut String, answer: Answer) -> Result<(), AllocError> {
+    match answer {
+        Answer::Usage => Ok(()),
+        Answer::Refused(number) => {
+            let about = meaning(number).unwrap_or("");
+            writeln!(text, "refused {number}: {about}")
+        }
+        Answer::BadLine(_) => {
+            let about = meaning(16).unwrap_or("");
+            writeln!(text, "refused 16: {about}")
+        }
+        Answer::No(number) => {
+            let about = meaning(number).unwrap_or("");
+            writeln!(text, "no {number}: {about}")
+        }
+        Answer::Uncertified(reason) => {
+            let about = reason.meaning();
+            writeln!(text, "no certificate: {about}")
+        }
+        Answer::Fault(number) => {
+            let about = meaning(number).unwrap_or("");
+            writeln!(text, "fault {number}: {about}")
+        }
+    }
+}
+
+/// Adds where the input is at fault, if that is at one place.
+fn push_where(
+    text: &mut String,
+    alloc: Global,
+    input: &[u8],
+    answer: Answer,
+) -> Result<(), AllocError> {
+    match answer {
+        Answer::Refused(number) => push_refusal(text, alloc, input, number),
+        Answer::BadLine(line) => push_bad_line(text, alloc, input, line),
+        Answer::Uncertified(Reason::Wire(number)) => push_wire(text, alloc, input, number),
+        _ => Ok(()),
+    }
 }
 
 /// Adds where a program or a certificate is at fault.
@@ -140,6 +121,24 @@ fn push_refusal(
             Some(flaw) => push_flaw(text, input, span.begin, source, TextKind::Program, &flaw),
             None => Ok(()),
         }
+    }
+}
+
+/// Adds where a program's wire of this number is, counted from 1.
+fn push_wire(
+    text: &mut String,
+    alloc: Global,
+    input: &[u8],
+    number: usize,
+) -> Result<(), AllocError> {
+    let spans = text_spans(alloc, input)?;
+    let Some(span) = spans.get(0) else {
+        return Ok(());
+    };
+    let source = input.get(span.begin..span.end).unwrap_or(&[]);
+    match wire_flaw(alloc, source, number)? {
+        Some(flaw) => push_flaw(text, input, span.begin, source, TextKind::Program, &flaw),
+        None => Ok(()),
     }
 }
 

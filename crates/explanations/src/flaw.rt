@@ -12,7 +12,9 @@ use crate::part::Part;
 use crate::recogniser::{Stop, first_stop};
 use crate::scan::{Mark, ScanFault, marks};
 use crate::telling::{push_printed, push_wanted};
+use crate::terminal::Terminal;
 use std::alloc::{AllocError, Global};
+use texts::Word;
 
 /// What is wrong with a text, and where.
 #[derive(Drop)]
@@ -48,6 +50,35 @@ pub fn program_flaw(alloc: Global, text: &[u8], number: u8) -> Result<Option<Fla
         Some(at) => Ok(Some(known_flaw(alloc, place_of(text, tokens, at), number)?)),
         None => Ok(None),
     }
+}
+
+/// The wire of this number, counted from 1, as one that doesn't fit.
+pub fn wire_flaw(alloc: Global, text: &[u8], number: usize) -> Result<Option<Flaw>, AllocError>
+    ensures { IfOk result (λ flaw. IfSome flaw (λ f. f.at ≤ length text.now)) }
+{
+    let marks = match marks(alloc, text) {
+        Ok(marks) => marks,
+        Err(ScanFault::BadByte(_)) => return Ok(None),
+        Err(ScanFault::Memory) => return Err(AllocError),
+    };
+    match wire_of(marks.as_slice(), number) {
+        Some(at) => Ok(Some(known_flaw(alloc, place_of(text, marks.as_slice(), at), 70)?)),
+        None => Ok(None),
+    }
+}
+
+/// The word `wire` that stands there for the time of this number, counted from 1.
+fn wire_of(tokens: &[Mark], number: usize) -> Option<usize> {
+    let mut found = 0usize;
+    for (at, mark) in tokens.iter().enumerate() {
+        if Terminal::of(&mark.token) == Terminal::Word(Word::Wire) {
+            found = found.saturating_add(1);
+            if found == number {
+                return Some(at);
+            }
+        }
+    }
+    None
 }
 
 /// Where a token begins, or where the last one ends.

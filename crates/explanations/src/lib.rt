@@ -2,6 +2,7 @@
 #![tactic(auto)]
 
 mod advice;
+mod answer;
 mod bad_byte;
 mod declarations;
 mod excerpt;
@@ -26,8 +27,9 @@ mod types;
 mod usage;
 mod watching;
 
-pub use explain::{Answer, explanation};
-pub use flaw::{Flaw, program_flaw};
+pub use answer::{Answer, Reason};
+pub use explain::explanation;
+pub use flaw::{Flaw, program_flaw, wire_flaw};
 pub use line_flaw::{certificate_flaw, script_flaw};
 pub use meanings::meaning;
 pub use place::Place;

@@ -9,18 +9,24 @@ const LARGEST_INPUT: usize = 67108864;
 
 /// The commands, as a person writes them.
 const COMMANDS: &str =
-    "commands, and the texts of their input, with a line `%%` between two of them:\n  meta                                a program\n  check                               a program, a certificate\n  run [--steps M]                     a program, a certificate, a script\n  run --unchecked N [--steps M]       a program, a script\nN is from 1 to 256, M from 1 to 9223372036854775807.\n";
+    "commands, and the texts of their input, with a line `%%` between two of them:\n  meta                                a program\n  certify                             a program\n  check                               a program, a certificate\n  run [--steps M]                     a program, a certificate, a script\n  run --unchecked N [--steps M]       a program, a script\nN is from 1 to 256, M from 1 to 9223372036854775807.\n";
 
 /// Adds what is wrong with these words or with this input, and the list of the commands.
 pub fn push_usage(
     text: &mut String,
     alloc: Global,
     words: &[&str],
-    input: &[u8],
+    input: Option<&[u8]>,
 ) -> Result<(), AllocError> {
     match texts_wanted(words) {
         Err(reason) => writeln!(text, "usage: {reason}")?,
-        Ok(wanted) => push_number(text, alloc, input, wanted)?,
+        Ok(wanted) => match input {
+            Some(input) => push_number(text, alloc, input, wanted)?,
+            None => writeln!(
+                text,
+                "usage: the command takes {wanted} texts, in at most {LARGEST_INPUT} bytes"
+            )?,
+        },
     }
     text.push_str(COMMANDS)
 }
@@ -32,9 +38,6 @@ fn push_number(
     input: &[u8],
     wanted: usize,
 ) -> Result<(), AllocError> {
-    if input.len() > LARGEST_INPUT {
-        return writeln!(text, "usage: the input has more than {LARGEST_INPUT} bytes");
-    }
     let found = text_spans(alloc, input)?.len();
     writeln!(
         text,
@@ -54,8 +57,10 @@ fn texts_wanted(words: &[&str]) -> Result<usize, &'static str> {
         return Err("a command is wanted");
     };
     match *command {
-        "meta" | "check" if !options.is_empty() => Err("this command takes no further words"),
-        "meta" => Ok(1),
+        "meta" | "certify" | "check" if !options.is_empty() => Err(
+            "this command takes no further words",
+        ),
+        "meta" | "certify" => Ok(1),
         "check" => Ok(2),
         "run" => texts_of_run(options),
         "--help" | "-h" | "help" => Err("the commands are these"),

@@ -96,8 +96,7 @@ impl<W: Write + Drop> WatchedWriter<W> {
     fn watch(&mut self, bytes: &[u8])
         ensures { self.new.inner ≡ self.old.inner }
     {
-        let from = bytes.len().saturating_sub(MOST_OF_LINE + 2);
-        for byte in &bytes[from..] {
+        for byte in bytes {
             if self.is_over {
                 self.line.clear();
                 self.is_over = false;

@@ -1,16 +1,20 @@
 //! The program: the process's words and input go to a command, with one native, and the command's exit status is the
-//! process's.
+//! process's. What another answer than success means goes to standard error.
 #![tactic(auto)]
 
 mod doubler;
 
 use crate::doubler::{class, doubled, effects, twice};
+use explanations::{Answer, KeptReader, WatchedWriter, explanation};
 use native_slots::{NativeSlot, Natives};
 use signatures::Value;
 use std::alloc::{AllocError, Global};
 use std::process::ExitCode;
 use std::{env, io};
 use trace_tool::command;
+
+/// The exit status of a command that did what it was asked.
+const SUCCESS: u8 = 0;
 
 fn main(rt: HostRuntime) -> ExitCode {
     match start(&rt) {
@@ -54,11 +58,26 @@ fn answer(rt: &HostRuntime, words: &[&str]) -> Result<ExitCode, AllocError> {
     })?;
     let mut slots = Vec::new(alloc);
     slots.push(NativeSlot::new(class, sig, effects, work))?;
-    let mut reader = rt.reader();
-    let mut writer = io::writer(rt);
+    let mut reader = KeptReader::new(alloc, rt.reader());
+    let mut writer = WatchedWriter::new(alloc, io::writer(rt));
     match command(alloc, words, &mut reader, Natives::of(slots), &mut writer) {
-        Ok(status) => Ok(ExitCode::from(status)),
+        Ok(SUCCESS) => Ok(ExitCode::SUCCESS),
+        Ok(status) => {
+            explain(rt, words, reader.kept(), writer.last_line());
+            Ok(ExitCode::from(status))
+        }
         Err(_) => Ok(ExitCode::FAILURE),
+    }
+}
+
+/// Writes to standard error what the last line of the output means for this input, if it is an answer that is explained.
+/// Where that fails nothing else changes.
+fn explain(rt: &HostRuntime, words: &[&str], input: Option<&[u8]>, line: &[u8]) {
+    let Some(answer) = Answer::of(line) else {
+        return;
+    };
+    if let Ok(text) = explanation(rt.alloc(), words, input, answer) {
+        eprint!(rt; "{text}").ok();
     }
 }
 

@@ -26,7 +26,7 @@ pub fn expect_rows(
     rows: &[Row],
 ) -> Result<(), Fail> {
     for row in rows {
-        let text = explanation(rt.alloc(), &["meta"], row.input.as_bytes(), answer)?;
+        let text = explanation(rt.alloc(), &["meta"], Some(row.input.as_bytes()), answer)?;
         let text = text.as_str();
         assert!(rt;
             text.contains(row.place),

@@ -1,9 +1,11 @@
 //! Command lines and inputs that are refused, and answers without a place.
 
-use explanations::{Answer, KeptReader, WatchedWriter, explanation};
+use explanations::{Answer, KeptReader, Reason, WatchedWriter, explanation};
 use std::io::{Read, Write};
 use std::process::Abort;
 use std::test::Fail;
+
+const WIRES: &str = "wire A s(int) -> A f() auto;  wire A s() -> A f(int) auto;";
 
 #[test]
 fn streams_pass_on_and_remember(rt: HostRuntime) -> Result<(), Fail> {
@@ -54,7 +56,7 @@ fn expect_usage(
         words.push(word)?;
     }
     let input = b"class A { }\r\n%%\r\n".as_slice();
-    let text = explanation(rt.alloc(), words.as_slice(), input, Answer::Usage)?;
+    let text = explanation(rt.alloc(), words.as_slice(), Some(input), Answer::Usage)?;
     let text = text.as_str();
     assert!(rt; text.contains(said), "{line}: {text}");
     assert!(rt;
@@ -72,6 +74,12 @@ fn answers_are_read_from_lines(rt: HostRuntime) {
         ("refused 16 line 120", Some(Answer::BadLine(120))),
         ("no 74", Some(Answer::No(74))),
         ("fault 61", Some(Answer::Fault(61))),
+        ("no wire 12", Some(Answer::Uncertified(Reason::Wire(12)))),
+        (
+            "no cycle A.s() A.s()",
+            Some(Answer::Uncertified(Reason::Cycle)),
+        ),
+        ("no news", None),
         ("memory", None),
         ("1 emit a.s()", None),
     ];
@@ -91,7 +99,7 @@ fn other_answers_have_a_sentence(rt: HostRuntime) -> Result<(), Fail> {
         ),
     ];
     for (answer, said) in rows {
-        let text = explanation(rt.alloc(), &["meta"], b"class A { }".as_slice(), answer)?;
+        let text = explanation(rt.alloc(), &["meta"], Some(WIRES.as_bytes()), answer)?;
         assert!(rt; text.as_str().contains(said), "{said}: {text}");
     }
     Ok(())
