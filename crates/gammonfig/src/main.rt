@@ -9,6 +9,7 @@ use explanations::{Answer, KeptReader, WatchedWriter, explanation};
 use native_slots::{NativeSlot, Natives};
 use signatures::Value;
 use std::alloc::{AllocError, Global};
+use std::io::ErrorKind;
 use std::process::ExitCode;
 use std::{env, io};
 use trace_tool::command;
@@ -25,9 +26,15 @@ fn main(rt: HostRuntime) -> ExitCode {
 
 /// Takes the process's words, and does what they say. The error is that there was no memory for the words or the native.
 fn start(rt: &HostRuntime) -> Result<ExitCode, AllocError> {
-    // Words that aren't text are no command, as an empty word isn't.
-    let Ok(words) = env::args(rt) else {
-        return answer(rt, &[""]);
+    let words = match env::args(rt) {
+        Ok(words) => words,
+        Err(fault) => {
+            return match fault.kind() {
+                ErrorKind::OutOfMemory => Err(AllocError),
+                // Words that aren't text are no command, as an empty word isn't.
+                _ => answer(rt, &[""]),
+            };
+        }
     };
     let words = words.skip(1).collect::<Vec<String>>(rt.alloc())?;
     let words = borrowed(rt.alloc(), words.as_slice())?;
