@@ -2,9 +2,7 @@
 //! process's. What another answer than success means goes to standard error.
 #![tactic(auto)]
 
-mod doubler;
-
-use crate::doubler::{class, doubled, effects, twice};
+use doubler::{class, doubled, effects, twice};
 use explanations::{Answer, KeptReader, WatchedWriter, explanation};
 use native_slots::{NativeSlot, Natives};
 use signatures::Value;
