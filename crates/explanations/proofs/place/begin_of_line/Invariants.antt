@@ -1,4 +1,4 @@
-use Rattle.std.proofs.Common.{◌≡◌, ◌≤◌, ◌<◌, ◌≢◌, ℕ, get_or}
+use Rattle.std.proofs.Common.{◌≤◌, ◌<◌, ◌≢◌, ℕ, get_or}
 use Rattle.explanations.proofs.place.begin_of_line.Given as goal
 
 abbrev pub invariant-loop-begin : goal.invariant-loop-begin

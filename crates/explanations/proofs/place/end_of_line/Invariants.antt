@@ -1,4 +1,4 @@
-use Rattle.std.proofs.Common.{◌≡◌, ◌-◌, ◌≤◌, ◌<◌, ◌≢◌, ℕ, length, get_or}
+use Rattle.std.proofs.Common.{◌-◌, ◌≤◌, ◌<◌, ◌≢◌, ℕ, length, get_or}
 use Rattle.explanations.proofs.place.end_of_line.Given as goal
 
 abbrev pub invariant-loop-end : goal.invariant-loop-end
