@@ -2,6 +2,7 @@
 
 mod checked;
 mod doubling;
+mod machine;
 mod unchecked;
 
 use crate::thermostat::{effects, judged, measured};

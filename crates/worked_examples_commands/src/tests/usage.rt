@@ -9,7 +9,7 @@ fn wrong_words_are_usage(rt: HostRuntime) -> Result<(), Fail> {
     for line in [
         "",
         "meta x",
-        "certify",
+        "certify --all",
         "check x",
         "check --steps 8",
         "run 8",
