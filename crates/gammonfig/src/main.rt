@@ -1,14 +1,19 @@
 //! The program: the process's words and input go to a command, with one native, and the command's exit status is the
-//! process's.
+//! process's. What another answer than success means goes to standard error.
 #![tactic(auto)]
 
 use doubler::{class, doubled, effects, twice};
+use explanations::{Answer, KeptReader, WatchedWriter, explanation};
 use native_slots::{NativeSlot, Natives};
 use signatures::Value;
 use std::alloc::{AllocError, Global};
+use std::io::ErrorKind;
 use std::process::ExitCode;
 use std::{env, io};
 use trace_tool::command;
+
+/// The exit status of a command that did what it was asked.
+const SUCCESS: u8 = 0;
 
 fn main(rt: HostRuntime) -> ExitCode {
     match start(&rt) {
@@ -19,9 +24,15 @@ fn main(rt: HostRuntime) -> ExitCode {
 
 /// Takes the process's words, and does what they say. The error is that there was no memory for the words or the native.
 fn start(rt: &HostRuntime) -> Result<ExitCode, AllocError> {
-    // Words that aren't text are no command, as an empty word isn't.
-    let Ok(words) = env::args(rt) else {
-        return answer(rt, &[""]);
+    let words = match env::args(rt) {
+        Ok(words) => words,
+        Err(fault) => {
+            return match fault.kind() {
+                ErrorKind::OutOfMemory => Err(AllocError),
+                // Words that aren't text are no command, as an empty word isn't.
+                _ => answer(rt, &[""]),
+            };
+        }
     };
     let words = words.skip(1).collect::<Vec<String>>(rt.alloc())?;
     let words = borrowed(rt.alloc(), words.as_slice())?;
@@ -52,11 +63,26 @@ fn answer(rt: &HostRuntime, words: &[&str]) -> Result<ExitCode, AllocError> {
     })?;
     let mut slots = Vec::new(alloc);
     slots.push(NativeSlot::new(class, sig, effects, work))?;
-    let mut reader = rt.reader();
-    let mut writer = io::writer(rt);
+    let mut reader = KeptReader::new(alloc, rt.reader());
+    let mut writer = WatchedWriter::new(alloc, io::writer(rt));
     match command(alloc, words, &mut reader, Natives::of(slots), &mut writer) {
-        Ok(status) => Ok(ExitCode::from(status)),
+        Ok(SUCCESS) => Ok(ExitCode::SUCCESS),
+        Ok(status) => {
+            explain(rt, words, reader.kept(), writer.last_line());
+            Ok(ExitCode::from(status))
+        }
         Err(_) => Ok(ExitCode::FAILURE),
+    }
+}
+
+/// Writes to standard error what the last line of the output means for this input, if it is an answer that is explained.
+/// Where that fails nothing else changes.
+fn explain(rt: &HostRuntime, words: &[&str], input: Option<&[u8]>, line: &[u8]) {
+    let Some(answer) = Answer::of(line) else {
+        return;
+    };
+    if let Ok(text) = explanation(rt.alloc(), words, input, answer) {
+        eprint!(rt; "{text}").ok();
     }
 }
 
