@@ -1,0 +1,1 @@
+//! What holds of every program with a valid certificate.

@@ -1,0 +1,4 @@
+//! What runs of checked programs never come to.
+#![tactic(auto)]
+
+mod laws;
