@@ -69,7 +69,7 @@ pub record BodyStands (p : Loaded) (objects : List Object) (o m : ℕ) (argument
   pub method : MetaMethod
   pub is : IsMethod p class m method
   pub typed : ReadAs p objects arguments method.kinds
-  pub left : AllByRecursion (IsStepOf method.work) left
+  pub steps : AllByRecursion (IsStepOf method.work) left
 
 -- an emission, at the signal that its spelling names; the object may have died
 pub record EmitStands (classes : ℕ → Option ℕ) (o g : ℕ) (x : Node) : Type 0 where
@@ -98,8 +98,8 @@ IsTornIf p classes c (Some o) = IsTorn p classes c o
 pub record DestroyStands (p : Loaded) (classes : ℕ → Option ℕ) (next : Option ℕ) (torn : List ℕ) (x : Node) : Type 0 where
   pub class : ℕ
   pub at : x ≡ node class Destruction
-  pub next : IsTornIf p classes class next
-  pub torn : AllByRecursion (IsTorn p classes class) torn
+  pub coming : IsTornIf p classes class next
+  pub gone : AllByRecursion (IsTorn p classes class) torn
 
 abbrev pub Stands : {p : Loaded} {certificate : Certificate} → (ℕ → Option ℕ) → List Object → Activation → Rung p certificate → Type 0
 Stands {p} classes objects (Body o m arguments left) rung = BodyStands p objects o m arguments left rung.node
@@ -163,7 +163,7 @@ pub record IsSited (p : Loaded) (classes : ℕ → Option ℕ) (b : Binding) : T
 
 -- the world but for the stack
 pub record IsCovered (p : Loaded) (classes : ℕ → Option ℕ) (objects : List Object) (connections : List Connection) (bindings : List Binding) : Type 0 where
-  pub classes : AreClasses classes objects
+  pub known : AreClasses classes objects
   pub owned : AreOwned p classes objects
   pub wired : AllByRecursion (IsWired p classes) connections
   pub sited : AllByRecursion (IsSited p classes) bindings
