@@ -1,5 +1,7 @@
 -- Ranks and sets fall along edges, so a stack is no longer than the bound.
-use Rattle.std.proofs.Common.{◌≡◌, ℕ, zero, suc, ◌+◌, ◌<◌, ◌≤◌, List, [], ◌∷◌, length, Option, Some, None, refl, sym, ap, ◌∙◌, subst, arith}
+use Rattle.std.proofs.Common.{◌≡◌, ℕ, zero, suc, ◌+◌, ◌<◌, ◌≤◌, List, [], ◌∷◌, length, Option, Some, None, slice_get, refl, sym, ap, ◌∙◌, subst, arith}
+use Rattle.std.proofs.lemmas.Option.{same_Some}
+use Rattle.rank_check.proofs.Elements.{place_of}
 use Rattle.meta_model.specs.Loaded.{Loaded}
 use Rattle.meta_model.specs.Sound.{IsSound}
 use Rattle.object_tree.specs.declared.object.Object.{Object}
@@ -62,3 +64,11 @@ module _ {p : Loaded} {certificate : Certificate} (valid : IsValid p certificate
     -- .. and so has what it leads from
     pub line-from : (x y : Node) → MayLead p x y → (line : Line) × IsLineOf p certificate x line
     line-from x y leads = valid.each_node x (join_nodes sound x y leads).0
+
+-- a node has one line
+pub line-unique : {p : Loaded} {certificate : Certificate} (x : Node) (a b : Line) → IsValid p certificate → IsLineOf p certificate x a → IsLineOf p certificate x b → a ≡ b
+line-unique {certificate = certificate} x a b valid from other =
+    let j = place_of certificate.lines a from.stands in
+    let k = place_of certificate.lines b other.stands in
+    let same = valid.nothing_else.once j.0 k.0 a b x j.1 k.1 from.named other.named in
+    same_Some a b (sym j.1 ∙ ap (λ (n : ℕ). slice_get certificate.lines n) same ∙ k.1)

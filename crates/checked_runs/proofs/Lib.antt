@@ -1,3 +1,5 @@
 pub mod Nodes
 pub mod Ladder
 pub mod Sites
+pub mod Worlds
+pub mod Followers
