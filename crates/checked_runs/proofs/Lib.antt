@@ -3,3 +3,4 @@ pub mod Ladder
 pub mod Sites
 pub mod Worlds
 pub mod Followers
+pub mod Leading

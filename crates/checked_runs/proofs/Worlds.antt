@@ -30,12 +30,13 @@ use Rattle.checked_runs.specs.Invariant.{Rung, BodyStands, Stands, Stacked, AreC
 -- the living are of the classes that they were of, no number is lost, and children are those that were, or fewer
 pub record Leaves (p : Loaded) (classes : ℕ → Option ℕ) (old new : List Object) : Type 0 where
   pub living : (o class : ℕ) → class_of new o ≡ Some class → class_of old o ≡ Some class
-  pub count : length old ≤ length new
+  pub count : length new ≡ length old
   pub children : AreOwned p classes old → AreOwned p classes new
 
-pub classes-left : {p : Loaded} {classes : ℕ → Option ℕ} {old new : List Object} → Leaves p classes old new → AreClasses classes old → AreClasses classes new
+pub classes-left : {p : Loaded} {classes : ℕ → Option ℕ} {old new : List Object} → Leaves p classes old new → AreClasses p classes old → AreClasses p classes new
 classes-left left are = record {
   lives = λ o class is. are.lives o class (left.living o class is);
+  each = λ o low. let count = left.count in are.each o (omega (arith, low, count));
   inside = λ o class is. let low = are.inside o class is in omega (arith, low, left.count);
 }
 
@@ -134,6 +135,7 @@ body-still {p} {old} {new} {o} {m} {arguments} stay spared b = record {
   at = b.at;
   method = b.method;
   is = b.is;
+  bodied = b.bodied;
   typed = values-stay p stay arguments (b.method).kinds b.typed;
   steps = b.steps;
 }

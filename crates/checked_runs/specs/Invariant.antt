@@ -1,6 +1,6 @@
 -- What a run of a checked program keeps (docs/certificate.md, "The check"): each activation stands at a node, and rank and
 -- destroy set fall from each to the one above it; connections are covered by wires, bindings by sites, adoptions by `owns`.
-use Rattle.std.specs.Prelude.{◌≡◌, ℕ, ◌<◌, ◌≤◌, List, [], ◌∷◌, length, Option, None, Some, slice_get}
+use Rattle.std.specs.Prelude.{◌≡◌, ◌≢◌, ℕ, ◌<◌, ◌≤◌, List, [], ◌∷◌, length, Option, None, Some, slice_get}
 use Rattle.std.specs.List.{AllByRecursion, AllZip}
 use Rattle.signatures.specs.declared.value.Value.{Value}
 use Rattle.meta_model.specs.declared.effects.MetaEffects.{MetaEffects}
@@ -8,7 +8,7 @@ use Rattle.meta_model.specs.declared.object.MetaMethod.{MetaMethod}
 use Rattle.meta_model.specs.declared.object.MetaWire.{MetaWire}
 use Rattle.meta_model.specs.declared.object.Statement.{Statement}
 use Rattle.meta_model.specs.declared.object.Work.{Work}
-use Rattle.meta_model.specs.declared.object.Work.TheVariants.{Slot, Native}
+use Rattle.meta_model.specs.declared.object.Work.TheVariants.{Signal, Slot, Native}
 use Rattle.meta_model.specs.declared.site.MetaSite.{MetaSite}
 use Rattle.meta_model.specs.Loaded.{Loaded}
 use Rattle.meta_model.specs.Members.{IsMethod, Below, IsIn, Owns}
@@ -68,6 +68,7 @@ pub record BodyStands (p : Loaded) (objects : List Object) (o m : ℕ) (argument
   pub at : x ≡ node class (Method m)
   pub method : MetaMethod
   pub is : IsMethod p class m method
+  pub bodied : method.work ≢ Signal
   pub typed : ReadAs p objects arguments method.kinds
   pub steps : AllByRecursion (IsStepOf method.work) left
 
@@ -116,9 +117,10 @@ Stacked classes objects (a ∷ stack) (rung ∷ rungs) = Stands classes objects 
 
 -- ---- the world
 
--- the classes of the living are among them, and no number is that is not given yet
-pub record AreClasses (classes : ℕ → Option ℕ) (objects : List Object) : Type 0 where
+-- they are those of the living, each object that was created has one, and no number that is not given yet
+pub record AreClasses (p : Loaded) (classes : ℕ → Option ℕ) (objects : List Object) : Type 0 where
   pub lives : (o class : ℕ) → class_of objects o ≡ Some class → classes o ≡ Some class
+  pub each : (o : ℕ) → o < length objects → (class : ℕ) × (classes o ≡ Some class) × (class < length p.classes)
   pub inside : (o class : ℕ) → classes o ≡ Some class → o < length objects
 
 -- `owns` covers that an object is the parent of another
@@ -163,7 +165,7 @@ pub record IsSited (p : Loaded) (classes : ℕ → Option ℕ) (b : Binding) : T
 
 -- the world but for the stack
 pub record IsCovered (p : Loaded) (classes : ℕ → Option ℕ) (objects : List Object) (connections : List Connection) (bindings : List Binding) : Type 0 where
-  pub known : AreClasses classes objects
+  pub known : AreClasses p classes objects
   pub owned : AreOwned p classes objects
   pub wired : AllByRecursion (IsWired p classes) connections
   pub sited : AllByRecursion (IsSited p classes) bindings
