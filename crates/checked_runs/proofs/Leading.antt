@@ -101,11 +101,11 @@ module _ {p : Loaded} (sound : IsSound p) where
 
   module _ {objects : List Object} (typed : AreTyped p objects) {o m : ℕ} {arguments : List Value} {left : List Step} {x : Node} (b : BodyStands p objects o m arguments left x) where
     -- an edge from the body's method to a member of the object's class
-    abbrev LeadsToMember : ℕ → Member → Type 0
+    abbrev pub LeadsToMember : ℕ → Member → Type 0
     LeadsToMember y member = (z : Object) (k : Life) → Lives objects y z k → MayLead p x (node k.class member)
 
     -- what a step does, the method may lead to; the block that is chosen is part of the body
-    abbrev IsLed : Doing → Type 0
+    abbrev pub IsLed : Doing → Type 0
     IsLed (Write y q new) = LeadsToMember y (Property q)
     IsLed (Begin y n given) = LeadsToMember y (Method n) × (named n ≡ n)
     IsLed (Choose block) = (body : List Statement) × ((b.method).work ≡ Slot body) × ((s : Statement) → Occurs s block → Occurs s body)

@@ -4,3 +4,4 @@ pub mod Sites
 pub mod Worlds
 pub mod Followers
 pub mod Leading
+pub mod Rules

@@ -90,3 +90,11 @@ late-named m late =
       | inl one ↦ absurd (let e = one.0 in omega (arith, late, e))
       | inr other ↦ other.1
     ]
+
+-- what a spelling names, names itself
+pub named-again : (m : ℕ) → named (named m) ≡ named m
+named-again m =
+    elim (named_cases m) [
+      | inl one ↦ ap named one.1 ∙ sym one.1
+      | inr other ↦ ap named other.1
+    ]
