@@ -5,3 +5,4 @@ pub mod Worlds
 pub mod Followers
 pub mod Leading
 pub mod Rules
+pub mod Events

@@ -108,10 +108,10 @@ one-signature {p} {c} {i} {j} {a} {b} sound x y e =
     (sound.classes c y.class y.is_class).distinct_methods i j a b (ap (λ k. slice_get k.methods i) (sym same_class) ∙ x.is) y.is (ap (λ s. s.name) e) (ap (λ s. length s.types) e)
 
 module _ {p : Loaded} {certificate : Certificate} (valid : IsValid p certificate) (sound : IsSound p) (classes : ℕ → Option ℕ) where
-  abbrev Covered : State → Type 0
+  abbrev pub Covered : State → Type 0
   Covered s = IsCovered p classes s.objects s.connected.connections s.bindings
 
-  abbrev Held : State → Type 0
+  abbrev pub Held : State → Type 0
   Held s = Holds p certificate classes s
 
   known-member : (s : State) {o m : ℕ} {x : Object} {method : MetaMethod} → Covered s → (is : IsMember p s.objects o m x method) → classes o ≡ Some (is.life).class
@@ -135,7 +135,7 @@ module _ {p : Loaded} {certificate : Certificate} (valid : IsValid p certificate
         steps = steps;
       }, falls, st)
 
-  begun-held : (u t : State) (n : ℕ) (below : List Activation) (o : ℕ) (x : Object) (m : ℕ) (method : MetaMethod) (arguments : List Value) (work : Work) (rungs : List (Rung p certificate)) (r : Rung p certificate) → Covered u → (is : IsMember p u.objects o m x method) → method.work ≡ work →
+  pub begun-held : (u t : State) (n : ℕ) (below : List Activation) (o : ℕ) (x : Object) (m : ℕ) (method : MetaMethod) (arguments : List Value) (work : Work) (rungs : List (Rung p certificate)) (r : Rung p certificate) → Covered u → (is : IsMember p u.objects o m x method) → method.work ≡ work →
       r.node ≡ node (is.life).class (Method (named m)) → FallsTo rungs r.line → Stacked classes u.objects below rungs → n < suc (length below) → (n < length t.stack → TopFits p t.objects t.stack) → t ≡ begun u below o x m method arguments work → Held t
   begun-held u t n below o x m method arguments Signal rungs r covered is work_is at falls st higher fits e =
       let Family : State → Type 0 = λ v. Held v in
@@ -172,7 +172,7 @@ module _ {p : Loaded} {certificate : Certificate} (valid : IsValid p certificate
   known-targets [] all = tt
   known-targets (b ∷ bs) all = (((all.0).target.class, (all.0).target.is), known-targets bs all.1)
 
-  settles-held : {s t : State} (below : List Activation) (rungs : List (Rung p certificate)) (r : Rung p certificate) (place : Place) (class : ℕ) {cause : Cause} (objects : List Object) (bindings : List Binding) (changed : List Place) →
+  pub settles-held : {s t : State} (below : List Activation) (rungs : List (Rung p certificate)) (r : Rung p certificate) (place : Place) (class : ℕ) {cause : Cause} (objects : List Object) (bindings : List Binding) (changed : List Place) →
       Covered s → Agree p s.objects s.bindings → Stacked classes s.objects below rungs → FallsTo rungs r.line → classes place.object ≡ Some class → r.node ≡ node class (Property place.property) →
       DifferInValues s.objects objects → AllByRecursion (IsSited p classes) bindings → Settled (binding_at bindings) (values_in objects) →
       ((q : Place) (b : Binding) → ¬ (place ≡ q) → binding_at bindings q ≡ Some b → binding_at s.bindings q ≡ Some b) →
@@ -219,7 +219,7 @@ module _ {p : Loaded} {certificate : Certificate} (valid : IsValid p certificate
       }, spared)
 
   -- what a rule that changes no object does
-  abbrev Goes : State → List Activation → State → Type 0
+  abbrev pub Goes : State → List Activation → State → Type 0
   Goes s stack t = Held t × SparedIn stack s.objects t.objects
 
   same-spared : (objects : List Object) (stack : List Activation) → SparedIn stack objects objects
@@ -330,7 +330,7 @@ module _ {p : Loaded} {certificate : Certificate} (valid : IsValid p certificate
 
   -- ---- connections
 
-  wired-by : (from to a b g m number : ℕ) (signal method : MetaMethod) (kind : Kind) (single : Bool) → classes a ≡ Some from → classes b ≡ Some to → IsMethod p from g signal → IsMethod p to m method → Covers p from signal.sig to method.sig kind →
+  pub wired-by : (from to a b g m number : ℕ) (signal method : MetaMethod) (kind : Kind) (single : Bool) → classes a ≡ Some from → classes b ≡ Some to → IsMethod p from g signal → IsMethod p to m method → Covers p from signal.sig to method.sig kind →
       IsWired p classes (record { number = number; sender = a; signal = named_signal g; receiver = b; method = m; kind = kind; single = single })
   wired-by from to a b g m number signal method kind single is_from is_to has_signal has_method covers =
       let by = covers.by in
@@ -384,7 +384,7 @@ module _ {p : Loaded} {certificate : Certificate} (valid : IsValid p certificate
 
   -- ---- an object is scheduled
 
-  schedules-held : (s t : State) (stack : List Activation) (rungs : List (Rung p certificate)) (x : ℕ) (life : Option Life) → Covered s → Stacked classes s.objects stack rungs → Schedules s stack x t life → Goes s stack t
+  pub schedules-held : (s t : State) (stack : List Activation) (rungs : List (Rung p certificate)) (x : ℕ) (life : Option Life) → Covered s → Stacked classes s.objects stack rungs → Schedules s stack x t life → Goes s stack t
   schedules-held s t stack rungs x None covered st e =
       let Family : State → Type 0 = λ v. Goes s stack v in
       subst Family (sym e) (record { covered = covered; rungs = rungs; stacked = st }, same-spared s.objects stack)
@@ -422,7 +422,7 @@ module _ {p : Loaded} {certificate : Certificate} (valid : IsValid p certificate
   body-with : {objects : List Object} {o m : ℕ} {arguments : List Value} {left : List Step} {x : Node} (b : BodyStands p objects o m arguments left x) (rest : List Step) → AllByRecursion (IsStepOf (b.method).work) rest → BodyStands p objects o m arguments rest x
   body-with b rest steps = record { class = b.class; lives = b.lives; at = b.at; method = b.method; is = b.is; bodied = b.bodied; typed = b.typed; steps = steps }
 
-  deletes-held : (s t : State) (stack : List Activation) (rungs : List (Rung p certificate)) (r : Rung p certificate) (x class : ℕ) → Covered s → Stacked classes s.objects stack rungs → FallsTo rungs r.line → r.node ≡ node class Destruction → classes x ≡ Some class → Closure p class class → t ≡ deleting s stack x → Goes s stack t
+  pub deletes-held : (s t : State) (stack : List Activation) (rungs : List (Rung p certificate)) (r : Rung p certificate) (x class : ℕ) → Covered s → Stacked classes s.objects stack rungs → FallsTo rungs r.line → r.node ≡ node class Destruction → classes x ≡ Some class → Closure p class class → t ≡ deleting s stack x → Goes s stack t
   deletes-held s t stack rungs r x class covered st falls at is closed e =
       let Family : State → Type 0 = λ v. Goes s stack v in
       subst Family (sym e) (record {

@@ -87,18 +87,18 @@ all-without P c (k ∷ ks) all = by_test (eqb k c) (all-without P c ks all.1)
     by_test false rest = (all.0, rest)
 
 -- children leave one by one
-all-changed : (P : ℕ → Type 0) (n k : ℕ) (f : Object → Object) (xs : List Object) → ((x : Object) → AllByRecursion P x.children → AllByRecursion P (f x).children) → AllByRecursion P (children_of xs k) → AllByRecursion P (children_of (change n f xs) k)
+pub all-changed : (P : ℕ → Type 0) (n k : ℕ) (f : Object → Object) (xs : List Object) → ((x : Object) → AllByRecursion P x.children → AllByRecursion P (f x).children) → AllByRecursion P (children_of xs k) → AllByRecursion P (children_of (change n f xs) k)
 all-changed P n k f [] h all = all
 all-changed P zero zero f (x ∷ xs) h all = h x all
 all-changed P zero (suc k) f (x ∷ xs) h all = all
 all-changed P (suc n) zero f (x ∷ xs) h all = all
 all-changed P (suc n) (suc k) f (x ∷ xs) h all = all-changed P n k f xs h all
 
-all-left : (P : ℕ → Type 0) (from : Option ℕ) (child k : ℕ) (objects : List Object) → AllByRecursion P (children_of objects k) → AllByRecursion P (children_of (leaves from child objects) k)
+pub all-left : (P : ℕ → Type 0) (from : Option ℕ) (child k : ℕ) (objects : List Object) → AllByRecursion P (children_of objects k) → AllByRecursion P (children_of (leaves from child objects) k)
 all-left P None child k objects all = all
 all-left P (Some parent) child k objects all = all-changed P parent k (left_by child) objects (λ x h. all-without P child x.children h) all
 
-length-left : (from : Option ℕ) (child : ℕ) (objects : List Object) → length (leaves from child objects) ≡ length objects
+pub length-left : (from : Option ℕ) (child : ℕ) (objects : List Object) → length (leaves from child objects) ≡ length objects
 length-left None child objects = refl
 length-left (Some parent) child objects = length-change parent (left_by child) objects
 
