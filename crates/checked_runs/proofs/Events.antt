@@ -57,12 +57,10 @@ use Rattle.qt_runtime.specs.events.Block.{block}
 use Rattle.qt_runtime.specs.events.Ends.{find_ends}
 use Rattle.qt_runtime.specs.events.Invoke.{invoke}
 use Rattle.qt_runtime.specs.events.Named.{IsLiving}
-use Rattle.qt_runtime.proofs.Changes.{adopted-by, length-moved}
-use Rattle.qt_runtime.proofs.Judged.{given-is}
-use Rattle.qt_runtime.proofs.Judging.Naming.{living-is, living-object}
 use Rattle.checked_runs.specs.Invariant.{Rung, Stacked, AreClasses, AreOwned, IsOwned, IsWired, IsOf, IsSited, IsCovered, Holds}
 use Rattle.checked_runs.proofs.Nodes.{named-node, property-node, end-node}
 use Rattle.checked_runs.proofs.Ladder.{rung-at}
+use Rattle.checked_runs.proofs.Given.{given-is, living-is, living-object, adopted-by, length-moved}
 use Rattle.checked_runs.proofs.Worlds.{Leaves, classes-left, all-changed, all-left, length-left}
 use Rattle.checked_runs.proofs.Rules.{writes-held, settles-held, begun-held, wired-by, deletes-held, schedules-held}
 
@@ -94,7 +92,7 @@ moved-leaves {p} {classes} objects a c owns = record {
 -- ---- an object is created
 
 -- it has this class from now on
-with-class : ℕ → ℕ → (ℕ → Option ℕ) → ℕ → Option ℕ
+abbrev pub with-class : ℕ → ℕ → (ℕ → Option ℕ) → ℕ → Option ℕ
 with-class n class classes o = cond (eqb o n) (Some class) (classes o)
 
 with-new : (n class : ℕ) (classes : ℕ → Option ℕ) → with-class n class classes n ≡ Some class
@@ -104,7 +102,7 @@ with-old : (n class : ℕ) (classes : ℕ → Option ℕ) (o : ℕ) → o ≢ n 
 with-old n class classes o other = ap (λ (b : Bool). cond b (Some class) (classes o)) (ne_eqb o n other)
 
 module _ {p : Loaded} (classes : ℕ → Option ℕ) (objects : List Object) (known : AreClasses p classes objects) (class : ℕ) where
-  after-all : ℕ → Option ℕ
+  abbrev pub after-all : ℕ → Option ℕ
   after-all = with-class (length objects) class classes
 
   still : (o c : ℕ) → classes o ≡ Some c → after-all o ≡ Some c
@@ -176,7 +174,7 @@ module _ {p : Loaded} {certificate : Certificate} (valid : IsValid p certificate
   idle-stacked : (classes : ℕ → Option ℕ) (objects : List Object) (stack : List Activation) → stack ≡ [] → Stacked {p = p} {certificate = certificate} classes objects stack []
   idle-stacked classes objects stack e = subst (λ (l : List Activation). Stacked {p = p} {certificate = certificate} classes objects l []) (sym e) tt
 
-  module _ (s t : State) (idle : IsIdle s) (classes : ℕ → Option ℕ) (covered : IsCovered p classes s.objects s.connected.connections s.bindings) (agree : Agree p s.objects s.bindings) (well : IsWell p s t) where
+  module _ (s : State) (idle : IsIdle s) (classes : ℕ → Option ℕ) (covered : IsCovered p classes s.objects s.connected.connections s.bindings) (agree : Agree p s.objects s.bindings) where
     stands : Stacked {p = p} {certificate = certificate} classes s.objects s.stack []
     stands = idle-stacked classes s.objects s.stack idle.empty
 
@@ -191,13 +189,13 @@ module _ {p : Loaded} {certificate : Certificate} (valid : IsValid p certificate
     known-living : {name : List ℕ} (o : Numbered Life) → IsLiving s.objects name o → classes o.number ≡ Some (o.it).class
     known-living o is = (covered.known).lives o.number (o.it).class (ap (option_map (λ (l : Life). l.class)) is.lives)
 
-    invoked-held : (a : Invocation) (name called : List ℕ) (inputs : List Input) → invoke p s a name called inputs (Ok t) → Holds p certificate classes t
-    invoked-held a name called inputs (goes_on _ o (goes_on _ m (goes_on _ vs (goes_on _ fit (becomes b))))) =
+    invoked-held : (t : State) (a : Invocation) (name called : List ℕ) (inputs : List Input) → IsWell p s t → invoke p s a name called inputs (Ok t) → Holds p certificate classes t
+    invoked-held t a name called inputs well (goes_on o lives (goes_on m asked (goes_on vs given (goes_on _ fit (becomes b))))) =
         let life = (b.is).life in
-        let r = rung-at valid (node life.class (Method (named _))) (named-node sound life.class _ b.method (b.is).is_method) in
-        begun-held valid sound classes (accepted s) t (length s.stack) s.stack _ b.object _ b.method _ (b.method).work [] r.0 covered b.is refl r.1 tt stands (omega arith) well.arguments b.gives
+        let r = rung-at valid (node life.class (Method (named m.number))) (named-node sound life.class m.number b.method (b.is).is_method) in
+        begun-held valid sound classes (accepted s) t (length s.stack) s.stack o.number b.object m.number b.method vs (b.method).work [] r.0 covered b.is refl r.1 tt stands (omega arith) well.arguments b.gives
 
-    blocked-held : (name : List ℕ) (on : Bool) → block s name on (Ok t) → Holds p certificate classes t
+    blocked-held : {t : State} (name : List ℕ) (on : Bool) → block s name on (Ok t) → Holds p certificate classes t
     blocked-held name on (goes_on o lives just) = objects-held (change_life o.number (blocked on) s.objects) (life-leaves s.objects o.number (blocked on) (λ l. refl))
 
     -- a connection is covered
@@ -233,8 +231,8 @@ module _ {p : Loaded} {certificate : Certificate} (valid : IsValid p certificate
           sources = sources-of xs (n.it).formals covers.of_sources;
         })
 
-    bound-held : (b : Binding) → IsSited p classes b → Installs p (accepted s) s.stack b t → Holds p certificate classes t
-    bound-held b sited x =
+    bound-held : (t : State) (b : Binding) → IsSited p classes b → Installs p (accepted s) s.stack b t → Holds p certificate classes t
+    bound-held t b sited x =
         let life = (x.is).life in
         let class_is : classes b.target.object ≡ Some life.class = (covered.known).lives b.target.object life.class (class-of-lives s.objects b.target.object (x.is).lives) in
         let r = rung-at valid (node life.class (Property b.target.property)) (property-node sound life.class b.target.property x.property (record { class = (x.is).class; is_class = (x.is).is_class; is = (x.is).is_property })) in
@@ -251,10 +249,10 @@ module _ {p : Loaded} {certificate : Certificate} (valid : IsValid p certificate
           | inr apart ↦ sym (bound-other (binding_at s.bindings) b.target b q apart) ∙ ap (λ (F : Place → Option Binding). F q) (sym (installed-is s.bindings b)) ∙ e
         ]
 
-    event-held : (e : Event) → judged p s e (Ok t) → HoldsSome t
-    event-held (Loop name) (goes_on _ free just) = (classes, record { covered = covered; rungs = []; stacked = stands })
-    event-held (Turn name) (goes_on home is just) = (classes, record { covered = covered; rungs = []; stacked = stands })
-    event-held (New name class loop) (goes_on _ free (goes_on c (finds is) (goes_on home lives (goes_on _ room just)))) =
+    event-held : {t : State} (e : Event) → IsWell p s t → judged p s e (Ok t) → HoldsSome t
+    event-held (Loop name) well (goes_on _ free just) = (classes, record { covered = covered; rungs = []; stacked = stands })
+    event-held (Turn name) well (goes_on home is just) = (classes, record { covered = covered; rungs = []; stacked = stands })
+    event-held (New name class loop) well (goes_on _ free (goes_on c (finds is) (goes_on home lives (goes_on _ room just)))) =
         let z : Object = fresh name c.number home (initial_values c.it) in
         let l : Life = begun_life c.number home (initial_values c.it) in
         (with-class (length s.objects) c.number classes, record {
@@ -262,42 +260,42 @@ module _ {p : Loaded} {certificate : Certificate} (valid : IsValid p certificate
           rungs = [];
           stacked = idle-stacked (with-class (length s.objects) c.number classes) (s.objects ++ z ∷ []) s.stack idle.empty;
         })
-    event-held (Adopt parent child) (goes_on a is_parent (goes_on c is_child (goes_on _ (so owns) (goes_on _ over (goes_on _ home (becomes x)))))) =
+    event-held (Adopt parent child) well (goes_on a is_parent (goes_on c is_child (goes_on _ (so owns) (goes_on _ over (goes_on _ home (becomes x)))))) =
         let owned : IsOwned p classes a.number c.number = record { above = (a.it).class; is_above = known-living a (living-is is_parent); below = (c.it).class; is_below = known-living c (living-is is_child); owns = owns } in
         let Family : State → Type 0 = λ u. Holds p certificate classes u in
         (classes, subst Family (sym x.gives) (adopted-by (λ (l : List Object). Holds p certificate classes (record (accepted s) { objects = l })) (record { covered = covered; rungs = []; stacked = stands }) (objects-held (moved a.number c.number s.objects) (moved-leaves s.objects a.number c.number owned)) x.is))
-    event-held (Connect e how) (goes_on f ends (goes_on _ (goes_on _ (so covers) rest) given)) =
+    event-held (Connect e how) well (goes_on f ends (goes_on _ (goes_on _ (so covers) rest) given)) =
         let Family : State → Type 0 = λ u. Holds p certificate classes u in
         (classes, subst Family (sym (given-is given)) (record {
           covered = record { known = covered.known; owned = covered.owned; wired = all-snoc (IsWired p classes) s.connected.connections _ covered.wired (connection-wired e how (s.connected.last + 1) f ends covers); sited = covered.sited };
           rungs = [];
           stacked = stands;
         }))
-    event-held (Disconnect e) (goes_on f ends (goes_on _ is given)) =
+    event-held (Disconnect e) well (goes_on f ends (goes_on _ is given)) =
         let Family : State → Type 0 = λ u. Holds p certificate classes u in
         (classes, subst Family (sym (given-is given)) (record {
           covered = record { known = covered.known; owned = covered.owned; wired = all-removed (IsWired p classes) (joins_these f.ends) s.connected covered.wired; sited = covered.sited };
           rungs = [];
           stacked = stands;
         }))
-    event-held (Set name property i) (goes_on o lives (goes_on q _ (goes_on v _ (goes_on _ fits (becomes w))))) =
+    event-held (Set name property i) well (goes_on o lives (goes_on q _ (goes_on v _ (goes_on _ fits (becomes w))))) =
         let life = (w.is).life in
         let class_is : classes o.number ≡ Some life.class = (covered.known).lives o.number life.class (class-of-lives s.objects o.number (w.is).lives) in
         let r = rung-at valid (node life.class (Property q.number)) (property-node sound life.class q.number w.property (record { class = (w.is).class; is_class = (w.is).is_class; is = (w.is).is_property })) in
         (classes, writes-held valid sound classes {s = accepted s} s.stack [] r.0 o.number q.number life.class v covered agree stands tt class_is r.1 w)
-    event-held (Bind site target sources) (goes_on b may (becomes x)) = (classes, bound-held b (binding-sited site target sources b may) x)
-    event-held (EmitEvent name signal inputs) x = (classes, invoked-held EmitIt name signal inputs x)
-    event-held (CallEvent name slot inputs) x = (classes, invoked-held CallIt name slot inputs x)
-    event-held (Block name) x = (classes, blocked-held name true x)
-    event-held (Unblock name) x = (classes, blocked-held name false x)
-    event-held (DeleteEvent name) (goes_on o lives just) =
+    event-held {t} (Bind site target sources) well (goes_on b may (becomes x)) = (classes, bound-held t b (binding-sited site target sources b may) x)
+    event-held {t} (EmitEvent name signal inputs) well x = (classes, invoked-held t EmitIt name signal inputs well x)
+    event-held {t} (CallEvent name slot inputs) well x = (classes, invoked-held t CallIt name slot inputs well x)
+    event-held (Block name) well x = (classes, blocked-held name true x)
+    event-held (Unblock name) well x = (classes, blocked-held name false x)
+    event-held (DeleteEvent name) well (goes_on o lives just) =
         let it = living-object o (living-is lives) in
         let class = (agree.typed o.number it.0 o.it it.1).is_class in
         let r = rung-at valid (node (o.it).class Destruction) (end-node sound (o.it).class _ class) in
         (classes, (deletes-held valid sound classes (accepted s) _ s.stack [] r.0 o.number (o.it).class covered stands tt r.1 (known-living o (living-is lives)) (itself class) refl).0)
-    event-held (LaterEvent name) (goes_on o lives (becomes x)) = (classes, (schedules-held valid sound classes (accepted s) t s.stack [] o.number (Some o.it) covered stands x).0)
+    event-held {t} (LaterEvent name) well (goes_on o lives (becomes x)) = (classes, (schedules-held valid sound classes (accepted s) t s.stack [] o.number (Some o.it) covered stands x).0)
 
   -- the taking of an event keeps it
   pub takes-held : (s t : State) (e : Event) → HoldsSome s → Agree p s.objects s.bindings → IsWell p s t → Takes p e s t → HoldsSome t
-  takes-held s t e held agree well (accepts idle x) = event-held s t idle held.0 (held.1).covered agree well e x
+  takes-held s t e held agree well (accepts idle x) = event-held s idle held.0 (held.1).covered agree e well x
   takes-held s t e held agree well (refuses k idle x) = (held.0, record { covered = (held.1).covered; rungs = (held.1).rungs; stacked = (held.1).stacked })

@@ -154,7 +154,7 @@ module _ {p : Loaded} {certificate : Certificate} (valid : IsValid p certificate
 
   -- ---- chains of bindings
   -- the rank falls along each
-  chain-falls : (a c : Place) (line : Line) → Chain G a c → IsLineAt c line → (above : Line) × IsLineAt a above × (line.rank < above.rank)
+  pub chain-falls : (a c : Place) (line : Line) → Chain G a c → IsLineAt c line → (above : Line) × IsLineAt a above × (line.rank < above.rank)
   chain-falls a c line (direct b is reads) at =
       let r = read-line c a b line is reads at in
       (r.0, r.1, valid.ranks r.2.0 r.2.1 r.0 line r.2.2 r.2.3 r.2.4)
