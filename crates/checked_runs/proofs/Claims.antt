@@ -36,9 +36,9 @@ use Rattle.checked_runs.specs.Invariant.{Rung, FallsTo, Stacked, IsSited, IsCove
 use Rattle.checked_runs.specs.Claims.{NeverTooDeep, NeverInUse, NeverLoops}
 use Rattle.checked_runs.proofs.Ladder.{falls-to, climbs, no-deeper, line-unique}
 use Rattle.checked_runs.proofs.Leading.{does-led}
-use Rattle.checked_runs.proofs.Rules.{rule-held}
+use Rattle.checked_runs.proofs.Rules.{rule-held, bound-by}
 use Rattle.checked_runs.proofs.Events.{HoldsSome, takes-held, binding-sited}
-use Rattle.checked_runs.proofs.Sites.{chain-falls}
+use Rattle.checked_runs.proofs.Sites.{no-loop}
 
 -- ---- the start
 
@@ -159,3 +159,13 @@ never_too_deep natives p certificate s steps left taken next sound valid run sto
 pub never_in_use : (natives : NativeAnswers) → NeverInUse natives
 never_in_use natives p certificate s steps left taken next sound valid run stops =
     fatal-not valid sound natives (run-kept valid sound natives run) stops.1
+
+pub never_loops : (natives : NativeAnswers) → NeverLoops natives
+never_loops natives p certificate s steps left taken next sound valid run stops =
+    let kept = run-kept valid sound natives run in
+    let held = (kept.0).1 in
+    let b = (stops.1).binding in
+    let asked = (stops.1).next in
+    let sited = binding-sited valid sound s asked.idle (kept.0).0 held.covered ((kept.1).sound).agree asked.site asked.target asked.sources b asked.may in
+    let all = all-snoc (IsSited p (kept.0).0) (without b.target s.bindings) b (all-filtered (IsSited p (kept.0).0) _ s.bindings (held.covered).sited) sited in
+    no-loop valid sound (kept.0).0 (binding_at (replaced s.bindings b)) (λ q z e. bound-by (IsSited p (kept.0).0) (replaced s.bindings b) all q z e) (stops.1).closes

@@ -196,7 +196,7 @@ module _ {p : Loaded} {certificate : Certificate} (valid : IsValid p certificate
         begun-held valid sound classes (accepted s) t (length s.stack) s.stack o.number b.object m.number b.method vs (b.method).work [] r.0 covered b.is refl r.1 tt stands (omega arith) well.arguments b.gives
 
     blocked-held : {t : State} (name : List ℕ) (on : Bool) → block s name on (Ok t) → Holds p certificate classes t
-    blocked-held name on (goes_on o lives just) = objects-held (change_life o.number (blocked on) s.objects) (life-leaves s.objects o.number (blocked on) (λ l. refl))
+    blocked-held name on (goes_on o lives given) = let Family : State → Type 0 = λ u. Holds p certificate classes u in subst Family (sym (given-is given)) (objects-held (change_life o.number (blocked on) s.objects) (life-leaves s.objects o.number (blocked on) (λ l. refl)))
 
     -- a connection is covered
     connection-wired : (e : Named (List ℕ)) (how : ConnectionType) (n : ℕ) (f : FoundEnds) → find_ends p s.objects e (Ok f) → Covers p f.from e.signal f.to e.method how.kind →
@@ -250,16 +250,17 @@ module _ {p : Loaded} {certificate : Certificate} (valid : IsValid p certificate
         ]
 
     event-held : {t : State} (e : Event) → IsWell p s t → judged p s e (Ok t) → HoldsSome t
-    event-held (Loop name) well (goes_on _ free just) = (classes, record { covered = covered; rungs = []; stacked = stands })
-    event-held (Turn name) well (goes_on home is just) = (classes, record { covered = covered; rungs = []; stacked = stands })
-    event-held (New name class loop) well (goes_on _ free (goes_on c (finds is) (goes_on home lives (goes_on _ room just)))) =
+    event-held (Loop name) well (goes_on _ free given) = let Family : State → Type 0 = λ u. Holds p certificate classes u in (classes, subst Family (sym (given-is given)) (record { covered = covered; rungs = []; stacked = stands }))
+    event-held (Turn name) well (goes_on home is given) = let Family : State → Type 0 = λ u. Holds p certificate classes u in (classes, subst Family (sym (given-is given)) (record { covered = covered; rungs = []; stacked = stands }))
+    event-held (New name class loop) well (goes_on _ free (goes_on c (finds is) (goes_on home lives (goes_on _ room given)))) =
         let z : Object = fresh name c.number home (initial_values c.it) in
         let l : Life = begun_life c.number home (initial_values c.it) in
-        (with-class (length s.objects) c.number classes, record {
+        let Family : State → Type 0 = λ u. Holds p certificate (with-class (length s.objects) c.number classes) u in
+        (with-class (length s.objects) c.number classes, subst Family (sym (given-is given)) (record {
           covered = created-covered classes s.objects covered.known c.number (slice_get_within p.classes c.number c.it (is.is).is) z l refl refl refl s.connected.connections s.bindings covered;
           rungs = [];
           stacked = idle-stacked (with-class (length s.objects) c.number classes) (s.objects ++ z ∷ []) s.stack idle.empty;
-        })
+        }))
     event-held (Adopt parent child) well (goes_on a is_parent (goes_on c is_child (goes_on _ (so owns) (goes_on _ over (goes_on _ home (becomes x)))))) =
         let owned : IsOwned p classes a.number c.number = record { above = (a.it).class; is_above = known-living a (living-is is_parent); below = (c.it).class; is_below = known-living c (living-is is_child); owns = owns } in
         let Family : State → Type 0 = λ u. Holds p certificate classes u in
@@ -288,11 +289,11 @@ module _ {p : Loaded} {certificate : Certificate} (valid : IsValid p certificate
     event-held {t} (CallEvent name slot inputs) well x = (classes, invoked-held t CallIt name slot inputs well x)
     event-held (Block name) well x = (classes, blocked-held name true x)
     event-held (Unblock name) well x = (classes, blocked-held name false x)
-    event-held (DeleteEvent name) well (goes_on o lives just) =
+    event-held (DeleteEvent name) well (goes_on o lives given) =
         let it = living-object o (living-is lives) in
         let class = (agree.typed o.number it.0 o.it it.1).is_class in
         let r = rung-at valid (node (o.it).class Destruction) (end-node sound (o.it).class _ class) in
-        (classes, (deletes-held valid sound classes (accepted s) _ s.stack [] r.0 o.number (o.it).class covered stands tt r.1 (known-living o (living-is lives)) (itself class) refl).0)
+        (classes, (deletes-held valid sound classes (accepted s) _ s.stack [] r.0 o.number (o.it).class covered stands tt r.1 (known-living o (living-is lives)) (itself class) (given-is given)).0)
     event-held {t} (LaterEvent name) well (goes_on o lives (becomes x)) = (classes, (schedules-held valid sound classes (accepted s) t s.stack [] o.number (Some o.it) covered stands x).0)
 
   -- the taking of an event keeps it

@@ -82,7 +82,7 @@ use Rattle.checked_runs.proofs.Followers.{IsKnown, followers}
 use Rattle.checked_runs.proofs.Leading.{IsLed, does-led}
 
 -- the binding of a property is one of the list, and the property is its target
-bound-by : (P : Binding → Type 0) (bs : List Binding) → AllByRecursion P bs → (q : Place) (b : Binding) → binding_at bs q ≡ Some b → P b × (b.target ≡ q)
+pub bound-by : (P : Binding → Type 0) (bs : List Binding) → AllByRecursion P bs → (q : Place) (b : Binding) → binding_at bs q ≡ Some b → P b × (b.target ≡ q)
 bound-by P [] all q b some = absurd (none-some b some)
 bound-by P (x ∷ xs) all q b some = elim (decide_place x.target q) [
   | inl e ↦

@@ -31,7 +31,8 @@ use Rattle.certificate_lang.specs.declared.certificate.Certificate.{Certificate}
 use Rattle.rank_check.specs.Valid.{IsLineOf, IsValid}
 use Rattle.checked_runs.specs.Invariant.{IsOf, IsSited}
 use Rattle.checked_runs.proofs.Nodes.{found-in}
-use Rattle.checked_runs.proofs.Ladder.{line-from}
+use Rattle.effect_scan.proofs.Standing.{join_nodes}
+use Rattle.checked_runs.proofs.Ladder.{line-from, line-unique, rung-at}
 
 -- ---- the names in an expression are its paths
 
@@ -154,7 +155,7 @@ module _ {p : Loaded} {certificate : Certificate} (valid : IsValid p certificate
 
   -- ---- chains of bindings
   -- the rank falls along each
-  pub chain-falls : (a c : Place) (line : Line) → Chain G a c → IsLineAt c line → (above : Line) × IsLineAt a above × (line.rank < above.rank)
+  chain-falls : (a c : Place) (line : Line) → Chain G a c → IsLineAt c line → (above : Line) × IsLineAt a above × (line.rank < above.rank)
   chain-falls a c line (direct b is reads) at =
       let r = read-line c a b line is reads at in
       (r.0, r.1, valid.ranks r.2.0 r.2.1 r.0 line r.2.2 r.2.3 r.2.4)
@@ -164,3 +165,29 @@ module _ {p : Loaded} {certificate : Certificate} (valid : IsValid p certificate
       let rest = chain-falls a m r.0 chain r.1 in
       let more = rest.2 in
       (rest.0, rest.1, omega (arith, fall, more))
+
+  -- what is bound has a line
+  bound-line : (q : Place) (b : Binding) (m : Place) → G q ≡ Some b → Reads b m → (line : Line) × IsLineAt q line
+  bound-line q b m is reads =
+      let found = sited q b is in
+      let target = (found.0).target in
+      let leads = reads-lead found.0 reads in
+      let r = rung-at valid (node target.class (Property b.target.property)) (join_nodes sound _ _ leads.2).1 in
+      let here = subst (λ (x : Node). IsLineOf p certificate x (r.0).line) r.1 (r.0).is in
+      ((r.0).line, (target.class, subst (λ (z : Place). classes z.object ≡ Some target.class) found.1 target.is, subst (λ (z : Place). IsLineOf p certificate (node target.class (Property z.property)) (r.0).line) found.1 here))
+
+  chain-line : (a c : Place) → Chain G a c → (line : Line) × IsLineAt c line
+  chain-line a c (direct b is reads) = bound-line c b a is reads
+  chain-line a c (further {m = m} b chain is reads) = bound-line c b m is reads
+
+  -- so none leads back
+  pub no-loop : ¬ Loop G
+  no-loop loop =
+      let q : Place = loop.0 in
+      let at = chain-line q q loop.1 in
+      let up = chain-falls q q at.0 loop.1 at.1 in
+      let same_class : (up.1).0 ≡ (at.1).0 = same_Some _ _ (sym (up.1).1 ∙ (at.1).1) in
+      let one = line-unique _ up.0 at.0 valid (subst (λ (c : ℕ). IsLineOf p certificate (node c (Property q.property)) up.0) same_class (up.1).2) (at.1).2 in
+      let same_rank = ap (λ (l : Line). l.rank) one in
+      let fall = up.2 in
+      omega (arith, fall, same_rank)
