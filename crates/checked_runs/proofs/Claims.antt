@@ -1,24 +1,17 @@
 -- What every state of a run keeps, and what it excludes.
-use Rattle.std.proofs.Common.{◌≡◌, ◌⊎◌, inl, inr, ℕ, zero, suc, ◌+◌, ◌<◌, ◌≤◌, ◌^◌, Bool, true, false, IsTrue, List, [], ◌∷◌, ◌++◌, length, Result, Ok, Err, Option, Some, None, refl, sym, ap, ◌∙◌, subst, arith}
-use Rattle.std.specs.List.{AllByRecursion}
+use Rattle.std.proofs.Common.{◌≡◌, inl, inr, ℕ, suc, ◌≤◌, IsTrue, List, [], ◌∷◌, length, None, refl, subst, arith}
 use Rattle.std.proofs.lemmas.List.Elements.{All-from_recursion}
-use Rattle.std.proofs.lemmas.Option.{same_Some, none-some}
-use Rattle.signatures.specs.declared.value.Value.{Value}
 use Rattle.script_lang.specs.declared.event.Event.{Event}
-use Rattle.script_lang.specs.declared.event.Event.TheVariants.{Bind}
 use Rattle.meta_model.specs.Loaded.{Loaded}
 use Rattle.meta_model.specs.Sound.{IsSound}
-use Rattle.prop_bindings.specs.declared.binding.Binding.{Binding}
 use Rattle.prop_bindings.specs.declared.place.Place.{Place}
-use Rattle.prop_bindings.specs.Bindings.{binding_at, without, replaced, Chain, direct, further, Loop}
+use Rattle.prop_bindings.specs.Bindings.{binding_at, without, replaced, Chain, direct, further}
 use Rattle.prop_bindings.specs.Fits.{IsFit, Agree}
-use Rattle.effect_scan.specs.declared.node.Node.{Node}
 use Rattle.effect_scan.specs.declared.node.Member.TheVariants.{Property}
 use Rattle.effect_scan.specs.Nodes.{node}
-use Rattle.certificate_lang.specs.declared.certificate.Line.{Line}
 use Rattle.certificate_lang.specs.declared.certificate.Certificate.{Certificate}
-use Rattle.rank_check.specs.Valid.{IsLineOf, IsValid}
-use Rattle.machine_state.specs.State.{Step, State, Activation, Body, IsIdle}
+use Rattle.rank_check.specs.Valid.{IsValid}
+use Rattle.machine_state.specs.State.{State, Activation, Body}
 use Rattle.machine_state.specs.Worlds.{at, untouched}
 use Rattle.machine_rules.specs.Doings.{Write}
 use Rattle.machine_rules.specs.Good.{IsWell, IsGood, Spares, has_body}
@@ -26,15 +19,14 @@ use Rattle.machine_rules.specs.Natives.{NativeAnswers}
 use Rattle.machine_rules.specs.Rules.{Rule}
 use Rattle.machine_rules.specs.Runs.{Rules, WritesDeep, GoesDeep, GoesFatal}
 use Rattle.machine_rules.specs.Runs as of_rules
-use Rattle.machine_rules.specs.There.{IsDead}
 use Rattle.machine_rules.proofs.Lists.{all-filtered, all-snoc}
-use Rattle.qt_runtime.specs.Runs.{Runs, done, rules, takes, Follows, by_rule, by_event, BindsLoop}
+use Rattle.qt_runtime.specs.Runs.{Runs, done, rules, takes, Follows, by_rule, by_event}
 use Rattle.qt_runtime.specs.Takes.{Takes, accepts, refuses}
 use Rattle.qt_runtime.proofs.Standing.{Invariant}
 use Rattle.qt_runtime.proofs.Preservation.{runs-invariant}
-use Rattle.checked_runs.specs.Invariant.{Rung, FallsTo, Stacked, IsSited, IsCovered, Holds, BodyStands}
+use Rattle.checked_runs.specs.Invariant.{Rung, Stacked, IsSited, Holds}
 use Rattle.checked_runs.specs.Claims.{NeverTooDeep, NeverInUse, NeverLoops}
-use Rattle.checked_runs.proofs.Ladder.{falls-to, climbs, no-deeper, line-unique}
+use Rattle.checked_runs.proofs.Ladder.{falls-to, climbs, no-deeper}
 use Rattle.checked_runs.proofs.Leading.{does-led}
 use Rattle.checked_runs.proofs.Rules.{rule-held, bound-by}
 use Rattle.checked_runs.proofs.Events.{HoldsSome, takes-held, binding-sited}

@@ -1,34 +1,31 @@
 -- Each event keeps what a run of a checked program keeps; a new object gets its class.
-use Rattle.std.proofs.Common.{◌≡◌, ◌≢◌, ◌⊎◌, inl, inr, ℕ, zero, suc, ◌+◌, ◌<◌, ◌≤◌, eqb, cond, Bool, true, false, List, [], ◌∷◌, ◌++◌, map, length, length-append, Result, Ok, Err, Option, Some, None, slice_get, refl, sym, ap, ◌∙◌, subst, arith}
+use Rattle.std.proofs.Common.{◌≡◌, ◌≢◌, inl, inr, ℕ, ◌+◌, ◌<◌, eqb, cond, Bool, true, false, List, [], ◌∷◌, ◌++◌, length, length-append, Ok, Option, Some, None, slice_get, refl, sym, ap, ◌∙◌, subst, arith}
 use Rattle.std.specs.List.{AllByRecursion, AllZip}
 use Rattle.std.specs.Option.{option_map, option_and_then}
 use Rattle.std.proofs.lemmas.Bool.{cases_eq, eq-eqb, ne_eqb}
-use Rattle.std.proofs.lemmas.Option.{same_Some, none-some, slice_get_within}
+use Rattle.std.proofs.lemmas.Option.{none-some, slice_get_within}
 use Rattle.signatures.specs.declared.sig.Sig.{Sig}
 use Rattle.texts.specs.declared.connection.ConnectionType.{ConnectionType}
 use Rattle.texts.specs.declared.connection.Endpoints.{Endpoints as Named}
 use Rattle.script_lang.specs.declared.event.Event.{Event}
 use Rattle.script_lang.specs.declared.event.Event.TheVariants.{Loop, Turn, New, Adopt, Connect, Disconnect, Set, Bind, Emit as EmitEvent, Call as CallEvent, Block, Unblock, Delete as DeleteEvent, Later as LaterEvent}
 use Rattle.script_lang.specs.declared.event.Input.{Input}
-use Rattle.meta_model.specs.declared.object.MetaMethod.{MetaMethod}
 use Rattle.meta_model.specs.Loaded.{Loaded}
-use Rattle.meta_model.specs.Members.{IsMethod, Owns, Covers}
+use Rattle.meta_model.specs.Members.{Covers}
 use Rattle.meta_model.specs.Sound.{IsSound}
 use Rattle.connections.specs.declared.connection.Connection.{Connection}
 use Rattle.object_tree.specs.declared.life.Life.{Life}
 use Rattle.object_tree.specs.declared.object.Object.{Object}
-use Rattle.object_tree.specs.Adopting.{IsAdopted}
 use Rattle.object_tree.specs.Creating.{begun as begun_life, fresh, initial_values}
-use Rattle.object_tree.specs.Family.{children_in, children_of, parent_of, leaves, joined_by, put_under, moved}
-use Rattle.object_tree.specs.Objects.{class_of, life_of, change, change_life, with_life, blocked}
+use Rattle.object_tree.specs.Family.{children_in, parent_of, leaves, joined_by, put_under, moved}
+use Rattle.object_tree.specs.Objects.{change, change_life, with_life, blocked}
 use Rattle.object_tree.proofs.Changing.{part-change, life-part, length-change, get-change_other}
-use Rattle.object_tree.proofs.TypedObjects.{get-last, get-appended, class-same, shape-moved}
+use Rattle.object_tree.proofs.TypedObjects.{get-appended, class-same, shape-moved}
 use Rattle.prop_bindings.specs.declared.binding.Binding.{Binding}
 use Rattle.prop_bindings.specs.declared.place.Place.{Place}
 use Rattle.prop_bindings.specs.Bindings.{binding_at, without, replaced}
 use Rattle.prop_bindings.specs.Calls.{IsOf as IsLivingOf}
 use Rattle.prop_bindings.specs.Fits.{Agree}
-use Rattle.prop_bindings.specs.Places.{property_of, same_place}
 use Rattle.prop_bindings.proofs.Installed.{installed-is}
 use Rattle.prop_bindings.proofs.Places.{decide_place}
 use Rattle.prop_bindings.proofs.Walks.{bound-other}
@@ -37,18 +34,16 @@ use Rattle.effect_scan.specs.Nodes.{node, named}
 use Rattle.effect_scan.specs.Destroying.{itself}
 use Rattle.certificate_lang.specs.declared.certificate.Certificate.{Certificate}
 use Rattle.rank_check.specs.Valid.{IsValid}
-use Rattle.machine_state.specs.declared.refusal.Refusal.{Refusal}
 use Rattle.machine_state.specs.Accepting.{accepted}
 use Rattle.machine_state.specs.Connections.{joins_these}
 use Rattle.machine_state.specs.State.{State, IsIdle, Activation}
 use Rattle.machine_state.proofs.Due.{all-removed}
 use Rattle.machine_rules.specs.declared.ends.FoundEnds.{FoundEnds}
-use Rattle.machine_rules.specs.Connecting.{named_signal}
 use Rattle.machine_rules.specs.Good.{IsWell}
-use Rattle.machine_rules.specs.Judgement.{Numbered, found as finds, holds as so, becomes, gives as just, goes_on}
+use Rattle.machine_rules.specs.Judgement.{Numbered, found as finds, holds as so, becomes, goes_on}
 use Rattle.machine_rules.specs.Settling.{Installs}
 use Rattle.machine_rules.proofs.Keeps.{class-of-lives}
-use Rattle.machine_rules.proofs.Lists.{all-append, all-filtered, all-snoc, all-weaken}
+use Rattle.machine_rules.proofs.Lists.{all-filtered, all-snoc, all-weaken}
 use Rattle.qt_runtime.specs.declared.events.invoke.Invocation.{Invocation}
 use Rattle.qt_runtime.specs.declared.events.invoke.Invocation.TheVariants.{Emit as EmitIt, Call as CallIt}
 use Rattle.qt_runtime.specs.Takes.{judged, Takes, accepts, refuses}
@@ -57,11 +52,11 @@ use Rattle.qt_runtime.specs.events.Block.{block}
 use Rattle.qt_runtime.specs.events.Ends.{find_ends}
 use Rattle.qt_runtime.specs.events.Invoke.{invoke}
 use Rattle.qt_runtime.specs.events.Named.{IsLiving}
-use Rattle.checked_runs.specs.Invariant.{Rung, Stacked, AreClasses, AreOwned, IsOwned, IsWired, IsOf, IsSited, IsCovered, Holds}
+use Rattle.checked_runs.specs.Invariant.{Stacked, AreClasses, AreOwned, IsOwned, IsWired, IsOf, IsSited, IsCovered, Holds}
 use Rattle.checked_runs.proofs.Nodes.{named-node, property-node, end-node}
 use Rattle.checked_runs.proofs.Ladder.{rung-at}
 use Rattle.checked_runs.proofs.Given.{given-is, living-is, living-object, adopted-by, length-moved}
-use Rattle.checked_runs.proofs.Worlds.{Leaves, classes-left, all-changed, all-left, length-left}
+use Rattle.checked_runs.proofs.Worlds.{Leaves, classes-left, all-changed, all-left}
 use Rattle.checked_runs.proofs.Rules.{writes-held, settles-held, begun-held, wired-by, deletes-held, schedules-held}
 
 -- ---- objects change
@@ -83,10 +78,10 @@ moved-leaves {p} {classes} objects a c owns = record {
   children = λ owned k. subst (λ (l : List ℕ). AllByRecursion (IsOwned p classes k) l)
       (sym (part-change children_in c k (with_life (put_under a)) (leaves (parent_of objects c) c (change a (joined_by c) objects)) (λ y. refl)))
       (all-left (IsOwned p classes k) (parent_of objects c) c k (change a (joined_by c) objects)
-        (elim (cases_eq k a) [
-          | inl same ↦ all-changed (IsOwned p classes k) a k (joined_by c) objects (λ x h. all-snoc (IsOwned p classes k) x.children c h (subst (λ (j : ℕ). IsOwned p classes j c) (sym same) owns)) (owned k)
-          | inr other ↦ subst (λ (there : Option Object). AllByRecursion (IsOwned p classes k) (children_in there)) (sym (get-change_other a k (joined_by c) objects other)) (owned k)
-        ]));
+      (elim (cases_eq k a) [
+        | inl same ↦ all-changed (IsOwned p classes k) a k (joined_by c) objects (λ x h. all-snoc (IsOwned p classes k) x.children c h (subst (λ (j : ℕ). IsOwned p classes j c) (sym same) owns)) (owned k)
+        | inr other ↦ subst (λ (there : Option Object). AllByRecursion (IsOwned p classes k) (children_in there)) (sym (get-change_other a k (joined_by c) objects other)) (owned k)
+      ]));
 }
 
 -- ---- an object is created
@@ -113,8 +108,17 @@ module _ {p : Loaded} (classes : ℕ → Option ℕ) (objects : List Object) (kn
 
   wired-still : (c : Connection) → IsWired p classes c → IsWired p after-all c
   wired-still c x = record {
-    wire = x.wire; declared = x.declared; sender = x.sender; is_sender = still c.sender x.sender x.is_sender; above_sender = x.above_sender; signal = x.signal;
-    receiver = x.receiver; is_receiver = still c.receiver x.receiver x.is_receiver; above_receiver = x.above_receiver; method = x.method; kind = x.kind;
+    wire = x.wire;
+    declared = x.declared;
+    sender = x.sender;
+    is_sender = still c.sender x.sender x.is_sender;
+    above_sender = x.above_sender;
+    signal = x.signal;
+    receiver = x.receiver;
+    is_receiver = still c.receiver x.receiver x.is_receiver;
+    above_receiver = x.above_receiver;
+    method = x.method;
+    kind = x.kind;
   }
 
   of-still : (o formal : ℕ) → IsOf p classes o formal → IsOf p after-all o formal
@@ -209,7 +213,7 @@ module _ {p : Loaded} {certificate : Certificate} (valid : IsValid p certificate
         let Method_sig : Sig → Type 0 = λ z. Covers p (a.it).class (g.it).sig (b.it).class z how.kind in
         let spelled = subst Method_sig (sym method.signed) (subst Signal_sig (sym (signal.of).signed) found_covers) in
         subst Wired_as (sym (given-is given))
-          (wired-by valid sound classes (a.it).class (b.it).class a.number b.number g.number m.number n g.it m.it how.kind how.single (known-living a (living-is sender)) (known-living b (living-is receiver)) (signal.of).is method.is spelled)
+        (wired-by valid sound classes (a.it).class (b.it).class a.number b.number g.number m.number n g.it m.it how.kind how.single (known-living a (living-is sender)) (known-living b (living-is receiver)) (signal.of).is method.is spelled)
 
     -- a binding is covered
     sources-of : (os formals : List ℕ) → AllZip (IsLivingOf p s.objects) os formals → AllZip (IsOf p classes) os formals
@@ -238,7 +242,7 @@ module _ {p : Loaded} {certificate : Certificate} (valid : IsValid p certificate
         let r = rung-at valid (node life.class (Property b.target.property)) (property-node sound life.class b.target.property x.property (record { class = (x.is).class; is_class = (x.is).is_class; is = (x.is).is_property })) in
         let all = all-snoc (IsSited p classes) (filter_kept b) b (all-filtered (IsSited p classes) _ s.bindings covered.sited) sited in
         settles-held valid sound classes {s = accepted s} s.stack [] r.0 b.target life.class x.objects (replaced s.bindings b) x.changed covered agree stands tt class_is r.1 x.differ all x.settled
-          (λ q z other e. same-elsewhere q z other e) (λ q other none. x.kept q none) x.changes x.settles
+        (λ q z other e. same-elsewhere q z other e) (λ q other none. x.kept q none) x.changes x.settles
       where
         filter_kept : Binding → List Binding
         filter_kept z = without z.target s.bindings
@@ -255,30 +259,36 @@ module _ {p : Loaded} {certificate : Certificate} (valid : IsValid p certificate
     event-held (New name class loop) well (goes_on _ free (goes_on c (finds is) (goes_on home lives (goes_on _ room given)))) =
         let z : Object = fresh name c.number home (initial_values c.it) in
         let l : Life = begun_life c.number home (initial_values c.it) in
-        let Family : State → Type 0 = λ u. Holds p certificate (with-class (length s.objects) c.number classes) u in
-        (with-class (length s.objects) c.number classes, subst Family (sym (given-is given)) (record {
-          covered = created-covered classes s.objects covered.known c.number (slice_get_within p.classes c.number c.it (is.is).is) z l refl refl refl s.connected.connections s.bindings covered;
-          rungs = [];
-          stacked = idle-stacked (with-class (length s.objects) c.number classes) (s.objects ++ z ∷ []) s.stack idle.empty;
-        }))
+        let Family : State → Type 0 = λ u. Holds p certificate (with-class (length s.objects) c.number classes) u in (
+          with-class (length s.objects) c.number classes,
+          subst Family (sym (given-is given)) (record {
+            covered = created-covered classes s.objects covered.known c.number (slice_get_within p.classes c.number c.it (is.is).is) z l refl refl refl s.connected.connections s.bindings covered;
+            rungs = [];
+            stacked = idle-stacked (with-class (length s.objects) c.number classes) (s.objects ++ z ∷ []) s.stack idle.empty;
+          }),
+        )
     event-held (Adopt parent child) well (goes_on a is_parent (goes_on c is_child (goes_on _ (so owns) (goes_on _ over (goes_on _ home (becomes x)))))) =
         let owned : IsOwned p classes a.number c.number = record { above = (a.it).class; is_above = known-living a (living-is is_parent); below = (c.it).class; is_below = known-living c (living-is is_child); owns = owns } in
         let Family : State → Type 0 = λ u. Holds p certificate classes u in
         (classes, subst Family (sym x.gives) (adopted-by (λ (l : List Object). Holds p certificate classes (record (accepted s) { objects = l })) (record { covered = covered; rungs = []; stacked = stands }) (objects-held (moved a.number c.number s.objects) (moved-leaves s.objects a.number c.number owned)) x.is))
     event-held (Connect e how) well (goes_on f ends (goes_on _ (goes_on _ (so covers) rest) given)) =
-        let Family : State → Type 0 = λ u. Holds p certificate classes u in
-        (classes, subst Family (sym (given-is given)) (record {
-          covered = record { known = covered.known; owned = covered.owned; wired = all-snoc (IsWired p classes) s.connected.connections _ covered.wired (connection-wired e how (s.connected.last + 1) f ends covers); sited = covered.sited };
-          rungs = [];
-          stacked = stands;
-        }))
+        let Family : State → Type 0 = λ u. Holds p certificate classes u in (
+          classes,
+          subst Family (sym (given-is given)) (record {
+            covered = record { known = covered.known; owned = covered.owned; wired = all-snoc (IsWired p classes) s.connected.connections _ covered.wired (connection-wired e how (s.connected.last + 1) f ends covers); sited = covered.sited };
+            rungs = [];
+            stacked = stands;
+          }),
+        )
     event-held (Disconnect e) well (goes_on f ends (goes_on _ is given)) =
-        let Family : State → Type 0 = λ u. Holds p certificate classes u in
-        (classes, subst Family (sym (given-is given)) (record {
-          covered = record { known = covered.known; owned = covered.owned; wired = all-removed (IsWired p classes) (joins_these f.ends) s.connected covered.wired; sited = covered.sited };
-          rungs = [];
-          stacked = stands;
-        }))
+        let Family : State → Type 0 = λ u. Holds p certificate classes u in (
+          classes,
+          subst Family (sym (given-is given)) (record {
+            covered = record { known = covered.known; owned = covered.owned; wired = all-removed (IsWired p classes) (joins_these f.ends) s.connected covered.wired; sited = covered.sited };
+            rungs = [];
+            stacked = stands;
+          }),
+        )
     event-held (Set name property i) well (goes_on o lives (goes_on q _ (goes_on v _ (goes_on _ fits (becomes w))))) =
         let life = (w.is).life in
         let class_is : classes o.number ≡ Some life.class = (covered.known).lives o.number life.class (class-of-lives s.objects o.number (w.is).lives) in

@@ -1,5 +1,5 @@
 -- A write or a bind notifies only properties that are no higher than the one that is written or bound.
-use Rattle.std.proofs.Common.{◌≡◌, ◌⊎◌, inl, inr, ℕ, zero, suc, ◌+◌, ◌<◌, ◌≤◌, Bool, true, false, List, [], ◌∷◌, ◌++◌, map, filter, length, Option, Some, None, is_some, slice_get, refl, sym, ap, ◌∙◌, subst, arith}
+use Rattle.std.proofs.Common.{◌≡◌, inl, inr, ℕ, ◌<◌, List, Option, Some, None, is_some, refl, sym, ap, ◌∙◌, subst, arith}
 use Rattle.std.specs.List.{AllByRecursion}
 use Rattle.std.specs.Option.{option_map}
 use Rattle.std.proofs.lemmas.Bool.{cases_lt}
@@ -23,7 +23,7 @@ use Rattle.certificate_lang.specs.declared.certificate.Certificate.{Certificate}
 use Rattle.rank_check.specs.Valid.{IsLineOf, Destroys, IsValid}
 use Rattle.machine_rules.proofs.Lists.{all-weaken, all-filtered}
 use Rattle.machine_rules.specs.Settling.{notified, signal_at}
-use Rattle.checked_runs.specs.Invariant.{IsNoHigher, IsFollower, IsSited}
+use Rattle.checked_runs.specs.Invariant.{IsFollower, IsSited}
 use Rattle.checked_runs.proofs.Ladder.{line-unique}
 use Rattle.checked_runs.proofs.Sites.{unchanged}
 
@@ -64,8 +64,8 @@ module _ {p : Loaded} {certificate : Certificate} (valid : IsValid p certificate
     no_higher = λ upper at.
         let stays : (P : Line → Type 0) → ((x y : Node) (a b : Line) → MayLead p x y → IsLineOf p certificate x a → IsLineOf p certificate y b → P b → P a) → ¬ P line → P upper → ⊥ =
         λ P closed none has. changed.1 (reads-alike old new q differ
-            (unchanged valid sound classes G sited F (values_in old) (values_in new) first settled_old settled_new same kept P closed
-            (λ other here held. none (subst P (first-line other here) held)) certificate.bound q upper ((changed.0).0, (changed.0).1, at) has (omega arith))) in
+        (unchanged valid sound classes G sited F (values_in old) (values_in new) first settled_old settled_new same kept P closed
+        (λ other here held. none (subst P (first-line other here) held)) certificate.bound q upper ((changed.0).0, (changed.0).1, at) has (omega arith))) in
         record {
           rank = elim (cases_lt line.rank upper.rank) [
             | inl high ↦ absurd (stays (λ (l : Line). line.rank < l.rank) (λ x y a b leads from to low. let fall = valid.ranks x y a b leads from to in omega (arith, fall, low)) (λ low. omega (arith, low)) high)

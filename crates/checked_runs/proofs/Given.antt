@@ -1,11 +1,10 @@
 -- What judgements give, and what moves.
 use Rattle.std.proofs.Common.{◌≡◌, ℕ, List, length, Option, None, Some, Ok, refl, sym, ap, ◌∙◌, subst, inl, inr}
 use Rattle.std.proofs.lemmas.Bool.{cases_eq}
-use Rattle.machine_state.specs.declared.refusal.Refusal.{Refusal}
 use Rattle.object_tree.specs.declared.life.Life.{Life}
 use Rattle.object_tree.specs.declared.object.Object.{Object}
 use Rattle.object_tree.specs.Adopting.{IsAdopted}
-use Rattle.object_tree.specs.Family.{parent_of, joined_by, leaves, left_by, put_under, moved}
+use Rattle.object_tree.specs.Family.{parent_of, joined_by, leaves, put_under, moved}
 use Rattle.object_tree.specs.Objects.{Lives, change, with_life}
 use Rattle.object_tree.proofs.Changing.{length-change, lives-of-life}
 use Rattle.machine_rules.specs.Judgement.{Numbered, Gives, found, gives, goes_on}

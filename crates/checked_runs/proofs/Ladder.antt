@@ -1,5 +1,5 @@
 -- Ranks and sets fall along edges, so a stack is no longer than the bound.
-use Rattle.std.proofs.Common.{◌≡◌, ℕ, zero, suc, ◌+◌, ◌<◌, ◌≤◌, List, [], ◌∷◌, length, Option, Some, None, slice_get, refl, sym, ap, ◌∙◌, subst, arith}
+use Rattle.std.proofs.Common.{◌≡◌, ℕ, ◌+◌, ◌<◌, ◌≤◌, List, [], ◌∷◌, length, Option, slice_get, refl, sym, ap, ◌∙◌, arith}
 use Rattle.std.proofs.lemmas.Option.{same_Some}
 use Rattle.rank_check.proofs.Elements.{place_of}
 use Rattle.meta_model.specs.Loaded.{Loaded}
@@ -11,9 +11,9 @@ use Rattle.effect_scan.specs.Laws.{IsNode}
 use Rattle.effect_scan.proofs.Standing.{join_nodes}
 use Rattle.certificate_lang.specs.declared.certificate.Line.{Line}
 use Rattle.certificate_lang.specs.declared.certificate.Certificate.{Certificate}
-use Rattle.rank_check.specs.Valid.{IsLineOf, Destroys, IsValid}
+use Rattle.rank_check.specs.Valid.{IsLineOf, IsValid}
 use Rattle.machine_state.specs.State.{Activation}
-use Rattle.checked_runs.specs.Invariant.{Falls, IsNoHigher, Rung, FallsTo, Stands, Stacked}
+use Rattle.checked_runs.specs.Invariant.{Falls, IsNoHigher, Rung, FallsTo, Stacked}
 
 pub higher-none : {p : Loaded} {a b c : Line} → IsNoHigher p a b → Falls p b c → Falls p a c
 higher-none {c = c} up f = record { rank = omega (arith, up.rank, f.rank); set = λ d none. f.set d (up.set d none) }

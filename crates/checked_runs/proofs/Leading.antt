@@ -1,7 +1,6 @@
 -- What a step of a body does, its method may lead to.
-use Rattle.std.proofs.Common.{◌≡◌, ◌≢◌, ◌⊎◌, inl, inr, ℕ, zero, suc, ◌+◌, ◌-◌, ◌<◌, Bool, true, false, List, [], ◌∷◌, ◌++◌, map, length, Option, Some, None, slice_get, refl, sym, ap, ◌∙◌, subst, arith}
+use Rattle.std.proofs.Common.{◌≡◌, ◌⊎◌, inl, inr, ℕ, suc, ◌-◌, Bool, true, false, List, [], ◌∷◌, length, Option, Some, None, slice_get, refl, sym, ap, ◌∙◌, subst, arith}
 use Rattle.std.specs.Prelude.{IfSome}
-use Rattle.std.specs.List.{AllByRecursion}
 use Rattle.std.specs.Option.{option_and_then, option_map}
 use Rattle.std.proofs.lemmas.Option.{same_Some, none-some}
 use Rattle.std.proofs.lemmas.List.Elements.{All-contains}
@@ -9,7 +8,6 @@ use Rattle.signatures.specs.declared.value.Value.{Value}
 use Rattle.signatures.specs.declared.value.Value.TheVariants as value
 use Rattle.texts.specs.declared.syntax.Expr.{Expr}
 use Rattle.meta_model.specs.declared.effects.MetaEffects.{MetaEffects}
-use Rattle.meta_model.specs.declared.object.MetaMethod.{MetaMethod}
 use Rattle.meta_model.specs.declared.object.MetaPath.{MetaPath}
 use Rattle.meta_model.specs.declared.object.MetaRoot.{MetaRoot}
 use Rattle.meta_model.specs.declared.object.MetaRoot.TheVariants.{This, Parameter}
@@ -20,17 +18,17 @@ use Rattle.meta_model.specs.declared.object.Statement.TheViews.{out-Statement}
 use Rattle.meta_model.specs.declared.object.ValueType.{ValueType}
 use Rattle.meta_model.specs.declared.object.ValueType.TheVariants as type
 use Rattle.meta_model.specs.declared.object.Work.{Work}
-use Rattle.meta_model.specs.declared.object.Work.TheVariants.{Signal, Slot, Native}
+use Rattle.meta_model.specs.declared.object.Work.TheVariants.{Slot, Native}
 use Rattle.meta_model.specs.Loaded.{Loaded}
-use Rattle.meta_model.specs.Members.{IsMethod, Below}
-use Rattle.meta_model.specs.Sound.{IsSound, HasRoot, this_has, parameter_has, Leads, here, on, LeadsTo, LeadsToClass, IsSoundStatement, set_sound, emit_sound, call_sound, if_sound, connect_sound, disconnect_sound, delete_sound, later_sound, AreSound, next_sound, IsSoundWork, IsPlainSignal}
+use Rattle.meta_model.specs.Members.{Below}
+use Rattle.meta_model.specs.Sound.{IsSound, HasRoot, this_has, parameter_has, Leads, here, on, LeadsToClass, IsSoundStatement, set_sound, emit_sound, call_sound, if_sound, connect_sound, disconnect_sound, delete_sound, later_sound, AreSound, next_sound, IsSoundWork, IsPlainSignal}
 use Rattle.native_slots.specs.declared.action.Action.{Action}
 use Rattle.native_slots.specs.declared.action.Action.TheVariants as action
 use Rattle.object_tree.specs.declared.life.Life.{Life}
 use Rattle.object_tree.specs.declared.object.Object.{Object}
-use Rattle.object_tree.specs.Objects.{Lives, class_of}
+use Rattle.object_tree.specs.Objects.{Lives}
 use Rattle.object_tree.specs.Seen.{seen, seen_object, seen_reference}
-use Rattle.object_tree.specs.Typed.{AreTyped, ReadAs}
+use Rattle.object_tree.specs.Typed.{AreTyped}
 use Rattle.effect_scan.specs.declared.node.Node.{Node}
 use Rattle.effect_scan.specs.declared.node.Member.{Member}
 use Rattle.effect_scan.specs.declared.node.Member.TheVariants.{Method, Property, Destruction}
@@ -38,11 +36,11 @@ use Rattle.effect_scan.specs.declared.effect.Reach.{Reach}
 use Rattle.effect_scan.specs.declared.effect.Reach.TheVariants as reach
 use Rattle.effect_scan.specs.declared.effect.Effect.{Effect}
 use Rattle.effect_scan.specs.Nodes.{node, named}
-use Rattle.effect_scan.specs.Effects.{reach_of_type, reach_of_root, reach_after, reach_of, effect_of, Occurs, here as first, after, chosen, otherwise, BodyHas, WorkHas}
+use Rattle.effect_scan.specs.Effects.{reach_of_type, reach_of_root, reach_after, reach_of, effect_of, Occurs, here as first, after, chosen, otherwise, WorkHas}
 use Rattle.effect_scan.specs.Edges.{ReachedAs, MayLead, by_work}
 use Rattle.rank_check.proofs.Elements.{element_at}
 use Rattle.machine_state.specs.State.{Step, Run, Ask, Act}
-use Rattle.machine_rules.specs.Doings.{Doing, Write, Begin, Choose, Connect, Disconnect, Delete, Schedule, TakeAnswer, Nothing, on_object, on_ends, chosen_by, doing, doing_action, doing_step}
+use Rattle.machine_rules.specs.Doings.{Doing, Write, Begin, Choose, Connect, Disconnect, Delete, Schedule, TakeAnswer, Nothing, on_object, chosen_by, doing, doing_action, doing_step}
 use Rattle.machine_rules.specs.Paths.{path_value, steps_value, root_value, value_of, values_of}
 use Rattle.machine_rules.proofs.Fields.{life-unique}
 use Rattle.machine_rules.proofs.Keeps.{lives-of-class}
@@ -195,15 +193,15 @@ module _ {p : Loaded} (sound : IsSound p) where
       statement-led : (f : layer.Statement-F Statement) → out-Statement s ≡ f → IsSoundStatement p me (b.method).kinds f → IfSome (doing objects o arguments f) IsLed
       statement-led f at (set_sound {path = path} {q = q} {e = e} is) =
           on-path me under path is.leads (λ y. option_map (λ (new : Value). Write y q new) (value_of objects o arguments e)) (λ y z k there lives beneath.
-            map-led (λ (new : Value). Write y q new) (value_of objects o arguments e) (λ new.
-              path-member path (Property q) is.leads (λ r e'. ap (effect_of (b.method).kinds) at ∙ ap (option_map (λ (r' : Reach). record { reach = r'; member = Property q })) e') y z k there lives beneath))
+          map-led (λ (new : Value). Write y q new) (value_of objects o arguments e) (λ new.
+          path-member path (Property q) is.leads (λ r e'. ap (effect_of (b.method).kinds) at ∙ ap (option_map (λ (r' : Reach). record { reach = r'; member = Property q })) e') y z k there lives beneath))
       statement-led f at (emit_sound {m = g} {es = es} is) =
           map-led (λ (given : List Value). Begin o g given) (values_of objects o arguments es) (λ given.
-            (λ z k lives. statement-effect (record { reach = reach.Own; member = Method g }) (node k.class (Method g)) (ap (effect_of (b.method).kinds) at) (own-reached (Method g) z k lives), late-named g is.emitted))
+          (λ z k lives. statement-effect (record { reach = reach.Own; member = Method g }) (node k.class (Method g)) (ap (effect_of (b.method).kinds) at) (own-reached (Method g) z k lives), late-named g is.emitted))
       statement-led f at (call_sound {path = path} {m = n} {es = es} is) =
           on-path me under path is.leads (λ y. option_map (λ (given : List Value). Begin y n given) (values_of objects o arguments es)) (λ y z k there lives beneath.
-            map-led (λ (given : List Value). Begin y n given) (values_of objects o arguments es) (λ given.
-              (path-member path (Method n) is.leads (λ r e'. ap (effect_of (b.method).kinds) at ∙ ap (option_map (λ (r' : Reach). record { reach = r'; member = Method n })) e') y z k there lives beneath, body-named sound is.class n is.slot is.is is.callable)))
+          map-led (λ (given : List Value). Begin y n given) (values_of objects o arguments es) (λ given.
+          (path-member path (Method n) is.leads (λ r e'. ap (effect_of (b.method).kinds) at ∙ ap (option_map (λ (r' : Reach). record { reach = r'; member = Method n })) e') y z k there lives beneath, body-named sound is.class n is.slot is.is is.callable)))
       statement-led f at (if_sound {e = e} {chosen = block} {other = other} is one two) =
           let parts = within s e block other body occurs at in
           chosen-led block other (value_of objects o arguments e) (body, slot, parts.0) (body, slot, parts.1)
@@ -213,7 +211,7 @@ module _ {p : Loaded} (sound : IsSound p) where
           idle-path me under ends.sender is.sender _ (λ y. idle-path me under ends.receiver is.receiver _ (λ z. tt))
       statement-led f at (delete_sound {path = path} leads) =
           on-path me under path leads (λ y. Some (Delete y)) (λ y z k there lives beneath.
-            ((z, k, lives), path-member path Destruction leads (λ r e'. ap (effect_of (b.method).kinds) at ∙ ap (option_map (λ (r' : Reach). record { reach = r'; member = Destruction })) e') y z k there lives beneath))
+          ((z, k, lives), path-member path Destruction leads (λ r e'. ap (effect_of (b.method).kinds) at ∙ ap (option_map (λ (r' : Reach). record { reach = r'; member = Destruction })) e') y z k there lives beneath))
       statement-led f at (later_sound {path = path} leads) = idle-path me under path leads (λ y. Some (Schedule y)) (λ y. tt)
 
     -- what an action of a native does
@@ -235,9 +233,12 @@ module _ {p : Loaded} (sound : IsSound p) where
 
         by_signal : (found : Option ℕ) → slice_get effects.emits k ≡ found → IfSome (option_map (λ (g : ℕ). Begin o g given) found) IsLed
         by_signal None is = tt
-        by_signal (Some g) is = (λ z l lives. by-effect (record { reach = reach.Own; member = Method g }) (node l.class (Method g))
-            (subst (λ (w : Work). WorkHas (b.method).kinds w (record { reach = reach.Own; member = Method g })) (sym native) (inl (record { number = g; among = element_at effects.emits k g is; is = refl })))
-            (own-reached (Method g) z l lives), late g is)
+        by_signal (Some g) is = (
+          λ z l lives. by-effect (record { reach = reach.Own; member = Method g }) (node l.class (Method g))
+              (subst (λ (w : Work). WorkHas (b.method).kinds w (record { reach = reach.Own; member = Method g })) (sym native) (inl (record { number = g; among = element_at effects.emits k g is; is = refl })))
+              (own-reached (Method g) z l lives),
+          late g is,
+        )
 
     step-led : (y : Step) → IsStepOf (b.method).work y → IfSome (doing_step objects o arguments y) IsLed
     step-led (Run s) (runs {body = body} slot occurs) =

@@ -1,23 +1,20 @@
 -- Each rule keeps what a run of a checked program keeps, and spares every object that has a body.
-use Rattle.std.proofs.Common.{◌≡◌, ◌≢◌, ◌⊎◌, inl, inr, ℕ, zero, suc, ◌+◌, ◌<◌, ◌≤◌, ◌||◌, eqb, cond, Bool, true, false, IsTrue, List, [], ◌∷◌, ◌++◌, map, take, length, Result, Ok, Err, Option, Some, None, slice_get, refl, sym, ap, ◌∙◌, subst, arith}
+use Rattle.std.proofs.Common.{◌≡◌, ◌≢◌, ◌⊎◌, inl, inr, ℕ, suc, ◌+◌, ◌<◌, ◌||◌, eqb, cond, Bool, true, false, IsTrue, List, [], ◌∷◌, ◌++◌, map, take, length, Result, Ok, Err, Option, Some, None, slice_get, refl, sym, ap, ◌∙◌, subst, arith}
 use Rattle.std.specs.List.{AllByRecursion, find}
-use Rattle.std.proofs.lemmas.Bool.{cases_eq, eqb-true, cases_Bool, false≢true}
+use Rattle.std.proofs.lemmas.Bool.{cases_eq, eqb-true, cases_Bool}
 use Rattle.std.proofs.lemmas.Option.{same_Some, none-some}
 use Rattle.signatures.specs.declared.kind.Kind.{Kind}
 use Rattle.signatures.specs.declared.kind.Kind.TheVariants.{Auto, Direct, Queued}
 use Rattle.signatures.specs.declared.value.Value.{Value}
-use Rattle.signatures.specs.declared.value.Value.TheVariants as value
 use Rattle.texts.specs.declared.connection.ConnectionType.{ConnectionType}
-use Rattle.texts.specs.declared.connection.Endpoints.{Endpoints as Named}
 use Rattle.meta_model.specs.declared.effects.MetaEffects.{MetaEffects}
 use Rattle.meta_model.specs.declared.object.MetaMethod.{MetaMethod}
-use Rattle.meta_model.specs.declared.object.MetaProperty.{MetaProperty}
 use Rattle.meta_model.specs.declared.object.Statement.{Statement}
 use Rattle.meta_model.specs.declared.object.Work.{Work}
 use Rattle.meta_model.specs.declared.object.Work.TheVariants.{Signal, Slot, Native}
 use Rattle.meta_model.specs.declared.qobject.TheConstants.{DESTROYED}
 use Rattle.meta_model.specs.Loaded.{Loaded}
-use Rattle.meta_model.specs.Members.{IsMethod, HasSig, Below, Covers}
+use Rattle.meta_model.specs.Members.{IsMethod, Below, Covers}
 use Rattle.meta_model.specs.Sound.{IsSound}
 use Rattle.connections.specs.declared.connection.Connection.{Connection}
 use Rattle.connections.specs.Connected.{touches}
@@ -29,11 +26,11 @@ use Rattle.native_slots.specs.declared.action.Action.{Action}
 use Rattle.object_tree.specs.declared.life.Life.{Life}
 use Rattle.object_tree.specs.declared.object.Object.{Object}
 use Rattle.object_tree.specs.Family.{children_of, without_life}
-use Rattle.object_tree.specs.Objects.{Lives, class_of, life_of, name_of, change_life, scheduled}
-use Rattle.object_tree.specs.Typed.{AreTyped, ReadAs}
+use Rattle.object_tree.specs.Objects.{class_of, life_of, change_life, scheduled}
+use Rattle.object_tree.specs.Typed.{ReadAs}
 use Rattle.prop_bindings.specs.declared.binding.Binding.{Binding}
 use Rattle.prop_bindings.specs.declared.place.Place.{Place}
-use Rattle.prop_bindings.specs.Bindings.{binding_at, without, replaced, Settled}
+use Rattle.prop_bindings.specs.Bindings.{binding_at, without, Settled}
 use Rattle.prop_bindings.specs.Changes.{DifferInValues, AreChanged, in_order}
 use Rattle.prop_bindings.specs.Fits.{Agree}
 use Rattle.prop_bindings.specs.Places.{property_of, same_place, values_in}
@@ -48,38 +45,38 @@ use Rattle.effect_scan.specs.Edges.{MayLead, by_wire, by_notify, by_destruction}
 use Rattle.effect_scan.proofs.Relating.{is_class}
 use Rattle.certificate_lang.specs.declared.certificate.Line.{Line}
 use Rattle.certificate_lang.specs.declared.certificate.Certificate.{Certificate}
-use Rattle.rank_check.specs.Valid.{IsLineOf, Destroys, HasBody, IsValid}
+use Rattle.rank_check.specs.Valid.{IsLineOf, Destroys, IsValid}
 use Rattle.machine_state.specs.declared.endpoints.Endpoints.{Endpoints}
 use Rattle.machine_state.specs.declared.refusal.Refusal.{Refusal}
 use Rattle.machine_state.specs.declared.telling.Cause.{Cause}
 use Rattle.machine_state.specs.declared.turn.Turn.{Turn}
 use Rattle.machine_state.specs.Connections.{is_living, next_used, joins_these}
-use Rattle.machine_state.specs.State.{Step, Run, Ask, Act, State, Activation, Body, Emit, Update, Destroy}
+use Rattle.machine_state.specs.State.{Step, Run, Act, State, Activation, Body, Emit, Update, Destroy}
 use Rattle.machine_state.specs.Turns.{running, reaches_at_once}
 use Rattle.machine_state.proofs.Due.{found-among, all-removed, all-used, used-due, used-among}
-use Rattle.machine_rules.specs.Connecting.{AreThere, kept_ends, names_of, named_signal, found_ends, may_connect}
-use Rattle.machine_rules.specs.Destroying.{Dies, died, forgotten, NextRule, ChildRule, DestroyRule, living_child, DefersOnce, Schedules, deleting}
+use Rattle.machine_rules.specs.Connecting.{kept_ends, names_of, named_signal, found_ends, may_connect}
+use Rattle.machine_rules.specs.Destroying.{Dies, NextRule, ChildRule, DestroyRule, living_child, DefersOnce, Schedules, deleting}
 use Rattle.machine_rules.specs.Doings.{Doing, Write, Begin, Choose, Connect, Disconnect, Delete, Schedule, TakeAnswer, Nothing, doing_step}
 use Rattle.machine_rules.specs.Good.{ArgumentsFit, TopFits, IsWell, Spares, has_body}
 use Rattle.machine_rules.specs.Judgement.{holds as so, goes_on}
 use Rattle.machine_rules.specs.Natives.{NativeAnswers}
-use Rattle.machine_rules.specs.Rules.{Rule, RuleAt, BodyRule, Does, EmitRule, UpdateRule, NotifiesIf, TurnRule, Serves, Delivers, Arrives, Begins, BeginsIf, begun, with_used, linked, unlinked, Connects, Disconnects}
-use Rattle.machine_rules.specs.Settling.{Settles, Writes, Installs, notified}
+use Rattle.machine_rules.specs.Rules.{Rule, RuleAt, BodyRule, Does, EmitRule, UpdateRule, NotifiesIf, TurnRule, Serves, Delivers, Arrives, BeginsIf, begun, with_used, linked, unlinked, Connects, Disconnects}
+use Rattle.machine_rules.specs.Settling.{Settles, Writes}
 use Rattle.machine_rules.specs.Sound.{AllWait, Waits}
 use Rattle.machine_rules.specs.There.{IsDead, IsMember}
 use Rattle.machine_rules.proofs.Differing.{differ-stay, differ-spared}
 use Rattle.machine_rules.proofs.Dying.{died-stay, scheduled-stay, scheduled-seen, other-seen}
-use Rattle.machine_rules.proofs.Fields.{member-method, method-unique}
+use Rattle.machine_rules.proofs.Fields.{member-method}
 use Rattle.machine_rules.proofs.Inherited.{method-below}
 use Rattle.machine_rules.proofs.Keeps.{class-of-lives}
-use Rattle.machine_rules.proofs.Lists.{all-append, all-filtered, all-snoc, all-weaken}
+use Rattle.machine_rules.proofs.Lists.{all-filtered, all-snoc}
 use Rattle.machine_rules.proofs.Waiting.{first-waits}
-use Rattle.checked_runs.specs.Invariant.{Falls, Rung, FallsTo, IsStepOf, runs, asks, acts, BodyStands, EmitStands, IsFollower, IsTorn, IsTornIf, DestroyStands, Stands, Stacked, IsOwned, IsWired, IsOf, IsSited, IsCovered, Holds}
+use Rattle.checked_runs.specs.Invariant.{Rung, FallsTo, IsStepOf, runs, asks, acts, BodyStands, EmitStands, IsFollower, IsTorn, DestroyStands, Stacked, IsOwned, IsWired, IsSited, IsCovered, Holds}
 use Rattle.checked_runs.proofs.Nodes.{named-node, end-node, body-named, late-named, named-again}
 use Rattle.checked_runs.proofs.Ladder.{higher-none, rung-at, falls-to, line-from}
 use Rattle.checked_runs.proofs.Worlds.{Leaves, classes-left, differ-leaves, scheduled-leaves, died-leaves, SparedIn, stacked-still}
 use Rattle.checked_runs.proofs.Followers.{IsKnown, followers}
-use Rattle.checked_runs.proofs.Leading.{IsLed, does-led}
+use Rattle.checked_runs.proofs.Leading.{does-led}
 
 -- the binding of a property is one of the list, and the property is its target
 pub bound-by : (P : Binding → Type 0) (bs : List Binding) → AllByRecursion P bs → (q : Place) (b : Binding) → binding_at bs q ≡ Some b → P b × (b.target ≡ q)
@@ -123,17 +120,20 @@ module _ {p : Loaded} {certificate : Certificate} (valid : IsValid p certificate
       r.node ≡ node (is.life).class (Method (named m)) → FallsTo rungs r.line → Stacked classes u.objects below rungs → method.work ≢ Signal → ArgumentsFit p u.objects o m arguments → AllByRecursion (IsStepOf method.work) left →
       Stacked classes u.objects (Body o m arguments left ∷ below) (r ∷ rungs)
   body-held u below {o = o} {m = m} {method = method} {arguments = arguments} rungs r is at falls st bodied fit steps =
-      let same : fit.method ≡ method = member-method fit.is is in
-      (record {
-        class = (is.life).class;
-        lives = class-of-lives u.objects o is.lives;
-        at = at ∙ ap (λ (n : ℕ). node (is.life).class (Method n)) (body-named sound (is.life).class m method is.is_method bodied);
-        method = method;
-        is = is.is_method;
-        bodied = bodied;
-        typed = subst (λ (k : MetaMethod). ReadAs p u.objects arguments k.kinds) same fit.typed;
-        steps = steps;
-      }, falls, st)
+      let same : fit.method ≡ method = member-method fit.is is in (
+        record {
+          class = (is.life).class;
+          lives = class-of-lives u.objects o is.lives;
+          at = at ∙ ap (λ (n : ℕ). node (is.life).class (Method n)) (body-named sound (is.life).class m method is.is_method bodied);
+          method = method;
+          is = is.is_method;
+          bodied = bodied;
+          typed = subst (λ (k : MetaMethod). ReadAs p u.objects arguments k.kinds) same fit.typed;
+          steps = steps;
+        },
+        falls,
+        st,
+      )
 
   pub begun-held : (u t : State) (n : ℕ) (below : List Activation) (o : ℕ) (x : Object) (m : ℕ) (method : MetaMethod) (arguments : List Value) (work : Work) (rungs : List (Rung p certificate)) (r : Rung p certificate) → Covered u → (is : IsMember p u.objects o m x method) → method.work ≡ work →
       r.node ≡ node (is.life).class (Method (named m)) → FallsTo rungs r.line → Stacked classes u.objects below rungs → n < suc (length below) → (n < length t.stack → TopFits p t.objects t.stack) → t ≡ begun u below o x m method arguments work → Held t
@@ -184,7 +184,7 @@ module _ {p : Loaded} {certificate : Certificate} (valid : IsValid p certificate
       let line_is = subst (λ (z : Node). IsLineOf p certificate z r.line) at r.is in
       let targets = known-targets (without place s.bindings) (all-filtered (IsSited p classes) _ s.bindings covered.sited) in
       let notifies = followers valid sound classes (binding_at s.bindings) (binding_at bindings) (λ q b e. bound-by (IsSited p classes) bindings sited q b e) s.objects objects differ place class is r.line line_is agree.settled settled same kept
-          (in_order place s.bindings) changed ((class, is), targets) changes in
+      (in_order place s.bindings) changed ((class, is), targets) changes in
       let Family : State → Type 0 = λ v. Held v in
       subst Family (sym settles.gives) (record {
         covered = record { known = classes-left left covered.known; owned = left.children covered.owned; wired = covered.wired; sited = sited };
@@ -196,7 +196,7 @@ module _ {p : Loaded} {certificate : Certificate} (valid : IsValid p certificate
   writes-held {s} below rungs r o q class new covered agree st falls is at w =
       let place : Place = property_of o q in
       settles-held below rungs r place class w.objects (without place s.bindings) w.changed covered agree st falls is at w.written.objects (all-filtered (IsSited p classes) _ s.bindings covered.sited) w.written.settled
-        (λ z b other e. without-fewer place s.bindings z b e) (λ z other none. w.written.kept z none other) w.written.changes w.settles
+      (λ z b other e. without-fewer place s.bindings z b e) (λ z other none. w.written.kept z none other) w.written.changes w.settles
 
   -- ---- an object dies
 
@@ -212,11 +212,14 @@ module _ {p : Loaded} {certificate : Certificate} (valid : IsValid p certificate
         | inr other ↦ sym (other-seen s.objects x o other) ∙ gone
       ] in
       let Family : State → Type 0 = λ v. Held v × SparedIn below s.objects v.objects in
-      subst Family (sym d.gives) (record {
-        covered = record { known = classes-left left covered.known; owned = left.children covered.owned; wired = covered.wired; sited = all-filtered (IsSited p classes) _ s.bindings covered.sited };
-        rungs = next.0 ∷ r ∷ rungs;
-        stacked = (record { class = this.class; is = this.is; at = next.1 }, next.2, (record { class = c; at = at; coming = this; gone = all }, falls, stacked-still classes s.objects after_it (died-stay s.objects x d.named) below rungs spared st));
-      }, spared)
+      subst Family (sym d.gives) (
+        record {
+          covered = record { known = classes-left left covered.known; owned = left.children covered.owned; wired = covered.wired; sited = all-filtered (IsSited p classes) _ s.bindings covered.sited };
+          rungs = next.0 ∷ r ∷ rungs;
+          stacked = (record { class = this.class; is = this.is; at = next.1 }, next.2, (record { class = c; at = at; coming = this; gone = all }, falls, stacked-still classes s.objects after_it (died-stay s.objects x d.named) below rungs spared st));
+        },
+        spared,
+      )
 
   -- what a rule that changes no object does
   abbrev pub Goes : State → List Activation → State → Type 0
@@ -232,11 +235,14 @@ module _ {p : Loaded} {certificate : Certificate} (valid : IsValid p certificate
       by_life true dies = dies-held below rungs r d.class x torn covered st falls d.at d.coming d.gone dies
       by_life false e =
           let Family : State → Type 0 = λ v. Goes s below v in
-          subst Family (sym e) (record {
-            covered = record { known = covered.known; owned = covered.owned; wired = all-removed (IsWired p classes) (touches x) s.connected covered.wired; sited = covered.sited };
-            rungs = r ∷ rungs;
-            stacked = (record { class = d.class; at = d.at; coming = tt; gone = (d.coming, d.gone) }, falls, st);
-          }, same-spared s.objects below)
+          subst Family (sym e) (
+            record {
+              covered = record { known = covered.known; owned = covered.owned; wired = all-removed (IsWired p classes) (touches x) s.connected covered.wired; sited = covered.sited };
+              rungs = r ∷ rungs;
+              stacked = (record { class = d.class; at = d.at; coming = tt; gone = (d.coming, d.gone) }, falls, st);
+            },
+            same-spared s.objects below,
+          )
   destroy-goes s t below rungs r None [] covered d falls st rule =
       let Family : State → Type 0 = λ v. Goes s below v in
       subst Family (sym rule) (record { covered = covered; rungs = rungs; stacked = st }, same-spared s.objects below)
@@ -361,11 +367,14 @@ module _ {p : Loaded} {certificate : Certificate} (valid : IsValid p certificate
           let there = x.spelled in
           let wired = wired-by (there.sends).life.class (there.receives).life.class ends.sender ends.receiver ends.signal ends.method (s.connected.last + 1) there.signal there.method how.kind how.single (known-member s covered there.sends) (known-member s covered there.receives) (there.sends).is_method (there.receives).is_method covers in
           let Family : State → Type 0 = λ v. Goes s stack v in
-          subst Family (sym e) (record {
-            covered = record { known = covered.known; owned = covered.owned; wired = all-snoc (IsWired p classes) s.connected.connections _ covered.wired wired; sited = covered.sited };
-            rungs = rungs;
-            stacked = st;
-          }, same-spared s.objects stack)
+          subst Family (sym e) (
+            record {
+              covered = record { known = covered.known; owned = covered.owned; wired = all-snoc (IsWired p classes) s.connected.connections _ covered.wired wired; sited = covered.sited };
+              rungs = rungs;
+              stacked = st;
+            },
+            same-spared s.objects stack,
+          )
 
   unlinked-held : (s t : State) (stack : List Activation) (rungs : List (Rung p certificate)) (ends : Endpoints) → Covered s → Stacked classes s.objects stack rungs → Disconnects p s stack ends t → Goes s stack t
   unlinked-held s t stack rungs ends covered st x = by_answer x.answer x.gives
@@ -376,11 +385,14 @@ module _ {p : Loaded} {certificate : Certificate} (valid : IsValid p certificate
           subst Family (sym e) (record { covered = covered; rungs = rungs; stacked = st }, same-spared s.objects stack)
       by_answer (Ok _) e =
           let Family : State → Type 0 = λ v. Goes s stack v in
-          subst Family (sym e) (record {
-            covered = record { known = covered.known; owned = covered.owned; wired = all-removed (IsWired p classes) (joins_these (kept_ends ends)) s.connected covered.wired; sited = covered.sited };
-            rungs = rungs;
-            stacked = st;
-          }, same-spared s.objects stack)
+          subst Family (sym e) (
+            record {
+              covered = record { known = covered.known; owned = covered.owned; wired = all-removed (IsWired p classes) (joins_these (kept_ends ends)) s.connected covered.wired; sited = covered.sited };
+              rungs = rungs;
+              stacked = st;
+            },
+            same-spared s.objects stack,
+          )
 
   -- ---- an object is scheduled
 
@@ -399,11 +411,14 @@ module _ {p : Loaded} {certificate : Certificate} (valid : IsValid p certificate
           let left : Leaves p classes s.objects new = scheduled-leaves s.objects x in
           let spared : SparedIn stack s.objects new = λ o body gone. sym (scheduled-seen s.objects x o) ∙ gone in
           let Family : State → Type 0 = λ v. Goes s stack v in
-          subst Family (sym d.gives) (record {
-            covered = record { known = classes-left left covered.known; owned = left.children covered.owned; wired = covered.wired; sited = covered.sited };
-            rungs = rungs;
-            stacked = stacked-still classes s.objects new (scheduled-stay s.objects x) stack rungs spared st;
-          }, spared)
+          subst Family (sym d.gives) (
+            record {
+              covered = record { known = classes-left left covered.known; owned = left.children covered.owned; wired = covered.wired; sited = covered.sited };
+              rungs = rungs;
+              stacked = stacked-still classes s.objects new (scheduled-stay s.objects x) stack rungs spared st;
+            },
+            spared,
+          )
 
   -- ---- bodies
 
@@ -425,11 +440,14 @@ module _ {p : Loaded} {certificate : Certificate} (valid : IsValid p certificate
   pub deletes-held : (s t : State) (stack : List Activation) (rungs : List (Rung p certificate)) (r : Rung p certificate) (x class : ℕ) → Covered s → Stacked classes s.objects stack rungs → FallsTo rungs r.line → r.node ≡ node class Destruction → classes x ≡ Some class → Closure p class class → t ≡ deleting s stack x → Goes s stack t
   deletes-held s t stack rungs r x class covered st falls at is closed e =
       let Family : State → Type 0 = λ v. Goes s stack v in
-      subst Family (sym e) (record {
-        covered = covered;
-        rungs = r ∷ rungs;
-        stacked = (record { class = class; at = at; coming = record { class = class; is = is; closed = closed }; gone = tt }, falls, st);
-      }, same-spared s.objects stack)
+      subst Family (sym e) (
+        record {
+          covered = covered;
+          rungs = r ∷ rungs;
+          stacked = (record { class = class; at = at; coming = record { class = class; is = is; closed = closed }; gone = tt }, falls, st);
+        },
+        same-spared s.objects stack,
+      )
 
   does-goes : (natives : NativeAnswers) (s t : State) (below : List Activation) (rungs : List (Rung p certificate)) (r : Rung p certificate) (o m : ℕ) (arguments : List Value) (y : Step) (rest : List Step) → Covered s → Agree p s.objects s.bindings → IsWell p s t → length s.stack ≡ suc (length below) →
       BodyStands p s.objects o m arguments (y ∷ rest) r.node → FallsTo rungs r.line → Stacked classes s.objects below rungs → (d : Doing) → doing_step s.objects o arguments y ≡ Some d → Does p natives s o m arguments rest below d t → Goes s (Body o m arguments rest ∷ below) t
@@ -454,9 +472,10 @@ module _ {p : Loaded} {certificate : Certificate} (valid : IsValid p certificate
       by_doing (Begin x n given) is does =
           let life = (does.is).life in
           let led = does-led sound agree.typed b y (Begin x n given) (b.steps).0 is in
-          let next = falls-to valid sound (node life.class (Method n)) r.is (led.0 does.object life (does.is).lives) in
-          (begun-held s t (length s.stack) stack x does.object n does.method given (does.method).work (r ∷ rungs) next.0 covered does.is refl (next.1 ∙ ap (λ (k : ℕ). node life.class (Method k)) (sym led.1)) next.2 stands (omega (arith, high)) well.arguments does.gives,
-           spared-as stack s.objects t.objects (begun-objects s t stack x does.object n does.method given (does.method).work does.gives))
+          let next = falls-to valid sound (node life.class (Method n)) r.is (led.0 does.object life (does.is).lives) in (
+            begun-held s t (length s.stack) stack x does.object n does.method given (does.method).work (r ∷ rungs) next.0 covered does.is refl (next.1 ∙ ap (λ (k : ℕ). node life.class (Method k)) (sym led.1)) next.2 stands (omega (arith, high)) well.arguments does.gives,
+            spared-as stack s.objects t.objects (begun-objects s t stack x does.object n does.method given (does.method).work does.gives),
+          )
       by_doing (Choose block) is does =
           let led = does-led sound agree.typed b y (Choose block) (b.steps).0 is in
           told-goes does (record { covered = covered; rungs = r ∷ rungs; stacked = (body-with b (map Run block ++ rest) (steps-append (IsStepOf (b.method).work) (map Run block) rest (left-runs (b.method).work led.0 block led.1 led.2) (b.steps).1), falls, st) }, same-spared s.objects stack)
@@ -540,9 +559,10 @@ module _ {p : Loaded} {certificate : Certificate} (valid : IsValid p certificate
   rule-at natives s t (a ∷ below) [] is covered agree waiting well st rule = absurd st
   rule-at natives s t (Body o m arguments left ∷ below) (r ∷ rungs) is covered agree waiting well st rule =
       body-goes natives s t below rungs r o m arguments left covered agree well (ap (λ (l : List Activation). length l) is) st.0 st.1 st.2 rule
-  rule-at natives s t (Emit o g arguments used last ∷ below) (r ∷ rungs) is covered agree waiting well st rule =
-      (emission-goes s t below rungs r o g arguments used last covered well (ap (λ (l : List Activation). length l) is) st.0 st.1 st.2 (next_used s.objects s.connected.connections o g used last) refl rule,
-       spared-as (Emit o g arguments used last ∷ below) s.objects t.objects (emission-objects s t o g arguments last below (next_used s.objects s.connected.connections o g used last) rule))
+  rule-at natives s t (Emit o g arguments used last ∷ below) (r ∷ rungs) is covered agree waiting well st rule = (
+    emission-goes s t below rungs r o g arguments used last covered well (ap (λ (l : List Activation). length l) is) st.0 st.1 st.2 (next_used s.objects s.connected.connections o g used last) refl rule,
+    spared-as (Emit o g arguments used last ∷ below) s.objects t.objects (emission-objects s t o g arguments last below (next_used s.objects s.connected.connections o g used last) rule),
+  )
   rule-at natives s t (Update places ∷ below) (r ∷ rungs) is covered agree waiting well st rule =
       (update-goes s t below rungs r places covered well (ap (λ (l : List Activation). length l) is) st.0 st.1 st.2 rule, spared-as (Update places ∷ below) s.objects t.objects (update-objects s t below places rule))
   rule-at natives s t (Destroy next torn ∷ below) (r ∷ rungs) is covered agree waiting well st rule =

@@ -1,7 +1,7 @@
 -- What bindings read leads to what they bind: so values change only where ranks and sets are no higher than those of the
 -- property that is written or bound, and no chain of bindings leads back.
-use Rattle.std.proofs.Common.{◌≡◌, ◌⊎◌, inl, inr, ℕ, zero, suc, ◌+◌, ◌<◌, ◌≤◌, Bool, true, false, List, [], ◌∷◌, ◌++◌, length, filter_map, Option, Some, None, slice_get, refl, sym, ap, ◌∙◌, subst, arith}
-use Rattle.std.specs.List.{AllByRecursion, AllZip, Contains}
+use Rattle.std.proofs.Common.{◌≡◌, ◌⊎◌, inl, inr, ℕ, zero, suc, ◌+◌, ◌<◌, ◌≤◌, true, false, List, [], ◌∷◌, ◌++◌, filter_map, Option, Some, None, slice_get, refl, sym, ap, ◌∙◌, subst, arith}
+use Rattle.std.specs.List.{AllZip}
 use Rattle.std.specs.Option.{option_map}
 use Rattle.std.proofs.lemmas.Option.{same_Some, none-some}
 use Rattle.std.proofs.lemmas.Bool.{false≢true}
@@ -11,13 +11,12 @@ use Rattle.texts.specs.declared.syntax.Expr.TheOpen as layer
 use Rattle.texts.specs.declared.syntax.Expr.TheViews.{roll-Expr}
 use Rattle.texts.specs.declared.syntax.Expr.TheFolds.{fold-roll-Expr, ind-Expr, map-Expr}
 use Rattle.meta_model.specs.declared.site.SourceProperty.{SourceProperty}
-use Rattle.meta_model.specs.declared.site.MetaSite.{MetaSite}
 use Rattle.meta_model.specs.Loaded.{Loaded}
 use Rattle.meta_model.specs.Sites.{paths_in, paths_step}
 use Rattle.meta_model.specs.Sound.{IsSound}
 use Rattle.prop_bindings.specs.declared.binding.Binding.{Binding}
 use Rattle.prop_bindings.specs.declared.place.Place.{Place}
-use Rattle.prop_bindings.specs.Bindings.{named_in, named_step, place_of, read_by, Reads, Settled, value_of, Chain, direct, further, Loop}
+use Rattle.prop_bindings.specs.Bindings.{named_in, named_step, place_of, Reads, Settled, Chain, direct, further, Loop}
 use Rattle.prop_bindings.specs.Places.{property_of, same_place, In}
 use Rattle.prop_bindings.proofs.Naming.{value-agree}
 use Rattle.prop_bindings.proofs.Places.{decide_place, same_place-refl}
@@ -94,8 +93,7 @@ reads-lead {p} {classes} {b} {m} sited reads =
     let place = source-place b.sources named.1 m named.3 in
     let formal = source-of p classes b.sources sited.site.formals (named.1).source place.0 sited.sources place.1 in
     let object : place.0 ≡ m.object = ap (λ (q : Place). q.object) place.2 in
-    let property : (named.1).property ≡ m.property = ap (λ (q : Place). q.property) place.2 in
-    (
+    let property : (named.1).property ≡ m.property = ap (λ (q : Place). q.property) place.2 in (
       formal.2.class,
       ap classes (sym object) ∙ formal.2.is,
       by_site (record {

@@ -1,5 +1,5 @@
 -- What changes of objects leave: their classes, their children and what stands.
-use Rattle.std.proofs.Common.{◌≡◌, ◌≢◌, ◌⊎◌, inl, inr, ⊎_elim, ℕ, zero, suc, ◌<◌, ◌≤◌, ◌||◌, eqb, cond, Bool, true, false, IsTrue, List, [], ◌∷◌, ◌++◌, map, length, Option, Some, None, slice_get, refl, sym, ap, ◌∙◌, subst, arith}
+use Rattle.std.proofs.Common.{◌≡◌, inl, inr, ℕ, zero, suc, ◌||◌, eqb, cond, Bool, true, false, IsTrue, List, [], ◌∷◌, map, length, Option, Some, None, slice_get, refl, sym, ap, ◌∙◌, subst, arith}
 use Rattle.std.specs.List.{AllByRecursion}
 use Rattle.std.specs.Option.{option_map, option_and_then}
 use Rattle.std.proofs.lemmas.Bool.{cases_eq, eq-eqb}
@@ -10,18 +10,18 @@ use Rattle.object_tree.specs.declared.life.Life.{Life}
 use Rattle.object_tree.specs.declared.object.Object.{Object}
 use Rattle.object_tree.specs.Children.{without}
 use Rattle.object_tree.specs.Family.{children_in, children_of, parent_of, leaves, left_by, dead, without_life}
-use Rattle.object_tree.specs.Objects.{class_of, life_of, name_of, change, change_life, with_life, scheduled}
+use Rattle.object_tree.specs.Objects.{class_of, life_of, change, change_life, with_life, scheduled}
 use Rattle.object_tree.proofs.Changing.{part-change, life-part, length-change, get-change_same, get-change_other}
 use Rattle.object_tree.proofs.Families.{leaves-part}
 use Rattle.prop_bindings.specs.Changes.{DifferInValues, valueless}
 use Rattle.prop_bindings.proofs.Fitting.{lives-alike}
 use Rattle.effect_scan.specs.declared.node.Node.{Node}
 use Rattle.certificate_lang.specs.declared.certificate.Certificate.{Certificate}
-use Rattle.machine_state.specs.State.{Step, State, Activation, Body, Emit, Update, Destroy}
+use Rattle.machine_state.specs.State.{Step, Activation, Body, Emit, Update, Destroy}
 use Rattle.machine_rules.specs.Good.{has_body}
 use Rattle.machine_rules.specs.Keeps.{StayThere}
 use Rattle.machine_rules.specs.There.{IsDead}
-use Rattle.machine_rules.proofs.Dying.{lives-not-dead, dead-no-life, died-dead}
+use Rattle.machine_rules.proofs.Dying.{lives-not-dead}
 use Rattle.machine_rules.proofs.Keeps.{lives-of-class, values-stay}
 use Rattle.checked_runs.specs.Invariant.{Rung, BodyStands, Stands, Stacked, AreClasses, AreOwned, IsOwned}
 
