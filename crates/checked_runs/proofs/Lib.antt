@@ -8,3 +8,4 @@ pub mod Rules
 pub mod Given
 pub mod Events
 pub mod Claims
+pub mod Lacking
