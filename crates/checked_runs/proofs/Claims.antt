@@ -1,17 +1,19 @@
 -- What every state of a run keeps, and what it excludes.
-use Rattle.std.proofs.Common.{◌≡◌, inl, inr, ℕ, suc, ◌≤◌, IsTrue, List, [], ◌∷◌, length, None, refl, subst, arith}
+use Rattle.std.proofs.Common.{◌≡◌, inl, inr, ℕ, suc, ◌≤◌, IsTrue, List, [], ◌∷◌, length, None, refl, sym, subst, arith}
 use Rattle.std.proofs.lemmas.List.Elements.{All-from_recursion}
+use Rattle.signatures.specs.declared.value.Value.{Value}
 use Rattle.script_lang.specs.declared.event.Event.{Event}
 use Rattle.meta_model.specs.Loaded.{Loaded}
 use Rattle.meta_model.specs.Sound.{IsSound}
 use Rattle.prop_bindings.specs.declared.place.Place.{Place}
 use Rattle.prop_bindings.specs.Bindings.{binding_at, without, replaced, Chain, direct, further}
 use Rattle.prop_bindings.specs.Fits.{IsFit, Agree}
+use Rattle.effect_scan.specs.declared.node.Node.{Node}
 use Rattle.effect_scan.specs.declared.node.Member.TheVariants.{Property}
 use Rattle.effect_scan.specs.Nodes.{node}
 use Rattle.certificate_lang.specs.declared.certificate.Certificate.{Certificate}
 use Rattle.rank_check.specs.Valid.{IsValid}
-use Rattle.machine_state.specs.State.{State, Activation, Body}
+use Rattle.machine_state.specs.State.{Step, Run, State, Activation, Body}
 use Rattle.machine_state.specs.Worlds.{at, untouched}
 use Rattle.machine_rules.specs.Doings.{Write}
 use Rattle.machine_rules.specs.Good.{IsWell, IsGood, Spares, has_body}
@@ -24,13 +26,30 @@ use Rattle.qt_runtime.specs.Runs.{Runs, done, rules, takes, Follows, by_rule, by
 use Rattle.qt_runtime.specs.Takes.{Takes, accepts, refuses}
 use Rattle.qt_runtime.proofs.Standing.{Invariant}
 use Rattle.qt_runtime.proofs.Preservation.{runs-invariant}
-use Rattle.checked_runs.specs.Invariant.{Rung, Stacked, IsSited, Holds}
-use Rattle.checked_runs.specs.Claims.{NeverTooDeep, NeverInUse, NeverLoops}
+use Rattle.checked_runs.specs.Invariant.{BodyStands, Rung, Stacked, IsSited, Holds}
+use Rattle.checked_runs.specs.Claims.{NeverTooDeep, NeverInUse, NeverLoops, NeverStuck}
 use Rattle.checked_runs.proofs.Ladder.{falls-to, climbs, no-deeper}
 use Rattle.checked_runs.proofs.Leading.{does-led}
 use Rattle.checked_runs.proofs.Rules.{rule-held, bound-by}
 use Rattle.checked_runs.proofs.Events.{HoldsSome, takes-held, binding-sited}
 use Rattle.checked_runs.proofs.Sites.{no-loop}
+use Rattle.checked_runs.proofs.Lacking.{body-typed, typed-does}
+use Rattle.checked_runs.proofs.Nodes.{body-named}
+use Rattle.qt_runtime.specs.Causes.{LacksValue}
+use Rattle.qt_runtime.proofs.Progress.{stuck-lacks}
+use Rattle.machine_rules.specs.Runs.{IsStuck}
+use Rattle.machine_rules.proofs.Keeps.{lives-of-class}
+use Rattle.meta_model.specs.declared.object.Work.{Work}
+use Rattle.meta_model.specs.declared.object.Statement.{Statement}
+use Rattle.meta_model.specs.declared.object.Statement.TheViews.{out-Statement}
+use Rattle.meta_model.specs.Members.{Below}
+use Rattle.meta_model.specs.Sound.{IsSoundWork}
+use Rattle.typing.specs.Typed.{IsTypedWork}
+use Rattle.object_tree.specs.declared.object.Object.{Object}
+use Rattle.object_tree.specs.Typed.{AreTyped}
+use Rattle.machine_rules.specs.Doings.{doing}
+use Rattle.checked_runs.specs.Invariant.{IsStepOf, runs}
+use Rattle.checked_runs.proofs.Leading.{occurs-sound}
 
 -- ---- the start
 
@@ -161,3 +180,25 @@ never_loops natives p certificate s steps left taken next sound valid run stops 
     let sited = binding-sited valid sound s asked.idle (kept.0).0 held.covered ((kept.1).sound).agree asked.site asked.target asked.sources b asked.may in
     let all = all-snoc (IsSited p (kept.0).0) (without b.target s.bindings) b (all-filtered (IsSited p (kept.0).0) _ s.bindings (held.covered).sited) sited in
     no-loop valid sound (kept.0).0 (binding_at (replaced s.bindings b)) (λ q z e. bound-by (IsSited p (kept.0).0) (replaced s.bindings b) all q z e) (stops.1).closes
+
+-- a body that stands has the values that its next statement needs
+body-does : {p : Loaded} {certificate : Certificate} {objects : List Object} {o m : ℕ} {arguments : List Value} {statement : Statement} {rest : List Step} {x : Node} → IsValid p certificate → IsSound p → AreTyped p objects → (b : BodyStands p objects o m arguments (Run statement ∷ rest) x) → IsStepOf (b.method).work (Run statement) → doing objects o arguments (out-Statement statement) ≡ None → ⊥
+body-does {p} {objects = objects} {o = o} {m = m} {arguments = arguments} {statement = statement} valid sound typed b (runs {body = body} slot occurs) none =
+    let kinds = (b.method).kinds in
+    let work = subst (λ (w : Work). IsSoundWork p b.class m kinds w) slot ((sound.classes b.class (b.is).class (b.is).is_class).methods m b.method (b.is).is).work in
+    let whole = body-typed b.class m work.declaring b.method valid sound b.is work.below work.declares (body-named sound b.class m b.method b.is b.bodied) in
+    let all = subst (λ (w : Work). IsTypedWork p work.declaring kinds w) slot whole in
+    let own = lives-of-class objects o b.class b.lives in
+    typed-does sound typed o work.declaring own.0 own.1 arguments kinds own.2 (subst (λ (k : ℕ). Below p k work.declaring) (sym own.3) work.below) b.typed (out-Statement statement)
+    (occurs-sound sound work.declaring kinds statement body work.sound occurs) (all statement occurs) none
+
+pub never_stuck : (natives : NativeAnswers) → NeverStuck natives
+never_stuck natives p certificate s steps left taken sound valid run stuck =
+    let kept = run-kept valid sound natives run in
+    let held = (kept.0).1 in
+    let w = stuck-lacks sound kept.1 stuck in
+    first-does w kept held.rungs (subst (λ (l : List Activation). Stacked (kept.0).0 s.objects l held.rungs) w.is_next held.stacked)
+  where
+    first-does : (w : LacksValue s) → (kept : HoldsSome valid sound s × Invariant p s) → (rungs : List (Rung p certificate)) → Stacked (kept.0).0 s.objects (Body w.object w.method w.arguments (Run w.statement ∷ w.rest) ∷ w.below) rungs → ⊥
+    first-does w kept [] st = absurd st
+    first-does w kept (r ∷ rungs) st = body-does valid sound ((kept.1).sound).agree.typed st.0 ((st.0).steps).0 w.lacks

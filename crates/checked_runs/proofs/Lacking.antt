@@ -1,5 +1,5 @@
 -- A body of a typed program never lacks a value.
-use Rattle.std.proofs.Common.{◌≡◌, ◌<◌, ℕ, Bool, true, false, List, [], ◌∷◌, length, Option, Some, None, slice_get, refl, ap, ◌∙◌, sym, subst, arith}
+use Rattle.std.proofs.Common.{◌≡◌, ◌<◌, ℕ, Bool, true, false, List, Option, Some, None, slice_get, refl, ap, ◌∙◌, sym, subst, arith}
 use Rattle.std.specs.List.{AllZip}
 use Rattle.std.specs.Option.{option_map}
 use Rattle.signatures.specs.declared.value.Value.{Value}
@@ -8,20 +8,15 @@ use Rattle.texts.specs.declared.syntax.Expr.{Expr}
 use Rattle.meta_model.specs.declared.object.MetaPath.{MetaPath}
 use Rattle.meta_model.specs.declared.object.MetaProperty.{MetaProperty}
 use Rattle.meta_model.specs.declared.object.MetaMethod.{MetaMethod}
-use Rattle.meta_model.specs.declared.object.MetaEndpoints.{MetaEndpoints}
 use Rattle.meta_model.specs.declared.object.MetaRoot.{MetaRoot}
-use Rattle.meta_model.specs.declared.object.MetaRoot.TheVariants.{This, Parameter}
 use Rattle.meta_model.specs.declared.object.Step.{Step}
 use Rattle.meta_model.specs.declared.object.Statement.{Statement}
 use Rattle.meta_model.specs.declared.object.Statement.TheOpen as layer
-use Rattle.meta_model.specs.declared.object.Statement.TheViews.{out-Statement}
 use Rattle.meta_model.specs.declared.object.ValueType.{ValueType}
 use Rattle.meta_model.specs.declared.object.ValueType.TheVariants as type
-use Rattle.meta_model.specs.declared.object.Work.{Work}
-use Rattle.meta_model.specs.declared.object.Work.TheVariants.{Slot}
 use Rattle.meta_model.specs.Loaded.{Loaded}
 use Rattle.meta_model.specs.Members.{IsMethod, IsProperty, Below, Declares, methods_in, method_count}
-use Rattle.meta_model.specs.Sound.{IsSound, HasRoot, this_has, parameter_has, Leads, here, on, LeadsTo, LeadsToClass, IsSoundExpr, AreSoundExprs, IsSoundStatement, set_sound, emit_sound, call_sound, if_sound, connect_sound, disconnect_sound, delete_sound, later_sound, IsSoundWork}
+use Rattle.meta_model.specs.Sound.{IsSound, HasRoot, this_has, parameter_has, Leads, here, on, LeadsTo, LeadsToClass, IsSoundExpr, AreSoundExprs, IsSoundStatement, set_sound, emit_sound, call_sound, if_sound, connect_sound, disconnect_sound, delete_sound, later_sound}
 use Rattle.meta_model.specs.Values.{default, Has, number_has, truth_has, text_has, null_has, object_has}
 use Rattle.object_tree.specs.declared.life.Life.{Life}
 use Rattle.object_tree.specs.declared.object.Object.{Object}
@@ -29,7 +24,7 @@ use Rattle.object_tree.specs.Objects.{Lives, class_of, stored}
 use Rattle.object_tree.specs.Seen.{seen}
 use Rattle.object_tree.specs.Typed.{AreTyped, ReadAs}
 use Rattle.object_tree.proofs.TypedObjects.{has-reads}
-use Rattle.typing.specs.Bodies.{IsGivenIn, IsTypedStatement, IsTypedBody}
+use Rattle.typing.specs.Bodies.{IsGivenIn, IsTypedStatement}
 use Rattle.typing.specs.Laws.{PathsAreTyped}
 use Rattle.typing.specs.Typed.{IsTypedWork}
 use Rattle.typing.proofs.Values.{body_has, arguments_have}
@@ -37,7 +32,7 @@ use Rattle.effect_scan.specs.declared.node.Member.TheVariants.{Method}
 use Rattle.effect_scan.specs.Nodes.{node, named}
 use Rattle.certificate_lang.specs.declared.certificate.Certificate.{Certificate}
 use Rattle.rank_check.specs.Valid.{IsValid}
-use Rattle.machine_rules.specs.Doings.{Doing, Write, Begin, on_object, on_ends, chosen_by, doing}
+use Rattle.machine_rules.specs.Doings.{Doing, Write, Begin, on_object, chosen_by, doing}
 use Rattle.machine_rules.specs.Paths.{root_value, step_value, steps_value, path_value, value_of, values_of}
 use Rattle.machine_rules.specs.There.{IsField}
 use Rattle.machine_rules.proofs.Fields.{old-there, stored-reads, read-get, read-there, method-unique}

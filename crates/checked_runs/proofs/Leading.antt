@@ -91,7 +91,7 @@ module _ {p : Loaded} (sound : IsSound p) where
       given : IsSoundStatement p me kinds (layer.If e block other) → AreSound p me kinds block × AreSound p me kinds other
       given (if_sound test one two) = (one, two)
 
-  occurs-sound : (me : ℕ) (kinds : List ValueType) (s : Statement) (body : List Statement) → AreSound p me kinds body → Occurs s body → IsSoundStatement p me kinds (out-Statement s)
+  pub occurs-sound : (me : ℕ) (kinds : List ValueType) (s : Statement) (body : List Statement) → AreSound p me kinds body → Occurs s body → IsSoundStatement p me kinds (out-Statement s)
   occurs-sound me kinds s body all first = one-of all
   occurs-sound me kinds s body all (after {rest = rest} o) = occurs-sound me kinds s rest (tail-of all) o
   occurs-sound me kinds s body all (chosen {t = t} {e = e} {block = block} {other = other} at o) = occurs-sound me kinds s block (blocks-of me kinds (out-Statement t) e block other (one-of all) at).0 o

@@ -10,6 +10,7 @@ use Rattle.machine_state.specs.declared.fault.Fault.TheVariants.{TooDeep, InUse,
 use Rattle.machine_state.specs.State.{State}
 use Rattle.machine_state.specs.Worlds.{at, untouched}
 use Rattle.machine_rules.specs.Natives.{NativeAnswers}
+use Rattle.machine_rules.specs.Runs.{IsStuck}
 use Rattle.qt_runtime.specs.Runs.{Runs, RunStops}
 
 -- In a program that loads and has a valid certificate, a run that may nest as deep as the bound, whatever events it has taken
@@ -31,3 +32,10 @@ NeverInUse natives = NeverStops InUse natives
 -- no chain of bindings closes
 abbrev pub NeverLoops : NativeAnswers → Type 0
 NeverLoops natives = NeverStops BindingLoop natives
+
+-- What goes on is never without a next rule: no expression lacks a value, no condition a truth value. What a native is to
+-- answer is not asked.
+abbrev pub NeverStuck : NativeAnswers → Type 0
+NeverStuck natives =
+    (p : Loaded) (certificate : Certificate) (s : State) (steps left : ℕ) (taken : List Event) →
+    IsSound p → IsValid p certificate → Runs p natives certificate.bound (at (untouched steps) []) steps taken s left → ¬ IsStuck p natives s

@@ -1,6 +1,6 @@
 //! What holds of every program that loads and has a valid certificate, for every list of events.
 
-ghost use Rattle.checked_runs.specs.Claims.{NeverInUse, NeverLoops, NeverTooDeep};
+ghost use Rattle.checked_runs.specs.Claims.{NeverInUse, NeverLoops, NeverStuck, NeverTooDeep};
 
 use native_slots::Answering;
 
@@ -17,4 +17,9 @@ pub fn never_in_use<N: Answering>(_natives: &N)
 /// No chain of bindings leads from a property back to itself: no run stops with `BindingLoop`.
 pub fn never_loops<N: Answering>(_natives: &N)
     ensures { NeverLoops (N.gives _natives.now) }
+{}
+
+/// What goes on is never without a next rule, but for what a native is to answer: no expression lacks a value.
+pub fn never_stuck<N: Answering>(_natives: &N)
+    ensures { NeverStuck (N.gives _natives.now) }
 {}
