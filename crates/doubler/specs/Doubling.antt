@@ -1,4 +1,4 @@
--- What the program's native may do (docs/commands.md, "Natives").
+-- What the native may do (docs/commands.md, "Natives").
 use Rattle.std.specs.Prelude.{[], ◌∷◌, codes}
 use Rattle.native_slots.specs.declared.effects.Effects.{Effects}
 use Rattle.native_slots.specs.declared.effects.PlainProperty.{PlainProperty}

@@ -1,9 +1,9 @@
-//! What the program's one native is for, and what it does.
+//! What the native is for, and what it does.
 
 ghost use Rattle.std.specs.Prelude.{◌≡◌, [], ◌∷◌, IfOk, IsTrue, codes};
 ghost use Rattle.signatures.specs.Types.{value_type};
 ghost use Rattle.native_slots.specs.Effects.{are_within};
-ghost use Rattle.gammonfig.specs.Doubling.{doubling};
+ghost use Rattle.doubler.specs.Doubling.{doubling};
 
 use native_slots::{Action, Effects, PlainProperty, PlainSignal, PlainType};
 use signatures::{Arguments, Name, QType, Sig, Value};
