@@ -16,4 +16,5 @@ pub use effect::{Effect, Reach, effect_of};
 pub use laws::edges_join_nodes;
 pub use node::{Member, Node};
 pub use numbering::Numbering;
+pub use rows::row_at;
 pub use scan::Scan;

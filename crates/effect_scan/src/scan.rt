@@ -76,6 +76,13 @@ impl Scan {
         row_at(self.rows.as_slice(), node)
     }
 
+    /// For each node, by number, the numbers of the nodes that it may lead to.
+    pub fn rows(&self) -> &[Items<usize>]
+        ensures { result.now ≡ self.now.rows }
+    {
+        self.rows.as_slice()
+    }
+
     /// All edges, by the numbers of the nodes that they lead from and to, in this order.
     pub fn edges(&self, alloc: Global) -> Result<Items<(usize, usize)>, AllocError>
         ensures { IfOk result (λ edges. edges ≡ pairs_from 0 self.now.rows) }

@@ -2,9 +2,7 @@
 //! process's.
 #![tactic(auto)]
 
-mod doubler;
-
-use crate::doubler::{class, doubled, effects, twice};
+use doubler::{class, doubled, effects, twice};
 use native_slots::{NativeSlot, Natives};
 use signatures::Value;
 use std::alloc::{AllocError, Global};

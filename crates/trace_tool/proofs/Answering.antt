@@ -8,7 +8,7 @@ use Rattle.native_slots.specs.FaultNumbers.{number_of}
 use Rattle.native_slots.specs.Fitting.{Fit}
 use Rattle.script_lang.specs.declared.event.Event.{Event}
 use Rattle.machine_rules.specs.Natives.{NativeAnswers}
-use Rattle.trace_tool.specs.Commands.{Answers, AreNotRunnable, AreRead, AreChecked, MayNotRun, CommandWrites, InputWrites, MetaWrites, CheckWrites, CheckedRunWrites, RunWrites, of_closures, not_fit, other_texts, does, read, unread, memory}
+use Rattle.trace_tool.specs.Commands.{Answers, AreNotRunnable, AreRead, AreChecked, MayNotRun, CommandWrites, InputWrites, MetaWrites, CertifyWrites, CheckWrites, CheckedRunWrites, RunWrites, of_closures, not_fit, other_texts, does, read, unread, memory}
 use Rattle.trace_tool.specs.Cut.{AreTexts}
 use Rattle.trace_tool.specs.Refusals.{memory_line, usage_line}
 use Rattle.trace_tool.specs.Words.{IsCommand}
@@ -17,9 +17,9 @@ use Rattle.trace_tool.specs.declared.refusal.Refusal.TheVariants.{Numbered}
 use Rattle.trace_tool.specs.declared.input.InputFault.{InputFault}
 use Rattle.trace_tool.specs.declared.input.InputFault.TheVariants.{Unread, Memory}
 use Rattle.trace_tool.specs.declared.words.Command.{Command}
-use Rattle.trace_tool.specs.declared.words.Command.TheVariants.{Meta, Check, Run, RunUnchecked}
+use Rattle.trace_tool.specs.declared.words.Command.TheVariants.{Meta, Certify, Check, Run, RunUnchecked}
 use Rattle.trace_tool.specs.declared.words.Options.{Options}
-use Rattle.trace_tool.specs.Sent.{SendsWith}
+use Rattle.trace_lines.specs.Sent.{SendsWith}
 
 pub answered : {Writes : List ℕ → ℕ → Type 0} {before after : Option (List ℕ)} {bytes : List ℕ} {expected status : ℕ} →
     Writes bytes expected → SendsWith before after bytes expected status → Answers Writes before after status
@@ -65,6 +65,11 @@ pub meta_done : {N : Type 0} {gives : N → NativeAnswers} {heads : List NativeH
 meta_done {N} {gives} {heads} {natives} {command} {input} {program} {bytes} {status} e few cut w =
     subst (λ k. InputWrites gives heads natives k input bytes status) (sym e) (does (program ∷ []) bytes status few cut w)
 
+pub certify_done : {N : Type 0} {gives : N → NativeAnswers} {heads : List NativeHead} {natives : N} {command : Command} {input program bytes : List ℕ} {status : ℕ} → command ≡ Certify → length input ≤ 67108864 → AreTexts input (program ∷ []) →
+    CertifyWrites program bytes status → InputWrites gives heads natives command input bytes status
+certify_done {N} {gives} {heads} {natives} {command} {input} {program} {bytes} {status} e few cut w =
+    subst (λ k. InputWrites gives heads natives k input bytes status) (sym e) (does (program ∷ []) bytes status few cut w)
+
 pub check_done : {N : Type 0} {gives : N → NativeAnswers} {heads : List NativeHead} {natives : N} {command : Command} {input program certificate bytes : List ℕ} {status : ℕ} → command ≡ Check → length input ≤ 67108864 →
     AreTexts input (program ∷ certificate ∷ []) → CheckWrites program certificate bytes status → InputWrites gives heads natives command input bytes status
 check_done {N} {gives} {heads} {natives} {command} {input} {program} {certificate} {bytes} {status} e few cut w =
@@ -102,6 +107,10 @@ three_only input h (first ∷ second ∷ third ∷ next ∷ texts) are e = omega
 pub meta_undone : {N : Type 0} {gives : N → NativeAnswers} {heads : List NativeHead} {natives : N} {command : Command} {input : List ℕ} → command ≡ Meta → length input ≤ 67108864 → ((text : List ℕ) → AreTexts input (text ∷ []) → ⊥) →
     InputWrites gives heads natives command input usage_line 1
 meta_undone {N} {gives} {heads} {natives} {command} {input} e few h = subst (λ k. InputWrites gives heads natives k input usage_line 1) (sym e) (other_texts few (one_only input h))
+
+pub certify_undone : {N : Type 0} {gives : N → NativeAnswers} {heads : List NativeHead} {natives : N} {command : Command} {input : List ℕ} → command ≡ Certify → length input ≤ 67108864 → ((text : List ℕ) → AreTexts input (text ∷ []) → ⊥) →
+    InputWrites gives heads natives command input usage_line 1
+certify_undone {N} {gives} {heads} {natives} {command} {input} e few h = subst (λ k. InputWrites gives heads natives k input usage_line 1) (sym e) (other_texts few (one_only input h))
 
 pub check_undone : {N : Type 0} {gives : N → NativeAnswers} {heads : List NativeHead} {natives : N} {command : Command} {input : List ℕ} → command ≡ Check → length input ≤ 67108864 →
     ((first second : List ℕ) → AreTexts input (first ∷ second ∷ []) → ⊥) → InputWrites gives heads natives command input usage_line 1

@@ -1,6 +1,4 @@
 pub mod Answering
 pub mod Inputs
 pub mod Marks
-pub mod Sending
-pub mod Described
 pub mod Saying

@@ -21,6 +21,8 @@ use Rattle.native_slots.specs.Fitting.{Fit}
 use Rattle.rank_check.specs.Checks.{Checks, number_of as no_number}
 use Rattle.rank_check.specs.Valid.{IsValid}
 use Rattle.rank_check.specs.declared.no.No.{No}
+use Rattle.rank_make.specs.Makes.{Makes}
+use Rattle.rank_make.specs.declared.why.Why.{Why}
 use Rattle.script_lang.specs.Reads.{ReadsScript}
 use Rattle.script_lang.specs.declared.event.Event.{Event}
 use Rattle.script_lang.specs.declared.fault.ScriptFault.{ScriptFault}
@@ -32,14 +34,16 @@ use Rattle.machine_state.specs.declared.fault.Fault.{Fault}
 use Rattle.trace_tool.specs.declared.refusal.Refusal.{Refusal}
 use Rattle.trace_tool.specs.declared.refusal.Refusal.TheVariants.{Numbered}
 use Rattle.trace_tool.specs.Cut.{AreTexts}
-use Rattle.trace_tool.specs.Lines.{trace_text}
-use Rattle.trace_tool.specs.MetaLines.{meta_text}
+use Rattle.trace_lines.specs.CertificateLines.{certificate_text}
+use Rattle.trace_lines.specs.Lines.{trace_text}
+use Rattle.trace_lines.specs.MetaLines.{meta_text}
+use Rattle.trace_tool.specs.Reasons.{reason_line, reason_status}
 use Rattle.trace_tool.specs.Refusals.{numbered, denied, of_script, memory_line, usage_line, yes_line, fault_line, refusal_line, refusal_status}
 use Rattle.trace_tool.specs.Words.{IsCommand}
 use Rattle.trace_tool.specs.declared.input.InputFault.{InputFault}
 use Rattle.trace_tool.specs.declared.input.InputFault.TheVariants.{Unread, Memory}
 use Rattle.trace_tool.specs.declared.words.Command.{Command}
-use Rattle.trace_tool.specs.declared.words.Command.TheVariants.{Meta, Check, Run, RunUnchecked}
+use Rattle.trace_tool.specs.declared.words.Command.TheVariants.{Meta, Certify, Check, Run, RunUnchecked}
 
 -- the program's text is read, and the program loads
 pub record Loads (text : List ℕ) (loaded : Loaded) : Type 0 where
@@ -127,6 +131,15 @@ pub data CheckWrites (program certificate : List ℕ) : List ℕ → ℕ → Typ
   agreed : (loaded : Loaded) (read : Certificate) → AreValid program certificate loaded read → CheckWrites program certificate yes_line 0
   memory : CheckWrites program certificate memory_line 1
 
+-- `certify`, from the program's text: the bytes that are written, and the exit status
+pub data CertifyWrites (program : List ℕ) : List ℕ → ℕ → Type 0 where
+  refused : (refusal : Refusal) → IsRefused program refusal → CertifyWrites program (refusal_line refusal) (refusal_status refusal)
+  made : (loaded : Loaded) (certificate : Certificate) → Loads program loaded → Makes loaded (Ok certificate) →
+      CertifyWrites program (certificate_text certificate) 0
+  not_made : (loaded : Loaded) (why : Why) → Loads program loaded → Makes loaded (Err why) →
+      CertifyWrites program (reason_line loaded why) (reason_status why)
+  memory : CertifyWrites program memory_line 1
+
 -- `meta`, from the program's text: the bytes that are written, and the exit status
 pub data MetaWrites (program : List ℕ) : List ℕ → ℕ → Type 0 where
   refused : (refusal : Refusal) → IsRefused program refusal → MetaWrites program (refusal_line refusal) (refusal_status refusal)
@@ -167,6 +180,7 @@ pub data CheckedRunWrites {N : Type 0} (gives : N → NativeAnswers) (heads : Li
 -- how many texts a command takes
 abbrev pub texts_of : Command → ℕ
 texts_of Meta = 1
+texts_of Certify = 1
 texts_of Check = 2
 texts_of (Run steps) = 3
 texts_of (RunUnchecked options) = 2
@@ -174,6 +188,7 @@ texts_of (RunUnchecked options) = 2
 -- what a command writes for its texts
 abbrev pub Does : {N : Type 0} → (N → NativeAnswers) → List NativeHead → N → Command → List (List ℕ) → List ℕ → ℕ → Type 0
 Does gives heads natives Meta (program ∷ []) bytes status = MetaWrites program bytes status
+Does gives heads natives Certify (program ∷ []) bytes status = CertifyWrites program bytes status
 Does gives heads natives Check (program ∷ certificate ∷ []) bytes status = CheckWrites program certificate bytes status
 Does gives heads natives (Run steps) (program ∷ certificate ∷ events ∷ []) bytes status =
     CheckedRunWrites gives heads natives program certificate events steps bytes status

@@ -4,7 +4,7 @@ use Rattle.script_lang.specs.declared.fault.ScriptFault.{ScriptFault}
 use Rattle.script_lang.specs.declared.fault.ScriptFault.TheVariants as script
 use Rattle.trace_tool.specs.declared.refusal.Refusal.{Refusal}
 use Rattle.trace_tool.specs.declared.refusal.Refusal.TheVariants.{Numbered, BadLine, Denied, Memory}
-use Rattle.trace_tool.specs.Lines.{newline}
+use Rattle.trace_lines.specs.Lines.{newline}
 
 -- the refusal of this number; want of memory has none
 abbrev pub numbered : Option ℕ → Refusal

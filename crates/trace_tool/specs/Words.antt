@@ -2,7 +2,7 @@
 use Rattle.std.specs.Prelude.{◌≡◌, ◌≢◌, ℕ, ◌-◌, ◌^◌, ◌<◌, ◌≤◌, ◌⊎◌, List, [], ◌∷◌, codes}
 use Rattle.std.specs.Str.Parse.{AllDigits, digits_value}
 use Rattle.trace_tool.specs.declared.words.Command.{Command}
-use Rattle.trace_tool.specs.declared.words.Command.TheVariants.{Meta, Check, Run, RunUnchecked}
+use Rattle.trace_tool.specs.declared.words.Command.TheVariants.{Meta, Certify, Check, Run, RunUnchecked}
 
 -- decimal digits that write a number from 1 to the largest one; leading zeros are allowed, a sign isn't
 pub record IsNumber (largest : ℕ) (word : List ℕ) (n : ℕ) : Type 0 where
@@ -39,6 +39,7 @@ pub record IsFirstNumber (largest : ℕ) (words : List (List ℕ)) (n : ℕ) (re
 -- the words are this command's
 abbrev pub IsCommand : List (List ℕ) → Command → Type 0
 IsCommand words Meta = words ≡ codes "meta" ∷ []
+IsCommand words Certify = words ≡ codes "certify" ∷ []
 IsCommand words Check = words ≡ codes "check" ∷ []
 IsCommand words (Run steps) = IsRun words steps
 IsCommand words (RunUnchecked options) = IsUncheckedRun words options.depth options.steps
@@ -50,6 +51,7 @@ AreSteps steps = (1 ≤ steps) × (steps < 2 ^ 63)
 -- a command's numbers are within their limits
 abbrev pub IsWithinLimits : Command → Type 0
 IsWithinLimits Meta = Unit {0}
+IsWithinLimits Certify = Unit {0}
 IsWithinLimits Check = Unit {0}
 IsWithinLimits (Run steps) = AreSteps steps
 IsWithinLimits (RunUnchecked options) = (1 ≤ options.depth) × (options.depth ≤ 256) × AreSteps options.steps

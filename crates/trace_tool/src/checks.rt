@@ -3,9 +3,8 @@
 ghost use Rattle.std.specs.Prelude.{IfOk, MatchResult};
 ghost use Rattle.trace_tool.specs.Commands.{AreCertified, AreUncertified, AreValid, AreInvalid, CheckWrites, Answers};
 ghost use Rattle.trace_tool.specs.Refusals.{yes_line};
-ghost use Rattle.trace_tool.specs.Sent.{SendsWith};
+ghost use Rattle.trace_lines.specs.Sent.{SendsWith};
 
-use crate::fault::WriteFault;
 use crate::refusal::Refusal;
 use crate::runs::{load_program, refuse};
 use certificate_lang::{Certificate, read_certificate};
@@ -13,6 +12,7 @@ use qt_runtime::Meta;
 use rank_check::{Checked, check as judge};
 use std::alloc::Global;
 use std::io::Write;
+use trace_lines::WriteFault;
 
 /// The exit status after a yes.
 const AGREED: u8 = 0;

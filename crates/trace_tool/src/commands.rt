@@ -1,14 +1,14 @@
 ghost use Rattle.std.specs.Prelude.{◌≡◌, map, IfOk};
 ghost use Rattle.trace_tool.specs.Commands.{Answers, AnswersCommand, CommandWrites, InputWrites, read_of};
 ghost use Rattle.trace_tool.specs.Refusals.{usage_line};
-ghost use Rattle.trace_tool.specs.Sent.{SendsWith};
+ghost use Rattle.trace_lines.specs.Sent.{SendsWith};
 ghost use Rattle.trace_tool.specs.Words.{IsCommand, IsWithinLimits};
 ghost use Rattle.trace_tool.specs.declared.words.Command.{Command as ACommand};
 
+use crate::certifying::certify;
 use crate::checks::check;
 use crate::cut::{one_text, three_texts, two_texts};
 use crate::description::meta;
-use crate::fault::WriteFault;
 use crate::input::{InputFault, LARGEST_INPUT, read_input};
 use crate::refusal::{Refusal, UNDONE};
 use crate::runs::{refuse, run, run_unchecked};
@@ -16,6 +16,7 @@ use crate::words::Command;
 use native_slots::{Answering, Natives};
 use std::alloc::Global;
 use std::io::{Read, Write};
+use trace_lines::WriteFault;
 
 /// Does what a command line's words say, on the bytes that the reader has left, and answers the exit status: reads them,
 /// no more than a byte past the largest input, and leaves the rest to [`respond`]. For words that are no command nothing
@@ -48,6 +49,7 @@ pub fn command<R: Read, W: Write>(
 /// status.
 ///
 /// - `meta` takes one text, a program, and writes its classes.
+/// - `certify` takes one text, a program, and writes its least valid certificate, or why it has none.
 /// - `check` takes two texts, a program and its certificate, and writes `yes` or the checker's no.
 /// - `run [--steps M]` takes three texts, a program, its certificate and a script, checks the program, and runs it on the
 ///   script.
@@ -99,6 +101,10 @@ fn perform<W: Write>(
     match command {
         Command::Meta => match one_text(input) {
             Some(program) => meta(alloc, program, w),
+            None => refuse_usage(w),
+        },
+        Command::Certify => match one_text(input) {
+            Some(program) => certify(alloc, program, w),
             None => refuse_usage(w),
         },
         Command::Check => match two_texts(input) {

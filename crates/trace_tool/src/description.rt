@@ -2,15 +2,14 @@
 
 ghost use Rattle.std.specs.Prelude.{IfOk};
 ghost use Rattle.trace_tool.specs.Commands.{MetaWrites, Answers};
-ghost use Rattle.trace_tool.specs.MetaLines.{meta_text};
-ghost use Rattle.trace_tool.specs.Sent.{SendsWith};
+ghost use Rattle.trace_lines.specs.MetaLines.{meta_text};
+ghost use Rattle.trace_lines.specs.Sent.{SendsWith};
 
-use crate::fault::WriteFault;
-use crate::output::Output;
 use crate::runs::{load_program, refuse};
 use meta_objects::Meta;
 use std::alloc::Global;
 use std::io::Write;
+use trace_lines::{Output, WriteFault};
 
 /// Writes the classes of a program with their members, or why it is refused.
 ///

@@ -1,5 +1,6 @@
-ghost use Rattle.std.specs.Prelude.{◌≡◌};
-ghost use Rattle.trace_tool.specs.Refusals.{numbered, refusal_status};
+ghost use Rattle.std.specs.Prelude.{◌≡◌, OnOk};
+ghost use Rattle.trace_lines.specs.Sent.{Adds};
+ghost use Rattle.trace_tool.specs.Refusals.{numbered, refusal_line, refusal_status};
 
 use certificate_lang::CertificateFault;
 use class_lang::TextFault;
@@ -7,7 +8,9 @@ use meta_objects::MetaFault;
 use native_slots::NativeFault;
 use rank_check::No;
 use script_lang::ScriptFault;
+use std::io::Write;
 use thiserror::Error;
+use trace_lines::{Output, WriteFault};
 
 /// Why a program isn't checked or run, with its certificate, its script and its natives.
 #[derive(Debug, Drop, Error)]
@@ -31,8 +34,8 @@ pub enum Refusal {
 pub const UNDONE: u8 = 1;
 /// The exit status where a text or a native is refused.
 const REFUSED: u8 = 2;
-/// The exit status where the checker says no.
-const DENIED: u8 = 3;
+/// The exit status where the checker says no, or a program has no certificate.
+pub const DENIED: u8 = 3;
 
 impl Refusal {
     /// The exit status.
@@ -44,6 +47,20 @@ impl Refusal {
             Refusal::Denied(_) => DENIED,
             Refusal::Memory => UNDONE,
         }
+    }
+
+    /// Adds its line to an output.
+    pub fn put<W: Write>(&self, output: &mut Output, w: &mut W) -> Result<(), WriteFault>
+        ensures { OnOk result (Adds (W.contents w.old) output.old (W.contents w.new) output.new
+            (refusal_line self.now)) }
+    {
+        match self {
+            Refusal::Numbered(number) => output.numbered(w, b"refused ", *number)?,
+            Refusal::BadLine(line) => output.numbered(w, b"refused 16 line ", *line)?,
+            Refusal::Denied(number) => output.numbered(w, b"no ", *number)?,
+            Refusal::Memory => output.put(w, b"memory\n")?,
+        }
+        Ok(())
     }
 
     /// The refusal of this number, where want of memory has none.

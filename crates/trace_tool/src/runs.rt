@@ -2,11 +2,9 @@ ghost use Rattle.std.specs.Prelude.{◌<◌, ◌≤◌, ◌^◌, map, IfOk, Matc
 ghost use Rattle.trace_tool.specs.Commands.{Loads, IsRefused, AreRead, AreRefused, AreChecked, AreUnchecked};
 ghost use Rattle.trace_tool.specs.Commands.{RunWrites, CheckedRunWrites, Answers, run_text, run_status};
 ghost use Rattle.trace_tool.specs.Refusals.{refusal_line, refusal_status};
-ghost use Rattle.trace_tool.specs.Sent.{SendsWith};
+ghost use Rattle.trace_lines.specs.Sent.{SendsWith};
 
 use crate::checks::load_certified;
-use crate::fault::WriteFault;
-use crate::output::Output;
 use crate::refusal::Refusal;
 use class_lang::read_program;
 use native_slots::{Answering, Natives};
@@ -15,6 +13,7 @@ use rank_check::{Checked, check as judge};
 use sqlite_items::Items;
 use std::alloc::Global;
 use std::io::Write;
+use trace_lines::{Output, WriteFault};
 
 /// The exit status after a fault.
 const FAULT: u8 = 4;
@@ -132,7 +131,7 @@ pub fn refuse<W: Write>(alloc: Global, refusal: &Refusal, w: &mut W) -> Result<u
         (refusal_line refusal.now) (refusal_status refusal.now) status) }
 {
     let mut output = Output::new(alloc);
-    output.refusal(w, refusal)?;
+    refusal.put(&mut output, w)?;
     output.finish(w)?;
     Ok(refusal.status())
 }

@@ -17,6 +17,8 @@ const DEFAULT_STEPS: u64 = 1000000;
 pub enum Command {
     /// `meta`: the classes of a program are written.
     Meta,
+    /// `certify`: a certificate is made for a program.
+    Certify,
     /// `check`: a program is checked with its certificate.
     Check,
     /// `run [--steps M]`: a program runs on a script where its certificate is valid, with this limit of rules.
@@ -34,6 +36,9 @@ impl Command {
     {
         if is_only(words, "meta") {
             return Some(Command::Meta);
+        }
+        if is_only(words, "certify") {
+            return Some(Command::Certify);
         }
         if is_only(words, "check") {
             return Some(Command::Check);

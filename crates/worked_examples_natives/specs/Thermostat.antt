@@ -1,5 +1,5 @@
 -- What a thermostat's native takes, reads, emits and sets, as its class declares it (docs/natives.md, "A native of your own").
-use Rattle.std.specs.Prelude.{List, [], ◌∷◌, codes}
+use Rattle.std.specs.Prelude.{[], ◌∷◌, codes}
 use Rattle.native_slots.specs.declared.effects.Effects.{Effects}
 use Rattle.native_slots.specs.declared.plain_type.PlainType.TheVariants as plain
 

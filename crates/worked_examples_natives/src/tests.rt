@@ -1,54 +1,98 @@
-//! A run with the thermostat's closure. The expected text is worked out by hand.
+//! Runs with the closures of a thermostat and of a doubler. The expected texts are worked out by hand.
 
-use crate::thermostat::{PROGRAM, effects, judged, measured};
+mod checked;
+mod doubling;
+mod machine;
+mod unchecked;
+
+use crate::thermostat::{effects, judged, measured};
 use native_slots::{NativeSlot, Natives};
 use signatures::{Name, Value};
 use std::alloc::{AllocError, Global};
 use std::process::Abort;
 use std::str;
 use std::test::Fail;
-use trace_tool::run_unchecked;
+use trace_tool::respond;
 
-/// It gets colder than is wanted, as warm, and warmer.
-const SCRIPT: &str =
-    "new hall Thermostat\nnew lamp Lamp\nconnect hall switched(bool) lamp show(bool) direct\nset hall.wanted 20\ncall hall.measured(17)\ncall hall.measured(20)\ncall hall.measured(21)\n";
+/// What the closure answers.
+#[derive(Clone, Copy)]
+pub enum Reply {
+    /// What a thermostat does.
+    Judged,
+    /// No action.
+    Nothing,
+    /// That it had no memory.
+    NoMemory,
+}
 
-/// What is written of it.
-const TRACE: &str =
-    "event 1\nevent 2\nevent 3\nevent 4\n1 set hall.wanted 20\nevent 5\n1 call hall.measured(17)\n1 native set room 17, set heating true, emit switched(true)\n2 set hall.room 17\n2 set hall.heating true\n2 emit hall.switched(true)\n3 call lamp.show(true)\n4 set lamp.lit true\nevent 6\n1 call hall.measured(20)\n1 native set room 20\n2 set hall.room 20\nevent 7\n1 call hall.measured(21)\n1 native set room 21, set heating false, emit switched(false)\n2 set hall.room 21\n2 set hall.heating false\n2 emit hall.switched(false)\n3 call lamp.show(false)\n4 set lamp.lit false\n";
+/// A command line with its texts, what the closure answers, and what is to be written.
+pub struct Row {
+    pub words: &'static str,
+    pub texts: &'static [&'static str],
+    pub reply: Reply,
+    pub text: &'static str,
+    pub status: u8,
+}
 
-/// Runs a script with the thermostat's closure, and compares what is written.
-fn expect_run(rt: &(impl Abort + AllocGlobal), script: &str, text: &str) -> Result<(), Fail> {
-    let alloc = rt.alloc();
+/// The texts with lines `%%` between them.
+pub fn joined(alloc: Global, texts: &[&str]) -> Result<Vec<u8>, AllocError> {
+    let mut input = Vec::new(alloc);
+    for (place, text) in texts.iter().enumerate() {
+        if place > 0 {
+            input.extend_from_slice(b"\n%%\n")?;
+        }
+        input.extend_from_slice(text.as_bytes())?;
+    }
+    Ok(input)
+}
+
+/// The words of a command line, which blanks part.
+pub fn parted(alloc: Global, line: &'static str) -> Result<Vec<&'static str>, AllocError> {
+    let mut words = Vec::new(alloc);
+    for word in line.split(' ') {
+        words.push(word)?;
+    }
+    Ok(words)
+}
+
+/// What a command line answers for an input, with the thermostat's closure: what is written goes to `found`.
+fn answered(
+    alloc: Global,
+    words: &[&str],
+    input: &[u8],
+    reply: Reply,
+    found: &mut Vec<u8>,
+) -> Result<u8, Fail> {
     let class = Name::new(alloc, b"Thermostat")?;
     let signature = measured(alloc)?;
     let effects = effects(alloc)?;
     let work = Box::new(alloc, move |arguments: &[Value], reads: &[Value]| {
-        match (arguments, reads) {
-            ([Value::Int(degrees)], [Value::Int(wanted), Value::Bool(heating)]) => {
-                judged(alloc, *degrees, *wanted, *heating)
-            }
+        match (reply, arguments, reads) {
+            (Reply::NoMemory, _, _) => Err(AllocError),
+            (Reply::Judged, [Value::Int(degrees)], [Value::Int(wanted), Value::Bool(heating)]) =>
+                judged(alloc, *degrees, *wanted, *heating),
             _ => Ok(Vec::new(alloc)),
         }
     })?;
     let mut slots = Vec::new(alloc);
     slots.push(NativeSlot::new(class, signature, effects, work))?;
-    let mut found = Vec::new(alloc);
-    let status = run_unchecked(
-        alloc,
-        PROGRAM.as_bytes(),
-        script.as_bytes(),
-        Natives::of(slots),
-        256,
-        1_000_000,
-        &mut found,
-    )?;
-    assert_eq!(rt; str::from_utf8(found.as_slice())?, text);
-    assert_eq!(rt; status, 0);
-    Ok(())
+    let status = respond(alloc, words, Ok(input), Natives::of(slots), found)?;
+    Ok(status)
 }
 
-#[test]
-fn a_thermostat_switches(rt: HostRuntime) -> Result<(), Fail> {
-    expect_run(&rt, SCRIPT, TRACE)
+/// Checks what a row's command line answers.
+fn expect_row(rt: &(impl Abort + AllocGlobal), row: &Row) -> Result<(), Fail> {
+    let words = parted(rt.alloc(), row.words)?;
+    let input = joined(rt.alloc(), row.texts)?;
+    let mut found = Vec::new(rt.alloc());
+    let ended = answered(
+        rt.alloc(),
+        words.as_slice(),
+        input.as_slice(),
+        row.reply,
+        &mut found,
+    )?;
+    assert_eq!(rt; str::from_utf8(found.as_slice())?, row.text);
+    assert_eq!(rt; ended, row.status);
+    Ok(())
 }

@@ -1,6 +1,6 @@
 use Rattle.std.proofs.Common.{◌<◌, ◌≤◌, length, arith}
 use Rattle.std.proofs.lemmas.Result.{IfOk-weaker}
-use Rattle.trace_tool.proofs.Answering.{answered, meta_done, meta_undone, check_done, check_undone, run_done, run_undone, unchecked_done, unchecked_undone}
+use Rattle.trace_tool.proofs.Answering.{answered, meta_done, meta_undone, certify_done, certify_undone, check_done, check_undone, run_done, run_undone, unchecked_done, unchecked_undone}
 use Rattle.trace_tool.specs.Commands.{large}
 use Rattle.trace_tool.proofs.commands.perform.Goals as goal
 
@@ -22,6 +22,20 @@ returns-in-Meta g c =
     IfOk-weaker c.refuse_usage-in-None.result _ _
     (λ status s. answered (meta_undone c.in-Meta.is few (rw c.in-None.is at c.one_text.ensures.cut)) s)
     c.refuse_usage-in-None.ensures
+
+pub returns-in-Some-one_text : goal.returns-in-Some-one_text
+returns-in-Some-one_text g c =
+    let few : length c.args.input.now ≤ 67108864 = omega (arith, c.if-input-gt-LARGEST_INPUT.false) in
+    IfOk-weaker c.certify.result _ _
+    (λ status a. record { bytes = a.bytes; appended = a.appended; meaning = certify_done c.in-Certify.is few c.in-Some-one_text.ensures.cut a.meaning })
+    c.certify.ensures
+
+pub returns-in-Certify : goal.returns-in-Certify
+returns-in-Certify g c =
+    let few : length c.args.input.now ≤ 67108864 = omega (arith, c.if-input-gt-LARGEST_INPUT.false) in
+    IfOk-weaker c.refuse_usage-in-None-one_text.result _ _
+    (λ status s. answered (certify_undone c.in-Certify.is few (rw c.in-None-one_text.is at c.one_text-in-Certify.ensures.cut)) s)
+    c.refuse_usage-in-None-one_text.ensures
 
 pub returns-in-Some-two_texts : goal.returns-in-Some-two_texts
 returns-in-Some-two_texts g c =

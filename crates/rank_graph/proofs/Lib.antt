@@ -1,0 +1,6 @@
+pub mod Searching
+pub mod Driving
+pub mod Turning
+pub mod Ranking
+pub mod Grouping
+pub mod Walking

@@ -1,0 +1,409 @@
+-- The steps of a search in depth.
+use Rattle.std.proofs.Common.{◌≡◌, ◌≢◌, ℕ, zero, suc, ◌+◌, ◌-◌, ◌≤◌, ◌<◌, max, true, ◌||◌, ◌⊎◌, inl, inr, List, [], ◌∷◌, ◌++◌, length, take, reverse, set, get_or, slice_get, Some, refl, sym, ap, ◌∙◌, subst, arith}
+use Rattle.std.specs.List.{Contains}
+use Rattle.std.proofs.lemmas.Bool.{cases_eq, cases_lt, or_cases, or_left, or_right}
+use Rattle.std.proofs.lemmas.List.{get_or-set_same, get_or-set_other, take_more, take_all, length-set, reverse-append}
+use Rattle.std.proofs.lemmas.List.Elements.{Contains-push, Contains-push_cases, Contains-append_left, Contains-get_or}
+use Rattle.rank_graph.specs.Bits.{has}
+use Rattle.effect_scan.specs.Rows.{row, Edge}
+use Rattle.rank_graph.specs.Graphs.{InRange, Leads, IsCycle}
+use Rattle.rank_graph.specs.Entries.{owns}
+use Rattle.rank_graph.specs.Searching.{state_of, Joins, room, Finished, NoneOpen, OnPath, Visiting, Held, Searching, Grows, Visited, Since, left, left_below, Climbs}
+use Rattle.rank_graph.specs.declared.bits.Bits.{Bits}
+use Rattle.rank_graph.specs.declared.path.Entry.{Entry}
+use Rattle.rank_graph.specs.declared.path.State.{State}
+use Rattle.rank_graph.specs.declared.path.State.TheVariants.{New, Open, Done}
+use Rattle.rank_graph.specs.declared.path.Visit.{Visit}
+
+-- ---- the state of a node after a write
+pub state-set_same : (states : List State) (a : ℕ) (s : State) → a < length states → state_of (set states a s) a ≡ s
+unfolding state_of
+state-set_same states a s h = get_or-set_same states a s New h
+
+pub state-set_other : (states : List State) (a b : ℕ) (s : State) → b ≢ a → state_of (set states a s) b ≡ state_of states b
+unfolding state_of
+state-set_other states a b s h = get_or-set_other states a b s New h
+
+pub grows_set : (states : List State) (a : ℕ) (s : State) → ((d : Entry) → state_of states a ≡ Done d → ⊥) → Grows states (set states a s)
+grows_set states a s h = λ b d is.
+    elim (cases_eq b a) [
+      | inl e ↦ absurd (h d (subst (λ (x : ℕ). state_of states x ≡ Done d) e is))
+      | inr ne ↦ state-set_other states a b s ne ∙ is
+    ]
+
+pub room-set_open : (states : List State) (a : ℕ) → a < length states → state_of states a ≡ New → room (set states a Open) ≡ room states
+unfolding state_of
+room-set_open [] a h e = absurd (omega arith)
+room-set_open (New ∷ ss) zero h e = refl
+room-set_open (Open ∷ ss) zero h e = cc
+room-set_open (Done d ∷ ss) zero h e = cc
+room-set_open (New ∷ ss) (suc a) h e = ap suc (room-set_open ss a (omega arith) e)
+room-set_open (Open ∷ ss) (suc a) h e = ap suc (room-set_open ss a (omega arith) e)
+room-set_open (Done d ∷ ss) (suc a) h e = room-set_open ss a (omega arith) e
+
+pub room-set_done : (states : List State) (a : ℕ) (x : Entry) → a < length states → state_of states a ≡ Open → suc (room (set states a (Done x))) ≡ room states
+unfolding state_of
+room-set_done [] a x h e = absurd (omega arith)
+room-set_done (New ∷ ss) zero x h e = cc
+room-set_done (Open ∷ ss) zero x h e = refl
+room-set_done (Done d ∷ ss) zero x h e = cc
+room-set_done (New ∷ ss) (suc a) x h e = ap suc (room-set_done ss a x (omega arith) e)
+room-set_done (Open ∷ ss) (suc a) x h e = ap suc (room-set_done ss a x (omega arith) e)
+room-set_done (Done d ∷ ss) (suc a) x h e = room-set_done ss a x (omega arith) e
+
+pub room_le : (states : List State) → room states ≤ length states
+room_le [] = omega arith
+room_le (New ∷ ss) = let h = room_le ss in omega arith
+room_le (Open ∷ ss) = let h = room_le ss in omega arith
+room_le (Done d ∷ ss) = let h = room_le ss in omega arith
+
+pub left-set_open : (rows : List (List ℕ)) (states : List State) (a : ℕ) → length states ≡ length rows → a < length rows → state_of states a ≡ New → left rows (set states a Open) + (length (row rows a) + 2) ≡ left rows states
+unfolding state_of row
+left-set_open [] states a l h e = absurd (omega arith)
+left-set_open (r ∷ rs) [] a l h e = absurd (omega arith)
+left-set_open (r ∷ rs) (New ∷ ss) zero l h e = omega arith
+left-set_open (r ∷ rs) (Open ∷ ss) zero l h e = cc
+left-set_open (r ∷ rs) (Done d ∷ ss) zero l h e = cc
+left-set_open (r ∷ rs) (New ∷ ss) (suc a) l h e = let i = left-set_open rs ss a (omega arith) (omega arith) e in omega arith
+left-set_open (r ∷ rs) (Open ∷ ss) (suc a) l h e = left-set_open rs ss a (omega arith) (omega arith) e
+left-set_open (r ∷ rs) (Done d ∷ ss) (suc a) l h e = left-set_open rs ss a (omega arith) (omega arith) e
+
+pub left-set_done : (rows : List (List ℕ)) (states : List State) (a : ℕ) (x : Entry) → state_of states a ≡ Open → left rows (set states a (Done x)) ≡ left rows states
+unfolding state_of
+left-set_done rows [] a x e = refl
+left-set_done [] (s ∷ ss) zero x e = refl
+left-set_done [] (s ∷ ss) (suc a) x e = refl
+left-set_done (r ∷ rs) (New ∷ ss) zero x e = cc
+left-set_done (r ∷ rs) (Open ∷ ss) zero x e = refl
+left-set_done (r ∷ rs) (Done d ∷ ss) zero x e = cc
+left-set_done (r ∷ rs) (New ∷ ss) (suc a) x e = ap (λ n. length r + 2 + n) (left-set_done rs ss a x e)
+left-set_done (r ∷ rs) (Open ∷ ss) (suc a) x e = left-set_done rs ss a x e
+left-set_done (r ∷ rs) (Done d ∷ ss) (suc a) x e = left-set_done rs ss a x e
+
+-- ---- what is known of a node stays when others are done
+pub joins_grow : (own : List Bits) (states after : List State) (a : ℕ) (seen : List ℕ) (e : Entry) → Grows states after → Joins own states a seen e → Joins own after a seen e
+joins_grow own states after a seen e grows j = record {
+  falls = λ b h. let x = j.falls b h in (x.0, grows b x.0 x.1, x.2, x.3);
+  tight = elim j.tight [ inl z ↦ inl z | inr x ↦ inr (x.0, x.1, x.2, grows x.0 x.1 x.3, x.4) ];
+  itself = j.itself;
+  source = λ c h. elim (j.source c h) [ inl z ↦ inl z | inr x ↦ inr (x.0, x.1, x.2, grows x.0 x.1 x.3, x.4) ];
+}
+
+-- one more edge
+pub joins_more : (own : List Bits) (states : List State) (a : ℕ) (seen : List ℕ) (e d f : Entry) (t : ℕ) → state_of states t ≡ Done d → f.rank ≡ max e.rank (d.rank + 1) → ((c : ℕ) → has f.classes c ≡ (has e.classes c || has d.classes c)) → Joins own states a seen e → Joins own states a (seen ++ t ∷ []) f
+joins_more own states a seen e d f t is rank both j = record {
+  falls = λ b h.
+      elim (Contains-push_cases seen t b h) [
+        | inl old ↦ let x = j.falls b old in (x.0, x.1, omega (arith, x.2), λ c has_it. both c ∙ or_left (has e.classes c) (has d.classes c) (x.3 c has_it))
+        | inr same ↦ (d, subst (λ (y : ℕ). state_of states y ≡ Done d) same is, omega arith, λ c has_it. both c ∙ or_right (has e.classes c) (has d.classes c) has_it)
+      ];
+  tight = elim (cases_lt e.rank (d.rank + 1)) [
+    | inl l ↦ inr (t, d, Contains-push seen t, is, omega arith)
+    | inr m ↦ elim j.tight [ inl z ↦ absurd (omega arith) | inr x ↦ inr (x.0, x.1, Contains-append_left seen (t ∷ []) x.0 x.2, x.3, omega (arith, x.4)) ]
+  ];
+  itself = λ c h. both c ∙ or_left (has e.classes c) (has d.classes c) (j.itself c h);
+  source = λ c h.
+      elim (or_cases (has e.classes c) (has d.classes c) (sym (both c) ∙ h)) [
+        | inl old ↦ elim (j.source c old) [ inl z ↦ inl z | inr x ↦ inr (x.0, x.1, Contains-append_left seen (t ∷ []) x.0 x.2, x.3, x.4) ]
+        | inr new ↦ inr (t, d, Contains-push seen t, is, new)
+      ];
+}
+
+-- no edge yet
+pub joins_none : (own : List Bits) (states : List State) (a : ℕ) (s : Bits) → slice_get own a ≡ Some s → Joins own states a [] (record { rank = 0; classes = s })
+unfolding owns
+joins_none own states a s is = record {
+  falls = λ b h. absurd (omega (arith, h.1));
+  tight = inl refl;
+  itself = λ c h. let same : h.0 ≡ s = cc (h.1, is) in subst (λ (x : Bits). has x c ≡ true) same h.2;
+  source = λ c h. inl (s, is, h);
+}
+
+pub visiting_grows : (rows : List (List ℕ)) (own : List Bits) (states after : List State) (v : Visit) → Grows states after → room after ≤ room states → state_of after v.node ≡ Open → Visiting rows own states v → Visiting rows own after v
+visiting_grows rows own states after v grows less opened x = record {
+  joins = joins_grow own states after v.node (take v.next (row rows v.node)) v.entry grows x.joins;
+  ranked = omega (arith, x.ranked);
+  placed = x.placed;
+  opened = opened;
+  inside = x.inside;
+}
+
+pub held_grows : (rows : List (List ℕ)) (own : List Bits) (states after : List State) (child : ℕ) (path : List Visit) → Grows states after → room after ≤ room states → ((a : ℕ) → OnPath a path → state_of states a ≡ Open → state_of after a ≡ Open) → Held rows own states child path → Held rows own after child path
+held_grows rows own states after child [] grows less still h = tt
+held_grows rows own states after child (v ∷ vs) grows less still h = (
+  record {
+    visiting = visiting_grows rows own states after v grows less (still v.node (inl refl) h.0.visiting.opened) h.0.visiting;
+    more = h.0.more;
+    leads = h.0.leads;
+    once = h.0.once;
+  },
+  held_grows rows own states after v.node vs grows less (λ a on. still a (inr on)) h.1,
+)
+
+pub held_open : (rows : List (List ℕ)) (own : List Bits) (states : List State) (child : ℕ) (path : List Visit) (a : ℕ) → Held rows own states child path → OnPath a path → state_of states a ≡ Open
+held_open rows own states child [] a h on = absurd on
+held_open rows own states child (v ∷ vs) a h on =
+    elim on [
+      | inl same ↦ subst (λ (x : ℕ). state_of states x ≡ Open) (sym same) h.0.visiting.opened
+      | inr below ↦ held_open rows own states v.node vs a h.1 below
+    ]
+
+pub finished_open : (rows : List (List ℕ)) (own : List Bits) (states : List State) (a : ℕ) → a < length states → state_of states a ≡ New → Finished rows own states → Finished rows own (set states a Open)
+finished_open rows own states a inside fresh f =
+    let grows : Grows states (set states a Open) = grows_set states a Open (λ d is. let no : New ≡ Done d = sym fresh ∙ is in cc) in
+    let same : room (set states a Open) ≡ room states = room-set_open states a inside fresh in
+    let old : (b : ℕ) (e : Entry) → state_of (set states a Open) b ≡ Done e → state_of states b ≡ Done e = λ b e is.
+    elim (cases_eq b a) [
+      | inl x ↦ let no : Open ≡ Done e = sym (state-set_same states a Open inside) ∙ subst (λ (y : ℕ). state_of (set states a Open) y ≡ Done e) x is in cc
+      | inr ne ↦ sym (state-set_other states a b Open ne) ∙ is
+    ] in
+    record {
+      joins = λ b e is. joins_grow own states (set states a Open) b (row rows b) e grows (f.joins b e (old b e is));
+      ranked = λ b e is. omega (arith, f.ranked b e (old b e is));
+    }
+
+pub finished_done : (rows : List (List ℕ)) (own : List Bits) (states : List State) (a : ℕ) (e : Entry) → a < length states → state_of states a ≡ Open → Joins own states a (row rows a) e → e.rank + room states ≤ length rows → Finished rows own states → Finished rows own (set states a (Done e))
+finished_done rows own states a e inside opened j ranked f =
+    let grows : Grows states (set states a (Done e)) = grows_set states a (Done e) (λ d is. let no : Open ≡ Done d = sym opened ∙ is in cc) in
+    let less : suc (room (set states a (Done e))) ≡ room states = room-set_done states a e inside opened in
+    let old : (b : ℕ) (x : Entry) → b ≢ a → state_of (set states a (Done e)) b ≡ Done x → state_of states b ≡ Done x = λ b x ne is.
+    sym (state-set_other states a b (Done e) ne) ∙ is in
+    let here : (b : ℕ) (x : Entry) → b ≡ a → state_of (set states a (Done e)) b ≡ Done x → e ≡ x = λ b x same is.
+    let both : Done e ≡ Done x = sym (state-set_same states a (Done e) inside) ∙ subst (λ (y : ℕ). state_of (set states a (Done e)) y ≡ Done x) same is in cc in
+    record {
+      joins = λ b x is.
+          elim (cases_eq b a) [
+            | inl same ↦ subst (λ (y : ℕ). Joins own (set states a (Done e)) y (row rows y) x) (sym same) (subst (λ (y : Entry). Joins own (set states a (Done e)) a (row rows a) y) (here b x same is) (joins_grow own states (set states a (Done e)) a (row rows a) e grows j))
+            | inr ne ↦ joins_grow own states (set states a (Done e)) b (row rows b) x grows (f.joins b x (old b x ne is))
+          ];
+      ranked = λ b x is.
+          elim (cases_eq b a) [
+            | inl same ↦ let r : e.rank ≡ x.rank = ap (λ (y : Entry). y.rank) (here b x same is) in omega arith
+            | inr ne ↦ omega (arith, f.ranked b x (old b x ne is))
+          ];
+    }
+
+-- ---- the steps
+pub step_over : (rows : List (List ℕ)) (own : List Bits) (states : List State) (path : List Visit) (at : Visit) (d f : Entry) (t : ℕ) → Searching rows own states path at → at.next < length (row rows at.node) → get_or (row rows at.node) at.next 0 ≡ t → state_of states t ≡ Done d → f.rank ≡ max at.entry.rank (d.rank + 1) → ((c : ℕ) → has f.classes c ≡ (has at.entry.classes c || has d.classes c)) → Searching rows own states path (record { node = at.node; next = at.next + 1; entry = f })
+step_over rows own states path at d f t s more reads is rank both =
+    let e : take (at.next + 1) (row rows at.node) ≡ take at.next (row rows at.node) ++ t ∷ [] = subst (λ (x : ℕ). take (at.next + 1) (row rows at.node) ≡ take at.next (row rows at.node) ++ x ∷ []) reads (take_more (row rows at.node) at.next 0 more) in
+    record {
+      finished = s.finished;
+      visiting = record {
+        joins = subst (λ (seen : List ℕ). Joins own states at.node seen f) (sym e) (joins_more own states at.node (take at.next (row rows at.node)) at.entry d f t is rank both s.visiting.joins);
+        ranked = omega (arith, s.visiting.ranked, s.finished.ranked t d is);
+        placed = omega arith;
+        opened = s.visiting.opened;
+        inside = s.visiting.inside;
+      };
+      held = s.held;
+      once = s.once;
+      only = s.only;
+    }
+
+pub step_into : (rows : List (List ℕ)) (own : List Bits) (states : List State) (path : List Visit) (at : Visit) (t : ℕ) (x : Bits) → Searching rows own states path at → length states ≡ length rows → at.next < length (row rows at.node) → get_or (row rows at.node) at.next 0 ≡ t → t < length rows → state_of states t ≡ New → slice_get own t ≡ Some x → Searching rows own (set states t Open) (at ∷ path) (record { node = t; next = 0; entry = record { rank = 0; classes = x } })
+step_into rows own states path at t x s len more reads inside fresh is_own =
+    let within : t < length states = omega arith in
+    let after : List State = set states t Open in
+    let grows : Grows states after = grows_set states t Open (λ d is. let no : New ≡ Done d = sym fresh ∙ is in cc) in
+    let same : room after ≡ room states = room-set_open states t within fresh in
+    let still : (a : ℕ) → state_of states a ≡ Open → state_of after a ≡ Open = λ a is.
+    elim (cases_eq a t) [
+      | inl e ↦ subst (λ (y : ℕ). state_of after y ≡ Open) (sym e) (state-set_same states t Open within)
+      | inr ne ↦ state-set_other states t a Open ne ∙ is
+    ] in
+    record {
+      finished = finished_open rows own states t within fresh s.finished;
+      visiting = record {
+        joins = joins_none own after t x is_own;
+        ranked = omega (arith, s.visiting.ranked);
+        placed = omega arith;
+        opened = state-set_same states t Open within;
+        inside = inside;
+      };
+      held = (
+        record {
+          visiting = visiting_grows rows own states after at grows (omega arith) (still at.node s.visiting.opened) s.visiting;
+          more = more;
+          leads = reads;
+          once = s.once;
+        },
+        held_grows rows own states after at.node path grows (omega arith) (λ a on. still a) s.held,
+      );
+      once = λ on. elim on [
+        | inl e ↦ let no : New ≡ Open = sym fresh ∙ subst (λ (y : ℕ). state_of states y ≡ Open) (sym e) s.visiting.opened in cc
+        | inr below ↦ let no : New ≡ Open = sym fresh ∙ held_open rows own states at.node path t s.held below in cc
+      ];
+      only = λ a is. elim (cases_eq a t) [
+        | inl e ↦ inl e
+        | inr ne ↦ inr (s.only a (sym (state-set_other states t a Open ne) ∙ is))
+      ];
+    }
+
+pub done_here : (rows : List (List ℕ)) (own : List Bits) (states : List State) (path : List Visit) (at : Visit) → Searching rows own states path at → length states ≡ length rows → length (row rows at.node) ≤ at.next → Finished rows own (set states at.node (Done at.entry))
+done_here rows own states path at s len all =
+    let within : at.node < length states = omega (arith, s.visiting.inside) in
+    finished_done rows own states at.node at.entry within s.visiting.opened (subst (λ (seen : List ℕ). Joins own states at.node seen at.entry) (take_all at.next (row rows at.node) all) s.visiting.joins) s.visiting.ranked s.finished
+
+pub grows_here : (rows : List (List ℕ)) (own : List Bits) (states : List State) (path : List Visit) (at : Visit) → Searching rows own states path at → Grows states (set states at.node (Done at.entry))
+grows_here rows own states path at s = grows_set states at.node (Done at.entry) (λ d is. let no : Open ≡ Done d = sym s.visiting.opened ∙ is in cc)
+
+pub only_here : (rows : List (List ℕ)) (own : List Bits) (states : List State) (path : List Visit) (at : Visit) → Searching rows own states path at → length states ≡ length rows → (a : ℕ) → state_of (set states at.node (Done at.entry)) a ≡ Open → OnPath a path
+only_here rows own states path at s len a is =
+    let within : at.node < length states = omega (arith, s.visiting.inside) in
+    elim (cases_eq a at.node) [
+      | inl e ↦ let no : Done at.entry ≡ Open = sym (state-set_same states at.node (Done at.entry) within) ∙ subst (λ (y : ℕ). state_of (set states at.node (Done at.entry)) y ≡ Open) e is in cc
+      | inr ne ↦ elim (s.only a (sym (state-set_other states at.node a (Done at.entry) ne) ∙ is)) [ inl e ↦ absurd (ne e) | inr on ↦ on ]
+    ]
+
+pub step_out : (rows : List (List ℕ)) (own : List Bits) (states : List State) (v : Visit) (path : List Visit) (at : Visit) → Searching rows own states (v ∷ path) at → length states ≡ length rows → length (row rows at.node) ≤ at.next → Searching rows own (set states at.node (Done at.entry)) path v
+step_out rows own states v path at s len all =
+    let within : at.node < length states = omega (arith, s.visiting.inside) in
+    let after : List State = set states at.node (Done at.entry) in
+    let grows : Grows states after = grows_here rows own states (v ∷ path) at s in
+    let less : suc (room after) ≡ room states = room-set_done states at.node at.entry within s.visiting.opened in
+    let still : (a : ℕ) → OnPath a (v ∷ path) → state_of states a ≡ Open → state_of after a ≡ Open = λ a on is.
+    elim (cases_eq a at.node) [
+      | inl e ↦ absurd (s.once (subst (λ (y : ℕ). OnPath y (v ∷ path)) e on))
+      | inr ne ↦ state-set_other states at.node a (Done at.entry) ne ∙ is
+    ] in
+    record {
+      finished = done_here rows own states (v ∷ path) at s len all;
+      visiting = visiting_grows rows own states after v grows (omega arith) (still v.node (inl refl) s.held.0.visiting.opened) s.held.0.visiting;
+      held = held_grows rows own states after v.node path grows (omega arith) (λ a on. still a (inr on)) s.held.1;
+      once = s.held.0.once;
+      only = only_here rows own states (v ∷ path) at s len;
+    }
+
+-- ---- what the loop of a search asks
+pub target_inside : (rows : List (List ℕ)) (a i : ℕ) (r : List ℕ) → r ≡ row rows a → InRange rows → i < length r → get_or r i 0 < length rows
+target_inside rows a i r e inside h = inside a (get_or r i 0) (subst (λ (x : List ℕ). Contains x (get_or r i 0)) e (Contains-get_or r i 0 h))
+
+pub since_set : (before states : List State) (root t : ℕ) (x : State) → t < length states → (x ≡ New → ⊥) → ((d : Entry) → state_of states t ≡ Done d → ⊥) → Since before root states → Since before root (set states t x)
+since_set before states root t x within begun not_done s = record {
+  grows = λ a d is. grows_set states t x not_done a d (s.grows a d is);
+  begun = λ is.
+      elim (cases_eq root t) [
+        | inl e ↦ begun (sym (state-set_same states t x within) ∙ subst (λ (y : ℕ). state_of (set states t x) y ≡ New) e is)
+        | inr ne ↦ s.begun (sym (state-set_other states t root x ne) ∙ is)
+      ];
+  len = length-set states t x ∙ s.len;
+}
+
+pub not_done_new : (states : List State) (t : ℕ) → state_of states t ≡ New → (d : Entry) → state_of states t ≡ Done d → ⊥
+not_done_new states t fresh d is = let no : New ≡ Done d = sym fresh ∙ is in cc
+
+pub not_done_open : (states : List State) (t : ℕ) → state_of states t ≡ Open → (d : Entry) → state_of states t ≡ Done d → ⊥
+not_done_open states t opened d is = let no : Open ≡ Done d = sym opened ∙ is in cc
+
+pub begins : (rows : List (List ℕ)) (own : List Bits) (states : List State) (root : ℕ) (path : List Visit) (x : Bits) → path ≡ [] → length states ≡ length rows → root < length rows → state_of states root ≡ New → Finished rows own states → NoneOpen states → slice_get own root ≡ Some x
+    → Searching rows own (set states root Open) path (record { node = root; next = 0; entry = record { rank = 0; classes = x } }) × Since states root (set states root Open)
+begins rows own states root path x none len inside fresh f closed is_own =
+    let within : root < length states = omega arith in
+    let less : room (set states root Open) ≡ room states = room-set_open states root within fresh in (
+      record {
+        finished = finished_open rows own states root within fresh f;
+        visiting = record {
+          joins = joins_none own (set states root Open) root x is_own;
+          ranked = omega (arith, room_le states);
+          placed = omega arith;
+          opened = state-set_same states root Open within;
+          inside = inside;
+        };
+        held = subst (λ (p : List Visit). Held rows own (set states root Open) root p) (sym none) tt;
+        once = λ on. subst (λ (p : List Visit). OnPath root p) none on;
+        only = λ a is. elim (cases_eq a root) [
+          | inl e ↦ inl e
+          | inr ne ↦ absurd (closed a (sym (state-set_other states root a Open ne) ∙ is))
+        ];
+      },
+      record {
+        grows = grows_set states root Open (not_done_new states root fresh);
+        begun = λ is. let no : Open ≡ New = sym (state-set_same states root Open within) ∙ is in cc;
+        len = length-set states root Open;
+      },
+    )
+
+pub over_step : (rows : List (List ℕ)) (own : List Bits) (before states : List State) (root : ℕ) (path : List Visit) (at : Visit) (r : List ℕ) (d f : Entry) → Searching rows own states path at × Since before root states → r ≡ row rows at.node → at.next < length r → state_of states (get_or r at.next 0) ≡ Done d → f.rank ≡ max at.entry.rank (d.rank + 1) → ((c : ℕ) → has f.classes c ≡ (has at.entry.classes c || has d.classes c))
+    → Searching rows own states path (record { node = at.node; next = at.next + 1; entry = f }) × Since before root states
+over_step rows own before states root path at r d f s e more is rank both =
+    (step_over rows own states path at d f (get_or r at.next 0) s.0 (subst (λ (x : List ℕ). at.next < length x) e more) (subst (λ (x : List ℕ). get_or x at.next 0 ≡ get_or r at.next 0) e refl) is rank both, s.1)
+
+pub into_step : (rows : List (List ℕ)) (own : List Bits) (before states : List State) (root : ℕ) (path after : List Visit) (at : Visit) (r : List ℕ) (x : Bits) → Searching rows own states path at × Since before root states → length before ≡ length rows → InRange rows → r ≡ row rows at.node → at.next < length r → state_of states (get_or r at.next 0) ≡ New → slice_get own (get_or r at.next 0) ≡ Some x → after ≡ at ∷ path
+    → Searching rows own (set states (get_or r at.next 0) Open) after (record { node = get_or r at.next 0; next = 0; entry = record { rank = 0; classes = x } }) × Since before root (set states (get_or r at.next 0) Open)
+into_step rows own before states root path after at r x s len range e more fresh is_own pushed =
+    let inside : get_or r at.next 0 < length rows = target_inside rows at.node at.next r e range more in
+    let same : length states ≡ length rows = s.1.len ∙ len in (
+      subst (λ (p : List Visit). Searching rows own (set states (get_or r at.next 0) Open) p (record { node = get_or r at.next 0; next = 0; entry = record { rank = 0; classes = x } })) (sym pushed)
+          (step_into rows own states path at (get_or r at.next 0) x s.0 same (subst (λ (y : List ℕ). at.next < length y) e more) (subst (λ (y : List ℕ). get_or y at.next 0 ≡ get_or r at.next 0) e refl) inside fresh is_own),
+      since_set before states root (get_or r at.next 0) Open (omega arith) (λ is. let no : Open ≡ New = is in cc) (not_done_new states (get_or r at.next 0) fresh) s.1,
+    )
+
+pub out_step : (rows : List (List ℕ)) (own : List Bits) (before states : List State) (root : ℕ) (path after : List Visit) (at v : Visit) (r : List ℕ) → Searching rows own states path at × Since before root states → length before ≡ length rows → r ≡ row rows at.node → length r ≤ at.next → path ≡ v ∷ after
+    → Searching rows own (set states at.node (Done at.entry)) after v × Since before root (set states at.node (Done at.entry))
+out_step rows own before states root path after at v r s len e all popped =
+    let same : length states ≡ length rows = s.1.len ∙ len in
+    let here : Searching rows own states (v ∷ after) at = subst (λ (p : List Visit). Searching rows own states p at) popped s.0 in (
+      step_out rows own states v after at here same (subst (λ (y : List ℕ). length y ≤ at.next) e all),
+      since_set before states root at.node (Done at.entry) (omega (arith, s.0.visiting.inside)) (λ is. let no : Done at.entry ≡ New = is in cc) (not_done_open states at.node s.0.visiting.opened) s.1,
+    )
+
+pub done_from : (states : List State) (a : ℕ) (s : State) → state_of states a ≡ s → (s ≡ New → ⊥) → (s ≡ Open → ⊥) → (d : Entry) × (state_of states a ≡ Done d)
+done_from states a New is begun none = absurd (begun refl)
+done_from states a Open is begun none = absurd (none refl)
+done_from states a (Done d) is begun none = (d, is)
+
+pub ends : (rows : List (List ℕ)) (own : List Bits) (before states : List State) (root : ℕ) (path : List Visit) (at : Visit) (r : List ℕ) → Searching rows own states path at × Since before root states → length before ≡ length rows → r ≡ row rows at.node → length r ≤ at.next → path ≡ [] → Visited rows own before root (set states at.node (Done at.entry))
+ends rows own before states root path at r s len e all none =
+    let same : length states ≡ length rows = s.1.len ∙ len in
+    let after : List State = set states at.node (Done at.entry) in
+    let since : Since before root after = since_set before states root at.node (Done at.entry) (omega (arith, s.0.visiting.inside)) (λ is. let no : Done at.entry ≡ New = is in cc) (not_done_open states at.node s.0.visiting.opened) s.1 in
+    let closed : NoneOpen after = λ a is. subst (λ (p : List Visit). OnPath a p) none (only_here rows own states path at s.0 same a is) in
+    record {
+      finished = done_here rows own states path at s.0 same (subst (λ (y : List ℕ). length y ≤ at.next) e all);
+      closed = closed;
+      grows = since.grows;
+      done = done_from after root (state_of after root) refl since.begun (closed root);
+      len = since.len;
+    }
+
+pub into_smaller : (rows : List (List ℕ)) (own : List Bits) (before states : List State) (root : ℕ) (path after : List Visit) (at : Visit) (r : List ℕ) → Searching rows own states path at × Since before root states → length before ≡ length rows → InRange rows → r ≡ row rows at.node → at.next < length r → state_of states (get_or r at.next 0) ≡ New → after ≡ at ∷ path
+    → left rows (set states (get_or r at.next 0) Open) + left_below rows after + (length (row rows (get_or r at.next 0)) - 0) < left rows states + left_below rows path + (length (row rows at.node) - at.next)
+into_smaller rows own before states root path after at r s len range e more fresh pushed =
+    let inside : get_or r at.next 0 < length rows = target_inside rows at.node at.next r e range more in
+    let less = left-set_open rows states (get_or r at.next 0) (s.1.len ∙ len) inside fresh in
+    let long : at.next < length (row rows at.node) = subst (λ (x : List ℕ). at.next < length x) e more in
+    let below : left_below rows after ≡ (length (row rows at.node) - at.next) + 1 + left_below rows path = ap (left_below rows) pushed in
+    omega arith
+
+pub out_smaller : (rows : List (List ℕ)) (own : List Bits) (before states : List State) (root : ℕ) (path after : List Visit) (at v : Visit) → Searching rows own states path at × Since before root states → path ≡ v ∷ after
+    → left rows (set states at.node (Done at.entry)) + left_below rows after + (length (row rows v.node) - v.next) < left rows states + left_below rows path + (length (row rows at.node) - at.next)
+out_smaller rows own before states root path after at v s popped =
+    let same = left-set_done rows states at.node at.entry s.0.visiting.opened in
+    let below : left_below rows path ≡ (length (row rows v.node) - v.next) + 1 + left_below rows after = ap (left_below rows) popped in
+    omega arith
+
+-- ---- the path is a walk
+pub held_climbs : (rows : List (List ℕ)) (own : List Bits) (states : List State) (child : ℕ) (path : List Visit) → Held rows own states child path → Climbs rows child path
+held_climbs rows own states child [] h = tt
+held_climbs rows own states child (v ∷ vs) h =
+    (subst (λ (x : ℕ). Contains (row rows v.node) x) h.0.leads (Contains-get_or (row rows v.node) v.next 0 h.0.more), held_climbs rows own states v.node vs h.1)
+
+pub leads_push : (rows : List (List ℕ)) (a : ℕ) (ws : List ℕ) (b c : ℕ) → Leads rows a ws b → Edge rows b c → Leads rows a (ws ++ c ∷ []) c
+leads_push rows a [] b c l e = (subst (λ (x : ℕ). Edge rows x c) (sym l) e, refl)
+leads_push rows a (w ∷ ws) b c l e = (l.0, leads_push rows w ws b c l.1 e)
+
+pub climb_on : (target current : ℕ) (path after : List Visit) (v : Visit) → (target ≡ current) ⊎ OnPath target path → current ≢ target → path ≡ v ∷ after → (target ≡ v.node) ⊎ OnPath target after
+climb_on target current path after v on ne popped =
+    elim on [ inl e ↦ absurd (ne (sym e)) | inr below ↦ subst (λ (p : List Visit). OnPath target p) popped below ]
+
+pub climb_step : (rows : List (List ℕ)) (current top : ℕ) (path after : List Visit) (v : Visit) (nodes more : List ℕ) → path ≡ v ∷ after → more ≡ nodes ++ v.node ∷ [] → Climbs rows current path × ((ws : List ℕ) × (reverse nodes ≡ current ∷ ws) × Leads rows current ws top)
+    → Climbs rows v.node after × ((ws : List ℕ) × (reverse more ≡ v.node ∷ ws) × Leads rows v.node ws top)
+climb_step rows current top path after v nodes more popped pushed x =
+    let climbs : Climbs rows current (v ∷ after) = subst (λ (p : List Visit). Climbs rows current p) popped x.0 in
+    (climbs.1, (current ∷ x.1.0, ap reverse pushed ∙ reverse-append nodes (v.node ∷ []) ∙ ap (λ (l : List ℕ). v.node ∷ l) x.1.1, (climbs.0, x.1.2)))
+
+pub climbed : (rows : List (List ℕ)) (target current top : ℕ) (nodes all : List ℕ) → current ≡ target → all ≡ reverse nodes → Edge rows top target → (ws : List ℕ) × (reverse nodes ≡ current ∷ ws) × Leads rows current ws top → IsCycle rows all
+climbed rows target current top nodes all same turned edge x =
+    let first : all ≡ current ∷ x.0 = turned ∙ x.1 in
+    subst (λ (l : List ℕ). IsCycle rows l) (sym first) (leads_push rows current x.0 top current x.2 (subst (λ (y : ℕ). Edge rows top y) (sym same) edge))

@@ -1,0 +1,80 @@
+-- Walks along edges.
+use Rattle.std.proofs.Common.{◌≡◌, ℕ, suc, ◌-◌, ◌≤◌, ◌<◌, eqb, Bool, true, false, List, [], ◌∷◌, ◌++◌, get_or, slice_get, unwrap_or, Option, None, Some, sym, ap, ◌∙◌, subst, arith}
+use Rattle.std.specs.List.{Contains, list_any}
+use Rattle.std.proofs.lemmas.Bool.{eqb-true, eq-eqb, false≢true}
+use Rattle.std.proofs.lemmas.List.Folds.{list_any_at, Any-from_list_any}
+use Rattle.std.proofs.lemmas.Option.{get_or_from_slice_get, unwrap_or-slice_get}
+use Rattle.effect_scan.specs.Rows.{row, Edge}
+use Rattle.rank_graph.specs.declared.path.Entry.{Entry}
+use Rattle.rank_graph.specs.declared.solution.Solution.{Solution}
+use Rattle.rank_graph.specs.Graphs.{Chain, Leads}
+use Rattle.rank_graph.specs.Solutions.{AreRanks, AreClasses, entries_of}
+use Rattle.rank_graph.proofs.Searching.{leads_push}
+
+-- ---- what a solution tells of a node
+pub entry_found : (s : Solution) (g a : ℕ) (gs : List (List Entry)) (es seen : List Entry) (o : Option Entry) → gs ≡ s.groups → Some es ≡ slice_get gs g → seen ≡ es → o ≡ slice_get seen a → o ≡ slice_get (entries_of s g) a
+unfolding entries_of
+entry_found s g a gs es seen o whole is same found =
+    let there : slice_get s.groups g ≡ Some es = sym (is ∙ ap (λ (l : List (List Entry)). slice_get l g) whole) in
+    found ∙ ap (λ (l : List Entry). slice_get l a) (same ∙ sym (get_or_from_slice_get s.groups g es [] there))
+
+pub entry_none : (s : Solution) (g a : ℕ) (gs : List (List Entry)) (o : Option Entry) → o ≡ None → gs ≡ s.groups → None ≡ slice_get gs g → o ≡ slice_get (entries_of s g) a
+unfolding entries_of
+entry_none s g a gs o e whole is =
+    let there : slice_get s.groups g ≡ None = sym (is ∙ ap (λ (l : List (List Entry)). slice_get l g) whole) in
+    let none : get_or s.groups g [] ≡ [] = sym (unwrap_or-slice_get s.groups g []) ∙ ap (λ (x : Option (List Entry)). unwrap_or x []) there in
+    e ∙ sym (ap (λ (l : List Entry). slice_get l a) none)
+
+-- ---- a row
+pub edge_of : (rows : List (List ℕ)) (a b : ℕ) (r : List ℕ) → r ≡ row rows a → Contains r b → Edge rows a b
+edge_of rows a b r e h = subst (λ (x : List ℕ). Contains x b) e h
+
+pub row_has : (rows : List (List ℕ)) (a b : ℕ) (r : List ℕ) → r ≡ row rows a → Edge rows a b → Contains r b
+row_has rows a b r e h = subst (λ (x : List ℕ). Contains x b) (sym e) h
+
+pub any_has : (q : ℕ) (xs : List ℕ) → Contains xs q → list_any (λ y. eqb y q) xs ≡ true
+any_has q xs h = list_any_at (λ (y : ℕ). eqb y q) xs h.0 q h.1 (eq-eqb (get_or xs h.0 q) q h.2)
+
+pub has_any : (q : ℕ) (xs : List ℕ) → list_any (λ y. eqb y q) xs ≡ true → Contains xs q
+has_any q xs h = let a = Any-from_list_any (λ (y : ℕ). eqb y q) xs h in subst (λ (y : ℕ). Contains xs y) (eqb-true a.1 q a.4) (a.0, a.2, a.3)
+
+-- ---- walks
+abbrev pub Walked : List (List ℕ) → ℕ → ℕ → List ℕ → Type 0
+Walked rows from at nodes = (after : List ℕ) × (nodes ≡ from ∷ after) × Leads rows from after at
+
+-- one more node of a walk
+pub walk_step : (rows : List (List ℕ)) (from at b : ℕ) (r nodes more : List ℕ) → r ≡ row rows at → Contains r b → more ≡ nodes ++ b ∷ [] → Walked rows from at nodes → Walked rows from b more
+walk_step rows from at b r nodes more e has pushed w =
+    (w.0 ++ b ∷ [], pushed ∙ ap (λ (l : List ℕ). l ++ b ∷ []) w.1, leads_push rows from w.0 at b w.2 (edge_of rows at b r e has))
+
+-- ranks fall along edges
+pub rank_falls : (rows : List (List ℕ)) (rank : ℕ → ℕ) (a b : ℕ) (r : List ℕ) → AreRanks rows rank → r ≡ row rows a → Contains r b → rank b < rank a
+rank_falls rows rank a b r ranks e has = let h : suc (rank b) ≤ rank a = ranks.longest a (suc (rank b)) (b, edge_of rows a b r e has, ranks.chains b) in omega arith
+
+-- from a node without the class some edge leads on
+pub leads_on : (rows own : List (List ℕ)) (leads : ℕ → ℕ → Bool) (a c : ℕ) → AreClasses rows own leads → (along : List ℕ) (to : ℕ) → Leads rows a along to → Edge own to c → (Edge own a c → ⊥) → ((b : ℕ) → Edge rows a b → leads b c ≡ false) → ⊥
+leads_on rows own leads a c classes [] to l has lacks none = lacks (subst (λ (x : ℕ). Edge own x c) (sym l) has)
+leads_on rows own leads a c classes (x ∷ along) to l has lacks none =
+    let further : leads x c ≡ true = (classes x c).1 (record { along = along; to = to; leads = l.1; has = has }) in
+    false≢true (sym (none x l.0) ∙ further)
+
+pub not_at_end : (rows own : List (List ℕ)) (leads : ℕ → ℕ → Bool) (a c : ℕ) (r mine : List ℕ) → AreClasses rows own leads → leads a c ≡ true → mine ≡ row own a → false ≡ list_any (λ y. eqb y c) mine → r ≡ row rows a → ((b : ℕ) → Contains r b → leads b c ≡ false) → ⊥
+not_at_end rows own leads a c r mine classes holds here lacks e none =
+    let to = (classes a c).0 holds in
+    leads_on rows own leads a c classes to.along to.to to.leads to.has
+    (λ has. false≢true (lacks ∙ any_has c mine (row_has own a c mine here has)))
+    (λ b edge. none b (row_has rows a b r e edge))
+
+-- ---- chains
+-- from a node of rank above 0 some edge leads to one of the rank below
+pub next_there : (rows : List (List ℕ)) (rank : ℕ → ℕ) (a n : ℕ) (r : List ℕ) → AreRanks rows rank → rank a ≡ suc n → r ≡ row rows a → ((b : ℕ) → Contains r b → rank b ≡ n → ⊥) → ⊥
+next_there rows rank a n r ranks is e none =
+    let chain = subst (λ (m : ℕ). Chain rows a m) is (ranks.chains a) in
+    let held = row_has rows a chain.0 r e chain.1 in
+    let high : n ≤ rank chain.0 = ranks.longest chain.0 n chain.2 in
+    let low = rank_falls rows rank a chain.0 r ranks e held in
+    none chain.0 held (omega arith)
+
+pub no_next : (rows : List (List ℕ)) (rank : ℕ → ℕ) (a m : ℕ) (r : List ℕ) → AreRanks rows rank → m ≡ rank a → 0 < rank a → r ≡ row rows a → ((b : ℕ) → Contains r b → rank b ≡ m - 1 → ⊥) → ⊥
+no_next rows rank a m r ranks is some e none =
+    next_there rows rank a (rank a - 1) r ranks (omega arith) e (λ b has same. none b has (omega arith))

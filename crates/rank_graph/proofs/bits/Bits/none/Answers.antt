@@ -1,0 +1,8 @@
+use Rattle.std.proofs.Common.{ap, eqb, ℕ}
+use Rattle.std.proofs.lemmas.Nat.Bits.{bit_at-zero}
+use Rattle.rank_graph.specs.Bits.{has}
+use Rattle.rank_graph.proofs.bits.Bits.none.Goals as goal
+
+pub returns : goal.returns
+unfolding has
+returns c = λ n. ap (λ (x : ℕ). eqb x 1) (bit_at-zero n)

@@ -1,0 +1,20 @@
+use Rattle.std.proofs.Common.{length, arith, sym, ◌∙◌, ap, subst}
+use Rattle.std.proofs.lemmas.List.{length_push, length-reverse}
+use Rattle.rank_graph.specs.Graphs.{IsToldCycle}
+use Rattle.rank_graph.proofs.Searching.{climb_on, climb_step, climbed}
+use Rattle.rank_graph.proofs.cycle.back_to.Goals as goal
+
+pub loop-current-preserved : goal.loop-current-preserved
+loop-current-preserved c = (
+  climb_on _ _ _ _ _ c.loop-current.invariant.0 c.loop-current-test.true c.in-Some.ensures,
+  λ rows climbs. climb_step rows _ _ _ _ _ _ _ c.in-Some.ensures c.in_ok-push-in-Some.ensures.items (c.loop-current.invariant.1 rows climbs),
+  omega (arith, ap length c.in_ok-push-in-Some.ensures.items ∙ length_push _ _),
+)
+
+pub from_least-requires : goal.from_least-requires
+from_least-requires c = omega (arith, ap length c.as_slice.ensures.value ∙ ap length c.reverse.ensures.items ∙ length-reverse c.loop-current.nodes.items, c.loop-current.invariant.2)
+
+pub returns : goal.returns
+returns c = λ rows climbs edge.
+    let cycle = climbed rows _ _ _ c.loop-current.nodes.items _ c.loop-current-test.false (c.as_slice.ensures.value ∙ c.reverse.ensures.items) edge (c.loop-current.invariant.1 rows climbs).1 in
+    subst (IsToldCycle rows) (sym c.from_vec.ensures) (c.in_ok-turned.ensures.cycle rows cycle, c.in_ok-turned.ensures.least)

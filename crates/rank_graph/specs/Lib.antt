@@ -1,0 +1,7 @@
+pub mod Graphs
+pub mod Bits
+pub mod Entries
+pub mod Searching
+pub mod Faults
+pub mod Groups
+pub mod Solutions

@@ -1,0 +1,49 @@
+//! Sets of numbers below 64.
+
+ghost use Rattle.std.specs.Prelude.{◌≡◌, ℕ, ◌<◌, ◌||◌, ◌==◌, false};
+ghost use Rattle.rank_graph.specs.Bits.{has};
+
+/// How many numbers there are.
+pub const SIZE: usize = 64;
+
+/// A set of numbers below 64, a bit for each of them.
+#[derive(Clone, Copy)]
+pub struct Bits {
+    bits: u64,
+}
+
+impl Bits {
+    /// No numbers.
+    pub fn none() -> Bits
+        ensures { (c : ℕ) → has result c ≡ false }
+    {
+        Bits { bits: 0 }
+    }
+
+    /// Whether the set has the number.
+    pub fn contains(self, number: u32) -> bool
+        requires { number < 64 }
+        ensures { result ≡ has self number }
+    {
+        (self.bits >> number) & 1 == 1
+    }
+
+    /// The set with the number too.
+    pub fn with(self, number: u32) -> Bits
+        requires { number < 64 }
+        ensures { (c : ℕ) → has result c ≡ (has self c || c == number) }
+    {
+        Bits {
+            bits: self.bits | (1 << number),
+        }
+    }
+
+    /// The numbers of both sets.
+    pub fn union(self, other: Bits) -> Bits
+        ensures { (c : ℕ) → has result c ≡ (has self c || has other c) }
+    {
+        Bits {
+            bits: self.bits | other.bits,
+        }
+    }
+}

@@ -1,0 +1,69 @@
+//! The cycle that a search meets.
+
+ghost use Rattle.std.specs.Prelude.{◌≡◌, ℕ, ◌<◌, ◌≤◌, ◌⊎◌, List, length, slice_index, IfOk};
+ghost use Rattle.effect_scan.specs.Rows.{Edge};
+ghost use Rattle.rank_graph.specs.Graphs.{IsCycle, IsToldCycle, BeginsLeast};
+ghost use Rattle.rank_graph.specs.Searching.{OnPath, Climbs};
+
+use crate::path::Path;
+use sqlite_items::Items;
+use std::alloc::{AllocError, Global};
+
+/// The nodes of the path from the target up to the top, from whose last one an edge leads to the target: told from the least
+/// of them on.
+pub fn back_to(
+    alloc: Global,
+    mut path: Path,
+    top: usize,
+    target: usize,
+) -> Result<Items<usize>, AllocError>
+    requires { (target ≡ top) ⊎ OnPath target path }
+    ensures { IfOk result (λ nodes. (rows : List (List ℕ)) →
+        Climbs rows top path → Edge rows top target → IsToldCycle rows nodes) }
+{
+    let mut nodes = Vec::new(alloc);
+    nodes.push(top)?;
+    let mut current = top;
+    while current != target {
+        match path.pop() {
+            Some(visit) => {
+                current = visit.node;
+                nodes.push(current)?;
+            }
+            None => unreachable!(),
+        }
+    }
+    nodes.reverse();
+    let turned = from_least(alloc, nodes.as_slice())?;
+    Ok(Items::from_vec(turned))
+}
+
+/// The same cycle from its least node on.
+fn from_least(alloc: Global, nodes: &[usize]) -> Result<Vec<usize>, AllocError>
+    requires { 0 < length nodes.now }
+    ensures cycle { IfOk result (λ turned. (rows : List (List ℕ)) →
+        IsCycle rows nodes.now → IsCycle rows turned.items) }
+    ensures least { IfOk result (λ turned. BeginsLeast turned.items) }
+{
+    let place = least_place(nodes);
+    let mut turned = Vec::new(alloc);
+    turned.extend_from_slice(&nodes[place..])?;
+    turned.extend_from_slice(&nodes[..place])?;
+    Ok(turned)
+}
+
+/// The place of the least number.
+fn least_place(nodes: &[usize]) -> usize
+    requires { 0 < length nodes.now }
+    ensures inside { result < length nodes.now }
+    ensures least { (k : ℕ) → k < length nodes.now →
+        slice_index nodes.now result ≤ slice_index nodes.now k }
+{
+    let mut place = 0;
+    for k in 0..nodes.len() {
+        if nodes[k] < nodes[place] {
+            place = k;
+        }
+    }
+    place
+}

@@ -1,0 +1,80 @@
+//! The nodes that a search has entered and not left, the last one on top.
+
+ghost use Rattle.std.specs.Prelude.{◌≡◌, [], ◌∷◌, OnOk, MatchOption};
+
+use crate::bits::Bits;
+use std::alloc::{AllocError, Global};
+use std::marker::Model;
+
+/// A node's rank, and the classes of a group that it leads to.
+#[derive(Clone, Copy)]
+pub struct Entry {
+    /// How many edges the longest chain from the node has.
+    pub rank: usize,
+    /// The classes, by their places in the group.
+    pub classes: Bits,
+}
+
+/// How far a search has come with a node.
+#[derive(Clone, Copy)]
+pub enum State {
+    /// It wasn't entered.
+    New,
+    /// It was entered, and some of its edges weren't followed.
+    Open,
+    /// All its edges were followed.
+    Done(Entry),
+}
+
+/// A node some of whose edges were followed.
+#[derive(Clone, Copy)]
+pub struct Visit {
+    /// The node, by its number.
+    pub node: usize,
+    /// How many of its edges were followed.
+    pub next: usize,
+    /// What these edges give.
+    pub entry: Entry,
+}
+
+/// The nodes that a search has entered and not left, but for the last one.
+#[derive(Drop)]
+pub struct Path {
+    visits: Vec<Visit>,
+}
+
+impl Model for Path {
+    ghost use Rattle.std.specs.Prelude.{List, reverse};
+    ghost use Rattle.rank_graph.specs.declared.path.Visit.{Visit};
+
+    ghost Value = { List Visit };
+
+    ghost view = { λ p. reverse p.visits.items };
+}
+
+impl Path {
+    /// No node.
+    pub fn new(alloc: Global) -> Path
+        ensures { result ≡ [] }
+    {
+        Path {
+            visits: Vec::new(alloc),
+        }
+    }
+
+    /// Puts the node on top.
+    pub fn push(&mut self, visit: Visit) -> Result<(), AllocError>
+        ensures { OnOk result (self.new ≡ visit ∷ self.old) }
+    {
+        self.visits.push(visit)?;
+        Ok(())
+    }
+
+    /// Takes the node on top off, if there is one.
+    pub fn pop(&mut self) -> Option<Visit>
+        ensures { MatchOption result ((self.old ≡ []) × (self.new ≡ [])) (λ visit.
+            self.old ≡ visit ∷ self.new) }
+    {
+        self.visits.pop()
+    }
+}

@@ -1,0 +1,54 @@
+//! What is known of a graph without cycles.
+
+ghost use Rattle.std.specs.Prelude.{◌≡◌, slice_get};
+ghost use Rattle.std.specs.Option.{option_copied};
+ghost use Rattle.rank_graph.specs.Solutions.{entries_of, rank_of, leads_of};
+
+use crate::bits::SIZE;
+use crate::path::Entry;
+use sqlite_items::{Items, at};
+
+/// The ranks of nodes, and the classes that they lead to.
+#[derive(Drop)]
+pub struct Solution {
+    groups: Items<Items<Entry>>,
+}
+
+impl Solution {
+    /// Made of what was found for each group of 64 classes.
+    pub(crate) fn of(groups: Items<Items<Entry>>) -> Solution
+        ensures { result.groups ≡ groups }
+    {
+        Solution { groups }
+    }
+
+    /// The rank of the node: how many edges the longest chain from it has.
+    pub fn rank(&self, node: usize) -> usize
+        ensures { result ≡ rank_of self.now node }
+    {
+        match self.entry(0, node) {
+            Some(entry) => entry.rank,
+            None => 0,
+        }
+    }
+
+    /// Whether the class is one that the node has itself, or that its edges lead to.
+    pub fn leads_to(&self, node: usize, class: usize) -> bool
+        ensures { result ≡ leads_of self.now node class }
+    {
+        match self.entry(class / SIZE, node) {
+            Some(entry) => entry.classes.contains((class % SIZE) as u32),
+            None => false,
+        }
+    }
+
+    /// What was found of the node for this group of classes.
+    fn entry(&self, group: usize, node: usize) -> Option<&Entry>
+        ensures { option_copied result ≡ slice_get (entries_of self.now group) node }
+    {
+        match at(self.groups.as_slice(), group) {
+            Some(entries) => at(entries.as_slice(), node),
+            None => None,
+        }
+    }
+}

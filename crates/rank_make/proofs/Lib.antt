@@ -1,0 +1,6 @@
+pub mod Placed
+pub mod Barred
+pub mod Numbers
+pub mod Lined
+pub mod Steps
+pub mod Told

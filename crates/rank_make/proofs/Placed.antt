@@ -1,0 +1,134 @@
+-- A node has one place, and a name is that of one node.
+use Rattle.std.proofs.Common.{◌≡◌, inl, inr, ℕ, zero, suc, ◌+◌, ◌<◌, List, [], ◌∷◌, length, map, take, slice_get, Option, Some, None, refl, sym, ap, ◌∙◌, subst, arith}
+use Rattle.std.specs.Option.{option_map}
+use Rattle.std.proofs.lemmas.List.{length-append}
+use Rattle.std.proofs.lemmas.Option.{slice_get-map, slice_get_within, same_Some, none-some}
+use Rattle.signatures.specs.declared.sig.Sig.{Sig}
+use Rattle.meta_model.specs.declared.object.MetaMethod.{MetaMethod}
+use Rattle.meta_model.specs.declared.object.MetaObject.{MetaObject}
+use Rattle.meta_model.specs.Loaded.{Loaded}
+use Rattle.meta_model.specs.Members.{IsClass, HasSig, IsMethodNamed}
+use Rattle.meta_model.specs.Root.{root_methods}
+use Rattle.meta_model.specs.Sound.{IsSound, IsSoundClass}
+use Rattle.meta_model.proofs.OneAnswer.{one_class, one_named, one_property}
+use Rattle.effect_scan.specs.declared.node.Node.{Node}
+use Rattle.effect_scan.specs.declared.node.Member.{Member}
+use Rattle.effect_scan.specs.declared.node.Member.TheVariants as member
+use Rattle.effect_scan.specs.declared.numbering.Shape.{Shape}
+use Rattle.effect_scan.specs.Nodes.{node, shape_of, nodes_from, nodes_of, IsAt}
+use Rattle.effect_scan.specs.Numbering.{IsPlaceIn}
+use Rattle.effect_scan.specs.Laws.{IsNode}
+use Rattle.effect_scan.specs.Destroying.{Closure, itself, child}
+use Rattle.effect_scan.proofs.Numbered.{stands_among, stands_only, one_place}
+use Rattle.effect_scan.proofs.Relating.{below_first}
+use Rattle.effect_scan.proofs.Whole.{made}
+use Rattle.certificate_lang.specs.declared.certificate.NodeName.{NodeName}
+use Rattle.certificate_lang.specs.declared.certificate.MemberName.{MemberName}
+use Rattle.certificate_lang.specs.declared.certificate.MemberName.TheVariants.{Method, Property, Destruction}
+use Rattle.rank_check.specs.Names.{IsMemberNamed, IsNodeNamed}
+use Rattle.rank_make.specs.Solved.{HasMember}
+
+module _ (p : Loaded) where
+  -- where a node stands: in its class, at the place of its member
+  record Place (x : Node) (n : ℕ) : Type 0 where
+    shape : Shape
+    is : slice_get (map shape_of p.classes) x.class ≡ Some shape
+    place : ℕ
+    at : n ≡ length (nodes_from 0 (take x.class (map shape_of p.classes))) + place
+    placed : IsPlaceIn shape x.member place
+
+  place_in : (x : Node) (n : ℕ) → IsAt (nodes_of p) x n → Place x n
+  place_in x n at =
+      let among = stands_among 0 (map shape_of p.classes) n x at in
+      let only = stands_only (0 + among.number) among.shape among.place x among.stands in
+      let number : among.number ≡ x.class = omega (arith, only.0) in
+      record {
+        shape = among.shape;
+        is = subst (λ (k : ℕ). slice_get (map shape_of p.classes) k ≡ Some among.shape) number among.is;
+        place = among.place;
+        at = subst (λ (k : ℕ). n ≡ length (nodes_from 0 (take k (map shape_of p.classes))) + among.place) number among.at;
+        placed = only.1;
+      }
+
+  -- a node stands once
+  pub one_number : (x : Node) (n m : ℕ) → IsAt (nodes_of p) x n → IsAt (nodes_of p) x m → n ≡ m
+  one_number x n m h g =
+      let a = place_in x n h in
+      let b = place_in x m g in
+      let shape : b.shape ≡ a.shape = same_Some b.shape a.shape (sym b.is ∙ a.is) in
+      let place : a.place ≡ b.place = one_place a.shape x.member a.place b.place a.placed (subst (λ (s : Shape). IsPlaceIn s x.member b.place) shape b.placed) in
+      let first = a.at in
+      let second = b.at in
+      omega arith
+
+  pub one_at : (x y : Node) (n : ℕ) → IsAt (nodes_of p) x n → IsAt (nodes_of p) y n → x ≡ y
+  one_at x y n h g = same_Some x y (sym h ∙ g)
+
+  -- the class of a node, and its shape
+  class_at : (o : Option MetaObject) (shape : Shape) → option_map shape_of o ≡ Some shape → (class : MetaObject) × (o ≡ Some class) × (shape_of class ≡ shape)
+  class_at None shape e = absurd (none-some shape e)
+  class_at (Some class) shape e = (class, refl, same_Some (shape_of class) shape e)
+
+  pub class_of : (x : Node) → IsNode p x → (class : MetaObject) × IsClass p x.class class
+  class_of x is =
+      let h = place_in x is.0 is.1 in
+      let c = class_at (slice_get p.classes x.class) h.shape (sym (slice_get-map shape_of p.classes x.class) ∙ h.is) in
+      (c.0, record { is = c.1 })
+
+  -- a class has `destroyed(QObject*)` at least
+  some_method : (c : ℕ) (class : MetaObject) → IsSoundClass p c class → 0 < length class.methods
+  some_method c class sound =
+      let begins = sound.begins in
+      let count = ap (λ (ms : List MetaMethod). length ms) begins.methods in
+      let sum = length-append root_methods begins.own_methods in
+      omega arith
+
+  element : {X : Type 0} (xs : List X) (k : ℕ) → k < length xs → (x : X) × (slice_get xs k ≡ Some x)
+  element [] k h = absurd (omega arith)
+  element (x ∷ xs) zero h = (x, refl)
+  element (x ∷ xs) (suc k) h = element xs k (omega arith)
+
+  member_of : (class : MetaObject) (m : Member) (k : ℕ) → 0 < length class.methods → IsPlaceIn (shape_of class) m k → HasMember class m
+  member_of class (member.Method m) k some (inl first) = element class.methods m (omega (arith, first.0))
+  member_of class (member.Method m) k some (inr later) = element class.methods m (omega (arith, later.1))
+  member_of class (member.Property q) k some h = element class.properties q (omega (arith, h.0))
+  member_of class member.Destruction k some h = tt
+
+  pub has_member : (x : Node) → IsNode p x → (class : MetaObject) → IsClass p x.class class → IsSoundClass p x.class class → HasMember class x.member
+  has_member x is class is_class sound =
+      let h = place_in x is.0 is.1 in
+      let c = class_at (slice_get p.classes x.class) h.shape (sym (slice_get-map shape_of p.classes x.class) ∙ h.is) in
+      let same : c.0 ≡ class = same_Some c.0 class (sym c.1 ∙ is_class.is) in
+      let shape : h.shape ≡ shape_of class = sym c.2 ∙ ap shape_of same in
+      member_of class x.member h.place (some_method x.class class sound) (subst (λ (s : Shape). IsPlaceIn s x.member h.place) shape h.placed)
+
+  module _ (sound : IsSound p) where
+    -- ---- names
+    named_by_sig : (c : ℕ) (sig : Sig) (m : ℕ) → HasSig p c sig m → IsMethodNamed p c sig.name (length sig.types) m
+    named_by_sig c sig m h = record {
+      method = h.method;
+      is = h.is;
+      named = ap (λ (s : Sig). s.name) h.signed;
+      counted = ap (λ (s : Sig). length s.types) h.signed;
+    }
+
+    one_member : (c : ℕ) (name : MemberName) (m k : Member) → IsMemberNamed p c name m → IsMemberNamed p c name k → m ≡ k
+    one_member c (Method sig) m k h g =
+        let number : g.0 ≡ h.0 = one_named p sound c sig.name (length sig.types) h.0 g.0 (named_by_sig c sig h.0 h.1) (named_by_sig c sig g.0 g.1) in
+        h.2 ∙ ap (λ (n : ℕ). member.Method n) (sym number) ∙ sym g.2
+    one_member c (Property name) m k h g =
+        let number : g.0 ≡ h.0 = one_property p sound c name h.0 g.0 h.1 g.1 in
+        h.2 ∙ ap (λ (n : ℕ). member.Property n) (sym number) ∙ sym g.2
+    one_member c Destruction m k h g = h ∙ sym g
+
+    pub one_name : (name : NodeName) (x y : Node) → IsNodeNamed p name x → IsNodeNamed p name y → x ≡ y
+    one_name name x y h g =
+        let class : y.class ≡ x.class = one_class p sound name.class x.class y.class h.class g.class in
+        let here = subst (λ (c : ℕ). IsMemberNamed p c name.member y.member) class g.member in
+        let member : x.member ≡ y.member = one_member x.class name.member x.member y.member h.member here in
+        sym (made x x.class x.member refl refl) ∙ ap (λ (m : Member). node x.class m) member ∙ made y x.class y.member class refl
+
+  -- a closure is of classes
+  pub closure_low : (c d : ℕ) → Closure p c d → d < length p.classes
+  closure_low c d (itself is) = slice_get_within p.classes c _ is.is
+  closure_low c d (child closure owns) = below_first p d owns.owns.child owns.by.child

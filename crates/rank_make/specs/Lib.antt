@@ -1,0 +1,4 @@
+pub mod Walks
+pub mod Least
+pub mod Makes
+pub mod Solved

@@ -1,0 +1,13 @@
+//! Making the least valid certificate of a program, or telling why none is valid.
+#![tactic(auto)]
+
+mod bounds;
+mod making;
+mod naming;
+mod reasons;
+mod rows;
+mod why;
+
+pub use making::make;
+pub use naming::node_name;
+pub use why::Why;

@@ -1,0 +1,103 @@
+//! The maker of certificates.
+
+ghost use Rattle.std.specs.Prelude.{◌≡◌, length, IfOk};
+ghost use Rattle.effect_scan.specs.Scans.{IsScan};
+ghost use Rattle.rank_check.specs.Entries.{IsReady};
+ghost use Rattle.rank_graph.specs.Solutions.{rank_of, leads_of};
+ghost use Rattle.rank_make.specs.Makes.{Makes, ReadyOrReason};
+ghost use Rattle.rank_make.specs.Solved.{own_rows, IsSolved};
+
+use crate::bounds::bound_of;
+use crate::naming::lines;
+use crate::reasons::{destroy_path, high_chain, told_cycle};
+use crate::rows::own_rows;
+use crate::why::Why;
+use effect_scan::{Scan, edges_join_nodes};
+use meta_objects::Meta;
+use rank_check::Certificate;
+use rank_graph::{Solution, Unranked, solve};
+use sqlite_items::Items;
+use std::alloc::Global;
+use typing::{unfit_wire, untyped};
+
+/// The least valid certificate of the program: its lines are those of the nodes in their order, each with the number of
+/// edges of the longest chain from the node and the classes of those objects that may be destroyed from there, in their
+/// order; its bound is just above all ranks. No valid certificate has a smaller bound, a smaller rank of a node, or a set
+/// of a node without one of these classes. Where no certificate is valid, the error is the first reason that holds:
+/// `Wire`, where a wire's method doesn't fit its signal; `BodyType`, where a literal, a body or a binding isn't typed;
+/// `Cycle`, where edges lead back to a node; `DestroyPath`, where they lead from a slot or native of a class C to a `~X`
+/// whose closure holds C; `TooHigh`, where a chain has 257 nodes. `Memory` comes only where a growth of memory was
+/// refused. Beside the scan, time is linear in the nodes and edges for each 64 classes, and in nodes times classes.
+pub fn make(alloc: Global, meta: &Meta) -> Result<Certificate, Why>
+    ensures { Makes meta.now result }
+{
+    judge_program(alloc, meta)?;
+    let scan = Scan::of(alloc, meta)?;
+    let own = own_rows(alloc, &scan)?;
+    make_scanned(alloc, meta, &scan, own.as_slice())
+}
+
+/// The reasons that the program's wires, literals, bodies and bindings give.
+fn judge_program(alloc: Global, meta: &Meta) -> Result<(), Why>
+    ensures { ReadyOrReason meta.now result }
+{
+    if let Some(wire) = unfit_wire(meta) {
+        return Err(Why::Wire(wire));
+    }
+    match untyped(alloc, meta)? {
+        Some(spot) => Err(Why::BodyType(spot)),
+        None => Ok(()),
+    }
+}
+
+/// The certificate, or the reason that edges give.
+fn make_scanned(
+    alloc: Global,
+    meta: &Meta,
+    scan: &Scan,
+    own: &[Items<usize>],
+) -> Result<Certificate, Why>
+    requires scan { IsScan meta.now scan.now }
+    requires ready { IsReady meta.now }
+    requires own { own.now ≡ own_rows scan.now }
+    ensures { Makes meta.now result }
+{
+    // All edges are between nodes.
+    edges_join_nodes(meta);
+    match solve(alloc, scan.rows(), own, meta.classes().len()) {
+        Ok(solution) => make_solved(alloc, meta, scan, own, &solution),
+        Err(Unranked::Cycle(numbers)) => {
+            let nodes = told_cycle(alloc, meta, scan, numbers)?;
+            Err(Why::Cycle(nodes))
+        }
+        Err(Unranked::Memory) => Err(Why::Memory),
+    }
+}
+
+/// The certificate, or the reason that ranks and sets give.
+fn make_solved(
+    alloc: Global,
+    meta: &Meta,
+    scan: &Scan,
+    own: &[Items<usize>],
+    solution: &Solution,
+) -> Result<Certificate, Why>
+    requires scan { IsScan meta.now scan.now }
+    requires ready { IsReady meta.now }
+    requires own { own.now ≡ own_rows scan.now }
+    requires solved { IsSolved scan.now (rank_of solution.now) (leads_of solution.now) }
+    ensures { Makes meta.now result }
+{
+    // All edges are between nodes, and names are those of one member.
+    edges_join_nodes(meta);
+    let _classes = meta.classes();
+    if let Some(nodes) = destroy_path(alloc, meta, scan, own, solution)? {
+        return Err(Why::DestroyPath(nodes));
+    }
+    if let Some(nodes) = high_chain(alloc, meta, scan, solution)? {
+        return Err(Why::TooHigh(nodes));
+    }
+    let bound = bound_of(solution, scan.nodes().len());
+    let lines = lines(alloc, meta, scan, solution)?;
+    Ok(Certificate { bound, lines })
+}

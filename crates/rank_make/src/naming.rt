@@ -1,0 +1,117 @@
+//! The names of nodes, and their lines.
+
+ghost use Rattle.std.specs.Prelude.{ℕ, ◌≡◌, ◌<◌, true, length, IfOk};
+ghost use Rattle.meta_model.specs.Loaded.{Loaded};
+ghost use Rattle.meta_model.specs.Members.{IsClass};
+ghost use Rattle.effect_scan.specs.Laws.{IsNode};
+ghost use Rattle.effect_scan.specs.Scans.{IsScan};
+ghost use Rattle.rank_check.specs.Names.{IsNodeNamed, IsMemberNamed};
+ghost use Rattle.rank_check.specs.Valid.{most_bound};
+ghost use Rattle.rank_graph.specs.Solutions.{rank_of, leads_of};
+ghost use Rattle.rank_make.specs.Solved.{AreLow, AreNames, IsLineFor, AreLinesFor, HasMember};
+
+use effect_scan::{Member, Node, Scan};
+use meta_model::MetaObject;
+use meta_objects::Meta;
+use rank_check::{Line, MemberName, NodeName};
+use rank_graph::Solution;
+use signatures::Name;
+use sqlite_items::Items;
+use std::alloc::{AllocError, Global};
+
+/// The lines of all nodes, in their order. Its error is that memory was refused.
+pub fn lines(
+    alloc: Global,
+    meta: &Meta,
+    scan: &Scan,
+    solution: &Solution,
+) -> Result<Items<Line>, AllocError>
+    requires scan { IsScan meta.now scan.now }
+    requires low { AreLow (length scan.now.nodes) (rank_of solution.now) }
+    ensures { IfOk result (AreLinesFor meta.now (rank_of solution.now) (leads_of solution.now)) }
+{
+    let mut lines = Items::new(alloc);
+    for (number, node) in scan.nodes().iter().enumerate() {
+        let line = line_of(alloc, meta, solution, number, *node)?;
+        lines.push(line)?;
+    }
+    Ok(lines)
+}
+
+/// The line of this node. Its error is that memory was refused.
+fn line_of(
+    alloc: Global,
+    meta: &Meta,
+    solution: &Solution,
+    number: usize,
+    node: Node,
+) -> Result<Line, AllocError>
+    requires node { IsNode meta.now node }
+    requires low { rank_of solution.now number < most_bound }
+    ensures { IfOk result (IsLineFor meta.now (rank_of solution.now) (leads_of solution.now) number node) }
+{
+    let name = node_name(alloc, meta, node)?;
+    let destroys = class_names(alloc, meta, solution, number)?;
+    Ok(Line {
+        node: name,
+        rank: solution.rank(number) as u32,
+        destroys,
+    })
+}
+
+/// The names of the classes that the node of this number leads to, in the order of classes. Its error is that memory was
+/// refused.
+fn class_names(
+    alloc: Global,
+    meta: &Meta,
+    solution: &Solution,
+    node: usize,
+) -> Result<Items<Name>, AllocError>
+    ensures { IfOk result (AreNames meta.now (λ d. leads_of solution.now node d ≡ true) (length meta.now.classes)) }
+{
+    let mut names = Items::new(alloc);
+    for (class, object) in meta.classes().iter().enumerate() {
+        if solution.leads_to(node, class) {
+            let name = object.name.copy()?;
+            names.push(name)?;
+        }
+    }
+    Ok(names)
+}
+
+/// The name of the node. Its error is that memory was refused.
+pub fn node_name(alloc: Global, meta: &Meta, node: Node) -> Result<NodeName, AllocError>
+    requires { IsNode meta.now node }
+    ensures { IfOk result (λ name. IsNodeNamed meta.now name node) }
+{
+    let Some(class) = meta.object(node.class) else {
+        unreachable!();
+    };
+    let member = member_name(alloc, class, node.member)?;
+    let class = class.name.copy()?;
+    Ok(NodeName { class, member })
+}
+
+/// The name of the member, which the class has. Its error is that memory was refused.
+fn member_name(alloc: Global, class: &MetaObject, member: Member) -> Result<MemberName, AllocError>
+    requires { HasMember class.now member }
+    ensures { IfOk result (λ name. (p : Loaded) (c : ℕ) → IsClass p c class.now → IsMemberNamed p c name member) }
+{
+    match member {
+        Member::Method(method) => match class.methods.get(method) {
+            Some(found) => {
+                let sig = found.sig.copy(alloc)?;
+                Ok(MemberName::Method(sig))
+            }
+            None => unreachable!(),
+        },
+        Member::Property(property) => match class.properties.get(property) {
+            Some(found) => {
+                let name = found.name.copy()?;
+                Ok(MemberName::Property(name))
+            }
+            None => unreachable!(),
+        },
+        Member::Destruction => Ok(MemberName::Destruction),
+    }
+}

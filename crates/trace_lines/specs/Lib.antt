@@ -1,0 +1,5 @@
+pub mod CertificateLines
+pub mod Lines
+pub mod MetaLines
+pub mod NodeLines
+pub mod Sent

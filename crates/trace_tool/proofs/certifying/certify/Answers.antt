@@ -1,0 +1,13 @@
+use Rattle.std.proofs.lemmas.Result.{IfOk-weaker}
+use Rattle.trace_tool.proofs.Answering.{answered}
+use Rattle.trace_tool.specs.Commands.{refused, made, not_made}
+use Rattle.trace_tool.proofs.certifying.certify.Goals as goal
+
+pub returns-in-Err : goal.returns-in-Err
+returns-in-Err g c = IfOk-weaker c.refuse.result _ _ (λ status s. answered (refused c.in-Err.refusal c.in-Err.ensures) s) c.refuse.ensures
+
+pub returns-in-Ok-make : goal.returns-in-Ok-make
+returns-in-Ok-make g c = IfOk-weaker c.hand_out.result _ _ (λ status s. answered (made c.in-Ok.meta c.in-Ok-make.certificate c.in-Ok.ensures c.in-Ok-make.ensures) s) c.hand_out.ensures
+
+pub returns : goal.returns
+returns g c = IfOk-weaker c.deny.result _ _ (λ status s. answered (not_made c.in-Ok.meta c.in-Err-make.why c.in-Ok.ensures c.in-Err-make.ensures) s) c.deny.ensures
