@@ -1,0 +1,11 @@
+pub mod Nodes
+pub mod Ladder
+pub mod Sites
+pub mod Worlds
+pub mod Followers
+pub mod Leading
+pub mod Rules
+pub mod Given
+pub mod Events
+pub mod Claims
+pub mod Lacking

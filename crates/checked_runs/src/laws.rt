@@ -1,0 +1,25 @@
+//! What holds of every program that loads and has a valid certificate, for every list of events.
+
+ghost use Rattle.checked_runs.specs.Claims.{NeverInUse, NeverLoops, NeverStuck, NeverTooDeep};
+
+use native_slots::Answering;
+
+/// Activations never nest deeper than the certificate's bound, whatever these natives answer: no run stops with `TooDeep`.
+pub fn never_too_deep<N: Answering>(_natives: &N)
+    ensures { NeverTooDeep (N.gives _natives.now) }
+{}
+
+/// No object dies while a body of it is active: no run stops with `InUse`.
+pub fn never_in_use<N: Answering>(_natives: &N)
+    ensures { NeverInUse (N.gives _natives.now) }
+{}
+
+/// No chain of bindings leads from a property back to itself: no run stops with `BindingLoop`.
+pub fn never_loops<N: Answering>(_natives: &N)
+    ensures { NeverLoops (N.gives _natives.now) }
+{}
+
+/// What goes on is never without a next rule, but for what a native is to answer: no expression lacks a value.
+pub fn never_stuck<N: Answering>(_natives: &N)
+    ensures { NeverStuck (N.gives _natives.now) }
+{}
