@@ -271,16 +271,16 @@ module _ {p : Loaded} {certificate : Certificate} (valid : IsValid p certificate
         let owned : IsOwned p classes a.number c.number = record { above = (a.it).class; is_above = known-living a (living-is is_parent); below = (c.it).class; is_below = known-living c (living-is is_child); owns = owns } in
         let Family : State → Type 0 = λ u. Holds p certificate classes u in
         (classes, subst Family (sym x.gives) (adopted-by (λ (l : List Object). Holds p certificate classes (record (accepted s) { objects = l })) (record { covered = covered; rungs = []; stacked = stands }) (objects-held (moved a.number c.number s.objects) (moved-leaves s.objects a.number c.number owned)) x.is))
-    event-held (Connect e how) well (goes_on f ends (goes_on _ (goes_on _ (so covers) rest) given)) =
+    event-held (Connect e how) well (goes_on f both (goes_on _ (goes_on _ (so covers) rest) given)) =
         let Family : State → Type 0 = λ u. Holds p certificate classes u in (
           classes,
           subst Family (sym (given-is given)) (record {
-            covered = record { known = covered.known; owned = covered.owned; wired = all-snoc (IsWired p classes) s.connected.connections _ covered.wired (connection-wired e how (s.connected.last + 1) f ends covers); sited = covered.sited };
+            covered = record { known = covered.known; owned = covered.owned; wired = all-snoc (IsWired p classes) s.connected.connections _ covered.wired (connection-wired e how (s.connected.last + 1) f both covers); sited = covered.sited };
             rungs = [];
             stacked = stands;
           }),
         )
-    event-held (Disconnect e) well (goes_on f ends (goes_on _ is given)) =
+    event-held (Disconnect e) well (goes_on f both (goes_on _ is given)) =
         let Family : State → Type 0 = λ u. Holds p certificate classes u in (
           classes,
           subst Family (sym (given-is given)) (record {
