@@ -7,8 +7,13 @@ use Rattle.native_slots.specs.declared.head.NativeHead.{NativeHead}
 use Rattle.native_slots.specs.FaultNumbers.{number_of}
 use Rattle.native_slots.specs.Fitting.{Fit}
 use Rattle.script_lang.specs.declared.event.Event.{Event}
+use Rattle.meta_model.specs.Sound.{IsSound}
+use Rattle.rank_check.specs.Valid.{IsValid}
+use Rattle.machine_state.specs.declared.fault.Fault.{Fault}
 use Rattle.machine_rules.specs.Natives.{NativeAnswers}
-use Rattle.trace_tool.specs.Commands.{Answers, AreNotRunnable, AreRead, AreChecked, MayNotRun, CommandWrites, InputWrites, MetaWrites, CertifyWrites, CheckWrites, CheckedRunWrites, RunWrites, of_closures, not_fit, other_texts, does, read, unread, memory}
+use Rattle.qt_runtime.specs.Seen.{Seen, RunsAll, begun}
+use Rattle.checked_runs.proofs.Answered.{never_answered}
+use Rattle.trace_tool.specs.Commands.{Answers, EndsOtherwise, AreNotRunnable, AreRead, AreChecked, MayNotRun, CommandWrites, InputWrites, MetaWrites, CertifyWrites, CheckWrites, CheckedRunWrites, RunWrites, of_closures, not_fit, other_texts, does, read, unread, memory}
 use Rattle.trace_tool.specs.Cut.{AreTexts}
 use Rattle.trace_tool.specs.Refusals.{memory_line, usage_line}
 use Rattle.trace_tool.specs.Words.{IsCommand}
@@ -41,6 +46,12 @@ pub unfit_checked : {heads : List NativeHead} {program certificate script : List
     MayNotRun heads program certificate script refusal
 unfit_checked {heads} {program} {certificate} {script} {loaded} {asked} {certified} {events} {refusal} fault are same fit is =
     subst (MayNotRun heads program certificate script) (sym is) (not_fit loaded certified events fault are (subst (λ p. Fit heads p (Err fault)) same fit))
+
+-- a checked run ends as it may
+pub ends_otherwise : {N : Type 0} (gives : N → NativeAnswers) (natives : N) (loaded : Loaded) (certified : Certificate) (steps : ℕ) (events : List Event) (ended : Result (Unit {0}) Fault) (after : Seen N) →
+    IsSound loaded → IsValid loaded certified → RunsAll gives (begun loaded natives certified.bound steps) events ended after → EndsOtherwise ended
+ends_otherwise gives natives loaded certified steps events (Ok done) after sound valid went = tt
+ends_otherwise gives natives loaded certified steps events (Err fault) after sound valid went = never_answered gives loaded certified natives steps events fault after sound valid went
 
 pub read_done : {N : Type 0} {gives : N → NativeAnswers} {heads : List NativeHead} {natives : N} {words : List (List ℕ)} {found : Result (List ℕ) InputFault} {command : Command} {input : List ℕ} {before after : Option (List ℕ)} {status : ℕ} →
     IsCommand words command → found ≡ Ok input → Answers (InputWrites gives heads natives command input) before after status → Answers (CommandWrites gives heads natives words found) before after status

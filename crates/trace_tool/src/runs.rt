@@ -45,6 +45,8 @@ pub fn run<W: Write>(
     if let Err(fault) = natives.fits(checked.meta()) {
         return refuse(alloc, &Refusal::from(fault), w);
     }
+    // What is loaded is sound, as the contract of `classes` says.
+    let _ = checked.meta().classes();
     let Ok(mut machine) = Machine::checked(alloc, checked, natives, steps) else {
         return refuse(alloc, &Refusal::Memory, w);
     };

@@ -1,5 +1,5 @@
 use Rattle.std.proofs.lemmas.Result.{IfOk-weaker}
-use Rattle.trace_tool.proofs.Answering.{answered, unfit_checked}
+use Rattle.trace_tool.proofs.Answering.{answered, unfit_checked, ends_otherwise}
 use Rattle.trace_tool.specs.Commands.{refused, not_checked, ran, memory}
 use Rattle.trace_tool.proofs.runs.run.Goals as goal
 
@@ -26,6 +26,8 @@ returns g c =
     let went = rw (c.in-Ok-checked.ensures, c.as_slice.ensures) at c.run-ended.ensures.ran in
     let fit = rw c.meta.ensures.value at c.in_default.ensures.exact in
     let wrote = rw c.trace.ensures at c.report.ensures in
+    let sound = rw c.meta-2.ensures.value at c.classes.ensures.sound in
+    let otherwise = ends_otherwise _ _ c.in-Ok.loaded.0.program c.in-Ok.loaded.0.certificate c.args.steps _ c.run-ended.result c.run-ended.new.self sound c.meta.ensures.valid went in
     IfOk-weaker c.report.result _ _
-    (λ status s. answered (ran c.in-Ok.loaded.0.program c.in-Ok.loaded.0.certificate c.in-Ok.loaded.1 c.run-ended.result c.run-ended.new.self c.in-Ok.ensures fit went) s)
+    (λ status s. answered (ran c.in-Ok.loaded.0.program c.in-Ok.loaded.0.certificate c.in-Ok.loaded.1 c.run-ended.result c.run-ended.new.self c.in-Ok.ensures fit went otherwise) s)
     wrote
