@@ -1,5 +1,7 @@
 //! The answers of the program that a person may want explained.
 
+ghost use Rattle.std.specs.Prelude.{◌≢◌, []};
+
 /// An answer of the program.
 #[derive(Clone, Copy, Debug, PartialEq, Eq)]
 pub enum Answer {
@@ -39,20 +41,37 @@ impl Answer {
         if line == b"usage".as_slice() {
             return Some(Answer::Usage);
         }
-        if let Some(digits) = line.strip_prefix(b"refused 16 line ".as_slice()) {
-            return Some(Answer::BadLine(number_of(digits)?));
+        if let Some(answer) = refusal_of(line) {
+            return Some(answer);
         }
-        if let Some(digits) = line.strip_prefix(b"refused ".as_slice()) {
-            return Some(Answer::Refused(short(digits)?));
+        if let Some(answer) = fault_of(line) {
+            return Some(answer);
         }
-        if let Some(digits) = line.strip_prefix(b"fault ".as_slice()) {
-            return Some(Answer::Fault(short(digits)?));
-        }
-        let left = line.strip_prefix(b"no ".as_slice())?;
-        match short(left) {
-            Some(number) => Some(Answer::No(number)),
-            None => Some(Answer::Uncertified(Reason::of(left)?)),
-        }
+        reason_of(line)
+    }
+}
+
+/// The refusal that a line is.
+fn refusal_of(line: &[u8]) -> Option<Answer> {
+    let left = line.strip_prefix(b"refused ".as_slice())?;
+    match left.strip_prefix(b"16 line ".as_slice()) {
+        Some(digits) => Some(Answer::BadLine(number_of(digits)?)),
+        None => Some(Answer::Refused(short(left)?)),
+    }
+}
+
+/// The fault that a line is.
+fn fault_of(line: &[u8]) -> Option<Answer> {
+    let digits = line.strip_prefix(b"fault ".as_slice())?;
+    Some(Answer::Fault(short(digits)?))
+}
+
+/// The checker's answer that a line is.
+fn reason_of(line: &[u8]) -> Option<Answer> {
+    let left = line.strip_prefix(b"no ".as_slice())?;
+    match short(left) {
+        Some(number) => Some(Answer::No(number)),
+        None => Some(Answer::Uncertified(Reason::of(left)?)),
     }
 }
 
@@ -78,7 +97,9 @@ impl Reason {
     }
 
     /// What it says, in one sentence.
-    pub fn meaning(self) -> &'static str {
+    pub fn meaning(self) -> &'static str
+        ensures { result.now ≢ [] }
+    {
         match self {
             Reason::Wire(_) =>
                 "the method of a wire takes other types than the first ones of its signal",
