@@ -22,10 +22,10 @@ use Rattle.machine_rules.specs.Rules.{Rule}
 use Rattle.machine_rules.specs.Runs.{Rules, WritesDeep, GoesDeep, GoesFatal}
 use Rattle.machine_rules.specs.Runs as of_rules
 use Rattle.machine_rules.proofs.Lists.{all-filtered, all-snoc}
-use Rattle.qt_runtime.specs.Runs.{Runs, done, rules, takes, Follows, by_rule, by_event}
-use Rattle.qt_runtime.specs.Takes.{Takes, accepts, refuses}
-use Rattle.qt_runtime.proofs.Standing.{Invariant}
-use Rattle.qt_runtime.proofs.Preservation.{runs-invariant}
+use Rattle.machine_events.specs.Runs.{Runs, done, rules, takes, Follows, by_rule, by_event}
+use Rattle.machine_events.specs.Takes.{Takes, accepts, refuses}
+use Rattle.machine_events.proofs.Standing.{Invariant}
+use Rattle.machine_events.proofs.Preservation.{runs-invariant}
 use Rattle.checked_runs.specs.Invariant.{BodyStands, Rung, Stacked, IsSited, Holds}
 use Rattle.checked_runs.specs.Claims.{NeverTooDeep, NeverInUse, NeverLoops, NeverStuck}
 use Rattle.checked_runs.proofs.Ladder.{falls-to, climbs, no-deeper}
@@ -35,8 +35,8 @@ use Rattle.checked_runs.proofs.Events.{HoldsSome, takes-held, binding-sited}
 use Rattle.checked_runs.proofs.Sites.{no-loop}
 use Rattle.checked_runs.proofs.Lacking.{body-typed, typed-does}
 use Rattle.checked_runs.proofs.Nodes.{body-named}
-use Rattle.qt_runtime.specs.Causes.{LacksValue}
-use Rattle.qt_runtime.proofs.Progress.{stuck-lacks}
+use Rattle.machine_events.specs.Causes.{LacksValue}
+use Rattle.machine_events.proofs.Progress.{stuck-lacks}
 use Rattle.machine_rules.specs.Runs.{IsStuck}
 use Rattle.machine_rules.proofs.Keeps.{lives-of-class}
 use Rattle.meta_model.specs.declared.object.Work.{Work}

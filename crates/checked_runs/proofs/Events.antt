@@ -44,14 +44,14 @@ use Rattle.machine_rules.specs.Judgement.{Numbered, found as finds, holds as so,
 use Rattle.machine_rules.specs.Settling.{Installs}
 use Rattle.machine_rules.proofs.Keeps.{class-of-lives}
 use Rattle.machine_rules.proofs.Lists.{all-filtered, all-snoc, all-weaken}
-use Rattle.qt_runtime.specs.declared.events.invoke.Invocation.{Invocation}
-use Rattle.qt_runtime.specs.declared.events.invoke.Invocation.TheVariants.{Emit as EmitIt, Call as CallIt}
-use Rattle.qt_runtime.specs.Takes.{judged, Takes, accepts, refuses}
-use Rattle.qt_runtime.specs.events.Bind.{may_bind}
-use Rattle.qt_runtime.specs.events.Block.{block}
-use Rattle.qt_runtime.specs.events.Ends.{find_ends}
-use Rattle.qt_runtime.specs.events.Invoke.{invoke}
-use Rattle.qt_runtime.specs.events.Named.{IsLiving}
+use Rattle.machine_events.specs.declared.events.invoke.Invocation.{Invocation}
+use Rattle.machine_events.specs.declared.events.invoke.Invocation.TheVariants.{Emit as EmitIt, Call as CallIt}
+use Rattle.machine_events.specs.Takes.{judged, Takes, accepts, refuses}
+use Rattle.machine_events.specs.events.Bind.{may_bind}
+use Rattle.machine_events.specs.events.Block.{block}
+use Rattle.machine_events.specs.events.Ends.{find_ends}
+use Rattle.machine_events.specs.events.Invoke.{invoke}
+use Rattle.machine_events.specs.events.Named.{IsLiving}
 use Rattle.checked_runs.specs.Invariant.{Stacked, AreClasses, AreOwned, IsOwned, IsWired, IsOf, IsSited, IsCovered, Holds}
 use Rattle.checked_runs.proofs.Nodes.{named-node, property-node, end-node}
 use Rattle.checked_runs.proofs.Ladder.{rung-at}

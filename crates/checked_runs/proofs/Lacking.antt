@@ -41,8 +41,8 @@ use Rattle.rank_check.proofs.Elements.{some_inside}
 use Rattle.effect_scan.specs.Laws.{IsNode}
 use Rattle.meta_model.specs.declared.object.MetaObject.{MetaObject}
 use Rattle.checked_runs.proofs.Nodes.{named-node}
-use Rattle.qt_runtime.proofs.Inherited.{method-below, property-below}
-use Rattle.qt_runtime.proofs.TypedPaths.{Reaches, to_null, to_object, path-reaches}
+use Rattle.machine_events.proofs.Inherited.{method-below, property-below}
+use Rattle.machine_events.proofs.TypedPaths.{Reaches, to_null, to_object, path-reaches}
 
 -- a value of a type is found
 pub record Yields (p : Loaded) (objects : List Object) (T : ValueType) (found : Option Value) : Type 0 where

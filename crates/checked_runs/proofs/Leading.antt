@@ -44,7 +44,7 @@ use Rattle.machine_rules.specs.Doings.{Doing, Write, Begin, Choose, Connect, Dis
 use Rattle.machine_rules.specs.Paths.{path_value, steps_value, root_value, value_of, values_of}
 use Rattle.machine_rules.proofs.Fields.{life-unique}
 use Rattle.machine_rules.proofs.Keeps.{lives-of-class}
-use Rattle.qt_runtime.proofs.TypedPaths.{Reaches, to_null, to_object, path-reaches}
+use Rattle.machine_events.proofs.TypedPaths.{Reaches, to_null, to_object, path-reaches}
 use Rattle.checked_runs.specs.Invariant.{BodyStands, IsStepOf, runs, asks, acts}
 use Rattle.checked_runs.proofs.Nodes.{body-named, late-named}
 

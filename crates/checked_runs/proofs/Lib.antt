@@ -9,4 +9,3 @@ pub mod Given
 pub mod Events
 pub mod Claims
 pub mod Lacking
-pub mod Answered

@@ -1,5 +1,5 @@
 -- What runs of checked programs never come to (docs/machine.md, "Faults"; docs/certificate.md, "The check").
-use Rattle.std.specs.Prelude.{◌≢◌, ℕ, List, [], Err}
+use Rattle.std.specs.Prelude.{ℕ, List, []}
 use Rattle.script_lang.specs.declared.event.Event.{Event}
 use Rattle.meta_model.specs.Loaded.{Loaded}
 use Rattle.meta_model.specs.Sound.{IsSound}
@@ -11,8 +11,7 @@ use Rattle.machine_state.specs.State.{State}
 use Rattle.machine_state.specs.Worlds.{at, untouched}
 use Rattle.machine_rules.specs.Natives.{NativeAnswers}
 use Rattle.machine_rules.specs.Runs.{IsStuck}
-use Rattle.qt_runtime.specs.Runs.{Runs, RunStops}
-use Rattle.qt_runtime.specs.Seen.{Seen, RunsAll, begun}
+use Rattle.machine_events.specs.Runs.{Runs, RunStops}
 
 -- In a program that loads and has a valid certificate, a run that may nest as deep as the bound, whatever events it has taken
 -- and whatever natives answer, never stops for this reason, whatever events come next.
@@ -40,16 +39,3 @@ abbrev pub NeverStuck : NativeAnswers → Type 0
 NeverStuck natives =
     (p : Loaded) (certificate : Certificate) (s : State) (steps left : ℕ) (taken : List Event) →
     IsSound p → IsValid p certificate → Runs p natives certificate.bound (at (untouched steps) []) steps taken s left → ¬ IsStuck p natives s
-
--- none of the three
-pub record IsAnother (fault : Fault) : Type 0 where
-  pub too_deep : fault ≢ TooDeep
-  pub in_use : fault ≢ InUse
-  pub binding_loop : fault ≢ BindingLoop
-
--- So no machine of a program that loads, with a valid certificate and its bound as the depth, answers one of them for a list
--- of events that it is given from its beginning on.
-abbrev pub NeverAnswered : {N : Type 0} → (N → NativeAnswers) → Type 0
-NeverAnswered {N} gives =
-    (p : Loaded) (certificate : Certificate) (natives : N) (steps : ℕ) (events : List Event) (fault : Fault) (after : Seen N) →
-    IsSound p → IsValid p certificate → RunsAll gives (begun p natives certificate.bound steps) events (Err fault) after → IsAnother fault

@@ -1,6 +1,6 @@
 //! What holds of every program that loads and has a valid certificate, for every list of events.
 
-ghost use Rattle.checked_runs.specs.Claims.{NeverAnswered, NeverInUse, NeverLoops, NeverStuck, NeverTooDeep};
+ghost use Rattle.checked_runs.specs.Claims.{NeverInUse, NeverLoops, NeverStuck, NeverTooDeep};
 
 use native_slots::Answering;
 
@@ -22,9 +22,4 @@ pub fn never_loops<N: Answering>(_natives: &N)
 /// What goes on is never without a next rule, but for what a native is to answer: no expression lacks a value.
 pub fn never_stuck<N: Answering>(_natives: &N)
     ensures { NeverStuck (N.gives _natives.now) }
-{}
-
-/// A machine as `Machine::checked` gives it answers none of the three, whatever events `Machine::run` is given.
-pub fn never_answered<N: Answering>(_natives: &N)
-    ensures { NeverAnswered N.gives }
 {}

@@ -3,4 +3,4 @@
 
 mod laws;
 
-pub use laws::{never_answered, never_in_use, never_loops, never_stuck, never_too_deep};
+pub use laws::{never_in_use, never_loops, never_stuck, never_too_deep};

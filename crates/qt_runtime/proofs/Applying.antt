@@ -9,11 +9,11 @@ use Rattle.machine_rules.specs.Natives.{NativeAnswers}
 use Rattle.machine_rules.proofs.Reaching.{reason-more}
 use Rattle.prop_bindings.specs.declared.binding.Binding.{Binding}
 use Rattle.machine_rules.specs.Runs.{IsStuck}
-use Rattle.qt_runtime.specs.Runs.{done, Follows, by_rule, by_event, IsDue, goes_on, is_next, BindsNext, BindsIll}
-use Rattle.qt_runtime.specs.Causes.{LacksValue, Cause}
+use Rattle.machine_events.specs.Runs.{done, Follows, by_rule, by_event, IsDue, goes_on, is_next, BindsNext, BindsIll}
+use Rattle.machine_events.specs.Causes.{LacksValue, Cause}
 use Rattle.qt_runtime.specs.Seen.{Seen, Completes, Halts, Stays, RunsAll}
 use Rattle.machine_state.specs.Worlds.{at}
-use Rattle.qt_runtime.proofs.Running.{runs-trans}
+use Rattle.machine_events.proofs.Running.{runs-trans}
 
 pub completes-none : {N : Type 0} {gives : N → NativeAnswers} {a : Seen N} → a.stopped ≡ false → a.world.turn ≡ None → Completes gives a [] a
 completes-none went none = record { went = went; same = refl; whole = record { runs = done; ends = record { empty = refl; no_turn = none } } }

@@ -12,10 +12,10 @@ use Rattle.machine_state.specs.declared.world.World.{World}
 use Rattle.machine_rules.specs.Natives.{NativeAnswers}
 use Rattle.machine_rules.specs.Sound.{IsSoundWorld}
 use Rattle.qt_runtime.specs.Seen.{Seen, Completes, AcceptsEvent, RefusesEvent, OnDone, OnRefused, Halts, Stays}
-use Rattle.qt_runtime.specs.Taking.{Took}
-use Rattle.qt_runtime.proofs.Keeping.{invariant-at}
-use Rattle.qt_runtime.proofs.Preservation.{runs-invariant}
-use Rattle.qt_runtime.proofs.Progress.{cause-of}
+use Rattle.machine_events.specs.Taking.{Took}
+use Rattle.machine_events.proofs.Keeping.{invariant-at}
+use Rattle.machine_events.proofs.Preservation.{runs-invariant}
+use Rattle.machine_events.proofs.Progress.{cause-of}
 
 -- a machine with this world
 abbrev pub seen : {N : Type 0} → Loaded → N → ℕ → World → Bool → Seen N

@@ -14,9 +14,9 @@ use Rattle.machine_state.specs.Worlds.{at, untouched}
 use Rattle.native_slots.specs.Promises.{Promises, Takes}
 use Rattle.machine_rules.specs.Natives.{NativeAnswers}
 use Rattle.machine_rules.specs.Reaches.{Leaves}
-use Rattle.qt_runtime.specs.Runs.{RunsWhole, RunsFront}
-use Rattle.qt_runtime.specs.Causes.{Cause}
-use Rattle.qt_runtime.specs.Taking.{IsAccepted, IsRefusedAs}
+use Rattle.machine_events.specs.Runs.{RunsWhole, RunsFront}
+use Rattle.machine_events.specs.Causes.{Cause}
+use Rattle.machine_events.specs.Taking.{IsAccepted, IsRefusedAs}
 
 pub record Seen (N : Type 0) : Type 0 where
   pub program : Loaded

@@ -1,14 +1,10 @@
 //! The object machine: a run of a program, event by event.
 #![tactic(auto)]
 
-mod events;
-mod judgement;
-mod laws;
 mod machine;
-mod taking;
 
-pub use laws::{always_settled, one_front, one_judgement, one_run, one_taking};
 pub use machine::Machine;
+pub use machine_events::{always_settled, one_front, one_judgement, one_run, one_taking};
 pub use machine_state::{Answer, Entry, Fault, Happening, Shown, ShownAction};
 pub use meta_objects::{Meta, MetaFault};
 pub use native_slots::{Answering, Natives};

@@ -2,7 +2,7 @@ ghost use Rattle.std.specs.Prelude.{◌≡◌, ◌<◌, ◌≤◌, ◌^◌, ◌�
 ghost use Rattle.native_slots.specs.Promises.{Promises};
 ghost use Rattle.qt_runtime.specs.Seen.{AreKept, OnDone, OnRefused, AcceptsEvent, RefusesEvent, IsSettled, Stops, RunsAll, begun};
 
-use crate::taking::take_event;
+use machine_events::take_event;
 use machine_rules::Setting;
 use machine_state::{Answer, Entry, Fault, World};
 use meta_objects::Meta;
@@ -27,7 +27,7 @@ impl<N> Model for Machine<N> {
     ghost use Rattle.meta_model.specs.contracts.site.SourceProperty as source;
     ghost use Rattle.native_slots.specs.Promises.{Promises};
     ghost use Rattle.qt_runtime.specs.Seen.{Seen};
-    ghost use Rattle.qt_runtime.specs.Taking.{MachineInvariant};
+    ghost use Rattle.qt_runtime.specs.Invariant.{MachineInvariant};
 
     ghost Value = { Seen N };
 

@@ -2,7 +2,7 @@ use Rattle.std.proofs.Common.{subst, sym, ◌∙◌, ◌⊎◌, ◌∷◌, []}
 use Rattle.std.specs.Prelude.{IfErr}
 use Rattle.qt_runtime.specs.Seen.{Seen, AreKept, OnDone, OnRefused, AcceptsEvent, RefusesEvent, Halts, Stays}
 use Rattle.qt_runtime.proofs.Halting.{seen, applied-done, applied-refused, applied-stopped}
-use Rattle.qt_runtime.proofs.Keeping.{keeps-took, settled-took, idle-took}
+use Rattle.machine_events.proofs.Keeping.{keeps-took, settled-took, idle-took}
 use Rattle.qt_runtime.proofs.machine.Machine.apply.Goals as goal
 
 pub invariant_of-self : goal.invariant_of-self

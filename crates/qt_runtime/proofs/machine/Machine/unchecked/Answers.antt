@@ -1,5 +1,5 @@
 use Rattle.std.proofs.Common.{refl, arith}
-use Rattle.qt_runtime.proofs.Keeping.{untouched-sound}
+use Rattle.machine_events.proofs.Keeping.{untouched-sound}
 use Rattle.qt_runtime.proofs.machine.Machine.unchecked.Goals as goal
 
 pub invariant_of-result : goal.invariant_of-result

@@ -1,0 +1,128 @@
+-- `bind`.
+use Rattle.std.proofs.Common.{◌≡◌, ◌≢◌, ℕ, List, [], ◌∷◌, length, Some, Result, Ok, Err, MatchResult, inl, inr, refl, sym, ◌∙◌, subst, slice_get}
+use Rattle.meta_model.specs.declared.site.MetaSite.{MetaSite}
+use Rattle.meta_model.specs.Loaded.{Loaded}
+use Rattle.meta_model.specs.Sites.{IsSiteNamed}
+use Rattle.object_tree.specs.declared.life.Life.{Life}
+use Rattle.prop_bindings.specs.declared.binding.Binding.{Binding}
+use Rattle.prop_bindings.specs.declared.fault.BindFault.{BindFault}
+use Rattle.prop_bindings.specs.declared.fault.BindFault.TheVariants as bind_fault
+use Rattle.prop_bindings.specs.Calls.{CoversBinding, InOneLoop, IsNotBound, MayBind, binding_of, new_binding, bad_source, other_loop, bad_type, closes, no_memory}
+use Rattle.script_lang.specs.declared.event.Event.{Event}
+use Rattle.script_lang.specs.declared.event.Event.TheVariants.{Bind}
+use Rattle.machine_state.specs.declared.fault.Fault.{Fault}
+use Rattle.machine_state.specs.declared.fault.Fault.TheVariants.{Memory}
+use Rattle.machine_state.specs.declared.refusal.Refusal.{Refusal}
+use Rattle.machine_state.specs.declared.refusal.Refusal.TheVariants.{BadSource, OtherLoop}
+use Rattle.machine_state.specs.declared.world.World.{World}
+use Rattle.machine_state.specs.Accepting.{accepted}
+use Rattle.machine_state.specs.State.{State}
+use Rattle.machine_state.specs.Worlds.{at, KeepsTheRest}
+use Rattle.machine_rules.specs.Natives.{NativeAnswers}
+use Rattle.machine_rules.specs.Judgement.{Numbered, numbered, Check, Gives, ◌>>=◌, found, missing, holds, fails, gives, becomes, goes_on, ends}
+use Rattle.machine_rules.specs.Settling.{Installs}
+use Rattle.machine_events.specs.declared.judgement.NotAccepted.{NotAccepted}
+use Rattle.machine_events.specs.Judgement.{IsNotAccepted}
+use Rattle.machine_events.specs.Runs.{BindsNext, RunStops, done, is_next}
+use Rattle.machine_events.specs.Takes.{judged}
+use Rattle.machine_events.specs.Taking.{AsksToBind, Halted, binding_reason}
+use Rattle.machine_events.specs.events.Bind.{IsSiteOf, may_bind}
+use Rattle.machine_events.specs.events.Named.{IsLiving, living, all_living}
+use Rattle.machine_events.proofs.Judged.{then-ends, then-on}
+use Rattle.machine_events.proofs.Judging.Naming.{living-ok}
+use Rattle.machine_events.proofs.Taken.{idle, no_natives, Ready}
+
+-- ---- what is named
+
+module _ (p : Loaded) (w : World) (name target : List ℕ) (sources : List (List ℕ)) where
+  -- an event whose binding may not be isn't accepted
+  pub not-bindable : {n : NotAccepted} → IsNotAccepted (may_bind p (at w []) name target sources) n → IsNotAccepted (judged p (at w []) (Bind name target sources)) n
+  not-bindable x = then-ends x
+
+  pub no-site : ((number : ℕ) → ¬ IsSiteNamed p name number) → may_bind p (at w []) name target sources (Err BadSource)
+  no-site none = ends (missing (λ n is. none n.number (record { is = record { item = n.it; is = is.is; has = is.named } })))
+
+  module _ (n : Numbered MetaSite) (is : IsSiteOf p name n) where
+    pub other-number : (¬ (length sources ≡ length n.it.formals)) → may_bind p (at w []) name target sources (Err BadSource)
+    other-number other = goes_on n (found is) (ends (fails other))
+
+    module _ (many : length sources ≡ length n.it.formals) where
+      pub no-target : {r : NotAccepted} → IsNotAccepted (living w.store.tree target) r → IsNotAccepted (may_bind p (at w []) name target sources) r
+      no-target x = then-on n (found is) (then-on tt (holds many) (then-ends x))
+
+      pub no-sources : {r : NotAccepted} (o : Numbered Life) → IsLiving w.store.tree target o → IsNotAccepted (all_living w.store.tree sources) r → IsNotAccepted (may_bind p (at w []) name target sources) r
+      no-sources o lives x = then-on n (found is) (then-on tt (holds many) (then-on o (living-ok o lives) (then-ends x)))
+
+-- the site that has this name
+pub site-found : {p : Loaded} {name : List ℕ} {number : ℕ} (site : MetaSite) → IsSiteNamed p name number → slice_get p.sites number ≡ Some site → IsSiteOf p name (numbered number site)
+site-found {name = name} site named is =
+    let both : Some named.is.item ≡ Some site = sym named.is.is ∙ is in
+    let same : named.is.item ≡ site = cc both in
+    let Named : MetaSite → Type 0 = λ s. s.name ≡ name in
+    record { is = is; named = subst Named same named.is.has }
+
+-- ---- what is found of it
+
+module _ {p : Loaded} {w : World} {name target : List ℕ} {sources : List (List ℕ)} {number o : ℕ} {objects : List ℕ}
+    (asks : AsksToBind p w name target sources number o objects) where
+  abbrev event : Event
+  event = Bind name target sources
+
+  -- the site of this number has this name
+  site-is : (site : MetaSite) → slice_get p.sites number ≡ Some site → IsSiteOf p name (numbered number site) × (length sources ≡ length site.formals)
+  site-is site is =
+      let Family : MetaSite → Type 0 = λ x. IsSiteOf p name (numbered number x) × (length sources ≡ length x.formals) in
+      let both : Some asks.site ≡ Some site = sym asks.is.is ∙ is in
+      let same : asks.site ≡ site = cc both in
+      subst Family same (asks.is, asks.many)
+
+  -- what is left to be judged
+  abbrev judged-last : MetaSite → Result Binding Refusal → Type 0
+  judged-last site =
+      Check BadSource (CoversBinding p w.store.tree site o objects) >>= λ _.
+      Check OtherLoop (InOneLoop w.store.tree o objects) >>= λ _.
+      Gives (binding_of site number o objects)
+
+  on-found : {r : Result Binding Refusal} (site : MetaSite) → slice_get p.sites number ≡ Some site → judged-last site r → may_bind p (at w []) name target sources r
+  on-found site is rest =
+      let it = site-is site is in
+      goes_on (numbered number site) (found it.0) (goes_on tt (holds it.1) (goes_on (numbered o asks.life) (living-ok (numbered o asks.life) asks.lives) (goes_on objects asks.live rest)))
+
+  pub may-ok : (may : MayBind p w.store.tree number o objects) → may_bind p (at w []) name target sources (Ok (new_binding may))
+  may-ok may = on-found may.sited.site may.sited.is (goes_on tt (holds may.sited.covers) (goes_on tt (holds may.one_loop) gives))
+
+  -- the binding is the next to be installed
+  next-bind : {b : Binding} → Ready w → may_bind p (at w []) name target sources (Ok b) → BindsNext p (at w []) (event ∷ []) b
+  next-bind some may = record { idle = idle w some.no_turn; site = name; target = target; sources = sources; rest = []; is_next = refl; may = may }
+
+  pub judged-bound : (t : State) (may : MayBind p w.store.tree number o objects) → Installs p (accepted (at w [])) [] (new_binding may) t → judged p (at w []) event (Ok t)
+  judged-bound t may installs = goes_on (new_binding may) (may-ok may) (becomes installs)
+
+  module _ {v : World} (rest : KeepsTheRest w v) where
+    -- nothing changed, or memory was refused for what changes
+    halted-before : {natives : NativeAnswers} {d : ℕ} {f : Fault} → (f ≢ Memory → v ≡ w) → RunStops p natives d (at w []) w.left (event ∷ []) f → Halted p natives d w event v f
+    halted-before same reason = record { u = w; leaves = (rest, same); stack = []; front = record { taken = []; rest = event ∷ []; split = refl; runs = done }; reason = reason }
+
+    -- why no binding is installed
+    pub not-bound : (natives : NativeAnswers) (d : ℕ) {f : BindFault} → Ready w → (f ≢ bind_fault.Memory → v ≡ w) → IsNotBound p w.store.tree w.store.bindings number o objects f →
+        MatchResult (binding_reason f) (λ k. judged p (at w []) event (Err k) × (v ≡ w)) (λ g. Halted p natives d w event v g)
+    not-bound natives d some same (bad_source none) =
+        let judges : may_bind p (at w []) name target sources (Err BadSource) = on-found asks.site asks.is.is (ends (fails (λ covers. none (record { site = asks.site; is = asks.is.is; covers = covers })))) in
+        (ends judges, same (λ e. absurd (cc e)))
+    not-bound natives d some same (other_loop sited apart) =
+        (ends (on-found sited.site sited.is (goes_on tt (holds sited.covers) (ends (fails apart)))), same (λ e. absurd (cc e)))
+    not-bound natives d some same (bad_type may ill) =
+        halted-before (λ _. same (λ e. absurd (cc e))) (some.some, inl (inr (record { binding = new_binding may; next = next-bind some (may-ok may); ill = ill })))
+    not-bound natives d some same (closes may fit loop) =
+        halted-before (λ _. same (λ e. absurd (cc e))) (some.some, record { binding = new_binding may; next = next-bind some (may-ok may); fit = fit; closes = loop })
+    not-bound natives d some same no_memory = halted-before (λ other. absurd (other refl)) (some.some, is_next (idle w some.no_turn))
+
+    pub binding-stops : {natives : NativeAnswers} (d : ℕ) {f : BindFault} {g : Fault} → Ready w → (f ≢ bind_fault.Memory → v ≡ w) → IsNotBound p w.store.tree w.store.bindings number o objects f → Err g ≡ binding_reason f → Halted p natives d w event v g
+    binding-stops {natives = natives} d some same is e =
+        let Decides : Result Refusal Fault → Type 0 = λ r. MatchResult r (λ k. judged p (at w []) event (Err k) × (v ≡ w)) (λ h. Halted p natives d w event v h) in
+        subst Decides (sym e) (not-bound natives d some same is)
+
+    pub binding-refuses : {f : BindFault} {k : Refusal} → Ready w → (f ≢ bind_fault.Memory → v ≡ w) → IsNotBound p w.store.tree w.store.bindings number o objects f → Ok k ≡ binding_reason f → judged p (at w []) event (Err k) × (v ≡ w)
+    binding-refuses some same is e =
+        let Decides : Result Refusal Fault → Type 0 = λ r. MatchResult r (λ k. judged p (at w []) event (Err k) × (v ≡ w)) (λ h. Halted p no_natives 0 w event v h) in
+        subst Decides (sym e) (not-bound no_natives 0 some same is)

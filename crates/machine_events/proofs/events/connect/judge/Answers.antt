@@ -1,0 +1,17 @@
+use Rattle.std.proofs.Common.{[]}
+use Rattle.machine_state.specs.Worlds.{at}
+use Rattle.machine_rules.specs.Judgement.{gives, goes_on, ends}
+use Rattle.machine_events.specs.Judgement.{refused}
+use Rattle.machine_events.specs.events.Connect.{connect}
+use Rattle.machine_events.proofs.Judged.{then-ends, err-is}
+use Rattle.machine_events.proofs.events.connect.judge.Goals as goal
+
+pub returns-in_err-found-clause-refused : goal.returns-in_err-found-clause-refused
+returns-in_err-found-clause-refused g c =
+    err-is {Judged = connect c.args.setting.now.meta (at c.args.world.now []) c.args.named.now c.args.how} c.from_residual.result (then-ends c.in_err-found.ensures.refused) c.from_residual.ensures.1
+
+pub returns-in-Ok-clause-accepted : goal.returns-in-Ok-clause-accepted
+returns-in-Ok-clause-accepted g c = goes_on c.in_ok-found.found c.in_ok-found.ensures.found (goes_on tt (rw c.in-Ok.is at c.may_connect.ensures) gives)
+
+pub returns-in-Err-clause-refused : goal.returns-in-Err-clause-refused
+returns-in-Err-clause-refused g c = refused (goes_on c.in_ok-found.found c.in_ok-found.ensures.found (ends (rw c.in-Err.is at c.may_connect.ensures)))

@@ -1,0 +1,27 @@
+use Rattle.std.proofs.Common.{Ok, Err}
+use Rattle.machine_events.proofs.Pushed.{began, barred-short, sound-begun}
+use Rattle.machine_events.proofs.Taken.{took-unchanged, took-stopped, ready}
+use Rattle.machine_events.proofs.events.invoke.begin.Goals as goal
+
+pub returns-in_err-line : goal.returns-in_err-line
+returns-in_err-line g c = λ e asks. barred-short e _ c.requires.depth (ready c.requires.left c.requires.idle) (rw c.nothing-below.ensures at c.in_err-line.ensures.err) c.from_residual.ensures.1
+
+pub returns-in_err-accept_with : goal.returns-in_err-accept_with
+returns-in_err-accept_with g c = λ e asks. took-unchanged e _ (ready c.requires.left c.requires.idle) c.in_err-accept_with.ensures c.from_residual-in_err-accept_with.ensures.1
+
+pub run_begun-requires-clause-sound : goal.run_begun-requires-clause-sound
+run_begun-requires-clause-sound g c = sound-begun c.args.world.now _ c.requires.keeps.sound c.in_ok-accept_with.ensures
+
+pub returns-in_err-run_begun : goal.returns-in_err-run_begun
+returns-in_err-run_begun g c = λ e asks.
+    let is = rw c.nothing-below.ensures at c.in_ok-line.ensures.ok in
+    let ends = rw c.nothing-below.ensures at c.in_err-run_begun.ensures.ends in
+    took-stopped e _
+    (began {r = Err c.in_err-run_begun.field-0.0} e c.requires.keeps.sound.is.agree c.requires.fit (ready c.requires.left c.requires.idle) asks is c.in_ok-accept_with.ensures ends)
+    c.from_residual-in_err-run_begun.ensures.1
+
+pub returns : goal.returns
+returns g c = λ e asks.
+    let is = rw c.nothing-below.ensures at c.in_ok-line.ensures.ok in
+    let ends = rw c.nothing-below.ensures at c.in_ok-run_begun.ensures.ends in
+    began {r = Ok tt} e c.requires.keeps.sound.is.agree c.requires.fit (ready c.requires.left c.requires.idle) asks is c.in_ok-accept_with.ensures ends

@@ -1,0 +1,43 @@
+-- What an event comes to where nothing is going on (docs/machine.md, "Events").
+use Rattle.std.specs.Prelude.{true, false, Result, Ok, Err}
+use Rattle.meta_model.specs.Loaded.{Loaded}
+use Rattle.script_lang.specs.declared.event.Event.{Event}
+use Rattle.script_lang.specs.declared.event.Event.TheVariants as event
+use Rattle.machine_state.specs.declared.refusal.Refusal.{Refusal}
+use Rattle.machine_state.specs.Accepting.{refused}
+use Rattle.machine_state.specs.State.{State, IsIdle}
+use Rattle.machine_events.specs.declared.events.invoke.Invocation.TheVariants.{Emit, Call}
+use Rattle.machine_events.specs.events.AddLoop.{add_loop}
+use Rattle.machine_events.specs.events.Turn.{turn}
+use Rattle.machine_events.specs.events.Create.{create}
+use Rattle.machine_events.specs.events.Adopt.{adopt}
+use Rattle.machine_events.specs.events.Connect.{connect}
+use Rattle.machine_events.specs.events.Disconnect.{disconnect}
+use Rattle.machine_events.specs.events.Assign.{assign}
+use Rattle.machine_events.specs.events.Bind.{bind}
+use Rattle.machine_events.specs.events.Invoke.{invoke}
+use Rattle.machine_events.specs.events.Block.{block}
+use Rattle.machine_events.specs.events.Delete.{delete}
+use Rattle.machine_events.specs.events.Later.{later}
+
+-- what becomes of an event: a state, or a refusal
+abbrev pub judged : Loaded → State → Event → Result State Refusal → Type 0
+judged p s (event.Loop name) = add_loop s name
+judged p s (event.Turn name) = turn s name
+judged p s (event.New name class loop) = create p s name class loop
+judged p s (event.Adopt parent child) = adopt p s parent child
+judged p s (event.Connect ends how) = connect p s ends how
+judged p s (event.Disconnect ends) = disconnect p s ends
+judged p s (event.Set name property i) = assign p s name property i
+judged p s (event.Emit name signal inputs) = invoke p s Emit name signal inputs
+judged p s (event.Call name slot inputs) = invoke p s Call name slot inputs
+judged p s (event.Bind site target sources) = bind p s site target sources
+judged p s (event.Block name) = block s name true
+judged p s (event.Unblock name) = block s name false
+judged p s (event.Delete name) = delete s name
+judged p s (event.Later name) = later s name
+
+-- the event is accepted or refused, where nothing is going on
+pub data Takes (p : Loaded) (e : Event) : State → State → Type 0 where
+  accepts : {s t : State} → IsIdle s → judged p s e (Ok t) → Takes p e s t
+  refuses : {s : State} (r : Refusal) → IsIdle s → judged p s e (Err r) → Takes p e s (refused s r)

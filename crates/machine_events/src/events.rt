@@ -1,0 +1,19 @@
+//! One module an event: how it is judged, and what it does.
+
+pub mod add_loop;
+pub mod adopt;
+pub mod assign;
+pub mod bind;
+pub mod block;
+pub mod connect;
+pub mod create;
+pub mod delete;
+pub mod disconnect;
+pub mod ends;
+pub mod invoke;
+pub mod later;
+pub mod named;
+pub mod turn;
+pub mod values;
+
+pub use invoke::Invocation;

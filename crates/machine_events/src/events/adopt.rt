@@ -1,0 +1,55 @@
+//! `adopt`: an object gets a parent.
+
+ghost use Rattle.std.specs.Prelude.{◌≡◌, ◌<◌, [], IfOk, IfErr, None};
+ghost use Rattle.script_lang.specs.declared.event.Event.TheVariants.{Adopt};
+ghost use Rattle.machine_events.specs.Taking.{WorldInvariant, Answers};
+ghost use Rattle.machine_events.specs.Taking.{adoption_reason};
+
+use crate::events::named::find_living;
+use crate::judgement::refuse;
+use machine_rules::Setting;
+use machine_state::{Answer, Fault, Refusal, World};
+use native_slots::Answering;
+use object_tree::AdoptFault;
+use signatures::{Name, ObjectId};
+
+/// Makes one object the parent of another.
+pub fn adopt<N: Answering>(
+    setting: &Setting<N>,
+    world: &mut World,
+    parent: &Name,
+    child: &Name,
+) -> Result<Answer, Fault>
+    requires left { 0 < world.old.left }
+    requires idle { world.old.turn ≡ None }
+    requires keeps { WorldInvariant setting.now.meta world.old }
+    ensures { Answers N.gives setting.now (Adopt parent.now child.now) world.old world.new result }
+{
+    let parent = match find_living(world, parent) {
+        Ok((number, _)) => ObjectId::new(number),
+        Err(reason) => return refuse(world, reason),
+    };
+    let child = match find_living(world, child) {
+        Ok((number, _)) => ObjectId::new(number),
+        Err(reason) => return refuse(world, reason),
+    };
+    match world.adopt(&setting.meta, parent, child) {
+        Ok(()) => Ok(Answer::Done),
+        Err(fault) => {
+            let refusal = reason(fault)?;
+            world.refuse(refusal)
+        }
+    }
+}
+
+/// Why the event is refused, or the run stops, where an object isn't adopted.
+fn reason(fault: AdoptFault) -> Result<Refusal, Fault>
+    ensures { result ≡ adoption_reason fault }
+{
+    match fault {
+        AdoptFault::NotOwned => Ok(Refusal::NotOwned),
+        AdoptFault::Cycle => Ok(Refusal::Cycle),
+        AdoptFault::OtherLoop => Ok(Refusal::OtherLoop),
+        AdoptFault::Memory => Err(Fault::Memory),
+    }
+}

@@ -1,0 +1,122 @@
+//! `bind`: a property is bound to others.
+
+ghost use Rattle.std.specs.Prelude.{◌≡◌, ℕ, ◌<◌, List, [], IfOk, IfErr, None};
+ghost use Rattle.script_lang.specs.declared.event.Event.TheVariants.{Bind};
+ghost use Rattle.machine_state.specs.Worlds.{at};
+ghost use Rattle.native_slots.specs.Promises.{Promises};
+ghost use Rattle.machine_events.specs.Judgement.{IsNotAccepted};
+ghost use Rattle.machine_events.specs.Taking.{WorldInvariant, Answers, AsksToBind, binding_reason};
+ghost use Rattle.machine_events.specs.events.Bind.{may_bind};
+
+use crate::events::named::{find_all_living, find_living};
+use crate::judgement::{NotAccepted, refuse};
+use machine_rules::{Active, Setting};
+use machine_state::{Answer, Fault, Refusal, World};
+use native_slots::Answering;
+use prop_bindings::BindFault;
+use signatures::{Name, ObjectId};
+use sqlite_items::Items;
+
+/// A binding site, and the objects whose properties it is to join.
+#[derive(Drop)]
+struct Asked {
+    site: usize,
+    target: ObjectId,
+    sources: Items<ObjectId>,
+}
+
+/// Binds a property, and runs what is notified.
+pub fn bind<N: Answering>(
+    setting: &Setting<N>,
+    world: &mut World,
+    site: &Name,
+    target: &Name,
+    sources: &[Name],
+) -> Result<Answer, Fault>
+    requires depth { 0 < setting.now.depth }
+    requires promises { Promises setting.now.meta (N.takes setting.now.natives) (N.gives setting.now.natives) }
+    requires left { 0 < world.old.left }
+    requires idle { world.old.turn ≡ None }
+    requires keeps { WorldInvariant setting.now.meta world.old }
+    ensures { Answers N.gives setting.now (Bind site.now target.now sources.now)
+        world.old world.new result }
+{
+    match judge(setting, world, site, target, sources) {
+        Err(reason) => refuse(world, reason),
+        Ok(asked) => install(setting, world, &asked),
+    }
+}
+
+/// What is to be bound, or why the event isn't accepted. Whether the site covers the objects is judged as the binding is
+/// installed.
+fn judge<N: Answering>(
+    setting: &Setting<N>,
+    world: &World,
+    site: &Name,
+    target: &Name,
+    sources: &[Name],
+) -> Result<Asked, NotAccepted>
+    ensures asked { IfOk result (λ a. AsksToBind setting.now.meta world.now
+        site.now target.now sources.now a.site a.target a.sources) }
+    ensures refused { IfErr result (IsNotAccepted
+        (may_bind setting.now.meta (at world.now []) site.now target.now sources.now)) }
+{
+    let Some(number) = setting.meta.site(site) else {
+        return Err(NotAccepted::Refused(Refusal::BadSource));
+    };
+    let Some(declared) = setting.meta.site_at(number) else {
+        unreachable!()
+    };
+    if sources.len() != declared.formals.len() {
+        return Err(NotAccepted::Refused(Refusal::BadSource));
+    }
+    let (target, _) = find_living(world, target)?;
+    let sources = find_all_living(setting.alloc, world, sources)?;
+    Ok(Asked {
+        site: number,
+        target: ObjectId::new(target),
+        sources,
+    })
+}
+
+/// Installs the binding, and runs what is notified; or refuses the event.
+fn install<N: Answering>(
+    setting: &Setting<N>,
+    world: &mut World,
+    asked: &Asked,
+) -> Result<Answer, Fault>
+    requires depth { 0 < setting.now.depth }
+    requires promises { Promises setting.now.meta (N.takes setting.now.natives) (N.gives setting.now.natives) }
+    requires left { 0 < world.old.left }
+    requires idle { world.old.turn ≡ None }
+    requires keeps { WorldInvariant setting.now.meta world.old }
+    ensures { (site target : List ℕ) (sources : List (List ℕ)) →
+        AsksToBind setting.now.meta world.old site target sources
+        asked.now.site asked.now.target asked.now.sources →
+        Answers N.gives setting.now (Bind site target sources) world.old world.new result }
+{
+    let sources = asked.sources.as_slice();
+    match world.accept_bind(&setting.meta, asked.site, asked.target, sources) {
+        Ok(changed) => {
+            setting.run_update(world, &Active::nothing(), changed.as_slice())?;
+            Ok(Answer::Done)
+        }
+        Err(fault) => {
+            let refusal = reason(fault)?;
+            world.refuse(refusal)
+        }
+    }
+}
+
+/// Why the event is refused, or the run stops, where no binding is installed.
+fn reason(fault: BindFault) -> Result<Refusal, Fault>
+    ensures { result ≡ binding_reason fault }
+{
+    match fault {
+        BindFault::BadSource => Ok(Refusal::BadSource),
+        BindFault::OtherLoop => Ok(Refusal::OtherLoop),
+        BindFault::BadType => Err(Fault::BadType),
+        BindFault::BindingLoop => Err(Fault::BindingLoop),
+        BindFault::Memory => Err(Fault::Memory),
+    }
+}

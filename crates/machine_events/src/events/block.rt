@@ -1,0 +1,31 @@
+//! `block` and `unblock`: an object's emissions call nothing, or call again.
+
+ghost use Rattle.std.specs.Prelude.{◌<◌, ◌≡◌, None};
+ghost use Rattle.machine_events.specs.Taking.{WorldInvariant, Answers, blocking};
+
+use crate::events::named::find_living;
+use crate::judgement::refuse;
+use machine_rules::Setting;
+use machine_state::{Answer, Fault, World};
+use native_slots::Answering;
+use signatures::{Name, ObjectId};
+
+/// Blocks an object, or lets it emit again.
+pub fn block<N: Answering>(
+    setting: &Setting<N>,
+    world: &mut World,
+    name: &Name,
+    on: bool,
+) -> Result<Answer, Fault>
+    requires left { 0 < world.old.left }
+    requires idle { world.old.turn ≡ None }
+    requires keeps { WorldInvariant setting.now.meta world.old }
+    ensures { Answers N.gives setting.now (blocking on name.now) world.old world.new result }
+{
+    let object = match find_living(world, name) {
+        Ok((number, _)) => ObjectId::new(number),
+        Err(reason) => return refuse(world, reason),
+    };
+    world.accept_block(object, on)?;
+    Ok(Answer::Done)
+}

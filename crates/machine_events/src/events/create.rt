@@ -1,0 +1,84 @@
+//! `new`: an object is created.
+
+ghost use Rattle.std.specs.Prelude.{◌≡◌, ◌<◌, None, ℕ, List, [], Option, Err, MatchOption};
+ghost use Rattle.script_lang.specs.declared.event.Event.TheVariants.{New};
+ghost use Rattle.machine_events.specs.Taking.{WorldInvariant, Answers};
+ghost use Rattle.machine_state.specs.Worlds.{at};
+ghost use Rattle.machine_rules.specs.Judgement.{NothingIs};
+ghost use Rattle.machine_events.specs.Taking.{creation_reason};
+ghost use Rattle.machine_events.specs.events.Create.{create, IsHome};
+
+use machine_rules::Setting;
+use machine_state::{Answer, Fault, MAIN, Refusal, World};
+use native_slots::Answering;
+use object_tree::CreateFault;
+use signatures::{LoopId, Name};
+
+/// Creates an object in the event loop of a name, or in `main` where none is named.
+pub fn create<N: Answering>(
+    setting: &Setting<N>,
+    world: &mut World,
+    name: &Name,
+    class: &Name,
+    home: &Option<Name>,
+) -> Result<Answer, Fault>
+    requires left { 0 < world.old.left }
+    requires idle { world.old.turn ≡ None }
+    requires keeps { WorldInvariant setting.now.meta world.old }
+    ensures { Answers N.gives setting.now (New name.now class.now home.now) world.old world.new result }
+{
+    let Some(home) = home_of(world, home) else {
+        let refusal = refusal_without_loop(setting, world, name, class);
+        return world.refuse(refusal);
+    };
+    match world.create(&setting.meta, name, class, home) {
+        Ok(_object) => Ok(Answer::Done),
+        Err(fault) => {
+            let refusal = reason(fault)?;
+            world.refuse(refusal)
+        }
+    }
+}
+
+/// The event loop of this name; where none is named, `main`.
+fn home_of(world: &World, name: &Option<Name>) -> Option<LoopId>
+    ensures { MatchOption result (NothingIs (IsHome world.now.store.loops.loops name.now))
+        (IsHome world.now.store.loops.loops name.now) }
+{
+    match name {
+        None => Some(LoopId::new(MAIN)),
+        Some(name) => world.store.loops.find(name),
+    }
+}
+
+/// Why the event is refused where there is no such event loop.
+fn refusal_without_loop<N: Answering>(
+    setting: &Setting<N>,
+    world: &World,
+    name: &Name,
+    class: &Name,
+) -> Refusal
+    ensures { (home : Option (List ℕ)) → NothingIs (IsHome world.now.store.loops.loops home) →
+        create setting.now.meta (at world.now []) name.now class.now home (Err result) }
+{
+    match world.find(name) {
+        Some(_) => Refusal::NameUsed,
+        None => match setting.meta.class(class) {
+            Some(_) => Refusal::NoLoop,
+            None => Refusal::NoClass,
+        },
+    }
+}
+
+/// Why the event is refused, or the run stops, where no object is created.
+fn reason(fault: CreateFault) -> Result<Refusal, Fault>
+    ensures { result ≡ creation_reason fault }
+{
+    match fault {
+        CreateFault::NameUsed => Ok(Refusal::NameUsed),
+        CreateFault::NoClass => Ok(Refusal::NoClass),
+        CreateFault::TooMany => Ok(Refusal::TooManyObjects),
+        CreateFault::BadType => Err(Fault::BadType),
+        CreateFault::Memory => Err(Fault::Memory),
+    }
+}

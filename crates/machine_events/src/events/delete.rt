@@ -1,0 +1,36 @@
+//! `delete`: an object is destroyed, and all its children.
+
+ghost use Rattle.std.specs.Prelude.{◌<◌, ◌≡◌, None};
+ghost use Rattle.script_lang.specs.declared.event.Event.TheVariants.{Delete};
+ghost use Rattle.native_slots.specs.Promises.{Promises};
+ghost use Rattle.machine_events.specs.Taking.{WorldInvariant, Answers};
+
+use crate::events::named::find_living;
+use crate::judgement::refuse;
+use machine_rules::{Active, Setting};
+use machine_state::{Answer, Fault, World};
+use native_slots::Answering;
+use signatures::{Name, ObjectId};
+
+/// Begins the deletion of an object, and carries it out.
+pub fn delete<N: Answering>(
+    setting: &Setting<N>,
+    world: &mut World,
+    name: &Name,
+) -> Result<Answer, Fault>
+    requires depth { 0 < setting.now.depth }
+    requires promises { Promises setting.now.meta (N.takes setting.now.natives) (N.gives setting.now.natives) }
+    requires left { 0 < world.old.left }
+    requires idle { world.old.turn ≡ None }
+    requires keeps { WorldInvariant setting.now.meta world.old }
+    ensures { Answers N.gives setting.now (Delete name.now) world.old world.new result }
+{
+    let object = match find_living(world, name) {
+        Ok((number, _)) => ObjectId::new(number),
+        Err(reason) => return refuse(world, reason),
+    };
+    world.accept()?;
+    let below = Active::nothing();
+    setting.run_deletion(world, &below, object)?;
+    Ok(Answer::Done)
+}

@@ -1,0 +1,67 @@
+//! What a connect or a disconnect names.
+
+ghost use Rattle.std.specs.Prelude.{◌≡◌, ◌↔◌, IfOk, IfErr, IsTrue, MatchOption};
+ghost use Rattle.meta_model.specs.declared.object.Work.TheVariants.{Signal};
+ghost use Rattle.machine_rules.specs.Judgement.{NothingIs};
+ghost use Rattle.machine_events.specs.Judgement.{IsNotAccepted};
+ghost use Rattle.machine_events.specs.events.Ends.{FindsEnds, find_ends, IsSignalOf, IsSignalNumber};
+
+use crate::events::named::find_living;
+use crate::judgement::NotAccepted;
+use machine_rules::{FoundEnds, Setting, named_signal};
+use machine_state::{Endpoints, Refusal, World};
+use meta_objects::{Meta, MetaMethod, Work};
+use native_slots::Answering;
+use signatures::{Name, ObjectId, Sig};
+use texts;
+
+/// The objects and methods that are named, or why the event isn't accepted.
+pub fn find_ends<N: Answering>(
+    setting: &Setting<N>,
+    world: &World,
+    named: &texts::Endpoints<Name>,
+) -> Result<FoundEnds, NotAccepted>
+    ensures found { IfOk result (λ f. FindsEnds setting.now.meta world.now.store.tree named.now f) }
+    ensures refused { IfErr result (IsNotAccepted
+        (find_ends setting.now.meta world.now.store.tree named.now)) }
+{
+    let (sender, from) = find_living(world, &named.sender)?;
+    let (receiver, to) = find_living(world, &named.receiver)?;
+    let Some(signal) = signal_of(&setting.meta, from.class, &named.signal) else {
+        return Err(NotAccepted::Refused(Refusal::NoMember));
+    };
+    let Some(method) = setting.meta.method(to.class, &named.method) else {
+        return Err(NotAccepted::Refused(Refusal::NoMember));
+    };
+    Ok(FoundEnds {
+        from: from.class,
+        to: to.class,
+        ends: Endpoints {
+            sender: ObjectId::new(sender),
+            signal: named_signal(signal),
+            receiver: ObjectId::new(receiver),
+            method,
+        },
+    })
+}
+
+/// The number of the class's signal of this signature.
+fn signal_of(meta: &Meta, class: usize, sig: &Sig) -> Option<usize>
+    ensures { MatchOption result (NothingIs (IsSignalOf meta.now class sig.now))
+        (IsSignalNumber meta.now class sig.now) }
+{
+    let Some(number) = meta.method(class, sig) else {
+        return None;
+    };
+    match meta.method_at(class, number) {
+        Some(method) if is_signal(method) => Some(number),
+        _ => None,
+    }
+}
+
+/// Whether the method is a signal.
+pub fn is_signal(method: &MetaMethod) -> bool
+    ensures { IsTrue result ↔ (method.now.work ≡ Signal) }
+{
+    matches!(method.work, Work::Signal)
+}

@@ -1,0 +1,175 @@
+//! `emit` and `call`: a method begins.
+
+ghost use Rattle.std.specs.Prelude.{◌≡◌, ◌↔◌, ◌<◌, [], Ok, length, IfOk, IfErr, IsTrue, MatchOption, None};
+ghost use Rattle.machine_state.specs.Worlds.{at};
+ghost use Rattle.machine_rules.specs.Reaches.{CallFits};
+ghost use Rattle.machine_rules.specs.Good.{ArgumentsFit};
+ghost use Rattle.machine_rules.specs.Judgement.{NothingIs, numbered};
+ghost use Rattle.native_slots.specs.Promises.{Promises};
+ghost use Rattle.machine_events.specs.Judgement.{IsNotAccepted};
+ghost use Rattle.machine_events.specs.Taking.{WorldInvariant, Answers, AsksFor, invoking};
+ghost use Rattle.machine_events.specs.events.Invoke.{invoke, May, IsAskedOf};
+ghost use Rattle.script_lang.specs.declared.event.Event.{Event as AnEvent};
+
+use crate::events::ends::is_signal;
+use crate::events::named::find_living;
+use crate::events::values::read_inputs;
+use crate::judgement::{NotAccepted, refuse};
+use machine_rules::{Active, MethodCall, Setting};
+use machine_state::{Answer, Fault, Refusal, World};
+use meta_model::OBJECT_NAME_CHANGED;
+use meta_objects::{Meta, MetaMethod};
+use native_slots::Answering;
+use script_lang::Input;
+use signatures::{Arguments, Name, ObjectId};
+
+/// What an event asks of a method.
+#[derive(Clone, Copy, Debug, PartialEq, Eq)]
+pub enum Invocation {
+    /// That the signal is emitted.
+    Emit,
+    /// That the slot is called.
+    Call,
+}
+
+impl Invocation {
+    /// Whether an event may ask this of the method of this number. `QObject`'s own signals come first.
+    fn may(self, number: usize, method: &MetaMethod) -> bool
+        ensures { IsTrue result ↔ May self number method.now }
+    {
+        match self {
+            Invocation::Emit => number > OBJECT_NAME_CHANGED && is_signal(method),
+            Invocation::Call => !is_signal(method),
+        }
+    }
+}
+
+/// The numbers of an object and of its method, and the values that it is given.
+#[derive(Drop)]
+struct Invoked {
+    object: ObjectId,
+    method: usize,
+    values: Arguments,
+}
+
+/// Emits a signal or calls a slot, and runs it.
+pub fn invoke<N: Answering>(
+    setting: &Setting<N>,
+    world: &mut World,
+    invocation: Invocation,
+    name: &Name,
+    called: &Name,
+    inputs: &[Input],
+) -> Result<Answer, Fault>
+    requires depth { 0 < setting.now.depth }
+    requires promises { Promises setting.now.meta (N.takes setting.now.natives) (N.gives setting.now.natives) }
+    requires left { 0 < world.old.left }
+    requires idle { world.old.turn ≡ None }
+    requires keeps { WorldInvariant setting.now.meta world.old }
+    ensures { Answers N.gives setting.now (invoking invocation name.now called.now inputs.now)
+        world.old world.new result }
+{
+    match judge(setting, world, invocation, name, called, inputs) {
+        Err(reason) => refuse(world, reason),
+        Ok(
+            Invoked {
+                object,
+                method,
+                values,
+            },
+        ) => {
+            let call = MethodCall {
+                object,
+                method,
+                arguments: values.as_slice(),
+            };
+            begin(setting, world, &call)
+        }
+    }
+}
+
+/// What the event begins, or why it isn't accepted.
+fn judge<N: Answering>(
+    setting: &Setting<N>,
+    world: &World,
+    invocation: Invocation,
+    name: &Name,
+    called: &Name,
+    inputs: &[Input],
+) -> Result<Invoked, NotAccepted>
+    ensures accepted { IfOk result (λ i. AsksFor setting.now.meta world.now
+        i.object i.method i.values (invoking invocation name.now called.now inputs.now)) }
+    ensures fits { IfOk result (λ i. ArgumentsFit setting.now.meta world.now.store.tree
+        i.object i.method i.values) }
+    ensures refused { IfErr result (IsNotAccepted
+        (invoke setting.now.meta (at world.now []) invocation name.now called.now inputs.now)) }
+{
+    let (object, life) = find_living(world, name)?;
+    let Some((method, declared)) = method_of(
+        &setting.meta,
+        life.class,
+        invocation,
+        called,
+        inputs.len(),
+    ) else {
+        return Err(NotAccepted::Refused(Refusal::NoMember));
+    };
+    let values = read_inputs(setting.alloc, world, inputs)?;
+    if world.store.tree.have_types(&setting.meta, values.as_slice(), declared.kinds.as_slice()) {
+        Ok(Invoked {
+            object: ObjectId::new(object),
+            method,
+            values,
+        })
+    } else {
+        Err(NotAccepted::Refused(Refusal::BadArgs))
+    }
+}
+
+/// The class's method of this name and number of parameters of which the event may ask this.
+fn method_of<'m>(
+    meta: &'m Meta,
+    class: usize,
+    invocation: Invocation,
+    name: &Name,
+    count: usize,
+) -> Option<(usize, &'m MetaMethod)>
+    ensures { MatchOption result
+        (NothingIs (IsAskedOf meta.now class invocation name.now count))
+        (λ f. IsAskedOf meta.now class invocation name.now count (numbered f.0 f.1.now)) }
+{
+    let Some(number) = meta.by_name(class, name, count) else {
+        return None;
+    };
+    let Some(method) = meta.method_at(class, number) else {
+        return None;
+    };
+    if invocation.may(number, method) {
+        Some((number, method))
+    } else {
+        None
+    }
+}
+
+/// Begins a method for an event that is accepted, and runs it.
+fn begin<N: Answering>(
+    setting: &Setting<N>,
+    world: &mut World,
+    call: &MethodCall<'_>,
+) -> Result<Answer, Fault>
+    requires depth { 0 < setting.now.depth }
+    requires promises { Promises setting.now.meta (N.takes setting.now.natives) (N.gives setting.now.natives) }
+    requires left { 0 < world.old.left }
+    requires idle { world.old.turn ≡ None }
+    requires keeps { WorldInvariant setting.now.meta world.old }
+    requires fit { CallFits setting.now.meta world.old.store.tree call.now }
+    ensures { (e : AnEvent) →
+        AsksFor setting.now.meta world.old call.now.object call.now.method call.now.arguments.now e →
+        Answers N.gives setting.now e world.old world.new result }
+{
+    let below = Active::nothing();
+    let (line, begun) = setting.begun(world, &below, call)?;
+    world.accept_with(line)?;
+    setting.run_begun(world, &below, call, &begun)?;
+    Ok(Answer::Done)
+}

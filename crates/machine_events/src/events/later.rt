@@ -1,0 +1,42 @@
+//! `later`: an object is deleted when its event loop comes to it.
+
+ghost use Rattle.std.specs.Prelude.{◌<◌, ◌≡◌, None};
+ghost use Rattle.script_lang.specs.declared.event.Event.TheVariants.{Later};
+ghost use Rattle.machine_events.specs.Taking.{WorldInvariant, Answers};
+
+use crate::events::named::find_living;
+use crate::judgement::refuse;
+use machine_rules::Setting;
+use machine_state::{Answer, Entry, Fault, Happening, World};
+use native_slots::Answering;
+use signatures::{Name, ObjectId};
+
+/// Schedules an object for deletion, unless it is scheduled already.
+pub fn later<N: Answering>(
+    setting: &Setting<N>,
+    world: &mut World,
+    name: &Name,
+) -> Result<Answer, Fault>
+    requires left { 0 < world.old.left }
+    requires idle { world.old.turn ≡ None }
+    requires keeps { WorldInvariant setting.now.meta world.old }
+    ensures { Answers N.gives setting.now (Later name.now) world.old world.new result }
+{
+    let (object, life) = match find_living(world, name) {
+        Ok((number, life)) => (ObjectId::new(number), life),
+        Err(reason) => return refuse(world, reason),
+    };
+    if life.scheduled {
+        world.accept()?;
+        return Ok(Answer::Done);
+    }
+    let Some(event_loop) = world.store.loops.name(life.home) else {
+        unreachable!()
+    };
+    let scheduled = Happening::Scheduled {
+        event_loop: event_loop.copy()?,
+        object: name.copy()?,
+    };
+    world.accept_schedule(Entry::At(0, scheduled), object)?;
+    Ok(Answer::Done)
+}

@@ -1,0 +1,34 @@
+//! What holds of every program.
+
+ghost use Rattle.machine_events.specs.Laws.{AlwaysSettled, OneFront, OneJudgement, OneRun, OneTaking};
+
+use native_slots::Answering;
+
+/// An event is accepted with one effect or refused for one reason, and not both; but a bind that closes a chain of bindings
+/// may have several effects.
+pub fn one_judgement()
+    ensures { OneJudgement }
+{}
+
+/// At most one state follows by the taking of an event, where no chain of bindings closes.
+pub fn one_taking()
+    ensures { OneTaking }
+{}
+
+/// Where each of these natives has one answer to one question, for one list of events, depth and number of rules there is
+/// one run: two that go on until nothing is going on end in
+/// the same state, with the same trace and the same rules left.
+pub fn one_run<N: Answering>(_natives: &N)
+    ensures { OneRun (N.gives _natives.now) }
+{}
+
+/// Where they have, of two runs of fronts of one list of events, from one state and with as many rules left, one goes on where the other
+/// ends, and its trace begins with the other's: a run that a fault stops has taken the way of every other one.
+pub fn one_front<N: Answering>(_natives: &N)
+    ensures { OneFront (N.gives _natives.now) }
+{}
+
+/// In every state of a run all values are settled: each bound property has the value of its binding's expression.
+pub fn always_settled<N: Answering>(_natives: &N)
+    ensures { AlwaysSettled (N.gives _natives.now) }
+{}

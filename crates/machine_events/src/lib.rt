@@ -1,0 +1,12 @@
+//! The events of a script: what each of them comes to on the machine, and the run until nothing is going on.
+#![tactic(auto)]
+
+mod events;
+mod judgement;
+mod laws;
+mod taking;
+
+pub use events::Invocation;
+pub use judgement::NotAccepted;
+pub use laws::{always_settled, one_front, one_judgement, one_run, one_taking};
+pub use taking::take_event;

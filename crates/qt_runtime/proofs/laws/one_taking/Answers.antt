@@ -1,5 +1,0 @@
-use Rattle.qt_runtime.proofs.OneTaking as law
-use Rattle.qt_runtime.proofs.laws.one_taking.Goals as goal
-
-pub returns : goal.returns
-returns c = law.one_taking
