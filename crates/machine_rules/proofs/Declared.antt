@@ -14,7 +14,7 @@ use Rattle.object_tree.specs.declared.object.Object.{Object}
 use Rattle.object_tree.specs.Objects.{Lives}
 use Rattle.object_tree.specs.Typed.{ReadAs}
 use Rattle.machine_rules.specs.Good.{ArgumentsFit, EmissionFits, of_living, of_dead, destroyed_kinds}
-use Rattle.machine_rules.specs.Sound.{Takes, Sends, TakesThese, SendsThese}
+use Rattle.machine_rules.specs.Sound.{Receives, Sends, ReceivesThese, SendsThese}
 use Rattle.machine_rules.specs.There.{IsMember}
 use Rattle.machine_rules.proofs.Dying.{lives-created, dead-created, lives-not-dead}
 use Rattle.machine_rules.proofs.Fields.{life-unique}
@@ -29,7 +29,7 @@ destroyed-takes {c = c} {method = method} sound is e =
 
 -- ---- a living object's method
 
-pub member-takes : {p : Loaded} {objects : List Object} {o m : ℕ} {x : Object} {method : MetaMethod} → IsMember p objects o m x method → Takes p objects o m method.kinds
+pub member-takes : {p : Loaded} {objects : List Object} {o m : ℕ} {x : Object} {method : MetaMethod} → IsMember p objects o m x method → Receives p objects o m method.kinds
 member-takes {p} {m = m} {method = method} is = record {
   created = lives-created is.lives;
   living = λ y l lives.
@@ -40,7 +40,7 @@ member-takes {p} {m = m} {method = method} is = record {
 pub member-sends : {p : Loaded} {objects : List Object} {o g : ℕ} {x : Object} {method : MetaMethod} → IsSound p → IsMember p objects o g x method → Sends p objects o g method.kinds
 member-sends sound is = record { takes = member-takes is; last = destroyed-takes sound is.is_method }
 
-pub fit-takes : {p : Loaded} {objects : List Object} {o m : ℕ} {arguments : List Value} → ArgumentsFit p objects o m arguments → TakesThese p objects o m arguments
+pub fit-takes : {p : Loaded} {objects : List Object} {o m : ℕ} {arguments : List Value} → ArgumentsFit p objects o m arguments → ReceivesThese p objects o m arguments
 fit-takes fit = record { kinds = fit.method.kinds; takes = member-takes fit.is; typed = fit.typed }
 
 pub fit-sends : {p : Loaded} {objects : List Object} {o g : ℕ} {arguments : List Value} → IsSound p → ArgumentsFit p objects o g arguments → SendsThese p objects o g arguments
@@ -57,7 +57,7 @@ emission-sends {objects = objects} {o = o} sound (of_dead gone is typed) = recor
 
 -- ---- what a living object's method takes
 
-pub living-fits : {p : Loaded} {objects : List Object} {o m : ℕ} {x : Object} {l : Life} {arguments : List Value} → Lives objects o x l → TakesThese p objects o m arguments → ArgumentsFit p objects o m arguments
+pub living-fits : {p : Loaded} {objects : List Object} {o m : ℕ} {x : Object} {l : Life} {arguments : List Value} → Lives objects o x l → ReceivesThese p objects o m arguments → ArgumentsFit p objects o m arguments
 living-fits {p} {objects} {x = x} {l = l} {arguments = arguments} lives t =
     let d = t.takes.living x l lives in
     record {

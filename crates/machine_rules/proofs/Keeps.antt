@@ -46,7 +46,7 @@ use Rattle.machine_rules.proofs.Lists.{all-snoc}
 use Rattle.machine_rules.proofs.Declared.{member-takes, member-sends}
 use Rattle.machine_rules.proofs.Dying.{lives-or-dead, lives-not-dead, died-stay, died-home, scheduled-stay}
 use Rattle.machine_rules.specs.Runs.{Rules, done, then}
-use Rattle.machine_rules.specs.Sound.{IsDeclared, Takes, Sends, Joined, AgreeIn}
+use Rattle.machine_rules.specs.Sound.{IsDeclared, Receives, Sends, Joined, AgreeIn}
 use Rattle.machine_rules.specs.Active.{whose, shows}
 use Rattle.machine_rules.specs.Reaches.{Reaches}
 use Rattle.machine_rules.specs.Settling.{Settles, Writes, Installs}
@@ -94,7 +94,7 @@ lives-on old new o {x} {l} stay spared lives = elim (stay.living o l.class (clas
 ]
 
 -- what a method takes it takes still
-pub takes-still : {p : Loaded} {old new : List Object} {o m : ℕ} {kinds : List ValueType} → StayThere old new → Takes p old o m kinds → Takes p new o m kinds
+pub takes-still : {p : Loaded} {old new : List Object} {o m : ℕ} {kinds : List ValueType} → StayThere old new → Receives p old o m kinds → Receives p new o m kinds
 takes-still {p} {old} {new} {o} {m} {kinds} stay takes =
     let Declared : ℕ → Type 0 = λ k. IsDeclared p k m kinds in
     record {

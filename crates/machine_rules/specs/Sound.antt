@@ -33,19 +33,19 @@ pub record IsDeclared (p : Loaded) (class m : ℕ) (kinds : List ValueType) : Ty
   pub takes : method.kinds ≡ kinds
 
 -- an object has this number, and as long as it lives, its method m declares these types
-pub record Takes (p : Loaded) (objects : List Object) (o m : ℕ) (kinds : List ValueType) : Type 0 where
+pub record Receives (p : Loaded) (objects : List Object) (o m : ℕ) (kinds : List ValueType) : Type 0 where
   pub created : o < length objects
   pub living : (x : Object) (life : Life) → Lives objects o x life → IsDeclared p life.class m kinds
 
 -- .. its signal g does so; those of `destroyed(QObject*)` are known when it is dead, too
 pub record Sends (p : Loaded) (objects : List Object) (o g : ℕ) (kinds : List ValueType) : Type 0 where
-  pub takes : Takes p objects o g kinds
+  pub takes : Receives p objects o g kinds
   pub last : g ≡ DESTROYED → kinds ≡ destroyed_kinds
 
 -- a method of an object takes these arguments, as they read
-pub record TakesThese (p : Loaded) (objects : List Object) (o m : ℕ) (arguments : List Value) : Type 0 where
+pub record ReceivesThese (p : Loaded) (objects : List Object) (o m : ℕ) (arguments : List Value) : Type 0 where
   pub kinds : List ValueType
-  pub takes : Takes p objects o m kinds
+  pub takes : Receives p objects o m kinds
   pub typed : ReadAs p objects arguments kinds
 
 -- .. and a signal, which is emitted with them
@@ -61,7 +61,7 @@ pub record Joined (p : Loaded) (objects : List Object) (c : Connection) : Type 0
   pub kinds : List ValueType
   pub rest : List ValueType
   pub sends : Sends p objects c.sender c.signal (kinds ++ rest)
-  pub receives : Takes p objects c.receiver c.method kinds
+  pub receives : Receives p objects c.receiver c.method kinds
 
 -- the connection's receiver lives, and its method takes the first of these arguments
 pub record IsDelivered (p : Loaded) (objects : List Object) (c : Connection) (arguments : List Value) : Type 0 where
@@ -79,7 +79,7 @@ pub record AreHoused (objects : List Object) (loops : List Loop) : Type 0 where
 
 -- what waits is a call of a method with arguments that fit, or the deletion of an object
 abbrev pub Waits : Loaded → List Object → Item → Type 0
-Waits p objects (Call o m arguments) = TakesThese p objects o m arguments
+Waits p objects (Call o m arguments) = ReceivesThese p objects o m arguments
 Waits p objects (Deletion o) = o < length objects
 
 -- .. so of all items of all loops

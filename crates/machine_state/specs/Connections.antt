@@ -22,8 +22,8 @@ abbrev pub joins_these : Endpoints → Connection → Bool
 joins_these ends c = joins ends.sender ends.signal ends.receiver ends.method c
 
 -- a connection more that joins these ends, which has the next number
-abbrev pub joined_by : Endpoints → ConnectionType → Connected → Connected
-joined_by ends how connected = connected_by connected ends.sender ends.signal ends.receiver ends.method how.kind how.single
+abbrev pub newly_joined : Endpoints → ConnectionType → Connected → Connected
+newly_joined ends how connected = connected_by connected ends.sender ends.signal ends.receiver ends.method how.kind how.single
 
 -- all but those that join these ends
 abbrev pub parted : Endpoints → Connected → Connected

@@ -31,7 +31,7 @@ use Rattle.machine_state.specs.declared.telling.Cause.{Cause}
 use Rattle.machine_state.specs.declared.telling.Cause.TheVariants.{Write, Bind}
 use Rattle.machine_state.specs.declared.world.World.{World}
 use Rattle.machine_state.specs.Refusals.{refusal_number}
-use Rattle.machine_state.specs.Connections.{after_use, joined_by, parted}
+use Rattle.machine_state.specs.Connections.{after_use, newly_joined, parted}
 use Rattle.machine_state.specs.Accepting.{accepted, refused, with_entries}
 use Rattle.machine_state.specs.declared.endpoints.Endpoints.{Endpoints}
 use Rattle.machine_state.specs.State.{State, Activation}
@@ -111,7 +111,7 @@ turn_ended w = record (ticked w) { turn = None }
 
 -- .. that also makes a connection between these ends, and that removes those between them
 abbrev pub connecting : World → List Entry → Endpoints → ConnectionType → World
-connecting w entries ends how = with_connected (noted w entries) (joined_by ends how w.store.connections)
+connecting w entries ends how = with_connected (noted w entries) (newly_joined ends how w.store.connections)
 
 abbrev pub disconnecting : World → List Entry → Endpoints → World
 disconnecting w entries ends = with_connected (noted w entries) (parted ends w.store.connections)
@@ -146,12 +146,11 @@ pub record HasWritten (p : Loaded) (depth : ℕ) (at : Place) (value : Value) (w
   pub are_told : AreTold p v.store.tree depth Write at changed lines
   pub gives : v ≡ with_bound (told lines) v.store.tree v.store.bindings
 
--- .. what is to be written down of it, before that
-pub record IsSet (p : Loaded) (depth : ℕ) (at : Place) (value : Value) (w : World) (changed : List Place)
+-- .. and these lines are to be written down of it, but none of them stands yet
+pub record IsWrittenUntold (p : Loaded) (depth : ℕ) (at : Place) (value : Value) (w : World) (changed : List Place)
     (lines : List Entry) (v : World) : Type 0 where
-  pub writes : IsWritten w.store.bindings v.store.bindings w.store.tree v.store.tree at value changed
-  pub are_told : AreTold p v.store.tree depth Write at changed lines
-  pub keeps : KeepsTheRest w v
+  pub written : HasWritten p depth at value w (λ _. w) changed v
+  pub are : written.lines ≡ lines
 
 -- .. or memory was refused; then nothing is written down, and nothing changed but objects and bindings
 abbrev pub WritesIn : Loaded → ℕ → Place → Value → World → (List Entry → World) → Result (List Place) Fault → World → Type 0
@@ -166,12 +165,11 @@ pub record HasBound (p : Loaded) (site target : ℕ) (sources : List ℕ) (w : W
   pub are_told : AreTold p v.store.tree 1 Bind (new_binding binds.may).target changed lines
   pub gives : v ≡ with_bound (told lines) v.store.tree v.store.bindings
 
--- .. what is to be written down of it, before that
-pub record IsInstalledIn (p : Loaded) (site target : ℕ) (sources : List ℕ) (w : World) (changed : List Place)
+-- .. and these lines are to be written down of it, but none of them stands yet
+pub record IsBoundUntold (p : Loaded) (site target : ℕ) (sources : List ℕ) (w : World) (changed : List Place)
     (lines : List Entry) (v : World) : Type 0 where
-  pub binds : IsBound p w.store.bindings w.store.tree site target sources v.store.bindings v.store.tree changed
-  pub are_told : AreTold p v.store.tree 1 Bind (new_binding binds.may).target changed lines
-  pub keeps : KeepsTheRest w v
+  pub bound : HasBound p site target sources w (λ _. w) changed v
+  pub are : bound.lines ≡ lines
 
 -- why it wasn't installed: then nothing changed; where memory was refused, nothing but objects and bindings
 pub record IsUnbound (p : Loaded) (site target : ℕ) (sources : List ℕ) (w : World) (fault : BindFault) (v : World)
@@ -237,7 +235,7 @@ Rejects w r v (Err fault) = (fault ≡ Memory) × (v ≡ w)
 
 -- a state with a connection more, which has the next number
 abbrev pub with_connection : State → Endpoints → ConnectionType → State
-with_connection s ends how = record s { connected = joined_by ends how s.connected }
+with_connection s ends how = record s { connected = newly_joined ends how s.connected }
 
 -- .. a connection is made
 abbrev pub accepting_connection : World → Endpoints → ConnectionType → World

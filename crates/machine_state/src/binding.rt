@@ -5,11 +5,11 @@ ghost use Rattle.std.specs.Prelude.{◌≡◌, ◌<◌, ◌^◌, IfOk, IfErr};
 ghost use Rattle.prop_bindings.specs.Fits.{Agree, FitsAt};
 ghost use Rattle.machine_state.specs.declared.fault.Fault.TheVariants.{Memory};
 ghost use Rattle.machine_state.specs.Telling.{HaveValues, AreTold};
-ghost use Rattle.machine_state.specs.Worlds.{noted, accepting_entries, KeepsTheRest, WritesIn, BindsIn, IsSet, IsInstalledIn, IsUnbound};
+ghost use Rattle.machine_state.specs.Worlds.{noted, accepting_entries, KeepsTheRest, WritesIn, BindsIn, IsWrittenUntold, IsBoundUntold, IsUnbound};
 
 use crate::entry::Entry;
 use crate::fault::Fault;
-use crate::telling::{Cause, tell_change};
+use crate::telling::{Cause, Telling};
 use crate::world::World;
 use delete_later::Store;
 use meta_objects::Meta;
@@ -107,7 +107,7 @@ impl World {
     ) -> Result<Change, Fault>
         requires agree { Agree meta.now self.old.store.tree self.old.store.bindings }
         requires fits { FitsAt meta.now self.old.store.tree place.now value }
-        ensures ok { IfOk result (λ change. IsSet meta.now depth place.now value self.old
+        ensures ok { IfOk result (λ change. IsWrittenUntold meta.now depth place.now value self.old
             change.changed change.lines.items self.new) }
         ensures err { IfErr result (λ fault. (fault ≡ Memory) × KeepsTheRest self.old self.new) }
         ensures agree { Agree meta.now self.new.store.tree self.new.store.bindings }
@@ -132,7 +132,7 @@ impl World {
         sources: &[ObjectId],
     ) -> Result<Change, BindFault>
         requires agree { Agree meta.now self.old.store.tree self.old.store.bindings }
-        ensures ok { IfOk result (λ change. IsInstalledIn meta.now site target sources.now self.old
+        ensures ok { IfOk result (λ change. IsBoundUntold meta.now site target sources.now self.old
             change.changed change.lines.items self.new) }
         ensures err { IfErr result (λ fault. IsUnbound meta.now site target sources.now self.old
             fault self.new) }
@@ -164,15 +164,11 @@ impl World {
         ensures { IfOk result (λ lines.
             AreTold meta.now self.now.store.tree depth cause first.now changed.now lines.items) }
     {
-        let alloc = self.trace.allocator();
-        tell_change(
-            alloc,
+        let telling = Telling {
             meta,
-            &self.store.tree,
+            tree: &self.store.tree,
             depth,
-            cause,
-            first,
-            changed.as_slice(),
-        )
+        };
+        telling.change(self.trace.allocator(), cause, first, changed.as_slice())
     }
 }

@@ -1,7 +1,7 @@
 //! Connections that are made and removed.
 
 ghost use Rattle.std.specs.Prelude.{◌≡◌, ◌∷◌, [], ◌<◌, ◌^◌, ◌-◌, OnOk, IfErr, IsTrue};
-ghost use Rattle.machine_state.specs.Connections.{are_joined, joined_by, parted};
+ghost use Rattle.machine_state.specs.Connections.{are_joined, newly_joined, parted};
 ghost use Rattle.machine_state.specs.Worlds.{connecting, disconnecting, GoesTo};
 ghost use Rattle.machine_state.specs.declared.fault.Fault.TheVariants.{Memory};
 
@@ -65,7 +65,7 @@ impl World {
 /// Adds a connection with the next number; without memory nothing changes. Whether a unique one exists isn't asked.
 pub fn join(connected: &mut Connections, ends: &Endpoints, how: ConnectionType) -> Result<(), Fault>
     requires few { connected.old.last < 2 ^ 63 - 1 }
-    ensures ok { OnOk result (connected.new ≡ joined_by ends.now how connected.old) }
+    ensures ok { OnOk result (connected.new ≡ newly_joined ends.now how connected.old) }
     ensures err { IfErr result (λ fault. (fault ≡ Memory) × (connected.new ≡ connected.old)) }
 {
     let Ok(()) = connected.connect(

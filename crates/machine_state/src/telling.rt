@@ -22,58 +22,64 @@ pub enum Cause {
     Follow,
 }
 
-/// The lines of a property that is written or bound, whether it reads as it did or not, and of each other one that
-/// changed, with the values that they have now.
-pub fn tell_change(
-    alloc: Global,
-    meta: &Meta,
-    tree: &Tree,
-    depth: usize,
-    cause: Cause,
-    first: &Place,
-    changed: &[Place],
-) -> Result<Vec<Entry>, AllocError>
-    requires there { HaveValues meta.now tree.now first.now changed.now }
-    ensures { IfOk result (λ lines.
-        AreTold meta.now tree.now depth cause first.now changed.now lines.items) }
-{
-    let mut lines = Vec::new(alloc);
-    lines.push(tell(meta, tree, depth, cause, first)?)?;
-    for place in changed {
-        if place.is_same(first) {
-            continue;
-        }
-        lines.push(tell(meta, tree, depth, Cause::Follow, place)?)?;
-    }
-    Ok(lines)
+/// The telling of what changes.
+#[derive(Clone, Copy)]
+pub struct Telling<'w> {
+    /// The program.
+    pub meta: &'w Meta,
+    /// The objects, with the values that they have now.
+    pub tree: &'w Tree,
+    /// The depth that is written down.
+    pub depth: usize,
 }
 
-/// The line of a property with the value that it has now.
-fn tell(
-    meta: &Meta,
-    tree: &Tree,
-    depth: usize,
-    cause: Cause,
-    place: &Place,
-) -> Result<Entry, AllocError>
-    requires there { HasValue meta.now tree.now place.now }
-    ensures { IfOk result (IsTold meta.now tree.now depth cause place.now) }
-{
-    let Some((object, life)) = tree.get(place.object) else {
-        unreachable!()
-    };
-    let Some(class) = meta.object(life.class) else {
-        unreachable!()
-    };
-    let (Some(property), Some(value)) = (
-        class.properties.get(place.property),
-        life.values.get(place.property),
-    ) else {
-        unreachable!()
-    };
-    let value = show(tree, value)?;
-    let what = happening(cause, object.name.copy()?, property.name.copy()?, value);
-    Ok(Entry::At(depth, what))
+impl<'w> Telling<'w> {
+    /// The lines of a property that is written or bound, whether it reads as it did or not, and of each other one that
+    /// changed, with the values that they have now.
+    pub fn change(
+        &self,
+        alloc: Global,
+        cause: Cause,
+        first: &Place,
+        changed: &[Place],
+    ) -> Result<Vec<Entry>, AllocError>
+        requires there { HaveValues self.now.meta.now self.now.tree.now first.now changed.now }
+        ensures { IfOk result (λ lines. AreTold self.now.meta.now self.now.tree.now self.now.depth
+            cause first.now changed.now lines.items) }
+    {
+        let mut lines = Vec::new(alloc);
+        lines.push(self.line(cause, first)?)?;
+        for place in changed {
+            if place.is_same(first) {
+                continue;
+            }
+            lines.push(self.line(Cause::Follow, place)?)?;
+        }
+        Ok(lines)
+    }
+
+    /// The line of a property with the value that it has now.
+    fn line(&self, cause: Cause, place: &Place) -> Result<Entry, AllocError>
+        requires there { HasValue self.now.meta.now self.now.tree.now place.now }
+        ensures { IfOk result (IsTold self.now.meta.now self.now.tree.now self.now.depth
+            cause place.now) }
+    {
+        let Some((object, life)) = self.tree.get(place.object) else {
+            unreachable!()
+        };
+        let Some(class) = self.meta.object(life.class) else {
+            unreachable!()
+        };
+        let (Some(property), Some(value)) = (
+            class.properties.get(place.property),
+            life.values.get(place.property),
+        ) else {
+            unreachable!()
+        };
+        let value = show(self.tree, value)?;
+        let what = happening(cause, object.name.copy()?, property.name.copy()?, value);
+        Ok(Entry::At(self.depth, what))
+    }
 }
 
 /// What happens where a property comes to a value so.

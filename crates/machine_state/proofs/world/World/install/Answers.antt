@@ -32,4 +32,7 @@ returns-clause-ok c =
     let found : slice_get c.args.meta.now.sites c.args.site ≡ Some c.in-Some.declared.now = sym c.in-Some.ensures.value in
     let site : bound.may.sited.site ≡ c.in-Some.declared.now = same_Some _ _ (sym bound.may.sited.is ∙ found) in
     let Told : MetaSite → Type 0 = λ s. AreTold c.args.meta.now c.bind.new.tree 1 Bind (property_of c.args.target s.property) c.in_ok-changed.changed c.in_ok-lines.lines.items in
-    record { binds = bound; are_told = subst Told (sym site) c.in_ok-lines.ensures; keeps = refl }
+    record {
+      bound = record { binds = bound; lines = c.in_ok-lines.lines.items; are_told = subst Told (sym site) c.in_ok-lines.ensures; gives = refl };
+      are = refl;
+    }

@@ -1,7 +1,7 @@
 use Rattle.std.proofs.Common.{ℕ, List, sym, ap, ◌∙◌}
 use Rattle.machine_state.specs.declared.entry.Entry.TheVariants.{At}
 use Rattle.machine_state.specs.Telling.{happening_of}
-use Rattle.machine_state.proofs.telling.tell.Goals as goal
+use Rattle.machine_state.proofs.telling.Telling.line.Goals as goal
 
 pub returns : goal.returns
 returns c = record {
@@ -14,7 +14,7 @@ returns c = record {
     value = c.in-Some-Some.value.now;
     is_value = sym c.in-Some-Some.ensures';
   };
-  is = ap (At c.args.depth) (
+  is = ap (At c.args.self.now.depth) (
       c.happening-what.ensures
       ∙ ap (λ (name : List ℕ). happening_of c.args.cause name c.in_ok-copy-2.field-0 c.in_ok-value.value) c.in_ok-copy.ensures
       ∙ ap (λ (name : List ℕ). happening_of c.args.cause c.in-Some.object.now.name name c.in_ok-value.value) c.in_ok-copy-2.ensures

@@ -1,7 +1,0 @@
-use Rattle.std.proofs.Common.{take}
-use Rattle.machine_state.specs.Telling.{AreTold}
-use Rattle.machine_state.proofs.telling.tell_change.Given as goal
-
--- the first property and those that were passed are told
-abbrev pub invariant-loop-place : goal.invariant-loop-place
-invariant-loop-place l = AreTold l.meta l.tree l.depth l.fn.cause l.first (take l.place-index l.changed) l.lines.items
