@@ -75,7 +75,7 @@ module _ {N : Type 0} {takes : N → Takes} {gives : N → NativeAnswers} where
         taken = come.taken ++ x.front.taken;
         runs = subst Reached checked.bound (runs-trans come.runs x.front.runs);
       } in
-      only_limits reached (subst Stopped checked.bound (reason-of a.program natives a.depth x.world.left (at x.world x.stack) x.front.rest f x.cause))
+      only_limits x.world.left x.front.rest f reached (subst Stopped checked.bound (reason-of a.program natives a.depth x.world.left (at x.world x.stack) x.front.rest f x.cause))
 
   stops-checked : {a b : Seen N} {es : List Event} {f : Fault} → IsSound a.program → AreKept takes gives a → Halts gives a es f b ⊎ Stays a f b → IsChecked gives a → IsChecked gives b × StopsAtLimit a f
   stops-checked sound kept (inl halts) checked = (halts-checked halts checked, inl (halts-limit sound kept halts checked))
