@@ -9,3 +9,4 @@ pub mod Given
 pub mod Events
 pub mod Claims
 pub mod Lacking
+pub mod Giving
