@@ -7,6 +7,9 @@ pub mod Leading
 pub mod Rules
 pub mod Given
 pub mod Events
-pub mod Claims
 pub mod Lacking
 pub mod Giving
+pub mod Kept
+pub mod Arguments
+pub mod Steps
+pub mod Claims
