@@ -31,6 +31,7 @@ use Rattle.object_tree.specs.Objects.{class_of, life_of}
 use Rattle.object_tree.specs.Typed.{ReadAs}
 use Rattle.prop_bindings.specs.declared.place.Place.{Place}
 use Rattle.prop_bindings.specs.Fits.{Agree}
+use Rattle.effect_scan.specs.declared.node.Node.{Node}
 use Rattle.certificate_lang.specs.declared.certificate.Certificate.{Certificate}
 use Rattle.rank_check.specs.Valid.{IsValid}
 use Rattle.machine_state.specs.declared.endpoints.Endpoints.{Endpoints}
@@ -148,8 +149,8 @@ module _ {p : Loaded} {certificate : Certificate} (valid : IsValid p certificate
 
   -- ---- bodies
 
-  pushes-does : (t : State) (n o m : ℕ) (arguments : List Value) (y : Step) (rest : List Step) (below : List Activation) {r : Rung p certificate} (b : BodyStands p s.objects o m arguments (y ∷ rest) r.node) → n ≡ suc (length below) → StepIsPromised p classes o y → AllByRecursion (StepIsPromised p classes o) rest → AllIsPromised p classes below → (d : Doing) → doing_step s.objects o arguments y ≡ Some d → Does p natives s o m arguments rest below d t → Pushes p classes n t
-  pushes-does t n o m arguments y rest below b high one left all (Write x q new) is does = pushes-as (does.settles).gives (record { arguments = λ more. tt; promised = (tt, left, all) })
+  pushes-does : (t : State) (n o m : ℕ) (arguments : List Value) (y : Step) (rest : List Step) (below : List Activation) {x : Node} (b : BodyStands p s.objects o m arguments (y ∷ rest) x) → n ≡ suc (length below) → StepIsPromised p classes o y → AllByRecursion (StepIsPromised p classes o) rest → AllIsPromised p classes below → (d : Doing) → doing_step s.objects o arguments y ≡ Some d → Does p natives s o m arguments rest below d t → Pushes p classes n t
+  pushes-does t n o m arguments y rest below b high one left all (Write x q new) is does = pushes-as (does.settles).gives (record { arguments = λ more. tt; promised = (tt, (left, all)) })
   pushes-does t n o m arguments y rest below b high one left all (Begin x k given) is does =
       let gives = does-give valid sound classes known agree.typed b y (Begin x k given) (b.steps).0 one is in
       pushes-begins does (fit-of does.is (gives does.object does.method does.is)) (left, all)
@@ -159,7 +160,7 @@ module _ {p : Loaded} {certificate : Certificate} (valid : IsValid p certificate
       pushes-as does.gives (pushes-linked s (Body o m arguments rest ∷ below) (kept_ends ends) how (names_of does.kept) does.answer (omega (arith, high)) (left, all))
   pushes-does t n o m arguments y rest below b high one left all (Disconnect ends) is does =
       pushes-as does.gives (pushes-unlinked s (Body o m arguments rest ∷ below) (kept_ends ends) (names_of does.kept) does.answer (omega (arith, high)) (left, all))
-  pushes-does t n o m arguments y rest below b high one left all (Delete x) is does = pushes-as does (record { arguments = λ more. tt; promised = (tt, left, all) })
+  pushes-does t n o m arguments y rest below b high one left all (Delete x) is does = pushes-as does (record { arguments = λ more. tt; promised = (tt, (left, all)) })
   pushes-does t n o m arguments y rest below b high one left all (Schedule x) is does =
       pushes-schedules s t (Body o m arguments rest ∷ below) x (life_of s.objects x) (omega (arith, high)) (left, all) does
   pushes-does t n o m arguments y rest below b high one left all (TakeAnswer effects) is does =
@@ -167,9 +168,9 @@ module _ {p : Loaded} {certificate : Certificate} (valid : IsValid p certificate
       pushes-as does.gives (pushes-none (omega (arith, high)) (steps-append (StepIsPromised p classes o) (map (Act effects) does.actions) rest (answer-promised sound promises classes known agree.typed b native does) left, all))
   pushes-does t n o m arguments y rest below b high one left all Nothing is does = pushes-as does (pushes-none (omega (arith, high)) (left, all))
 
-  pushes-body : (t : State) (n o m : ℕ) (arguments : List Value) (left : List Step) (below : List Activation) {r : Rung p certificate} (b : BodyStands p s.objects o m arguments left r.node) → n ≡ suc (length below) → AllByRecursion (StepIsPromised p classes o) left → AllIsPromised p classes below → BodyRule p natives s o m arguments below t left → Pushes p classes n t
+  pushes-body : (t : State) (n o m : ℕ) (arguments : List Value) (left : List Step) (below : List Activation) {x : Node} (b : BodyStands p s.objects o m arguments left x) → n ≡ suc (length below) → AllByRecursion (StepIsPromised p classes o) left → AllIsPromised p classes below → BodyRule p natives s o m arguments below t left → Pushes p classes n t
   pushes-body t n o m arguments [] below b high left all e = pushes-as e (pushes-none (omega (arith, high)) all)
-  pushes-body t n o m arguments (y ∷ rest) below {r = r} b high left all rule = pushes-does t n o m arguments y rest below {r = r} b high left.0 left.1 all rule.what rule.is rule.does
+  pushes-body t n o m arguments (y ∷ rest) below b high left all rule = pushes-does t n o m arguments y rest below b high left.0 left.1 all rule.what rule.is rule.does
 
   -- ---- emissions
 
@@ -239,7 +240,7 @@ module _ {p : Loaded} {certificate : Certificate} (valid : IsValid p certificate
   pushes-at : (t : State) (stack : List Activation) (rungs : List (Rung p certificate)) → s.stack ≡ stack → AllIsPromised p classes stack → Stacked classes s.objects stack rungs → RuleAt p natives s t stack → Pushes p classes (length s.stack) t
   pushes-at t [] rungs is all st rule = pushes-turn t (subst (AllIsPromised p classes) (sym is) tt) is s.turn rule
   pushes-at t (a ∷ below) [] is all st rule = absurd st
-  pushes-at t (Body o m arguments left ∷ below) (r ∷ rungs) is all st rule = pushes-body t (length s.stack) o m arguments left below {r = r} st.0 (ap (λ (l : List Activation). length l) is) all.0 all.1 rule
+  pushes-at t (Body o m arguments left ∷ below) (r ∷ rungs) is all st rule = pushes-body t (length s.stack) o m arguments left below st.0 (ap (λ (l : List Activation). length l) is) all.0 all.1 rule
   pushes-at t (Emit o g arguments used last ∷ below) (r ∷ rungs) is all st rule =
       pushes-emission t (length s.stack) o g arguments used last below (ap (λ (l : List Activation). length l) is) (emitted-on-top is) all.1 (next_used s.objects s.connected.connections o g used last) refl rule
     where

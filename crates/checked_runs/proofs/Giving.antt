@@ -147,60 +147,60 @@ module _ {p : Loaded} {objects : List Object} (sound : IsSound p) where
       member-method (record { life = k; lives = lives; is_method = method-below sound beneath is }) member
 
   written-typed : (y q : ℕ) (z : Object) (k : Life) (c : ℕ) (declared : MetaProperty) (new : Value) → Lives objects y z k → Below p k.class c → IsProperty p c q declared → ReadsAs p objects new declared.kind → GivesTyped p objects (Write y q new)
-  written-typed y q z k c declared new lives beneath is reads x property field =
+  written-typed y q z k c declared new lives beneath is reads = λ x property field.
       subst (λ (w : MetaProperty). ReadsAs p objects new w.kind) (one-property y q z k c declared lives beneath is x property field) reads
 
   begun-typed : (y n : ℕ) (z : Object) (k : Life) (c : ℕ) (declared : MetaMethod) (given : List Value) → Lives objects y z k → Below p k.class c → IsMethod p c n declared → ReadAs p objects given declared.kinds → GivesTyped p objects (Begin y n given)
-  begun-typed y n z k c declared given lives beneath is read x method member =
+  begun-typed y n z k c declared given lives beneath is read = λ x method member.
       subst (λ (w : MetaMethod). ReadAs p objects given w.kinds) (one-method y n z k c declared lives beneath is x method member) read
 
 -- what is done where a value is found
-map-typed : {p : Loaded} {objects : List Object} {X : Type 0} (act : X → Doing) (found : Option X) (v : X) → found ≡ Some v → GivesTyped p objects (act v) → IfSome (option_map act found) (GivesTyped p objects)
-map-typed {p} {objects} {X} act found v is all = subst (λ (w : Option X). IfSome (option_map act w) (GivesTyped p objects)) (sym is) all
+map-typed : (p : Loaded) (objects : List Object) {X : Type 0} (act : X → Doing) (found : Option X) (v : X) → found ≡ Some v → GivesTyped p objects (act v) → IfSome (option_map act found) (GivesTyped p objects)
+map-typed p objects {X} act found v is all = subst (λ (w : Option X). IfSome (option_map act w) (GivesTyped p objects)) (sym is) all
 
 -- .. on null nothing is done, and on an object what may be
-on-typed : {p : Loaded} {objects : List Object} {c : ℕ} (act : ℕ → Option Doing) (found : Option Value) → Reaches p objects c found → ((y : ℕ) (z : Object) (k : Life) → Lives objects y z k → Below p k.class c → IfSome (act y) (GivesTyped p objects)) → IfSome (on_object act found) (GivesTyped p objects)
-on-typed act found to_null all = tt
-on-typed act found (to_object {o = y} {x = z} {l = k} lives beneath) all = all y z k lives beneath
+on-typed : (p : Loaded) (objects : List Object) {c : ℕ} (act : ℕ → Option Doing) (found : Option Value) → Reaches p objects c found → ((y : ℕ) (z : Object) (k : Life) → Lives objects y z k → Below p k.class c → IfSome (act y) (GivesTyped p objects)) → IfSome (on_object act found) (GivesTyped p objects)
+on-typed p objects act found to_null all = tt
+on-typed p objects act found (to_object {o = y} {x = z} {l = k} lives beneath) all = all y z k lives beneath
 
-chosen-typed : {p : Loaded} {objects : List Object} (block other : List Statement) (found : Option Value) → IfSome (chosen_by block other found) (GivesTyped p objects)
-chosen-typed block other None = tt
-chosen-typed block other (Some (value.Bool true)) = tt
-chosen-typed block other (Some (value.Bool false)) = tt
-chosen-typed block other (Some (value.Int n)) = tt
-chosen-typed block other (Some (value.Text n)) = tt
-chosen-typed block other (Some (value.Ref n)) = tt
+chosen-typed : (p : Loaded) (objects : List Object) (block other : List Statement) (found : Option Value) → IfSome (chosen_by block other found) (GivesTyped p objects)
+chosen-typed p objects block other None = tt
+chosen-typed p objects block other (Some (value.Bool true)) = tt
+chosen-typed p objects block other (Some (value.Bool false)) = tt
+chosen-typed p objects block other (Some (value.Int n)) = tt
+chosen-typed p objects block other (Some (value.Text n)) = tt
+chosen-typed p objects block other (Some (value.Ref n)) = tt
 
 module _ {p : Loaded} {objects : List Object} (sound : IsSound p) (typed : AreTyped p objects) (o me : ℕ) (x : Object) (l : Life) (arguments : List Value) (kinds : List ValueType) (lives : Lives objects o x l) (below : Below p l.class me) (fit : ReadAs p objects arguments kinds) where
   pub statement-gives : (f : layer.Statement-F Statement) → IsSoundStatement p me kinds f → IsTypedStatement p me kinds f → IfSome (doing objects o arguments f) (GivesTyped p objects)
   statement-gives f (set_sound {path = path} {q = q} {e = e} is) t =
       let at = same-class me kinds path is.class t.class is.leads t.leads in
       let v = body_has p sound (class_of objects) me kinds (path_value objects o arguments) (paths-typed sound typed o me x l arguments kinds lives below fit) (t.property).kind e is.value t.given in
-      on-typed (λ y. option_map (λ (new : Value). Write y q new) (value_of objects o arguments e)) (path_value objects o arguments path) (reached sound typed o me x l arguments kinds lives below fit path is.leads)
-      (λ y z k alive beneath. map-typed (λ (new : Value). Write y q new) (value_of objects o arguments e) v.0 v.1
+      on-typed p objects (λ y. option_map (λ (new : Value). Write y q new) (value_of objects o arguments e)) (path_value objects o arguments path) (reached sound typed o me x l arguments kinds lives below fit path is.leads)
+      (λ y z k alive beneath. map-typed p objects (λ (new : Value). Write y q new) (value_of objects o arguments e) v.0 v.1
       (written-typed sound y q z k t.class t.property v.0 alive (subst (λ (c : ℕ). Below p k.class c) at beneath) t.is (has-reads p objects v.0 (t.property).kind v.2)))
   statement-gives f (emit_sound {m = g} {es = es} is) t =
       let vs = arguments_have p sound (class_of objects) me kinds (path_value objects o arguments) (paths-typed sound typed o me x l arguments kinds lives below fit) (t.method).kinds es is.values t.given in
-      map-typed (λ (given : List Value). Begin o g given) (values_of objects o arguments es) vs.0 vs.1
+      map-typed p objects (λ (given : List Value). Begin o g given) (values_of objects o arguments es) vs.0 vs.1
       (begun-typed sound o g x l me t.method vs.0 lives below t.is (all-reads p objects vs.0 (t.method).kinds vs.2))
   statement-gives f (call_sound {path = path} {m = n} {es = es} is) t =
       let at = same-class me kinds path is.class t.class is.leads t.leads in
       let to = t.accepts in
       let vs = arguments_have p sound (class_of objects) me kinds (path_value objects o arguments) (paths-typed sound typed o me x l arguments kinds lives below fit) (to.method).kinds es is.values to.given in
-      on-typed (λ y. option_map (λ (given : List Value). Begin y n given) (values_of objects o arguments es)) (path_value objects o arguments path) (reached sound typed o me x l arguments kinds lives below fit path is.leads)
-      (λ y z k alive beneath. map-typed (λ (given : List Value). Begin y n given) (values_of objects o arguments es) vs.0 vs.1
+      on-typed p objects (λ y. option_map (λ (given : List Value). Begin y n given) (values_of objects o arguments es)) (path_value objects o arguments path) (reached sound typed o me x l arguments kinds lives below fit path is.leads)
+      (λ y z k alive beneath. map-typed p objects (λ (given : List Value). Begin y n given) (values_of objects o arguments es) vs.0 vs.1
       (begun-typed sound y n z k t.class to.method vs.0 alive (subst (λ (c : ℕ). Below p k.class c) at beneath) to.is (all-reads p objects vs.0 (to.method).kinds vs.2)))
-  statement-gives f (if_sound {e = e} {chosen = block} {other = other} is one two) t = chosen-typed block other (value_of objects o arguments e)
+  statement-gives f (if_sound {e = e} {chosen = block} {other = other} is one two) t = chosen-typed p objects block other (value_of objects o arguments e)
   statement-gives f (connect_sound {ends = ends} is) t =
-      on-typed _ (path_value objects o arguments ends.sender) (reached sound typed o me x l arguments kinds lives below fit ends.sender is.sender) (λ y z k alive beneath.
-      on-typed _ (path_value objects o arguments ends.receiver) (reached sound typed o me x l arguments kinds lives below fit ends.receiver is.receiver) (λ u v w also under. tt))
+      on-typed p objects _ (path_value objects o arguments ends.sender) (reached sound typed o me x l arguments kinds lives below fit ends.sender is.sender) (λ y z k alive beneath.
+      on-typed p objects _ (path_value objects o arguments ends.receiver) (reached sound typed o me x l arguments kinds lives below fit ends.receiver is.receiver) (λ u v w also under. tt))
   statement-gives f (disconnect_sound {ends = ends} is) t =
-      on-typed _ (path_value objects o arguments ends.sender) (reached sound typed o me x l arguments kinds lives below fit ends.sender is.sender) (λ y z k alive beneath.
-      on-typed _ (path_value objects o arguments ends.receiver) (reached sound typed o me x l arguments kinds lives below fit ends.receiver is.receiver) (λ u v w also under. tt))
+      on-typed p objects _ (path_value objects o arguments ends.sender) (reached sound typed o me x l arguments kinds lives below fit ends.sender is.sender) (λ y z k alive beneath.
+      on-typed p objects _ (path_value objects o arguments ends.receiver) (reached sound typed o me x l arguments kinds lives below fit ends.receiver is.receiver) (λ u v w also under. tt))
   statement-gives f (delete_sound {path = path} leads) t =
-      on-typed (λ y. Some (Delete y)) (path_value objects o arguments path) (reached sound typed o me x l arguments kinds lives below fit path leads) (λ y z k alive beneath. tt)
+      on-typed p objects (λ y. Some (Delete y)) (path_value objects o arguments path) (reached sound typed o me x l arguments kinds lives below fit path leads) (λ y z k alive beneath. tt)
   statement-gives f (later_sound {path = path} leads) t =
-      on-typed (λ y. Some (Schedule y)) (path_value objects o arguments path) (reached sound typed o me x l arguments kinds lives below fit path leads) (λ y z k alive beneath. tt)
+      on-typed p objects (λ y. Some (Schedule y)) (path_value objects o arguments path) (reached sound typed o me x l arguments kinds lives below fit path leads) (λ y z k alive beneath. tt)
 
 -- ---- bodies
 
@@ -218,14 +218,14 @@ module _ {p : Loaded} {certificate : Certificate} (valid : IsValid p certificate
       let w = kept.within in
       let class_is : (own.1).class ≡ kept.class = own.3 ∙ own-class kept.class kept.is in
       let is : IsProperty p (own.1).class w.number w.property = subst (λ (c : ℕ). IsProperty p c w.number w.property) (sym class_is) w.is in
-      map-typed (λ (q : ℕ). Write o q v) (slice_get effects.sets place) w.number w.at
+      map-typed p objects (λ (q : ℕ). Write o q v) (slice_get effects.sets place) w.number w.at
       (λ z property field. subst (λ (k : MetaProperty). ReadsAs p objects v k.kind)
       (field-property (record { life = own.1; lives = own.2; class = is.class; is_class = is.is_class; is_property = is.is }) field) (plain-reads p objects v (w.property).kind w.typed))
   action-gives effects (action.Emit place given) kept =
       let w = kept.within in
       let class_is : (own.1).class ≡ kept.class = own.3 ∙ own-class kept.class kept.is in
       let is : IsMethod p (own.1).class w.number w.signal = subst (λ (c : ℕ). IsMethod p c w.number w.signal) (sym class_is) w.is in
-      map-typed (λ (g : ℕ). Begin o g given) (slice_get effects.emits place) w.number w.at
+      map-typed p objects (λ (g : ℕ). Begin o g given) (slice_get effects.emits place) w.number w.at
       (λ z method member. subst (λ (k : MetaMethod). ReadAs p objects given k.kinds)
       (member-method (record { life = own.1; lives = own.2; is_method = is }) member) (all-plain-read p objects given (w.signal).kinds w.typed))
 
