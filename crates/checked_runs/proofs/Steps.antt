@@ -60,7 +60,7 @@ module _ {p : Loaded} {certificate : Certificate} (valid : IsValid p certificate
     rule-well : {s t : State} → Stood p certificate s → Rule p natives s t → IsWell p s t
     rule-well {s} {t} stood rule = record {
       arguments = (rule-pushes valid sound stood.classes promises s stood.held stood.up t stood.promised rule).arguments;
-      values = (rule-agrees natives ((stood.up).sound).agree (writes-fit stood) rule).typed;
+      values = (rule-agrees natives s t ((stood.up).sound).agree (writes-fit stood) rule).typed;
     }
 
     event-well : {s t : State} {e : Event} → Stood p certificate s → Taking p e s t → IsWell p s t
@@ -72,12 +72,12 @@ module _ {p : Loaded} {certificate : Certificate} (valid : IsValid p certificate
     -- .. so it is good
     pub follows-good : {s t : State} {next : List Event} → Stood p certificate s → Follows p natives s t next → IsGood p certificate.bound s t
     follows-good {s} {t} stood (by_rule rule) =
-        let well = rule-well stood rule in
-        let held = follows-held valid sound natives {next = []} (as-kept natives stood) well (by_rule rule) in
-        record { well = well; spared = held.1; agree = rule-agrees natives ((stood.up).sound).agree (writes-fit stood) rule; shallow = no-deeper valid (held.0).0 t.objects ((held.0).1).rungs t.stack ((held.0).1).stacked }
+        let well = rule-well {s = s} {t = t} stood rule in
+        let held = follows-held valid sound natives {s = s} {t = t} {next = []} (as-kept natives stood) well (by_rule rule) in
+        record { well = well; spared = held.1; agree = rule-agrees natives s t ((stood.up).sound).agree (writes-fit stood) rule; shallow = no-deeper valid (held.0).0 t.objects ((held.0).1).rungs t.stack ((held.0).1).stacked }
     follows-good {s} {t} stood (by_event {e = e} {events = events} x) =
         let well = event-well stood x in
-        let held = follows-held valid sound natives {next = e ∷ events} (as-kept natives stood) well (by_event x) in
+        let held = follows-held valid sound natives {s = s} {t = t} {next = e ∷ events} (as-kept natives stood) well (by_event x) in
         record { well = well; spared = held.1; agree = takes-agrees valid sound (stood.classes, stood.held) ((stood.up).sound).agree x; shallow = no-deeper valid (held.0).0 t.objects ((held.0).1).rungs t.stack ((held.0).1).stacked }
 
     -- ---- runs
@@ -94,7 +94,7 @@ module _ {p : Loaded} {certificate : Certificate} (valid : IsValid p certificate
 
     rules-stood : {d : ℕ} {s t : State} {n k : ℕ} → Rules p natives d s n t k → Stood p certificate s → Stood p certificate t
     rules-stood of_rules.done stood = stood
-    rules-stood (of_rules.then rule good rest) stood = rules-stood rest (rule-stood stood good rule)
+    rules-stood (of_rules.then {s = s} {m = m} rule good rest) stood = rules-stood rest (rule-stood {s = s} {t = m} stood good rule)
 
     takes-stood : {d : ℕ} {s t : State} {e : Event} → Stood p certificate s → IsGood p d s t → Taking p e s t → Stood p certificate t
     takes-stood {d} {s} {t} {e} stood good x =
