@@ -38,15 +38,15 @@ never_stuck natives p certificate s steps left taken sound valid run stuck =
 
 -- ---- every step
 
-module _ {p : Loaded} {certificate : Certificate} {accepts : Takes} {natives : NativeAnswers} {s : State} (reached : IsReached p certificate accepts natives s) where
+module _ {takes : Takes} {natives : NativeAnswers} {p : Loaded} {certificate : Certificate} {s : State} (reached : IsReached takes natives p certificate s) where
   stood : Stood p certificate s
-  stood = run-stood reached.valid reached.sound reached.promised reached.runs
+  stood = run-stood reached.valid reached.sound reached.promises reached.runs
 
   kept : Kept reached.valid reached.sound natives s
   kept = as-kept reached.valid reached.sound natives stood
 
   good : {t : State} {next : List Event} → Follows p natives s t next → IsGood p certificate.bound s t
-  good follows = follows-good reached.valid reached.sound reached.promised stood follows
+  good follows = follows-good reached.valid reached.sound reached.promises stood follows
 
   pub each-faultless : {t : State} {next : List Event} → Follows p natives s t next → IsFaultless p certificate natives s t × IsGood p certificate.bound s t
   each-faultless follows =
@@ -73,8 +73,8 @@ module _ {p : Loaded} {certificate : Certificate} {accepts : Takes} {natives : N
   goes-not g = g.ill (good g.follows).well
 
   -- whatever rules are left
-  pub only-limits : {left : ℕ} {next : List Event} (fault : Fault) → RunStops p natives certificate.bound s left next fault → IsLimit fault
-  only-limits BadType stops = elim stops.1 [
+  by-fault : {left : ℕ} {next : List Event} (fault : Fault) → RunStops p natives certificate.bound s left next fault → IsLimit fault
+  by-fault BadType stops = elim stops.1 [
     | inl nothing ↦ elim nothing [
       | inl stuck ↦ absurd (stuck-not reached.valid reached.sound natives kept stuck)
       | inr ill ↦ absurd (binds-not ill)
@@ -84,18 +84,22 @@ module _ {p : Loaded} {certificate : Certificate} {accepts : Takes} {natives : N
       | inr g ↦ absurd (goes-not g)
     ]
   ]
-  only-limits TooDeep stops = elim stops.1 [
+  by-fault TooDeep stops = elim stops.1 [
     | inl w ↦ absurd (writes-low reached.valid reached.sound natives kept w)
     | inr g ↦ absurd (deep-not reached.valid reached.sound natives kept g)
   ]
-  only-limits BindingLoop stops = absurd (loops-not reached.valid reached.sound natives kept stops.1)
-  only-limits InUse stops = absurd (fatal-not reached.valid reached.sound natives kept stops.1)
-  only-limits Steps stops = no_rule
-  only-limits Memory stops = no_memory
-  only-limits Stopped stops = absurd stops
+  by-fault BindingLoop stops = absurd (loops-not reached.valid reached.sound natives kept stops.1)
+  by-fault InUse stops = absurd (fatal-not reached.valid reached.sound natives kept stops.1)
+  by-fault Steps stops = no_rule
+  by-fault Memory stops = no_memory
+  by-fault Stopped stops = absurd stops
 
-pub each_is_faultless : (accepts : Takes) (natives : NativeAnswers) → EachIsFaultless accepts natives
-each_is_faultless accepts natives p certificate s t next reached follows = each-faultless reached follows
+-- .. with the premises in a record, and the rest by what is given
+pub only_limits : {takes : Takes} {natives : NativeAnswers} {p : Loaded} {certificate : Certificate} {s : State} {left : ℕ} {next : List Event} {fault : Fault} → IsReached takes natives p certificate s → RunStops p natives certificate.bound s left next fault → IsLimit fault
+only_limits {s = s} {left = left} {next = next} {fault = fault} reached stops = by-fault reached {left = left} {next = next} fault stops
 
-pub only_limits : (accepts : Takes) (natives : NativeAnswers) → StopsAtLimits accepts natives
-only_limits accepts natives p certificate s left next fault reached stops = only-limits reached fault stops
+pub each_is_faultless : (takes : Takes) (natives : NativeAnswers) → EachIsFaultless takes natives
+each_is_faultless takes natives p certificate s t next reached follows = each-faultless reached follows
+
+pub stops_at_limits : (takes : Takes) (natives : NativeAnswers) → StopsAtLimits takes natives
+stops_at_limits takes natives p certificate s left next fault reached stops = by-fault reached {left = left} {next = next} fault stops

@@ -49,10 +49,10 @@ NeverStuck natives =
 
 -- A state that a run comes to, in a program that loads and has a valid certificate, with natives that keep what it declares
 -- of them: from the start, with any number of rules, by whatever events. Activations may nest as deep as the bound.
-pub record IsReached (p : Loaded) (certificate : Certificate) (accepts : Takes) (natives : NativeAnswers) (s : State) : Type 0 where
+pub record IsReached (takes : Takes) (natives : NativeAnswers) (p : Loaded) (certificate : Certificate) (s : State) : Type 0 where
   pub sound : IsSound p
   pub valid : IsValid p certificate
-  pub promised : Promises p accepts natives
+  pub promises : Promises p takes natives
   pub steps : ℕ
   pub left : ℕ
   pub taken : List Event
@@ -77,9 +77,9 @@ pub record IsFaultless (p : Loaded) (certificate : Certificate) (natives : Nativ
 
 -- Whatever follows a state of a run is so. It is good, so the run goes on to it: all of a run is so.
 abbrev pub EachIsFaultless : Takes → NativeAnswers → Type 0
-EachIsFaultless accepts natives =
+EachIsFaultless takes natives =
     (p : Loaded) (certificate : Certificate) (s t : State) (next : List Event) →
-    IsReached p certificate accepts natives s → Follows p natives s t next →
+    IsReached takes natives p certificate s → Follows p natives s t next →
     IsFaultless p certificate natives s t × IsGood p certificate.bound s t
 
 -- ---- why a run stops
@@ -91,6 +91,6 @@ pub data IsLimit : Fault → Type 0 where
 
 -- a run stops for no other reason: no value is ever of a wrong type either, whatever events come next
 abbrev pub StopsAtLimits : Takes → NativeAnswers → Type 0
-StopsAtLimits accepts natives =
+StopsAtLimits takes natives =
     (p : Loaded) (certificate : Certificate) (s : State) (left : ℕ) (next : List Event) (fault : Fault) →
-    IsReached p certificate accepts natives s → RunStops p natives certificate.bound s left next fault → IsLimit fault
+    IsReached takes natives p certificate s → RunStops p natives certificate.bound s left next fault → IsLimit fault
