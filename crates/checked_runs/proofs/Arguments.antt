@@ -140,7 +140,7 @@ module _ {p : Loaded} {classes : ℕ → Option ℕ} where
 
 -- ---- rules
 
-module _ {p : Loaded} {certificate : Certificate} (valid : IsValid p certificate) (sound : IsSound p) (classes : ℕ → Option ℕ) {natives : NativeAnswers} {takes : Takes} (promises : Promises p takes natives) (s : State) (held : Holds p certificate classes s) (up : Invariant p s) where
+module _ {p : Loaded} {certificate : Certificate} (valid : IsValid p certificate) (sound : IsSound p) (classes : ℕ → Option ℕ) (takes : Takes) (natives : NativeAnswers) (promises : Promises p takes natives) (s : State) (held : Holds p certificate classes s) (up : Invariant p s) where
   agree : Agree p s.objects s.bindings
   agree = (up.sound).agree
 
@@ -165,7 +165,7 @@ module _ {p : Loaded} {certificate : Certificate} (valid : IsValid p certificate
       pushes-schedules s t (Body o m arguments rest ∷ below) x (life_of s.objects x) (omega (arith, high)) (left, all) does
   pushes-does t n o m arguments y rest below b high one left all (TakeAnswer effects) is does =
       let native = does-led sound agree.typed b y (TakeAnswer effects) (b.steps).0 is in
-      pushes-as does.gives (pushes-none (omega (arith, high)) (steps-append (StepIsPromised p classes o) (map (Act effects) does.actions) rest (answer-promised sound promises classes known agree.typed b native does) left, all))
+      pushes-as does.gives (pushes-none (omega (arith, high)) (steps-append (StepIsPromised p classes o) (map (Act effects) does.actions) rest (answer-promised takes natives sound promises classes known agree.typed b native does) left, all))
   pushes-does t n o m arguments y rest below b high one left all Nothing is does = pushes-as does (pushes-none (omega (arith, high)) (left, all))
 
   pushes-body : (t : State) (n o m : ℕ) (arguments : List Value) (left : List Step) (below : List Activation) {x : Node} (b : BodyStands p s.objects o m arguments left x) → n ≡ suc (length below) → AllByRecursion (StepIsPromised p classes o) left → AllIsPromised p classes below → BodyRule p natives s o m arguments below t left → Pushes p classes n t

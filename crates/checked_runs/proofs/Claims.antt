@@ -40,13 +40,13 @@ never_stuck natives p certificate s steps left taken sound valid run stuck =
 
 module _ {takes : Takes} {natives : NativeAnswers} {p : Loaded} {certificate : Certificate} {s : State} (reached : IsReached takes natives p certificate s) where
   stood : Stood p certificate s
-  stood = run-stood reached.valid reached.sound reached.promises reached.runs
+  stood = run-stood reached.valid reached.sound takes natives reached.promises reached.runs
 
   kept : Kept reached.valid reached.sound natives s
   kept = as-kept reached.valid reached.sound natives stood
 
   good : {t : State} {next : List Event} → Follows p natives s t next → IsGood p certificate.bound s t
-  good follows = follows-good reached.valid reached.sound reached.promises stood follows
+  good follows = follows-good reached.valid reached.sound takes natives reached.promises stood follows
 
   pub each-faultless : {t : State} {next : List Event} → Follows p natives s t next → IsFaultless p certificate natives s t × IsGood p certificate.bound s t
   each-faultless follows =

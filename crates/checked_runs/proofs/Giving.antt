@@ -288,7 +288,7 @@ module _ {p : Loaded} (sound : IsSound p) (effects : MetaEffects) (number : ℕ)
       let parts = both-true (is_declared class effects a) (list_all (is_declared class effects) actions) declared in
       (record { class = c; is = is; within = one-within a parts.0 }, all-within classes o is actions parts.1)
 
-module _ {p : Loaded} {natives : NativeAnswers} {takes : Takes} (sound : IsSound p) (promises : Promises p takes natives) (classes : ℕ → Option ℕ) {s t : State} (known : (o class : ℕ) → class_of s.objects o ≡ Some class → classes o ≡ Some class) (typed : AreTyped p s.objects) {o m : ℕ} {arguments : List Value} {left : List Step} {x : Node} (b : BodyStands p s.objects o m arguments left x) where
+module _ {p : Loaded} (takes : Takes) (natives : NativeAnswers) (sound : IsSound p) (promises : Promises p takes natives) (classes : ℕ → Option ℕ) {s t : State} (known : (o class : ℕ) → class_of s.objects o ≡ Some class → classes o ≡ Some class) (typed : AreTyped p s.objects) {o m : ℕ} {arguments : List Value} {left : List Step} {x : Node} (b : BodyStands p s.objects o m arguments left x) where
   -- what a native answers keeps to its effects
   pub answer-promised : {effects : MetaEffects} {rest : List Step} {below : List Activation} → (b.method).work ≡ Native effects → (a : Answers p natives s o m arguments effects rest below t) → AllByRecursion (StepIsPromised p classes o) (map (Act effects) a.actions)
   answer-promised {effects} {rest} {below} native a =

@@ -55,11 +55,11 @@ module _ {p : Loaded} {certificate : Certificate} (valid : IsValid p certificate
       on-top (r ∷ rungs) st all =
           does-give valid sound stood.classes (((stood.held).covered).known).lives ((stood.up).sound).agree.typed st.0 n.step (Write o q v) ((st.0).steps).0 (all.0).0 n.does x property field
 
-  module _ {natives : NativeAnswers} {accepts : Takes} (promises : Promises p accepts natives) where
+  module _ (accepts : Takes) (natives : NativeAnswers) (promises : Promises p accepts natives) where
     -- what follows is well, and its values are settled
     rule-well : {s t : State} → Stood p certificate s → Rule p natives s t → IsWell p s t
     rule-well {s} {t} stood rule = record {
-      arguments = (rule-pushes valid sound stood.classes promises s stood.held stood.up t stood.promised rule).arguments;
+      arguments = (rule-pushes valid sound stood.classes accepts natives promises s stood.held stood.up t stood.promised rule).arguments;
       values = (rule-agrees natives s t ((stood.up).sound).agree (writes-fit stood) rule).typed;
     }
 
@@ -89,7 +89,7 @@ module _ {p : Loaded} {certificate : Certificate} (valid : IsValid p certificate
           classes = stood.classes;
           held = (rule-held valid sound stood.classes natives s t stood.held (up.sound).agree (up.sound).waiting good.well rule).0;
           up = runs-invariant sound (rules (of_rules.then {n = 0} rule good of_rules.done) done) up;
-          promised = (rule-pushes valid sound stood.classes promises s stood.held up t stood.promised rule).promised;
+          promised = (rule-pushes valid sound stood.classes accepts natives promises s stood.held up t stood.promised rule).promised;
         }
 
     rules-stood : {d : ℕ} {s t : State} {n k : ℕ} → Rules p natives d s n t k → Stood p certificate s → Stood p certificate t
