@@ -77,6 +77,14 @@ pub record Pushes (p : Loaded) (classes : ℕ → Option ℕ) (high : ℕ) (t : 
   pub arguments : high < length t.stack → TopFits p t.objects t.stack
   pub promised : AllIsPromised p classes t.stack
 
+runs-promised : (p : Loaded) (classes : ℕ → Option ℕ) (o : ℕ) (statements : List Statement) → AllByRecursion (StepIsPromised p classes o) (map Run statements)
+runs-promised p classes o [] = tt
+runs-promised p classes o (s ∷ statements) = (tt, runs-promised p classes o statements)
+
+steps-append : (P : Step → Type 0) (front rest : List Step) → AllByRecursion P front → AllByRecursion P rest → AllByRecursion P (front ++ rest)
+steps-append P [] rest a b = b
+steps-append P (x ∷ front) rest a b = (a.0, steps-append P front rest a.1 b)
+
 module _ {p : Loaded} {classes : ℕ → Option ℕ} where
   -- a state that is this one
   pushes-as : {n : ℕ} {t u : State} → t ≡ u → Pushes p classes n u → Pushes p classes n t
@@ -86,18 +94,10 @@ module _ {p : Loaded} {classes : ℕ → Option ℕ} where
   pushes-none : {n : ℕ} {t : State} → length t.stack ≤ n → AllIsPromised p classes t.stack → Pushes p classes n t
   pushes-none low all = record { arguments = λ high. absurd (omega (arith, low, high)); promised = all }
 
-  runs-promised : (o : ℕ) (statements : List Statement) → AllByRecursion (StepIsPromised p classes o) (map Run statements)
-  runs-promised o [] = tt
-  runs-promised o (s ∷ statements) = (tt, runs-promised o statements)
-
-  steps-append : (P : Step → Type 0) (front rest : List Step) → AllByRecursion P front → AllByRecursion P rest → AllByRecursion P (front ++ rest)
-  steps-append P [] rest a b = b
-  steps-append P (x ∷ front) rest a b = (a.0, steps-append P front rest a.1 b)
-
   -- a method begins
   pushes-begun : {n : ℕ} {t : State} (u : State) (below : List Activation) (o : ℕ) (x : Object) (m : ℕ) (method : MetaMethod) (arguments : List Value) (work : Work) → ArgumentsFit p u.objects o m arguments → AllIsPromised p classes below → t ≡ begun u below o x m method arguments work → Pushes p classes n t
   pushes-begun u below o x m method arguments Signal fit all e = pushes-as e (record { arguments = λ high. of_living fit; promised = (tt, all) })
-  pushes-begun u below o x m method arguments (Slot statements) fit all e = pushes-as e (record { arguments = λ high. fit; promised = (runs-promised o statements, all) })
+  pushes-begun u below o x m method arguments (Slot statements) fit all e = pushes-as e (record { arguments = λ high. fit; promised = (runs-promised p classes o statements, all) })
   pushes-begun u below o x m method arguments (Native effects) fit all e = pushes-as e (record { arguments = λ high. fit; promised = ((tt, tt), all) })
 
   pushes-begins : {n : ℕ} {t : State} {u : State} {below : List Activation} {o m : ℕ} {arguments : List Value} → (b : Begins p u below o m arguments t) → ArgumentsFit p u.objects o m arguments → AllIsPromised p classes below → Pushes p classes n t
@@ -155,7 +155,7 @@ module _ {p : Loaded} {certificate : Certificate} (valid : IsValid p certificate
       let gives = does-give valid sound classes known agree.typed b y (Begin x k given) (b.steps).0 one is in
       pushes-begins does (fit-of does.is (gives does.object does.method does.is)) (left, all)
   pushes-does t n o m arguments y rest below b high one left all (Choose block) is does =
-      pushes-as does (pushes-none (omega (arith, high)) (steps-append (StepIsPromised p classes o) (map Run block) rest (runs-promised o block) left, all))
+      pushes-as does (pushes-none (omega (arith, high)) (steps-append (StepIsPromised p classes o) (map Run block) rest (runs-promised p classes o block) left, all))
   pushes-does t n o m arguments y rest below b high one left all (Connect ends how) is does =
       pushes-as does.gives (pushes-linked s (Body o m arguments rest ∷ below) (kept_ends ends) how (names_of does.kept) does.answer (omega (arith, high)) (left, all))
   pushes-does t n o m arguments y rest below b high one left all (Disconnect ends) is does =
@@ -254,7 +254,7 @@ module _ {p : Loaded} {certificate : Certificate} (valid : IsValid p certificate
 
 -- ---- events
 
-module _ {p : Loaded} (s : State) (idle : IsIdle s) (classes : ℕ → Option ℕ) where
+module _ (p : Loaded) (s : State) (idle : IsIdle s) (classes : ℕ → Option ℕ) where
   none-promised : AllIsPromised p classes s.stack
   none-promised = subst (AllIsPromised p classes) (sym idle.empty) tt
 
@@ -286,5 +286,5 @@ module _ {p : Loaded} (s : State) (idle : IsIdle s) (classes : ℕ → Option �
   pushes-judged t (LaterEvent name) (goes_on o lives (becomes x)) = pushes-schedules (accepted s) t s.stack o.number (Some o.it) (omega arith) none-promised x
 
 pub takes-pushes : {p : Loaded} (s t : State) (e : Event) (classes : ℕ → Option ℕ) → Taking p e s t → Pushes p classes (length s.stack) t
-takes-pushes s t e classes (accepts idle x) = pushes-judged s idle classes t e x
-takes-pushes {p} s t e classes (refuses k idle x) = pushes-none (omega arith) (none-promised {p = p} s idle classes)
+takes-pushes {p} s t e classes (accepts idle x) = pushes-judged p s idle classes t e x
+takes-pushes {p} s t e classes (refuses k idle x) = pushes-none (omega arith) (none-promised p s idle classes)

@@ -73,8 +73,8 @@ module _ {takes : Takes} {natives : NativeAnswers} {p : Loaded} {certificate : C
   goes-not g = g.ill (good g.follows).well
 
   -- whatever rules are left
-  by-fault : {left : ℕ} {next : List Event} (fault : Fault) → RunStops p natives certificate.bound s left next fault → IsLimit fault
-  by-fault BadType stops = elim stops.1 [
+  by-fault : (left : ℕ) (next : List Event) (fault : Fault) → RunStops p natives certificate.bound s left next fault → IsLimit fault
+  by-fault left next BadType stops = elim stops.1 [
     | inl nothing ↦ elim nothing [
       | inl stuck ↦ absurd (stuck-not reached.valid reached.sound natives kept stuck)
       | inr ill ↦ absurd (binds-not ill)
@@ -84,22 +84,21 @@ module _ {takes : Takes} {natives : NativeAnswers} {p : Loaded} {certificate : C
       | inr g ↦ absurd (goes-not g)
     ]
   ]
-  by-fault TooDeep stops = elim stops.1 [
+  by-fault left next TooDeep stops = elim stops.1 [
     | inl w ↦ absurd (writes-low reached.valid reached.sound natives kept w)
     | inr g ↦ absurd (deep-not reached.valid reached.sound natives kept g)
   ]
-  by-fault BindingLoop stops = absurd (loops-not reached.valid reached.sound natives kept stops.1)
-  by-fault InUse stops = absurd (fatal-not reached.valid reached.sound natives kept stops.1)
-  by-fault Steps stops = no_rule
-  by-fault Memory stops = no_memory
-  by-fault Stopped stops = absurd stops
+  by-fault left next BindingLoop stops = absurd (loops-not reached.valid reached.sound natives kept stops.1)
+  by-fault left next InUse stops = absurd (fatal-not reached.valid reached.sound natives kept stops.1)
+  by-fault left next Steps stops = no_rule
+  by-fault left next Memory stops = no_memory
+  by-fault left next Stopped stops = absurd stops
 
--- .. with the premises in a record, and the rest by what is given
-pub only_limits : {takes : Takes} {natives : NativeAnswers} {p : Loaded} {certificate : Certificate} {s : State} {left : ℕ} {next : List Event} {fault : Fault} → IsReached takes natives p certificate s → RunStops p natives certificate.bound s left next fault → IsLimit fault
-only_limits {s = s} {left = left} {next = next} {fault = fault} reached stops = by-fault reached {left = left} {next = next} fault stops
+pub only_limits : {takes : Takes} {natives : NativeAnswers} {p : Loaded} {certificate : Certificate} {s : State} (left : ℕ) (next : List Event) (fault : Fault) → IsReached takes natives p certificate s → RunStops p natives certificate.bound s left next fault → IsLimit fault
+only_limits left next fault reached stops = by-fault reached left next fault stops
 
 pub each_is_faultless : (takes : Takes) (natives : NativeAnswers) → EachIsFaultless takes natives
 each_is_faultless takes natives p certificate s t next reached follows = each-faultless reached follows
 
 pub stops_at_limits : (takes : Takes) (natives : NativeAnswers) → StopsAtLimits takes natives
-stops_at_limits takes natives p certificate s left next fault reached stops = by-fault reached {left = left} {next = next} fault stops
+stops_at_limits takes natives p certificate s left next fault reached stops = by-fault reached left next fault stops
