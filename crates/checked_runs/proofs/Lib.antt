@@ -9,3 +9,6 @@ pub mod Given
 pub mod Events
 pub mod Claims
 pub mod Lacking
+pub mod Settled
+pub mod Binding
+pub mod TypedSteps
