@@ -127,13 +127,12 @@ module _ {p : Loaded} (sound : IsSound p) (objects : List Object) (typed : AreTy
       some-alike None v e = absurd (cc e)
       some-alike (Some w) v e = (w, refl, sym (same_Some _ _ e))
 
-module _ {p : Loaded} {certificate : Certificate} (valid : IsValid p certificate) (sound : IsSound p) {s : State} (agree : Agree p s.objects s.bindings) where
-  -- a binding that may be installed fits
-  pub may-fit : (site target : List ℕ) (sources : List (List ℕ)) (b : Binding) → may_bind p s site target sources (Ok b) → IsFit p s.objects b
-  may-fit site target sources b (goes_on n (finds is) (goes_on _ count (goes_on o lives (goes_on xs all (goes_on _ (so covers) (goes_on _ one given)))))) =
-      subst (λ (z : Binding). IsFit p s.objects z) (sym (given-is given))
-      (covered-fits sound s.objects agree.typed n.it n.number o.number xs (sound.sites n.number n.it is.is) ((valid.typed).sites n.number n.it is.is) covers)
+-- a binding that may be installed fits
+pub may-fit : {p : Loaded} {certificate : Certificate} → IsValid p certificate → IsSound p → (s : State) → Agree p s.objects s.bindings → (site target : List ℕ) (sources : List (List ℕ)) (b : Binding) → may_bind p s site target sources (Ok b) → IsFit p s.objects b
+may-fit {p} valid sound s agree site target sources b (goes_on n (finds is) (goes_on _ count (goes_on o lives (goes_on xs all (goes_on _ (so covers) (goes_on _ one given)))))) =
+    subst (λ (z : Binding). IsFit p s.objects z) (sym (given-is given))
+    (covered-fits sound s.objects agree.typed n.it n.number o.number xs (sound.sites n.number n.it is.is) ((valid.typed).sites n.number n.it is.is) covers)
 
-  -- so no event asks for one that doesn't
-  pub binds-fit : {events : List Event} {b : Binding} → BindsNext p s events b → IsFit p s.objects b
-  binds-fit {b = b} next = may-fit next.site next.target next.sources b next.may
+-- so no event asks for one that doesn't
+pub binds-fit : {p : Loaded} {certificate : Certificate} → IsValid p certificate → IsSound p → {s : State} {events : List Event} {b : Binding} → Agree p s.objects s.bindings → BindsNext p s events b → IsFit p s.objects b
+binds-fit valid sound {s = s} {b = b} agree next = may-fit valid sound s agree next.site next.target next.sources b next.may

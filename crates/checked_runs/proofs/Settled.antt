@@ -15,7 +15,7 @@ use Rattle.meta_model.specs.Sound.{IsPlain}
 use Rattle.object_tree.specs.declared.object.Object.{Object}
 use Rattle.object_tree.specs.Typed.{AreTyped, ReadsAs, ReadAs}
 use Rattle.object_tree.proofs.Changing.{life-of-lives}
-use Rattle.object_tree.proofs.TypedObjects.{Follow, reads-still}
+use Rattle.object_tree.proofs.TypedObjects.{reads-still}
 use Rattle.prop_bindings.specs.declared.binding.Binding.{Binding}
 use Rattle.prop_bindings.specs.declared.place.Place.{Place}
 use Rattle.prop_bindings.specs.Bindings.{place_of, read_by, Reads, value_of, binding_at, AreApart, without, replaced, Settled, Loop}
@@ -220,7 +220,7 @@ module _ {p : Loaded} (old new : List Object) (typed : AreTyped p old) (differ :
 
 -- a state in which they agree
 pub agree-at : {p : Loaded} {t : State} (u : State) → t ≡ u → Agree p u.objects u.bindings → Agree p t.objects t.bindings
-agree-at {p} u e before = let In : State → Type 0 = λ v. Agree p v.objects v.bindings in subst In (sym e) before
+agree-at {p} u e before = let Family : State → Type 0 = λ v. Agree p v.objects v.bindings in subst Family (sym e) before
 
 -- what the write leaves unbound keeps its value, but for the property that is written
 written-own : {p : Loaded} {s t : State} {below : List Activation} {o q : ℕ} {v : Value} (w : Writes p s below o q v t) → ReadsAs p s.objects v (w.property).kind → (r : Place) → binding_at (without (property_of o q) s.bindings) r ≡ None → HasOwn p s.objects w.objects r

@@ -34,7 +34,7 @@ use Rattle.object_tree.specs.Objects.{life_of, class_with, change_life, blocked}
 use Rattle.object_tree.specs.Seen.{seen}
 use Rattle.object_tree.specs.Typed.{AreTyped, ReadsAs}
 use Rattle.object_tree.proofs.Changing.{lives-of-life}
-use Rattle.object_tree.proofs.TypedObjects.{life_shape, shape_in, shape-change, shape-moved, typed-change, typed-moved, typed-created}
+use Rattle.object_tree.proofs.TypedObjects.{Shape, life_shape, shape_in, shape-change, shape-moved, typed-change, typed-moved, typed-created}
 use Rattle.prop_bindings.specs.declared.binding.Binding.{Binding}
 use Rattle.prop_bindings.specs.declared.place.Place.{Place}
 use Rattle.prop_bindings.specs.Bindings.{binding_at, without, replaced, Loop as Closed}
@@ -82,7 +82,7 @@ WritesFit p s = (o q : ℕ) (v : Value) → WritesNext s o q v → (x : Object) 
 
 -- ---- rules
 
-module _ {p : Loaded} {s t : State} (agree : Agree p s.objects s.bindings) where
+module _ {p : Loaded} (s t : State) (agree : Agree p s.objects s.bindings) where
   begun-agrees : (u : State) (below : List Activation) (o : ℕ) (x : Object) (m : ℕ) (method : MetaMethod) (arguments : List Value) (work : Work) → Agree p u.objects u.bindings → t ≡ begun u below o x m method arguments work → Agree p t.objects t.bindings
   begun-agrees u below o x m method arguments Signal before e = agree-at _ e before
   begun-agrees u below o x m method arguments (Slot statements) before e = agree-at _ e before
@@ -179,11 +179,11 @@ module _ {p : Loaded} {s t : State} (agree : Agree p s.objects s.bindings) where
   stack-agrees natives (Destroy next torn ∷ below) at fit r = destroy-agrees below next torn r
 
 -- a rule that writes what fits leaves all in agreement
-pub rule-agrees : {p : Loaded} {s t : State} (natives : NativeAnswers) → Agree p s.objects s.bindings → WritesFit p s → Rule p natives s t → Agree p t.objects t.bindings
-rule-agrees {s = s} natives agree fit rule = stack-agrees agree natives s.stack refl fit rule
+pub rule-agrees : {p : Loaded} (natives : NativeAnswers) (s t : State) → Agree p s.objects s.bindings → WritesFit p s → Rule p natives s t → Agree p t.objects t.bindings
+rule-agrees natives s t agree fit rule = stack-agrees s t agree natives s.stack refl fit rule
 
-pub rule-values : {p : Loaded} {s t : State} (natives : NativeAnswers) → Agree p s.objects s.bindings → WritesFit p s → Rule p natives s t → AreTyped p t.objects
-rule-values natives agree fit rule = (rule-agrees natives agree fit rule).typed
+pub rule-values : {p : Loaded} (natives : NativeAnswers) (s t : State) → Agree p s.objects s.bindings → WritesFit p s → Rule p natives s t → AreTyped p t.objects
+rule-values natives s t agree fit rule = (rule-agrees natives s t agree fit rule).typed
 
 -- ---- objects that change in no value
 
@@ -197,7 +197,7 @@ stays-shown old new o same l is =
     by_life y None lives at e = absurd (cc e)
     by_life y (Some m) lives at e =
         let shown : life_shape m ≡ life_shape l = cc e in
-        (m, ap (λ (there : Option Object). option_and_then (λ (z : Object). z.life) there) at ∙ lives, ap (λ z. z.class) shown, ap (λ z. z.values) shown)
+        (m, ap (λ (there : Option Object). option_and_then (λ (z : Object). z.life) there) at ∙ lives, ap (λ (z : Shape). z.class) shown, ap (λ (z : Shape). z.values) shown)
 
     by_object : (there : Option Object) → slice_get new o ≡ there → shape_in there ≡ Some (Some (life_shape l)) → (m : Life) × (life_of new o ≡ Some m) × (m.class ≡ l.class) × (m.values ≡ l.values)
     by_object None at e = absurd (cc e)
@@ -234,10 +234,10 @@ begins-well {p} valid sound objects c class is = All-from_recursion (BeginsAs p 
 
 -- ---- events
 
-module _ {p : Loaded} {certificate : Certificate} (valid : IsValid p certificate) (sound : IsSound p) {s : State} (agree : Agree p s.objects s.bindings) where
-  invoked-agrees : {t : State} (a : Invocation) (name called : List ℕ) (inputs : List Input) → invoke p s a name called inputs (Ok t) → Agree p t.objects t.bindings
-  invoked-agrees a name called inputs (goes_on o lives (goes_on m asked (goes_on vs given (goes_on _ fit (becomes b))))) =
-      begun-agrees agree (accepted s) s.stack o.number b.object m.number b.method vs (b.method).work agree b.gives
+module _ {p : Loaded} {certificate : Certificate} (valid : IsValid p certificate) (sound : IsSound p) (s : State) (agree : Agree p s.objects s.bindings) where
+  invoked-agrees : (t : State) (a : Invocation) (name called : List ℕ) (inputs : List Input) → invoke p s a name called inputs (Ok t) → Agree p t.objects t.bindings
+  invoked-agrees t a name called inputs (goes_on o lives (goes_on m asked (goes_on vs given (goes_on _ fit (becomes b))))) =
+      begun-agrees s t agree (accepted s) s.stack o.number b.object m.number b.method vs (b.method).work agree b.gives
 
   blocked-agrees : {t : State} (name : List ℕ) (on : Bool) → block s name on (Ok t) → Agree p t.objects t.bindings
   blocked-agrees name on (goes_on o lives given) =
@@ -264,33 +264,33 @@ module _ {p : Loaded} {certificate : Certificate} (valid : IsValid p certificate
       let all = all-snoc (IsSited p classes) (without b.target s.bindings) b (all-filtered (IsSited p classes) _ s.bindings covered.sited) sited in
       no-loop valid sound classes (binding_at (replaced s.bindings b)) (λ q z e. bound-by (IsSited p classes) (replaced s.bindings b) all q z e)
 
-  event-agrees : {t : State} (e : Event) → HoldsSome valid sound s → IsIdle s → judged p s e (Ok t) → Agree p t.objects t.bindings
-  event-agrees (Loop name) held idle (goes_on _ free given) = agree-at _ (given-is given) agree
-  event-agrees (TurnEvent name) held idle (goes_on home is given) = agree-at _ (given-is given) agree
-  event-agrees (New name class loop) held idle (goes_on _ free (goes_on c (finds is) (goes_on home lives (goes_on _ room given)))) =
+  event-agrees : (t : State) (e : Event) → HoldsSome valid sound s → IsIdle s → judged p s e (Ok t) → Agree p t.objects t.bindings
+  event-agrees t (Loop name) held idle (goes_on _ free given) = agree-at _ (given-is given) agree
+  event-agrees t (TurnEvent name) held idle (goes_on home is given) = agree-at _ (given-is given) agree
+  event-agrees t (New name class loop) held idle (goes_on _ free (goes_on c (finds is) (goes_on home lives (goes_on _ room given)))) =
       agree-at _ (given-is given) (created-agrees name c.number home c.it is.is)
-  event-agrees (Adopt parent child) held idle (goes_on a is_parent (goes_on c is_child (goes_on _ owns (goes_on _ over (goes_on _ home (becomes x)))))) =
+  event-agrees t (Adopt parent child) held idle (goes_on a is_parent (goes_on c is_child (goes_on _ owns (goes_on _ over (goes_on _ home (becomes x)))))) =
       agree-at _ x.gives (adopted-by (λ (l : List Object). Agree p l s.bindings) agree (moved-agrees a.number c.number) x.is)
-  event-agrees (ConnectEvent e how) held idle (goes_on f both (goes_on _ may given)) = agree-at _ (given-is given) agree
-  event-agrees (DisconnectEvent e) held idle (goes_on f both (goes_on _ may given)) = agree-at _ (given-is given) agree
-  event-agrees (Set name property i) held idle (goes_on o lives (goes_on q (finds asked) (goes_on v _ (goes_on _ (so fits) (becomes w))))) =
+  event-agrees t (ConnectEvent e how) held idle (goes_on f both (goes_on _ may given)) = agree-at _ (given-is given) agree
+  event-agrees t (DisconnectEvent e) held idle (goes_on f both (goes_on _ may given)) = agree-at _ (given-is given) agree
+  event-agrees t (Set name property i) held idle (goes_on o lives (goes_on q (finds asked) (goes_on v _ (goes_on _ (so fits) (becomes w))))) =
       let it = living-object o (living-is lives) in
       let field : IsField p s.objects o.number q.number it.0 q.it = record { life = o.it; lives = it.1; class = (asked.is).class; is_class = (asked.is).is_class; is_property = (asked.is).is } in
       let one : q.it ≡ w.property = field-property field w.is in
       writes-agree {s = accepted s} agree w (subst (λ (k : MetaProperty). ReadsAs p s.objects v k.kind) one fits)
-  event-agrees (Bind site target sources) held idle (goes_on b may (becomes x)) =
+  event-agrees t (Bind site target sources) held idle (goes_on b may (becomes x)) =
       let sited = binding-sited valid sound s idle held.0 (held.1).covered agree site target sources b may in
-      installs-agree {s = accepted s} agree (may-fit valid sound agree site target sources b may) (bind-closes-none held.0 (held.1).covered b sited) x
-  event-agrees (EmitEvent name signal inputs) held idle x = invoked-agrees EmitIt name signal inputs x
-  event-agrees (CallEvent name slot inputs) held idle x = invoked-agrees CallIt name slot inputs x
-  event-agrees (Block name) held idle x = blocked-agrees name true x
-  event-agrees (Unblock name) held idle x = blocked-agrees name false x
-  event-agrees (DeleteEvent name) held idle (goes_on o lives given) = agree-at _ (given-is given) agree
-  event-agrees (LaterEvent name) held idle (goes_on o lives (becomes x)) = schedules-agrees {s = accepted s} agree s.stack o.number (Some o.it) x
+      installs-agree {s = accepted s} agree (may-fit valid sound s agree site target sources b may) (bind-closes-none held.0 (held.1).covered b sited) x
+  event-agrees t (EmitEvent name signal inputs) held idle x = invoked-agrees t EmitIt name signal inputs x
+  event-agrees t (CallEvent name slot inputs) held idle x = invoked-agrees t CallIt name slot inputs x
+  event-agrees t (Block name) held idle x = blocked-agrees name true x
+  event-agrees t (Unblock name) held idle x = blocked-agrees name false x
+  event-agrees t (DeleteEvent name) held idle (goes_on o lives given) = agree-at _ (given-is given) agree
+  event-agrees t (LaterEvent name) held idle (goes_on o lives (becomes x)) = schedules-agrees (accepted s) t agree s.stack o.number (Some o.it) x
 
 -- whatever event is taken, all is in agreement
 pub takes-agrees : {p : Loaded} {certificate : Certificate} (valid : IsValid p certificate) (sound : IsSound p) {s t : State} {e : Event} → HoldsSome valid sound s → Agree p s.objects s.bindings → Takes p e s t → Agree p t.objects t.bindings
-takes-agrees valid sound {e = e} held agree (accepts idle x) = event-agrees valid sound agree e held idle x
+takes-agrees valid sound {s = s} {t = t} {e = e} held agree (accepts idle x) = event-agrees valid sound s agree t e held idle x
 takes-agrees valid sound held agree (refuses k idle x) = agree
 
 pub takes-values : {p : Loaded} {certificate : Certificate} (valid : IsValid p certificate) (sound : IsSound p) {s t : State} {e : Event} → HoldsSome valid sound s → Agree p s.objects s.bindings → Takes p e s t → AreTyped p t.objects
