@@ -11,5 +11,8 @@ pub mod Lacking
 pub mod Giving
 pub mod Kept
 pub mod Arguments
+pub mod Settled
+pub mod Binding
+pub mod TypedSteps
 pub mod Steps
 pub mod Claims
