@@ -1,20 +1,16 @@
 -- What a rule or an event pushes has the arguments that its method declares.
-use Rattle.std.proofs.Common.{◌≡◌, inl, inr, ℕ, suc, ◌<◌, ◌≤◌, Bool, true, false, IsTrue, List, [], ◌∷◌, ◌++◌, map, take, length, Ok, Err, Result, Option, Some, None, refl, sym, ap, ◌∙◌, subst, arith}
+use Rattle.std.proofs.Common.{◌≡◌, ℕ, suc, ◌<◌, ◌≤◌, Bool, true, false, List, [], ◌∷◌, ◌++◌, map, take, length, Ok, Err, Result, Option, Some, None, refl, sym, ap, subst, arith}
 use Rattle.std.specs.List.{AllByRecursion, find}
-use Rattle.std.specs.Option.{option_map}
 use Rattle.signatures.specs.declared.value.Value.{Value}
-use Rattle.signatures.specs.declared.value.Value.TheVariants as value
 use Rattle.script_lang.specs.declared.event.Event.{Event}
 use Rattle.script_lang.specs.declared.event.Event.TheVariants.{Loop, Turn as TurnEvent, New, Adopt, Connect as ConnectEvent, Disconnect as DisconnectEvent, Set, Bind, Emit as EmitEvent, Call as CallEvent, Block, Unblock, Delete as DeleteEvent, Later as LaterEvent}
 use Rattle.script_lang.specs.declared.event.Input.{Input}
 use Rattle.texts.specs.declared.connection.ConnectionType.{ConnectionType}
 use Rattle.texts.specs.declared.connection.Endpoints.{Endpoints as Named}
-use Rattle.meta_model.specs.declared.effects.MetaEffects.{MetaEffects}
 use Rattle.meta_model.specs.declared.object.MetaMethod.{MetaMethod}
 use Rattle.meta_model.specs.declared.object.Statement.{Statement}
 use Rattle.meta_model.specs.declared.object.Work.{Work}
 use Rattle.meta_model.specs.declared.object.Work.TheVariants.{Signal, Slot, Native}
-use Rattle.meta_model.specs.declared.qobject.TheConstants.{DESTROYED}
 use Rattle.meta_model.specs.Loaded.{Loaded}
 use Rattle.meta_model.specs.Sound.{IsSound}
 use Rattle.meta_model.specs.Values.{null_has}
@@ -26,7 +22,6 @@ use Rattle.event_loops.specs.Queues.{Queues, items_at, is_before, taken_before}
 use Rattle.native_slots.specs.Promises.{Takes, Promises}
 use Rattle.object_tree.specs.declared.life.Life.{Life}
 use Rattle.object_tree.specs.declared.object.Object.{Object}
-use Rattle.object_tree.specs.Family.{without_life}
 use Rattle.object_tree.specs.Objects.{class_of, life_of}
 use Rattle.object_tree.specs.Typed.{ReadAs}
 use Rattle.prop_bindings.specs.declared.place.Place.{Place}
@@ -39,24 +34,22 @@ use Rattle.machine_state.specs.declared.refusal.Refusal.{Refusal}
 use Rattle.machine_state.specs.declared.turn.Turn.{Turn}
 use Rattle.machine_state.specs.Accepting.{accepted}
 use Rattle.machine_state.specs.Connections.{is_living, next_used}
-use Rattle.machine_state.specs.State.{Step, Run, Ask, Act, State, IsIdle, Activation, Body, Emit, Update, Destroy}
+use Rattle.machine_state.specs.State.{Step, Run, Act, State, IsIdle, Activation, Body, Emit, Update, Destroy}
 use Rattle.machine_state.specs.Turns.{running, reaches_at_once}
 use Rattle.machine_rules.specs.Connecting.{kept_ends, names_of}
 use Rattle.machine_rules.specs.Destroying.{Dies, NextRule, ChildRule, DestroyRule, living_child, DefersOnce, Schedules}
 use Rattle.machine_rules.specs.Doings.{Doing, Write, Begin, Choose, Connect, Disconnect, Delete, Schedule, TakeAnswer, Nothing, doing_step}
-use Rattle.machine_rules.specs.Good.{ArgumentsFit, EmissionFits, of_living, of_dead, TopFits}
+use Rattle.machine_rules.specs.Good.{ArgumentsFit, of_living, of_dead, TopFits}
 use Rattle.machine_rules.specs.Judgement.{found as finds, holds as so, becomes, goes_on}
 use Rattle.machine_rules.specs.Natives.{NativeAnswers}
 use Rattle.machine_rules.specs.Rules.{Rule, RuleAt, BodyRule, Does, EmitRule, UpdateRule, NotifiesIf, TurnRule, Serves, Delivers, Arrives, Begins, BeginsIf, begun, with_used, linked, unlinked}
-use Rattle.machine_rules.specs.Settling.{Writes, Installs}
-use Rattle.machine_rules.specs.Sound.{Joined, AllWait, Waits, SendsThese}
+use Rattle.machine_rules.specs.Sound.{Waits, SendsThese}
 use Rattle.machine_rules.specs.There.{IsMember}
 use Rattle.machine_rules.specs.Writing.{Announces}
 use Rattle.machine_rules.proofs.Beginning.{fit-of, next-delivered, delivered-fits}
 use Rattle.machine_rules.proofs.Declared.{living-fits}
 use Rattle.machine_rules.proofs.Dying.{died-dead}
 use Rattle.machine_rules.proofs.Fields.{member-at, method-unique}
-use Rattle.machine_rules.proofs.Keeps.{class-of-lives}
 use Rattle.machine_rules.proofs.Notifying.{announced-fits}
 use Rattle.machine_rules.proofs.Soundness.{AllFit}
 use Rattle.machine_rules.proofs.Waiting.{first-waits}
@@ -66,9 +59,9 @@ use Rattle.machine_events.specs.Takes.{judged, Takes as Taking, accepts, refuses
 use Rattle.machine_events.specs.events.Block.{block}
 use Rattle.machine_events.specs.events.Invoke.{invoke}
 use Rattle.machine_events.proofs.Standing.{Invariant}
-use Rattle.checked_runs.specs.Invariant.{Rung, BodyStands, IsStepOf, Stacked, Holds}
-use Rattle.checked_runs.specs.Promised.{StepIsPromised, LeftIsPromised, AllIsPromised}
-use Rattle.checked_runs.proofs.Giving.{GivesTyped, does-give, answer-promised}
+use Rattle.checked_runs.specs.Invariant.{Rung, BodyStands, Stacked, Holds}
+use Rattle.checked_runs.specs.Promised.{StepIsPromised, AllIsPromised}
+use Rattle.checked_runs.proofs.Giving.{does-give, answer-promised}
 use Rattle.checked_runs.proofs.Given.{given-is, living-is, living-object}
 use Rattle.checked_runs.proofs.Leading.{does-led}
 

@@ -13,7 +13,7 @@ use Rattle.machine_rules.specs.Runs.{WritesIll, GoesIll}
 use Rattle.machine_events.specs.Runs.{Follows, RunStops, BindsIll}
 use Rattle.checked_runs.specs.Claims.{NeverTooDeep, NeverInUse, NeverLoops, NeverStuck, IsReached, IsFaultless, EachIsFaultless, IsLimit, no_rule, no_memory, StopsAtLimits}
 use Rattle.checked_runs.proofs.Binding.{binds-fit}
-use Rattle.checked_runs.proofs.Kept.{Kept, run-kept, follows-held, writes-low, deep-not, fatal-not, loops-not, stuck-not}
+use Rattle.checked_runs.proofs.Kept.{Kept, run-kept, writes-low, deep-not, fatal-not, loops-not, stuck-not}
 use Rattle.checked_runs.proofs.Steps.{Stood, run-stood, as-kept, writes-fit, follows-good}
 
 pub never_too_deep : (natives : NativeAnswers) → NeverTooDeep natives

@@ -1,12 +1,11 @@
 -- What a step of a body gives is of the types that are asked.
 use Rattle.std.proofs.Common.{◌≡◌, ℕ, suc, ◌-◌, ◌&&◌, Bool, true, false, IsTrue, List, [], ◌∷◌, length, map, Option, Some, None, slice_get, refl, sym, ap, ◌∙◌, subst, arith}
 use Rattle.std.specs.Prelude.{IfSome, nat_le}
-use Rattle.std.specs.List.{AllByRecursion, AllZip, list_all}
+use Rattle.std.specs.List.{AllByRecursion, list_all}
 use Rattle.std.specs.Option.{option_and_then, option_map, option_map_or}
 use Rattle.std.proofs.lemmas.Option.{same_Some}
 use Rattle.signatures.specs.declared.value.Value.{Value}
 use Rattle.signatures.specs.declared.value.Value.TheVariants as value
-use Rattle.texts.specs.declared.syntax.Expr.{Expr}
 use Rattle.meta_model.specs.declared.effects.MetaEffects.{MetaEffects}
 use Rattle.meta_model.specs.declared.object.MetaMethod.{MetaMethod}
 use Rattle.meta_model.specs.declared.object.MetaObject.{MetaObject}
@@ -23,7 +22,7 @@ use Rattle.meta_model.specs.declared.object.Work.{Work}
 use Rattle.meta_model.specs.declared.object.Work.TheVariants.{Native}
 use Rattle.meta_model.specs.Loaded.{Loaded}
 use Rattle.meta_model.specs.Members.{IsMethod, IsProperty, Below}
-use Rattle.meta_model.specs.Sound.{IsSound, HasRoot, this_has, parameter_has, Leads, here, on, LeadsTo, LeadsToClass, IsSoundStatement, set_sound, emit_sound, call_sound, if_sound, connect_sound, disconnect_sound, delete_sound, later_sound, IsSoundWork}
+use Rattle.meta_model.specs.Sound.{IsSound, HasRoot, this_has, parameter_has, Leads, here, on, LeadsToClass, IsSoundStatement, set_sound, emit_sound, call_sound, if_sound, connect_sound, disconnect_sound, delete_sound, later_sound, IsSoundWork}
 use Rattle.meta_model.specs.Values.{HaveTypes, number_has, truth_has, text_has}
 use Rattle.native_slots.specs.declared.action.Action.{Action}
 use Rattle.native_slots.specs.declared.action.Action.TheVariants as action
@@ -48,12 +47,12 @@ use Rattle.machine_rules.specs.Paths.{path_value, value_of, values_of}
 use Rattle.machine_rules.specs.Rules.{Answers}
 use Rattle.machine_rules.specs.There.{IsMember, IsField}
 use Rattle.machine_rules.proofs.Beginning.{fit-of}
-use Rattle.machine_rules.proofs.Fields.{field-property, member-method, member-at, class-unique}
+use Rattle.machine_rules.proofs.Fields.{field-property, member-method}
 use Rattle.machine_rules.proofs.Inherited.{method-below, property-below}
 use Rattle.machine_rules.proofs.Keeps.{lives-of-class, class-of-lives}
 use Rattle.machine_rules.proofs.Promised.{declared-at, promised}
 use Rattle.machine_events.proofs.TypedPaths.{Reaches, to_null, to_object}
-use Rattle.checked_runs.specs.Invariant.{BodyStands, IsStepOf, runs, asks, acts}
+use Rattle.checked_runs.specs.Invariant.{BodyStands, IsStepOf, runs}
 use Rattle.checked_runs.specs.Promised.{SetsWithin, EmitsWithin, IsWithin, IsPromised, StepIsPromised}
 use Rattle.checked_runs.proofs.Lacking.{paths-typed, reached, body-typed}
 use Rattle.checked_runs.proofs.Leading.{occurs-sound}

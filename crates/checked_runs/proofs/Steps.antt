@@ -1,5 +1,5 @@
 -- What every state of a run keeps where natives keep their promise, and that every step is good.
-use Rattle.std.proofs.Common.{◌≡◌, ℕ, suc, ◌≤◌, List, [], ◌∷◌, length, Option, None, subst}
+use Rattle.std.proofs.Common.{ℕ, List, [], ◌∷◌, Option, None, subst}
 use Rattle.signatures.specs.declared.value.Value.{Value}
 use Rattle.script_lang.specs.declared.event.Event.{Event}
 use Rattle.meta_model.specs.declared.object.MetaProperty.{MetaProperty}
