@@ -243,9 +243,3 @@ installs-agree {p} {s} {b = b} agree fit acyclic x =
     let left : Agree p s.objects (without b.target s.bindings) = agree-fewer p s.objects (λ (z : Binding). not (same_place z.target b.target)) s.bindings agree in
     agree-at _ (x.settles).gives
     (settled-agree s.objects x.objects agree.typed x.differ (replaced s.bindings b) (All-push (IsFit p s.objects) (without b.target s.bindings) b left.fit fit) (apart-replaced s.bindings b agree.apart) acyclic x.settled (λ q none. keeps (x.kept q none)))
-
-pub writes-typed : {p : Loaded} {s t : State} {below : List Activation} {o q : ℕ} {v : Value} → Agree p s.objects s.bindings → (w : Writes p s below o q v t) → ReadsAs p s.objects v (w.property).kind → AreTyped p t.objects
-writes-typed agree w fits = (writes-agree agree w fits).typed
-
-pub installs-typed : {p : Loaded} {s t : State} {below : List Activation} {b : Binding} → Agree p s.objects s.bindings → IsFit p s.objects b → (¬ Loop (binding_at (replaced s.bindings b))) → Installs p s below b t → AreTyped p t.objects
-installs-typed agree fit acyclic x = (installs-agree agree fit acyclic x).typed

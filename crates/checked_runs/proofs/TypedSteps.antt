@@ -32,7 +32,7 @@ use Rattle.object_tree.specs.Creating.{BeginsAs, BeginsWell, fresh, initial_valu
 use Rattle.object_tree.specs.Family.{moved}
 use Rattle.object_tree.specs.Objects.{life_of, class_with, change_life, blocked}
 use Rattle.object_tree.specs.Seen.{seen}
-use Rattle.object_tree.specs.Typed.{AreTyped, ReadsAs}
+use Rattle.object_tree.specs.Typed.{ReadsAs}
 use Rattle.object_tree.proofs.Changing.{lives-of-life}
 use Rattle.object_tree.proofs.TypedObjects.{Shape, life_shape, shape_in, shape-change, shape-moved, typed-change, typed-moved, typed-created}
 use Rattle.prop_bindings.specs.declared.binding.Binding.{Binding}
@@ -182,9 +182,6 @@ module _ {p : Loaded} (s t : State) (agree : Agree p s.objects s.bindings) where
 pub rule-agrees : {p : Loaded} (natives : NativeAnswers) (s t : State) → Agree p s.objects s.bindings → WritesFit p s → Rule p natives s t → Agree p t.objects t.bindings
 rule-agrees natives s t agree fit rule = stack-agrees s t agree natives s.stack refl fit rule
 
-pub rule-values : {p : Loaded} (natives : NativeAnswers) (s t : State) → Agree p s.objects s.bindings → WritesFit p s → Rule p natives s t → AreTyped p t.objects
-rule-values natives s t agree fit rule = (rule-agrees natives s t agree fit rule).typed
-
 -- ---- objects that change in no value
 
 -- an object that shows the same lives on with its values
@@ -292,6 +289,3 @@ module _ {p : Loaded} {certificate : Certificate} (valid : IsValid p certificate
 pub takes-agrees : {p : Loaded} {certificate : Certificate} (valid : IsValid p certificate) (sound : IsSound p) {s t : State} {e : Event} → HoldsSome valid sound s → Agree p s.objects s.bindings → Takes p e s t → Agree p t.objects t.bindings
 takes-agrees valid sound {s = s} {t = t} {e = e} held agree (accepts idle x) = event-agrees valid sound s agree t e held idle x
 takes-agrees valid sound held agree (refuses k idle x) = agree
-
-pub takes-values : {p : Loaded} {certificate : Certificate} (valid : IsValid p certificate) (sound : IsSound p) {s t : State} {e : Event} → HoldsSome valid sound s → Agree p s.objects s.bindings → Takes p e s t → AreTyped p t.objects
-takes-values valid sound held agree x = (takes-agrees valid sound held agree x).typed
