@@ -1,5 +1,5 @@
 -- What a rule or an event pushes has the arguments that its method declares.
-use Rattle.std.proofs.Common.{◌≡◌, ℕ, suc, ◌<◌, ◌≤◌, Bool, true, false, List, [], ◌∷◌, ◌++◌, map, take, length, Ok, Err, Result, Option, Some, None, refl, sym, ap, subst, arith}
+use Rattle.std.proofs.Common.{◌≡◌, ℕ, suc, ◌<◌, ◌≤◌, Bool, true, false, List, [], ◌∷◌, map, take, length, Ok, Err, Result, Option, Some, None, refl, sym, ap, subst, arith}
 use Rattle.std.specs.List.{AllByRecursion, find}
 use Rattle.signatures.specs.declared.value.Value.{Value}
 use Rattle.script_lang.specs.declared.event.Event.{Event}
@@ -50,6 +50,7 @@ use Rattle.machine_rules.proofs.Beginning.{fit-of, next-delivered, delivered-fit
 use Rattle.machine_rules.proofs.Declared.{living-fits}
 use Rattle.machine_rules.proofs.Dying.{died-dead}
 use Rattle.machine_rules.proofs.Fields.{member-at, method-unique}
+use Rattle.machine_rules.proofs.Lists.{all-append}
 use Rattle.machine_rules.proofs.Notifying.{announced-fits}
 use Rattle.machine_rules.proofs.Soundness.{AllFit}
 use Rattle.machine_rules.proofs.Waiting.{first-waits}
@@ -73,10 +74,6 @@ pub record Pushes (p : Loaded) (classes : ℕ → Option ℕ) (high : ℕ) (t : 
 runs-promised : (p : Loaded) (classes : ℕ → Option ℕ) (o : ℕ) (statements : List Statement) → AllByRecursion (StepIsPromised p classes o) (map Run statements)
 runs-promised p classes o [] = tt
 runs-promised p classes o (s ∷ statements) = (tt, runs-promised p classes o statements)
-
-steps-append : (P : Step → Type 0) (front rest : List Step) → AllByRecursion P front → AllByRecursion P rest → AllByRecursion P (front ++ rest)
-steps-append P [] rest a b = b
-steps-append P (x ∷ front) rest a b = (a.0, steps-append P front rest a.1 b)
 
 module _ {p : Loaded} {classes : ℕ → Option ℕ} where
   -- a state that is this one
@@ -148,7 +145,7 @@ module _ {p : Loaded} {certificate : Certificate} (valid : IsValid p certificate
       let gives = does-give valid sound classes known agree.typed b y (Begin x k given) (b.steps).0 one is in
       pushes-begins does (fit-of does.is (gives does.object does.method does.is)) (left, all)
   pushes-does t n o m arguments y rest below b high one left all (Choose block) is does =
-      pushes-as does (pushes-none (omega (arith, high)) (steps-append (StepIsPromised p classes o) (map Run block) rest (runs-promised p classes o block) left, all))
+      pushes-as does (pushes-none (omega (arith, high)) (all-append (StepIsPromised p classes o) (map Run block) rest (runs-promised p classes o block) left, all))
   pushes-does t n o m arguments y rest below b high one left all (Connect ends how) is does =
       pushes-as does.gives (pushes-linked s (Body o m arguments rest ∷ below) (kept_ends ends) how (names_of does.kept) does.answer (omega (arith, high)) (left, all))
   pushes-does t n o m arguments y rest below b high one left all (Disconnect ends) is does =
@@ -158,7 +155,7 @@ module _ {p : Loaded} {certificate : Certificate} (valid : IsValid p certificate
       pushes-schedules s t (Body o m arguments rest ∷ below) x (life_of s.objects x) (omega (arith, high)) (left, all) does
   pushes-does t n o m arguments y rest below b high one left all (TakeAnswer effects) is does =
       let native = does-led sound agree.typed b y (TakeAnswer effects) (b.steps).0 is in
-      pushes-as does.gives (pushes-none (omega (arith, high)) (steps-append (StepIsPromised p classes o) (map (Act effects) does.actions) rest (answer-promised takes natives sound promises classes known agree.typed b native does) left, all))
+      pushes-as does.gives (pushes-none (omega (arith, high)) (all-append (StepIsPromised p classes o) (map (Act effects) does.actions) rest (answer-promised takes natives sound promises classes known agree.typed b native does) left, all))
   pushes-does t n o m arguments y rest below b high one left all Nothing is does = pushes-as does (pushes-none (omega (arith, high)) (left, all))
 
   pushes-body : (t : State) (n o m : ℕ) (arguments : List Value) (left : List Step) (below : List Activation) {x : Node} (b : BodyStands p s.objects o m arguments left x) → n ≡ suc (length below) → AllByRecursion (StepIsPromised p classes o) left → AllIsPromised p classes below → BodyRule p natives s o m arguments below t left → Pushes p classes n t

@@ -23,12 +23,13 @@ use Rattle.meta_model.specs.declared.object.Work.TheVariants.{Native}
 use Rattle.meta_model.specs.Loaded.{Loaded}
 use Rattle.meta_model.specs.Members.{IsMethod, IsProperty, Below}
 use Rattle.meta_model.specs.Sound.{IsSound, HasRoot, this_has, parameter_has, Leads, here, on, LeadsToClass, IsSoundStatement, set_sound, emit_sound, call_sound, if_sound, connect_sound, disconnect_sound, delete_sound, later_sound, IsSoundWork}
-use Rattle.meta_model.specs.Values.{HaveTypes, number_has, truth_has, text_has}
+use Rattle.meta_model.specs.Values.{HaveTypes}
 use Rattle.native_slots.specs.declared.action.Action.{Action}
 use Rattle.native_slots.specs.declared.action.Action.TheVariants as action
 use Rattle.native_slots.specs.declared.action.TheConstants.{MOST_ACTIONS}
 use Rattle.native_slots.specs.Plain.{is_of, are_of}
 use Rattle.native_slots.specs.Promises.{Takes, Promises, is_declared}
+use Rattle.native_slots.proofs.PlainValues.{has_of}
 use Rattle.object_tree.specs.declared.life.Life.{Life}
 use Rattle.object_tree.specs.declared.object.Object.{Object}
 use Rattle.object_tree.specs.Objects.{Lives, class_of}
@@ -94,19 +95,7 @@ all-reads p objects (v ∷ vs) (T ∷ Ts) have = (has-reads p objects v T have.0
 
 -- what is of a plain type reads as it
 plain-reads : (p : Loaded) (objects : List Object) (v : Value) (T : ValueType) → IsTrue (is_of v T) → ReadsAs p objects v T
-plain-reads p objects (value.Int n) type.Int h = number_has
-plain-reads p objects (value.Int n) type.Bool h = absurd (cc h)
-plain-reads p objects (value.Int n) type.Text h = absurd (cc h)
-plain-reads p objects (value.Int n) (type.Reference c k) h = absurd (cc h)
-plain-reads p objects (value.Bool b) type.Bool h = truth_has
-plain-reads p objects (value.Bool b) type.Int h = absurd (cc h)
-plain-reads p objects (value.Bool b) type.Text h = absurd (cc h)
-plain-reads p objects (value.Bool b) (type.Reference c k) h = absurd (cc h)
-plain-reads p objects (value.Text t) type.Text h = text_has
-plain-reads p objects (value.Text t) type.Int h = absurd (cc h)
-plain-reads p objects (value.Text t) type.Bool h = absurd (cc h)
-plain-reads p objects (value.Text t) (type.Reference c k) h = absurd (cc h)
-plain-reads p objects (value.Ref r) T h = absurd (cc h)
+plain-reads p objects v T h = has-reads p objects v T (has_of p (class_of objects) v T h)
 
 both-true : (a b : Bool) → IsTrue (a && b) → IsTrue a × IsTrue b
 both-true true b both = (refl, both)

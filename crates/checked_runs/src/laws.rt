@@ -31,7 +31,8 @@ pub fn each_is_faultless<N: Answering>(_natives: &N)
     ensures { EachIsFaultless (N.takes _natives.now) (N.gives _natives.now) }
 {}
 
-/// .. so a run stops only where no rule is left, or memory was refused: no value is ever of a wrong type.
+/// Where natives keep what the program declares of them, a run stops only since no rule is left, or memory was refused: no
+/// value is ever of a wrong type either.
 pub fn stops_at_limits<N: Answering>(_natives: &N)
     ensures { StopsAtLimits (N.takes _natives.now) (N.gives _natives.now) }
 {}
