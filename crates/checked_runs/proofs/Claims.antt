@@ -1,163 +1,20 @@
--- What every state of a run keeps, and what it excludes.
-use Rattle.std.proofs.Common.{◌≡◌, inl, inr, ℕ, suc, ◌≤◌, IsTrue, List, [], ◌∷◌, length, None, refl, sym, subst, arith}
-use Rattle.std.proofs.lemmas.List.Elements.{All-from_recursion}
-use Rattle.signatures.specs.declared.value.Value.{Value}
+-- What runs of checked programs never come to.
+use Rattle.std.proofs.Common.{inl, inr, ℕ, List}
 use Rattle.script_lang.specs.declared.event.Event.{Event}
 use Rattle.meta_model.specs.Loaded.{Loaded}
-use Rattle.meta_model.specs.Sound.{IsSound}
-use Rattle.prop_bindings.specs.declared.place.Place.{Place}
-use Rattle.prop_bindings.specs.Bindings.{binding_at, without, replaced, Chain, direct, further}
-use Rattle.prop_bindings.specs.Fits.{IsFit, Agree}
-use Rattle.effect_scan.specs.declared.node.Node.{Node}
-use Rattle.effect_scan.specs.declared.node.Member.TheVariants.{Property}
-use Rattle.effect_scan.specs.Nodes.{node}
 use Rattle.certificate_lang.specs.declared.certificate.Certificate.{Certificate}
-use Rattle.rank_check.specs.Valid.{IsValid}
-use Rattle.machine_state.specs.State.{Step, Run, State, Activation, Body}
-use Rattle.machine_state.specs.Worlds.{at, untouched}
-use Rattle.machine_rules.specs.Doings.{Write}
-use Rattle.machine_rules.specs.Good.{IsWell, IsGood, Spares, has_body}
+use Rattle.native_slots.specs.Promises.{Takes}
+use Rattle.machine_state.specs.declared.fault.Fault.{Fault}
+use Rattle.machine_state.specs.declared.fault.Fault.TheVariants.{BadType, TooDeep, BindingLoop, InUse, Steps, Memory, Stopped}
+use Rattle.machine_state.specs.State.{State}
+use Rattle.machine_rules.specs.Good.{IsGood}
 use Rattle.machine_rules.specs.Natives.{NativeAnswers}
-use Rattle.machine_rules.specs.Rules.{Rule}
-use Rattle.machine_rules.specs.Runs.{Rules, WritesDeep, GoesDeep, GoesFatal}
-use Rattle.machine_rules.specs.Runs as of_rules
-use Rattle.machine_rules.proofs.Lists.{all-filtered, all-snoc}
-use Rattle.machine_events.specs.Runs.{Runs, done, rules, takes, Follows, by_rule, by_event}
-use Rattle.machine_events.specs.Takes.{Takes, accepts, refuses}
-use Rattle.machine_events.proofs.Standing.{Invariant}
-use Rattle.machine_events.proofs.Preservation.{runs-invariant}
-use Rattle.checked_runs.specs.Invariant.{BodyStands, Rung, Stacked, IsSited, Holds}
-use Rattle.checked_runs.specs.Claims.{NeverTooDeep, NeverInUse, NeverLoops, NeverStuck}
-use Rattle.checked_runs.proofs.Ladder.{falls-to, climbs, no-deeper}
-use Rattle.checked_runs.proofs.Leading.{does-led}
-use Rattle.checked_runs.proofs.Rules.{rule-held, bound-by}
-use Rattle.checked_runs.proofs.Events.{HoldsSome, takes-held, binding-sited}
-use Rattle.checked_runs.proofs.Sites.{no-loop}
-use Rattle.checked_runs.proofs.Lacking.{body-typed, typed-does}
-use Rattle.checked_runs.proofs.Nodes.{body-named}
-use Rattle.machine_events.specs.Causes.{LacksValue}
-use Rattle.machine_events.proofs.Progress.{stuck-lacks}
-use Rattle.machine_rules.specs.Runs.{IsStuck}
-use Rattle.machine_rules.proofs.Keeps.{lives-of-class}
-use Rattle.meta_model.specs.declared.object.Work.{Work}
-use Rattle.meta_model.specs.declared.object.Statement.{Statement}
-use Rattle.meta_model.specs.declared.object.Statement.TheViews.{out-Statement}
-use Rattle.meta_model.specs.Members.{Below}
-use Rattle.meta_model.specs.Sound.{IsSoundWork}
-use Rattle.typing.specs.Typed.{IsTypedWork}
-use Rattle.object_tree.specs.declared.object.Object.{Object}
-use Rattle.object_tree.specs.Typed.{AreTyped}
-use Rattle.machine_rules.specs.Doings.{doing}
-use Rattle.checked_runs.specs.Invariant.{IsStepOf, runs}
-use Rattle.checked_runs.proofs.Leading.{occurs-sound}
-
--- ---- the start
-
-no-chain : {a c : Place} → ¬ Chain (binding_at []) a c
-no-chain (direct b is reads) = absurd (cc is)
-no-chain (further b chain is reads) = absurd (cc is)
-
-agree-none : (p : Loaded) → Agree p [] []
-agree-none p = record {
-  typed = λ o x l is. absurd (cc is.is);
-  fit = All-from_recursion (IsFit p []) [] tt;
-  apart = tt;
-  acyclic = λ loop. no-chain loop.1;
-  settled = λ q b is. absurd (cc is);
-}
-
-start-invariant : (p : Loaded) (steps : ℕ) → Invariant p (at (untouched steps) [])
-start-invariant p steps = record {
-  sound = record { agree = agree-none p; joined = tt; housed = record { has_main = omega arith; each = λ o home is. absurd (cc is) }; waiting = (tt, tt) };
-  stands = tt;
-  emitted = tt;
-}
-
-start-holds : (p : Loaded) (certificate : Certificate) (steps : ℕ) → Holds p certificate (λ o. None) (at (untouched steps) [])
-start-holds p certificate steps = record {
-  covered = record {
-    known = record { lives = λ o class is. absurd (cc is); each = λ o low. absurd (omega (arith, low)); inside = λ o class is. absurd (cc is) };
-    owned = λ parent. tt;
-    wired = tt;
-    sited = tt;
-  };
-  rungs = [];
-  stacked = tt;
-}
-
--- ---- runs
-
-module _ {p : Loaded} {certificate : Certificate} (valid : IsValid p certificate) (sound : IsSound p) (natives : NativeAnswers) where
-  abbrev Kept : State → Type 0
-  Kept s = HoldsSome valid sound s × Invariant p s
-
-  rule-kept : {d : ℕ} {s t : State} → Kept s → IsGood p d s t → Rule p natives s t → Kept t
-  rule-kept {d} {s} {t} kept good rule =
-      let up = kept.1 in
-      let held = rule-held valid sound (kept.0).0 natives s t (kept.0).1 (up.sound).agree (up.sound).waiting good.well rule in
-      (((kept.0).0, held.0), runs-invariant sound (rules (of_rules.then {n = 0} rule good of_rules.done) done) up)
-
-  rules-kept : {d : ℕ} {s t : State} {n k : ℕ} → Rules p natives d s n t k → Kept s → Kept t
-  rules-kept of_rules.done kept = kept
-  rules-kept (of_rules.then rule good rest) kept = rules-kept rest (rule-kept kept good rule)
-
-  takes-kept : {d : ℕ} {s t : State} {e : Event} → Kept s → IsGood p d s t → Takes p e s t → Kept t
-  takes-kept {d} {s} {t} {e} kept good x =
-      let up = kept.1 in
-      (takes-held valid sound s t e kept.0 (up.sound).agree good.well x, runs-invariant {natives = natives} sound (takes {n = 0} x good done) up)
-
-  runs-kept : {d : ℕ} {s t : State} {n k : ℕ} {es : List Event} → Runs p natives d s n es t k → Kept s → Kept t
-  runs-kept done kept = kept
-  runs-kept (rules r rest) kept = runs-kept rest (rules-kept r kept)
-  runs-kept (takes x good rest) kept = runs-kept rest (takes-kept kept good x)
-
-  run-kept : {d steps left : ℕ} {s : State} {taken : List Event} → Runs p natives d (at (untouched steps) []) steps taken s left → Kept s
-  run-kept {steps = steps} r = runs-kept r (((λ o. None), start-holds p certificate steps), start-invariant p steps)
-
-  -- ---- what follows
-
-  -- what follows and is well keeps it, and spares every object that has a body
-  follows-held : {s t : State} {next : List Event} → Kept s → IsWell p s t → Follows p natives s t next → HoldsSome valid sound t × Spares s t
-  follows-held {s} {t} kept well (by_rule rule) =
-      let up = kept.1 in
-      let held = rule-held valid sound (kept.0).0 natives s t (kept.0).1 (up.sound).agree (up.sound).waiting well rule in
-      (((kept.0).0, held.0), held.1)
-  follows-held {s} {t} kept well (by_event {e = e} x) =
-      let up = kept.1 in
-      (takes-held valid sound s t e kept.0 (up.sound).agree well x, λ o body gone. absurd (no-body-idle x o body))
-    where
-      idle-is : {e : Event} {u v : State} → Takes p e u v → u.stack ≡ []
-      idle-is (accepts idle y) = idle.empty
-      idle-is (refuses k idle y) = idle.empty
-
-      no-body-idle : {e : Event} → Takes p e s t → (o : ℕ) → IsTrue (has_body o s.stack) → ⊥
-      no-body-idle y o body = let none : IsTrue (has_body o []) = subst (λ (l : List Activation). IsTrue (has_body o l)) (idle-is y) body in absurd (cc none)
-
-  -- a body on top that writes leaves room for one more
-  writes-low : {s : State} → Kept s → WritesDeep p certificate.bound s → ⊥
-  writes-low {s} kept w =
-      let n = w.next in
-      let held = (kept.0).1 in
-      room held.rungs (subst (λ (l : List Activation). Stacked (kept.0).0 s.objects l held.rungs) n.is_next held.stacked) (subst (λ (l : List Activation). certificate.bound ≤ length l) n.is_next w.deep)
-    where
-      room : (rungs : List (Rung p certificate)) → Stacked (kept.0).0 s.objects (Body (w.next).object (w.next).method (w.next).arguments ((w.next).step ∷ (w.next).rest) ∷ (w.next).below) rungs → certificate.bound ≤ suc (length (w.next).below) → ⊥
-      room [] st deep = absurd st
-      room (r ∷ rungs) st deep =
-          let led = does-led sound ((kept.1).sound).agree.typed st.0 (w.next).step (Write w.object w.number w.value) ((st.0).steps).0 (w.next).does in
-          let up = falls-to valid sound (node ((w.is).life).class (Property w.number)) r.is (led w.it (w.is).life (w.is).lives) in
-          let low = climbs valid (kept.0).0 s.objects r.line r rungs (w.next).below refl st.1 st.2 in
-          let fall = (up.2).rank in
-          omega (arith, low, fall, deep)
-
-  deep-not : {s : State} {next : List Event} → Kept s → GoesDeep p certificate.bound s (λ t. Follows p natives s t next) → ⊥
-  deep-not kept g =
-      let held = (follows-held kept g.well g.follows).0 in
-      let low = no-deeper valid held.0 (g.t).objects (held.1).rungs (g.t).stack (held.1).stacked in
-      let deep = g.deep in
-      omega (arith, low, deep)
-
-  fatal-not : {s : State} {next : List Event} → Kept s → GoesFatal p s (λ t. Follows p natives s t next) → ⊥
-  fatal-not kept g = g.fatal (follows-held kept g.well g.follows).1
+use Rattle.machine_rules.specs.Runs.{WritesIll, GoesIll}
+use Rattle.machine_events.specs.Runs.{Follows, RunStops, BindsIll}
+use Rattle.checked_runs.specs.Claims.{NeverTooDeep, NeverInUse, NeverLoops, NeverStuck, IsReached, IsFaultless, EachIsFaultless, IsLimit, no_rule, no_memory, StopsAtLimits}
+use Rattle.checked_runs.proofs.Binding.{binds-fit}
+use Rattle.checked_runs.proofs.Kept.{Kept, run-kept, writes-low, deep-not, fatal-not, loops-not, stuck-not}
+use Rattle.checked_runs.proofs.Steps.{Stood, run-stood, as-kept, writes-fit, follows-good}
 
 pub never_too_deep : (natives : NativeAnswers) → NeverTooDeep natives
 never_too_deep natives p certificate s steps left taken next sound valid run stops =
@@ -173,32 +30,75 @@ never_in_use natives p certificate s steps left taken next sound valid run stops
 
 pub never_loops : (natives : NativeAnswers) → NeverLoops natives
 never_loops natives p certificate s steps left taken next sound valid run stops =
-    let kept = run-kept valid sound natives run in
-    let held = (kept.0).1 in
-    let b = (stops.1).binding in
-    let asked = (stops.1).next in
-    let sited = binding-sited valid sound s asked.idle (kept.0).0 held.covered ((kept.1).sound).agree asked.site asked.target asked.sources b asked.may in
-    let all = all-snoc (IsSited p (kept.0).0) (without b.target s.bindings) b (all-filtered (IsSited p (kept.0).0) _ s.bindings (held.covered).sited) sited in
-    no-loop valid sound (kept.0).0 (binding_at (replaced s.bindings b)) (λ q z e. bound-by (IsSited p (kept.0).0) (replaced s.bindings b) all q z e) (stops.1).closes
-
--- a body that stands has the values that its next statement needs
-body-does : {p : Loaded} {certificate : Certificate} {objects : List Object} {o m : ℕ} {arguments : List Value} {statement : Statement} {rest : List Step} {x : Node} → IsValid p certificate → IsSound p → AreTyped p objects → (b : BodyStands p objects o m arguments (Run statement ∷ rest) x) → IsStepOf (b.method).work (Run statement) → doing objects o arguments (out-Statement statement) ≡ None → ⊥
-body-does {p} {objects = objects} {o = o} {m = m} {arguments = arguments} {statement = statement} valid sound typed b (runs {body = body} slot occurs) none =
-    let kinds = (b.method).kinds in
-    let work = subst (λ (w : Work). IsSoundWork p b.class m kinds w) slot ((sound.classes b.class (b.is).class (b.is).is_class).methods m b.method (b.is).is).work in
-    let whole = body-typed b.class m work.declaring b.method valid sound b.is work.below work.declares (body-named sound b.class m b.method b.is b.bodied) in
-    let all = subst (λ (w : Work). IsTypedWork p work.declaring kinds w) slot whole in
-    let own = lives-of-class objects o b.class b.lives in
-    typed-does sound typed o work.declaring own.0 own.1 arguments kinds own.2 (subst (λ (k : ℕ). Below p k work.declaring) (sym own.3) work.below) b.typed (out-Statement statement)
-    (occurs-sound sound work.declaring kinds statement body work.sound occurs) (all statement occurs) none
+    loops-not valid sound natives (run-kept valid sound natives run) stops.1
 
 pub never_stuck : (natives : NativeAnswers) → NeverStuck natives
 never_stuck natives p certificate s steps left taken sound valid run stuck =
-    let kept = run-kept valid sound natives run in
-    let held = (kept.0).1 in
-    let w = stuck-lacks sound kept.1 stuck in
-    first-does w kept held.rungs (subst (λ (l : List Activation). Stacked (kept.0).0 s.objects l held.rungs) w.is_next held.stacked)
-  where
-    first-does : (w : LacksValue s) → (kept : HoldsSome valid sound s × Invariant p s) → (rungs : List (Rung p certificate)) → Stacked (kept.0).0 s.objects (Body w.object w.method w.arguments (Run w.statement ∷ w.rest) ∷ w.below) rungs → ⊥
-    first-does w kept [] st = absurd st
-    first-does w kept (r ∷ rungs) st = body-does valid sound ((kept.1).sound).agree.typed st.0 ((st.0).steps).0 w.lacks
+    stuck-not valid sound natives (run-kept valid sound natives run) stuck
+
+-- ---- every step
+
+module _ {takes : Takes} {natives : NativeAnswers} {p : Loaded} {certificate : Certificate} {s : State} (reached : IsReached takes natives p certificate s) where
+  stood : Stood p certificate s
+  stood = run-stood reached.valid reached.sound takes natives reached.promises reached.runs
+
+  kept : Kept reached.valid reached.sound natives s
+  kept = as-kept reached.valid reached.sound natives stood
+
+  good : {t : State} {next : List Event} → Follows p natives s t next → IsGood p certificate.bound s t
+  good follows = follows-good reached.valid reached.sound takes natives reached.promises stood follows
+
+  pub each-faultless : {t : State} {next : List Event} → Follows p natives s t next → IsFaultless p certificate natives s t × IsGood p certificate.bound s t
+  each-faultless follows =
+      let it = good follows in (
+        record {
+          arguments = (it.well).arguments;
+          values = (it.well).values;
+          spared = it.spared;
+          acyclic = (it.agree).acyclic;
+          settled = (it.agree).settled;
+          shallow = it.shallow;
+          goes_on = λ stuck. stuck-not reached.valid reached.sound natives kept stuck;
+        },
+        it,
+      )
+
+  binds-not : {next : List Event} → BindsIll p s next → ⊥
+  binds-not ill = ill.ill (binds-fit reached.valid reached.sound ((kept.1).sound).agree ill.next)
+
+  writes-not : WritesIll p s → ⊥
+  writes-not w = w.ill (writes-fit reached.valid reached.sound stood w.object w.number w.value w.next w.it w.property w.is)
+
+  goes-not : {next : List Event} → GoesIll p s (λ t. Follows p natives s t next) → ⊥
+  goes-not g = g.ill (good g.follows).well
+
+  -- whatever rules are left
+  by-fault : (left : ℕ) (next : List Event) (fault : Fault) → RunStops p natives certificate.bound s left next fault → IsLimit fault
+  by-fault left next BadType stops = elim stops.1 [
+    | inl nothing ↦ elim nothing [
+      | inl stuck ↦ absurd (stuck-not reached.valid reached.sound natives kept stuck)
+      | inr ill ↦ absurd (binds-not ill)
+    ]
+    | inr wrong ↦ elim wrong [
+      | inl w ↦ absurd (writes-not w)
+      | inr g ↦ absurd (goes-not g)
+    ]
+  ]
+  by-fault left next TooDeep stops = elim stops.1 [
+    | inl w ↦ absurd (writes-low reached.valid reached.sound natives kept w)
+    | inr g ↦ absurd (deep-not reached.valid reached.sound natives kept g)
+  ]
+  by-fault left next BindingLoop stops = absurd (loops-not reached.valid reached.sound natives kept stops.1)
+  by-fault left next InUse stops = absurd (fatal-not reached.valid reached.sound natives kept stops.1)
+  by-fault left next Steps stops = no_rule
+  by-fault left next Memory stops = no_memory
+  by-fault left next Stopped stops = absurd stops
+
+pub only_limits : {takes : Takes} {natives : NativeAnswers} {p : Loaded} {certificate : Certificate} {s : State} (left : ℕ) (next : List Event) (fault : Fault) → IsReached takes natives p certificate s → RunStops p natives certificate.bound s left next fault → IsLimit fault
+only_limits left next fault reached stops = by-fault reached left next fault stops
+
+pub each_is_faultless : (takes : Takes) (natives : NativeAnswers) → EachIsFaultless takes natives
+each_is_faultless takes natives p certificate s t next reached follows = each-faultless reached follows
+
+pub stops_at_limits : (takes : Takes) (natives : NativeAnswers) → StopsAtLimits takes natives
+stops_at_limits takes natives p certificate s left next fault reached stops = by-fault reached left next fault stops

@@ -110,10 +110,10 @@ none-chosen block other found v is (truth_has {b = true}) none = let no = sym (a
 none-chosen block other found v is (truth_has {b = false}) none = let no = sym (ap (chosen_by block other) is) ∙ none in absurd (cc no)
 
 module _ {p : Loaded} {objects : List Object} (sound : IsSound p) (typed : AreTyped p objects) (o me : ℕ) (x : Object) (l : Life) (arguments : List Value) (kinds : List ValueType) (lives : Lives objects o x l) (below : Below p l.class me) (fit : ReadAs p objects arguments kinds) where
-  paths-typed : PathsAreTyped p (class_of objects) me kinds (path_value objects o arguments)
+  pub paths-typed : PathsAreTyped p (class_of objects) me kinds (path_value objects o arguments)
   paths-typed path T leads = let y = path-has sound typed o me x l arguments kinds lives below fit path leads in (y.given, y.is, y.has)
 
-  reached : (path : MetaPath) {c : ℕ} → LeadsToClass p me kinds path c → Reaches p objects c (path_value objects o arguments path)
+  pub reached : (path : MetaPath) {c : ℕ} → LeadsToClass p me kinds path c → Reaches p objects c (path_value objects o arguments path)
   reached path leads = path-reaches objects o me x l arguments kinds path sound typed lives below fit leads
 
   given-none : (T : ValueType) (e : Expr MetaPath) → IsSoundExpr p me kinds e → IsGivenIn p me kinds T e → {Y : Type 0} (f : Value → Y) → option_map f (value_of objects o arguments e) ≡ None → ⊥

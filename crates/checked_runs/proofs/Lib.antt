@@ -7,5 +7,12 @@ pub mod Leading
 pub mod Rules
 pub mod Given
 pub mod Events
-pub mod Claims
 pub mod Lacking
+pub mod Giving
+pub mod Kept
+pub mod Arguments
+pub mod Settled
+pub mod Binding
+pub mod TypedSteps
+pub mod Steps
+pub mod Claims

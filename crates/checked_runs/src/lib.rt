@@ -3,4 +3,6 @@
 
 mod laws;
 
-pub use laws::{never_in_use, never_loops, never_stuck, never_too_deep};
+pub use laws::{
+    each_is_faultless, never_in_use, never_loops, never_stuck, never_too_deep, stops_at_limits,
+};

@@ -1,0 +1,117 @@
+-- What every state of a run keeps where natives keep their promise, and that every step is good.
+use Rattle.std.proofs.Common.{ℕ, List, [], ◌∷◌, Option, None, subst}
+use Rattle.signatures.specs.declared.value.Value.{Value}
+use Rattle.script_lang.specs.declared.event.Event.{Event}
+use Rattle.meta_model.specs.declared.object.MetaProperty.{MetaProperty}
+use Rattle.meta_model.specs.Loaded.{Loaded}
+use Rattle.meta_model.specs.Sound.{IsSound}
+use Rattle.native_slots.specs.Promises.{Takes, Promises}
+use Rattle.object_tree.specs.declared.object.Object.{Object}
+use Rattle.object_tree.specs.Typed.{ReadsAs}
+use Rattle.certificate_lang.specs.declared.certificate.Certificate.{Certificate}
+use Rattle.rank_check.specs.Valid.{IsValid}
+use Rattle.machine_state.specs.State.{State, Activation, Body}
+use Rattle.machine_state.specs.Worlds.{at, untouched}
+use Rattle.machine_rules.specs.Doings.{Write}
+use Rattle.machine_rules.specs.Good.{IsWell, IsGood}
+use Rattle.machine_rules.specs.Natives.{NativeAnswers}
+use Rattle.machine_rules.specs.Rules.{Rule}
+use Rattle.machine_rules.specs.Runs.{Rules, WritesNext}
+use Rattle.machine_rules.specs.Runs as of_rules
+use Rattle.machine_rules.specs.There.{IsField}
+use Rattle.machine_events.specs.Runs.{Runs, done, rules, takes, Follows, by_rule, by_event}
+use Rattle.machine_events.specs.Takes.{Takes as Taking}
+use Rattle.machine_events.proofs.Preservation.{runs-invariant}
+use Rattle.machine_events.proofs.Standing.{Invariant}
+use Rattle.checked_runs.specs.Invariant.{Rung, Stacked, Holds}
+use Rattle.checked_runs.specs.Promised.{AllIsPromised}
+use Rattle.checked_runs.proofs.Arguments.{rule-pushes, takes-pushes}
+use Rattle.checked_runs.proofs.Events.{takes-held}
+use Rattle.checked_runs.proofs.Giving.{does-give}
+use Rattle.checked_runs.proofs.Kept.{Kept, start-holds, start-invariant, follows-held}
+use Rattle.checked_runs.proofs.Ladder.{no-deeper}
+use Rattle.checked_runs.proofs.Rules.{rule-held}
+use Rattle.checked_runs.proofs.TypedSteps.{rule-agrees, takes-agrees}
+
+-- what a state of a run keeps
+pub record Stood (p : Loaded) (certificate : Certificate) (s : State) : Type 0 where
+  pub classes : ℕ → Option ℕ
+  pub held : Holds p certificate classes s
+  pub up : Invariant p s
+  pub promised : AllIsPromised p classes s.stack
+
+module _ {p : Loaded} {certificate : Certificate} (valid : IsValid p certificate) (sound : IsSound p) where
+  pub as-kept : (natives : NativeAnswers) {s : State} → Stood p certificate s → Kept valid sound natives s
+  as-kept natives stood = ((stood.classes, stood.held), stood.up)
+
+  -- what the next step writes is of its property's type
+  pub writes-fit : {s : State} → Stood p certificate s → (o q : ℕ) (v : Value) → WritesNext s o q v → (x : Object) (property : MetaProperty) → IsField p s.objects o q x property → ReadsAs p s.objects v property.kind
+  writes-fit {s} stood o q v n x property field =
+      let held = stood.held in
+      on-top held.rungs (subst (λ (l : List Activation). Stacked stood.classes s.objects l held.rungs) n.is_next held.stacked) (subst (AllIsPromised p stood.classes) n.is_next stood.promised)
+    where
+      on-top : (rungs : List (Rung p certificate)) → Stacked stood.classes s.objects (Body n.object n.method n.arguments (n.step ∷ n.rest) ∷ n.below) rungs → AllIsPromised p stood.classes (Body n.object n.method n.arguments (n.step ∷ n.rest) ∷ n.below) → ReadsAs p s.objects v property.kind
+      on-top [] st all = absurd st
+      on-top (r ∷ rungs) st all =
+          does-give valid sound stood.classes (((stood.held).covered).known).lives ((stood.up).sound).agree.typed st.0 n.step (Write o q v) ((st.0).steps).0 (all.0).0 n.does x property field
+
+  module _ (accepts : Takes) (natives : NativeAnswers) (promises : Promises p accepts natives) where
+    -- what follows is well, and its values are settled
+    rule-well : {s t : State} → Stood p certificate s → Rule p natives s t → IsWell p s t
+    rule-well {s} {t} stood rule = record {
+      arguments = (rule-pushes valid sound stood.classes accepts natives promises s stood.held stood.up t stood.promised rule).arguments;
+      values = (rule-agrees natives s t ((stood.up).sound).agree (writes-fit stood) rule).typed;
+    }
+
+    event-well : {s t : State} {e : Event} → Stood p certificate s → Taking p e s t → IsWell p s t
+    event-well {s} {t} {e} stood x = record {
+      arguments = (takes-pushes s t e stood.classes x).arguments;
+      values = (takes-agrees valid sound (stood.classes, stood.held) ((stood.up).sound).agree x).typed;
+    }
+
+    -- .. so it is good
+    pub follows-good : {s t : State} {next : List Event} → Stood p certificate s → Follows p natives s t next → IsGood p certificate.bound s t
+    follows-good {s} {t} stood (by_rule rule) =
+        let well = rule-well {s = s} {t = t} stood rule in
+        let held = follows-held valid sound natives {s = s} {t = t} {next = []} (as-kept natives stood) well (by_rule rule) in
+        record { well = well; spared = held.1; agree = rule-agrees natives s t ((stood.up).sound).agree (writes-fit stood) rule; shallow = no-deeper valid (held.0).0 t.objects ((held.0).1).rungs t.stack ((held.0).1).stacked }
+    follows-good {s} {t} stood (by_event {e = e} {events = events} x) =
+        let well = event-well stood x in
+        let held = follows-held valid sound natives {s = s} {t = t} {next = e ∷ events} (as-kept natives stood) well (by_event x) in
+        record { well = well; spared = held.1; agree = takes-agrees valid sound (stood.classes, stood.held) ((stood.up).sound).agree x; shallow = no-deeper valid (held.0).0 t.objects ((held.0).1).rungs t.stack ((held.0).1).stacked }
+
+    -- ---- runs
+
+    rule-stood : {d : ℕ} {s t : State} → Stood p certificate s → IsGood p d s t → Rule p natives s t → Stood p certificate t
+    rule-stood {d} {s} {t} stood good rule =
+        let up = stood.up in
+        record {
+          classes = stood.classes;
+          held = (rule-held valid sound stood.classes natives s t stood.held (up.sound).agree (up.sound).waiting good.well rule).0;
+          up = runs-invariant sound (rules (of_rules.then {n = 0} rule good of_rules.done) done) up;
+          promised = (rule-pushes valid sound stood.classes accepts natives promises s stood.held up t stood.promised rule).promised;
+        }
+
+    rules-stood : {d : ℕ} {s t : State} {n k : ℕ} → Rules p natives d s n t k → Stood p certificate s → Stood p certificate t
+    rules-stood of_rules.done stood = stood
+    rules-stood (of_rules.then {s = s} {m = m} rule good rest) stood = rules-stood rest (rule-stood {s = s} {t = m} stood good rule)
+
+    takes-stood : {d : ℕ} {s t : State} {e : Event} → Stood p certificate s → IsGood p d s t → Taking p e s t → Stood p certificate t
+    takes-stood {d} {s} {t} {e} stood good x =
+        let up = stood.up in
+        let held = takes-held valid sound s t e (stood.classes, stood.held) (up.sound).agree good.well x in
+        record {
+          classes = held.0;
+          held = held.1;
+          up = runs-invariant {natives = natives} sound (takes {n = 0} x good done) up;
+          promised = (takes-pushes s t e held.0 x).promised;
+        }
+
+    runs-stood : {d : ℕ} {s t : State} {n k : ℕ} {es : List Event} → Runs p natives d s n es t k → Stood p certificate s → Stood p certificate t
+    runs-stood done stood = stood
+    runs-stood (rules r rest) stood = runs-stood rest (rules-stood r stood)
+    runs-stood (takes x good rest) stood = runs-stood rest (takes-stood stood good x)
+
+    pub run-stood : {d steps left : ℕ} {s : State} {taken : List Event} → Runs p natives d (at (untouched steps) []) steps taken s left → Stood p certificate s
+    run-stood {steps = steps} r =
+        runs-stood r (record { classes = λ o. None; held = start-holds p certificate steps; up = start-invariant p steps; promised = tt })
