@@ -1,8 +1,6 @@
 -- Natives that have one answer to one question lead to one state.
-use Rattle.std.proofs.Common.{◌≡◌, ℕ, ◌≤◌, ◌<◌, List, [], ◌∷◌, ◌++◌, map, Some, refl, sym, ap, ◌∙◌, subst, arith}
-use Rattle.std.specs.Prelude.{Option, slice_get}
+use Rattle.std.proofs.Common.{◌≡◌, ℕ, ◌<◌, List, [], ◌∷◌, ◌++◌, map, Some, refl, sym, ap, ◌∙◌, subst, arith}
 use Rattle.std.specs.List.{AllZip}
-use Rattle.signatures.specs.declared.sig.Sig.{Sig}
 use Rattle.signatures.specs.declared.value.Value.{Value}
 use Rattle.meta_model.specs.declared.object.MetaMethod.{MetaMethod}
 use Rattle.meta_model.specs.declared.object.MetaObject.{MetaObject}
@@ -11,16 +9,14 @@ use Rattle.meta_model.specs.Loaded.{Loaded}
 use Rattle.meta_model.specs.Members.{IsClass, Declares, base_of, method_count, methods_before}
 use Rattle.object_tree.specs.declared.life.Life.{Life}
 use Rattle.object_tree.specs.declared.object.Object.{Object}
-use Rattle.object_tree.specs.Objects.{stored}
 use Rattle.meta_model.specs.declared.effects.MetaEffects.{MetaEffects}
 use Rattle.native_slots.specs.declared.action.Action.{Action}
-use Rattle.native_slots.specs.declared.action.Action.TheVariants as action
 use Rattle.machine_state.specs.declared.entry.ShownAction.{ShownAction}
 use Rattle.machine_state.specs.declared.entry.ShownAction.TheVariants as show
 use Rattle.machine_state.specs.declared.entry.Happening.TheVariants.{Answered}
 use Rattle.machine_state.specs.Objects.{shown, all_shown}
 use Rattle.machine_state.specs.State.{Step, Act, State, Activation, Body}
-use Rattle.machine_rules.specs.Natives.{NativeAnswers, AnswersOnce, DeclaredBy, own, inherited, AreRead, MayAnswer, IsShownAs, set_shown, emit_shown, AreShownAs}
+use Rattle.machine_rules.specs.Natives.{NativeAnswers, AnswersOnce, DeclaredBy, own, inherited, MayAnswer, IsShownAs, set_shown, emit_shown, AreShownAs}
 use Rattle.machine_rules.specs.There.{IsMember, IsField}
 use Rattle.machine_rules.specs.Rules.{Answers, told}
 use Rattle.machine_rules.proofs.Fields.{some-is, class-unique, life-unique, member-method, field-property}

@@ -39,7 +39,7 @@ use Rattle.machine_rules.specs.There.{IsMember}
 use Rattle.machine_rules.proofs.Dying.{lives-not-dead}
 use Rattle.machine_rules.proofs.Reaching.{none-spared, same-spared, reaches-high, ends-after, ends-lifted, not-idle, ends-noted, stops-as, stops-memory, stops-deep, stops-ill, stops-stuck}
 use Rattle.machine_rules.proofs.Fields.{member-method, method-unique, read-front}
-use Rattle.machine_rules.specs.Doings.{Doing, Write, Begin, TakeAnswer}
+use Rattle.machine_rules.specs.Doings.{Write, Begin, TakeAnswer}
 use Rattle.machine_rules.specs.Natives.{NativeAnswers}
 
 -- the world after a method began

@@ -17,7 +17,7 @@ use Rattle.machine_state.specs.declared.world.World.{World}
 use Rattle.machine_state.specs.Worlds.{at}
 use Rattle.machine_state.proofs.Due.{last-used, all-used, all-removed}
 use Rattle.prop_bindings.specs.declared.place.Place.{Place}
-use Rattle.machine_state.specs.State.{Step, Run, Act, State, Activation, Body, Emit, Update, Destroy}
+use Rattle.machine_state.specs.State.{Step, State, Activation, Body, Emit, Update, Destroy}
 use Rattle.machine_rules.specs.Destroying.{Dies, forgotten, deferred, NextRule, ChildRule, DestroyRule, living_child, DefersOnce, Schedules}
 use Rattle.machine_rules.specs.Rules.{RuleAt, BodyRule, Does, EmitRule, UpdateRule, NotifiesIf, Begins, BeginsIf, begun, with_used, linked, unlinked, TurnRule, Serves, Delivers, Arrives}
 use Rattle.machine_rules.specs.Doings.{Doing, Write, Begin, Choose, Connect, Disconnect, Delete, Schedule, TakeAnswer, Nothing}

@@ -15,7 +15,7 @@ use Rattle.machine_state.proofs.Deferring.{scheduled-now}
 use Rattle.event_loops.specs.Queues.{name_at}
 use Rattle.prop_bindings.specs.Fits.{Agree}
 use Rattle.machine_rules.specs.Sound.{AgreeIn}
-use Rattle.object_tree.specs.Objects.{life_of, scheduled}
+use Rattle.object_tree.specs.Objects.{life_of}
 use Rattle.object_tree.proofs.Changing.{life-of-lives}
 use Rattle.std.specs.Option.{option_map}
 use Rattle.machine_rules.specs.Destroying.{Defers, DefersOnce, Schedules}

@@ -1,5 +1,5 @@
 -- What is notified of properties that changed.
-use Rattle.std.proofs.Common.{◌≡◌, ℕ, ◌+◌, ◌<◌, ◌≤◌, ◌⊎◌, inl, inr, List, [], ◌∷◌, ◌++◌, length, take, filter, cond, Option, Some, None, slice_get, refl, sym, ap, ◌∙◌, subst, arith}
+use Rattle.std.proofs.Common.{◌≡◌, ℕ, ◌⊎◌, inl, inr, List, [], ◌∷◌, length, take, cond, Option, Some, None, slice_get, refl, sym, ap, ◌∙◌, subst, arith}
 use Rattle.std.specs.List.{AllByRecursion}
 use Rattle.std.specs.Option.{option_and_then, option_map}
 use Rattle.std.specs.Prelude.{is_some}
@@ -25,7 +25,7 @@ use Rattle.machine_state.specs.Worlds.{at}
 use Rattle.machine_rules.specs.Good.{ArgumentsFit}
 use Rattle.machine_rules.specs.Keeps.{StayThere}
 use Rattle.machine_rules.specs.Reaches.{Calls}
-use Rattle.machine_rules.specs.Rules.{Rule, Notifies, NotifiesIf, begun, UpdateRule}
+use Rattle.machine_rules.specs.Rules.{Notifies, NotifiesIf, begun, UpdateRule}
 use Rattle.machine_rules.specs.Settling.{property_in, signal_at, notified}
 use Rattle.machine_rules.specs.There.{IsMember, IsField}
 use Rattle.machine_rules.specs.Writing.{NotifiesBy, HasNotifier, MayNotify, Announces}

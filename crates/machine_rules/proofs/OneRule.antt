@@ -29,7 +29,7 @@ use Rattle.machine_state.specs.Connections.{is_living, next_used}
 use Rattle.machine_state.specs.declared.turn.Turn.{Turn}
 use Rattle.machine_state.specs.Turns.{running, reaches_at_once}
 use Rattle.prop_bindings.specs.declared.place.Place.{Place}
-use Rattle.machine_state.specs.State.{Step, Run, Act, State, Activation, Body, Emit, Update, Destroy}
+use Rattle.machine_state.specs.State.{Step, State, Activation, Body, Emit, Update, Destroy}
 use Rattle.signatures.specs.declared.sig.Sig.{Sig}
 use Rattle.texts.specs.declared.connection.ConnectionType.{ConnectionType}
 use Rattle.texts.specs.declared.connection.Endpoints.{Endpoints as Named}

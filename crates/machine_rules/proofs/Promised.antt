@@ -1,5 +1,5 @@
 -- What a native is asked is there, and so is what it answers, by its promise.
-use Rattle.std.proofs.Common.{◌≡◌, ℕ, zero, suc, ◌<◌, ◌&&◌, Bool, true, false, IsTrue, All, List, [], ◌∷◌, ◌++◌, length, map, Option, None, Some, slice_get, refl, sym, ap, ◌∙◌, subst, arith}
+use Rattle.std.proofs.Common.{◌≡◌, ℕ, zero, suc, ◌<◌, ◌&&◌, Bool, true, false, IsTrue, List, [], ◌∷◌, ◌++◌, length, Option, None, Some, slice_get, refl, sym, ap, ◌∙◌, subst, arith}
 use Rattle.std.specs.Prelude.{is_some, nat_le}
 use Rattle.native_slots.specs.declared.action.TheConstants.{MOST_ACTIONS}
 use Rattle.std.specs.List.{AllByRecursion, AllZip, list_all}
@@ -12,21 +12,20 @@ use Rattle.meta_model.specs.declared.object.MetaMethod.{MetaMethod}
 use Rattle.meta_model.specs.declared.object.MetaObject.{MetaObject}
 use Rattle.meta_model.specs.declared.object.MetaProperty.{MetaProperty}
 use Rattle.meta_model.specs.declared.object.ValueType.{ValueType}
-use Rattle.meta_model.specs.declared.object.ValueType.TheVariants as type
 use Rattle.meta_model.specs.declared.object.Work.{Work}
 use Rattle.meta_model.specs.declared.object.Work.TheVariants.{Native}
 use Rattle.meta_model.specs.Loaded.{Loaded}
-use Rattle.meta_model.specs.Members.{IsClass, IsMethod, IsProperty, Declares, Below, same, under, base_of, method_count, methods_in}
+use Rattle.meta_model.specs.Members.{IsClass, IsMethod, IsProperty, Declares, Below, same, under, method_count, methods_in}
 use Rattle.meta_model.specs.Sound.{IsSound, IsPlain, IsPlainProperty, IsSoundNative, IsSoundWork}
 use Rattle.meta_model.specs.Values.{Has, HaveTypes, number_has, truth_has, text_has, null_has, object_has}
 use Rattle.native_slots.specs.declared.action.Action.{Action}
 use Rattle.native_slots.specs.declared.action.Action.TheVariants as action
 use Rattle.native_slots.specs.Plain.{is_of, are_of}
-use Rattle.native_slots.specs.Promises.{IsNative, IsValueOf, signal_at, property_at, is_declared, are_declared, Takes, Gives, KeepsPromise, Promises}
+use Rattle.native_slots.specs.Promises.{IsNative, IsValueOf, is_declared, are_declared, Takes, Gives, KeepsPromise, Promises}
 use Rattle.object_tree.specs.declared.life.Life.{Life}
 use Rattle.object_tree.specs.declared.object.Object.{Object}
 use Rattle.object_tree.proofs.Changing.{life-of-lives}
-use Rattle.object_tree.specs.Objects.{Lives, class_of, life_of, stored}
+use Rattle.object_tree.specs.Objects.{Lives, class_of, life_of}
 use Rattle.object_tree.specs.Seen.{seen_reference}
 use Rattle.object_tree.specs.Typed.{AreTyped, ReadsAs, ReadAs}
 use Rattle.machine_state.specs.declared.entry.ShownAction.TheVariants as show
@@ -36,7 +35,7 @@ use Rattle.machine_state.specs.declared.entry.ShownAction.{ShownAction}
 use Rattle.machine_rules.specs.Natives.{DeclaredBy, own, inherited, IsShownAs, AreRead, HasStored, IsTellable, AreTellable, set_shown, emit_shown, place_of}
 use Rattle.machine_rules.specs.Reaches.{DoesWork}
 use Rattle.machine_rules.specs.There.{IsMember, IsField, LacksMember, LacksField}
-use Rattle.machine_rules.proofs.Fields.{some-is, class-unique, life-unique, member-method, old-there, stored-reads}
+use Rattle.machine_rules.proofs.Fields.{some-is, class-unique, member-method, old-there, stored-reads}
 use Rattle.machine_rules.proofs.Inherited.{method-below, property-below}
 
 -- ---- the class that declares a native

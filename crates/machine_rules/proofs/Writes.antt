@@ -1,5 +1,5 @@
 -- How properties are written.
-use Rattle.std.proofs.Common.{◌≡◌, ℕ, suc, ◌+◌, ◌-◌, ◌<◌, ◌≤◌, List, [], ◌∷◌, ◌++◌, length, Result, Ok, Err, Option, Some, None, refl, sym, ap, ◌∙◌, subst, arith, length-append}
+use Rattle.std.proofs.Common.{◌≡◌, ℕ, suc, ◌+◌, ◌-◌, ◌<◌, List, [], ◌∷◌, ◌++◌, length, Result, Ok, Err, Option, Some, sym, ap, ◌∙◌, subst, arith, length-append}
 use Rattle.std.specs.Prelude.{IfOk, IfErr}
 use Rattle.signatures.specs.declared.value.Value.{Value}
 use Rattle.meta_model.specs.declared.object.MetaProperty.{MetaProperty}
@@ -11,7 +11,6 @@ use Rattle.prop_bindings.specs.declared.place.Place.{Place}
 use Rattle.prop_bindings.specs.Bindings.{without}
 use Rattle.prop_bindings.specs.Changes.{IsWritten}
 use Rattle.prop_bindings.specs.Fits.{FitsAt}
-use Rattle.machine_state.specs.declared.entry.Entry.{Entry}
 use Rattle.machine_state.specs.declared.fault.Fault.{Fault}
 use Rattle.machine_state.specs.declared.telling.Cause.TheVariants as cause
 use Rattle.machine_state.specs.declared.world.World.{World}
@@ -21,7 +20,7 @@ use Rattle.machine_state.specs.Worlds.{at, noted, HasWritten}
 use Rattle.machine_rules.specs.Active.{shows}
 use Rattle.machine_rules.specs.Doings.{Doing, Write, TakeAnswer, doing_step}
 use Rattle.machine_rules.specs.Reaches.{Reaches, StopsIn, RunsTo, MayNest, Sets}
-use Rattle.machine_rules.specs.Runs.{DoesNext, WritesNext, WritesIll, WritesDeep}
+use Rattle.machine_rules.specs.Runs.{DoesNext, WritesIll, WritesDeep}
 use Rattle.machine_rules.specs.Settling.{Settles, Writes, notified}
 use Rattle.machine_rules.specs.Sound.{AgreeIn}
 use Rattle.machine_rules.specs.There.{IsField, LacksField}

@@ -27,7 +27,6 @@ use Rattle.machine_state.specs.declared.fault.Answer.TheVariants as answer
 use Rattle.machine_state.specs.declared.fault.Fault.{Fault}
 use Rattle.machine_state.specs.declared.fault.Fault.TheVariants.{Steps, Memory}
 use Rattle.machine_state.specs.declared.refusal.Refusal.{Refusal}
-use Rattle.machine_state.specs.declared.telling.Cause.{Cause}
 use Rattle.machine_state.specs.declared.telling.Cause.TheVariants.{Write, Bind}
 use Rattle.machine_state.specs.declared.world.World.{World}
 use Rattle.machine_state.specs.Refusals.{refusal_number}

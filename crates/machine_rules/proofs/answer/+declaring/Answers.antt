@@ -1,4 +1,4 @@
-use Rattle.std.proofs.Common.{◌≡◌, ◌∙◌, sym, ap, arith}
+use Rattle.std.proofs.Common.{sym, ap, arith}
 use Rattle.meta_model.specs.Members.{methods_before}
 use Rattle.machine_rules.specs.Natives.{own, inherited}
 use Rattle.machine_rules.proofs.answer.+declaring.Goals as goal

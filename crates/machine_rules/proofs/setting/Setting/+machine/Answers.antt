@@ -4,7 +4,7 @@ use Rattle.signatures.specs.declared.value.Value.{Value}
 use Rattle.machine_state.specs.declared.world.World.{World}
 use Rattle.machine_rules.proofs.Reaching.{not-idle, reaches-same, reaches-then, stops-after, stops-as, ends-after, ends-lifted, ends-left, ends-undue, ends-short, ends-unchanged, ends-lost, ends-faulted, ends-ticked, ok-err, ok-map}
 use Rattle.machine_state.specs.Connections.{is_living}
-use Rattle.machine_state.specs.State.{Run, Ask, Act}
+use Rattle.machine_state.specs.State.{Run, Act}
 use Rattle.std.specs.Option.{option_map}
 use Rattle.machine_rules.specs.Doings.{Write, Begin, doing_action}
 use Rattle.machine_rules.specs.Good.{ArgumentsFit}

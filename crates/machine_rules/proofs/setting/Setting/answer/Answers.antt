@@ -1,4 +1,4 @@
-use Rattle.std.proofs.Common.{◌≡◌, List, Result, Ok, Err, sym}
+use Rattle.std.proofs.Common.{List, Result, Ok, Err, sym}
 use Rattle.std.specs.Prelude.{IfOk}
 use Rattle.meta_model.specs.Members.{IsClass}
 use Rattle.native_slots.specs.declared.action.Action.{Action}

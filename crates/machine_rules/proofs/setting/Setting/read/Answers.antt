@@ -1,8 +1,7 @@
-use Rattle.std.proofs.Common.{◌≡◌, ◌+◌, ◌++◌, [], ◌∷◌, ℕ, List, Some, take, get_or, sym, ap, ◌∙◌, subst}
+use Rattle.std.proofs.Common.{◌≡◌, Some, take, get_or, sym, ap, ◌∙◌}
 use Rattle.std.proofs.lemmas.List.{take_more}
 use Rattle.signatures.specs.declared.value.Value.{Value}
 use Rattle.object_tree.specs.Objects.{stored}
-use Rattle.machine_rules.specs.Natives.{AreRead}
 use Rattle.machine_rules.proofs.Answering.{zip-snoc}
 use Rattle.machine_rules.proofs.setting.Setting.read.Goals as goal
 
