@@ -1,2 +1,3 @@
 mod Applying
+mod Checking
 mod Halting

@@ -1,5 +1,6 @@
 ghost use Rattle.std.specs.Prelude.{◌≡◌, ◌<◌, ◌≤◌, ◌^◌, ◌∷◌, [], IfOk, IfErr, false, None};
 ghost use Rattle.native_slots.specs.Promises.{Promises};
+ghost use Rattle.qt_runtime.specs.Checked.{IsChecked, StopsAtLimit};
 ghost use Rattle.qt_runtime.specs.Seen.{AreKept, OnDone, OnRefused, AcceptsEvent, RefusesEvent, IsSettled, Stops, RunsAll, begun};
 
 use machine_events::take_event;
@@ -72,7 +73,8 @@ impl<N: Answering + Drop> Machine<N> {
     }
 
     /// A machine for a program whose certificate is valid: it nests as many activations as the certificate's bound says.
-    /// The rest is as in [`Machine::unchecked`].
+    /// The rest is as in [`Machine::unchecked`]. Whatever events it is given, it never stops with `BadType`, `InUse`,
+    /// `BindingLoop` or `TooDeep`.
     pub fn checked(
         alloc: Global,
         program: Checked,
@@ -81,8 +83,9 @@ impl<N: Answering + Drop> Machine<N> {
     ) -> Result<Machine<N>, AllocError>
         requires steps { (1 ≤ steps) × (steps < 2 ^ 63) }
         requires promises { Promises program.program (N.takes natives) (N.gives natives) }
-        ensures { IfOk result (λ machine. machine
+        ensures begins { IfOk result (λ machine. machine
             ≡ begun program.program natives program.certificate.bound steps) }
+        ensures checked { IfOk result (λ machine. IsChecked N.gives machine) }
     {
         let depth = program.bound();
         Machine::unchecked(alloc, program.into_meta(), natives, depth, steps)
@@ -94,7 +97,8 @@ impl<N: Answering + Drop> Machine<N> {
     /// an object would die while a body of it is active; `BindingLoop` where a chain of bindings would lead from a
     /// property back to itself; `TooDeep` where it would nest activations deeper than the depth; `Steps` where a rule
     /// is due and none is left; `Memory` where a growth of memory was refused. The trace then ends with the last whole
-    /// rule. On a machine that has stopped the answer is `Stopped`, and nothing changes.
+    /// rule. On a machine that has stopped the answer is `Stopped`, and nothing changes. A machine of a checked program
+    /// stays one, and stops with `Steps` or `Memory` alone.
     pub fn apply(&mut self, event: &Event) -> Result<Answer, Fault>
         requires { AreKept N.takes N.gives self.old }
         ensures done { OnDone result (AcceptsEvent N.gives self.old event.now self.new) }
@@ -103,6 +107,8 @@ impl<N: Answering + Drop> Machine<N> {
         ensures stopped { IfErr result (λ fault. Stops N.gives self.old (event.now ∷ []) fault self.new) }
         ensures settled { IfOk result (λ _. IsSettled self.new) }
         ensures kept { AreKept N.takes N.gives self.new }
+        ensures checked { IsChecked N.gives self.old
+            → IsChecked N.gives self.new × IfErr result (StopsAtLimit self.old) }
     {
         if self.stopped {
             return Err(Fault::Stopped);
@@ -114,11 +120,14 @@ impl<N: Answering + Drop> Machine<N> {
         result
     }
 
-    /// Applies events in their order until a fault comes, as `apply` does each.
+    /// Applies events in their order until a fault comes, as `apply` does each. A machine of a checked program stays one,
+    /// and stops with `Steps` or `Memory` alone.
     pub fn run(&mut self, events: &[Event]) -> Result<(), Fault>
         requires { AreKept N.takes N.gives self.old }
         ensures ran { RunsAll N.gives self.old events.now result self.new }
         ensures kept { AreKept N.takes N.gives self.new }
+        ensures checked { IsChecked N.gives self.old
+            → IsChecked N.gives self.new × IfErr result (StopsAtLimit self.old) }
     {
         if self.is_stopped() {
             return Err(Fault::Stopped);

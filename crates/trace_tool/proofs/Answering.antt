@@ -1,5 +1,6 @@
 -- From the bytes that were sent to the answer of a command.
-use Rattle.std.proofs.Common.{◌≡◌, ℕ, ◌≤◌, List, [], ◌∷◌, length, Option, Result, Ok, Err, sym, subst, arith}
+use Rattle.std.proofs.Common.{◌≡◌, ℕ, ◌≤◌, inl, inr, true, false, List, [], ◌∷◌, length, Option, Result, Ok, Err, sym, ap, ◌∙◌, subst, arith}
+use Rattle.std.specs.Prelude.{IfErr}
 use Rattle.certificate_lang.specs.declared.certificate.Certificate.{Certificate}
 use Rattle.meta_model.specs.Loaded.{Loaded}
 use Rattle.native_slots.specs.declared.fault.NativeFault.{NativeFault}
@@ -8,7 +9,10 @@ use Rattle.native_slots.specs.FaultNumbers.{number_of}
 use Rattle.native_slots.specs.Fitting.{Fit}
 use Rattle.script_lang.specs.declared.event.Event.{Event}
 use Rattle.machine_rules.specs.Natives.{NativeAnswers}
-use Rattle.trace_tool.specs.Commands.{Answers, AreNotRunnable, AreRead, AreChecked, MayNotRun, CommandWrites, InputWrites, MetaWrites, CertifyWrites, CheckWrites, CheckedRunWrites, RunWrites, of_closures, not_fit, other_texts, does, read, unread, memory}
+use Rattle.qt_runtime.specs.Checked.{StopsAtLimit}
+use Rattle.qt_runtime.specs.Seen.{Seen, begun}
+use Rattle.machine_state.specs.declared.fault.Fault.{Fault}
+use Rattle.trace_tool.specs.Commands.{Answers, EndsAtLimit, AreNotRunnable, AreRead, AreChecked, MayNotRun, CommandWrites, InputWrites, MetaWrites, CertifyWrites, CheckWrites, CheckedRunWrites, RunWrites, of_closures, not_fit, other_texts, does, read, unread, memory}
 use Rattle.trace_tool.specs.Cut.{AreTexts}
 use Rattle.trace_tool.specs.Refusals.{memory_line, usage_line}
 use Rattle.trace_tool.specs.Words.{IsCommand}
@@ -41,6 +45,16 @@ pub unfit_checked : {heads : List NativeHead} {program certificate script : List
     MayNotRun heads program certificate script refusal
 unfit_checked {heads} {program} {certificate} {script} {loaded} {asked} {certified} {events} {refusal} fault are same fit is =
     subst (MayNotRun heads program certificate script) (sym is) (not_fit loaded certified events fault are (subst (λ p. Fit heads p (Err fault)) same fit))
+
+-- a run of a machine that had done nothing ends for no other reason than a limit
+pub ends_at_limit : {N : Type 0} {before : Seen N} {loaded : Loaded} {natives : N} {depth steps : ℕ} (ended : Result (Unit {0}) Fault) →
+    before ≡ begun loaded natives depth steps → IfErr ended (StopsAtLimit before) → EndsAtLimit ended
+ends_at_limit (Ok done) is stops = tt
+ends_at_limit {N} {before = before} (Err fault) is stops =
+    elim stops [
+      | inl limit ↦ limit
+      | inr stopped ↦ let no : true ≡ false = sym stopped ∙ ap (λ (m : Seen N). m.stopped) is in absurd (cc no)
+    ]
 
 pub read_done : {N : Type 0} {gives : N → NativeAnswers} {heads : List NativeHead} {natives : N} {words : List (List ℕ)} {found : Result (List ℕ) InputFault} {command : Command} {input : List ℕ} {before after : Option (List ℕ)} {status : ℕ} →
     IsCommand words command → found ≡ Ok input → Answers (InputWrites gives heads natives command input) before after status → Answers (CommandWrites gives heads natives words found) before after status

@@ -4,6 +4,7 @@
 use Rattle.std.specs.Prelude.{◌≡◌, ℕ, ◌<◌, ◌≤◌, List, [], ◌∷◌, ◌++◌, length, take, Option, Result, Ok, Err, IfSome}
 use Rattle.std.specs.Borrow.{Bor}
 use Rattle.std.specs.Io.KnownBytes.{Appends}
+use Rattle.checked_runs.specs.Claims.{IsLimit}
 use Rattle.certificate_lang.specs.Reads.{ReadsCertificate, number_of as certificate_number}
 use Rattle.certificate_lang.specs.declared.certificate.Certificate.{Certificate}
 use Rattle.certificate_lang.specs.declared.fault.CertificateFault.{CertificateFault}
@@ -166,6 +167,12 @@ pub data RunWrites {N : Type 0} (gives : N → NativeAnswers) (heads : List Nati
       RunWrites gives heads natives program script depth steps (run_text after.world.trace ended) (run_status ended)
   memory : RunWrites gives heads natives program script depth steps memory_line 1
 
+-- A checked run ends whole, or for want of rules or of memory: in it no value of a wrong type is given, no object dies while a
+-- body of it is active, no chain of bindings closes, and activations nest no deeper than the bound.
+abbrev pub EndsAtLimit : Result (Unit {0}) Fault → Type 0
+EndsAtLimit (Ok _) = Unit {0}
+EndsAtLimit (Err fault) = IsLimit fault
+
 -- `run`, from the closures, the texts and the limit of steps: the depth is the certificate's bound
 pub data CheckedRunWrites {N : Type 0} (gives : N → NativeAnswers) (heads : List NativeHead) (natives : N) (program certificate script : List ℕ)
     (steps : ℕ) : List ℕ → ℕ → Type 0 where
@@ -173,7 +180,7 @@ pub data CheckedRunWrites {N : Type 0} (gives : N → NativeAnswers) (heads : Li
       CheckedRunWrites gives heads natives program certificate script steps (refusal_line refusal) (refusal_status refusal)
   ran : (loaded : Loaded) (read : Certificate) (events : List Event) (ended : Result (Unit {0}) Fault) (after : Seen N) →
       AreChecked program certificate script loaded read events → Fit heads loaded (Ok tt) →
-      RunsAll gives (begun loaded natives read.bound steps) events ended after →
+      RunsAll gives (begun loaded natives read.bound steps) events ended after → EndsAtLimit ended →
       CheckedRunWrites gives heads natives program certificate script steps (run_text after.world.trace ended) (run_status ended)
   memory : CheckedRunWrites gives heads natives program certificate script steps memory_line 1
 

@@ -5,6 +5,7 @@ mod certificates;
 mod checked_runs;
 mod ends;
 mod meta;
+mod misbehaving;
 mod operators;
 mod programs;
 mod sizes;
@@ -55,7 +56,7 @@ pub fn parted(alloc: Global, line: &'static str) -> Result<Vec<&'static str>, Al
 }
 
 /// What these words answer for an input, where there is no closure: what is written goes to `found`.
-fn answered(
+pub fn answered(
     alloc: Global,
     words: &[&str],
     input: &[u8],

@@ -1,7 +1,9 @@
 //! Programs with certificates, and what `run` answers.
 
-use super::{SOURCE, SOURCE_CERTIFICATE, expect, joined};
+use super::{SOURCE, SOURCE_CERTIFICATE, answered, expect, joined};
 use std::alloc::{AllocError, Global};
+use std::process::Abort;
+use std::str;
 use std::test::Fail;
 
 /// Writes the value of a source that a label shows.
@@ -142,8 +144,8 @@ const ROWS: &[Row] = &[
 ];
 
 /// The three texts with lines `%%` between them.
-fn all_three(alloc: Global, row: &Row) -> Result<Vec<u8>, AllocError> {
-    let mut input = joined(alloc, row.program, row.certificate)?;
+fn all_three(alloc: Global, row: &Row, certificate: &str) -> Result<Vec<u8>, AllocError> {
+    let mut input = joined(alloc, row.program, certificate)?;
     input.extend_from_slice(b"\n%%\n")?;
     input.extend_from_slice(row.script.as_bytes())?;
     Ok(input)
@@ -152,7 +154,7 @@ fn all_three(alloc: Global, row: &Row) -> Result<Vec<u8>, AllocError> {
 #[test]
 fn checked_programs_run(rt: HostRuntime) -> Result<(), Fail> {
     for row in ROWS {
-        let input = all_three(rt.alloc(), row)?;
+        let input = all_three(rt.alloc(), row, row.certificate)?;
         expect(&rt, row.words, input.as_slice(), row.text, row.status)?;
     }
     Ok(())
@@ -164,6 +166,25 @@ fn unchecked_runs_write_the_same(rt: HostRuntime) -> Result<(), Fail> {
         if row.status == 0 {
             let input = joined(rt.alloc(), row.program, row.script)?;
             expect(&rt, "run --unchecked 256", input.as_slice(), row.text, 0)?;
+        }
+    }
+    Ok(())
+}
+
+/// Checks that a program runs so with the certificate that `certify` makes.
+fn expect_with_made(rt: &(impl Abort + AllocGlobal), row: &Row) -> Result<(), Fail> {
+    let mut made = Vec::new(rt.alloc());
+    let ended = answered(rt.alloc(), &["certify"], row.program.as_bytes(), &mut made)?;
+    assert_eq!(rt; ended, 0);
+    let input = all_three(rt.alloc(), row, str::from_utf8(made.as_slice())?)?;
+    expect(rt, row.words, input.as_slice(), row.text, 0)
+}
+
+#[test]
+fn what_certify_makes_will_do(rt: HostRuntime) -> Result<(), Fail> {
+    for row in ROWS {
+        if row.status == 0 {
+            expect_with_made(&rt, row)?;
         }
     }
     Ok(())

@@ -1,5 +1,5 @@
 use Rattle.std.proofs.lemmas.Result.{IfOk-weaker}
-use Rattle.trace_tool.proofs.Answering.{answered, unfit_checked}
+use Rattle.trace_tool.proofs.Answering.{answered, unfit_checked, ends_at_limit}
 use Rattle.trace_tool.specs.Commands.{refused, not_checked, ran, memory}
 use Rattle.trace_tool.proofs.runs.run.Goals as goal
 
@@ -19,13 +19,15 @@ pub returns-in_default-checked : goal.returns-in_default-checked
 returns-in_default-checked g c = IfOk-weaker c.refuse-in_default-checked.result _ _ (λ status s. answered memory s) c.refuse-in_default-checked.ensures
 
 pub run-ended-requires : goal.run-ended-requires
-run-ended-requires g c = rw c.in-Ok-checked.ensures (rw c.meta.ensures.value at c.in_default.ensures.promises)
+run-ended-requires g c = rw c.in-Ok-checked.ensures.begins (rw c.meta.ensures.value at c.in_default.ensures.promises)
 
 pub returns : goal.returns
 returns g c =
-    let went = rw (c.in-Ok-checked.ensures, c.as_slice.ensures) at c.run-ended.ensures.ran in
+    let begins = c.in-Ok-checked.ensures.begins in
+    let went = rw (begins, c.as_slice.ensures) at c.run-ended.ensures.ran in
+    let ends = ends_at_limit c.run-ended.result begins (c.run-ended.ensures.checked c.in-Ok-checked.ensures.checked).1 in
     let fit = rw c.meta.ensures.value at c.in_default.ensures.exact in
     let wrote = rw c.trace.ensures at c.report.ensures in
     IfOk-weaker c.report.result _ _
-    (λ status s. answered (ran c.in-Ok.loaded.0.program c.in-Ok.loaded.0.certificate c.in-Ok.loaded.1 c.run-ended.result c.run-ended.new.self c.in-Ok.ensures fit went) s)
+    (λ status s. answered (ran c.in-Ok.loaded.0.program c.in-Ok.loaded.0.certificate c.in-Ok.loaded.1 c.run-ended.result c.run-ended.new.self c.in-Ok.ensures fit went ends) s)
     wrote

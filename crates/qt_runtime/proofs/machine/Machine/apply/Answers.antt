@@ -1,5 +1,7 @@
 use Rattle.std.proofs.Common.{subst, sym, ◌∙◌, ◌⊎◌, ◌∷◌, []}
 use Rattle.std.specs.Prelude.{IfErr}
+use Rattle.qt_runtime.specs.Checked.{IsChecked, StopsAtLimit}
+use Rattle.qt_runtime.proofs.Checking.{applied-checked}
 use Rattle.qt_runtime.specs.Seen.{Seen, AreKept, OnDone, OnRefused, AcceptsEvent, RefusesEvent, Halts, Stays}
 use Rattle.qt_runtime.proofs.Halting.{seen, applied-done, applied-refused, applied-stopped}
 use Rattle.machine_events.proofs.Keeping.{keeps-took, settled-took, idle-took}
@@ -37,3 +39,17 @@ returns-clause-stopped g c =
 
 pub returns-clause-settled : goal.returns-clause-settled
 returns-clause-settled g c = settled-took c.take_event-result.result c.classes.ensures.sound (c.self.invariant.keeps c.if-self.false) c.take_event-result.ensures
+
+pub returns-clause-checked : goal.returns-clause-checked
+returns-clause-checked g c =
+    let result = c.take_event-result.result in
+    let natives = c.self.inside.setting.natives in
+    let gives = g.N.Answering.gives in
+    let took = c.take_event-result.ensures in
+    let sound = c.classes.ensures.sound in
+    let went = c.if-self.false in
+    let is = c.is_err-self-inside.ensures.value in
+    let after : Seen _ = seen c.self.inside.setting.meta natives c.self.inside.setting.depth c.take_event-result.new.world c.is_err-self-inside.result in
+    let From : Seen _ → Type 0 = λ a. IsChecked gives a → IsChecked gives after × IfErr result (StopsAtLimit a) in
+    subst From c.self.view_is (applied-checked result sound (take_event-result-requires-clause-promises g c) (applied-done gives natives result took went is)
+    (applied-refused gives natives result took went is) (applied-stopped gives natives result sound (c.self.invariant.keeps went).sound took went is))
