@@ -2,7 +2,7 @@
 
 mod binding_sites;
 mod certificates;
-mod checked_runs;
+mod certified;
 mod ends;
 mod meta;
 mod misbehaving;
