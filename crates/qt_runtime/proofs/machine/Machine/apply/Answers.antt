@@ -44,12 +44,14 @@ pub returns-clause-checked : goal.returns-clause-checked
 returns-clause-checked g c =
     let result = c.take_event-result.result in
     let natives = c.self.inside.setting.natives in
+    let takes = g.N.Answering.takes in
     let gives = g.N.Answering.gives in
     let took = c.take_event-result.ensures in
     let sound = c.classes.ensures.sound in
     let went = c.if-self.false in
     let is = c.is_err-self-inside.ensures.value in
     let after : Seen _ = seen c.self.inside.setting.meta natives c.self.inside.setting.depth c.take_event-result.new.world c.is_err-self-inside.result in
+    let Kept : Seen _ → Type 0 = λ m. AreKept takes gives m in
     let From : Seen _ → Type 0 = λ a. IsChecked gives a → IsChecked gives after × IfErr result (StopsAtLimit a) in
-    subst From c.self.view_is (applied-checked result sound (take_event-result-requires-clause-promises g c) (applied-done gives natives result took went is)
+    subst From c.self.view_is (applied-checked takes gives c.args.event.now result sound (subst Kept (sym c.self.view_is) c.requires) (applied-done gives natives result took went is)
     (applied-refused gives natives result took went is) (applied-stopped gives natives result sound (c.self.invariant.keeps went).sound took went is))
