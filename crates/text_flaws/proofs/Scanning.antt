@@ -5,8 +5,8 @@ use Rattle.std.proofs.lemmas.List.Elements.{All-append}
 use Rattle.texts.specs.Pieces.{Piece, IsFront, Cuts}
 use Rattle.texts.proofs.Cut.{CutSoFar, cut_token, cut_blank, cut_done}
 use Rattle.texts.specs.declared.token.Token.{Token}
-use Rattle.explanations.specs.declared.scan.Mark.{Mark}
-use Rattle.explanations.specs.Scans.{AreFrontPieces, AreMarks}
+use Rattle.text_flaws.specs.declared.scan.Mark.{Mark}
+use Rattle.text_flaws.specs.Scans.{AreFrontPieces, AreMarks}
 
 -- so far the text is cut into pieces, with these marks, and `left` is left
 pub record ScannedSoFar (text : List ℕ) (marks : List Mark) (left : List ℕ) : Type 0 where

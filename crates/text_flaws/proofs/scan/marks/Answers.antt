@@ -1,7 +1,7 @@
 use Rattle.std.proofs.Common.{length, ◌<◌, ◌≤◌, ◌-◌, arith}
 use Rattle.texts.proofs.Cut.{at_end}
-use Rattle.explanations.proofs.Scanning.{scan_token, scan_blank, scan_done}
-use Rattle.explanations.proofs.scan.marks.Goals as goal
+use Rattle.text_flaws.proofs.Scanning.{scan_token, scan_blank, scan_done}
+use Rattle.text_flaws.proofs.scan.marks.Goals as goal
 
 pub loop-rest-preserved-in_ok-push-in-Ok : goal.loop-rest-preserved-in_ok-push-in-Ok
 loop-rest-preserved-in_ok-push-in-Ok c =

@@ -1,7 +1,7 @@
 //! Places in a text.
 
 ghost use Rattle.std.specs.Prelude.{◌≡◌, ◌≢◌, ◌+◌, ◌-◌, ◌<◌, ◌≤◌, ◌⊎◌, ℕ, length, slice_index};
-ghost use Rattle.explanations.specs.Places.{IsLineAround, IsPlace};
+ghost use Rattle.text_flaws.specs.Places.{IsLineAround, IsPlace};
 
 const NEWLINE: u8 = 10;
 

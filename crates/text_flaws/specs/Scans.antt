@@ -1,9 +1,9 @@
 -- Tokens with the places at which they begin (docs/language.md, "Tokens").
 use Rattle.std.specs.Prelude.{ℕ, ◌≡◌, ◌≢◌, ◌+◌, ◌<◌, List, [], ◌∷◌, length, map, All}
 use Rattle.texts.specs.Pieces.{Piece, IsFront, HasNoFront, AreTokens}
-use Rattle.explanations.specs.declared.scan.Mark.{Mark}
-use Rattle.explanations.specs.declared.scan.ScanFault.{ScanFault}
-use Rattle.explanations.specs.declared.scan.ScanFault.TheVariants.{BadByte, Memory}
+use Rattle.text_flaws.specs.declared.scan.Mark.{Mark}
+use Rattle.text_flaws.specs.declared.scan.ScanFault.{ScanFault}
+use Rattle.text_flaws.specs.declared.scan.ScanFault.TheVariants.{BadByte, Memory}
 
 -- the pieces stand at the front of the text, one after another, and `rest` follows them
 abbrev pub AreFrontPieces : List ℕ → List Piece → List ℕ → Type 0

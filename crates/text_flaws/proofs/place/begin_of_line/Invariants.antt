@@ -1,5 +1,5 @@
 use Rattle.std.proofs.Common.{◌≤◌, ◌<◌, ◌≢◌, ℕ, get_or}
-use Rattle.explanations.proofs.place.begin_of_line.Given as goal
+use Rattle.text_flaws.proofs.place.begin_of_line.Given as goal
 
 abbrev pub invariant-loop-begin : goal.invariant-loop-begin
 invariant-loop-begin l = record {

@@ -1,6 +1,6 @@
 use Rattle.std.proofs.Common.{length}
-use Rattle.explanations.proofs.Scanning.{ScannedSoFar}
-use Rattle.explanations.proofs.scan.marks.Given as goal
+use Rattle.text_flaws.proofs.Scanning.{ScannedSoFar}
+use Rattle.text_flaws.proofs.scan.marks.Given as goal
 
 abbrev pub invariant-loop-rest : goal.invariant-loop-rest
 invariant-loop-rest l = ScannedSoFar l.text l.found l.rest

@@ -1,5 +1,5 @@
 use Rattle.std.proofs.Common.{length, ◌≤◌}
-use Rattle.explanations.proofs.recogniser.wanted.Given as goal
+use Rattle.text_flaws.proofs.recogniser.wanted.Given as goal
 
 abbrev pub invariant-loop-part : goal.invariant-loop-part
 invariant-loop-part l = length l.below ≤ length l.open

@@ -1,6 +1,6 @@
 use Rattle.std.proofs.Common.{length, ◌≤◌, All}
-use Rattle.explanations.specs.declared.spans.Span.{Span}
-use Rattle.explanations.proofs.spans.text_spans.Given as goal
+use Rattle.text_flaws.specs.declared.spans.Span.{Span}
+use Rattle.text_flaws.proofs.spans.text_spans.Given as goal
 
 abbrev pub invariant-loop-line : goal.invariant-loop-line
 invariant-loop-line l = record {

@@ -1,5 +1,5 @@
 use Rattle.std.proofs.Common.{◌-◌, ◌≤◌, ◌<◌, ◌≢◌, ℕ, length, get_or}
-use Rattle.explanations.proofs.place.end_of_line.Given as goal
+use Rattle.text_flaws.proofs.place.end_of_line.Given as goal
 
 abbrev pub invariant-loop-end : goal.invariant-loop-end
 invariant-loop-end l = record {

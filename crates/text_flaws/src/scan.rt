@@ -1,7 +1,7 @@
 //! Tokens with their places.
 
 ghost use Rattle.std.specs.Prelude.{IfOk, IfErr};
-ghost use Rattle.explanations.specs.Scans.{AreMarks, StopsScan};
+ghost use Rattle.text_flaws.specs.Scans.{AreMarks, StopsScan};
 
 use sqlite_items::Items;
 use std::alloc::{AllocError, Global};
@@ -31,7 +31,7 @@ pub enum ScanFault {
 
 impl From<AllocError> for ScanFault {
     ghost use Rattle.std.specs.Prelude.{◌≡◌};
-    ghost use Rattle.explanations.specs.declared.scan.ScanFault.TheVariants.{Memory};
+    ghost use Rattle.text_flaws.specs.declared.scan.ScanFault.TheVariants.{Memory};
 
     ghost from_gives = { λ _ fault. fault ≡ Memory };
 
