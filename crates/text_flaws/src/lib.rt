@@ -30,3 +30,4 @@ pub use meanings::meaning;
 pub use place::Place;
 pub use scan::{Mark, ScanFault, marks};
 pub use spans::{Span, text_spans};
+pub use telling::push_printed;
