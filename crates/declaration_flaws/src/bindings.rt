@@ -158,7 +158,7 @@ fn gather_paths<'a>(
 ) -> Result<(), AllocError> {
     match expression {
         Expr::Literal(_) => Ok(()),
-        Expr::Path(path) => paths.push(path),
+        Expr::Path(path) => Ok(paths.push(path)?),
         Expr::Unary(_, operand) => gather_paths(operand.get(), paths),
         Expr::Binary(_, left, right) => {
             gather_paths(left.get(), paths)?;

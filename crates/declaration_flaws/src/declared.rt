@@ -20,6 +20,7 @@ pub enum Declared<'a> {
 }
 
 /// How far a program's declarations were met in its text.
+#[derive(Drop)]
 pub struct Walk<'a> {
     program: &'a Program,
     /// The class whose members come next.
