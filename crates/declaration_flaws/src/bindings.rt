@@ -10,7 +10,7 @@ use std::alloc::{AllocError, Global};
 use texts::{Class, Expr, Formal, Path, Root, Site};
 
 /// Halts where a class, a property or a formal source that the binding names isn't there.
-pub fn check_names(alloc: Global, classes: &[Class], site: &Site) -> Result<(), Halt> {
+pub fn check_names<'a>(alloc: Global, classes: &'a [Class], site: &'a Site) -> Result<(), Halt> {
     if !is_class(classes, &site.class) {
         return Err(no_class(alloc, &site.class, 1));
     }
@@ -34,7 +34,7 @@ fn check_formals(alloc: Global, classes: &[Class], formals: &[Formal]) -> Result
 }
 
 /// Halts where a formal source in the expression, or its property, isn't there.
-fn check_sources(alloc: Global, classes: &[Class], site: &Site) -> Result<(), Halt> {
+fn check_sources<'a>(alloc: Global, classes: &'a [Class], site: &'a Site) -> Result<(), Halt> {
     let paths = paths_of(alloc, &site.expression)?;
     let mut number = names_before_expression(site);
     for path in paths.as_slice() {
@@ -45,11 +45,11 @@ fn check_sources(alloc: Global, classes: &[Class], site: &Site) -> Result<(), Ha
 }
 
 /// Halts where the formal source of this path, whose first name has this number, or its property isn't there.
-fn check_source(
+fn check_source<'a>(
     alloc: Global,
-    classes: &[Class],
-    site: &Site,
-    path: &Path,
+    classes: &'a [Class],
+    site: &'a Site,
+    path: &'a Path,
     number: usize,
 ) -> Result<(), Halt> {
     let Some((root, property)) = parts_of(path) else {
@@ -70,7 +70,7 @@ fn check_source(
 }
 
 /// Halts where the target of the binding, or a property that it reads, is a reference.
-pub fn check_values(alloc: Global, classes: &[Class], site: &Site) -> Result<(), Halt> {
+pub fn check_values<'a>(alloc: Global, classes: &'a [Class], site: &'a Site) -> Result<(), Halt> {
     check_value(alloc, classes, &site.class, &site.property, 2)?;
     let paths = paths_of(alloc, &site.expression)?;
     let mut number = names_before_expression(site);
@@ -82,11 +82,11 @@ pub fn check_values(alloc: Global, classes: &[Class], site: &Site) -> Result<(),
 }
 
 /// Halts where a path leads to a reference.
-fn check_read(
+fn check_read<'a>(
     alloc: Global,
-    classes: &[Class],
-    site: &Site,
-    path: &Path,
+    classes: &'a [Class],
+    site: &'a Site,
+    path: &'a Path,
     number: usize,
 ) -> Result<(), Halt> {
     let Some((root, property)) = parts_of(path) else {
@@ -99,11 +99,11 @@ fn check_read(
 }
 
 /// Halts where the property of a class is a reference.
-fn check_value(
+fn check_value<'a>(
     alloc: Global,
-    classes: &[Class],
-    class: &Name,
-    property: &Name,
+    classes: &'a [Class],
+    class: &'a Name,
+    property: &'a Name,
     number: usize,
 ) -> Result<(), Halt> {
     let line = lineage(alloc, classes, class)?;

@@ -113,9 +113,9 @@ impl<'a> Scope<'a> {
     /// That the class has no such method.
     fn no_method(
         &self,
-        class: &Name,
+        class: &'a Name,
         words: &'static str,
-        name: &Name,
+        name: &'a Name,
         count: usize,
         number: usize,
         advice: Option<&'static str>,

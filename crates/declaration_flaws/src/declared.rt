@@ -1,5 +1,8 @@
 //! The declarations of a program, in the order of its text.
 
+ghost use Rattle.std.specs.Prelude.{IfSome};
+ghost use Rattle.declaration_flaws.specs.Declared.{IsDeclaredIn, StandsBehind, StandsIn};
+
 use crate::sentence::{Piece, push_pieces};
 use std::alloc::{AllocError, Global};
 use texts::{Class, Owns, Program, Property, Signal, Site, Slot, SlotWork, Token, Wire, Word};
@@ -36,7 +39,9 @@ pub struct Walk<'a> {
 
 impl<'a> Walk<'a> {
     /// None was met.
-    pub fn new(program: &'a Program) -> Walk<'a> {
+    pub fn new(program: &'a Program) -> Walk<'a>
+        ensures { StandsIn program.now result }
+    {
         Walk {
             program,
             class: None,
@@ -51,7 +56,11 @@ impl<'a> Walk<'a> {
     }
 
     /// The declaration that begins with this token, which is the next one of the text; `None` where none does.
-    pub fn next(&mut self, token: &Token) -> Option<Declared<'a>> {
+    pub fn next(&mut self, token: &Token) -> Option<Declared<'a>>
+        requires { StandsIn self.old.program.now self.old }
+        ensures found { IfSome result (IsDeclaredIn self.old.program.now) }
+        ensures stands { StandsIn self.old.program.now self.new }
+    {
         let Token::Word(word) = token else {
             return None;
         };
@@ -59,12 +68,12 @@ impl<'a> Walk<'a> {
             Word::Class => self.next_class(),
             Word::Property | Word::Signal | Word::Slot | Word::Native => self.next_member(*word),
             Word::Wire => {
-                let wire = self.program.wires.as_slice().get(self.wires)?;
+                let (_, wire) = at(self.program.wires.as_slice(), self.wires)?;
                 self.wires = self.wires.saturating_add(1);
                 Some(Declared::Wire(wire))
             }
             Word::Owns => {
-                let owns = self.program.owns.as_slice().get(self.owns)?;
+                let (_, owns) = at(self.program.owns.as_slice(), self.owns)?;
                 self.owns = self.owns.saturating_add(1);
                 Some(Declared::Owns(owns))
             }
@@ -77,7 +86,12 @@ impl<'a> Walk<'a> {
         }
     }
 
-    fn next_class(&mut self) -> Option<Declared<'a>> {
+    /// The next class.
+    fn next_class(&mut self) -> Option<Declared<'a>>
+        requires { StandsIn self.old.program.now self.old }
+        ensures found { IfSome result (IsDeclaredIn self.old.program.now) }
+        ensures stands { StandsIn self.old.program.now self.new }
+    {
         let (before, class) = at(self.program.classes.as_slice(), self.classes)?;
         self.classes = self.classes.saturating_add(1);
         self.class = Some(class);
@@ -88,7 +102,11 @@ impl<'a> Walk<'a> {
     }
 
     /// The next member of the class, which begins with this word.
-    fn next_member(&mut self, word: Word) -> Option<Declared<'a>> {
+    fn next_member(&mut self, word: Word) -> Option<Declared<'a>>
+        requires { StandsIn self.old.program.now self.old }
+        ensures found { IfSome result (IsDeclaredIn self.old.program.now) }
+        ensures stands { StandsIn self.old.program.now self.new }
+    {
         let class = self.class?;
         match word {
             Word::Property => {
@@ -111,9 +129,11 @@ impl<'a> Walk<'a> {
 }
 
 /// The item at this place, behind those before it.
-fn at<T>(items: &[T], place: usize) -> Option<(&[T], &T)> {
-    let item = items.get(place)?;
-    let before = items.get(..place)?;
+fn at<T>(items: &[T], place: usize) -> Option<(&[T], &T)>
+    ensures { IfSome result (λ found. StandsBehind items.now found.0.now found.1.now) }
+{
+    let (before, rest) = items.split_at_checked(place)?;
+    let (item, _) = rest.split_first()?;
     Some((before, item))
 }
 

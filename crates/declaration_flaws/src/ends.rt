@@ -9,11 +9,11 @@ use std::alloc::Global;
 use texts::Class;
 
 /// Halts unless the class of this name, whose line this is, has a signal of the signature, whose name has this number.
-pub fn check_signal(
+pub fn check_signal<'a>(
     alloc: Global,
     line: &[&Class],
-    class: &Name,
-    sig: &Sig,
+    class: &'a Name,
+    sig: &'a Sig,
     number: usize,
 ) -> Result<(), Halt> {
     match signed(line, sig) {
@@ -35,11 +35,11 @@ pub fn check_signal(
 }
 
 /// Halts unless the class has a method of the signature that may be called.
-pub fn check_method(
+pub fn check_method<'a>(
     alloc: Global,
     line: &[&Class],
-    class: &Name,
-    sig: &Sig,
+    class: &'a Name,
+    sig: &'a Sig,
     number: usize,
 ) -> Result<(), Halt> {
     match signed(line, sig) {

@@ -87,11 +87,11 @@ fn kind_advice(name: &Name) -> Option<&'static str> {
 }
 
 /// A native that takes, reads, emits or sets a reference.
-pub fn native_reference(
+pub fn native_reference<'a>(
     alloc: Global,
-    classes: &[Class],
-    class: &Class,
-    slot: &Slot,
+    classes: &'a [Class],
+    class: &'a Class,
+    slot: &'a Slot,
 ) -> Result<Option<Finding>, AllocError> {
     let SlotWork::Native(effects) = &slot.work else {
         return Ok(None);
@@ -113,11 +113,11 @@ pub fn native_reference(
 }
 
 /// A reference among the effects of a native, whose lists begin with the name of this number.
-fn effect_reference(
+fn effect_reference<'a>(
     alloc: Global,
-    classes: &[Class],
-    class: &Class,
-    effects: &EffectNames,
+    classes: &'a [Class],
+    class: &'a Class,
+    effects: &'a EffectNames,
     first: usize,
 ) -> Result<Option<Finding>, AllocError> {
     let line = lineage(alloc, classes, &class.name)?;
@@ -137,10 +137,10 @@ fn effect_reference(
 }
 
 /// A property that is a reference, of a list that begins with the name of this number.
-fn named_reference(
+fn named_reference<'a>(
     alloc: Global,
-    line: &[&Class],
-    names: &[Name],
+    line: &[&'a Class],
+    names: &'a [Name],
     first: usize,
 ) -> Result<Option<Finding>, AllocError> {
     for (place, name) in names.iter().enumerate() {

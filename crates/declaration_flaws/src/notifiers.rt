@@ -58,7 +58,11 @@ fn takes_value(property: &Property, sig: &Sig) -> bool {
 }
 
 /// A notify signal that takes something else than its property's value.
-fn other_value(alloc: Global, property: &Property, sig: &Sig) -> Result<Finding, AllocError> {
+fn other_value<'a>(
+    alloc: Global,
+    property: &'a Property,
+    sig: &'a Sig,
+) -> Result<Finding, AllocError> {
     let pieces = [
         Piece::Words("the property is of the type "),
         Piece::Type(&property.kind),

@@ -12,12 +12,12 @@ use std::alloc::Global;
 use texts::{Class, EffectNames, Owns, Slot, Wire};
 
 /// Halts where the effects of a native of this class name a member that isn't there.
-pub fn check_effects(
+pub fn check_effects<'a>(
     alloc: Global,
-    classes: &[Class],
-    class: &Class,
+    classes: &'a [Class],
+    class: &'a Class,
     slot: &Slot,
-    effects: &EffectNames,
+    effects: &'a EffectNames,
 ) -> Result<(), Halt> {
     let line = lineage(alloc, classes, &class.name)?;
     let line = line.as_slice();
@@ -32,11 +32,11 @@ pub fn check_effects(
 }
 
 /// Halts unless the class has these properties, the first of which is the name of this number.
-fn check_properties(
+fn check_properties<'a>(
     alloc: Global,
     line: &[&Class],
-    class: &Name,
-    names: &[Name],
+    class: &'a Name,
+    names: &'a [Name],
     first: usize,
 ) -> Result<(), Halt> {
     for (place, name) in names.iter().enumerate() {
@@ -48,11 +48,11 @@ fn check_properties(
 }
 
 /// Halts unless the class has a signal of this signature, which a native may emit.
-fn check_emitted(
+fn check_emitted<'a>(
     alloc: Global,
     line: &[&Class],
-    class: &Name,
-    sig: &Sig,
+    class: &'a Name,
+    sig: &'a Sig,
     number: usize,
 ) -> Result<(), Halt> {
     let advice = match signed(line, sig) {

@@ -119,9 +119,9 @@ impl<'a> Scope<'a> {
 }
 
 /// That a value stands where an object is wanted.
-fn no_object(alloc: Global, name: &Name, held: Held, number: usize) -> Halt {
+fn no_object<'a>(alloc: Global, name: &'a Name, held: Held<'a>, number: usize) -> Halt {
     let last = match held {
-        Held::Declared(kind) => type_piece(kind),
+        Held::Declared(kind) => Piece::Type(kind),
         Held::Text => Piece::Known(b"QString"),
     };
     let pieces = [
@@ -133,12 +133,8 @@ fn no_object(alloc: Global, name: &Name, held: Held, number: usize) -> Halt {
     halt(alloc, number, &pieces, None)
 }
 
-fn type_piece<'a>(kind: &'a QType) -> Piece<'a> {
-    Piece::Type(kind)
-}
-
 /// That the class of this name has no such property.
-pub fn no_property(alloc: Global, class: &Name, name: &Name, number: usize) -> Halt {
+pub fn no_property<'a>(alloc: Global, class: &'a Name, name: &'a Name, number: usize) -> Halt {
     let pieces = [
         Piece::Words("the class "),
         Piece::Name(class),

@@ -8,4 +8,5 @@ mod watching;
 
 pub use answer::{Answer, Reason};
 pub use explain::explanation;
+pub use text_flaws::{Place, meaning};
 pub use watching::{KeptReader, WatchedWriter};

@@ -1,8 +1,12 @@
 //! What the numbers of refusals, of the checker's reasons, of refused events and of faults mean, in one sentence each
 //! (docs/commands.md).
 
-/// What a number says; `None` for one that isn't given.
-pub fn meaning(number: u8) -> Option<&'static str> {
+ghost use Rattle.std.specs.Prelude.{◌≢◌, [], IfSome};
+
+/// What a number says, which isn't nothing; `None` for one that isn't given.
+pub fn meaning(number: u8) -> Option<&'static str>
+    ensures { IfSome result (λ sentence. sentence.now ≢ []) }
+{
     match number {
         0..=18 => meaning_of_refusal(number),
         19..=46 => meaning_of_event(number),
@@ -11,7 +15,9 @@ pub fn meaning(number: u8) -> Option<&'static str> {
     }
 }
 
-fn meaning_of_refusal(number: u8) -> Option<&'static str> {
+fn meaning_of_refusal(number: u8) -> Option<&'static str>
+    ensures { IfSome result (λ sentence. sentence.now ≢ []) }
+{
     match number {
         2 => Some("a reference is `const`, as `const C &`, or there is none"),
         3 => Some("a signature has at most 8 parameters, and a binding at most 8 formal sources"),
@@ -48,7 +54,9 @@ fn meaning_of_refusal(number: u8) -> Option<&'static str> {
     }
 }
 
-fn meaning_of_event(number: u8) -> Option<&'static str> {
+fn meaning_of_event(number: u8) -> Option<&'static str>
+    ensures { IfSome result (λ sentence. sentence.now ≢ []) }
+{
     match number {
         30 => Some("an object's name is given once in a run, and this one was used before"),
         31 => Some("no object has this name"),
@@ -71,7 +79,9 @@ fn meaning_of_event(number: u8) -> Option<&'static str> {
     }
 }
 
-fn meaning_of_fault(number: u8) -> Option<&'static str> {
+fn meaning_of_fault(number: u8) -> Option<&'static str>
+    ensures { IfSome result (λ sentence. sentence.now ≢ []) }
+{
     match number {
         60 => Some(
             "a value isn't of the type that an operator, a statement, a property or a binding asks",
@@ -86,7 +96,9 @@ fn meaning_of_fault(number: u8) -> Option<&'static str> {
     }
 }
 
-fn meaning_of_no(number: u8) -> Option<&'static str> {
+fn meaning_of_no(number: u8) -> Option<&'static str>
+    ensures { IfSome result (λ sentence. sentence.now ≢ []) }
+{
     match number {
         70 => Some("the second signature of a wire isn't the first one's front"),
         71 => Some("a literal, a body or a binding isn't typed"),
