@@ -1,6 +1,6 @@
 //! A reader and a writer that pass on what they are given, and remember what an explanation needs of it.
 
-ghost use Rattle.std.specs.Prelude.{◌≡◌};
+ghost use Rattle.std.specs.Prelude.{◌≡◌, ◌≤◌, ◌++◌, [], length, IfSome, IsTrue};
 
 use std::alloc::Global;
 use std::io;
@@ -20,12 +20,14 @@ pub struct KeptReader<R: Read + Drop> {
     inner: R,
     kept: Vec<u8>,
     is_whole: bool,
+    ghost within: { length kept.items ≤ 8388608 },
 }
 
 impl<R: Read + Drop> KeptReader<R> {
     /// Nothing was read yet. What this reader gives is what the other one gives.
     pub fn new(alloc: Global, inner: R) -> KeptReader<R>
-        ensures { result.inner ≡ inner }
+        ensures same { result.inner ≡ inner }
+        ensures nothing { result.kept.items ≡ [] }
     {
         KeptReader {
             inner,
@@ -34,8 +36,11 @@ impl<R: Read + Drop> KeptReader<R> {
         }
     }
 
-    /// The bytes that were read; `None` where they were too many to remember.
-    pub fn kept(&self) -> Option<&[u8]> {
+    /// The bytes that were read; `None` where they were too many to remember, or memory was refused.
+    pub fn kept(&self) -> Option<&[u8]>
+        ensures all { IfSome result (λ bytes. bytes.now ≡ self.now.kept.items) }
+        ensures within { IfSome result (λ bytes. length bytes.now ≤ 8388608) }
+    {
         if self.is_whole {
             Some(self.kept.as_slice())
         } else {
@@ -43,8 +48,11 @@ impl<R: Read + Drop> KeptReader<R> {
         }
     }
 
+    /// Remembers these bytes too, or nothing from here on.
     fn keep(&mut self, bytes: &[u8])
-        ensures { self.new.inner ≡ self.old.inner }
+        ensures same { self.new.inner ≡ self.old.inner }
+        ensures all { IsTrue self.new.is_whole → self.new.kept.items ≡ self.old.kept.items ++ bytes.now }
+        ensures lost { IsTrue self.new.is_whole → IsTrue self.old.is_whole }
     {
         if !self.is_whole {
             return;

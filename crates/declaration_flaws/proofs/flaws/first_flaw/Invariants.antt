@@ -1,0 +1,5 @@
+use Rattle.declaration_flaws.specs.Declared.{StandsIn}
+use Rattle.declaration_flaws.proofs.flaws.first_flaw.Given as goal
+
+abbrev pub invariant-loop-at : goal.invariant-loop-at
+invariant-loop-at g l = StandsIn l.program l.walk
