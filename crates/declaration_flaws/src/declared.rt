@@ -1,7 +1,7 @@
 //! The declarations of a program, in the order of its text.
 
 ghost use Rattle.std.specs.Prelude.{IfSome};
-ghost use Rattle.declaration_flaws.specs.Declared.{IsDeclaredIn, StandsBehind, StandsIn};
+ghost use Rattle.declaration_flaws.specs.Standing.{IsDeclaredIn, StandsBehind, StandsIn};
 
 use crate::sentence::{Piece, push_pieces};
 use std::alloc::{AllocError, Global};

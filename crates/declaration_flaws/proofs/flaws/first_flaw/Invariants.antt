@@ -1,4 +1,4 @@
-use Rattle.declaration_flaws.specs.Declared.{StandsIn}
+use Rattle.declaration_flaws.specs.Standing.{StandsIn}
 use Rattle.declaration_flaws.proofs.flaws.first_flaw.Given as goal
 
 abbrev pub invariant-loop-at : goal.invariant-loop-at
