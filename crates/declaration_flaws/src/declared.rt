@@ -129,11 +129,16 @@ impl<'a> Walk<'a> {
 }
 
 /// The item at this place, behind those before it.
+#[tactic(auto, using(crate::proofs::Declarations::stands_behind))]
 fn at<T>(items: &[T], place: usize) -> Option<(&[T], &T)>
     ensures { IfSome result (λ found. StandsBehind items.now found.0.now found.1.now) }
 {
-    let (before, rest) = items.split_at_checked(place)?;
-    let (item, _) = rest.split_first()?;
+    let Some((before, rest)) = items.split_at_checked(place) else {
+        return None;
+    };
+    let Some((item, _)) = rest.split_first() else {
+        return None;
+    };
     Some((before, item))
 }
 
