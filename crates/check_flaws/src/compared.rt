@@ -10,7 +10,7 @@ use crate::rows::{bound_row, node_row};
 use crate::sets::{Mistake, first_mistake};
 use effect_scan::{Node, Scan};
 use program_flaws::{Source, class_text, node_text, push_edge, text_of};
-use rank_check::{Certificate, Line};
+use rank_check::{Certificate, Line, MemberName, NodeName};
 use std::alloc::AllocError;
 
 /// A certificate and its text, beside the nodes of a program.
@@ -118,17 +118,24 @@ impl<'s> Compared<'s> {
         };
         let row = self.row(place)?;
         let node = node_name_text(self.source.alloc, &line.node)?;
-        let mut text = format!(in self.source.alloc;
-            "line {row} of the certificate is for `{node}`, "
-        )?;
-        match self.source.meta.class(&line.node.class) {
-            Some(_) => text.push_str("which the class doesn't have")?,
-            None => text.push_str("and there is no such class")?,
-        }
-        text.push_str(
-            "\nhelp: make the certificate anew with `certify`, after each change of the program\n",
+        let why = self.why_unknown(&line.node);
+        let text = format!(in self.source.alloc;
+            "line {row} of the certificate is for `{node}`: {why}\nhelp: make the certificate anew with `certify`, after each change of the program\n"
         )?;
         Ok(Some(text))
+    }
+
+    /// Why no node has this name.
+    fn why_unknown(&self, name: &NodeName) -> &'static str {
+        if self.source.meta.class(&name.class).is_none() {
+            return "there is no such class";
+        }
+        match &name.member {
+            MemberName::Method(sig) if sig.name.bytes() == b"destroyed".as_slice() => {
+                "`destroyed(QObject*)` stands for it"
+            }
+            _ => "the class has no such member",
+        }
     }
 
     /// The lines at these places are for the same node.
@@ -164,9 +171,15 @@ impl<'s> Compared<'s> {
             return Ok(None);
         };
         let mut text = String::new(self.source.alloc);
-        self.push_rank(&mut text, "line", rise.from, rise.above)?;
-        self.push_rank(&mut text, ", and line", rise.to, rise.below)?;
-        text.push_str("; a rank has to be greater than those of what its member leads to\n")?;
+        self.push_rank(
+            &mut text,
+            rise.from,
+            rise.above,
+            " of the certificate gives",
+        )?;
+        text.push_str(", and ")?;
+        self.push_rank(&mut text, rise.to, rise.below, " gives")?;
+        text.push_str(": a rank has to be above those of what its member leads to\n")?;
         self.push_edge(&mut text, rise.from, rise.to)?;
         text.push_str(
             "help: make the certificate anew with `certify`; where members lead back to themselves, it names them, and a `queued` wire in the place of a direct one breaks that chain\n",
@@ -178,9 +191,9 @@ impl<'s> Compared<'s> {
     fn push_rank(
         &self,
         text: &mut String,
-        begin: &str,
         number: usize,
         place: usize,
+        gives: &str,
     ) -> Result<(), AllocError> {
         let row = self.row(place)?;
         let node = self.node(number)?;
@@ -188,10 +201,7 @@ impl<'s> Compared<'s> {
             Some(line) => line.rank,
             None => 0,
         };
-        write!(
-            text,
-            "{begin} {row} of the certificate gives `{node}` the rank {rank}"
-        )
+        write!(text, "line {row}{gives} `{node}` the rank {rank}")
     }
 
     /// Adds what draws the edge between the nodes of these numbers.
@@ -222,7 +232,7 @@ impl<'s> Compared<'s> {
         let node = self.node(number)?;
         let class = class_text(self.source.alloc, self.source.meta, class)?;
         let text = format!(in self.source.alloc;
-            "line {row} of the certificate: the set of `{node}` lacks `{class}`, an object of which may be deleted with it\nhelp: make the certificate anew with `certify`\n"
+            "line {row} of the certificate: the set of `{node}` lacks `{class}`, and with it an object of that class may be deleted\nhelp: make the certificate anew with `certify`\n"
         )?;
         Ok(Some(text))
     }
