@@ -1,11 +1,7 @@
 -- The lines of a certificate beside the nodes of a program, by number (docs/certificate.md, "The certificate").
 use Rattle.std.specs.Prelude.{◌≡◌, ℕ, List, Option, Some, slice_get}
 use Rattle.certificate_lang.specs.declared.certificate.Line.{Line}
-use Rattle.rank_check.specs.Entries.{IsFor, place_at}
-
--- where a node has a place, the line of this place is for it
-abbrev pub ArePlaces : List (Option ℕ) → List (Option ℕ) → Type 0
-ArePlaces numbers places = (n k : ℕ) → place_at places n ≡ Some k → IsFor numbers k n
+use Rattle.rank_check.specs.Entries.{place_at}
 
 -- the node has this place, and there stands this line
 pub record IsLineAt (lines : List Line) (places : List (Option ℕ)) (node place : ℕ) (line : Line) : Type 0 where

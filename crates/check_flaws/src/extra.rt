@@ -1,7 +1,8 @@
 //! Lines that are too many.
 
-ghost use Rattle.std.specs.Prelude.{IfSome};
-ghost use Rattle.check_flaws.specs.Broken.{IsExtra, IsUnknown};
+ghost use Rattle.std.specs.Prelude.{◌≡◌, ◌≢◌, IfSome, Some};
+ghost use Rattle.rank_check.specs.Entries.{place_at};
+ghost use Rattle.check_flaws.specs.Broken.{IsExtra};
 
 use crate::placing::line_of;
 use meta_objects::Meta;
@@ -35,7 +36,10 @@ pub fn first_extra(numbers: &[Option<usize>], places: &[Option<usize>]) -> Optio
 }
 
 /// The place of the node, if it isn't this one.
-fn later_place(places: &[Option<usize>], node: usize, place: usize) -> Option<usize> {
+fn later_place(places: &[Option<usize>], node: usize, place: usize) -> Option<usize>
+    ensures is { IfSome result (λ later. place_at places.now node ≡ Some later) }
+    ensures other { IfSome result (λ later. later ≢ place) }
+{
     match places.get(node) {
         Some(Some(later)) if *later != place => Some(*later),
         _ => None,

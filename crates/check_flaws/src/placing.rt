@@ -4,8 +4,8 @@ ghost use Rattle.std.specs.Prelude.{◌≡◌, ℕ, length, replicate, IfOk, IfS
 ghost use Rattle.meta_model.specs.LookUps.{LooksUp, FindsOnly};
 ghost use Rattle.effect_scan.specs.Scans.{IsScan};
 ghost use Rattle.rank_check.specs.Names.{IsMemberNamed};
-ghost use Rattle.rank_check.specs.Entries.{IsNumberNamed, AreNumbers};
-ghost use Rattle.check_flaws.specs.Placings.{IsLineAt, ArePlaces};
+ghost use Rattle.rank_check.specs.Entries.{IsNumberNamed, AreNumbers, AreBelow, PlacesEach};
+ghost use Rattle.check_flaws.specs.Placings.{IsLineAt};
 
 use effect_scan::{Member, Node, Scan};
 use meta_objects::Meta;
@@ -66,14 +66,13 @@ pub fn last_places(
     count: usize,
     numbers: &[Option<usize>],
 ) -> Result<Items<Option<usize>>, AllocError>
-    ensures { IfOk result (ArePlaces numbers.now) }
+    requires { AreBelow count numbers.now }
+    ensures { IfOk result (PlacesEach count numbers.now) }
 {
     let mut places = no_places(alloc, count)?;
     for (place, number) in numbers.iter().enumerate() {
         if let Some(node) = number {
-            if *node < places.len() {
-                places.set(*node, Some(place));
-            }
+            places.set(*node, Some(place));
         }
     }
     Ok(places)

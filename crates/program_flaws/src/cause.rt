@@ -42,6 +42,7 @@ pub fn cause_of<'m>(meta: &'m Meta, from: Node, to: Node) -> Option<Cause<'m>> {
 }
 
 /// Whose body is looked through, and for what.
+#[derive(Clone, Copy)]
 struct Search<'m> {
     meta: &'m Meta,
     class: usize,
