@@ -133,13 +133,13 @@ impl<'a> Walk<'a> {
 fn at<T>(items: &[T], place: usize) -> Option<(&[T], &T)>
     ensures { IfSome result (λ found. StandsBehind items.now found.0.now found.1.now) }
 {
-    let Some((before, rest)) = items.split_at_checked(place) else {
-        return None;
-    };
-    let Some((item, _)) = rest.split_first() else {
-        return None;
-    };
-    Some((before, item))
+    match items.split_at_checked(place) {
+        Some((before, rest)) => match rest.split_first() {
+            Some((item, _)) => Some((before, item)),
+            None => None,
+        },
+        None => None,
+    }
 }
 
 impl Declared<'_> {
