@@ -1,13 +1,12 @@
 //! Explanations: what an answer of the program means, and where in the input its reason lies.
 
 use crate::answer::{Answer, Reason};
-use crate::excerpt::{push_excerpt, push_place};
-use crate::flaw::{Flaw, program_flaw, wire_flaw};
-use crate::line_flaw::{certificate_flaw, script_flaw};
-use crate::meanings::meaning;
-use crate::spans::text_spans;
 use crate::usage::push_usage;
 use std::alloc::{AllocError, Global};
+use text_flaws::{
+    Flaw, certificate_flaw, meaning, program_flaw, push_excerpt, push_place, script_flaw,
+    text_spans, wire_flaw,
+};
 
 /// A text of an input, as a person calls it.
 #[derive(Clone, Copy, Debug, PartialEq, Eq)]

@@ -49,7 +49,7 @@ abbrev pub EndsEvent : List ℕ → TraceLine → Type 0
 EndsEvent text (line.Accepted event) = IsNumeral text event
 EndsEvent text (line.Refused event reason) =
     (digits rest : List ℕ) × IsNumeral digits event × BeginsAsKind rest (kind.Refused reason) × (text ≡ digits ++ 32 ∷ rest)
-EndsEvent text (line.At depth kind) = ⊥
+EndsEvent text (line.At depth what) = ⊥
 EndsEvent text (line.Fault fault) = ⊥
 
 -- the line begins as one that tells this
@@ -57,6 +57,6 @@ abbrev pub IsTraceLine : List ℕ → TraceLine → Type 0
 IsTraceLine text (line.Accepted event) = (rest : List ℕ) × EndsEvent rest (line.Accepted event) × (text ≡ codes "event" ++ 32 ∷ rest)
 IsTraceLine text (line.Refused event reason) =
     (rest : List ℕ) × EndsEvent rest (line.Refused event reason) × (text ≡ codes "event" ++ 32 ∷ rest)
-IsTraceLine text (line.At depth kind) =
-    (digits rest : List ℕ) × IsNumeral digits depth × BeginsAsKind rest kind × (text ≡ digits ++ 32 ∷ rest)
+IsTraceLine text (line.At depth what) =
+    (digits rest : List ℕ) × IsNumeral digits depth × BeginsAsKind rest what × (text ≡ digits ++ 32 ∷ rest)
 IsTraceLine text (line.Fault fault) = GivesNumber text (codes "fault") fault
