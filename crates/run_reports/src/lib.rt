@@ -5,16 +5,16 @@
 mod active;
 mod asked;
 mod event_line;
-mod excerpt;
 mod fault_report;
 mod refusal_report;
+mod script;
 mod seen;
 mod suspects;
 mod writer;
 
 pub use asked::{EXPLAIN, is_asked};
-pub use event_line::{EventLine, event_line, next_event_line};
+pub use event_line::{EventLine, event_line};
 pub use fault_report::fault_report;
 pub use refusal_report::refusal_report;
-pub use seen::Seen;
+pub use seen::{RefusedEvent, Seen};
 pub use writer::TracedWriter;

@@ -31,7 +31,7 @@ cut_at text at e =
     let p = position-Some (λ b. nat_eq b 32) text at 0 e in
     let next : at + 1 ≡ suc at = omega arith in
     rw (from_there text (at + 1), next)
-      (split_at text at p.0 (eqb-true (get_or text at 0) 32 p.1) (λ k h. not_blank (get_or text k 0) (p.2 k h)))
+    (split_at text at p.0 (eqb-true (get_or text at 0) 32 p.1) (λ k h. not_blank (get_or text k 0) (p.2 k h)))
 
 none_before_end : (text : List ℕ) → position (λ b. nat_eq b 32) text ≡ None → length text ≤ position_or_len (λ b. nat_eq b 32) text
 none_before_end text e = grind (arith, nat_tests)

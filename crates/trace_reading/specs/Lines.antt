@@ -21,6 +21,12 @@ kind_word kind.Disconnect = codes "disconnect"
 kind_word (kind.Refused reason) = codes "refused"
 kind_word kind.Null = codes "null"
 
+-- whatever may follow the word
+abbrev pub IsPlain : EntryKind → Type 0
+IsPlain (kind.Refused reason) = ⊥
+IsPlain kind.Null = ⊥
+IsPlain _ = Unit {0}
+
 -- the word, a blank, and whatever follows
 abbrev pub GoesOn : List ℕ → List ℕ → Type 0
 GoesOn text word = (rest : List ℕ) × (text ≡ word ++ 32 ∷ rest)

@@ -1,7 +1,7 @@
 //! The lines of a trace.
 
 ghost use Rattle.std.specs.Prelude.{◌≡◌, IfSome};
-ghost use Rattle.trace_reading.specs.Lines.{IsTraceLine, BeginsAsKind, kind_word, EndsEvent};
+ghost use Rattle.trace_reading.specs.Lines.{IsTraceLine, BeginsAsKind, kind_word, IsPlain, EndsEvent};
 
 use crate::numeral::{number, short_number};
 use crate::words::cut_word;
@@ -135,7 +135,8 @@ impl EntryKind {
 
 /// What happens by this word, which something follows.
 fn of_word(word: &[u8]) -> Option<EntryKind>
-    ensures { IfSome result (λ kind. word.now ≡ kind_word kind) }
+    ensures word { IfSome result (λ kind. word.now ≡ kind_word kind) }
+    ensures plain { IfSome result IsPlain }
 {
     match word {
         b"emit" => Some(EntryKind::Emit),

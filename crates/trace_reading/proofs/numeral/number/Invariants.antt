@@ -1,4 +1,4 @@
-use Rattle.std.proofs.Common.{◌≡◌, ◌≢◌, ◌≤◌, ◌<◌, ℕ, drop, get_or, []}
+use Rattle.std.proofs.Common.{◌≡◌, All, take, drop}
 use Rattle.texts.specs.Numerals.{value_from, value_of}
 use Rattle.trace_reading.specs.Words.{IsDigit}
 use Rattle.trace_reading.proofs.numeral.number.Given as goal
@@ -6,5 +6,5 @@ use Rattle.trace_reading.proofs.numeral.number.Given as goal
 abbrev pub invariant-loop-digit : goal.invariant-loop-digit
 invariant-loop-digit l = record {
   so_far : value_of l.digits ≡ value_from l.value (drop l.digit-index l.digits);
-  are_digits : (k : ℕ) → k < l.digit-index → IsDigit (get_or l.digits k 0);
+  are_digits : All IsDigit (take l.digit-index l.digits);
 }
