@@ -1,1 +1,1 @@
-pub mod Events
+pub mod Passing

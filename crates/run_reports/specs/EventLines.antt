@@ -3,7 +3,7 @@
 use Rattle.std.specs.Prelude.{ℕ, ◌≡◌, ◌+◌, ◌<◌, Bool, true, false, List, [], ◌∷◌, length, Option, Some, None, ◌⊎◌}
 use Rattle.texts.specs.Lines.{IsFrontLine, AreFrontLines, AreLines}
 use Rattle.script_lang.specs.Reads.{IsEmptyLine}
-use Rattle.run_reports.specs.declared.event_line.EventLine.{EventLine}
+use Rattle.run_reports.specs.declared.events.EventLine.{EventLine}
 
 -- whether there is more in the line than blanks and a comment
 abbrev pub TellsTokens : List ℕ → Bool → Type 0

@@ -38,24 +38,20 @@ impl Active {
         self.depth = 0;
     }
 
-    /// An activation goes on, or begins and is the innermost one then; those further inside have ended. The depth of the
-    /// outermost one is 1. A line that doesn't follow, and one for which there is no memory, is left out.
-    pub fn reach(&mut self, depth: u64, begun: Option<&[u8]>) {
-        if depth > DEEPEST as u64 {
-            return;
-        }
-        let depth = depth as usize;
+    /// The activation at this depth goes on; those further inside have ended. The depth of the outermost one is 1.
+    pub fn reach(&mut self, depth: usize) {
         self.depth = self.depth.min(depth);
-        let Some(line) = begun else {
-            return;
-        };
-        if depth == 0 || self.depth + 1 < depth {
+    }
+
+    /// An activation begins, which this line tells of, and is the innermost one then. It is left out where those around it
+    /// aren't known, or where there is no memory for it.
+    pub fn begin(&mut self, depth: usize, line: &[u8]) {
+        if depth == 0 || depth > DEEPEST || depth - 1 > self.depth {
             return;
         }
+        self.depth = depth - 1;
         if self.put(depth - 1, line) {
             self.depth = depth;
-        } else {
-            self.depth = depth - 1;
         }
     }
 

@@ -4,17 +4,17 @@
 
 mod active;
 mod asked;
-mod event_line;
-mod fault_report;
-mod refusal_report;
+mod events;
+mod faults;
+mod refusals;
 mod script;
 mod seen;
 mod suspects;
 mod writer;
 
 pub use asked::{EXPLAIN, is_asked};
-pub use event_line::{EventLine, event_line};
-pub use fault_report::fault_report;
-pub use refusal_report::refusal_report;
+pub use events::{EventLine, event_line};
+pub use faults::fault_report;
+pub use refusals::refusal_report;
 pub use seen::{RefusedEvent, Seen};
 pub use writer::TracedWriter;

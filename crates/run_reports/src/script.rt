@@ -2,7 +2,7 @@
 
 ghost use Rattle.std.specs.Prelude.{◌≤◌, length};
 
-use crate::event_line::{EventLine, event_line};
+use crate::events::{EventLine, event_line};
 use std::alloc::{AllocError, Global};
 use text_flaws::{push_excerpt, push_place, text_spans};
 

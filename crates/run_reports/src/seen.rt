@@ -11,6 +11,9 @@ const MOST_OF_LINE: usize = 160;
 /// The most refused events that are remembered.
 const MOST_REFUSED: usize = 100;
 
+/// A depth that none has.
+const DEEPEST: u64 = 1000;
+
 /// An event that was refused, and why.
 #[derive(Clone, Copy, Debug, PartialEq, Eq)]
 pub struct RefusedEvent {
@@ -139,11 +142,11 @@ impl Seen {
 
     /// Something happened at this depth.
     fn reach(&mut self, depth: u64, kind: EntryKind) {
-        let begun = if kind.begins() {
-            Some(self.line.as_slice())
+        let depth = depth.min(DEEPEST) as usize;
+        if kind.begins() {
+            self.active.begin(depth, self.line.as_slice());
         } else {
-            None
-        };
-        self.active.reach(depth, begun);
+            self.active.reach(depth);
+        }
     }
 }

@@ -4,7 +4,7 @@ use Rattle.texts.specs.Lines.{IsFrontLine, AreFrontLines}
 use Rattle.texts.proofs.FrontLines.{one_more_line}
 use Rattle.script_lang.specs.Reads.{IsEmptyLine}
 use Rattle.run_reports.specs.EventLines.{HaveEvents, IsEventLine, HasNoSuchEvent}
-use Rattle.run_reports.specs.declared.event_line.EventLine.{EventLine}
+use Rattle.run_reports.specs.declared.events.EventLine.{EventLine}
 
 -- the lines up to what is left have so many events, and the one that is looked for isn't among them
 pub record EventsSoFar (script : List ℕ) (number : ℕ) (left : List ℕ) (event : ℕ) : Type 0 where

@@ -1,6 +1,6 @@
 use Rattle.std.proofs.Common.{◌+◌, ◌≤◌, length}
-use Rattle.run_reports.proofs.Events.{EventsSoFar}
-use Rattle.run_reports.proofs.event_line.event_line.Given as goal
+use Rattle.run_reports.proofs.Passing.{EventsSoFar}
+use Rattle.run_reports.proofs.events.event_line.Given as goal
 
 abbrev pub invariant-loop-line : goal.invariant-loop-line
 invariant-loop-line l = record {

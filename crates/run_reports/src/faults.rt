@@ -1,6 +1,6 @@
 //! What is told of a fault.
 
-use crate::event_line::event_in;
+use crate::events::event_in;
 use crate::script::Script;
 use crate::seen::Seen;
 use crate::suspects::Suspects;
@@ -26,22 +26,18 @@ pub fn fault_report(
         None => None,
     };
     let suspects = suspects(alloc, script, seen, fault)?;
-    if suspects.last && seen.event() > 0 {
-        push_event(&mut text, alloc, script, "in event ", seen.event())?;
+    let last = seen.event();
+    if suspects.last && last > 0 {
+        writeln!(&mut text, "in event {last}")?;
+        push_line(&mut text, alloc, script, last)?;
     }
     if suspects.next {
-        let words = if suspects.last {
-            "or, where that had ended, as this was to be taken: event "
-        } else {
-            "as this was to be taken: event "
-        };
-        push_event(
-            &mut text,
-            alloc,
-            script,
-            words,
-            seen.event().saturating_add(1),
-        )?;
+        let next = last.saturating_add(1);
+        if suspects.last {
+            text.push_str("or, where that had ended, ")?;
+        }
+        writeln!(&mut text, "as event {next} was to be taken")?;
+        push_line(&mut text, alloc, script, next)?;
     }
     if suspects.last {
         push_active(&mut text, seen.active())?;
@@ -82,15 +78,13 @@ fn event_of(alloc: Global, script: Script<'_>, number: u64) -> Result<Option<Eve
     }
 }
 
-/// Adds the number of an event behind these words, and its line.
-fn push_event(
+/// Adds an event's line, where it is known.
+fn push_line(
     text: &mut String,
     alloc: Global,
     script: Option<Script<'_>>,
-    words: &str,
     event: u64,
 ) -> Result<(), AllocError> {
-    writeln!(text, "{words}{event}")?;
     let Some(script) = script else {
         return Ok(());
     };
