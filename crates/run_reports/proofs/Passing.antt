@@ -1,9 +1,13 @@
 -- The lines of a script, one after another, with their events counted.
-use Rattle.std.proofs.Common.{◌≡◌, ◌≢◌, ◌∙◌, ap, sym, refl, ℕ, zero, suc, ◌+◌, ◌<◌, List, [], ◌∷◌, ◌++◌, ◌⊎◌, inl, inr, length, arith}
+use Rattle.std.proofs.Common.{◌≡◌, ◌≢◌, ◌∙◌, ap, sym, refl, subst, Bool, true, false, not, ℕ, zero, suc, ◌+◌, ◌<◌, List, [], ◌∷◌, ◌++◌, ◌⊎◌, inl, inr, length, arith}
+use Rattle.std.specs.Bool.{MatchBool}
+use Rattle.texts.specs.declared.token.Token.{Token}
 use Rattle.texts.specs.Lines.{IsFrontLine, AreFrontLines}
+use Rattle.texts.specs.Pieces.{AreTokens}
+use Rattle.texts.proofs.Cut.{same_tokens}
 use Rattle.texts.proofs.FrontLines.{one_more_line}
 use Rattle.script_lang.specs.Reads.{IsEmptyLine}
-use Rattle.run_reports.specs.EventLines.{HaveEvents, IsEventLine, HasNoSuchEvent}
+use Rattle.run_reports.specs.EventLines.{HaveEvents, IsEventLine, HasNoSuchEvent, TellsTokens}
 use Rattle.run_reports.specs.declared.events.EventLine.{EventLine}
 
 -- the lines up to what is left have so many events, and the one that is looked for isn't among them
@@ -12,13 +16,6 @@ pub record EventsSoFar (script : List ℕ) (number : ℕ) (left : List ℕ) (eve
   pub lead : AreFrontLines script lines left
   pub counted : HaveEvents lines number
   pub below : (event ≡ 0) ⊎ (number < event)
-
-pub none_yet : (script : List ℕ) (event : ℕ) → EventsSoFar script 0 script event
-none_yet script event = record { lines = []; lead = refl; counted = refl; below = positive event }
-  where
-    positive : (n : ℕ) → (n ≡ 0) ⊎ (0 < n)
-    positive zero = inl refl
-    positive (suc n) = inr (omega arith)
 
 empty_behind : (lines : List (List ℕ)) (line : List ℕ) (n : ℕ) → HaveEvents lines n → IsEmptyLine line → HaveEvents (lines ++ line ∷ []) n
 empty_behind [] line n e h = inl (h, e)
@@ -50,25 +47,14 @@ event_passed script left line rest number event s f h other = record {
     further (inl e) = inl e
     further (inr h) = inr (omega arith)
 
-pub event_found : (script left rest : List ℕ) (number event : ℕ) (found : EventLine) → EventsSoFar script number left event → IsFrontLine left found.line.now rest → (¬ IsEmptyLine found.line.now) → number + 1 ≡ event → found.at + length left ≡ length script → IsEventLine script event found
-event_found script left rest number event found s f h e place = record {
-  before = s.lines;
-  from_line = left;
-  rest = rest;
-  events_before = number;
-  lead = s.lead;
-  counted = s.counted;
-  number = sym e;
-  front = f;
-  holds = h;
-  place = place;
-}
+-- ---- whether a line has tokens
 
-pub none_found : (script left : List ℕ) (number event : ℕ) → EventsSoFar script number left event → left ≡ [] → HasNoSuchEvent script event
-none_found script left number event s e = record {
-  lines = s.lines;
-  events = number;
-  cut = rw e at s.lead;
-  counted = s.counted;
-  fewer = s.below;
-}
+pub told_by_tokens : (line : List ℕ) (tokens : List Token) (empty : Bool) → AreTokens line tokens → MatchBool empty (tokens ≡ []) (tokens ≡ [] → ⊥) → TellsTokens line (not empty)
+told_by_tokens line tokens true cut m = subst (AreTokens line) m cut
+told_by_tokens line tokens false cut m = λ none. m (same_tokens line tokens [] cut none)
+
+pub told_some : (line : List ℕ) (found : Bool) → found ≡ true → TellsTokens line found → ¬ IsEmptyLine line
+told_some line found e h = subst (TellsTokens line) e h
+
+pub told_none : (line : List ℕ) (found : Bool) → found ≡ false → TellsTokens line found → IsEmptyLine line
+told_none line found e h = subst (TellsTokens line) e h

@@ -3,7 +3,8 @@
 ghost use Rattle.std.specs.Prelude.{IfOk};
 ghost use Rattle.run_reports.specs.EventLines.{TellsTokens, FindsEvent};
 
-use script_lang::{Event, ScriptFault, read_script};
+use crate::suspects::Nature;
+use script_lang::{ScriptFault, read_script};
 use std::alloc::{AllocError, Global};
 use texts::{LexFault, split_line, tokens};
 
@@ -51,10 +52,10 @@ fn has_tokens(alloc: Global, line: &[u8]) -> Result<bool, AllocError>
     }
 }
 
-/// The event that a line has, if it is one.
-pub fn event_in(alloc: Global, line: &[u8]) -> Result<Option<Event>, AllocError> {
+/// How the event that a line has may lead to a fault, if it has one.
+pub fn nature_in(alloc: Global, line: &[u8]) -> Result<Option<Nature>, AllocError> {
     match read_script(alloc, line) {
-        Ok(mut events) => Ok(events.pop()),
+        Ok(events) => Ok(events.get(0).map(Nature::of)),
         Err(ScriptFault::Memory) => Err(AllocError),
         Err(ScriptFault::TooLarge | ScriptFault::BadLine(_)) => Ok(None),
     }

@@ -1,10 +1,9 @@
 //! What is told of a fault.
 
-use crate::events::event_in;
+use crate::events::nature_in;
 use crate::script::Script;
 use crate::seen::Seen;
-use crate::suspects::Suspects;
-use script_lang::Event;
+use crate::suspects::{Nature, Suspects};
 use std::alloc::{AllocError, Global};
 use std::str;
 
@@ -64,16 +63,16 @@ fn suspects(
     let last = if seen.was_refused() {
         None
     } else {
-        event_of(alloc, script, seen.event())?
+        nature_of(alloc, script, seen.event())?
     };
-    let next = event_of(alloc, script, seen.event().saturating_add(1))?;
-    Ok(Suspects::of(fault, last.as_ref(), next.as_ref()))
+    let next = nature_of(alloc, script, seen.event().saturating_add(1))?;
+    Ok(Suspects::of(fault, last, next))
 }
 
-/// The event of this number, if there is one.
-fn event_of(alloc: Global, script: Script<'_>, number: u64) -> Result<Option<Event>, AllocError> {
+/// How the event of this number may lead to a fault, if there is one.
+fn nature_of(alloc: Global, script: Script<'_>, number: u64) -> Result<Option<Nature>, AllocError> {
     match script.event_line(alloc, number)? {
-        Some(found) => event_in(alloc, found.line),
+        Some(found) => nature_in(alloc, found.line),
         None => Ok(None),
     }
 }

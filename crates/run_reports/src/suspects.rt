@@ -17,6 +17,52 @@ const STEPS: u8 = 64;
 /// Want of memory.
 const MEMORY: u8 = 65;
 
+/// How an event may lead to a fault.
+#[derive(Clone, Copy, Debug, PartialEq, Eq)]
+pub enum Nature {
+    /// Once it is taken nothing goes on.
+    Quiet,
+    /// `new`: as it is taken, literals become values; then nothing goes on.
+    New,
+    /// `bind`: as it is taken, values are computed; then what changed is notified.
+    Bind,
+    /// Rules may be due once it is taken.
+    Lasting,
+}
+
+impl Nature {
+    /// How this event may lead to one.
+    pub fn of(event: &Event) -> Nature {
+        match event {
+            Event::New(_, _, _) => Nature::New,
+            Event::Bind(_, _, _) => Nature::Bind,
+            Event::Turn(_) | Event::Set(_, _, _) | Event::Delete(_) => Nature::Lasting,
+            Event::Emit(_, _, _) | Event::Call(_, _, _) => Nature::Lasting,
+            Event::Loop(_) | Event::Adopt(_, _) | Event::Later(_) => Nature::Quiet,
+            Event::Connect(_, _) | Event::Disconnect(_) => Nature::Quiet,
+            Event::Block(_) | Event::Unblock(_) => Nature::Quiet,
+        }
+    }
+
+    /// Whether the fault may come once an event is taken.
+    fn may_lead_to(self, fault: u8) -> bool {
+        match self {
+            Nature::Bind | Nature::Lasting => fault != BINDING_LOOP,
+            Nature::Quiet | Nature::New => false,
+        }
+    }
+
+    /// Whether the fault may come as an event is to be taken.
+    fn may_meet(self, fault: u8) -> bool {
+        match fault {
+            BAD_TYPE => self == Nature::New || self == Nature::Bind,
+            BINDING_LOOP => self == Nature::Bind,
+            STEPS | MEMORY => true,
+            _ => false,
+        }
+    }
+}
+
 /// The events at which a fault may have come; at least one of the two.
 #[derive(Clone, Copy, Debug, PartialEq, Eq)]
 pub struct Suspects {
@@ -28,45 +74,18 @@ pub struct Suspects {
 
 impl Suspects {
     /// The suspects of a fault, by the last event, if it was accepted, and by the next one, if there is one.
-    pub fn of(fault: u8, last: Option<&Event>, next: Option<&Event>) -> Suspects {
+    pub fn of(fault: u8, last: Option<Nature>, next: Option<Nature>) -> Suspects {
         let last = match last {
-            Some(event) => fault != BINDING_LOOP && goes_on(event),
+            Some(nature) => nature.may_lead_to(fault),
             None => false,
         };
         let next = match next {
-            Some(event) => may_stop(event, fault),
+            Some(nature) => nature.may_meet(fault),
             None => false,
         };
         Suspects {
             last: last || !next,
             next,
         }
-    }
-}
-
-/// Whether rules may be due once the event is taken.
-fn goes_on(event: &Event) -> bool {
-    match event {
-        Event::Turn(_) | Event::Set(_, _, _) | Event::Delete(_) => true,
-        Event::Emit(_, _, _) | Event::Call(_, _, _) | Event::Bind(_, _, _) => true,
-        Event::Loop(_) | Event::New(_, _, _) | Event::Adopt(_, _) => false,
-        Event::Connect(_, _) | Event::Disconnect(_) => false,
-        Event::Block(_) | Event::Unblock(_) | Event::Later(_) => false,
-    }
-}
-
-/// Whether the fault may come as the event is taken.
-fn may_stop(event: &Event, fault: u8) -> bool {
-    match fault {
-        BAD_TYPE => match event {
-            Event::New(_, _, _) | Event::Bind(_, _, _) => true,
-            _ => false,
-        },
-        BINDING_LOOP => match event {
-            Event::Bind(_, _, _) => true,
-            _ => false,
-        },
-        STEPS | MEMORY => true,
-        _ => false,
     }
 }
