@@ -1,4 +1,4 @@
--- How a trace is shown to a person (docs/explanations.md, "Traces for people").
+-- How a trace is shown to a person (docs/traces.md, "The program trace_view").
 use Rattle.std.specs.Prelude.{ℕ, ◌≡◌, ◌≢◌, ◌*◌, ◌≤◌, Bool, true, false, min, replicate, List, [], ◌∷◌, ◌++◌, codes, ◌⊎◌, Option, Some, None}
 use Rattle.std.specs.List.{AllByRecursion}
 use Rattle.std.specs.Io.KnownBytes.{Appends}
