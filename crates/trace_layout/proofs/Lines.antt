@@ -25,13 +25,16 @@ longer x xs read rest other r = record { line = x ∷ r.line; unbroken = (other,
     go (inl e) = inl (ap (λ l. x ∷ l) e.0, ap (λ l. x ∷ l) e.1)
     go (inr e) = inr (ap (λ l. x ∷ l) e.0, ap (λ l. x ∷ l) e.1, e.2)
 
+not_ten : (x : ℕ) → (x == 10) ≡ false → x ≢ 10
+not_ten x e h = grind (arith, nat_tests)
+
+read_on : (x : ℕ) (xs : List ℕ) (b : Bool) → (x == 10) ≡ b → IsReadUpTo xs (take_through 10 xs) (drop_through 10 xs) → IsReadUpTo (x ∷ xs) (take_through 10 (x ∷ xs)) (drop_through 10 (x ∷ xs))
+read_on x xs true e r = rw e record { line = []; unbroken = tt; ends = inl (refl, ap (λ n. n ∷ xs) (eqb-true x 10 e)) }
+read_on x xs false e r = rw e (longer x xs (take_through 10 xs) (drop_through 10 xs) (not_ten x e) r)
+
 read_through : (xs : List ℕ) → IsReadUpTo xs (take_through 10 xs) (drop_through 10 xs)
 read_through [] = record { line = []; unbroken = tt; ends = inr (refl, refl, refl) }
-read_through (x ∷ xs) = by_test (x == 10) refl
-  where
-    by_test : (b : Bool) → (x == 10) ≡ b → IsReadUpTo (x ∷ xs) (take_through 10 (x ∷ xs)) (drop_through 10 (x ∷ xs))
-    by_test true e = rw e record { line = []; unbroken = tt; ends = inl (refl, ap (λ n. n ∷ xs) (eqb-true x 10 e)) }
-    by_test false e = rw e (longer x xs (take_through 10 xs) (drop_through 10 xs) (grind (arith, nat_tests)) (read_through xs))
+read_through (x ∷ xs) = read_on x xs (x == 10) refl (read_through xs)
 
 -- ---- one more line
 
@@ -52,7 +55,7 @@ one_more : (colours : Bool) (lines : List ShownLine) (line : ShownLine) (input r
 one_more colours [] line input rest output more after w f =
     let e : output ++ more ≡ more = ap (λ o. o ++ more) w.1 in
     let g : ShowsFront colours line input more after [] = subst (λ i. ShowsFront colours line i more after []) (sym w.0) f in
-    (after, [], subst (λ o. ShowsFront colours line input o after []) (sym e) g, refl, refl)
+    (after, [], subst (λ o. ShowsFront colours line input o after []) (sym e) g, (refl, refl))
 one_more colours (l ∷ lines) line input rest output more after w f =
     (w.0, w.1 ++ more, further w.2.ends, one_more colours lines line w.0 rest w.1 more after w.3 f)
   where
@@ -110,11 +113,11 @@ one_line_more colours (Some input) None then_rest before after then_after read s
 one_line_more colours (Some input) (Some xs) then_rest before after then_after read shown f t d some s a =
     let r : IsReadUpTo xs read (drop_through 10 xs) = subst (λ b. IsReadUpTo xs b (drop_through 10 xs)) (sym t) (read_through xs) in
     let more : ShownSoFar colours input (drop_through 10 xs) before then_after = record {
-          lines = f.lines ++ s.line ∷ [];
-          output = f.output ++ shown;
-          shows = one_more colours f.lines s.line input xs f.output shown (drop_through 10 xs) f.shows (shown_front colours xs read (drop_through 10 xs) shown some r s);
-          appends = Appends-trans before after then_after f.output shown f.appends a;
-        } in
+      lines = f.lines ++ s.line ∷ [];
+      output = f.output ++ shown;
+      shows = one_more colours f.lines s.line input xs f.output shown (drop_through 10 xs) f.shows (shown_front colours xs read (drop_through 10 xs) shown some r s);
+      appends = Appends-trans before after then_after f.output shown f.appends a;
+    } in
     subst (λ o. ShowsSoFar colours (Some input) o before then_after) (sym d) more
 
 kept : (before after then_after : Option (List ℕ)) (output : List ℕ) → Appends before after output → Keeps after then_after → Appends before then_after output

@@ -1,5 +1,5 @@
 -- How a trace is shown to a person (docs/traces.md, "The program trace_view").
-use Rattle.std.specs.Prelude.{ℕ, ◌≡◌, ◌≢◌, ◌*◌, ◌≤◌, Bool, true, false, min, replicate, List, [], ◌∷◌, ◌++◌, codes, ◌⊎◌, Option, Some, None}
+use Rattle.std.specs.Prelude.{ℕ, ◌≡◌, ◌≢◌, ◌*◌, ◌==◌, ◌&&◌, nat_le, if◌then◌else◌, length, IsTrue, Bool, true, false, min, replicate, List, [], ◌∷◌, ◌++◌, codes, ◌⊎◌, Option, Some, None}
 use Rattle.std.specs.List.{AllByRecursion}
 use Rattle.std.specs.Io.KnownBytes.{Appends}
 use Rattle.texts.specs.Lines.{IsFrontLine}
@@ -9,18 +9,22 @@ use Rattle.trace_reading.specs.declared.line.TraceLine.TheVariants as line
 
 -- two blanks for each level of the depth, up to the deepest
 abbrev pub indent_of : TraceLine → List ℕ
-indent_of (line.At depth kind) = replicate (2 * min depth 256) 32
+indent_of (line.At depth what) = replicate (2 * min depth 256) 32
 indent_of _ = []
 
--- a byte of a colour's numbers: a digit, or what parts two numbers
-abbrev pub IsColourByte : ℕ → Type 0
-IsColourByte b = (48 ≤ b) × (b ≤ 59)
+-- digits and `;`, and `m` at the end
+abbrev pub ends_colour : List ℕ → Bool
+ends_colour [] = false
+ends_colour (b ∷ bs) = if b == 109 then length bs == 0 else nat_le 48 b && nat_le b 59 && ends_colour bs
 
--- escape, `[`, numbers and `m`: a terminal takes it for a colour and shows nothing
-pub record IsColour (bytes : List ℕ) : Type 0 where
-  pub numbers : List ℕ
-  pub spelled : bytes ≡ 27 ∷ 91 ∷ (numbers ++ 109 ∷ [])
-  pub are_numbers : AllByRecursion IsColourByte numbers
+-- escape, `[`, numbers, which `;` parts, and `m`: a terminal takes it for a colour and shows nothing
+abbrev pub is_colour : List ℕ → Bool
+is_colour [] = false
+is_colour (escape ∷ []) = false
+is_colour (escape ∷ bracket ∷ bs) = (escape == 27) && (bracket == 91) && ends_colour bs
+
+abbrev pub IsColour : List ℕ → Type 0
+IsColour bytes = IsTrue (is_colour bytes)
 
 -- nothing, or ` -- ` and a sentence, which ends no line
 abbrev pub IsRemark : List ℕ → Type 0
