@@ -1,5 +1,5 @@
 -- Lines as they are shown, one after another.
-use Rattle.std.proofs.Common.{◌≡◌, ◌≢◌, ◌∙◌, sym, ap, refl, subst, ℕ, ◌<◌, ◌==◌, Bool, true, false, List, [], ◌∷◌, ◌++◌, ◌⊎◌, inl, inr, length, Option, Some, None, append_assoc, length-append, IfSome, arith}
+use Rattle.std.proofs.Common.{◌≡◌, ◌≢◌, ◌∙◌, sym, ap, refl, subst, ℕ, ◌<◌, ◌≤◌, ◌==◌, Bool, true, false, List, [], ◌∷◌, ◌++◌, ◌⊎◌, inl, inr, length, Option, Some, None, append_assoc, length-append, IfSome, arith}
 use Rattle.std.proofs.lemmas.Bool.{eqb-true}
 use Rattle.std.proofs.lemmas.Bool.Decides.{nat_tests}
 use Rattle.std.specs.List.{AllByRecursion}
@@ -7,8 +7,10 @@ use Rattle.std.specs.Io.KnownBytes.{Appends, Keeps, IsAtEnd}
 use Rattle.std.specs.Io.BufRead.{take_through, drop_through, DropsThrough}
 use Rattle.std.proofs.KnownBytes.{Appends-nil, Appends-trans}
 use Rattle.texts.specs.Lines.{IsFrontLine}
-use Rattle.texts.proofs.FrontLines.{one_front_line}
-use Rattle.trace_layout.specs.Shown.{ShownLine, ShowsFront, ShowsUpTo, ShowsRead, ShowsTrace}
+use Rattle.texts.proofs.FrontLines.{one_front_line, no_line_at_end}
+use Rattle.trace_layout.specs.Shown.{ShownLine, ShowsFront, ShowsUpTo, ShowsRead, ShowsTrace, ShowsLine, AddsColoured, AddsRemark, indent_of}
+use Rattle.trace_reading.specs.Lines.{IsTraceLine}
+use Rattle.trace_reading.specs.declared.line.TraceLine.{TraceLine}
 
 -- ---- what is read up to a newline
 
@@ -29,7 +31,7 @@ not_ten : (x : ℕ) → (x == 10) ≡ false → x ≢ 10
 not_ten x e h = grind (arith, nat_tests)
 
 read_on : (x : ℕ) (xs : List ℕ) (b : Bool) → (x == 10) ≡ b → IsReadUpTo xs (take_through 10 xs) (drop_through 10 xs) → IsReadUpTo (x ∷ xs) (take_through 10 (x ∷ xs)) (drop_through 10 (x ∷ xs))
-read_on x xs true e r = rw e record { line = []; unbroken = tt; ends = inl (refl, ap (λ n. n ∷ xs) (eqb-true x 10 e)) }
+read_on x xs true e r = rw e record { line = []; unbroken = tt; ends = inl (ap (λ n. n ∷ []) (eqb-true x 10 e), ap (λ n. n ∷ xs) (eqb-true x 10 e)) }
 read_on x xs false e r = rw e (longer x xs (take_through 10 xs) (drop_through 10 xs) (not_ten x e) r)
 
 read_through : (xs : List ℕ) → IsReadUpTo xs (take_through 10 xs) (drop_through 10 xs)
@@ -107,11 +109,12 @@ pub nothing_yet : (colours : Bool) (input before : Option (List ℕ)) → ShowsS
 nothing_yet colours None before = tt
 nothing_yet colours (Some input) before = record { lines = []; output = []; shows = (refl, refl); appends = Appends-nil before }
 
-pub one_line_more : (colours : Bool) (input rest then_rest before after then_after : Option (List ℕ)) (read shown : List ℕ) → ShowsSoFar colours input rest before after → IfSome rest (λ xs. read ≡ take_through 10 xs) → DropsThrough rest then_rest 10 → read ≢ [] → ShowsRead colours read [] shown → Appends after then_after shown → ShowsSoFar colours input then_rest before then_after
-one_line_more colours None rest then_rest before after then_after read shown f t d some s a = tt
-one_line_more colours (Some input) None then_rest before after then_after read shown f t d some s a = absurd f
-one_line_more colours (Some input) (Some xs) then_rest before after then_after read shown f t d some s a =
+one_line : (colours : Bool) (input rest then_rest before after then_after : Option (List ℕ)) (read shown : List ℕ) → ShowsSoFar colours input rest before after → IfSome rest (λ xs. read ≡ take_through 10 xs) → DropsThrough rest then_rest 10 → ShowsRead colours read [] shown → Appends after then_after shown → ShowsSoFar colours input then_rest before then_after
+one_line colours None rest then_rest before after then_after read shown f t d s a = tt
+one_line colours (Some input) None then_rest before after then_after read shown f t d s a = absurd f
+one_line colours (Some input) (Some xs) then_rest before after then_after read shown f t d s a =
     let r : IsReadUpTo xs read (drop_through 10 xs) = subst (λ b. IsReadUpTo xs b (drop_through 10 xs)) (sym t) (read_through xs) in
+    let some : read ≢ [] = λ e. no_line_at_end read s.line.text s.rest e s.front in
     let more : ShownSoFar colours input (drop_through 10 xs) before then_after = record {
       lines = f.lines ++ s.line ∷ [];
       output = f.output ++ shown;
@@ -119,6 +122,17 @@ one_line_more colours (Some input) (Some xs) then_rest before after then_after r
       appends = Appends-trans before after then_after f.output shown f.appends a;
     } in
     subst (λ o. ShowsSoFar colours (Some input) o before then_after) (sym d) more
+
+read_alone : (rest : Option (List ℕ)) (read emptied : List ℕ) → emptied ≡ [] → IfSome rest (λ xs. read ≡ emptied ++ take_through 10 xs) → IfSome rest (λ xs. read ≡ take_through 10 xs)
+read_alone None read emptied e h = tt
+read_alone (Some xs) read emptied e h = h ∙ ap (λ bs. bs ++ take_through 10 xs) e
+
+-- a line is read into a buffer that was emptied, is shown in another one, and is written
+pub one_line_more : (colours : Bool) (input rest then_rest before after then_after : Option (List ℕ)) (read emptied lent shown cleared written : List ℕ) → ShowsSoFar colours input rest before after → emptied ≡ [] → IfSome rest (λ xs. read ≡ emptied ++ take_through 10 xs) → DropsThrough rest then_rest 10 → lent ≡ read → cleared ≡ [] → ShowsRead colours lent cleared shown → written ≡ shown → Appends after then_after written → ShowsSoFar colours input then_rest before then_after
+one_line_more colours input rest then_rest before after then_after read emptied lent shown cleared written f e t d l k s w a =
+    let from_empty : ShowsRead colours lent [] shown = subst (λ bs. ShowsRead colours lent bs shown) k s in
+    let of_read : ShowsRead colours read [] shown = subst (λ bs. ShowsRead colours bs [] shown) l from_empty in
+    one_line colours input rest then_rest before after then_after read shown f (read_alone rest read emptied e t) d of_read (subst (Appends after then_after) w a)
 
 kept : (before after then_after : Option (List ℕ)) (output : List ℕ) → Appends before after output → Keeps after then_after → Appends before then_after output
 kept None after then_after output a k = tt
@@ -131,3 +145,25 @@ all_lines colours None rest before after then_after f e k = tt
 all_lines colours (Some input) None before after then_after f e k = absurd f
 all_lines colours (Some input) (Some xs) before after then_after f e k =
     (f.output, (f.lines, subst (λ r. ShowsUpTo colours f.lines input r f.output) e f.shows), kept before after then_after f.output f.appends k)
+
+-- ---- one line
+
+pub dressed : (colours : Bool) (told : TraceLine) (text before a b after : List ℕ) → IsTraceLine text told → a ≡ before ++ indent_of told → AddsColoured colours text a b → AddsRemark b after → ShowsLine colours text before after
+dressed colours told text before a b after t i k r =
+    let whole : after ≡ ((before ++ indent_of told) ++ k.0) ++ r.0 = r.2 ∙ ap (λ x. x ++ r.0) (k.2 ∙ ap (λ x. x ++ k.0) i) in
+    let joined : ((before ++ indent_of told) ++ k.0) ++ r.0 ≡ before ++ (indent_of told ++ k.0 ++ r.0) = simp append_assoc in
+    (indent_of told ++ k.0 ++ r.0, inr (told, t, record { coloured = k.0; remark = r.0; in_colour = k.1; is_remark = r.1; whole = refl }), whole ∙ joined)
+
+pub read_ended : (colours : Bool) (read text rest before shown after : List ℕ) → IsFrontLine read text rest → length text < length read → ShowsLine colours text before shown → after ≡ shown ++ 10 ∷ [] → ShowsRead colours read before after
+read_ended colours read text rest before shown after f shorter s e = go f.ends
+  where
+    go : (read ≡ text ++ 10 ∷ rest) ⊎ ((read ≡ text) × (text ≢ []) × (rest ≡ [])) → ShowsRead colours read before after
+    go (inl p) = record { line = record { text = text; shown = s.0 }; rest = rest; is_shown = s.1; front = f; ends = inl (p, e ∙ ap (λ x. x ++ 10 ∷ []) s.2 ∙ append_assoc before s.0 (10 ∷ [])) }
+    go (inr p) = absurd (omega (arith, ap length p.0))
+
+pub read_whole : (colours : Bool) (read text rest before after : List ℕ) → IsFrontLine read text rest → length read ≤ length text → ShowsLine colours text before after → ShowsRead colours read before after
+read_whole colours read text rest before after f as_long s = go f.ends
+  where
+    go : (read ≡ text ++ 10 ∷ rest) ⊎ ((read ≡ text) × (text ≢ []) × (rest ≡ [])) → ShowsRead colours read before after
+    go (inl p) = absurd (omega (arith, simp length-append at (ap length p)))
+    go (inr p) = record { line = record { text = text; shown = s.0 }; rest = rest; is_shown = s.1; front = f; ends = inr (p.0, s.2) }

@@ -52,6 +52,10 @@ IsShownAs colours text shown =
 abbrev pub ShowsLine : Bool → List ℕ → List ℕ → List ℕ → Type 0
 ShowsLine colours text before after = (shown : List ℕ) × IsShownAs colours text shown × (after ≡ before ++ shown)
 
+-- the bytes grow by a line in its colour
+abbrev pub AddsColoured : Bool → List ℕ → List ℕ → List ℕ → Type 0
+AddsColoured colours text before after = (coloured : List ℕ) × IsColoured colours text coloured × (after ≡ before ++ coloured)
+
 -- the bytes grow by a remark
 abbrev pub AddsRemark : List ℕ → List ℕ → Type 0
 AddsRemark before after = (remark : List ℕ) × IsRemark remark × (after ≡ before ++ remark)

@@ -1,7 +1,7 @@
 //! One line, as it is shown.
 
 ghost use Rattle.std.specs.Prelude.{◌≡◌, ◌++◌, List, ℕ, OnOk};
-ghost use Rattle.trace_layout.specs.Shown.{ShowsLine, AddsRemark, indent_of};
+ghost use Rattle.trace_layout.specs.Shown.{ShowsLine, AddsColoured, AddsRemark, indent_of};
 
 use crate::colour::colour_of;
 use std::alloc::AllocError;
@@ -25,14 +25,27 @@ pub fn push_shown(shown: &mut Vec<u8>, line: &[u8], colours: bool) -> Result<(),
         return shown.extend_from_slice(line);
     };
     push_indent(shown, told)?;
-    if colours {
-        shown.extend_from_slice(colour_of(told))?;
-        shown.extend_from_slice(line)?;
-        shown.extend_from_slice(RESET)?;
-    } else {
-        shown.extend_from_slice(line)?;
+    push_coloured(shown, told, line, colours)?;
+    push_remark(shown, told)?;
+    Ok(())
+}
+
+/// Adds a line in its kind's colour, where colours are wanted.
+fn push_coloured(
+    shown: &mut Vec<u8>,
+    told: TraceLine,
+    line: &[u8],
+    colours: bool,
+) -> Result<(), AllocError>
+    ensures { OnOk result (AddsColoured colours line.now shown.old.items shown.new.items) }
+{
+    if !colours {
+        return shown.extend_from_slice(line);
     }
-    push_remark(shown, told)
+    shown.extend_from_slice(colour_of(told))?;
+    shown.extend_from_slice(line)?;
+    shown.extend_from_slice(RESET)?;
+    Ok(())
 }
 
 /// Adds two blanks for each level of a line's depth.
@@ -59,7 +72,8 @@ fn push_remark(shown: &mut Vec<u8>, told: TraceLine) -> Result<(), AllocError>
         return Ok(());
     };
     shown.extend_from_slice(b"  -- ")?;
-    shown.extend_from_slice(words)
+    shown.extend_from_slice(words)?;
+    Ok(())
 }
 
 /// What the number of a refusal or a fault means.

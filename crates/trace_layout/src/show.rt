@@ -28,7 +28,8 @@ pub fn show_trace<R: BufRead, W: Write>(
     for _ in 0..u64::MAX {
         read.clear();
         if reader.read_until(NEWLINE, &mut read)? == 0 {
-            return w.flush();
+            w.flush()?;
+            return Ok(());
         }
         shown.clear();
         push_read(&mut shown, read.as_slice(), colours)?;
