@@ -6,6 +6,7 @@ use std::process::Abort;
 use std::test::Fail;
 
 /// An input, the trace of its run, and what is told of the fault that ended it.
+#[derive(Clone, Copy)]
 struct Row {
     fault: u8,
     input: &'static str,
@@ -73,7 +74,14 @@ fn expect(rt: &(impl Abort + AllocGlobal), row: &Row) -> Result<(), Fail> {
 
 #[test]
 fn faults_are_placed(rt: HostRuntime) -> Result<(), Fail> {
-    for row in [WRONG_BODY, WRONG_LITERAL, TOO_DEEP, BINDING_LOOP, IN_USE, STEPS] {
+    for row in [
+        WRONG_BODY,
+        WRONG_LITERAL,
+        TOO_DEEP,
+        BINDING_LOOP,
+        IN_USE,
+        STEPS,
+    ] {
         expect(&rt, &row)?;
     }
     Ok(())

@@ -7,8 +7,7 @@ use std::test::Fail;
 const INPUT: &str =
     "class A { signal s(); slot m() { } }\n%%\nnew a A\n\nnew a A\nconnect a s() a m() direct\nemit a.s()\n";
 
-const TRACE: &str =
-    "event 1\nevent 2 refused 30\nevent 3 refused 38\nevent 4\n1 emit a.s()\n";
+const TRACE: &str = "event 1\nevent 2 refused 30\nevent 3 refused 38\nevent 4\n1 emit a.s()\n";
 
 const TOLD: &str =
     "event 2 refused 30: an object's name is given once in a run, and this one was used before\n at line 5, column 1 of the input (line 3, column 1 of the script)\n  | new a A\n  | ^\nevent 3 refused 38: no `wire` of the program covers this connection\n at line 6, column 1 of the input (line 4, column 1 of the script)\n  | connect a s() a m() direct\n  | ^\n";
