@@ -1,8 +1,5 @@
 //! The declarations of a program, in the order of its text.
 
-ghost use Rattle.std.specs.Prelude.{IfSome};
-ghost use Rattle.declaration_flaws.specs.Standing.{IsDeclaredIn, StandsBehind, StandsIn};
-
 use crate::sentence::{Piece, push_pieces};
 use std::alloc::{AllocError, Global};
 use texts::{Class, Owns, Program, Property, Signal, Site, Slot, SlotWork, Token, Wire, Word};
@@ -39,9 +36,7 @@ pub struct Walk<'a> {
 
 impl<'a> Walk<'a> {
     /// None was met.
-    pub fn new(program: &'a Program) -> Walk<'a>
-        ensures { StandsIn program.now result }
-    {
+    pub fn new(program: &'a Program) -> Walk<'a> {
         Walk {
             program,
             class: None,
@@ -56,11 +51,7 @@ impl<'a> Walk<'a> {
     }
 
     /// The declaration that begins with this token, which is the next one of the text; `None` where none does.
-    pub fn next(&mut self, token: &Token) -> Option<Declared<'a>>
-        requires { StandsIn self.old.program.now self.old }
-        ensures found { IfSome result (IsDeclaredIn self.old.program.now) }
-        ensures stands { StandsIn self.old.program.now self.new }
-    {
+    pub fn next(&mut self, token: &Token) -> Option<Declared<'a>> {
         let Token::Word(word) = token else {
             return None;
         };
@@ -87,11 +78,7 @@ impl<'a> Walk<'a> {
     }
 
     /// The next class.
-    fn next_class(&mut self) -> Option<Declared<'a>>
-        requires { StandsIn self.old.program.now self.old }
-        ensures found { IfSome result (IsDeclaredIn self.old.program.now) }
-        ensures stands { StandsIn self.old.program.now self.new }
-    {
+    fn next_class(&mut self) -> Option<Declared<'a>> {
         let (before, class) = at(self.program.classes.as_slice(), self.classes)?;
         self.classes = self.classes.saturating_add(1);
         self.class = Some(class);
@@ -102,11 +89,7 @@ impl<'a> Walk<'a> {
     }
 
     /// The next member of the class, which begins with this word.
-    fn next_member(&mut self, word: Word) -> Option<Declared<'a>>
-        requires { StandsIn self.old.program.now self.old }
-        ensures found { IfSome result (IsDeclaredIn self.old.program.now) }
-        ensures stands { StandsIn self.old.program.now self.new }
-    {
+    fn next_member(&mut self, word: Word) -> Option<Declared<'a>> {
         let class = self.class?;
         match word {
             Word::Property => {
@@ -129,17 +112,10 @@ impl<'a> Walk<'a> {
 }
 
 /// The item at this place, behind those before it.
-#[tactic(auto, using(crate::proofs::Declarations::stands_behind))]
-fn at<T>(items: &[T], place: usize) -> Option<(&[T], &T)>
-    ensures { IfSome result (λ found. StandsBehind items.now found.0.now found.1.now) }
-{
-    match items.split_at_checked(place) {
-        Some((before, rest)) => match rest.split_first() {
-            Some((item, _)) => Some((before, item)),
-            None => None,
-        },
-        None => None,
-    }
+fn at<T>(items: &[T], place: usize) -> Option<(&[T], &T)> {
+    let (before, rest) = items.split_at_checked(place)?;
+    let (item, _) = rest.split_first()?;
+    Some((before, item))
 }
 
 impl Declared<'_> {
