@@ -2,7 +2,9 @@
 
 use crate::answer::{Answer, Reason};
 use crate::usage::push_usage;
+use check_flaws::broken_condition;
 use declaration_flaws::declaration_flaw;
+use program_flaws::missing_certificate;
 use std::alloc::{AllocError, Global};
 use text_flaws::{
     Flaw, Span, certificate_flaw, meaning, program_flaw, push_excerpt, push_place, script_flaw,
@@ -54,6 +56,7 @@ pub fn explanation(
         _ => {
             if let Some(input) = input {
                 push_where(&mut text, alloc, input, answer)?;
+                push_reason(&mut text, alloc, input, answer)?;
             }
         }
     }
@@ -101,7 +104,7 @@ fn push_where(
     let Some(span) = kind.span(spans.as_slice()) else {
         return Ok(());
     };
-    let source = input.get(span.begin..span.end).unwrap_or(&[]);
+    let source = source_of(input, span);
     match flaw_of(alloc, source, answer)? {
         Some(flaw) => push_flaw(text, input, span.begin, source, kind, &flaw),
         None => Ok(()),
@@ -128,6 +131,56 @@ fn flaw_of(alloc: Global, source: &[u8], answer: Answer) -> Result<Option<Flaw>,
         Answer::BadLine(line) => script_flaw(alloc, source, line),
         _ => Ok(None),
     }
+}
+
+/// Adds what a certificate that isn't valid breaks its condition by, or why a program has none.
+fn push_reason(
+    text: &mut String,
+    alloc: Global,
+    input: &[u8],
+    answer: Answer,
+) -> Result<(), AllocError> {
+    let reason = match answer {
+        Answer::No(number) => broken(alloc, input, number)?,
+        Answer::Uncertified(_) => uncertified(alloc, input)?,
+        _ => None,
+    };
+    match reason {
+        Some(reason) => text.push_str(reason.as_str()),
+        None => Ok(()),
+    }
+}
+
+/// What breaks the condition of this number.
+fn broken(alloc: Global, input: &[u8], number: u8) -> Result<Option<String>, AllocError> {
+    let spans = text_spans(alloc, input)?;
+    let spans = spans.as_slice();
+    match (
+        TextKind::Program.span(spans),
+        TextKind::Certificate.span(spans),
+    ) {
+        (Some(program), Some(certificate)) => broken_condition(
+            alloc,
+            source_of(input, program),
+            source_of(input, certificate),
+            number,
+        ),
+        _ => Ok(None),
+    }
+}
+
+/// Why no certificate is valid for the program.
+fn uncertified(alloc: Global, input: &[u8]) -> Result<Option<String>, AllocError> {
+    let spans = text_spans(alloc, input)?;
+    match TextKind::Program.span(spans.as_slice()) {
+        Some(program) => missing_certificate(alloc, source_of(input, program)),
+        None => Ok(None),
+    }
+}
+
+/// The bytes of a text of the input.
+fn source_of(input: &[u8], span: Span) -> &[u8] {
+    input.get(span.begin..span.end).unwrap_or(&[])
 }
 
 /// Adds what is wrong with a text that begins at this byte of the input, and where.

@@ -9,4 +9,4 @@ mod watching;
 pub use answer::{Answer, Reason};
 pub use explain::explanation;
 pub use text_flaws::{Place, meaning};
-pub use watching::{KeptReader, WatchedWriter};
+pub use watching::KeptReader;
