@@ -1,5 +1,8 @@
 //! The answers of the program that a person may want explained.
 
+ghost use Rattle.std.specs.Prelude.{◌≢◌, [], IfSome};
+ghost use Rattle.explanations.specs.Answers.{BeginsAs};
+
 /// An answer of the program.
 #[derive(Clone, Copy, Debug, PartialEq, Eq)]
 pub enum Answer {
@@ -35,15 +38,17 @@ pub enum Reason {
 impl Answer {
     /// The answer that a line of the program's output is, without its newline, or with which it begins; `None` where it
     /// is none of these.
-    pub fn of(line: &[u8]) -> Option<Answer> {
+    pub fn of(line: &[u8]) -> Option<Answer>
+        ensures { IfSome result (BeginsAs line.now) }
+    {
         if line == b"usage".as_slice() {
             return Some(Answer::Usage);
         }
-        if let Some(digits) = line.strip_prefix(b"refused 16 line ".as_slice()) {
-            return Some(Answer::BadLine(number_of(digits)?));
-        }
-        if let Some(digits) = line.strip_prefix(b"refused ".as_slice()) {
-            return Some(Answer::Refused(short(digits)?));
+        if let Some(left) = line.strip_prefix(b"refused ".as_slice()) {
+            return match left.strip_prefix(b"16 line ".as_slice()) {
+                Some(digits) => Some(Answer::BadLine(number_of(digits)?)),
+                None => Some(Answer::Refused(short(left)?)),
+            };
         }
         if let Some(digits) = line.strip_prefix(b"fault ".as_slice()) {
             return Some(Answer::Fault(short(digits)?));
@@ -78,7 +83,9 @@ impl Reason {
     }
 
     /// What it says, in one sentence.
-    pub fn meaning(self) -> &'static str {
+    pub fn meaning(self) -> &'static str
+        ensures { result.now ≢ [] }
+    {
         match self {
             Reason::Wire(_) =>
                 "the method of a wire takes other types than the first ones of its signal",

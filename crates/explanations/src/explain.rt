@@ -1,13 +1,15 @@
 //! Explanations: what an answer of the program means, and where in the input its reason lies.
 
 use crate::answer::{Answer, Reason};
-use crate::excerpt::{push_excerpt, push_place};
-use crate::flaw::{Flaw, program_flaw, wire_flaw};
-use crate::line_flaw::{certificate_flaw, script_flaw};
-use crate::meanings::meaning;
-use crate::spans::text_spans;
 use crate::usage::push_usage;
+use check_flaws::broken_condition;
+use declaration_flaws::declaration_flaw;
+use program_flaws::missing_certificate;
 use std::alloc::{AllocError, Global};
+use text_flaws::{
+    Flaw, Span, certificate_flaw, meaning, program_flaw, push_excerpt, push_place, script_flaw,
+    text_spans, wire_flaw,
+};
 
 /// A text of an input, as a person calls it.
 #[derive(Clone, Copy, Debug, PartialEq, Eq)]
@@ -24,6 +26,17 @@ impl TextKind {
             TextKind::Certificate => "certificate",
             TextKind::Script => "script",
         }
+    }
+
+    /// Where it stands among the texts of an input: the program is the first one, a certificate follows it, and a script
+    /// is the last one.
+    fn span(self, spans: &[Span]) -> Option<Span> {
+        let span = match self {
+            TextKind::Program => spans.first()?,
+            TextKind::Certificate => spans.get(1)?,
+            TextKind::Script => spans.last()?,
+        };
+        Some(*span)
     }
 }
 
@@ -43,6 +56,7 @@ pub fn explanation(
         _ => {
             if let Some(input) = input {
                 push_where(&mut text, alloc, input, answer)?;
+                push_reason(&mut text, alloc, input, answer)?;
             }
         }
     }
@@ -83,81 +97,90 @@ fn push_where(
     input: &[u8],
     answer: Answer,
 ) -> Result<(), AllocError> {
+    let Some(kind) = text_at_fault(answer) else {
+        return Ok(());
+    };
+    let spans = text_spans(alloc, input)?;
+    let Some(span) = kind.span(spans.as_slice()) else {
+        return Ok(());
+    };
+    let source = source_of(input, span);
+    match flaw_of(alloc, source, answer)? {
+        Some(flaw) => push_flaw(text, input, span.begin, source, kind, &flaw),
+        None => Ok(()),
+    }
+}
+
+/// The text in which the reason of an answer lies.
+fn text_at_fault(answer: Answer) -> Option<TextKind> {
     match answer {
-        Answer::Refused(number) => push_refusal(text, alloc, input, number),
-        Answer::BadLine(line) => push_bad_line(text, alloc, input, line),
-        Answer::Uncertified(Reason::Wire(number)) => push_wire(text, alloc, input, number),
-        _ => Ok(()),
+        Answer::Refused(77) => Some(TextKind::Certificate),
+        Answer::Refused(_) | Answer::Uncertified(Reason::Wire(_)) => Some(TextKind::Program),
+        Answer::BadLine(_) => Some(TextKind::Script),
+        _ => None,
     }
 }
 
-/// Adds where a program or a certificate is at fault.
-fn push_refusal(
-    text: &mut String,
-    alloc: Global,
-    input: &[u8],
-    number: u8,
-) -> Result<(), AllocError> {
-    let spans = text_spans(alloc, input)?;
-    let place = if number == 77 { 1 } else { 0 };
-    let Some(span) = spans.get(place) else {
-        return Ok(());
-    };
-    let source = input.get(span.begin..span.end).unwrap_or(&[]);
-    if number == 77 {
-        match certificate_flaw(alloc, source)? {
-            Some(flaw) => push_flaw(
-                text,
-                input,
-                span.begin,
-                source,
-                TextKind::Certificate,
-                &flaw,
-            ),
-            None => Ok(()),
-        }
-    } else {
-        match program_flaw(alloc, source, number)? {
-            Some(flaw) => push_flaw(text, input, span.begin, source, TextKind::Program, &flaw),
-            None => Ok(()),
-        }
+/// What is wrong with that text.
+fn flaw_of(alloc: Global, source: &[u8], answer: Answer) -> Result<Option<Flaw>, AllocError> {
+    match answer {
+        Answer::Refused(77) => certificate_flaw(alloc, source),
+        Answer::Refused(number @ 10..=18) => declaration_flaw(alloc, source, number),
+        Answer::Refused(number) => program_flaw(alloc, source, number),
+        Answer::Uncertified(Reason::Wire(number)) => wire_flaw(alloc, source, number),
+        Answer::BadLine(line) => script_flaw(alloc, source, line),
+        _ => Ok(None),
     }
 }
 
-/// Adds where a program's wire of this number is, counted from 1.
-fn push_wire(
+/// Adds what a certificate that isn't valid breaks its condition by, or why a program has none.
+fn push_reason(
     text: &mut String,
     alloc: Global,
     input: &[u8],
-    number: usize,
+    answer: Answer,
 ) -> Result<(), AllocError> {
-    let spans = text_spans(alloc, input)?;
-    let Some(span) = spans.get(0) else {
-        return Ok(());
+    let reason = match answer {
+        Answer::No(number) => broken(alloc, input, number)?,
+        Answer::Uncertified(_) => uncertified(alloc, input)?,
+        _ => None,
     };
-    let source = input.get(span.begin..span.end).unwrap_or(&[]);
-    match wire_flaw(alloc, source, number)? {
-        Some(flaw) => push_flaw(text, input, span.begin, source, TextKind::Program, &flaw),
+    match reason {
+        Some(reason) => text.push_str(reason.as_str()),
         None => Ok(()),
     }
 }
 
-/// Adds where a script, which is the last text, is at fault.
-fn push_bad_line(
-    text: &mut String,
-    alloc: Global,
-    input: &[u8],
-    line: usize,
-) -> Result<(), AllocError> {
+/// What breaks the condition of this number.
+fn broken(alloc: Global, input: &[u8], number: u8) -> Result<Option<String>, AllocError> {
     let spans = text_spans(alloc, input)?;
-    let Some(span) = spans.as_slice().last() else {
-        return Ok(());
-    };
-    let source = input.get(span.begin..span.end).unwrap_or(&[]);
-    match script_flaw(alloc, source, line)? {
-        Some(flaw) => push_flaw(text, input, span.begin, source, TextKind::Script, &flaw),
-        None => Ok(()),
+    let spans = spans.as_slice();
+    match (
+        TextKind::Program.span(spans),
+        TextKind::Certificate.span(spans),
+    ) {
+        (Some(program), Some(certificate)) => broken_condition(
+            alloc,
+            source_of(input, program),
+            source_of(input, certificate),
+            number,
+        ),
+        _ => Ok(None),
     }
+}
+
+/// Why no certificate is valid for the program.
+fn uncertified(alloc: Global, input: &[u8]) -> Result<Option<String>, AllocError> {
+    let spans = text_spans(alloc, input)?;
+    match TextKind::Program.span(spans.as_slice()) {
+        Some(program) => missing_certificate(alloc, source_of(input, program)),
+        None => Ok(None),
+    }
+}
+
+/// The bytes of a text of the input.
+fn source_of(input: &[u8], span: Span) -> &[u8] {
+    input.get(span.begin..span.end).unwrap_or(&[])
 }
 
 /// Adds what is wrong with a text that begins at this byte of the input, and where.

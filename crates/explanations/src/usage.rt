@@ -1,7 +1,7 @@
 //! What is wrong with a command line, or with the number of its texts.
 
-use crate::spans::text_spans;
 use std::alloc::{AllocError, Global};
+use text_flaws::text_spans;
 use texts::split_line;
 
 /// The most bytes of an input.

@@ -3,8 +3,9 @@
 #![tactic(auto)]
 
 use doubler::{class, doubled, effects, twice};
-use explanations::{Answer, KeptReader, WatchedWriter, explanation};
+use explanations::{Answer, KeptReader, explanation};
 use native_slots::{NativeSlot, Natives};
+use run_reports::{EXPLAIN, Seen, TracedWriter, fault_report, is_asked, refusal_report};
 use signatures::Value;
 use std::alloc::{AllocError, Global};
 use std::io::ErrorKind;
@@ -64,24 +65,44 @@ fn answer(rt: &HostRuntime, words: &[&str]) -> Result<ExitCode, AllocError> {
     let mut slots = Vec::new(alloc);
     slots.push(NativeSlot::new(class, sig, effects, work))?;
     let mut reader = KeptReader::new(alloc, rt.reader());
-    let mut writer = WatchedWriter::new(alloc, io::writer(rt));
+    let mut writer = TracedWriter::new(alloc, io::writer(rt));
     match command(alloc, words, &mut reader, Natives::of(slots), &mut writer) {
-        Ok(SUCCESS) => Ok(ExitCode::SUCCESS),
         Ok(status) => {
-            explain(rt, words, reader.kept(), writer.last_line());
+            report(rt, words, reader.kept(), writer.seen(), status);
             Ok(ExitCode::from(status))
         }
         Err(_) => Ok(ExitCode::FAILURE),
     }
 }
 
-/// Writes to standard error what the last line of the output means for this input, if it is an answer that is explained.
-/// Where that fails nothing else changes.
-fn explain(rt: &HostRuntime, words: &[&str], input: Option<&[u8]>, line: &[u8]) {
-    let Some(answer) = Answer::of(line) else {
+/// Writes to standard error what a person needs of this end of a command: why events were refused, where that is asked for,
+/// and what another answer than success means. Where that fails nothing else changes.
+fn report(rt: &HostRuntime, words: &[&str], input: Option<&[u8]>, seen: &Seen, status: u8) {
+    if env::var(rt, EXPLAIN).is_ok_and(|value| is_asked(value.as_str())) {
+        tell(rt, refusal_report(rt.alloc(), input, seen));
+    }
+    if status != SUCCESS {
+        explain(rt, words, input, seen);
+    }
+}
+
+/// Writes what the last line of the output means for this input, if it is an answer that is explained.
+fn explain(rt: &HostRuntime, words: &[&str], input: Option<&[u8]>, seen: &Seen) {
+    let Some(answer) = Answer::of(seen.last_line()) else {
         return;
     };
-    if let Ok(text) = explanation(rt.alloc(), words, input, answer) {
+    let alloc = rt.alloc();
+    if let Ok(text) = explanation(alloc, words, input, answer) {
+        eprint!(rt; "{text}").ok();
+    }
+    if let Answer::Fault(number) = answer {
+        tell(rt, fault_report(alloc, input, seen, number));
+    }
+}
+
+/// Writes a report to standard error, if there is one.
+fn tell(rt: &HostRuntime, report: Result<Option<String>, AllocError>) {
+    if let Ok(Some(text)) = report {
         eprint!(rt; "{text}").ok();
     }
 }

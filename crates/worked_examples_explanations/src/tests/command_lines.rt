@@ -1,22 +1,19 @@
 //! Command lines and inputs that are refused, and answers without a place.
 
-use explanations::{Answer, KeptReader, Reason, WatchedWriter, explanation};
-use std::io::{Read, Write};
+use explanations::{Answer, KeptReader, Reason, explanation};
+use std::io::Read;
 use std::process::Abort;
 use std::test::Fail;
 
 const WIRES: &str = "wire A s(int) -> A f() auto;  wire A s() -> A f(int) auto;";
 
 #[test]
-fn streams_pass_on_and_remember(rt: HostRuntime) -> Result<(), Fail> {
+fn a_reader_passes_on_and_remembers(rt: HostRuntime) -> Result<(), Fail> {
     let mut reader = KeptReader::new(rt.alloc(), b"class A".as_slice());
     let mut read = Vec::new(rt.alloc());
     reader.read_to_end(&mut read)?;
     assert_eq!(rt; read.as_slice(), b"class A".as_slice());
     assert_eq!(rt; reader.kept(), Some(b"class A".as_slice()));
-    let mut writer = WatchedWriter::new(rt.alloc(), Vec::new(rt.alloc()));
-    writer.write_all(b"event 1\nfault 60\n")?;
-    assert_eq!(rt; writer.last_line(), b"fault 60".as_slice());
     Ok(())
 }
 

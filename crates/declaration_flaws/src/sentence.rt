@@ -1,0 +1,85 @@
+//! Sentences of words, names and types.
+
+use signatures::{Name, QType, Sig};
+use std::alloc::{AllocError, Global};
+use text_flaws::push_printed;
+use texts::Parameter;
+
+/// A part of a sentence. Names, types and signatures stand between backquotes.
+#[derive(Clone, Copy)]
+pub enum Piece<'a> {
+    /// Words, as they are.
+    Words(&'static str),
+    Name(&'a Name),
+    /// A name that no program has to declare.
+    Known(&'static [u8]),
+    Type(&'a QType),
+    Sig(&'a Sig),
+    /// The signature of a method with this name and these parameters.
+    Method(&'a Name, &'a [Parameter]),
+    /// So many parameters, in words.
+    Parameters(usize),
+}
+
+/// The sentence with these parts.
+pub fn sentence(alloc: Global, pieces: &[Piece]) -> Result<String, AllocError> {
+    let mut text = String::new(alloc);
+    push_pieces(&mut text, alloc, pieces)?;
+    Ok(text)
+}
+
+/// Adds these parts.
+pub fn push_pieces(text: &mut String, alloc: Global, pieces: &[Piece]) -> Result<(), AllocError> {
+    for piece in pieces {
+        push_piece(text, alloc, *piece)?;
+    }
+    Ok(())
+}
+
+fn push_piece(text: &mut String, alloc: Global, piece: Piece) -> Result<(), AllocError> {
+    match piece {
+        Piece::Words(words) => text.push_str(words),
+        Piece::Name(name) => push_quoted(text, name.bytes()),
+        Piece::Known(name) => push_quoted(text, name),
+        Piece::Type(kind) => {
+            let bytes = kind.text(alloc)?;
+            push_quoted(text, bytes.as_slice())
+        }
+        Piece::Sig(sig) => {
+            let bytes = sig.text(alloc)?;
+            push_quoted(text, bytes.as_slice())
+        }
+        Piece::Method(name, parameters) => push_method(text, alloc, name, parameters),
+        Piece::Parameters(1) => text.push_str("1 parameter"),
+        Piece::Parameters(many) => write!(text, "{many} parameters"),
+    }
+}
+
+/// Adds bytes between backquotes.
+fn push_quoted(text: &mut String, bytes: &[u8]) -> Result<(), AllocError> {
+    text.push('`')?;
+    push_printed(text, bytes)?;
+    text.push('`')
+}
+
+/// Adds the signature of a method.
+fn push_method(
+    text: &mut String,
+    alloc: Global,
+    name: &Name,
+    parameters: &[Parameter],
+) -> Result<(), AllocError> {
+    text.push('`')?;
+    push_printed(text, name.bytes())?;
+    text.push('(')?;
+    let mut is_first = true;
+    for parameter in parameters {
+        if !is_first {
+            text.push(',')?;
+        }
+        let kind = parameter.kind.text(alloc)?;
+        push_printed(text, kind.as_slice())?;
+        is_first = false;
+    }
+    text.push_str(")`")
+}

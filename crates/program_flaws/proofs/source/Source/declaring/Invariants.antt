@@ -1,0 +1,4 @@
+use Rattle.program_flaws.proofs.source.Source.declaring.Given as goal
+
+abbrev pub decreases-loop-declaring : goal.decreases-loop-declaring
+decreases-loop-declaring l = l.declaring

@@ -1,0 +1,102 @@
+//! An edge, in words.
+
+use crate::cause::{Cause, cause_of};
+use crate::names::{class_text, node_text, text_of};
+use crate::source::Source;
+use crate::statement::Body;
+use crate::wire::wire_text;
+use effect_scan::{Member, Node};
+use meta_objects::Statement;
+use std::alloc::AllocError;
+
+/// Adds a line that says what draws the edge from one node to the other.
+pub fn push_edge(
+    text: &mut String,
+    source: Source<'_>,
+    from: Node,
+    to: Node,
+) -> Result<(), AllocError> {
+    let first = node_text(source.alloc, source.meta, from)?;
+    let second = node_text(source.alloc, source.meta, to)?;
+    write!(text, "  `{first}` leads to `{second}`: ")?;
+    match cause_of(source.meta, from, to) {
+        Some(cause) => push_cause(text, source, cause, from, to)?,
+        None => {}
+    }
+    text.push_str("\n")
+}
+
+/// Adds what draws an edge.
+fn push_cause(
+    text: &mut String,
+    source: Source<'_>,
+    cause: Cause<'_>,
+    from: Node,
+    to: Node,
+) -> Result<(), AllocError> {
+    match cause {
+        Cause::Statement(statement) => push_statement(text, source, statement, from),
+        Cause::Native => text.push_str("the native is declared to do so"),
+        Cause::Wire(place) => {
+            let wire = wire_text(source, place)?;
+            write!(text, "`{wire}`")
+        }
+        Cause::Notify => text.push_str("its `notify` signal"),
+        Cause::Binding(place) => push_binding(text, source, place),
+        Cause::Deletion => push_deletion(text, source, from, to),
+    }
+}
+
+/// Adds a statement of the body of the slot that the node is.
+fn push_statement(
+    text: &mut String,
+    source: Source<'_>,
+    statement: &Statement,
+    from: Node,
+) -> Result<(), AllocError> {
+    let Member::Method(method) = from.member else {
+        return Ok(());
+    };
+    let Some(found) = source.meta.method_at(from.class, method) else {
+        return Ok(());
+    };
+    let slot = match source.slot_place(from.class, method) {
+        Some(place) => source.slot(place),
+        None => None,
+    };
+    let body = Body {
+        source,
+        class: source.declaring(from.class, method),
+        kinds: found.kinds.as_slice(),
+        slot,
+    };
+    let statement = body.statement_text(statement)?;
+    write!(text, "its body has `{statement}`")
+}
+
+/// Adds the binding at this place.
+fn push_binding(text: &mut String, source: Source<'_>, place: usize) -> Result<(), AllocError> {
+    if let Some(site) = source.meta.site_at(place) {
+        let name = text_of(source.alloc, site.name.bytes())?;
+        write!(text, "the binding `{name}` reads it")?;
+    }
+    Ok(())
+}
+
+/// Adds that objects of one class may be deleted with one of the other.
+fn push_deletion(
+    text: &mut String,
+    source: Source<'_>,
+    from: Node,
+    to: Node,
+) -> Result<(), AllocError> {
+    if from.class == to.class {
+        return text.push_str("each deletion emits it");
+    }
+    let parent = class_text(source.alloc, source.meta, from.class)?;
+    let child = class_text(source.alloc, source.meta, to.class)?;
+    write!(
+        text,
+        "by `owns`, objects of `{child}` are deleted with their parent of `{parent}`"
+    )
+}

@@ -1,0 +1,20 @@
+//! What is wrong with a program for which no certificate is valid, for a person: the wire, the member or the binding by
+//! name; what leads from one member to the next; and what to write instead.
+#![tactic(auto)]
+
+mod cause;
+mod edge;
+mod fronts;
+mod ill_typed;
+mod names;
+mod reasons;
+mod source;
+mod statement;
+mod wire;
+
+pub use edge::push_edge;
+pub use ill_typed::untyped_text;
+pub use names::{class_text, node_text, sig_text, text_of};
+pub use reasons::missing_certificate;
+pub use source::{Source, declarations_of, meta_of};
+pub use wire::unfit_text;

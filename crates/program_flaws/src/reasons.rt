@@ -1,0 +1,134 @@
+//! Why a program has no certificate, from its text.
+
+use crate::cause::{Cause, cause_of};
+use crate::edge::push_edge;
+use crate::ill_typed::untyped_text;
+use crate::names::class_text;
+use crate::source::{Source, declarations_of, meta_of};
+use crate::wire::unfit_text;
+use effect_scan::Node;
+use rank_make::{Why, make};
+use std::alloc::{AllocError, Global};
+use texts::Program;
+
+/// So many edges of a chain are told.
+const MOST_EDGES: usize = 12;
+
+/// What the reason is about for which `certify` found no certificate of this program: the wire, the member or the
+/// binding; or for a chain of members what leads from each to the next one; and how to break it. The text has whole lines.
+/// `None` where the program doesn't load, or has a certificate.
+pub fn missing_certificate(alloc: Global, program: &[u8]) -> Result<Option<String>, AllocError> {
+    match declarations_of(alloc, program)? {
+        Some(tree) => missing_in(alloc, program, &tree),
+        None => Ok(None),
+    }
+}
+
+/// What the reason is about, for the declarations of a program.
+fn missing_in(alloc: Global, text: &[u8], program: &Program) -> Result<Option<String>, AllocError> {
+    match meta_of(alloc, program)? {
+        Some(meta) => reason_text(Source {
+            alloc,
+            text,
+            program,
+            meta: &meta,
+        }),
+        None => Ok(None),
+    }
+}
+
+/// What the first reason is about, for which no certificate is valid; `None` where the program has one.
+pub fn reason_text(source: Source<'_>) -> Result<Option<String>, AllocError> {
+    match make(source.alloc, source.meta) {
+        Ok(_) => Ok(None),
+        Err(why) => Ok(Some(why_text(source, &why)?)),
+    }
+}
+
+/// What this reason is about.
+fn why_text(source: Source<'_>, why: &Why) -> Result<String, AllocError> {
+    match why {
+        Why::Wire(place) => unfit_text(source, *place),
+        Why::BodyType(spot) => untyped_text(source, *spot),
+        Why::Cycle(nodes) => cycle_text(source, nodes.as_slice()),
+        Why::DestroyPath(nodes) => destroy_text(source, nodes.as_slice()),
+        Why::TooHigh(nodes) => high_text(source, nodes.as_slice()),
+        Why::Memory => Err(AllocError),
+    }
+}
+
+/// What leads from each member of a cycle to the next one, and how to break it.
+fn cycle_text(source: Source<'_>, nodes: &[Node]) -> Result<String, AllocError> {
+    let mut text = String::new(source.alloc);
+    push_chain(&mut text, source, nodes)?;
+    text.push_str(breaking(source, nodes))?;
+    Ok(text)
+}
+
+/// What leads from each member of a path to the next one, and why it ends with the object's own deletion.
+fn destroy_text(source: Source<'_>, nodes: &[Node]) -> Result<String, AllocError> {
+    let mut text = String::new(source.alloc);
+    push_chain(&mut text, source, nodes)?;
+    if let (Some(first), Some(last)) = (nodes.first(), nodes.last()) {
+        if first.class != last.class {
+            let parent = class_text(source.alloc, source.meta, last.class)?;
+            let child = class_text(source.alloc, source.meta, first.class)?;
+            writeln!(
+                text,
+                "  by `owns`, objects of `{child}` may be deleted with one of `{parent}`"
+            )?;
+        }
+    }
+    text.push_str(
+        "help: write `later` in the place of `delete`, or make a wire on the way `queued`: then the deletion waits until the slot has returned\n",
+    )?;
+    Ok(text)
+}
+
+/// What leads from each member of a long chain to the next one, and how to break it.
+fn high_text(source: Source<'_>, nodes: &[Node]) -> Result<String, AllocError> {
+    let mut text = String::new(source.alloc);
+    push_chain(&mut text, source, nodes)?;
+    text.push_str(
+        "help: at most 256 calls may nest: make a wire on the way `queued`, or let a slot emit a signal that a `queued` wire takes on\n",
+    )?;
+    Ok(text)
+}
+
+/// Adds what leads from each node to the next one, for the first of them.
+fn push_chain(text: &mut String, source: Source<'_>, nodes: &[Node]) -> Result<(), AllocError> {
+    let mut before: Option<Node> = None;
+    for (place, node) in nodes.iter().enumerate() {
+        if place > MOST_EDGES {
+            return text.push_str("  and so on\n");
+        }
+        if let Some(from) = before {
+            push_edge(text, source, from, *node)?;
+        }
+        before = Some(*node);
+    }
+    Ok(())
+}
+
+/// How to break a cycle of these nodes, by what leads from one to the next.
+fn breaking(source: Source<'_>, nodes: &[Node]) -> &'static str {
+    let mut is_bound = false;
+    let mut before: Option<Node> = None;
+    for node in nodes {
+        if let Some(from) = before {
+            match cause_of(source.meta, from, *node) {
+                Some(Cause::Wire(_)) => {
+                    return "help: make one of these wires `queued`: then its slot runs later, when the event loop turns, and the chain ends there\n";
+                }
+                Some(Cause::Binding(_)) => is_bound = true,
+                _ => {}
+            }
+        }
+        before = Some(*node);
+    }
+    if is_bound {
+        "help: a binding may not come to read what it is for: leave one of these properties out of an expression\n"
+    } else {
+        "help: in the place of one of these statements, emit a signal that a `queued` wire takes to the next slot\n"
+    }
+}

@@ -1,0 +1,138 @@
+//! How a statement is written, with `..` in the place of its expressions.
+
+use crate::names::{method_text, property_text, text_of};
+use crate::source::Source;
+use meta_model::{MetaPath, MetaRoot, Statement, ValueType};
+use std::alloc::AllocError;
+use texts::Slot;
+
+/// Where a statement stands.
+#[derive(Clone, Copy)]
+pub struct Body<'s> {
+    /// The program.
+    pub source: Source<'s>,
+    /// The class that declares the slot.
+    pub class: usize,
+    /// The types of the slot's parameters.
+    pub kinds: &'s [ValueType],
+    /// The slot's declaration, which has the names of its parameters.
+    pub slot: Option<&'s Slot>,
+}
+
+/// A path as it is written, and the class that it is declared to lead to.
+#[derive(Drop)]
+struct Spelled {
+    text: String,
+    class: Option<usize>,
+}
+
+impl<'s> Body<'s> {
+    /// The statement as it is written, with `..` in the place of its expressions and blocks.
+    pub fn statement_text(&self, statement: &Statement) -> Result<String, AllocError> {
+        let alloc = self.source.alloc;
+        match statement {
+            Statement::Set(path, property, _) => self.set_text(path, *property),
+            Statement::Emit(signal, given) => {
+                let name = method_text(alloc, self.source.meta, Some(self.class), *signal)?;
+                let inner = inner_text(given.is_empty());
+                format!(in alloc; "emit {name}{inner};")
+            }
+            Statement::Call(path, method, given) => {
+                self.call_text(path, *method, given.is_empty())
+            }
+            Statement::If(_, _, _) => String::from_str(alloc, "if (..) { .. }"),
+            Statement::Connect(_, _) => String::from_str(alloc, "connect ..;"),
+            Statement::Disconnect(_) => String::from_str(alloc, "disconnect ..;"),
+            Statement::Delete(path) => {
+                let path = self.path_text(path)?.text;
+                format!(in alloc; "delete {path};")
+            }
+            Statement::Later(path) => {
+                let path = self.path_text(path)?.text;
+                format!(in alloc; "later {path};")
+            }
+        }
+    }
+
+    /// `set path.p = ..;`
+    fn set_text(&self, path: &MetaPath, property: usize) -> Result<String, AllocError> {
+        let alloc = self.source.alloc;
+        let path = self.path_text(path)?;
+        let name = property_text(alloc, self.source.meta, path.class, property)?;
+        let object = path.text;
+        format!(in alloc; "set {object}.{name} = ..;")
+    }
+
+    /// `call path.m(..);`
+    fn call_text(
+        &self,
+        path: &MetaPath,
+        method: usize,
+        is_empty: bool,
+    ) -> Result<String, AllocError> {
+        let alloc = self.source.alloc;
+        let path = self.path_text(path)?;
+        let name = method_text(alloc, self.source.meta, path.class, method)?;
+        let object = path.text;
+        let inner = inner_text(is_empty);
+        format!(in alloc; "call {object}.{name}{inner};")
+    }
+
+    /// The path as it is written.
+    fn path_text(&self, path: &MetaPath) -> Result<Spelled, AllocError> {
+        let alloc = self.source.alloc;
+        let mut spelled = self.root_text(path.root)?;
+        for step in path.steps.as_slice() {
+            let name = property_text(alloc, self.source.meta, spelled.class, step.property)?;
+            write!(spelled.text, ".{name}")?;
+            spelled.class = class_of(step.kind);
+        }
+        Ok(spelled)
+    }
+
+    /// `this`, or the parameter's name.
+    fn root_text(&self, root: MetaRoot) -> Result<Spelled, AllocError> {
+        match root {
+            MetaRoot::This => {
+                let text = String::from_str(self.source.alloc, "this")?;
+                Ok(Spelled {
+                    text,
+                    class: Some(self.class),
+                })
+            }
+            MetaRoot::Parameter(parameter) => {
+                let text = self.parameter_text(parameter)?;
+                let class = match self.kinds.get(parameter) {
+                    Some(kind) => class_of(*kind),
+                    None => None,
+                };
+                Ok(Spelled { text, class })
+            }
+        }
+    }
+
+    /// The name of the parameter at this place.
+    fn parameter_text(&self, parameter: usize) -> Result<String, AllocError> {
+        if let Some(slot) = self.slot {
+            if let Some(found) = slot.parameters.get(parameter) {
+                if let Some(name) = &found.name {
+                    return text_of(self.source.alloc, name.bytes());
+                }
+            }
+        }
+        Ok(String::new(self.source.alloc))
+    }
+}
+
+/// The class that a value of this type refers to.
+fn class_of(kind: ValueType) -> Option<usize> {
+    match kind {
+        ValueType::Reference(class, _) => Some(class),
+        _ => None,
+    }
+}
+
+/// Arguments, if there are any.
+fn inner_text(is_empty: bool) -> &'static str {
+    if is_empty { "()" } else { "(..)" }
+}

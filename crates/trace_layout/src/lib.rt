@@ -1,0 +1,10 @@
+//! Traces laid out for people: indented by depth, told apart by colours, and with a sentence where something was refused
+//! or went wrong. A filter over the lines, of which none is lost.
+#![tactic(auto)]
+
+mod colour;
+mod layout;
+mod show;
+
+pub use layout::push_shown;
+pub use show::show_trace;

@@ -1,0 +1,154 @@
+//! The lines of a trace.
+
+ghost use Rattle.std.specs.Prelude.{◌≡◌, IfSome};
+ghost use Rattle.trace_reading.specs.Lines.{IsTraceLine, BeginsAsKind, kind_word, IsPlain, EndsEvent};
+
+use crate::numeral::{number, short_number};
+use crate::words::cut_word;
+
+/// A line of a trace, or the fault that ends one.
+#[derive(Clone, Copy, Debug, PartialEq, Eq)]
+pub enum TraceLine {
+    /// `event n`
+    Accepted(u64),
+    /// `event n refused k`
+    Refused(u64, u8),
+    /// `d`, and what happens at this depth.
+    At(u64, EntryKind),
+    /// `fault k`
+    Fault(u8),
+}
+
+/// What happens at a depth.
+#[derive(Clone, Copy, Debug, PartialEq, Eq)]
+pub enum EntryKind {
+    /// `emit o.s(args)`
+    Emit,
+    /// `call o.m(args)`
+    Call,
+    /// `native` and its actions.
+    Native,
+    /// `post L o.m(args)` or `post L ~o`
+    Post,
+    /// `dead o`
+    Dead,
+    /// `set o.p v`
+    Set,
+    /// `bind o.p v`
+    Bind,
+    /// `follow o.p v`
+    Follow,
+    /// `connect a S b M kind`
+    Connect,
+    /// `disconnect a S b M`
+    Disconnect,
+    /// `refused k`, of a statement.
+    Refused(u8),
+    /// `null`
+    Null,
+}
+
+impl TraceLine {
+    /// What a line tells, which stands here without its newline; `None` where it is no line of a trace. What follows the
+    /// word of an entry isn't judged.
+    pub fn of(line: &[u8]) -> Option<TraceLine>
+        ensures { IfSome result (IsTraceLine line.now) }
+    {
+        let (first, rest) = cut_word(line);
+        let rest = rest?;
+        match first {
+            b"event" => event_line(rest),
+            b"fault" => {
+                let fault = short_number(rest)?;
+                Some(TraceLine::Fault(fault))
+            }
+            _ => {
+                let depth = number(first)?;
+                let kind = EntryKind::of(rest)?;
+                Some(TraceLine::At(depth, kind))
+            }
+        }
+    }
+}
+
+/// What a line tells that begins with `event`, by what follows that word.
+fn event_line(text: &[u8]) -> Option<TraceLine>
+    ensures { IfSome result (EndsEvent text.now) }
+{
+    let (digits, rest) = cut_word(text);
+    let event = number(digits)?;
+    let Some(rest) = rest else {
+        return Some(TraceLine::Accepted(event));
+    };
+    let reason = refusal(rest)?;
+    Some(TraceLine::Refused(event, reason))
+}
+
+/// The number behind the word `refused`.
+fn refusal(text: &[u8]) -> Option<u8>
+    ensures { IfSome result (λ reason. BeginsAsKind text.now (EntryKind.Refused reason)) }
+{
+    match EntryKind::of(text)? {
+        EntryKind::Refused(reason) => Some(reason),
+        _ => None,
+    }
+}
+
+impl EntryKind {
+    /// What happens by this text, which begins with the word for it.
+    pub fn of(text: &[u8]) -> Option<EntryKind>
+        ensures { IfSome result (BeginsAsKind text.now) }
+    {
+        let (word, rest) = cut_word(text);
+        let Some(rest) = rest else {
+            return match word {
+                b"null" => Some(EntryKind::Null),
+                b"native" => Some(EntryKind::Native),
+                _ => None,
+            };
+        };
+        if word == b"refused".as_slice() {
+            let reason = short_number(rest)?;
+            return Some(EntryKind::Refused(reason));
+        }
+        of_word(word)
+    }
+
+    /// Whether an activation begins with it, which is the innermost one then.
+    pub fn begins(self) -> bool {
+        match self {
+            EntryKind::Emit
+            | EntryKind::Call
+            | EntryKind::Dead
+            | EntryKind::Set
+            | EntryKind::Bind => true,
+            EntryKind::Native
+            | EntryKind::Post
+            | EntryKind::Follow
+            | EntryKind::Connect
+            | EntryKind::Disconnect
+            | EntryKind::Refused(_)
+            | EntryKind::Null => false,
+        }
+    }
+}
+
+/// What happens by this word, which something follows.
+fn of_word(word: &[u8]) -> Option<EntryKind>
+    ensures word { IfSome result (λ kind. word.now ≡ kind_word kind) }
+    ensures plain { IfSome result IsPlain }
+{
+    match word {
+        b"emit" => Some(EntryKind::Emit),
+        b"call" => Some(EntryKind::Call),
+        b"native" => Some(EntryKind::Native),
+        b"post" => Some(EntryKind::Post),
+        b"dead" => Some(EntryKind::Dead),
+        b"set" => Some(EntryKind::Set),
+        b"bind" => Some(EntryKind::Bind),
+        b"follow" => Some(EntryKind::Follow),
+        b"connect" => Some(EntryKind::Connect),
+        b"disconnect" => Some(EntryKind::Disconnect),
+        _ => None,
+    }
+}
