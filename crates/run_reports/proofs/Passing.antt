@@ -1,5 +1,5 @@
 -- The lines of a script, one after another, with their events counted.
-use Rattle.std.proofs.Common.{◌≡◌, ◌≢◌, ◌∙◌, ap, sym, refl, subst, Bool, true, false, not, ℕ, zero, suc, ◌+◌, ◌<◌, List, [], ◌∷◌, ◌++◌, ◌⊎◌, inl, inr, length, arith}
+use Rattle.std.proofs.Common.{◌≡◌, ◌≢◌, ap, refl, subst, Bool, true, false, not, ℕ, ◌+◌, ◌<◌, List, [], ◌∷◌, ◌++◌, ◌⊎◌, inl, inr, arith}
 use Rattle.std.specs.Bool.{MatchBool}
 use Rattle.texts.specs.declared.token.Token.{Token}
 use Rattle.texts.specs.Lines.{IsFrontLine, AreFrontLines}
@@ -7,8 +7,7 @@ use Rattle.texts.specs.Pieces.{AreTokens}
 use Rattle.texts.proofs.Cut.{same_tokens}
 use Rattle.texts.proofs.FrontLines.{one_more_line}
 use Rattle.script_lang.specs.Reads.{IsEmptyLine}
-use Rattle.run_reports.specs.EventLines.{HaveEvents, IsEventLine, HasNoSuchEvent, TellsTokens}
-use Rattle.run_reports.specs.declared.events.EventLine.{EventLine}
+use Rattle.run_reports.specs.EventLines.{HaveEvents, TellsTokens}
 
 -- the lines up to what is left have so many events, and the one that is looked for isn't among them
 pub record EventsSoFar (script : List ℕ) (number : ℕ) (left : List ℕ) (event : ℕ) : Type 0 where

@@ -1,5 +1,5 @@
 -- The number that some of the digits write, one more digit after another.
-use Rattle.std.proofs.Common.{◌≡◌, ◌≢◌, ◌∙◌, sym, ℕ, ◌+◌, ◌*◌, ◌-◌, ◌≤◌, ◌<◌, ◌==◌, false, All, List, [], ◌∷◌, length, take, drop, get_or, add-one, drop-cons, arith}
+use Rattle.std.proofs.Common.{◌≡◌, ◌∙◌, sym, ℕ, ◌+◌, ◌*◌, ◌-◌, ◌≤◌, ◌<◌, ◌==◌, false, All, List, [], length, take, drop, get_or, add-one, drop-cons}
 use Rattle.std.proofs.lemmas.List.{take_all, drop_all}
 use Rattle.texts.proofs.FrontLines.{some_text}
 use Rattle.trace_reading.specs.Words.{IsDigit, IsNumeral}
