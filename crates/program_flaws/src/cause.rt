@@ -1,5 +1,11 @@
 //! What draws an edge: a statement, a native's declaration, a wire, a notify signal, a binding, or the deletion of objects.
 
+ghost use Rattle.std.specs.Prelude.{◌≡◌, ◌↔◌, IsTrue, IfSome};
+ghost use Rattle.effect_scan.specs.Nodes.{node, named};
+ghost use Rattle.effect_scan.specs.Edges.{AtOrBelow, ByNotify};
+ghost use Rattle.effect_scan.specs.declared.node.Member.TheVariants.{Property};
+ghost use Rattle.program_flaws.specs.Causes.{WireJoins, WireDraws, IsSource, Reads, SiteBinds, SiteDraws};
+
 use effect_scan::{Effect, Member, Node, Reach, effect_of};
 use meta_model::{DESTROYED, DESTROYED_ALONE};
 use meta_objects::{Meta, MetaSite, MetaWire, SourceProperty, Statement, ValueType, Work};
@@ -117,7 +123,9 @@ fn doing_in<'m>(search: &Search<'_>, statement: &'m Statement) -> Option<&'m Sta
 }
 
 /// The signal of this number: `destroyed()` is `destroyed(QObject*)`.
-fn named(signal: usize) -> usize {
+fn named(signal: usize) -> usize
+    ensures { result ≡ named signal }
+{
     if signal == DESTROYED_ALONE {
         DESTROYED
     } else {
@@ -126,12 +134,16 @@ fn named(signal: usize) -> usize {
 }
 
 /// Whether the node is this member, in the class or one below it.
-fn is_below(meta: &Meta, node: Node, class: usize, member: Member) -> bool {
-    node.member == member && meta.inherits(node.class, class)
+fn is_below(meta: &Meta, place: Node, class: usize, member: Member) -> bool
+    ensures { IsTrue result ↔ AtOrBelow meta.now class member place }
+{
+    place.member == member && meta.inherits(place.class, class)
 }
 
 /// The place of the first wire that isn't queued and leads from the one node to the other.
-fn wire_between(meta: &Meta, from: Node, to: Node) -> Option<usize> {
+fn wire_between(meta: &Meta, from: Node, to: Node) -> Option<usize>
+    ensures { IfSome result (WireDraws meta.now from to) }
+{
     for (place, wire) in meta.wires().iter().enumerate() {
         if joins(meta, wire, from, to) {
             return Some(place);
@@ -141,14 +153,18 @@ fn wire_between(meta: &Meta, from: Node, to: Node) -> Option<usize> {
 }
 
 /// Whether the wire leads from the one node to the other at once.
-fn joins(meta: &Meta, wire: &MetaWire, from: Node, to: Node) -> bool {
+fn joins(meta: &Meta, wire: &MetaWire, from: Node, to: Node) -> bool
+    ensures { IsTrue result → WireJoins meta.now from to wire.now }
+{
     wire.kind != Kind::Queued
         && is_below(meta, from, wire.sender, Member::Method(named(wire.signal)))
         && is_below(meta, to, wire.receiver, Member::Method(wire.method))
 }
 
 /// Whether the node is the notify signal of the property, in the same class.
-fn notifies(meta: &Meta, class: usize, property: usize, to: Node) -> bool {
+fn notifies(meta: &Meta, class: usize, property: usize, to: Node) -> bool
+    ensures { IsTrue result → ByNotify meta.now (node class (Property property)) to }
+{
     let Some(object) = meta.object(class) else {
         return false;
     };
@@ -162,7 +178,9 @@ fn notifies(meta: &Meta, class: usize, property: usize, to: Node) -> bool {
 }
 
 /// The place of the first binding that reads the one node for the other.
-fn site_between(meta: &Meta, from: Node, to: Node) -> Option<usize> {
+fn site_between(meta: &Meta, from: Node, to: Node) -> Option<usize>
+    ensures { IfSome result (SiteDraws meta.now from to) }
+{
     for (place, site) in meta.sites().iter().enumerate() {
         if binds(meta, site, from, to) {
             return Some(place);
@@ -172,7 +190,9 @@ fn site_between(meta: &Meta, from: Node, to: Node) -> Option<usize> {
 }
 
 /// Whether the binding is for the one node and reads the other.
-fn binds(meta: &Meta, site: &MetaSite, from: Node, to: Node) -> bool {
+fn binds(meta: &Meta, site: &MetaSite, from: Node, to: Node) -> bool
+    ensures { IsTrue result → SiteBinds meta.now from to site.now }
+{
     is_below(meta, to, site.class, Member::Property(site.property))
         && reads(
             meta,
@@ -183,19 +203,26 @@ fn binds(meta: &Meta, site: &MetaSite, from: Node, to: Node) -> bool {
 }
 
 /// Whether the expression reads the node, where the formal sources are of these classes.
-fn reads(meta: &Meta, formals: &[usize], expression: &Expr<SourceProperty>, from: Node) -> bool {
+fn reads(meta: &Meta, formals: &[usize], expression: &Expr<SourceProperty>, from: Node) -> bool
+    ensures { IsTrue result → Reads meta.now formals.now from expression.now }
+{
     match expression {
         Expr::Literal(_) => false,
         Expr::Path(source) => is_source(meta, formals, *source, from),
         Expr::Unary(_, operand) => reads(meta, formals, operand.get(), from),
         Expr::Binary(_, left, right) => {
-            reads(meta, formals, left.get(), from) || reads(meta, formals, right.get(), from)
+            if reads(meta, formals, left.get(), from) {
+                return true;
+            }
+            reads(meta, formals, right.get(), from)
         }
     }
 }
 
 /// Whether the node is this property of the source.
-fn is_source(meta: &Meta, formals: &[usize], source: SourceProperty, from: Node) -> bool {
+fn is_source(meta: &Meta, formals: &[usize], source: SourceProperty, from: Node) -> bool
+    ensures { IsTrue result → IsSource meta.now formals.now from source }
+{
     match formals.get(source.source) {
         Some(class) => is_below(meta, from, *class, Member::Property(source.property)),
         None => false,
