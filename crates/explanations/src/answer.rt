@@ -44,20 +44,43 @@ impl Answer {
         if line == b"usage".as_slice() {
             return Some(Answer::Usage);
         }
-        if let Some(left) = line.strip_prefix(b"refused ".as_slice()) {
-            return match left.strip_prefix(b"16 line ".as_slice()) {
-                Some(digits) => Some(Answer::BadLine(number_of(digits)?)),
-                None => Some(Answer::Refused(short(left)?)),
-            };
+        if let Some(answer) = refusal_of(line) {
+            return Some(answer);
         }
-        if let Some(digits) = line.strip_prefix(b"fault ".as_slice()) {
-            return Some(Answer::Fault(short(digits)?));
+        if let Some(answer) = fault_of(line) {
+            return Some(answer);
         }
-        let left = line.strip_prefix(b"no ".as_slice())?;
-        match short(left) {
-            Some(number) => Some(Answer::No(number)),
-            None => Some(Answer::Uncertified(Reason::of(left)?)),
-        }
+        reason_of(line)
+    }
+}
+
+/// The refusal that a line is.
+fn refusal_of(line: &[u8]) -> Option<Answer>
+    ensures { IfSome result (BeginsAs line.now) }
+{
+    let left = line.strip_prefix(b"refused ".as_slice())?;
+    match left.strip_prefix(b"16 line ".as_slice()) {
+        Some(digits) => Some(Answer::BadLine(number_of(digits)?)),
+        None => Some(Answer::Refused(short(left)?)),
+    }
+}
+
+/// The fault that a line is.
+fn fault_of(line: &[u8]) -> Option<Answer>
+    ensures { IfSome result (BeginsAs line.now) }
+{
+    let digits = line.strip_prefix(b"fault ".as_slice())?;
+    Some(Answer::Fault(short(digits)?))
+}
+
+/// The checker's answer that a line is.
+fn reason_of(line: &[u8]) -> Option<Answer>
+    ensures { IfSome result (BeginsAs line.now) }
+{
+    let left = line.strip_prefix(b"no ".as_slice())?;
+    match short(left) {
+        Some(number) => Some(Answer::No(number)),
+        None => Some(Answer::Uncertified(Reason::of(left)?)),
     }
 }
 
