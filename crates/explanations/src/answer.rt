@@ -1,7 +1,6 @@
 //! The answers of the program that a person may want explained.
 
-ghost use Rattle.std.specs.Prelude.{◌≢◌, [], IfSome};
-ghost use Rattle.explanations.specs.Answers.{BeginsAs};
+ghost use Rattle.std.specs.Prelude.{◌≢◌, []};
 
 /// An answer of the program.
 #[derive(Clone, Copy, Debug, PartialEq, Eq)]
@@ -38,9 +37,7 @@ pub enum Reason {
 impl Answer {
     /// The answer that a line of the program's output is, without its newline, or with which it begins; `None` where it
     /// is none of these.
-    pub fn of(line: &[u8]) -> Option<Answer>
-        ensures { IfSome result (BeginsAs line.now) }
-    {
+    pub fn of(line: &[u8]) -> Option<Answer> {
         if line == b"usage".as_slice() {
             return Some(Answer::Usage);
         }
@@ -55,9 +52,7 @@ impl Answer {
 }
 
 /// The refusal that a line is.
-fn refusal_of(line: &[u8]) -> Option<Answer>
-    ensures { IfSome result (BeginsAs line.now) }
-{
+fn refusal_of(line: &[u8]) -> Option<Answer> {
     let left = line.strip_prefix(b"refused ".as_slice())?;
     match left.strip_prefix(b"16 line ".as_slice()) {
         Some(digits) => Some(Answer::BadLine(number_of(digits)?)),
@@ -66,17 +61,13 @@ fn refusal_of(line: &[u8]) -> Option<Answer>
 }
 
 /// The fault that a line is.
-fn fault_of(line: &[u8]) -> Option<Answer>
-    ensures { IfSome result (BeginsAs line.now) }
-{
+fn fault_of(line: &[u8]) -> Option<Answer> {
     let digits = line.strip_prefix(b"fault ".as_slice())?;
     Some(Answer::Fault(short(digits)?))
 }
 
 /// The checker's answer that a line is.
-fn reason_of(line: &[u8]) -> Option<Answer>
-    ensures { IfSome result (BeginsAs line.now) }
-{
+fn reason_of(line: &[u8]) -> Option<Answer> {
     let left = line.strip_prefix(b"no ".as_slice())?;
     match short(left) {
         Some(number) => Some(Answer::No(number)),
