@@ -5,7 +5,7 @@ mod classes;
 mod classes_twice;
 mod command_lines;
 mod declarations;
-mod expressions;
+mod faulty_expressions;
 mod members_missing;
 mod methods_twice;
 mod names_in_bodies;
