@@ -4,6 +4,7 @@ ghost use Rattle.std.specs.Prelude.{◌≤◌, length, IfOk, IfSome};
 
 use crate::advice::advice;
 use crate::bad_byte::bad_byte_advice;
+use crate::counts::too_many;
 use crate::declarations::PROGRAM;
 use crate::limits::{eighth_comma, plain_reference, too_deep};
 use crate::meanings::meaning;
@@ -29,7 +30,7 @@ pub struct Flaw {
 
 /// What is wrong with a program that is refused for the reason of this number, where that has a place in its text: a
 /// byte that begins no token (4), the first token that can't stand where it does (5), one that nests too deep (6), a
-/// reference that isn't const (2), or a ninth parameter (3).
+/// reference that isn't const (2), a ninth parameter (3), or a declaration with which there are too many (7).
 pub fn program_flaw(alloc: Global, text: &[u8], number: u8) -> Result<Option<Flaw>, AllocError>
     ensures { IfOk result (λ flaw. IfSome flaw (λ f. f.at ≤ length text.now)) }
 {
@@ -44,6 +45,7 @@ pub fn program_flaw(alloc: Global, text: &[u8], number: u8) -> Result<Option<Fla
         3 => eighth_comma(tokens),
         6 => too_deep(tokens),
         5 => return grammar_flaw(alloc, text, tokens, &[PROGRAM]),
+        7 => return count_flaw(alloc, text, tokens),
         _ => None,
     };
     match at {
@@ -125,6 +127,21 @@ pub fn bad_byte(alloc: Global, text: &[u8], at: usize) -> Result<Flaw, AllocErro
         sentence,
         advice: bad_byte_advice(left),
     })
+}
+
+/// A declaration with which there are too many.
+fn count_flaw(alloc: Global, text: &[u8], tokens: &[Mark]) -> Result<Option<Flaw>, AllocError>
+    ensures { IfOk result (λ flaw. IfSome flaw (λ f. f.at ≤ length text.now)) }
+{
+    let Some((at, counted)) = too_many(tokens) else {
+        return Ok(None);
+    };
+    let sentence = String::from_str(alloc, counted.sentence())?;
+    Ok(Some(Flaw {
+        at: place_of(text, tokens, at),
+        sentence,
+        advice: None,
+    }))
 }
 
 /// What is wrong with tokens that are to be these parts.

@@ -3,6 +3,7 @@
 
 mod advice;
 mod bad_byte;
+mod counts;
 mod declarations;
 mod excerpt;
 mod expressions;

@@ -11,6 +11,7 @@ mod methods_twice;
 mod names_in_bodies;
 mod natives_and_ends;
 mod script_lines;
+mod too_many;
 mod types_missing;
 
 use explanations::{Answer, explanation};
