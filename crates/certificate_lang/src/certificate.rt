@@ -15,7 +15,6 @@ pub enum MemberName {
 }
 
 /// A node, as a certificate names it: `C.m(T, ..)`, `C.p` or `~C`.
-#[derive(Drop)]
 pub struct NodeName {
     /// The class.
     pub class: Name,
@@ -23,8 +22,16 @@ pub struct NodeName {
     pub member: MemberName,
 }
 
+impl Drop for NodeName {
+    fn drop(self) {
+        let NodeName {
+            class: _,
+            member: _,
+        } = self;
+    }
+}
+
 /// What a certificate says of a node: `NODE RANK {CLASS}`.
-#[derive(Drop)]
 pub struct Line {
     /// The node.
     pub node: NodeName,
@@ -35,12 +42,27 @@ pub struct Line {
     pub destroys: Items<Name>,
 }
 
+impl Drop for Line {
+    fn drop(self) {
+        let Line {
+            node: _,
+            rank: _,
+            destroys: _,
+        } = self;
+    }
+}
+
 /// A certificate: a bound on how deep activations nest, and a rank and a destroy set for each node. Whether it is valid
 /// for a program is told by `check`.
-#[derive(Drop)]
 pub struct Certificate {
     /// The bound, which is above each rank.
     pub bound: u32,
     /// The lines of the nodes, in any order.
     pub lines: Items<Line>,
+}
+
+impl Drop for Certificate {
+    fn drop(self) {
+        let Certificate { bound: _, lines: _ } = self;
+    }
 }

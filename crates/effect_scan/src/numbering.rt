@@ -51,11 +51,20 @@ impl Shape {
 }
 
 /// The nodes of a program, with their numbers.
-#[derive(Drop)]
 pub struct Numbering {
     nodes: Items<Node>,
     shapes: Items<Shape>,
     starts: Items<usize>,
+}
+
+impl Drop for Numbering {
+    fn drop(self) {
+        let Numbering {
+            nodes: _,
+            shapes: _,
+            starts: _,
+        } = self;
+    }
 }
 
 impl Model for Numbering {

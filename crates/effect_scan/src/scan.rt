@@ -20,11 +20,20 @@ use std::alloc::{AllocError, Global};
 use std::marker::Model;
 
 /// The nodes of a program, the edges between them, and for each class those whose objects are destroyed with one of it.
-#[derive(Drop)]
 pub struct Scan {
     numbering: Numbering,
     rows: Items<Items<usize>>,
     closures: Items<Items<usize>>,
+}
+
+impl Drop for Scan {
+    fn drop(self) {
+        let Scan {
+            numbering: _,
+            rows: _,
+            closures: _,
+        } = self;
+    }
 }
 
 impl Model for Scan {

@@ -21,12 +21,22 @@ use std::marker::Model;
 ///
 /// What an object's removal leaves out of the loops stays in their rings until it comes to the front: so a removal costs no
 /// search among the items that wait.
-#[derive(Drop)]
 pub struct Loops {
     alloc: Global,
     queues: IndexMap<Name, VecDeque<Posted>>,
     marks: Marks,
     posted: u64,
+}
+
+impl Drop for Loops {
+    fn drop(self) {
+        let Loops {
+            alloc: _,
+            queues: _,
+            marks: _,
+            posted: _,
+        } = self;
+    }
 }
 
 impl Model for Loops {

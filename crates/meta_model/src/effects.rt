@@ -7,7 +7,6 @@ use std::alloc::{AllocError, Global};
 
 /// What a native may read and do: the numbers of members of the class that declares it, in the order declared, which are
 /// the same members in every class below that. No number stands twice in one of the lists.
-#[derive(Drop)]
 pub struct MetaEffects {
     /// The properties whose values it is given.
     pub reads: Items<usize>,
@@ -15,6 +14,16 @@ pub struct MetaEffects {
     pub emits: Items<usize>,
     /// The properties that it may set.
     pub sets: Items<usize>,
+}
+
+impl Drop for MetaEffects {
+    fn drop(self) {
+        let MetaEffects {
+            reads: _,
+            emits: _,
+            sets: _,
+        } = self;
+    }
 }
 
 impl MetaEffects {

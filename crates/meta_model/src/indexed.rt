@@ -19,11 +19,20 @@ use texts::Property;
 
 /// A class with its whole lists of members, each of which stands once. They are found by name, methods also by their
 /// number of parameters, in time that doesn't grow with their number.
-#[derive(Drop)]
 pub struct IndexedOutline {
     outline: Outline,
     methods: Items<NameIndex>,
     properties: Items<NameIndex>,
+}
+
+impl Drop for IndexedOutline {
+    fn drop(self) {
+        let IndexedOutline {
+            outline: _,
+            methods: _,
+            properties: _,
+        } = self;
+    }
 }
 
 impl Model for IndexedOutline {

@@ -7,9 +7,14 @@ use std::alloc::{AllocError, Global};
 use std::marker::Model;
 
 /// Names, each with the first place that it was given. A name is found in time that doesn't grow with their number.
-#[derive(Drop)]
 pub struct NameIndex {
     places: IndexMap<Name, usize>,
+}
+
+impl Drop for NameIndex {
+    fn drop(self) {
+        let NameIndex { places: _ } = self;
+    }
 }
 
 impl Model for NameIndex {

@@ -58,14 +58,18 @@ pub struct Step {
 }
 
 /// A path whose names are resolved.
-#[derive(Drop)]
 pub struct MetaPath {
     pub root: MetaRoot,
     pub steps: Items<Step>,
 }
 
+impl Drop for MetaPath {
+    fn drop(self) {
+        let MetaPath { root: _, steps: _ } = self;
+    }
+}
+
 /// The two ends of a connection, their names resolved; `destroyed()` has the number 1 here.
-#[derive(Drop)]
 pub struct MetaEndpoints {
     /// The sender's path.
     pub sender: MetaPath,
@@ -76,6 +80,17 @@ pub struct MetaEndpoints {
     /// The slot, native or signal, in the class that the receiver's path is declared to lead to and in every class below
     /// that.
     pub method: usize,
+}
+
+impl Drop for MetaEndpoints {
+    fn drop(self) {
+        let MetaEndpoints {
+            sender: _,
+            signal: _,
+            receiver: _,
+            method: _,
+        } = self;
+    }
 }
 
 /// A statement whose names are resolved.
@@ -111,7 +126,6 @@ pub enum Work {
 }
 
 /// A method of a class.
-#[derive(Drop)]
 pub struct MetaMethod {
     /// Its name and its parameters' types, as declared.
     pub sig: Sig,
@@ -121,8 +135,17 @@ pub struct MetaMethod {
     pub work: Work,
 }
 
+impl Drop for MetaMethod {
+    fn drop(self) {
+        let MetaMethod {
+            sig: _,
+            kinds: _,
+            work: _,
+        } = self;
+    }
+}
+
 /// A property of a class.
-#[derive(Drop)]
 pub struct MetaProperty {
     /// Its name.
     pub name: Name,
@@ -136,9 +159,20 @@ pub struct MetaProperty {
     pub notify: Option<usize>,
 }
 
+impl Drop for MetaProperty {
+    fn drop(self) {
+        let MetaProperty {
+            name: _,
+            declared: _,
+            kind: _,
+            initial: _,
+            notify: _,
+        } = self;
+    }
+}
+
 /// A class. A method's or a property's number is its place here, from 0: the base's members come first, then the
 /// class's own, signals before slots and natives, each as declared.
-#[derive(Drop)]
 pub struct MetaObject {
     /// The class's name.
     pub name: Name,
@@ -150,8 +184,18 @@ pub struct MetaObject {
     pub properties: Items<MetaProperty>,
 }
 
+impl Drop for MetaObject {
+    fn drop(self) {
+        let MetaObject {
+            name: _,
+            base: _,
+            methods: _,
+            properties: _,
+        } = self;
+    }
+}
+
 /// A wire, by the numbers of its classes and of their methods; `destroyed()` has the number 1 here.
-#[derive(Drop)]
 pub struct MetaWire {
     /// The class of the sender.
     pub sender: usize,
@@ -163,6 +207,18 @@ pub struct MetaWire {
     pub method: usize,
     /// How the connection reaches its receiver.
     pub kind: Kind,
+}
+
+impl Drop for MetaWire {
+    fn drop(self) {
+        let MetaWire {
+            sender: _,
+            signal: _,
+            receiver: _,
+            method: _,
+            kind: _,
+        } = self;
+    }
 }
 
 /// A declaration of which class's objects may be parents of which class's, by the numbers of the two.

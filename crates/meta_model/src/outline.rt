@@ -18,12 +18,17 @@ pub enum Sort {
 }
 
 /// A method before its types and its work are resolved.
-#[derive(Drop)]
 pub struct Heading {
     /// Its name and its parameters' types, as declared.
     pub sig: Sig,
     /// Where its work stands.
     pub sort: Sort,
+}
+
+impl Drop for Heading {
+    fn drop(self) {
+        let Heading { sig: _, sort: _ } = self;
+    }
 }
 
 impl Heading {
@@ -37,7 +42,6 @@ impl Heading {
 
 /// A class with its whole lists of members, the inherited ones first, before their types are resolved. Its number is
 /// its place among the outlines.
-#[derive(Drop)]
 pub struct Outline {
     /// The class's name.
     pub name: Name,
@@ -47,4 +51,15 @@ pub struct Outline {
     pub methods: Items<Heading>,
     /// The base's properties, then its own.
     pub properties: Items<Property>,
+}
+
+impl Drop for Outline {
+    fn drop(self) {
+        let Outline {
+            name: _,
+            base: _,
+            methods: _,
+            properties: _,
+        } = self;
+    }
 }

@@ -19,9 +19,14 @@ pub struct SourceProperty {
 }
 
 /// The expression of a binding site, which the site's bindings share.
-#[derive(Drop)]
 pub struct Formula {
     expression: Rc<Expr<SourceProperty>>,
+}
+
+impl Drop for Formula {
+    fn drop(self) {
+        let Formula { expression: _ } = self;
+    }
 }
 
 impl Model for Formula {
@@ -63,7 +68,6 @@ impl Formula {
 }
 
 /// A binding site, by the numbers of its classes and of the properties.
-#[derive(Drop)]
 pub struct MetaSite {
     /// What the site is called.
     pub name: Name,
@@ -75,4 +79,16 @@ pub struct MetaSite {
     pub formals: Items<usize>,
     /// What the property is bound to.
     pub formula: Formula,
+}
+
+impl Drop for MetaSite {
+    fn drop(self) {
+        let MetaSite {
+            name: _,
+            class: _,
+            property: _,
+            formals: _,
+            formula: _,
+        } = self;
+    }
 }

@@ -7,9 +7,14 @@ use std::marker::Model;
 use std::rc::Rc;
 
 /// The statements of a slot, which the classes that inherit it share.
-#[derive(Drop)]
 pub struct SlotBody {
     statements: Rc<Items<Statement>>,
+}
+
+impl Drop for SlotBody {
+    fn drop(self) {
+        let SlotBody { statements: _ } = self;
+    }
 }
 
 impl Model for SlotBody {

@@ -11,7 +11,6 @@ use sqlite_items::Items;
 use std::alloc::{AllocError, Global};
 
 /// Where the members of a class stand, by their names.
-#[derive(Drop)]
 pub struct MemberIndex {
     /// Where its properties stand.
     pub properties: NameIndex,
@@ -19,13 +18,30 @@ pub struct MemberIndex {
     pub methods: Items<NameIndex>,
 }
 
+impl Drop for MemberIndex {
+    fn drop(self) {
+        let MemberIndex {
+            properties: _,
+            methods: _,
+        } = self;
+    }
+}
+
 /// Where classes and their members stand, by their names.
-#[derive(Drop)]
 pub struct ClassIndex {
     /// The classes' numbers.
     pub classes: NameIndex,
     /// Their members, by the classes' numbers.
     pub members: Items<MemberIndex>,
+}
+
+impl Drop for ClassIndex {
+    fn drop(self) {
+        let ClassIndex {
+            classes: _,
+            members: _,
+        } = self;
+    }
 }
 
 impl ClassIndex {

@@ -24,7 +24,6 @@ use std::marker::Model;
 use texts::Program;
 
 /// The meta-objects of a program that loads. Class 0 is `QObject`; the program's own classes follow as declared.
-#[derive(Drop)]
 pub struct Meta {
     classes: Items<MetaObject>,
     wires: Items<MetaWire>,
@@ -32,6 +31,19 @@ pub struct Meta {
     sites: Items<MetaSite>,
     index: ClassIndex,
     site_names: NameIndex,
+}
+
+impl Drop for Meta {
+    fn drop(self) {
+        let Meta {
+            classes: _,
+            wires: _,
+            owns: _,
+            sites: _,
+            index: _,
+            site_names: _,
+        } = self;
+    }
 }
 
 impl Model for Meta {

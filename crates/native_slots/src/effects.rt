@@ -23,7 +23,6 @@ pub struct PlainSignal {
 }
 
 /// What a native takes, reads, emits and sets, each in the order of its declaration.
-#[derive(Drop)]
 pub struct Effects {
     /// The types of its parameters.
     pub parameters: Items<PlainType>,
@@ -33,4 +32,15 @@ pub struct Effects {
     pub emits: Items<PlainSignal>,
     /// The properties that it may write.
     pub sets: Items<PlainProperty>,
+}
+
+impl Drop for Effects {
+    fn drop(self) {
+        let Effects {
+            parameters: _,
+            reads: _,
+            emits: _,
+            sets: _,
+        } = self;
+    }
 }

@@ -5,7 +5,6 @@ use crate::effects::Effects;
 use signatures::{Name, Sig};
 
 /// Which native a closure is for, and the effects that it keeps to.
-#[derive(Drop)]
 pub struct NativeHead {
     /// The class that declares the native.
     pub class: Name,
@@ -13,6 +12,16 @@ pub struct NativeHead {
     pub sig: Sig,
     /// What it takes, and what it may read and do.
     pub effects: Effects,
+}
+
+impl Drop for NativeHead {
+    fn drop(self) {
+        let NativeHead {
+            class: _,
+            sig: _,
+            effects: _,
+        } = self;
+    }
 }
 
 impl NativeHead {

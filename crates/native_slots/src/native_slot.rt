@@ -17,7 +17,6 @@ pub type Work = Box<dyn Fn(&[Value], &[Value]) -> Result<Vec<Action>, AllocError
 
 /// A closure for a native, with its promise: it may be called on all arguments and read values of the declared types, and
 /// each list of actions that it answers lies within its effects.
-#[derive(Drop)]
 pub struct NativeSlot {
     /// Which native it is for, and its effects.
     pub head: NativeHead,
@@ -27,6 +26,12 @@ pub struct NativeSlot {
     pub ghost within: { (arguments reads outcome : _)
         → IsTrue (accepts head.effects arguments.now reads.now) → Work.post work arguments reads outcome
         → IfOk outcome (λ actions. IsTrue (are_within head.effects actions.items)) } by { Prim.hlevel props },
+}
+
+impl Drop for NativeSlot {
+    fn drop(self) {
+        let NativeSlot { head: _, work: _ } = self;
+    }
 }
 
 impl NativeSlot {

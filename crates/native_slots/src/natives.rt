@@ -12,10 +12,15 @@ use std::alloc::AllocError;
 
 /// Closures for natives, in the order in which they were given. Of two for one native the first counts, and one for what
 /// isn't declared as a native in that very class is never called.
-#[derive(Drop)]
 pub struct Natives {
     /// The closures in their order.
     pub slots: Vec<NativeSlot>,
+}
+
+impl Drop for Natives {
+    fn drop(self) {
+        let Natives { slots: _ } = self;
+    }
 }
 
 impl Natives {

@@ -12,10 +12,18 @@ use std::alloc::Global;
 use std::marker::Model;
 
 /// A program that loads, with a certificate that is valid for it.
-#[derive(Drop)]
 pub struct Checked {
     meta: Meta,
     certificate: Certificate,
+}
+
+impl Drop for Checked {
+    fn drop(self) {
+        let Checked {
+            meta: _,
+            certificate: _,
+        } = self;
+    }
 }
 
 impl Model for Checked {

@@ -9,9 +9,14 @@ use crate::path::Entry;
 use sqlite_items::{Items, at};
 
 /// The ranks of nodes, and the classes that they lead to.
-#[derive(Drop)]
 pub struct Solution {
     groups: Items<Items<Entry>>,
+}
+
+impl Drop for Solution {
+    fn drop(self) {
+        let Solution { groups: _ } = self;
+    }
 }
 
 impl Solution {

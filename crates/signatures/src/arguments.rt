@@ -6,9 +6,14 @@ use std::alloc::{AllocError, Global};
 use std::marker::Model;
 
 /// The arguments of a call or an emission, in their order. Up to four of them need no allocation.
-#[derive(Drop)]
 pub struct Arguments {
     values: SmallVec<Value, 4>,
+}
+
+impl Drop for Arguments {
+    fn drop(self) {
+        let Arguments { values: _ } = self;
+    }
 }
 
 impl Model for Arguments {

@@ -12,9 +12,14 @@ use std::marker::Model;
 use std::rc::RcSlice;
 
 /// A name: a letter or `_`, then letters, digits and `_`, in ASCII. Copies share its bytes.
-#[derive(Drop)]
 pub struct Name {
     bytes: RcSlice<u8>,
+}
+
+impl Drop for Name {
+    fn drop(self) {
+        let Name { bytes: _ } = self;
+    }
 }
 
 impl Model for Name {

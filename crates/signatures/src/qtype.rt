@@ -6,7 +6,6 @@ use crate::name::Name;
 use std::alloc::{AllocError, Global};
 
 /// A parameter's type in its normal form: `T`, `T*` or `const T*`.
-#[derive(Drop)]
 pub struct QType {
     /// The name T.
     pub name: Name,
@@ -14,6 +13,16 @@ pub struct QType {
     pub constant: bool,
     /// Whether it is a pointer.
     pub pointer: bool,
+}
+
+impl Drop for QType {
+    fn drop(self) {
+        let QType {
+            name: _,
+            constant: _,
+            pointer: _,
+        } = self;
+    }
 }
 
 impl QType {

@@ -9,10 +9,15 @@ use sqlite_items::Items;
 use std::alloc::{AllocError, Global};
 
 /// A signature in its normal form: a method's name and its parameters' types.
-#[derive(Drop)]
 pub struct Sig {
     pub name: Name,
     pub types: Items<QType>,
+}
+
+impl Drop for Sig {
+    fn drop(self) {
+        let Sig { name: _, types: _ } = self;
+    }
 }
 
 impl Sig {

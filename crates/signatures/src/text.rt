@@ -9,9 +9,14 @@ use std::rc::RcSlice;
 pub const MOST_BYTES: usize = 255;
 
 /// A text: at most 255 bytes, each from 32 to 126 and none of them 34, the quote. Copies share its bytes.
-#[derive(Drop)]
 pub struct Text {
     bytes: RcSlice<u8>,
+}
+
+impl Drop for Text {
+    fn drop(self) {
+        let Text { bytes: _ } = self;
+    }
 }
 
 impl Model for Text {

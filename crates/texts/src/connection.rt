@@ -13,7 +13,6 @@ use signatures::{Kind, Sig, Word};
 
 /// The two ends of a connection: a signal of the sender and a method of the receiver. An O names an object: a path in a
 /// slot's body, a name in a script.
-#[derive(Drop)]
 pub struct Endpoints<O: Drop> {
     /// The object whose signal is connected.
     pub sender: O,
@@ -23,6 +22,17 @@ pub struct Endpoints<O: Drop> {
     pub receiver: O,
     /// The receiver's slot or signal, with at most 8 types.
     pub method: Sig,
+}
+
+impl<O: Drop> Drop for Endpoints<O> {
+    fn drop(self) {
+        let Endpoints {
+            sender: _,
+            signal: _,
+            receiver: _,
+            method: _,
+        } = self;
+    }
 }
 
 /// How a connection is to be made (Qt 6, `Qt::ConnectionType`).

@@ -9,7 +9,6 @@ use sqlite_items::Items;
 use std::alloc::Global;
 
 /// A parameter of a signal, a slot or a native.
-#[derive(Drop)]
 pub struct Parameter {
     /// Its type, in its normal form.
     pub kind: QType,
@@ -17,8 +16,13 @@ pub struct Parameter {
     pub name: Option<Name>,
 }
 
+impl Drop for Parameter {
+    fn drop(self) {
+        let Parameter { kind: _, name: _ } = self;
+    }
+}
+
 /// `property T p = v notify s(..);`
-#[derive(Drop)]
 pub struct Property {
     /// Its type, in its normal form.
     pub kind: QType,
@@ -30,8 +34,18 @@ pub struct Property {
     pub notify: Option<Sig>,
 }
 
+impl Drop for Property {
+    fn drop(self) {
+        let Property {
+            kind: _,
+            name: _,
+            initial: _,
+            notify: _,
+        } = self;
+    }
+}
+
 /// `signal s(..);`
-#[derive(Drop)]
 pub struct Signal {
     /// What it is called in its class.
     pub name: Name,
@@ -39,8 +53,16 @@ pub struct Signal {
     pub parameters: Items<Parameter>,
 }
 
+impl Drop for Signal {
+    fn drop(self) {
+        let Signal {
+            name: _,
+            parameters: _,
+        } = self;
+    }
+}
+
 /// `reads p, .. emits s(..), .. sets q, ..`: what a native is given of its object, and what its answers may do.
-#[derive(Drop)]
 pub struct EffectNames {
     /// The properties whose values it is given, in their order; there may be none.
     pub reads: Items<Name>,
@@ -48,6 +70,16 @@ pub struct EffectNames {
     pub emits: Items<Sig>,
     /// The properties that it may set, in their order; there may be none.
     pub sets: Items<Name>,
+}
+
+impl Drop for EffectNames {
+    fn drop(self) {
+        let EffectNames {
+            reads: _,
+            emits: _,
+            sets: _,
+        } = self;
+    }
 }
 
 /// What a slot does.
@@ -86,7 +118,6 @@ pub struct Class {
 }
 
 /// `wire C s(..) -> D m(..) kind;`
-#[derive(Drop)]
 pub struct Wire {
     /// The class of the sender.
     pub sender: Name,
@@ -100,8 +131,19 @@ pub struct Wire {
     pub kind: Kind,
 }
 
+impl Drop for Wire {
+    fn drop(self) {
+        let Wire {
+            sender: _,
+            signal: _,
+            receiver: _,
+            method: _,
+            kind: _,
+        } = self;
+    }
+}
+
 /// `owns C D;`
-#[derive(Drop)]
 pub struct Owns {
     /// The class of the parent.
     pub parent: Name,
@@ -109,8 +151,16 @@ pub struct Owns {
     pub child: Name,
 }
 
+impl Drop for Owns {
+    fn drop(self) {
+        let Owns {
+            parent: _,
+            child: _,
+        } = self;
+    }
+}
+
 /// A formal source of a binding: `C f`
-#[derive(Drop)]
 pub struct Formal {
     /// The class of the objects that it stands for.
     pub class: Name,
@@ -118,8 +168,13 @@ pub struct Formal {
     pub name: Name,
 }
 
+impl Drop for Formal {
+    fn drop(self) {
+        let Formal { class: _, name: _ } = self;
+    }
+}
+
 /// `binding N C.p (D f, ..) = e;`
-#[derive(Drop)]
 pub struct Site {
     /// What it is called.
     pub name: Name,
@@ -131,6 +186,18 @@ pub struct Site {
     pub formals: Items<Formal>,
     /// What the property is bound to: no null stands in it, and each of its paths is a property of a formal source.
     pub expression: Expr<Path>,
+}
+
+impl Drop for Site {
+    fn drop(self) {
+        let Site {
+            name: _,
+            class: _,
+            property: _,
+            formals: _,
+            expression: _,
+        } = self;
+    }
 }
 
 /// The declarations of a text, those of each sort in their order.
