@@ -13,5 +13,6 @@ mod sites;
 pub use fault::TextFault;
 pub use reader::{one_answer, one_reading, read_program};
 pub use texts::{
-    Class, EffectNames, Owns, Parameter, Program, Property, Signal, Slot, SlotWork, Wire,
+    Binary, Body, Class, ConnectionType, EffectNames, Endpoints, Expr, Formal, Literal, Owns,
+    Parameter, Path, Program, Property, Root, Signal, Site, Slot, SlotWork, Stmt, Unary, Wire,
 };

@@ -8,3 +8,6 @@ pub mod Edges
 pub mod Leading
 pub mod Scans
 pub mod Laws
+pub use Rattle.meta_model.specs.LookUps
+pub use Rattle.meta_model.specs.Members
+pub use Rattle.meta_model.specs.Sites

@@ -18,3 +18,5 @@ pub mod Conditions
 pub mod Indexed
 pub mod FaultNumbers
 pub mod PartAnswers
+pub use Rattle.signatures.specs.Name
+pub use Rattle.signatures.specs.Types

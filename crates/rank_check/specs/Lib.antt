@@ -3,3 +3,8 @@ pub mod Valid
 pub mod Checks
 pub mod Entries
 pub mod ByNumbers
+pub use Rattle.meta_model.specs.LookUps
+pub use Rattle.effect_scan.specs.Destroying
+pub use Rattle.effect_scan.specs.Nodes
+pub use Rattle.effect_scan.specs.Rows
+pub use Rattle.effect_scan.specs.Scans

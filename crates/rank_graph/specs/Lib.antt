@@ -5,3 +5,4 @@ pub mod Searching
 pub mod Faults
 pub mod Groups
 pub mod Solutions
+pub use Rattle.effect_scan.specs.Rows

@@ -2,3 +2,13 @@ pub mod Walks
 pub mod Least
 pub mod Makes
 pub mod Solved
+pub use Rattle.meta_model.specs.Loaded
+pub use Rattle.meta_model.specs.Members
+pub use Rattle.effect_scan.specs.Laws
+pub use Rattle.effect_scan.specs.Nodes
+pub use Rattle.effect_scan.specs.Scans
+pub use Rattle.rank_graph.specs.Graphs
+pub use Rattle.rank_graph.specs.Solutions
+pub use Rattle.rank_check.specs.Entries
+pub use Rattle.rank_check.specs.Names
+pub use Rattle.rank_check.specs.Valid

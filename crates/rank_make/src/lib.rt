@@ -8,6 +8,9 @@ mod reasons;
 mod rows;
 mod why;
 
+pub use certificate_lang::{Certificate, Line, MemberName, NodeName};
+pub use effect_scan::{Member, Node};
 pub use making::make;
 pub use naming::node_name;
+pub use typing::Spot;
 pub use why::Why;

@@ -12,7 +12,11 @@ mod precedence;
 
 pub use body::{block, one_answer, one_body, parse_body, value};
 pub use expression::{one_expression, parse_expr};
+pub use expressions::{Classes, EvalFault, ExprType, Names, World, eval, type_of};
 pub use fault::BodyFault;
 pub use limits::body_has_few_parameters;
 pub use precedence::Precedence;
-pub use texts::{Binary, Body, ConnectionType, Endpoints, Expr, Path, Root, Stmt, Unary};
+pub use texts::{
+    Binary, Body, ConnectionType, Endpoints, Expr, LexFault, Literal, ParseFault, Path, Root, Stmt,
+    Token, Unary, nesting, tokens,
+};

@@ -14,3 +14,4 @@ pub mod Signatures
 pub mod SignatureTexts
 pub mod Connections
 pub mod Trees
+pub use Rattle.signatures.specs.Name
