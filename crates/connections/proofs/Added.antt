@@ -1,5 +1,5 @@
 -- A new connection keeps the lists tied to the cells.
-use Rattle.std.proofs.Common.{◌≡◌, ℕ, ◌<◌, Bool, true, false, cond, List, [], ◌∷◌, ◌++◌, None, refl, ap, sym, ◌∙◌, eqb, get_or}
+use Rattle.std.proofs.Common.{◌≡◌, ℕ, ◌<◌, Bool, true, false, cond, List, [], ◌∷◌, ◌++◌, None, refl, ap, sym, ◌∙◌, eqb, get_or, count_by}
 use Rattle.std.specs.Global.{Vec}
 use Rattle.slab.specs.Slab.{Slab}
 use Rattle.connections.specs.declared.connection.Connection.{Connection}
@@ -7,6 +7,7 @@ use Rattle.connections.specs.declared.cell.Cell.{Cell}
 use Rattle.connections.specs.declared.place.Place.{Place}
 use Rattle.connections.specs.declared.groups.Lists.{Lists}
 use Rattle.connections.specs.Connected.{is_of, touches}
+use Rattle.connections.specs.Cells.{counted}
 use Rattle.connections.specs.Groups.{list_of}
 use Rattle.connections.specs.Rooms.{Adds, place_of, IsKept}
 use Rattle.connections.specs.Places.{live, shown, Indexes}
@@ -55,4 +56,5 @@ module _ (old new : Slab Cell) (lists lists' : Lists) (marked marked' : Vec ℕ)
       by_object = λ o. Indexes-kept (touches o) (of_object lists o) _ k (k.in_lists.by_object o) (t.leads.by_object o);
     };
     marks = Marked-kept old new marked marked' k.in_cells k.in_marked k.many_marked k.room t.marks;
+    many = λ test. ap (count_by (counted test)) k.in_cells ∙ t.many test ∙ ap (count_by test) (sym (shown-kept k));
   }

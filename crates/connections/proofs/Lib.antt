@@ -1,4 +1,5 @@
 pub mod Counts
+pub mod Many
 pub mod Indexed
 pub mod Keys
 pub mod Numbers

@@ -22,14 +22,19 @@ fits (Numbered number) c = is_numbered number c
 abbrev pub retired : Removal → Cell → Cell
 retired removal cell = record cell { live = cell.live && not (fits removal cell.connection) }
 
+-- the connection of a cell is removed
 abbrev pub is_dead : Option Cell → Bool
 is_dead None = false
 is_dead (Some cell) = not cell.live
 
--- the cell's connection is there, and is one of those to be removed
+-- the cell's connection is there, and passes the test
+abbrev pub counted : (Connection → Bool) → Option Cell → Bool
+counted test None = false
+counted test (Some cell) = cell.live && test cell.connection
+
+-- .. and is one of those to be removed
 abbrev pub is_due : Removal → Option Cell → Bool
-is_due removal None = false
-is_due removal (Some cell) = cell.live && fits removal cell.connection
+is_due removal x = counted (fits removal) x
 
 -- a cell after the removed connections have left
 abbrev pub swept : Option Cell → Option Cell

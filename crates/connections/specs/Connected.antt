@@ -1,7 +1,7 @@
 -- The connections between objects, as a plain list (docs/machine.md, "Connections"). They are used in the
 -- order in which they were made; one disconnect breaks all duplicates, and a unique one is refused where any is there
 -- (Qt 6, "Signals & Slots" and `QObject::connect`).
-use Rattle.std.specs.Prelude.{ℕ, ◌+◌, ◌<◌, ◌≤◌, ◌&&◌, ◌||◌, not, nat_lt, nat_le, eqb, Bool, List, [], ◌∷◌, ◌++◌, filter, Option, None, Some, if◌then◌else◌}
+use Rattle.std.specs.Prelude.{ℕ, ◌+◌, ◌<◌, ◌≤◌, ◌&&◌, ◌||◌, not, nat_lt, nat_le, eqb, Bool, List, [], ◌∷◌, ◌++◌, filter, count_by, Option, None, Some, if◌then◌else◌}
 use Rattle.std.specs.List.{list_any}
 use Rattle.signatures.specs.declared.kind.Kind.{Kind}
 use Rattle.connections.specs.declared.connection.Connection.{Connection}
@@ -65,6 +65,18 @@ connected_by s sender signal receiver method kind single = record {
 -- the connections that pass the test are removed
 abbrev pub removed : (Connection → Bool) → Connected → Connected
 removed test s = record s { connections = without test s.connections }
+
+-- the connections, and how many that were removed still take up a cell: they are marked, until they are swept
+pub record Held : Type 0 where
+  pub connected : Connected
+  pub marked : ℕ
+
+-- the connections that pass the test are removed, and as many more are marked
+abbrev pub removed_in : (Connection → Bool) → Held → Held
+removed_in test h = record {
+  connected = removed test h.connected;
+  marked = h.marked + count_by test h.connected.connections;
+}
 
 -- each number is above the one before it, the first above `low` and none above `last`
 abbrev pub Rises : ℕ → List Connection → ℕ → Type 0

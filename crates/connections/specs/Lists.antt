@@ -1,5 +1,5 @@
 -- How the lists of places are tied to the cells.
-use Rattle.std.specs.Prelude.{◌≡◌, ℕ, ◌&&◌, eqb, Bool, true, List, []}
+use Rattle.std.specs.Prelude.{◌≡◌, ℕ, ◌&&◌, eqb, count_by, Bool, true, List, []}
 use Rattle.std.specs.Global.{Vec}
 use Rattle.slab.specs.Slab.{Slab}
 use Rattle.connections.specs.declared.connection.Connection.{Connection}
@@ -7,7 +7,7 @@ use Rattle.connections.specs.declared.cell.Cell.{Cell}
 use Rattle.connections.specs.declared.place.Place.{Place}
 use Rattle.connections.specs.declared.groups.Lists.{Lists}
 use Rattle.connections.specs.Connected.{is_of, touches}
-use Rattle.connections.specs.Cells.{Marked, Covers}
+use Rattle.connections.specs.Cells.{Marked, Covers, counted}
 use Rattle.connections.specs.Places.{live, Indexes, Tidies}
 use Rattle.connections.specs.Groups.{list_of}
 
@@ -53,10 +53,11 @@ StayShown cells lists cells' lists' = (last : ℕ) → Leads cells lists last �
 abbrev pub LeadTo : Lists → (Connection → Bool) → List Place → Type 0
 LeadTo lists test places = (cells : Slab Cell) (last : ℕ) → Leads cells lists last → Covers cells test places
 
--- and removed connections are marked
+-- and removed connections are marked; whatever is counted, the cells of the others have as many as the lists show
 pub record Tied (cells : Slab Cell) (lists : Lists) (marked : Vec ℕ) (last : ℕ) : Type 0 where
   pub leads : Leads cells lists last
   pub marks : Marked cells marked
+  pub many : (test : Connection → Bool) → count_by (counted test) cells.slots ≡ count_by test (shown_in cells lists)
 
 -- in each list, places that no longer lead to a cell were dropped, or nothing changed
 pub record TidiesLists (cells : Slab Cell) (old new : Lists) : Type 0 where

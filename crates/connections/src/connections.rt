@@ -1,6 +1,6 @@
 ghost use Rattle.std.specs.Prelude.{◌≡◌, ◌↔◌, ℕ, ◌+◌, ◌^◌, ◌<◌, ◌-◌, ◌≤◌, ◌&&◌, Err, [], ◌∷◌, ◌++◌, IsTrue, IsOk, OnOk, OnErr, IfSome};
 ghost use Rattle.std.specs.List.{find};
-ghost use Rattle.connections.specs.Connected.{Connected, unconnected, joins, is_later, is_due, is_numbered, touches, are_connected, connected_by, removed, not_above, Rises};
+ghost use Rattle.connections.specs.Connected.{unconnected, joins, is_later, is_due, is_numbered, touches, are_connected, connected_by, removed_in, not_above, Rises};
 ghost use Rattle.connections.specs.Cells.{fits};
 ghost use Rattle.connections.specs.declared.fault.ConnectFault.TheVariants.{Exists};
 
@@ -11,6 +11,7 @@ use crate::fault::{ConnectFault, DisconnectFault};
 use crate::groups::Lists;
 use crate::removing::{Removal, remove};
 use crate::search::{lead_to_any, next_above};
+use crate::sweeping::sweep;
 use signatures::{Kind, ObjectId};
 use slab::Slab;
 use std::alloc::{AllocError, Global};
@@ -19,8 +20,9 @@ use std::marker::Model;
 /// The connections that were made and not removed, in the order in which they were made, and the last number given.
 ///
 /// They stand in cells, to which lists lead: one of all, one for each sender and signal, one for each object. So an
-/// emission costs what is connected to its signal, and not what is connected in all.
-#[derive(Drop)]
+/// emission costs what is connected to its signal, and not what is connected in all. A connection that is removed is
+/// marked and its cell stays until the next [`Connections::sweep`], since emissions below may stand on it: whoever uses
+/// the connections sweeps where none goes on. Only `new`, which takes no memory yet, and `connect` ever take memory.
 pub struct Connections {
     alloc: Global,
     cells: Slab<Cell>,
@@ -29,22 +31,39 @@ pub struct Connections {
     last: u64,
 }
 
+impl Drop for Connections {
+    fn drop(self) {
+        let Connections {
+            alloc: _,
+            cells: _,
+            lists: _,
+            marked: _,
+            last: _,
+        } = self;
+    }
+}
+
 impl Model for Connections {
-    ghost use Rattle.connections.specs.Connected.{Connected};
+    ghost use Rattle.connections.specs.Connected.{Held};
 
-    ghost Value = { Connected };
+    ghost Value = { Held };
 
+    ghost use Rattle.std.specs.Vec.{vec_len};
     ghost use Rattle.connections.specs.Lists.{shown_in, Tied};
 
-    ghost view = { λ c. record { connections = shown_in c.cells c.lists; last = c.last } };
+    ghost view = { λ c. record {
+      connected = record { connections = shown_in c.cells c.lists; last = c.last };
+      marked = vec_len c.marked;
+    } };
 
     ghost invariant = { λ c. Tied c.cells c.lists c.marked c.last };
 }
 
 impl Connections {
-    /// No connections, and no number given.
+    /// No connections, no number given, and nothing marked.
     pub fn new(alloc: Global) -> Connections
-        ensures { result ≡ unconnected }
+        ensures connected { result.connected ≡ unconnected }
+        ensures marked { result.marked ≡ 0 }
     {
         Connections {
             alloc,
@@ -57,21 +76,29 @@ impl Connections {
 
     /// The last number that was given to a connection, 0 at first.
     pub fn last(&self) -> u64
-        ensures { result ≡ self.now.last }
+        ensures { result ≡ self.now.connected.last }
     {
         self.last
     }
 
+    /// How many removed connections are marked, and so still take up a cell.
+    pub fn marked(&self) -> usize
+        ensures { result ≡ self.now.marked }
+    {
+        self.marked.len()
+    }
+
     /// The numbers rise in the order of the connections, from 1 on, and none is above the last one given.
     pub fn numbers_rise(&self)
-        ensures { Rises 0 self.now.connections self.now.last }
+        ensures { Rises 0 self.now.connected.connections self.now.connected.last }
     {
         let _last = self.last;
     }
 
-    /// The first connection of this sender and signal that was made later than the one of this number.
+    /// The first connection of this sender and signal that was made later than the one of this number. Who walks all
+    /// that is connected to a signal calls this; an emission, which stops at those made since it began, `next_due`.
     pub fn next_after(&self, sender: ObjectId, signal: usize, number: u64) -> Option<Connection>
-        ensures { result ≡ find (is_later sender signal number) self.now.connections }
+        ensures { result ≡ find (is_later sender signal number) self.now.connected.connections }
     {
         let places = self.lists.of_signal(sender, signal);
         next_above(&self.cells, places, number)
@@ -86,7 +113,7 @@ impl Connections {
         used: u64,
         made: u64,
     ) -> Option<Connection>
-        ensures { result ≡ find (is_due sender signal used made) self.now.connections }
+        ensures { result ≡ find (is_due sender signal used made) self.now.connected.connections }
     {
         let places = self.lists.of_signal(sender, signal);
         let next = next_above(&self.cells, places, used);
@@ -101,7 +128,7 @@ impl Connections {
         receiver: ObjectId,
         method: usize,
     ) -> bool
-        ensures { result ≡ are_connected sender signal receiver method self.now }
+        ensures { result ≡ are_connected sender signal receiver method self.now.connected }
     {
         let places = self.lists.of_signal(sender, signal);
         let same = Removal::Between(sender, signal, receiver, method);
@@ -119,11 +146,13 @@ impl Connections {
         unique: bool,
         single: bool,
     ) -> Result<(), ConnectFault>
-        requires { self.old.last < 2 ^ 63 - 1 }
+        requires { self.old.connected.last < 2 ^ 63 - 1 }
         ensures made { OnOk result
-            (self.new ≡ connected_by self.old sender signal receiver method kind single) }
+            (self.new.connected
+            ≡ connected_by self.old.connected sender signal receiver method kind single) }
+        ensures marked { self.new.marked ≡ self.old.marked }
         ensures exists { (result ≡ Err Exists)
-            ↔ IsTrue (unique && are_connected sender signal receiver method self.old) }
+            ↔ IsTrue (unique && are_connected sender signal receiver method self.old.connected) }
         ensures err { OnErr result (self.new ≡ self.old) }
     {
         if unique && self.are_connected(sender, signal, receiver, method) {
@@ -144,10 +173,11 @@ impl Connections {
 
     /// Adds a connection that has the next number.
     fn append(&mut self, connection: Connection) -> Result<(), AllocError>
-        requires number { connection.number ≡ self.old.last + 1 }
+        requires number { connection.number ≡ self.old.connected.last + 1 }
         ensures made { OnOk result
-            (self.new.connections ≡ self.old.connections ++ connection ∷ []) }
-        ensures numbered { OnOk result (self.new.last ≡ self.old.last + 1) }
+            (self.new.connected.connections ≡ self.old.connected.connections ++ connection ∷ []) }
+        ensures numbered { OnOk result (self.new.connected.last ≡ self.old.connected.last + 1) }
+        ensures marked { self.new.marked ≡ self.old.marked }
         ensures err { OnErr result (self.new ≡ self.old) }
     {
         make_rooms(
@@ -162,7 +192,7 @@ impl Connections {
         Ok(())
     }
 
-    /// Removes all connections from this signal of the sender to this method of the receiver.
+    /// Removes all connections from this signal of the sender to this method of the receiver, and marks each.
     pub fn disconnect(
         &mut self,
         sender: ObjectId,
@@ -171,9 +201,9 @@ impl Connections {
         method: usize,
     ) -> Result<(), DisconnectFault>
         ensures removed { OnOk result
-            (self.new ≡ removed (joins sender signal receiver method) self.old) }
+            (self.new ≡ removed_in (joins sender signal receiver method) self.old) }
         ensures there { IsOk result
-            ↔ IsTrue (are_connected sender signal receiver method self.old) }
+            ↔ IsTrue (are_connected sender signal receiver method self.old.connected) }
         ensures err { OnErr result (self.new ≡ self.old) }
     {
         if !self.are_connected(sender, signal, receiver, method) {
@@ -183,24 +213,32 @@ impl Connections {
         Ok(())
     }
 
-    /// Removes the connections from and to an object.
+    /// Removes the connections from and to an object, and marks each.
     pub fn drop_object(&mut self, object: ObjectId)
-        ensures { self.new ≡ removed (touches object) self.old }
+        ensures { self.new ≡ removed_in (touches object) self.old }
     {
         self.remove(Removal::Touching(object));
     }
 
-    /// Removes the connection of this number, if it is there.
+    /// Removes the connection of this number, if it is there, and marks it.
     pub fn cut(&mut self, number: u64)
-        ensures { self.new ≡ removed (is_numbered number) self.old }
+        ensures { self.new ≡ removed_in (is_numbered number) self.old }
     {
         self.remove(Removal::Numbered(number));
     }
 
     fn remove(&mut self, removal: Removal)
-        ensures { self.new ≡ removed (fits removal) self.old }
+        ensures { self.new ≡ removed_in (fits removal) self.old }
     {
-        remove(&mut self.cells, &mut self.lists, &mut self.marked, &removal);
+        remove(&mut self.cells, &self.lists, &mut self.marked, &removal);
+    }
+
+    /// Gives back the cells of the connections that were removed. No emission may go on that stands on one of them.
+    pub fn sweep(&mut self)
+        ensures connected { self.new.connected ≡ self.old.connected }
+        ensures marked { self.new.marked ≡ 0 }
+    {
+        sweep(&mut self.cells, &mut self.lists, &mut self.marked);
     }
 }
 

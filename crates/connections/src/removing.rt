@@ -2,20 +2,17 @@
 
 ghost use Rattle.std.specs.Prelude.{◌≡◌, ℕ, if◌then◌else◌, eqb};
 ghost use Rattle.std.specs.Option.{option_map};
-ghost use Rattle.std.specs.Vec.{vec_len};
 ghost use Rattle.slab.specs.Slab.{Slab as ASlab, get};
 ghost use Rattle.connections.specs.declared.cell.Cell.{Cell as ACell};
-ghost use Rattle.connections.specs.Connected.{without};
 ghost use Rattle.connections.specs.Cells.{fits, Retires, RetiresAt, Marked, Covers, is_due};
 ghost use Rattle.connections.specs.Places.{AreRising};
-ghost use Rattle.connections.specs.Lists.{all_of, Leads, StayLed, LeadTo, shown_in};
+ghost use Rattle.connections.specs.Lists.{all_of, Leads, LeadTo};
 
 use crate::cell::Cell;
 use crate::connection::Connection;
 use crate::groups::Lists;
 use crate::place::Place;
 use crate::search::place_of_number;
-use crate::sweeping::sweep;
 use signatures::ObjectId;
 use slab::Slab;
 
@@ -45,19 +42,15 @@ impl Removal {
     }
 }
 
-/// Removes the connections that are to be removed.
-pub fn remove(cells: &mut Slab<Cell>, lists: &mut Lists, marked: &mut Vec<usize>, removal: &Removal)
-    requires led { (last : ℕ) × Leads cells.old lists.old last }
+/// Removes the connections that are to be removed, and marks each. Their cells and places stay.
+pub fn remove(cells: &mut Slab<Cell>, lists: &Lists, marked: &mut Vec<usize>, removal: &Removal)
+    requires led { (last : ℕ) × Leads cells.old lists.now last }
     requires marked { Marked cells.old marked.old }
-    ensures led { StayLed cells.old lists.old cells.new lists.new }
+    ensures cells { Retires removal.now cells.old cells.new }
     ensures marked { Marked cells.new marked.new }
-    ensures swept { vec_len marked.new ≡ 0 }
-    ensures shown { shown_in cells.new lists.new
-        ≡ without (fits removal.now) (shown_in cells.old lists.old) }
 {
     let places = places_for(lists, removal);
     mark_all(cells, marked, places, removal);
-    sweep(cells, lists, marked);
 }
 
 /// Places that lead to each connection that is to be removed.

@@ -18,6 +18,7 @@ pub fn sweep(cells: &mut Slab<Cell>, lists: &mut Lists, marked: &mut Vec<usize>)
     requires { Marked cells.old marked.old }
     ensures marked { Marked cells.new marked.new }
     ensures none { vec_len marked.new ≡ 0 }
+    ensures cells { Sweeps cells.old cells.new }
     ensures lists { StayLed cells.old lists.old cells.new lists.new }
     ensures shown { StayShown cells.old lists.old cells.new lists.new }
 {

@@ -1,6 +1,6 @@
 use Rattle.std.proofs.Common.{◌∙◌, ap}
 use Rattle.std.specs.List.{find}
-use Rattle.connections.specs.Connected.{Connected, is_later}
+use Rattle.connections.specs.Connected.{Held, is_later}
 use Rattle.connections.specs.Places.{live, first_above}
 use Rattle.connections.proofs.Removed.{find-of_signal}
 use Rattle.connections.proofs.connections.Connections.next_after.Goals as goal
@@ -14,4 +14,4 @@ returns c =
     c.next_above.ensures
     ∙ ap (λ ps. first_above c.args.number (live c.self.inside.cells ps)) c.of_signal-places.ensures
     ∙ find-of_signal c.self.inside.cells c.self.inside.lists c.self.inside.last c.args.sender c.args.signal c.args.number c.self.invariant.leads
-    ∙ ap (λ (w : Connected). find (λ x. is_later c.args.sender c.args.signal c.args.number x) w.connections) c.self.view_is
+    ∙ ap (λ (h : Held). find (λ x. is_later c.args.sender c.args.signal c.args.number x) h.connected.connections) c.self.view_is

@@ -1,6 +1,6 @@
 use Rattle.std.proofs.Common.{◌∙◌, ap, sym}
 use Rattle.std.specs.List.{find}
-use Rattle.connections.specs.Connected.{Connected, is_of, is_due, not_above}
+use Rattle.connections.specs.Connected.{Held, is_of, is_due, not_above}
 use Rattle.connections.specs.Places.{live, first_above}
 use Rattle.connections.specs.Lists.{shown_in, all_of}
 use Rattle.connections.proofs.Removed.{find-of_signal}
@@ -19,4 +19,4 @@ returns c =
     ∙ ap (λ ps. first_above c.args.used (live c.self.inside.cells ps)) c.of_signal-places.ensures
     ∙ find-of_signal c.self.inside.cells c.self.inside.lists c.self.inside.last c.args.sender c.args.signal c.args.used c.self.invariant.leads)
     ∙ sym (find_due (is_of c.args.sender c.args.signal) c.args.used c.args.made 0 c.self.inside.last (shown_in c.self.inside.cells c.self.inside.lists) (Rises-live c.self.inside.cells 0 c.self.inside.last (all_of c.self.inside.lists) c.self.invariant.leads.all.rising))
-    ∙ ap (λ (w : Connected). find (λ x. is_due c.args.sender c.args.signal c.args.used c.args.made x) w.connections) c.self.view_is
+    ∙ ap (λ (h : Held). find (λ x. is_due c.args.sender c.args.signal c.args.used c.args.made x) h.connected.connections) c.self.view_is
