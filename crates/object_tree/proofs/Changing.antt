@@ -1,22 +1,11 @@
 -- What a change of one object leaves as it was.
-use Rattle.std.proofs.Common.{◌≡◌, ◌≢◌, ℕ, zero, suc, ◌<◌, ◌≤◌, List, [], ◌∷◌, length, get_or, Option, None, Some, refl, sym, ap, ◌∙◌, arith}
-use Rattle.std.specs.Prelude.{slice_get, slice_set}
+use Rattle.std.proofs.Common.{◌≡◌, ◌≢◌, ℕ, zero, suc, List, [], ◌∷◌, length, Option, None, Some, refl, sym, ap, ◌∙◌, arith}
+use Rattle.std.specs.Prelude.{slice_get}
 use Rattle.std.specs.Option.{option_map, option_and_then}
 use Rattle.std.proofs.lemmas.Option.{same_Some}
 use Rattle.object_tree.specs.declared.life.Life.{Life}
 use Rattle.object_tree.specs.declared.object.Object.{Object}
 use Rattle.object_tree.specs.Objects.{Lives, life_of, change, class_of, class_with}
-
--- a write to a place that is there
-pub change-set : (n : ℕ) (f : Object → Object) (xs : List Object) (d : Object) → n < length xs → slice_set xs n (f (get_or xs n d)) ≡ change n f xs
-change-set n f [] d l = absurd (omega (arith, l))
-change-set zero f (x ∷ xs) d l = refl
-change-set (suc n) f (x ∷ xs) d l = ap (λ (ys : List Object). x ∷ ys) (change-set n f xs d (omega (arith, l)))
-
-pub change-past : (n : ℕ) (f : Object → Object) (xs : List Object) → length xs ≤ n → change n f xs ≡ xs
-change-past n f [] l = refl
-change-past zero f (x ∷ xs) l = absurd (omega (arith, l))
-change-past (suc n) f (x ∷ xs) l = ap (λ (ys : List Object). x ∷ ys) (change-past n f xs (omega (arith, l)))
 
 pub length-change : (n : ℕ) (f : Object → Object) (xs : List Object) → length (change n f xs) ≡ length xs
 length-change n f [] = refl
@@ -63,11 +52,6 @@ pub one-life : (objects : List Object) (o : ℕ) (u v : Object) (x y : Life) →
 one-life objects o u v x y lu lv =
     let same : u ≡ v = same_Some _ _ (sym lu.is ∙ lv.is) in
     same_Some _ _ (sym lu.lives ∙ ap (λ (w : Object). w.life) same ∙ lv.lives)
-
--- what a write through `&mut` does
-pub set-changes : (xs : List Object) (m n : ℕ) (f : Object → Object) (x : Object) → m ≡ n → x ≡ get_or xs m x → m < length xs → slice_set xs m (f x) ≡ change n f xs
-set-changes xs m n f x same value within =
-    ap (λ (y : Object). slice_set xs m (f y)) value ∙ change-set m f xs x within ∙ ap (λ (k : ℕ). change k f xs) same
 
 -- ---- the class of a new object
 

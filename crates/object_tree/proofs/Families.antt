@@ -7,7 +7,7 @@ use Rattle.std.proofs.lemmas.Option.{slice_get_within, same_Some}
 use Rattle.object_tree.specs.declared.life.Life.{Life}
 use Rattle.object_tree.specs.declared.object.Object.{Object}
 use Rattle.object_tree.specs.Children.{without, is_among, are_distinct}
-use Rattle.object_tree.specs.Objects.{Lives, change, change_life, with_life}
+use Rattle.object_tree.specs.Objects.{Lives, change, change_life, with_life, home_of}
 use Rattle.object_tree.specs.Family.{parent_of, children_in, children_of, IsChild, Above, itself, over_parent, joined_by, left_by, leaves, put_under, moved, dead, without_life}
 use Rattle.object_tree.specs.Forest.{Forest, is_the}
 use Rattle.object_tree.proofs.Lists.{among-without_other, among-without_same, among-join_other, among-join_same, distinct-without, distinct-join}
@@ -43,8 +43,8 @@ above-over above (over_parent child next) = over_parent child (above-over above 
 
 -- ---- changes that leave the family alone
 
-pub forest-same : (old new : List Object) → ((k : ℕ) → parent_of new k ≡ parent_of old k) → ((k : ℕ) → children_of new k ≡ children_of old k) → Forest old → Forest new
-forest-same old new parents children forest =
+pub forest-same : (old new : List Object) → ((k : ℕ) → parent_of new k ≡ parent_of old k) → ((k : ℕ) → children_of new k ≡ children_of old k) → ((k : ℕ) → k < length old → home_of new k ≡ home_of old k) → Forest old → Forest new
+forest-same old new parents children homes forest =
     let listed : (parent child : ℕ) → is_among child (children_of new parent) ≡ is_the parent (parent_of new child) =
     λ parent child. ap (is_among child) (children parent) ∙ forest.listed parent child ∙ ap (is_the parent) (sym (parents child)) in
     let kept : (parent child : ℕ) → IsChild new parent child → IsChild old parent child =
@@ -53,18 +53,30 @@ forest-same old new parents children forest =
       listed = listed;
       distinct = λ parent. ap are_distinct (children parent) ∙ forest.distinct parent;
       acyclic = λ parent child is above. forest.acyclic parent child (kept parent child is) (above-through kept above);
+      one_loop = λ parent child home is at.
+          let was : IsChild old parent child = kept parent child is in
+          let above : parent < length old = parent-there old parent child (forest.listed parent child) (parent-is old child parent was) in
+          homes child (slice_get_within old child was.object was.lives.is) ∙ forest.one_loop parent child home was (sym (homes parent above) ∙ at);
     }
+
+-- the loop that shows in an object
+abbrev home_in : Option Object → Option ℕ
+home_in there = option_map (λ (l : Life). l.home) (option_and_then (λ (x : Object). x.life) there)
+
+home-with_life : (f : Life → Life) → ((l : Life) → (f l).home ≡ l.home) → (x : Object) → home_in (Some (with_life f x)) ≡ home_in (Some x)
+home-with_life f same x = life-part (λ (there : Option Life). option_map (λ (l : Life). l.home) there) f (λ l. ap Some (same l)) x.life
 
 -- the parent that shows in an object whose life is changed
 parent-with_life : (f : Life → Life) → ((l : Life) → (f l).parent ≡ l.parent) → (x : Object) → parent_in (Some (with_life f x)) ≡ parent_in (Some x)
 parent-with_life f same x = life-part (λ (there : Option Life). option_and_then (λ (l : Life). l.parent) there) f same x.life
 
 -- a change of other parts of one life
-pub forest-change : (n : ℕ) (f : Life → Life) (objects : List Object) → ((l : Life) → (f l).parent ≡ l.parent) → Forest objects → Forest (change_life n f objects)
-forest-change n f objects same forest =
+pub forest-change : (n : ℕ) (f : Life → Life) (objects : List Object) → ((l : Life) → (f l).parent ≡ l.parent) → ((l : Life) → (f l).home ≡ l.home) → Forest objects → Forest (change_life n f objects)
+forest-change n f objects same homes forest =
     forest-same objects (change_life n f objects)
     (λ k. part-change parent_in n k (with_life f) objects (parent-with_life f same))
     (λ k. part-change children_in n k (with_life f) objects (λ x. refl))
+    (λ k within. part-change home_in n k (with_life f) objects (home-with_life f homes))
     forest
 
 -- ---- a child that leaves its parent's children
@@ -140,6 +152,18 @@ died-other o k objects other =
 died-children : (o k : ℕ) (objects : List Object) → children_of (without_life o objects) k ≡ children_of (leaves (parent_of objects o) o objects) k
 died-children o k objects = part-change children_in o k dead (leaves (parent_of objects o) o objects) (λ x. refl)
 
+died-home : (o : ℕ) (objects : List Object) → home_of (without_life o objects) o ≡ None
+died-home o objects = ap home_in (get-change_same o dead (leaves (parent_of objects o) o objects)) ∙ by_object (slice_get (leaves (parent_of objects o) o objects) o)
+  where
+    by_object : (there : Option Object) → home_in (option_map dead there) ≡ None
+    by_object None = refl
+    by_object (Some x) = refl
+
+died-home_other : (o k : ℕ) (objects : List Object) → k ≢ o → home_of (without_life o objects) k ≡ home_of objects k
+died-home_other o k objects other =
+    ap home_in (get-change_other o k dead (leaves (parent_of objects o) o objects) other)
+    ∙ leaves-part home_in (parent_of objects o) o k objects (λ x. refl)
+
 pub forest-died : (o : ℕ) (objects : List Object) → Forest objects → Forest (without_life o objects)
 forest-died o objects forest =
     let new : List Object = without_life o objects in
@@ -157,6 +181,16 @@ forest-died o objects forest =
       listed = listed;
       distinct = λ parent. ap are_distinct (died-children o parent objects) ∙ leaves-distinct (parent_of objects o) o parent objects (forest.distinct parent);
       acyclic = λ parent child is above. forest.acyclic parent child (kept parent child is) (above-through kept above);
+      one_loop = λ parent child home is at. ⊎_elim
+          (λ (same : parent ≡ o). let none : home_of new parent ≡ None = rw same (died-home o objects) in absurd (cc (none, at)))
+          (λ (apart : parent ≢ o). ⊎_elim
+          (λ (same : child ≡ o).
+          let none : parent_of new child ≡ None = rw same (died-parent o o objects) in
+          let some : parent_of new child ≡ Some parent = parent-is new child parent is in
+          absurd (cc (none, some)))
+          (λ (other : child ≢ o). died-home_other o child objects other ∙ forest.one_loop parent child home (kept parent child is) (sym (died-home_other o parent objects apart) ∙ at))
+          (cases_eq child o))
+          (cases_eq parent o);
     }
 
 -- ---- a child that gets another parent
@@ -175,6 +209,7 @@ pub record Moves (objects : List Object) (a c : ℕ) : Type 0 where
   pub lives : Lives objects c child life
   pub elsewhere : parent_of objects c ≢ Some a
   pub no_cycle : ¬ Above objects c a
+  pub one_loop : home_of objects a ≡ home_of objects c
 
 -- the children of the new parent, and of others
 joined-children : (objects : List Object) (a c : ℕ) (x : Object) → slice_get objects a ≡ Some x → children_of (change a (joined_by c) objects) a ≡ children_of objects a ++ c ∷ []
@@ -305,9 +340,21 @@ module _ (objects : List Object) (a c : ℕ) (m : Moves objects a c) where
       by_side was (inl up) = m.forest.acyclic parent child was up
       by_side was (inr up) = m.no_cycle (above-over (over_parent was up.0) (above-apart child a up.1 m.no_cycle))
 
+moved-home : (objects : List Object) (a c k : ℕ) → home_of (moved a c objects) k ≡ home_of objects k
+moved-home objects a c k = moved-part home_in objects a c k (λ x l. refl) (home-with_life (put_under a) (λ l. refl))
+
 pub forest-moved : (objects : List Object) (a c : ℕ) → Moves objects a c → Forest (moved a c objects)
 forest-moved objects a c m = record {
   listed = moved-listed objects a c m;
   distinct = moved-distinct objects a c m;
   acyclic = moved-acyclic objects a c m;
+  one_loop = λ parent child home is at.
+      let before : home_of objects parent ≡ Some home = sym (moved-home objects a c parent) ∙ at in
+      moved-home objects a c child ∙ ⊎_elim
+      (λ (same : child ≡ c).
+      let Under : ℕ → Type 0 = λ q. IsChild (moved a c objects) parent q in
+      let new : parent ≡ a = moved-under objects a c m parent (subst Under same is) in
+      ap (home_of objects) same ∙ sym m.one_loop ∙ sym (ap (home_of objects) new) ∙ before)
+      (λ (other : child ≢ c). m.forest.one_loop parent child home (moved-child objects a c m parent child is other) before)
+      (cases_eq child c);
 }

@@ -1,5 +1,5 @@
 -- What every tree keeps, with its index of names.
-use Rattle.std.proofs.Common.{◌≡◌, ◌≢◌, ◌⊎◌, ⊎_elim, inl, inr, ℕ, zero, suc, true, false, List, [], ◌∷◌, ◌++◌, length, Option, None, Some, refl, sym, ap, ◌∙◌, subst}
+use Rattle.std.proofs.Common.{◌≡◌, ◌≢◌, ◌⊎◌, ⊎_elim, inl, inr, ℕ, zero, suc, ◌<◌, arith, true, false, List, [], ◌∷◌, ◌++◌, length, Option, None, Some, refl, sym, ap, ◌∙◌, subst}
 use Rattle.std.specs.Prelude.{slice_get, is_some, MatchOption}
 use Rattle.std.specs.Option.{option_map, option_and_then, unwrap_or}
 use Rattle.std.proofs.lemmas.Bool.{cases_eq, eq-eqb, eqb-true}
@@ -8,14 +8,14 @@ use Rattle.meta_model.specs.NamePlaces.{place_in, Adds}
 use Rattle.object_tree.specs.declared.life.Life.{Life}
 use Rattle.object_tree.specs.declared.object.Object.{Object}
 use Rattle.object_tree.specs.Children.{is_among}
-use Rattle.object_tree.specs.Objects.{Lives, IsNamed, IsFree, change_life, with_life, name_of}
+use Rattle.object_tree.specs.Objects.{Lives, IsNamed, IsFree, change_life, with_life, name_of, home_of}
 use Rattle.object_tree.specs.Family.{leaves, moved, dead, without_life, parent_of, children_of, IsChild, IsChildless}
 use Rattle.object_tree.specs.Forest.{Forest, is_the}
 use Rattle.object_tree.specs.Kept.{Kept}
 use Rattle.meta_model.specs.Loaded.{Loaded}
 use Rattle.object_tree.specs.Adopting.{MayAdopt, IsAdopted}
 use Rattle.object_tree.proofs.Above.{parent_in, child-is, parent-is}
-use Rattle.object_tree.proofs.Changing.{part-change, one-life}
+use Rattle.object_tree.proofs.Changing.{part-change, one-life, life-of-lives}
 use Rattle.object_tree.proofs.Families.{Moves, moved-part, leaves-part, forest-same, forest-change, forest-died, forest-moved}
 
 -- ---- names
@@ -47,9 +47,9 @@ names-same names old new same forest kept = record {
   forest = forest;
 }
 
-pub kept-change : (names : List (List ℕ × ℕ)) (n : ℕ) (f : Life → Life) (objects : List Object) → ((l : Life) → (f l).parent ≡ l.parent) → Kept names objects → Kept names (change_life n f objects)
-kept-change names n f objects parents kept =
-    names-same names objects (change_life n f objects) (λ o. part-change (option_map (λ (x : Object). x.name)) n o (with_life f) objects (λ x. refl)) (forest-change n f objects parents kept.forest) kept
+pub kept-change : (names : List (List ℕ × ℕ)) (n : ℕ) (f : Life → Life) (objects : List Object) → ((l : Life) → (f l).parent ≡ l.parent) → ((l : Life) → (f l).home ≡ l.home) → Kept names objects → Kept names (change_life n f objects)
+kept-change names n f objects parents homes kept =
+    names-same names objects (change_life n f objects) (λ o. part-change (option_map (λ (x : Object). x.name)) n o (with_life f) objects (λ x. refl)) (forest-change n f objects parents homes kept.forest) kept
 
 pub kept-died : (names : List (List ℕ × ℕ)) (o : ℕ) (objects : List Object) → Kept names objects → Kept names (without_life o objects)
 kept-died names o objects kept =
@@ -131,10 +131,15 @@ children-created [] z (suc o) none = refl
 children-created (x ∷ xs) z zero none = refl
 children-created (x ∷ xs) z (suc o) none = children-created xs z o none
 
+home-front : (xs : List Object) (z : Object) (o : ℕ) → o < length xs → home_of (xs ++ z ∷ []) o ≡ home_of xs o
+home-front [] z o l = absurd (omega (arith, l))
+home-front (x ∷ xs) z zero l = refl
+home-front (x ∷ xs) z (suc o) l = home-front xs z o (omega (arith, l))
+
 pub kept-created : (old new : List (List ℕ × ℕ)) (objects : List Object) (z : Object) → parent_in (Some z) ≡ None → z.children ≡ [] → IsFree objects z.name → Adds z.name (length objects) old new → Kept old objects → Kept new (objects ++ z ∷ [])
 kept-created old new objects z orphan childless free adds kept = record {
   named = λ name o. (to name o (list_cases name z.name), from name o);
-  forest = forest-same objects (objects ++ z ∷ []) (λ k. parent-created objects z k orphan) (λ k. children-created objects z k childless) kept.forest;
+  forest = forest-same objects (objects ++ z ∷ []) (λ k. parent-created objects z k orphan) (λ k. children-created objects z k childless) (λ k within. home-front objects z k within) kept.forest;
 }
   where
     unfound : place_in old z.name ≡ None
@@ -174,6 +179,7 @@ moves-by objects p a c u v x y forest owner child may elsewhere = record {
   lives = child;
   elsewhere = λ e. elsewhere (sym (ap parent_in child.is ∙ ap (λ (there : Option Life). option_and_then (λ (l : Life). l.parent) there) child.lives) ∙ e);
   no_cycle = may.no_cycle;
+  one_loop = ap (option_map (λ (l : Life). l.home)) (life-of-lives owner) ∙ ap Some may.one_loop ∙ sym (ap (option_map (λ (l : Life). l.home)) (life-of-lives child));
 }
 
 pub adopts-moved : (p : Loaded) (objects new : List Object) (a c : ℕ) (s t u v : Object) (x y k l : Life) → Lives objects a s x → Lives objects c t y → Lives objects a u k → Lives objects c v l → MayAdopt p objects a c k l → l.parent ≢ Some a → new ≡ moved a c objects → MayAdopt p objects a c x y × IsAdopted a c y objects new

@@ -7,3 +7,7 @@ pub mod Families
 pub mod TypedObjects
 pub mod Keeping
 mod Types
+pub mod Slots
+pub mod GivenUp
+pub mod Housed
+pub mod Adoptions

@@ -1,10 +1,11 @@
 -- Lists of children.
-use Rattle.std.proofs.Common.{◌≡◌, ◌≢◌, ℕ, suc, ◌+◌, ◌<◌, ◌≤◌, eqb, Bool, true, false, ◌||◌, ◌&&◌, not, cond, List, [], ◌∷◌, ◌++◌, length, ltb, Option, None, Some, refl, sym, ap, ◌∙◌, arith}
+use Rattle.std.proofs.Common.{◌≡◌, ◌≢◌, ℕ, zero, suc, ◌+◌, ◌<◌, ◌≤◌, eqb, Bool, true, false, ◌||◌, ◌&&◌, not, cond, List, [], ◌∷◌, ◌++◌, length, ltb, Option, None, Some, refl, sym, ap, ◌∙◌, arith}
 use Rattle.std.specs.List.{remove, position_or_len, position}
 use Rattle.std.proofs.lemmas.Bool.{eqb-true, eq-eqb, ne_eqb, ltb-true, ltb-false}
-use Rattle.std.specs.Prelude.{OnSome}
+use Rattle.std.specs.Prelude.{OnSome, MatchOption, slice_get}
+use Rattle.std.proofs.lemmas.Option.{slice_get_within, same_Some}
 use Rattle.std.specs.Bool.{◌==◌}
-use Rattle.object_tree.specs.Children.{without, is_among, are_distinct}
+use Rattle.object_tree.specs.Children.{without, is_child, is_among, are_distinct}
 
 -- ---- taking a child out, where it stands first
 
@@ -44,6 +45,30 @@ none-removes c ks found = by_test (ltb (position_or_len (λ k. eqb k c) ks) (len
     by_test false t e = sym (not_there c ks (ltb-false _ _ t))
 
 -- ---- who is among them
+
+-- who stands at some place is among them
+among-at : (c : ℕ) (ks : List ℕ) (i : ℕ) → slice_get ks i ≡ Some c → is_among c ks ≡ true
+among-at c [] i e = absurd (cc e)
+among-at c (k ∷ ks) zero e = rw (eq-eqb k c (same_Some _ _ e)) refl
+among-at c (k ∷ ks) (suc i) e = by_test (eqb k c) (among-at c ks i e)
+  where
+    by_test : (b : Bool) → is_among c ks ≡ true → (b || is_among c ks) ≡ true
+    by_test true r = refl
+    by_test false r = r
+
+-- where no child stands twice, to take out what stands at its place is to take the child out
+pub remove-at : (c : ℕ) (ks : List ℕ) (i : ℕ) → are_distinct ks ≡ true → slice_get ks i ≡ Some c → remove ks i ≡ without c ks
+remove-at c [] i d e = absurd (cc e)
+remove-at c (k ∷ ks) zero d e = rw (eq-eqb k c (same_Some _ _ e)) refl
+remove-at c (k ∷ ks) (suc i) d e = by_test (eqb k c) refl (is_among k ks) refl d (among-at c ks i e) (remove-at c ks i)
+  where
+    by_test : (b : Bool) → eqb k c ≡ b → (a : Bool) → is_among k ks ≡ a → (not a && are_distinct ks) ≡ true → is_among c ks ≡ true → (are_distinct ks ≡ true → slice_get ks i ≡ Some c → remove ks i ≡ without c ks) → k ∷ remove ks i ≡ cond b ks (k ∷ without c ks)
+    by_test b t true i' h m r = absurd (cc h)
+    by_test true t false i' h m r = let same : is_among k ks ≡ true = rw (eqb-true k c t) m in absurd (cc (same, i'))
+    by_test false t false i' h m r = ap (λ (js : List ℕ). k ∷ js) (r h e)
+
+pub place-length : (ks : List ℕ) (i c : ℕ) → slice_get ks i ≡ Some c → i < length ks
+place-length ks i c e = slice_get_within ks i c e
 
 pub among-without_other : (c d : ℕ) (ks : List ℕ) → d ≢ c → is_among d (without c ks) ≡ is_among d ks
 among-without_other c d [] o = refl
@@ -122,11 +147,7 @@ distinct-join c (k ∷ ks) n d = by_test (eqb k c) refl (is_among k ks) refl n d
         let apart : k ≢ c = λ s. let t : eqb k c ≡ true = eq-eqb k c s in absurd (cc (sym t ∙ e)) in
         rw (among-join_other c k ks apart, i) (r h g)
 
--- ---- options
-
-pub on_some : {X : Type 0} (r : Option X) (x : X) {P : Type 0} → r ≡ Some x → OnSome r P → P
-on_some None x e h = absurd (cc e)
-on_some (Some y) x e h = h
+-- ---- places
 
 pub place-within : (c : ℕ) (ks : List ℕ) (place : ℕ) → position (λ k. k == c) ks ≡ Some place → place < length ks
 place-within c ks place found = by_test (ltb (position_or_len (λ k. eqb k c) ks) (length ks)) refl found
@@ -137,3 +158,18 @@ place-within c ks place found = by_test (ltb (position_or_len (λ k. eqb k c) ks
         let within = ltb-true _ _ t in
         omega (arith, same, within)
     by_test false t e = absurd (cc e)
+
+pub is-child : (c : ℕ) (x : Option ℕ) → is_child c x ≡ true → x ≡ Some c
+is-child c None e = absurd (cc e)
+is-child c (Some k) e = ap Some (eqb-true k c e)
+
+-- what is looked for from the front is found or isn't there
+pub place-found : (c : ℕ) (ks : List ℕ) (r : Option ℕ) → r ≡ position (λ k. k == c) ks → MatchOption r (without c ks ≡ ks) (λ i. (remove ks i ≡ without c ks) × (i < length ks))
+place-found c ks None e = sym (none-removes c ks (sym e))
+place-found c ks (Some i) e = (place-removes c ks i (sym e), place-within c ks i (sym e))
+
+-- ---- options
+
+pub on_some : {X : Type 0} (r : Option X) (x : X) {P : Type 0} → r ≡ Some x → OnSome r P → P
+on_some None x e h = absurd (cc e)
+on_some (Some y) x e h = h

@@ -1,5 +1,5 @@
 -- Lists of children (docs/machine.md, "Objects"; Qt 6, `QObject::children`).
-use Rattle.std.specs.Prelude.{ℕ, eqb, Bool, true, false, ◌||◌, ◌&&◌, not, List, [], ◌∷◌, if◌then◌else◌}
+use Rattle.std.specs.Prelude.{ℕ, eqb, Bool, true, false, ◌||◌, ◌&&◌, not, List, [], ◌∷◌, Option, None, Some, if◌then◌else◌}
 
 -- a list without the first place where the child stands
 abbrev pub without : ℕ → List ℕ → List ℕ
@@ -15,3 +15,8 @@ is_among c (k ∷ ks) = eqb k c || is_among c ks
 abbrev pub are_distinct : List ℕ → Bool
 are_distinct [] = true
 are_distinct (k ∷ ks) = not (is_among k ks) && are_distinct ks
+
+-- the child that stands at some place, if there is one, is this one
+abbrev pub is_child : ℕ → Option ℕ → Bool
+is_child c None = false
+is_child c (Some k) = eqb k c

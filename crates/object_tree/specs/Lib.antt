@@ -1,6 +1,7 @@
-pub mod Lists
 pub mod Children
+pub mod Adoptions
 pub mod Objects
+pub mod Held
 pub mod Seen
 pub mod Family
 pub mod Typed
@@ -8,3 +9,6 @@ pub mod Creating
 pub mod Adopting
 pub mod Forest
 pub mod Kept
+pub mod Slots
+pub use Rattle.meta_model.specs.NamePlaces
+pub use Rattle.meta_objects.specs.Typed as MetaObjectsTyped

@@ -1,15 +1,24 @@
-ghost use Rattle.std.specs.Prelude.{◌≡◌, [], ◌∷◌, ◌++◌, OnOk, OnErr, slice_get, ◌==◌, position};
-ghost use Rattle.object_tree.specs.Children.{without};
+ghost use Rattle.std.specs.Prelude.{◌≡◌, ◌<◌, [], ◌∷◌, ◌++◌, OnOk, OnErr, MatchOption, slice_get, true, not, length, ◌==◌, position};
+ghost use Rattle.std.specs.List.{remove};
+ghost use Rattle.object_tree.specs.Children.{without, is_child, are_distinct};
+ghost use Rattle.object_tree.specs.Held.{are_any};
 
 use signatures::ObjectId;
 use std::alloc::{AllocError, Global};
 use std::collections::VecDeque;
 use std::marker::Model;
 
+/// A child among an object's children, with the number of its adoption. The numbers rise along the list.
+#[derive(Clone, Copy)]
+pub struct Adoption {
+    pub number: u64,
+    pub child: ObjectId,
+}
+
 /// An object's living children, in the order of adoption.
 #[derive(Drop)]
 pub struct Children {
-    items: VecDeque<ObjectId>,
+    items: VecDeque<Adoption>,
 }
 
 impl Model for Children {
@@ -17,7 +26,9 @@ impl Model for Children {
 
     ghost Value = { List ℕ };
 
-    ghost view = { λ children. children.items.items };
+    ghost use Rattle.object_tree.specs.Adoptions.{adopted};
+
+    ghost view = { λ children. adopted children.items.items };
 }
 
 impl Children {
@@ -30,35 +41,77 @@ impl Children {
         }
     }
 
+    /// Whether there is no child.
+    pub fn is_empty(&self) -> bool
+        ensures { result ≡ not (are_any self.now) }
+    {
+        self.items.is_empty()
+    }
+
     /// The child that was adopted first.
     pub fn first(&self) -> Option<ObjectId>
         ensures { result ≡ slice_get self.now 0 }
     {
-        self.items.front().copied()
+        match self.items.front() {
+            Some(adoption) => Some(adoption.child),
+            None => None,
+        }
     }
 
-    /// Adds a child behind the others. The error is that memory was refused: then nothing changes.
-    pub fn push(&mut self, child: ObjectId) -> Result<(), AllocError>
+    /// Adds a child behind the others, and tells the number of its adoption. The error is that memory was refused: then
+    /// nothing changes.
+    pub fn push(&mut self, child: ObjectId) -> Result<u64, AllocError>
         ensures ok { OnOk result (self.new ≡ self.old ++ child ∷ []) }
         ensures err { OnErr result (self.new ≡ self.old) }
     {
-        self.items.push_back(child)?;
-        Ok(())
+        let number = match self.items.back() {
+            Some(last) => last.number.saturating_add(1),
+            None => 0,
+        };
+        self.items.push_back(Adoption { number, child })?;
+        Ok(number)
     }
 
-    /// Takes a child out, the first time that it stands there; the others stay in their order.
-    pub fn remove(&mut self, child: ObjectId)
+    /// Takes a child out; the others stay in their order. Where `number` is that of its adoption, it is found by halves.
+    pub fn remove(&mut self, child: ObjectId, number: u64)
+        requires { are_distinct self.old ≡ true }
         ensures { self.new ≡ without child self.old }
     {
-        if let Some(place) = self.place(child) {
+        if let Some(place) = self.place(child, number) {
             self.items.remove(place);
         }
     }
 
     /// How many children stand before this one.
-    fn place(&self, child: ObjectId) -> Option<usize>
-        ensures { result ≡ position (λ k. k == child) self.now }
+    fn place(&self, child: ObjectId, number: u64) -> Option<usize>
+        requires { are_distinct self.now ≡ true }
+        ensures { MatchOption result (without child self.now ≡ self.now)
+            (λ place. (remove self.now place ≡ without child self.now) × (place < length self.now)) }
     {
-        self.items.iter().position(|other| *other == child)
+        let place = self
+            .items
+            .partition_point(|adoption| adoption.number < number);
+        if self.is_at(place, child) {
+            Some(place)
+        } else {
+            first_of(&self.items, child)
+        }
     }
+
+    /// Whether it is this child that stands behind so many others.
+    fn is_at(&self, place: usize, child: ObjectId) -> bool
+        ensures { result ≡ is_child child (slice_get self.now place) }
+    {
+        match self.items.get(place) {
+            Some(adoption) => adoption.child == child,
+            None => false,
+        }
+    }
+}
+
+/// How many adoptions stand before that of a child, which is looked for from the front.
+fn first_of(items: &VecDeque<Adoption>, child: ObjectId) -> Option<usize>
+    ensures { result ≡ position (λ a. a.child == child) items.now.items }
+{
+    items.iter().position(|adoption| adoption.child == child)
 }

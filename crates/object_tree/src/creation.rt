@@ -1,7 +1,6 @@
 //! How an object is created.
 
-ghost use Rattle.std.specs.Prelude.{◌≡◌, [], ◌∷◌, ◌++◌, length, IfOk, OnOk, OnErr, IfErr};
-ghost use Rattle.meta_model.specs.NamePlaces.{Adds};
+ghost use Rattle.std.specs.Prelude.{◌≡◌, IfOk, IfErr};
 ghost use Rattle.object_tree.specs.Creating.{MayCreate, IsNotCreated, fresh, initial_values};
 ghost use Rattle.object_tree.specs.Kept.{Kept};
 
@@ -76,27 +75,4 @@ pub fn new_object(
         children: Children::new(alloc),
         life: Some(life),
     })
-}
-
-/// Adds an object under its name. Without memory nothing changes.
-pub fn add(
-    names: &mut NameIndex,
-    objects: &mut Objects,
-    name: &Name,
-    object: Object,
-) -> Result<(), AllocError>
-    ensures named { OnOk result (Adds name.now (length objects.old) names.old names.new) }
-    ensures added { OnOk result (objects.new ≡ objects.old ++ object ∷ []) }
-    ensures names { OnErr result (names.new ≡ names.old) }
-    ensures objects { OnErr result (objects.new ≡ objects.old) }
-{
-    let number = objects.len();
-    objects.push(object)?;
-    match names.insert(name, number) {
-        Ok(()) => Ok(()),
-        Err(error) => {
-            objects.pop();
-            Err(error)
-        }
-    }
 }

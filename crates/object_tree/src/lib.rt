@@ -9,6 +9,7 @@ mod life;
 mod object;
 mod objects;
 mod seen;
+mod slot;
 mod tree;
 mod typing;
 mod values;

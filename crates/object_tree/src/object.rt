@@ -1,5 +1,6 @@
 ghost use Rattle.std.specs.Prelude.{◌≡◌};
 ghost use Rattle.object_tree.specs.Objects.{with_life, blocked, scheduled, written};
+ghost use Rattle.object_tree.specs.Held.{is_held};
 ghost use Rattle.object_tree.specs.Family.{put_under, dead};
 
 use crate::children::Children;
@@ -18,6 +19,13 @@ pub struct Object {
 }
 
 impl Object {
+    /// Whether the object lives or has a living child.
+    pub fn is_held(&self) -> bool
+        ensures { result ≡ is_held self.now }
+    {
+        self.life.is_some() || !self.children.is_empty()
+    }
+
     /// Blocks the object, or lets it emit again, if it lives.
     pub fn block(&mut self, on: bool)
         ensures { self.new ≡ with_life (blocked on) self.old }

@@ -1,21 +1,31 @@
 //! The objects as a plain list, and the changes of one of them.
 
-ghost use Rattle.std.specs.Prelude.{◌≡◌, [], ◌∷◌, ◌++◌, ◌<◌, length, slice_get, OnOk, OnErr, Some};
+ghost use Rattle.std.specs.Prelude.{◌≡◌, [], ◌∷◌, ◌++◌, ◌<◌, length, slice_get, count_by, true, OnOk, OnErr, IsSome, IfSome, Some, ◌≢◌};
 ghost use Rattle.std.specs.Option.{option_copied};
+ghost use Rattle.meta_model.specs.NamePlaces.{Adds};
 ghost use Rattle.object_tree.specs.Objects.{name_of, life_of, class_of, class_with, change, change_life, blocked, scheduled, written};
+ghost use Rattle.object_tree.specs.Held.{is_held, held_in, is_dead};
+ghost use Rattle.object_tree.specs.Forest.{Forest, HasDistinct};
 ghost use Rattle.object_tree.specs.Family.{parent_of, children_of, joined_by, left_by, leaves, put_under, moved, dead, without_life};
-ghost use Rattle.object_tree.specs.Lists.{LosesLast};
 
 use crate::life::Life;
 use crate::object::Object;
+use crate::slot::{
+    Entry, Slot, adoption_in, block_in, end_in, give_up, join_in, key_of, lose_in, name_in,
+    object_in, put, put_under_in, schedule_in, write_in,
+};
+use meta_model::NameIndex;
 use signatures::{Name, ObjectId, Value};
+use slab::Slab;
 use std::alloc::{AllocError, Global};
 use std::marker::Model;
 
-/// The objects in the order of their creation; an object's number is its place.
+/// The objects in the order of their creation; an object's number is its place. One that is dead and has no living child
+/// takes up no slot.
 #[derive(Drop)]
 pub struct Objects {
-    items: Vec<Object>,
+    entries: Vec<Entry>,
+    slots: Slab<Slot>,
 }
 
 impl Model for Objects {
@@ -24,7 +34,11 @@ impl Model for Objects {
 
     ghost Value = { List Object };
 
-    ghost view = { λ objects. objects.items.items };
+    ghost use Rattle.object_tree.specs.Slots.{shown_from, AreHoused};
+
+    ghost view = { λ objects. shown_from objects.slots 0 objects.entries.items };
+
+    ghost invariant = { λ objects. AreHoused objects.slots objects.entries.items };
 }
 
 impl Objects {
@@ -33,7 +47,8 @@ impl Objects {
         ensures { result ≡ [] }
     {
         Objects {
-            items: Vec::new(alloc),
+            entries: Vec::new(alloc),
+            slots: Slab::new(alloc),
         }
     }
 
@@ -41,24 +56,31 @@ impl Objects {
     pub fn len(&self) -> usize
         ensures { result ≡ length self.now }
     {
-        self.items.len()
+        self.entries.len()
     }
 
-    /// The object of this number, which may be dead.
-    pub fn get(&self, object: ObjectId) -> Option<&Object>
-        ensures { option_copied result ≡ slice_get self.now object }
+    /// How many objects live or have a living child.
+    pub fn held(&self) -> usize
+        ensures { result ≡ count_by is_held self.now }
     {
-        self.items.get(object.number())
+        self.slots.len()
+    }
+
+    /// The object of this number, if it lives or has a living child.
+    pub fn get(&self, object: ObjectId) -> Option<&Object>
+        ensures { option_copied result ≡ held_in (slice_get self.now object) }
+    {
+        match key_of(&self.entries, object) {
+            Some(key) => object_in(&self.slots, key, object),
+            None => None,
+        }
     }
 
     /// The name of an object, which may be dead.
     pub fn name(&self, object: ObjectId) -> Option<&Name>
         ensures { option_copied result ≡ name_of self.now object }
     {
-        match self.get(object) {
-            Some(found) => Some(&found.name),
-            None => None,
-        }
+        name_in(&self.entries, object)
     }
 
     /// What an object has while it lives.
@@ -69,6 +91,16 @@ impl Objects {
             Some(found) => found.life.as_ref(),
             None => None,
         }
+    }
+
+    /// Whether an object was created with this number and lives no more.
+    pub fn is_dead(&self, object: ObjectId) -> bool
+        ensures { result ≡ is_dead (slice_get self.now object) }
+    {
+        if self.class(object).is_some() {
+            return false;
+        }
+        object.number() < self.len()
     }
 
     /// The class of a living object.
@@ -112,29 +144,28 @@ impl Objects {
         }
     }
 
-    /// Adds an object; without memory nothing changes.
-    pub fn push(&mut self, object: Object) -> Result<(), AllocError>
-        ensures ok { OnOk result (self.new ≡ self.old ++ object ∷ []) }
-        ensures err { OnErr result (self.new ≡ self.old) }
+    /// Adds an object that lives, under its name, which the index of names gets too. Without memory nothing changes.
+    pub fn add(&mut self, names: &mut NameIndex, object: Object) -> Result<(), AllocError>
+        requires { is_held object ≡ true }
+        ensures named { OnOk result (Adds object.name (length self.old) names.old names.new) }
+        ensures added { OnOk result (self.new ≡ self.old ++ object ∷ []) }
+        ensures names { OnErr result (names.new ≡ names.old) }
+        ensures objects { OnErr result (self.new ≡ self.old) }
     {
-        self.items.push(object)?;
+        let name = object.name.copy()?;
+        self.entries.reserve(1)?;
+        self.slots.reserve(1)?;
+        names.insert(&name, self.entries.len())?;
+        put(&mut self.entries, &mut self.slots, name, object);
         Ok(())
-    }
-
-    /// Takes the last object off again.
-    pub fn pop(&mut self)
-        ensures { LosesLast self.old self.new }
-    {
-        let _last = self.items.pop();
     }
 
     /// Blocks a living object, or lets it emit again.
     pub fn block(&mut self, object: ObjectId, on: bool)
         ensures { self.new ≡ change_life object (blocked on) self.old }
     {
-        let number = object.number();
-        if number < self.len() {
-            self.items[number].block(on);
+        if let Some(key) = key_of(&self.entries, object) {
+            block_in(&mut self.slots, key, object, on);
         }
     }
 
@@ -142,9 +173,8 @@ impl Objects {
     pub fn schedule(&mut self, object: ObjectId)
         ensures { self.new ≡ change_life object scheduled self.old }
     {
-        let number = object.number();
-        if number < self.len() {
-            self.items[number].schedule();
+        if let Some(key) = key_of(&self.entries, object) {
+            schedule_in(&mut self.slots, key, object);
         }
     }
 
@@ -152,26 +182,30 @@ impl Objects {
     pub fn write(&mut self, object: ObjectId, property: usize, value: Value)
         ensures { self.new ≡ change_life object (written property value) self.old }
     {
-        let number = object.number();
-        if number < self.len() {
-            self.items[number].write(property, value);
+        if let Some(key) = key_of(&self.entries, object) {
+            write_in(&mut self.slots, key, object, property, value);
         }
     }
 
-    /// The child comes last among an object's children and leaves those of its old parent. Without memory nothing changes.
+    /// The child comes last among a living object's children and leaves those of its old parent, which is another one.
+    /// Without memory nothing changes.
     pub fn move_under(&mut self, parent: ObjectId, child: ObjectId) -> Result<(), AllocError>
+        requires forest { Forest self.old }
+        requires lives { IsSome (life_of self.old parent) }
+        requires elsewhere { parent_of self.old child ≢ Some parent }
         ensures ok { OnOk result (self.new ≡ moved parent child self.old) }
         ensures err { OnErr result (self.new ≡ self.old) }
     {
         let from = self.parent(child);
-        self.join(parent, child)?;
+        let adoption = self.join(parent, child)?;
         self.leave(from, child);
-        self.put_under(parent, child);
+        self.put_under(parent, child, adoption);
         Ok(())
     }
 
     /// An object lives no more and leaves its parent's children; its own children stay its children.
     pub fn mark_dead(&mut self, object: ObjectId)
+        requires { Forest self.old }
         ensures { self.new ≡ without_life object self.old }
     {
         let from = self.parent(object);
@@ -179,20 +213,25 @@ impl Objects {
         self.end_life(object);
     }
 
-    /// A child comes last among an object's children. Without memory nothing changes.
-    fn join(&mut self, parent: ObjectId, child: ObjectId) -> Result<(), AllocError>
+    /// A child comes last among a living object's children, and the number of its adoption is told. Without memory
+    /// nothing changes.
+    fn join(&mut self, parent: ObjectId, child: ObjectId) -> Result<u64, AllocError>
+        requires { IsSome (life_of self.old parent) }
         ensures ok { OnOk result (self.new ≡ change parent (joined_by child) self.old) }
         ensures err { OnErr result (self.new ≡ self.old) }
     {
-        let number = parent.number();
-        if number < self.len() {
-            self.items[number].children.push(child)?;
+        match key_of(&self.entries, parent) {
+            Some(key) => {
+                let adoption = join_in(&mut self.slots, key, parent, child)?;
+                Ok(adoption)
+            }
+            None => unreachable!(),
         }
-        Ok(())
     }
 
     /// A child leaves the children of its parent, if it has one.
     fn leave(&mut self, parent: Option<ObjectId>, child: ObjectId)
+        requires { IfSome parent (HasDistinct self.old) }
         ensures { self.new ≡ leaves parent child self.old }
     {
         match parent {
@@ -203,21 +242,30 @@ impl Objects {
 
     /// An object loses a child.
     fn lose(&mut self, parent: ObjectId, child: ObjectId)
+        requires { HasDistinct self.old parent }
         ensures { self.new ≡ change parent (left_by child) self.old }
     {
-        let number = parent.number();
-        if number < self.len() {
-            self.items[number].children.remove(child);
+        let adoption = self.adoption(child);
+        if let Some(key) = key_of(&self.entries, parent) {
+            lose_in(&mut self.slots, key, parent, child, adoption);
+            give_up(&mut self.slots, key);
         }
     }
 
-    /// A living object has this parent.
-    fn put_under(&mut self, parent: ObjectId, child: ObjectId)
+    /// The number under which its parent adopted a living object, if it has one. Whatever it is, the child is found.
+    fn adoption(&self, child: ObjectId) -> u64 {
+        match key_of(&self.entries, child) {
+            Some(key) => adoption_in(&self.slots, key),
+            None => 0,
+        }
+    }
+
+    /// A living object has this parent, which adopted it under this number.
+    fn put_under(&mut self, parent: ObjectId, child: ObjectId, adoption: u64)
         ensures { self.new ≡ change_life child (put_under parent) self.old }
     {
-        let number = child.number();
-        if number < self.len() {
-            self.items[number].put_under(parent);
+        if let Some(key) = key_of(&self.entries, child) {
+            put_under_in(&mut self.slots, key, child, parent, adoption);
         }
     }
 
@@ -225,9 +273,9 @@ impl Objects {
     fn end_life(&mut self, object: ObjectId)
         ensures { self.new ≡ change object dead self.old }
     {
-        let number = object.number();
-        if number < self.len() {
-            self.items[number].end_life();
+        if let Some(key) = key_of(&self.entries, object) {
+            end_in(&mut self.slots, key, object);
+            give_up(&mut self.slots, key);
         }
     }
 }

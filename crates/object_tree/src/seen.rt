@@ -42,8 +42,9 @@ pub fn seen_reference(objects: &Objects, reference: Option<ObjectId>) -> Option<
 fn seen_object(objects: &Objects, object: ObjectId) -> Option<ObjectId>
     ensures { result ≡ seen_object (slice_get objects.now object) object }
 {
-    match objects.get(object) {
-        Some(found) if found.life.is_none() => None,
-        _ => Some(object),
+    if objects.is_dead(object) {
+        None
+    } else {
+        Some(object)
     }
 }

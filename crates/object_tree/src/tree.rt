@@ -1,16 +1,17 @@
-ghost use Rattle.std.specs.Prelude.{◌≡◌, [], ◌↔◌, length, slice_get, IsTrue, Err, OnErr, MatchOption};
+ghost use Rattle.std.specs.Prelude.{◌≡◌, [], ◌↔◌, length, slice_get, count_by, IsTrue, Err, OnErr, MatchOption};
 ghost use Rattle.std.specs.Option.{option_copied};
 ghost use Rattle.object_tree.specs.Adopting.{AdoptsLiving};
 ghost use Rattle.object_tree.specs.Creating.{Creates};
 ghost use Rattle.object_tree.specs.Family.{IsChild, IsChildless, children_of, without_life};
 ghost use Rattle.object_tree.specs.Forest.{Forest};
+ghost use Rattle.object_tree.specs.Held.{is_held};
 ghost use Rattle.object_tree.specs.Objects.{Lives, IsGone, IsNamed, IsFree, name_of, life_of, home_of, stored, change_life, blocked, scheduled, written};
 ghost use Rattle.object_tree.specs.Seen.{seen, seen_reference};
 ghost use Rattle.object_tree.specs.Typed.{AreTyped, StayTyped, StayTypedIf, FitsProperty, ReadsAs, ReadAs};
 ghost use Rattle.object_tree.specs.declared.fault.AdoptFault.TheVariants.{NotOwned};
 
 use crate::ancestors::may_adopt;
-use crate::creation::{add, may_create, new_object};
+use crate::creation::{may_create, new_object};
 use crate::fault::{AdoptFault, CreateFault};
 use crate::life::Life;
 use crate::object::Object;
@@ -24,11 +25,20 @@ use std::alloc::Global;
 use std::marker::Model;
 
 /// The objects of a run, by number and name, and who is whose parent. Names and numbers are never used again.
-#[derive(Drop)]
 pub struct Tree {
     names: NameIndex,
     objects: Objects,
     alloc: Global,
+}
+
+impl Drop for Tree {
+    fn drop(self) {
+        let Tree {
+            names: _,
+            objects: _,
+            alloc: _,
+        } = self;
+    }
 }
 
 impl Model for Tree {
@@ -60,6 +70,13 @@ impl Tree {
         ensures { result ≡ length self.now }
     {
         self.objects.len()
+    }
+
+    /// How many objects memory is held for: those that live, and those that have a living child.
+    pub fn held(&self) -> usize
+        ensures { result ≡ count_by is_held self.now }
+    {
+        self.objects.held()
     }
 
     /// The number of the object that has or had this name, in time that doesn't grow with the number of objects.
@@ -206,7 +223,7 @@ impl Tree {
         let (number, kind) = may_create(meta, &self.names, &self.objects, name, class)?;
         let count = self.objects.len();
         let object = new_object(self.alloc, name, number, home, kind)?;
-        add(&mut self.names, &mut self.objects, name, object)?;
+        self.objects.add(&mut self.names, object)?;
         Ok(ObjectId::new(count))
     }
 

@@ -1,19 +1,20 @@
-use Rattle.std.proofs.Common.{◌<◌, ◌≤◌, List, length, sym, ap, ◌∙◌, arith}
-use Rattle.std.specs.Prelude.{slice_set}
+use Rattle.std.proofs.Common.{List, refl, sym, ap, ◌∙◌}
 use Rattle.object_tree.specs.declared.object.Object.{Object}
 use Rattle.object_tree.specs.Objects.{change}
 use Rattle.object_tree.specs.Family.{dead}
-use Rattle.object_tree.proofs.Changing.{set-changes, change-past}
+use Rattle.object_tree.specs.Slots.{as_it_was}
+use Rattle.object_tree.proofs.Slots.{change-none, get-none, no_entry, key-found}
+use Rattle.object_tree.proofs.GivenUp.{outcome-given}
 use Rattle.object_tree.proofs.objects.Objects.end_life.Goals as goal
 
-pub returns-then-number-len : goal.returns-then-number-len
-returns-then-number-len c =
-    let within : c.number-number.result < length c.self.inside.items.items = omega (arith, ap (λ (xs : List Object). length xs) c.self.view_is) in
-    ap (λ (x : Object). slice_set c.self.inside.items.items c.number-number.result x) c.end_life.ensures
-    ∙ set-changes c.self.inside.items.items c.number-number.result c.args.object dead c.index_mut.result.now c.number-number.ensures c.index_mut.ensures.value within
-    ∙ ap (λ (xs : List Object). change c.args.object dead xs) c.self.view_is
+pub invariant_of-self : goal.invariant_of-self
+invariant_of-self c = (outcome-given c.self.inside.slots c.end_in.new.slots c.give_up.new.slots c.self.inside.entries.items c.in-Some.key c.args.object as_it_was (dead) c.end_in.ensures c.give_up.ensures (key-found c.self.inside.entries.items c.deref.result.now c.args.object _ _ c.deref.ensures.value c.key_of.ensures c.in-Some.is) (λ x. refl) (λ name. refl) c.self.invariant).housed
 
-pub returns-else-number-len : goal.returns-else-number-len
-returns-else-number-len c =
-    let past : length c.args.self.now ≤ c.args.object = omega arith in
-    sym (change-past c.args.object dead c.args.self.now past)
+pub returns-in-Some : goal.returns-in-Some
+returns-in-Some c = (outcome-given c.self.inside.slots c.end_in.new.slots c.give_up.new.slots c.self.inside.entries.items c.in-Some.key c.args.object as_it_was (dead) c.end_in.ensures c.give_up.ensures (key-found c.self.inside.entries.items c.deref.result.now c.args.object _ _ c.deref.ensures.value c.key_of.ensures c.in-Some.is) (λ x. refl) (λ name. refl) c.self.invariant).shown ∙ ap (λ (xs : List Object). change c.args.object (dead) xs) c.self.view_is
+
+pub returns-in_default : goal.returns-in_default
+returns-in_default c =
+    sym (ap (λ (xs : List Object). change c.args.object (dead) xs) (sym c.self.view_is)
+    ∙ change-none c.args.object (dead) _ (get-none c.self.inside.slots 0 c.args.object c.self.inside.entries.items (no_entry c.self.inside.entries.items c.args.object (key-found c.self.inside.entries.items c.deref.result.now c.args.object _ _ c.deref.ensures.value c.key_of.ensures c.in_default.is)))
+    ∙ c.self.view_is)

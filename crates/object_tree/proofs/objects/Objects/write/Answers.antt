@@ -1,18 +1,19 @@
-use Rattle.std.proofs.Common.{◌<◌, ◌≤◌, List, length, sym, ap, ◌∙◌, arith}
-use Rattle.std.specs.Prelude.{slice_set}
+use Rattle.std.proofs.Common.{List, refl, sym, ap, ◌∙◌}
 use Rattle.object_tree.specs.declared.object.Object.{Object}
 use Rattle.object_tree.specs.Objects.{change, with_life, written}
-use Rattle.object_tree.proofs.Changing.{set-changes, change-past}
+use Rattle.object_tree.specs.Slots.{as_it_was}
+use Rattle.object_tree.proofs.Slots.{outcome-kept, change-none, get-none, no_entry, key-found}
+use Rattle.object_tree.proofs.Housed.{held-with_life}
 use Rattle.object_tree.proofs.objects.Objects.write.Goals as goal
 
-pub returns-then-number-len : goal.returns-then-number-len
-returns-then-number-len c =
-    let within : c.number-number.result < length c.self.inside.items.items = omega (arith, ap (λ (xs : List Object). length xs) c.self.view_is) in
-    ap (λ (x : Object). slice_set c.self.inside.items.items c.number-number.result x) c.write.ensures
-    ∙ set-changes c.self.inside.items.items c.number-number.result c.args.object (with_life (written c.args.property c.args.value)) c.index_mut.result.now c.number-number.ensures c.index_mut.ensures.value within
-    ∙ ap (λ (xs : List Object). change c.args.object (with_life (written c.args.property c.args.value)) xs) c.self.view_is
+pub invariant_of-self : goal.invariant_of-self
+invariant_of-self c = (outcome-kept c.self.inside.slots c.write_in.new.slots c.self.inside.entries.items c.in-Some.key c.args.object as_it_was (with_life (written c.args.property c.args.value)) c.write_in.ensures (key-found c.self.inside.entries.items c.deref.result.now c.args.object _ _ c.deref.ensures.value c.key_of.ensures c.in-Some.is) (λ x. refl) (λ x. held-with_life (written c.args.property c.args.value) x) (λ name. refl) c.self.invariant).housed
 
-pub returns-else-number-len : goal.returns-else-number-len
-returns-else-number-len c =
-    let past : length c.args.self.now ≤ c.args.object = omega arith in
-    sym (change-past c.args.object (with_life (written c.args.property c.args.value)) c.args.self.now past)
+pub returns-in-Some : goal.returns-in-Some
+returns-in-Some c = (outcome-kept c.self.inside.slots c.write_in.new.slots c.self.inside.entries.items c.in-Some.key c.args.object as_it_was (with_life (written c.args.property c.args.value)) c.write_in.ensures (key-found c.self.inside.entries.items c.deref.result.now c.args.object _ _ c.deref.ensures.value c.key_of.ensures c.in-Some.is) (λ x. refl) (λ x. held-with_life (written c.args.property c.args.value) x) (λ name. refl) c.self.invariant).shown ∙ ap (λ (xs : List Object). change c.args.object (with_life (written c.args.property c.args.value)) xs) c.self.view_is
+
+pub returns-in_default : goal.returns-in_default
+returns-in_default c =
+    sym (ap (λ (xs : List Object). change c.args.object (with_life (written c.args.property c.args.value)) xs) (sym c.self.view_is)
+    ∙ change-none c.args.object (with_life (written c.args.property c.args.value)) _ (get-none c.self.inside.slots 0 c.args.object c.self.inside.entries.items (no_entry c.self.inside.entries.items c.args.object (key-found c.self.inside.entries.items c.deref.result.now c.args.object _ _ c.deref.ensures.value c.key_of.ensures c.in_default.is)))
+    ∙ c.self.view_is)

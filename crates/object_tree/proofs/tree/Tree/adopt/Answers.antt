@@ -1,4 +1,7 @@
-use Rattle.std.proofs.Common.{List, sym, ◌∙◌, ap, subst}
+use Rattle.std.proofs.Common.{List, Option, refl, sym, ◌∙◌, ap, subst}
+use Rattle.std.specs.Prelude.{IsSome}
+use Rattle.object_tree.specs.declared.life.Life.{Life}
+use Rattle.object_tree.proofs.Changing.{life-of-lives}
 use Rattle.object_tree.specs.declared.object.Object.{Object}
 use Rattle.object_tree.specs.Adopting.{MayAdopt}
 use Rattle.object_tree.specs.Objects.{Lives}
@@ -34,3 +37,19 @@ returns-clause-value c = λ u v x y lx ly.
 pub returns-clause-typed : goal.returns-clause-typed
 returns-clause-typed c =
     λ p all. subst (λ (xs : List Object). AreTyped p xs) (sym c.in_ok-move_under.ensures.ok) (typed-moved p c.args.parent c.args.child c.self.inside.objects (subst (λ (xs : List Object). AreTyped p xs) (sym c.self.view_is) all))
+
+pub move_under-requires-clause-forest : goal.move_under-requires-clause-forest
+move_under-requires-clause-forest c = c.self.invariant.forest
+
+pub move_under-requires-clause-lives : goal.move_under-requires-clause-lives
+move_under-requires-clause-lives c =
+    let objects : List Object = c.self.inside.objects in
+    let owner = subst (λ (xs : List Object). Lives xs c.args.parent c.in-Some-Some.field-0-0-0.now c.in-Some-Some.owner.now) (sym c.self.view_is) c.in-Some-Some.ensures.value in
+    subst (λ (there : Option Life). IsSome there) (sym (life-of-lives owner)) refl
+
+pub move_under-requires-clause-elsewhere : goal.move_under-requires-clause-elsewhere
+move_under-requires-clause-elsewhere c =
+    let objects : List Object = c.self.inside.objects in
+    let owner = subst (λ (xs : List Object). Lives xs c.args.parent c.in-Some-Some.field-0-0-0.now c.in-Some-Some.owner.now) (sym c.self.view_is) c.in-Some-Some.ensures.value in
+    let child = subst (λ (xs : List Object). Lives xs c.args.child c.in-Some-Some.field-0-0-1.now c.in-Some-Some.owned.now) (sym c.self.view_is) c.in-Some-Some.ensures'.value in
+    (moves-by objects c.args.meta.now c.args.parent c.args.child c.in-Some-Some.field-0-0-0.now c.in-Some-Some.field-0-0-1.now c.in-Some-Some.owner.now c.in-Some-Some.owned.now c.self.invariant.forest owner child c.in_ok-may_adopt.ensures (false-not c.is_under.ensures c.if-is_under.false)).elsewhere

@@ -9,7 +9,7 @@ use Rattle.object_tree.proofs.tree.Tree.block.Goals as goal
 
 pub invariant_of-self : goal.invariant_of-self
 invariant_of-self c =
-    subst (λ (xs : List Object). Kept c.self.inside.names xs) (sym c.block.ensures) (kept-change c.self.inside.names c.args.object (blocked c.args.on) c.self.inside.objects (λ l. refl) c.self.invariant)
+    subst (λ (xs : List Object). Kept c.self.inside.names xs) (sym c.block.ensures) (kept-change c.self.inside.names c.args.object (blocked c.args.on) c.self.inside.objects (λ l. refl) (λ l. refl) c.self.invariant)
 
 pub returns-clause-typed : goal.returns-clause-typed
 returns-clause-typed c =

@@ -1,6 +1,8 @@
 use Rattle.std.proofs.Common.{◌≡◌, List, [], ◌∷◌, ◌++◌, length, refl, sym, ◌∙◌, ap, subst}
+use Rattle.meta_model.specs.NamePlaces.{Adds}
 use Rattle.object_tree.specs.declared.object.Object.{Object}
 use Rattle.object_tree.specs.Creating.{MayCreate, fresh, initial_values}
+use Rattle.object_tree.specs.Held.{is_held}
 use Rattle.object_tree.specs.Kept.{Kept}
 use Rattle.object_tree.specs.Typed.{AreTyped}
 use Rattle.object_tree.proofs.Errors.{creates-short}
@@ -22,8 +24,8 @@ pub invariant_of-self-2 : goal.invariant_of-self-2
 invariant_of-self-2 c =
     let objects : List Object = c.self.inside.objects in
     let made : Object = fresh c.args.name.now c.in_ok-number.number c.args.home (initial_values c.in_ok-number.kind.now) in
-    let appended : c.add.new.objects ≡ objects ++ made ∷ [] = c.in_ok-add.ensures.added ∙ ap (λ (z : Object). objects ++ z ∷ []) c.in_ok-object.ensures in
-    subst (λ (xs : List Object). Kept c.add.new.names xs) (sym appended) (kept-created c.self.inside.names c.add.new.names objects made refl refl c.in_ok-number.ensures.may.free c.in_ok-add.ensures.named c.self.invariant)
+    let appended : c.add.new.self ≡ objects ++ made ∷ [] = c.in_ok-add.ensures.added ∙ ap (λ (z : Object). objects ++ z ∷ []) c.in_ok-object.ensures in
+    subst (λ (xs : List Object). Kept c.add.new.names xs) (sym appended) (kept-created c.self.inside.names c.add.new.names objects made refl refl c.in_ok-number.ensures.may.free (subst (λ (z : Object). Adds z.name (length objects) c.self.inside.names c.add.new.names) c.in_ok-object.ensures c.in_ok-add.ensures.named) c.self.invariant)
 
 pub returns-clause-value : goal.returns-clause-value
 returns-clause-value c =
@@ -40,6 +42,9 @@ pub returns-clause-typed : goal.returns-clause-typed
 returns-clause-typed c = λ all.
     let objects : List Object = c.self.inside.objects in
     let made : Object = fresh c.args.name.now c.in_ok-number.number c.args.home (initial_values c.in_ok-number.kind.now) in
-    let appended : c.add.new.objects ≡ objects ++ made ∷ [] = c.in_ok-add.ensures.added ∙ ap (λ (z : Object). objects ++ z ∷ []) c.in_ok-object.ensures in
+    let appended : c.add.new.self ≡ objects ++ made ∷ [] = c.in_ok-add.ensures.added ∙ ap (λ (z : Object). objects ++ z ∷ []) c.in_ok-object.ensures in
     let before : AreTyped c.args.meta.now objects = subst (λ (xs : List Object). AreTyped c.args.meta.now xs) (sym c.self.view_is) all in
     subst (λ (xs : List Object). AreTyped c.args.meta.now xs) (sym appended) (typed-created c.args.meta.now objects c.args.name.now c.in_ok-number.number c.args.home c.in_ok-number.kind.now c.in_ok-number.ensures.may.is c.in_ok-number.ensures.may.begins before)
+
+pub add-requires : goal.add-requires
+add-requires c = ap (λ (z : Object). is_held z) c.in_ok-object.ensures

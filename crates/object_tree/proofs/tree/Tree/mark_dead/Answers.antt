@@ -13,3 +13,6 @@ invariant_of-self c =
 pub returns-clause-typed : goal.returns-clause-typed
 returns-clause-typed c =
     λ p all. subst (λ (xs : List Object). AreTyped p xs) (sym c.mark_dead.ensures) (typed-died p c.args.object c.self.inside.objects (subst (λ (xs : List Object). AreTyped p xs) (sym c.self.view_is) all))
+
+pub mark_dead-requires : goal.mark_dead-requires
+mark_dead-requires c = c.self.invariant.forest
