@@ -8,7 +8,7 @@ use Rattle.prop_bindings.specs.Bindings.{binding_at, AreApart, without, replaced
 use Rattle.prop_bindings.specs.Orders.{IsOrder}
 use Rattle.prop_bindings.proofs.Places.{decide_place, same_place-refl, different}
 use Rattle.prop_bindings.proofs.Walks.{ordered-fewer}
-use Rattle.prop_bindings.proofs.Installed.{push-none, without-at}
+use Rattle.prop_bindings.proofs.Replaced.{push-none, without-at}
 use Rattle.prop_bindings.proofs.Acyclic.{chain-more}
 
 -- what is unbound stays so where there are fewer bindings

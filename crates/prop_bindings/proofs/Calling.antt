@@ -1,5 +1,5 @@
 -- What the calls answer, from what a walk found and what was settled after it.
-use Rattle.std.proofs.Common.{◌≡◌, ◌-◌, true, false, List, [], ◌∷◌, ◌++◌, length, take, drop, Some, ap, sym, ◌∙◌, subst}
+use Rattle.std.proofs.Common.{◌≡◌, ◌-◌, true, false, List, [], ◌∷◌, ◌++◌, length, take, drop, Some, refl, ap, sym, ◌∙◌, subst}
 use Rattle.std.proofs.lemmas.List.{take_rest}
 use Rattle.std.proofs.lemmas.List.Elements.{All-filter, All-push}
 use Rattle.std.proofs.lemmas.Option.{same_Some}
@@ -10,13 +10,13 @@ use Rattle.prop_bindings.specs.declared.place.Place.{Place}
 use Rattle.prop_bindings.specs.declared.binding.Binding.{Binding}
 use Rattle.prop_bindings.specs.Places.{values_in}
 use Rattle.prop_bindings.specs.Bindings.{binding_at, without, replaced, reads_any, value_of, Settled, Loop}
-use Rattle.prop_bindings.specs.Changes.{in_order, DifferInValues, AreChanged, IsWritten, IsInstalled}
+use Rattle.prop_bindings.specs.Changes.{in_order, DifferInValues, AreChanged, none_changed, one_stayed, IsWritten, IsInstalled}
 use Rattle.prop_bindings.specs.Fits.{FitsAt, IsFit, Agree, AreSound}
-use Rattle.prop_bindings.specs.Orders.{IsOrder, update, pass, bound, Distinct, Halved, IsWalked}
+use Rattle.prop_bindings.specs.Orders.{IsOrder, update, pass, bound, Distinct, Halved, IsAffected, IsLater, IsWalked}
 use Rattle.prop_bindings.proofs.Apart.{apart-fewer, apart-replaced, acyclic-fewer}
 use Rattle.prop_bindings.proofs.Fitting.{fit-stays}
-use Rattle.prop_bindings.proofs.Installed.{without-other}
-use Rattle.prop_bindings.proofs.Settling.{written-value, written-settled, written-kept, closes-loop, installed-order, installed-acyclic, installed-settled, installed-kept}
+use Rattle.prop_bindings.proofs.Replaced.{without-fewer}
+use Rattle.prop_bindings.proofs.Settling.{written-value, written-settled, written-kept, closes-loop, installed-order, installed-acyclic, installed-settled, installed-kept, later-is}
 use Rattle.prop_bindings.proofs.Walks.{bound-other}
 
 -- all but the first
@@ -24,40 +24,58 @@ pub tail-is : (lent later reached : List Place) (at : Place) → lent ≡ later 
 tail-is lent later reached at read is = take_rest lent 1 ∙ ap (λ (xs : List Place). drop 1 xs) (read ∙ is)
 
 -- ---- a write
-module _ (p : Loaded) (bs : List Binding) (old new : List Object) (at : Place) (v : Value) (order sooner later followers : List Place)
-    (o : IsOrder (binding_at bs) order) (agree : Agree p old bs) (walked : IsWalked (binding_at bs) at order sooner later)
-    (rest : followers ≡ walked.reached)
+module _ (bs : List Binding) (old new : List Object) (at : Place) (v : Value) (followers : List Place)
+    (before : Settled (binding_at bs) (values_in old)) (affected : IsAffected (binding_at (without at bs)) at followers)
     (is : (q : Place) → values_in new q ≡ pass (binding_at bs) followers (update (values_in old) at (Some v)) q) where
-  halved : Halved (binding_at bs) (binding_at (without at bs)) at order walked.reached sooner []
-  halved = walked.halved (binding_at (without at bs)) (without-other at bs)
-
-  distinct : Distinct (at ∷ walked.reached)
-  distinct = subst Distinct walked.is_later walked.distinct
-
-  passed : (q : Place) → values_in new q ≡ pass (binding_at bs) walked.reached (update (values_in old) at (Some v)) q
-  passed q = is q ∙ ap (λ (xs : List Place). pass (binding_at bs) xs (update (values_in old) at (Some v)) q) rest
-
   settled : Settled (binding_at (without at bs)) (values_in new)
-  settled = written-settled bs at order sooner walked.reached v (values_in old) (values_in new) o halved distinct agree.settled passed
+  settled = written-settled bs at followers v (values_in old) (values_in new) affected before is
 
-  pub is_written : (cs : List Binding) (changed : List Place) → cs ≡ without at bs → DifferInValues old new → AreChanged old new (in_order at bs) changed → IsWritten bs cs old new at v changed
-  is_written cs changed left differ changes = record {
-    bindings = left;
+  pub is_written : (changed : List Place) → DifferInValues old new → AreChanged old new (in_order at bs) changed → IsWritten bs (without at bs) old new at v changed
+  is_written changed differ changes = record {
+    bindings = refl;
     objects = differ;
-    written = written-value bs at order sooner walked.reached v (values_in old) (values_in new) o halved distinct agree.settled passed;
-    settled = subst (λ (xs : List Binding). Settled (binding_at xs) (values_in new)) (sym left) settled;
-    kept = λ q none away. written-kept bs at order sooner walked.reached v (values_in old) (values_in new) o halved distinct agree.settled passed q (ap (λ (xs : List Binding). binding_at xs q) (sym left) ∙ none) away;
+    written = written-value bs at followers v (values_in old) (values_in new) affected before is;
+    settled = settled;
+    kept = λ q none away. written-kept bs at followers v (values_in old) (values_in new) affected before is q none away;
     changes = changes;
   }
 
-  pub agree_written : (cs : List Binding) → cs ≡ without at bs → AreSound p new bs → Agree p new cs
-  agree_written cs left sound = subst (λ (xs : List Binding). Agree p new xs) (sym left) (record {
+  pub agree_written : (p : Loaded) → Agree p old bs → AreSound p new bs → Agree p new (without at bs)
+  agree_written p agree sound = record {
     typed = sound.0;
     fit = All-filter _ (IsFit p new) bs sound.1;
     apart = apart-fewer _ bs agree.apart;
     acyclic = acyclic-fewer _ bs agree.apart agree.acyclic;
     settled = settled;
-  })
+  }
+
+-- .. of a value that the property had already
+all-stay : (objects : List Object) (ps : List Place) → AreChanged objects objects ps []
+all-stay objects [] = none_changed
+all-stay objects (p ∷ ps) = one_stayed refl (all-stay objects ps)
+
+module _ (bs : List Binding) (objects : List Object) (at : Place) (v : Value) (before : Settled (binding_at bs) (values_in objects)) where
+  left : Settled (binding_at (without at bs)) (values_in objects)
+  left q b some = before q b (without-fewer at bs q b some)
+
+  pub is_kept : values_in objects at ≡ Some v → IsWritten bs (without at bs) objects objects at v []
+  is_kept has = record {
+    bindings = refl;
+    objects = refl;
+    written = has;
+    settled = left;
+    kept = λ q none away. refl;
+    changes = all-stay objects (in_order at bs);
+  }
+
+  pub agree_kept : (p : Loaded) → Agree p objects bs → Agree p objects (without at bs)
+  agree_kept p agree = record {
+    typed = agree.typed;
+    fit = All-filter _ (IsFit p objects) bs agree.fit;
+    apart = apart-fewer _ bs agree.apart;
+    acyclic = acyclic-fewer _ bs agree.apart agree.acyclic;
+    settled = left;
+  }
 
 -- ---- a bind
 module _ (bs : List Binding) (b : Binding) (order sooner later : List Place) (o : IsOrder (binding_at bs) order)
@@ -96,6 +114,9 @@ module _ (bs : List Binding) (b : Binding) (order sooner later : List Place) (o 
         kept = λ q none. installed-kept bs b order sooner walked.reached o both apart v (values_in old) (values_in new) once before has follows q (ap (λ (xs : List Binding). binding_at xs q) (sym left) ∙ none);
         changes = changes;
       }
+
+      pub is_later : IsLater (binding_at bs) (bound (binding_at bs) b.target b) b.target (b.target ∷ walked.reached)
+      is_later = later-is bs b order sooner walked.reached o both apart v (values_in old) (values_in new) once before has follows
 
       pub agree_installed : (p : Loaded) (cs : List Binding) → cs ≡ replaced bs b → DifferInValues old new → Agree p old bs → IsFit p old b → AreSound p new bs → Agree p new cs
       agree_installed p cs left differ agree fit sound = subst (λ (xs : List Binding). Agree p new xs) (sym left) (record {

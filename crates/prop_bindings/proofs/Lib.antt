@@ -3,7 +3,7 @@ pub mod Places
 pub mod Passes
 pub mod Loops
 pub mod Walks
-pub mod Installed
+pub mod Replaced
 pub mod Acyclic
 pub mod Walking
 pub mod Values
@@ -22,3 +22,13 @@ pub mod Calling
 pub mod Short
 pub mod Covering
 pub mod Sited
+pub mod Numbers
+pub mod Keyed
+pub mod Graphs
+pub mod Reaching
+pub mod InOrder
+pub mod Counting
+pub mod Ranked
+pub mod Dropping
+pub mod Counted
+pub mod Touching

@@ -1,7 +1,9 @@
 -- What expressions name, and that their values depend on that alone.
-use Rattle.std.proofs.Common.{◌≡◌, ℕ, Bool, true, false, ◌||◌, List, [], ◌∷◌, ◌++◌, inl, inr, filter_map, Option, Some, None, refl, ap, sym, ◌∙◌, subst}
+use Rattle.std.proofs.Common.{◌≡◌, ◌≤◌, ℕ, zero, suc, length, arith, append_assoc, Bool, true, false, ◌||◌, List, [], ◌∷◌, ◌++◌, inl, inr, filter_map, Option, Some, None, refl, ap, sym, ◌∙◌, subst}
 use Rattle.std.specs.List.{list_any}
-use Rattle.std.specs.Option.{option_and_then}
+use Rattle.std.specs.Prelude.{slice_get}
+use Rattle.std.specs.Option.{option_and_then, option_map}
+use Rattle.std.proofs.lemmas.List.{append-nil}
 use Rattle.std.proofs.lemmas.Bool.{false≢true, cases_Bool, or_parts}
 use Rattle.signatures.specs.declared.value.Value.{Value}
 use Rattle.texts.specs.declared.syntax.Unary.{Unary}
@@ -16,7 +18,7 @@ use Rattle.expressions.specs.Evaluation.{value, value_step}
 use Rattle.meta_model.specs.declared.site.SourceProperty.{SourceProperty}
 use Rattle.prop_bindings.specs.declared.place.Place.{Place}
 use Rattle.prop_bindings.specs.declared.binding.Binding.{Binding}
-use Rattle.prop_bindings.specs.Places.{is_in, In}
+use Rattle.prop_bindings.specs.Places.{is_in, In, property_of}
 use Rattle.prop_bindings.specs.Bindings.{named_in, named_step, place_of, read_by, Reads, reads_any, value_of}
 use Rattle.prop_bindings.proofs.Places.{is_in-true, is_in-false}
 
@@ -41,17 +43,24 @@ filter_map-append {A} {B} f (x ∷ xs) ys = joined (f x) (filter_map-append f xs
     joined None is at = rw at is
     joined (Some y) is at = rw at (ap (λ zs. y ∷ zs) is)
 
-pub any-append : {A : Type 0} (test : A → Bool) (xs ys : List A) → list_any test (xs ++ ys) ≡ (list_any test xs || list_any test ys)
-any-append test [] ys = refl
-any-append test (x ∷ xs) ys = elim (cases_Bool (test x)) [
-  | inl t ↦ rw t refl
-  | inr f ↦ rw f (any-append test xs ys)
-]
+past-none : (xs : List ℕ) (k : ℕ) → length xs ≤ k → slice_get xs k ≡ None
+past-none [] k past = refl
+past-none (x ∷ xs) zero past = absurd (omega (arith, past))
+past-none (x ∷ xs) (suc k) past = past-none xs k (omega (arith, past))
 
-pub named_any-append : (sources : List ℕ) (ps : List Place) (xs ys : List SourceProperty) → list_any (is_in ps) (filter_map (place_of sources) (xs ++ ys)) ≡ (list_any (is_in ps) (filter_map (place_of sources) xs) || list_any (is_in ps) (filter_map (place_of sources) ys))
-named_any-append sources ps xs ys = ap (list_any (is_in ps)) (filter_map-append (place_of sources) xs ys) ∙ any-append (is_in ps) (filter_map (place_of sources) xs) (filter_map (place_of sources) ys)
+-- a name of no source stands for no property
+pub named-past : (sources : List ℕ) (s : SourceProperty) (xs : List Place) → length sources ≤ s.source → xs ≡ xs ++ filter_map (place_of sources) (s ∷ [])
+named-past sources s xs past =
+    let none : place_of sources s ≡ None = ap (option_map (λ o. property_of o s.property)) (past-none sources s.source past) in
+    sym (append-nil xs) ∙ sym (ap (λ (ys : List Place). xs ++ ys) (one-none none))
+  where
+    one-none : place_of sources s ≡ None → filter_map (place_of sources) (s ∷ []) ≡ []
+    one-none is = rw is refl
 
-pub ruleset named_equations = (named-Literal, named-Path, named-Unary, named-Binary, named_any-append)
+pub named-append : (sources : List ℕ) (xs ys : List SourceProperty) → filter_map (place_of sources) (xs ++ ys) ≡ filter_map (place_of sources) xs ++ filter_map (place_of sources) ys
+named-append sources xs ys = filter_map-append (place_of sources) xs ys
+
+pub ruleset named_equations = (named-Literal, named-Path, named-Unary, named-Binary, named-append, append_assoc)
 
 -- ---- which of some properties a binding reads
 any-true : (ps qs : List Place) → list_any (is_in qs) ps ≡ true → (p : Place) × In p qs × In p ps

@@ -1,12 +1,12 @@
 -- Steps of the walk that the code makes, over plain lists.
-use Rattle.std.proofs.Common.{◌≡◌, ℕ, ◌+◌, ◌<◌, length, drop, get_or, true, false, List, [], ◌∷◌, ◌++◌, inl, inr, Option, ap, sym, ◌∙◌, subst}
+use Rattle.std.proofs.Common.{◌≡◌, ℕ, ◌+◌, ◌<◌, length, drop, get_or, true, false, List, [], ◌∷◌, ◌++◌, inl, inr, Option, None, ap, sym, ◌∙◌, subst}
 use Rattle.std.proofs.lemmas.List.{drop_more}
 use Rattle.prop_bindings.specs.declared.place.Place.{Place}
 use Rattle.prop_bindings.specs.declared.binding.Binding.{Binding}
 use Rattle.prop_bindings.specs.Places.{is_in, In}
 use Rattle.prop_bindings.specs.Orders.{Ordered, Halved, AgreesBut, Distinct, reached_by}
 use Rattle.prop_bindings.proofs.Places.{is_in-true, is_in-false, different}
-use Rattle.prop_bindings.proofs.Walks.{halved-none, halved-skip, halved-again, halved-reached, halved-sooner, distinct-push}
+use Rattle.prop_bindings.proofs.Walks.{halved-none, halved-skip, halved-again, halved-reached, halved-sooner, halved-unbound, distinct-push}
 
 -- the walk is at `rest`, has found these and passed over the others, whatever t is bound to
 abbrev pub At : (Place → Option Binding) → Place → List Place → List Place → List Place → List Place → Type 0
@@ -25,6 +25,9 @@ at-again F t order reached sooner lent later q rest whole h cut is read found G 
       | inl e ↦ halved-skip F G t order reached sooner q rest now e
       | inr i ↦ halved-again F G t order reached sooner q rest now i
     ]
+
+pub at-unbound : (F : Place → Option Binding) (t : Place) (order reached sooner : List Place) (q : Place) (rest whole : List Place) → At F t order reached sooner whole → whole ≡ q ∷ rest → F q ≡ None → At F t order reached sooner rest
+at-unbound F t order reached sooner q rest whole h cut none G same = halved-unbound F G t order reached sooner q rest (subst (λ (xs : List Place). Halved F G t order reached sooner xs) cut (h G same)) none
 
 pub at-reached : (F : Place → Option Binding) (t : Place) (order reached sooner lent again later : List Place) (q : Place) (rest whole : List Place) → At F t order reached sooner whole → whole ≡ q ∷ rest → later ≡ t ∷ reached → lent ≡ later → again ≡ later → is_in lent q ≡ false → reached_by (F q) again ≡ true → At F t order (reached ++ q ∷ []) sooner rest
 at-reached F t order reached sooner lent again later q rest whole h cut is read once out found G same =

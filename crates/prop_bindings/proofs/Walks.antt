@@ -5,7 +5,7 @@ use Rattle.prop_bindings.specs.declared.place.Place.{Place}
 use Rattle.prop_bindings.specs.declared.binding.Binding.{Binding}
 use Rattle.prop_bindings.specs.Places.{same_place, In}
 use Rattle.prop_bindings.specs.Bindings.{Reads, reads_any, Chain, direct, further, Loop}
-use Rattle.prop_bindings.specs.Orders.{Free, Ordered, Covers, bound, reached_by, Halved, Distinct, IsAffected, IsLater}
+use Rattle.prop_bindings.specs.Orders.{Free, Ordered, Covers, bound, reached_by, Halved, Distinct, IsLater}
 use Rattle.prop_bindings.proofs.Naming.{reads_any-true, reads_any-false}
 use Rattle.prop_bindings.proofs.Places.{decide_place, same_place-refl, In-left, In-right, In-cases}
 
@@ -55,7 +55,7 @@ halved-none F G t order o = record {
   sooner_rest = λ p i. absurd i;
   sooner_later = λ p i. absurd i;
   chains = λ p i. absurd i;
-  total = λ p i. inr (inr (inr i));
+  total = λ p z f i. inr (inr (inr i));
 }
 
 pub halved-skip : (F G : Place → Option Binding) (t : Place) (order reached sooner : List Place) (q : Place) (rest : List Place) → Halved F G t order reached sooner (q ∷ rest) → t ≡ q → Halved F G t order reached sooner rest
@@ -67,7 +67,7 @@ halved-skip F G t order reached sooner q rest h e = record {
   sooner_rest = λ p i. free-rest G p q rest (h.sooner_rest p i);
   sooner_later = h.sooner_later;
   chains = h.chains;
-  total = λ p i. elim (h.total p i) [
+  total = λ p z f i. elim (h.total p z f i) [
     | inl a ↦ inl a
     | inr b ↦ elim b [
       | inl a ↦ inr (inl a)
@@ -92,7 +92,7 @@ halved-reached F G t order reached sooner q rest h e found = record {
   sooner_rest = λ p i. free-rest G p q rest (h.sooner_rest p i);
   sooner_later = λ p i. free-append G p (t ∷ reached) (q ∷ []) (h.sooner_later p i) (free-one G p q rest (h.sooner_rest p i));
   chains = pushed (λ (p : Place). Chain G t p) reached q h.chains (reaches (F q) refl found);
-  total = λ p i. elim (h.total p i) [
+  total = λ p z f i. elim (h.total p z f i) [
     | inl a ↦ inl a
     | inr b ↦ elim b [
       | inl a ↦ inr (inl (In-left p reached (q ∷ []) a))
@@ -121,7 +121,7 @@ halved-sooner F G t order reached sooner q rest h e found = record {
   sooner_rest = pushed (λ (p : Place). Free G p rest) sooner q (λ p i. free-rest G p q rest (h.sooner_rest p i)) (free-rest G q q rest (free-same F G q (q ∷ rest) e h.rest_ordered.0));
   sooner_later = pushed (λ (p : Place). Free G p (t ∷ reached)) sooner q h.sooner_later (not-reached G q (t ∷ reached) (F q) e found);
   chains = h.chains;
-  total = λ p i. elim (h.total p i) [
+  total = λ p z f i. elim (h.total p z f i) [
     | inl a ↦ inl a
     | inr b ↦ elim b [
       | inl a ↦ inr (inl a)
@@ -143,13 +143,38 @@ halved-again F G t order reached sooner q rest h found = record {
   sooner_rest = λ p i. free-rest G p q rest (h.sooner_rest p i);
   sooner_later = h.sooner_later;
   chains = h.chains;
-  total = λ p i. elim (h.total p i) [
+  total = λ p z f i. elim (h.total p z f i) [
     | inl a ↦ inl a
     | inr b ↦ elim b [
       | inl a ↦ inr (inl a)
       | inr b2 ↦ elim b2 [
         | inl a ↦ inr (inr (inl a))
         | inr b3 ↦ elim b3 [ inl a ↦ inr (inl (subst (λ (y : Place). In y reached) a found)) | inr a ↦ inr (inr (inr a)) ]
+      ]
+    ]
+  ];
+}
+
+-- one that isn't bound is passed over
+pub halved-unbound : (F G : Place → Option Binding) (t : Place) (order reached sooner : List Place) (q : Place) (rest : List Place) → Halved F G t order reached sooner (q ∷ rest) → F q ≡ None → Halved F G t order reached sooner rest
+halved-unbound F G t order reached sooner q rest h none = record {
+  rest_ordered = h.rest_ordered.1;
+  reached_ordered = h.reached_ordered;
+  sooner_ordered = h.sooner_ordered;
+  reached_rest = λ p i. free-rest G p q rest (h.reached_rest p i);
+  sooner_rest = λ p i. free-rest G p q rest (h.sooner_rest p i);
+  sooner_later = h.sooner_later;
+  chains = h.chains;
+  total = λ p z f i. elim (h.total p z f i) [
+    | inl a ↦ inl a
+    | inr b ↦ elim b [
+      | inl a ↦ inr (inl a)
+      | inr b2 ↦ elim b2 [
+        | inl a ↦ inr (inr (inl a))
+        | inr b3 ↦ elim b3 [
+          | inl a ↦ let gone : F p ≡ None = subst (λ (y : Place). F y ≡ None) a none in absurd (cc (gone, f))
+          | inr a ↦ inr (inr (inr a))
+        ]
       ]
     ]
   ];
@@ -164,7 +189,7 @@ halved-ordered F G t order reached sooner rest b h g found = ordered-append G so
 pub halved-covers : (F : Place → Option Binding) (t : Place) (z : Binding) (order reached sooner : List Place) → Halved F (bound F t z) t order reached sooner [] → Covers F order → Covers (bound F t z) (sooner ++ t ∷ reached)
 halved-covers F t z order reached sooner h c p us g = elim (decide_place t p) [
   | inl e ↦ In-right p sooner (t ∷ reached) (inl e)
-  | inr f ↦ elim (h.total p (c p us (sym (bound-other F t z p f) ∙ g))) [
+  | inr f ↦ elim (h.total p us (sym (bound-other F t z p f) ∙ g) (c p us (sym (bound-other F t z p f) ∙ g))) [
     | inl a ↦ In-right p sooner (t ∷ reached) (inl a)
     | inr b ↦ elim b [
       | inl a ↦ In-right p sooner (t ∷ reached) (inr a)
@@ -181,20 +206,6 @@ distinct-push (x ∷ xs) q d out = (
 )
 
 -- what a whole walk found
-pub affected-by : (F : Place → Option Binding) (p : Place) (order reached sooner : List Place) → Halved F F p order reached sooner [] → Covers F order → F p ≡ None → Distinct reached → IsAffected F p reached
-affected-by F p order reached sooner h c none d = record {
-  ordered = h.reached_ordered;
-  distinct = d;
-  reached = h.chains;
-  closed = λ q m z f r i. elim (h.total q (c q z f)) [
-    | inl e ↦ let gone : F q ≡ None = subst (λ (y : Place). F y ≡ None) e none in absurd (cc)
-    | inr b ↦ elim b [
-      | inl a ↦ a
-      | inr b2 ↦ elim b2 [ inl a ↦ absurd (h.sooner_later q a z f m i r) | inr a ↦ absurd a ]
-    ]
-  ];
-}
-
 pub later-by : (F : Place → Option Binding) (t : Place) (z : Binding) (order reached sooner : List Place) → Halved F (bound F t z) t order reached sooner [] → Covers F order → Distinct (t ∷ reached) → reads_any z (t ∷ reached) ≡ false → IsLater F (bound F t z) t (t ∷ reached)
 later-by F t z order reached sooner h c d free = record {
   ordered = (not-reached (bound F t z) t (t ∷ reached) (Some z) (bound-same F t z) free, h.reached_ordered);
@@ -206,7 +217,7 @@ later-by F t z order reached sooner h c d free = record {
     | inr f ↦
         let old : F q ≡ Some us = sym (bound-other F t z q f) ∙ g in (
           old,
-          λ m i r. elim (h.total q (c q us old)) [
+          λ m i r. elim (h.total q us old (c q us old)) [
             | inl e ↦ out (inl e)
             | inr b ↦ elim b [
               | inl a ↦ out (inr a)

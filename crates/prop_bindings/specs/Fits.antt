@@ -8,7 +8,7 @@ use Rattle.object_tree.specs.Typed.{AreTyped, FitsProperty}
 use Rattle.prop_bindings.specs.declared.place.Place.{Place}
 use Rattle.prop_bindings.specs.declared.binding.Binding.{Binding}
 use Rattle.prop_bindings.specs.Places.{values_in}
-use Rattle.prop_bindings.specs.Bindings.{value_of, binding_at, AreApart, Settled, Loop}
+use Rattle.prop_bindings.specs.Bindings.{value_of, binding_at, without, AreApart, Settled, Loop}
 
 -- the value is of the type of a living object's property
 abbrev pub FitsAt : Loaded → List Object → Place → Value → Type 0
@@ -49,6 +49,14 @@ IsSoundWith objects bs at v = (p : Loaded) × AreSound p objects bs × FitsAt p 
 
 abbrev pub StaySoundWith : List Object → List Object → List Binding → Place → Value → Type 0
 StaySoundWith old new bs at v = (p : Loaded) → AreSound p old bs → FitsAt p old at v → AreSound p new bs
+
+-- what stands where a property is to be given this value
+abbrev pub AgreesAt : List Object → List Binding → Place → Value → Type 0
+AgreesAt objects bs at v = (p : Loaded) × Agree p objects bs × FitsAt p objects at v
+
+-- .. and stands once its binding is gone
+abbrev pub StayAgreeingAt : List Object → List Object → List Binding → Place → Value → Type 0
+StayAgreeingAt old new bs at v = (p : Loaded) → Agree p old bs → FitsAt p old at v → Agree p new (without at bs)
 
 -- what stands where a binding is to be installed whose expression has this value
 abbrev pub AgreesWith : List Object → List Binding → Binding → Value → Type 0

@@ -1,8 +1,13 @@
 pub mod Places
+pub mod Keys
 pub mod Bindings
 pub mod Changes
 pub mod Fits
 pub mod Calls
+pub mod Counts
 pub mod Orders
+pub mod Numbering
+pub mod Groups
+pub mod Graph
 pub mod Laws
 pub mod FaultNumbers

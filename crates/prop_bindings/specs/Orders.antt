@@ -24,6 +24,13 @@ pub record IsOrder (F : Place → Option Binding) (order : List Place) : Type 0 
   pub ordered : Ordered F order
   pub covers : Covers F order
 
+-- the property is bound, and so is each of these
+abbrev pub IsBoundBy : (Place → Option Binding) → Place → Type 0
+IsBoundBy F p = (b : Binding) × (F p ≡ Some b)
+
+abbrev pub AreBound : (Place → Option Binding) → List Place → Type 0
+AreBound F ps = (p : Place) → In p ps → IsBoundBy F p
+
 -- ---- evaluating in an order
 abbrev pub update : (Place → Option Value) → Place → Option Value → Place → Option Value
 update e p v q = cond (same_place p q) v (e q)
@@ -72,7 +79,8 @@ abbrev pub reached_by : Option Binding → List Place → Bool
 reached_by None ps = false
 reached_by (Some b) ps = reads_any b ps
 
--- the walk has sorted out what chains lead to from t, which stand in `reached`; the others stand in `sooner`
+-- the walk has sorted out what chains lead to from t, which stand in `reached`; the others that are bound stand in
+-- `sooner`
 pub record Halved (F G : Place → Option Binding) (t : Place) (order reached sooner rest : List Place) : Type 0 where
   pub rest_ordered : Ordered F rest
   pub reached_ordered : Ordered G reached
@@ -81,7 +89,7 @@ pub record Halved (F G : Place → Option Binding) (t : Place) (order reached so
   pub sooner_rest : (p : Place) → In p sooner → Free G p rest
   pub sooner_later : (p : Place) → In p sooner → Free G p (t ∷ reached)
   pub chains : (p : Place) → In p reached → Chain G t p
-  pub total : (p : Place) → In p order → (t ≡ p) ⊎ (In p reached ⊎ (In p sooner ⊎ In p rest))
+  pub total : (p : Place) (b : Binding) → F p ≡ Some b → In p order → (t ≡ p) ⊎ (In p reached ⊎ (In p sooner ⊎ In p rest))
 
 -- G binds what F binds, but for t
 abbrev pub AgreesBut : Place → (Place → Option Binding) → (Place → Option Binding) → Type 0

@@ -1,20 +1,19 @@
 //! Bindings, and what their expressions read.
 
-ghost use Rattle.std.specs.Prelude.{◌≡◌, ◌∷◌, [], filter_map};
-ghost use Rattle.std.specs.List.{list_any};
+ghost use Rattle.std.specs.Prelude.{◌≡◌, ◌∷◌, [], ◌++◌, filter_map, IfOk, OnOk};
 ghost use Rattle.expressions.specs.Evaluation.{Evaluates};
 ghost use Rattle.object_tree.specs.Children.{is_among};
-ghost use Rattle.prop_bindings.specs.Places.{is_in, values_in};
-ghost use Rattle.prop_bindings.specs.Bindings.{named_in, place_of, reads_any, value_of, touches};
+ghost use Rattle.prop_bindings.specs.Places.{values_in};
+ghost use Rattle.prop_bindings.specs.Bindings.{named_in, place_of, read_by, value_of, touches};
 
-use crate::place::{Place, contains};
+use crate::place::Place;
 use crate::sources::Sources;
 use expressions::{EvalFault, eval};
 use meta_objects::{Formula, SourceProperty};
 use object_tree::Tree;
 use signatures::{ObjectId, Value};
 use sqlite_items::Items;
-use std::alloc::Global;
+use std::alloc::{AllocError, Global};
 use texts::Expr;
 
 /// A binding: the target follows its site's expression over the sources.
@@ -42,11 +41,17 @@ impl Binding {
         eval(alloc, self.formula.expression(), &sources)
     }
 
-    /// Whether the expression names one of these properties.
-    pub fn reads_any(&self, places: &[Place]) -> bool
-        ensures { result ≡ reads_any self.now places.now }
+    /// The properties that the expression names, in its order. Its error is that memory was refused.
+    pub fn reads(&self, alloc: Global) -> Result<Vec<Place>, AllocError>
+        ensures { IfOk result (λ reads. reads.items ≡ read_by self.now) }
     {
-        names_any(self.formula.expression(), self.sources.as_slice(), places)
+        let mut reads = Vec::new(alloc);
+        push_names(
+            self.formula.expression(),
+            self.sources.as_slice(),
+            &mut reads,
+        )?;
+        Ok(reads)
     }
 
     /// Whether the object is the target's, or a source.
@@ -70,34 +75,44 @@ fn is_source(sources: &[ObjectId], object: ObjectId) -> bool
 }
 
 #[tactic(auto, using(crate::proofs::Naming::named_equations))]
-/// Whether the expression names one of these properties, over these sources.
-fn names_any(expression: &Expr<SourceProperty>, sources: &[ObjectId], places: &[Place]) -> bool
-    ensures { result
-        ≡ list_any (is_in places.now) (filter_map (place_of sources.now) (named_in expression.now)) }
+/// Adds the properties that the expression names, over these sources. Its error is that memory was refused.
+fn push_names(
+    expression: &Expr<SourceProperty>,
+    sources: &[ObjectId],
+    reads: &mut Vec<Place>,
+) -> Result<(), AllocError>
+    ensures { OnOk result (reads.new.items
+        ≡ reads.old.items ++ filter_map (place_of sources.now) (named_in expression.now)) }
 {
     match expression {
-        Expr::Literal(_) => false,
-        Expr::Path(named) => names_one(*named, sources, places),
-        Expr::Unary(_, operand) => names_any(operand.get(), sources, places),
+        Expr::Literal(_) => Ok(()),
+        Expr::Path(named) => push_name(*named, sources, reads),
+        Expr::Unary(_, operand) => push_names(operand.get(), sources, reads),
         Expr::Binary(_, left, right) => {
-            names_any(left.get(), sources, places) || names_any(right.get(), sources, places)
+            push_names(left.get(), sources, reads)?;
+            push_names(right.get(), sources, reads)?;
+            Ok(())
         }
     }
 }
 
-/// Whether the name stands for one of these properties.
-fn names_one(named: SourceProperty, sources: &[ObjectId], places: &[Place]) -> bool
-    ensures { result
-        ≡ list_any (is_in places.now) (filter_map (place_of sources.now) (named ∷ [])) }
+/// Adds the property that a name stands for, if there is such a source.
+fn push_name(
+    named: SourceProperty,
+    sources: &[ObjectId],
+    reads: &mut Vec<Place>,
+) -> Result<(), AllocError>
+    ensures { OnOk result (reads.new.items
+        ≡ reads.old.items ++ filter_map (place_of sources.now) (named ∷ [])) }
 {
     match sources.get(named.source) {
         Some(object) => {
-            let place = Place {
+            reads.push(Place {
                 object: *object,
                 property: named.property,
-            };
-            contains(places, &place)
+            })?;
+            Ok(())
         }
-        None => false,
+        None => Ok(()),
     }
 }

@@ -1,74 +1,94 @@
 //! The installed bindings.
 
-ghost use Rattle.std.specs.Prelude.{◌≡◌, [], vec_len, vec_capacity, ◌<◌, ◌≤◌};
-ghost use Rattle.prop_bindings.specs.Bindings.{binding_at, without, replaced, dropped};
-ghost use Rattle.prop_bindings.specs.Fits.{Agree, AgreesWith, StayAgreeing};
+ghost use Rattle.std.specs.Prelude.{◌≡◌, slice_get, IfOk, OnOk, OnErr};
+ghost use Rattle.std.specs.Option.{option_copied};
+ghost use Rattle.prop_bindings.specs.Bindings.{binding_at, dropped, without};
 ghost use Rattle.prop_bindings.specs.Calls.{Writes, Binds, Installs};
+ghost use Rattle.prop_bindings.specs.Changes.{IsWritten};
+ghost use Rattle.prop_bindings.specs.Counts.{CountsBind, CountsInstall, CountsWrite, CountsWritten, Kept, nothing_kept};
+ghost use Rattle.prop_bindings.specs.Fits.{Agree, AgreesAt, AgreesWith, StayAgreeing, StayAgreeingAt};
+ghost use Rattle.prop_bindings.specs.Graph.{IsGraph, bindings_of};
 ghost use Rattle.prop_bindings.specs.Laws.{Determines};
 
 use crate::binding::Binding;
 use crate::changes::settle;
 use crate::fault::{BindFault, WriteFault};
-use crate::order::{Walked, walk};
+use crate::followers::followers;
+use crate::graph::Graph;
+use crate::installed::Reader;
+use crate::order::{Walked, ranks_of, walk};
 use crate::place::Place;
-use crate::preparing::{Prepared, fits, prepare};
+use crate::preparing::{Prepared, fits, has_value, prepare};
 use meta_objects::Meta;
 use object_tree::Tree;
 use signatures::{ObjectId, Value};
 use sqlite_items::Items;
-use std::alloc::Global;
+use std::alloc::{AllocError, Global};
 use std::marker::Model;
 
 /// Bindings in the order in which they were installed, at most one of each property, and of which no chain leads from a
-/// property back to itself. They are kept with an order of evaluation, in which sources stand before their readers.
+/// property back to itself, and how many evaluations the last write or bind took.
+///
+/// They are kept with the readers of each property and an order of evaluation, in which sources stand before their readers:
+/// a write looks at what depends on the property, and at nothing else.
 #[derive(Drop)]
 pub struct Bindings {
-    installed: Vec<Binding>,
-    order: Vec<Place>,
+    graph: Graph,
+    evaluated: usize,
     alloc: Global,
 }
 
 impl Model for Bindings {
-    ghost use Rattle.std.specs.Coded.{coded_list};
-    ghost use Rattle.prop_bindings.specs.contracts.binding.Binding as binding;
-    ghost use Rattle.std.specs.Prelude.{List};
-    ghost use Rattle.prop_bindings.specs.declared.binding.Binding.{Binding};
-    ghost use Rattle.prop_bindings.specs.Bindings.{binding_at, AreApart};
-    ghost use Rattle.prop_bindings.specs.Orders.{IsOrder};
+    ghost use Rattle.std.specs.Coded.{codes};
+    ghost use Rattle.prop_bindings.specs.contracts.binding.Binding as held;
+    ghost use Rattle.prop_bindings.specs.Counts.{Kept};
+    ghost use Rattle.prop_bindings.specs.Graph.{IsGraph, bindings_of};
 
-    ghost Value = { List Binding };
+    ghost Value = { Kept };
 
-    ghost coded = { coded_list binding.the_row.coded };
+    ghost coded = { Prim.hlevel (codes, held.the_row.coded) };
 
-    ghost view = { λ b. b.installed.items };
+    ghost view = { λ b. record { installed = bindings_of b.graph; evaluated = b.evaluated } };
 
-    ghost invariant = { λ b. IsOrder (binding_at b.installed.items) b.order.items × AreApart b.installed.items };
+    ghost invariant = { λ b. IsGraph b.graph };
 }
 
 impl Bindings {
     /// No bindings, which takes no memory. The later calls take theirs from this allocator.
     pub fn new(alloc: Global) -> Bindings
-        ensures { result ≡ [] }
+        ensures { result ≡ nothing_kept }
     {
         Bindings {
-            installed: Vec::new(alloc),
-            order: Vec::new(alloc),
+            graph: Graph::new(alloc),
+            evaluated: 0,
             alloc,
         }
     }
 
-    /// The bindings in the order in which they were installed.
-    pub fn as_slice(&self) -> &[Binding]
-        ensures { result.now ≡ self.now }
+    /// The binding that was installed after this many others that are installed.
+    pub fn get(&self, position: usize) -> Option<&Binding>
+        ensures { option_copied result ≡ slice_get self.now.installed position }
     {
-        &self.installed
+        match self.graph.installed.at(position) {
+            Some(reader) => Some(reader.binding()),
+            None => None,
+        }
+    }
+
+    /// How many expressions the last write or bind evaluated that wasn't refused, 0 at first. A write evaluates the
+    /// bindings to whose targets a chain leads from the property, each once, and none where the property had the value
+    /// already; a bind evaluates the new binding, and those to whose targets a chain leads from its target.
+    pub fn last_evaluated(&self) -> usize
+        ensures { result ≡ self.now.evaluated }
+    {
+        self.evaluated
     }
 
     /// Over whatever other values, the bound properties have exactly one list of settled values.
     pub fn settle_once(&self)
-        ensures { Determines (binding_at self.now) }
+        ensures { Determines (binding_at self.now.installed) }
     {
-        let _order = &self.order;
+        let _graph = &self.graph;
     }
 
     /// Writes a property of a living object, which ends its binding; the values that follow from it change with it. It
@@ -82,17 +102,19 @@ impl Bindings {
         place: &Place,
         value: Value,
     ) -> Result<Items<Place>, WriteFault>
-        requires agree { Agree meta.now tree.old self.old }
-        ensures value { Writes meta.now place.now value self.old tree.old result self.new tree.new }
-        ensures agree { Agree meta.now tree.new self.new }
+        requires agree { Agree meta.now tree.old self.old.installed }
+        ensures value { Writes meta.now place.now value self.old.installed tree.old result
+            self.new.installed tree.new }
+        ensures agree { Agree meta.now tree.new self.new.installed }
+        ensures counted { CountsWrite place.now value tree.old self.old result self.new }
     {
         if !fits(meta, tree, place, &value) {
             return Err(WriteFault::BadType);
         }
-        let walked = walk(self.alloc, &self.installed, &self.order, place)?;
-        let followers = &walked.later[1..];
-        let changed = settle(self.alloc, &self.installed, followers, tree, place, value)?;
-        remove(&mut self.installed, place);
+        let mut count = 0;
+        let changed = write_over(self.alloc, &self.graph, tree, place, value, &mut count)?;
+        self.graph.remove(place);
+        self.evaluated = count;
         Ok(changed)
     }
 
@@ -111,69 +133,101 @@ impl Bindings {
         target: ObjectId,
         sources: &[ObjectId],
     ) -> Result<Items<Place>, BindFault>
-        requires agree { Agree meta.now tree.old self.old }
-        ensures value { Binds meta.now site target sources.now self.old tree.old result
-            self.new tree.new }
-        ensures agree { Agree meta.now tree.new self.new }
+        requires agree { Agree meta.now tree.old self.old.installed }
+        ensures value { Binds meta.now site target sources.now self.old.installed tree.old result
+            self.new.installed tree.new }
+        ensures agree { Agree meta.now tree.new self.new.installed }
+        ensures counted { CountsBind meta.now site target self.old result self.new }
     {
-        let prepared = prepare(self.alloc, meta, tree, site, target, sources)?;
-        self.install(tree, prepared)
+        let mut count = 0;
+        let prepared = prepare(self.alloc, meta, tree, site, target, sources, &mut count)?;
+        self.install(tree, prepared, count)
     }
 
-    /// Installs a binding whose expression has this value. `BindingLoop` where it would close a chain, `Memory` only
-    /// where a growth was refused; then nothing changes.
-    fn install(&mut self, tree: &mut Tree, prepared: Prepared) -> Result<Items<Place>, BindFault>
-        requires agree { AgreesWith tree.old self.old prepared.binding prepared.value }
-        ensures value { Installs prepared.binding self.old tree.old result self.new tree.new }
-        ensures agree { StayAgreeing tree.old tree.new self.old self.new prepared.binding }
+    /// Installs a binding whose expression has this value, after so many evaluations. `BindingLoop` where it would close
+    /// a chain, `Memory` only where a growth was refused; then nothing changes.
+    fn install(
+        &mut self,
+        tree: &mut Tree,
+        prepared: Prepared,
+        before: usize,
+    ) -> Result<Items<Place>, BindFault>
+        requires agree { AgreesWith tree.old self.old.installed prepared.binding prepared.value }
+        requires once { before ≡ 1 }
+        ensures value { Installs prepared.binding self.old.installed tree.old result
+            self.new.installed tree.new }
+        ensures agree { StayAgreeing tree.old tree.new self.old.installed self.new.installed
+            prepared.binding }
+        ensures counted { CountsInstall prepared.binding.target self.old result self.new }
     {
         let Prepared { binding, value } = prepared;
-        let target = &binding.target;
-        let walked = walk(self.alloc, &self.installed, &self.order, target)?;
+        let target = binding.target;
+        let reader = Reader::new(self.alloc, binding)?;
+        let walked = walk(self.alloc, &self.graph, &target)?;
         let Walked { mut sooner, later } = walked;
-        if binding.reads_any(&later) {
+        if reader.reads_any(&later) {
             return Err(BindFault::BindingLoop);
         }
         sooner.extend_from_slice(&later)?;
-        self.installed.reserve(1)?;
+        let ranks = ranks_of(self.alloc, &sooner)?;
+        self.graph.make_room(self.alloc, &reader)?;
+        let mut count = before;
         let changed = settle(
             self.alloc,
-            &self.installed,
+            &self.graph.installed,
             &later[1..],
             tree,
-            target,
+            &target,
             value,
+            &mut count,
         )?;
-        replace(&mut self.installed, binding);
-        self.order = sooner;
+        self.graph.install(reader, sooner, ranks);
+        self.evaluated = count;
         Ok(changed)
     }
 
     /// Removes the bindings whose target is of the object, or of which it is a source; values stay. It takes no memory.
     pub fn drop_object(&mut self, object: ObjectId)
-        ensures { self.new ≡ dropped object self.old }
+        ensures left { self.new.installed ≡ dropped object self.old.installed }
+        ensures counted { self.new.evaluated ≡ self.old.evaluated }
     {
-        self.installed.retain(|binding| !binding.touches(object));
+        self.graph.drop_object(object);
     }
 }
 
-/// Removes the binding of a property.
-fn remove(installed: &mut Vec<Binding>, place: &Place)
-    ensures items { installed.new.items ≡ without place.now installed.old.items }
-    ensures len { vec_len installed.new ≤ vec_len installed.old }
-    ensures capacity { vec_capacity installed.new ≡ vec_capacity installed.old }
+/// Gives a property a value that is of its type, and what follows from it without its own binding. Its error is that memory
+/// was refused; then nothing changes.
+fn write_over(
+    alloc: Global,
+    graph: &Graph,
+    tree: &mut Tree,
+    place: &Place,
+    value: Value,
+    count: &mut usize,
+) -> Result<Items<Place>, AllocError>
+    requires graph { IsGraph graph.now }
+    requires agree { AgreesAt tree.old (bindings_of graph.now) place.now value }
+    requires none { count.old ≡ 0 }
+    ensures value { IfOk result (λ changed. IsWritten (bindings_of graph.now)
+        (without place.now (bindings_of graph.now)) tree.old tree.new place.now value changed) }
+    ensures agree { OnOk result (StayAgreeingAt tree.old tree.new (bindings_of graph.now) place.now value) }
+    ensures counted { IfOk result (λ changed.
+        CountsWritten (binding_at (without place.now (bindings_of graph.now))) place.now value
+        tree.old changed count.new) }
+    ensures err { OnErr result (tree.new ≡ tree.old) }
 {
-    installed.retain(|binding| !binding.target.is_same(place));
-}
-
-/// Puts a binding in place of the old one of its target, at the end.
-fn replace(installed: &mut Vec<Binding>, binding: Binding)
-    requires { vec_len installed.old < vec_capacity installed.old }
-    ensures { installed.new.items ≡ replaced installed.old.items binding }
-{
-    remove(installed, &binding.target);
-    match installed.push(binding) {
-        Ok(()) => {}
-        Err(_) => unreachable!(),
+    if has_value(tree, place, &value) {
+        return Ok(Items::from_vec(Vec::new(alloc)));
     }
+    let followers = followers(alloc, graph, place)?;
+    let changed = settle(
+        alloc,
+        &graph.installed,
+        &followers,
+        tree,
+        place,
+        value,
+        count,
+    )?;
+    Ok(changed)
 }

@@ -1,17 +1,20 @@
 //! A property is given a value, and what follows from it changes.
 
-ghost use Rattle.std.specs.Prelude.{◌≡◌, ◌↔◌, List, map, length, IfOk, OnOk, OnErr, IsTrue, Some};
+ghost use Rattle.std.specs.Prelude.{◌≡◌, ◌↔◌, ◌+◌, ◌<◌, ◌^◌, List, map, length, IfOk, OnOk, OnErr, IsTrue, Some};
 ghost use Rattle.std.specs.Option.{option_map};
 ghost use Rattle.object_tree.specs.declared.object.Object.{Object};
 ghost use Rattle.object_tree.specs.Seen.{seen};
 ghost use Rattle.prop_bindings.specs.declared.place.Place.{Place};
-ghost use Rattle.prop_bindings.specs.Places.{values_in};
-ghost use Rattle.prop_bindings.specs.Bindings.{binding_at};
+ghost use Rattle.prop_bindings.specs.Places.{In, values_in};
+ghost use Rattle.prop_bindings.specs.Bindings.{AreApart, binding_at};
 ghost use Rattle.prop_bindings.specs.Changes.{in_order, DifferInValues, DifferAt, AreChanged};
 ghost use Rattle.prop_bindings.specs.Fits.{IsSoundWith, StaySoundWith};
-ghost use Rattle.prop_bindings.specs.Orders.{pass, update};
+ghost use Rattle.prop_bindings.specs.Graph.{AreKeyed, bindings_in, position_of};
+ghost use Rattle.prop_bindings.specs.Numbering.{AreInOrder, IsNumbering, places_of};
+ghost use Rattle.prop_bindings.specs.Orders.{AreBound, pass, update};
 
-use crate::binding::Binding;
+use crate::installed::Installed;
+use crate::numbering::{Numbered, put_in};
 use crate::order::evaluate_all;
 use crate::place::Place;
 use object_tree::Tree;
@@ -19,30 +22,38 @@ use signatures::Value;
 use sqlite_items::Items;
 use std::alloc::{AllocError, Global};
 
-/// Gives a property a value, and then each of its followers, in their order, its expression's value. It answers the
-/// changed properties: this one, if it changed, then the bound ones in the order in which their bindings were
-/// installed. Its error is that memory was refused; then nothing changes.
+/// Gives a property a value, and then each of its followers, in their order, its expression's value, each of which is one
+/// evaluation more. It answers the changed properties: this one, if it changed, then the followers in the order in which
+/// their bindings were installed. Its error is that memory was refused; then nothing changes.
 pub fn settle(
     alloc: Global,
-    installed: &[Binding],
+    installed: &Installed,
     followers: &[Place],
     tree: &mut Tree,
     place: &Place,
     value: Value,
+    count: &mut usize,
 ) -> Result<Items<Place>, AllocError>
-    requires sound { IsSoundWith tree.old installed.now place.now value }
+    requires keyed { AreKeyed installed.now }
+    requires apart { AreApart (bindings_in installed.now) }
+    requires sound { IsSoundWith tree.old (bindings_in installed.now) place.now value }
+    requires bound { AreBound (binding_at (bindings_in installed.now)) followers.now }
+    requires others { In place.now followers.now → ⊥ }
+    requires few { count.old + length followers.now < 2 ^ 64 }
     ensures values { OnOk result ((q : Place) → values_in tree.new q
-        ≡ pass (binding_at installed.now) followers.now (update (values_in tree.old) place.now (Some value)) q) }
+        ≡ pass (binding_at (bindings_in installed.now)) followers.now
+        (update (values_in tree.old) place.now (Some value)) q) }
     ensures changed { IfOk result (λ changed.
-        AreChanged tree.old tree.new (in_order place.now installed.now) changed) }
+        AreChanged tree.old tree.new (in_order place.now (bindings_in installed.now)) changed) }
     ensures objects { DifferInValues tree.old tree.new }
-    ensures sound { StaySoundWith tree.old tree.new installed.now place.now value }
+    ensures sound { StaySoundWith tree.old tree.new (bindings_in installed.now) place.now value }
+    ensures counted { OnOk result (count.new ≡ count.old + length followers.now) }
     ensures err { OnErr result (tree.new ≡ tree.old) }
 {
-    let mut places = others(alloc, installed, place)?;
+    let mut places = sorted(alloc, installed, followers, place)?;
     let before = values_at(alloc, &places, tree)?;
     tree.set_value(place.object, place.property, value);
-    if let Err(fault) = evaluate_all(alloc, installed, followers, tree) {
+    if let Err(fault) = evaluate_all(alloc, installed, followers, tree, count) {
         restore(&places, before, tree);
         return Err(fault);
     }
@@ -50,19 +61,49 @@ pub fn settle(
     Ok(Items::from_vec(places))
 }
 
-/// A property, and then the targets of all other bindings.
-fn others(alloc: Global, installed: &[Binding], place: &Place) -> Result<Vec<Place>, AllocError>
-    ensures { IfOk result (λ places. places.items ≡ in_order place.now installed.now) }
+/// A property, and then these others in the order in which their bindings were installed.
+fn sorted(
+    alloc: Global,
+    installed: &Installed,
+    others: &[Place],
+    place: &Place,
+) -> Result<Vec<Place>, AllocError>
+    requires keyed { AreKeyed installed.now }
+    requires bound { AreBound (binding_at (bindings_in installed.now)) others.now }
+    ensures { IfOk result (λ places. AreInOrder (position_of (bindings_in installed.now)) place.now
+        others.now places.items) }
 {
+    let numbered = by_position(alloc, installed, others)?;
     let mut places = Vec::new(alloc);
     places.push(*place)?;
-    for binding in installed {
-        if binding.target.is_same(place) {
-            continue;
-        }
-        places.push(binding.target)?;
+    for each in &numbered {
+        places.push(each.place)?;
     }
     Ok(places)
+}
+
+/// Properties that are bound, in the order in which their bindings were installed.
+fn by_position(
+    alloc: Global,
+    installed: &Installed,
+    places: &[Place],
+) -> Result<Vec<Numbered>, AllocError>
+    requires keyed { AreKeyed installed.now }
+    requires bound { AreBound (binding_at (bindings_in installed.now)) places.now }
+    ensures numbered { IfOk result (λ found.
+        IsNumbering (position_of (bindings_in installed.now)) found.items) }
+    ensures same { IfOk result (λ found.
+        (q : Place) → In q (places_of found.items) ↔ In q places.now) }
+{
+    let mut found = Vec::new(alloc);
+    for place in places {
+        let Some(number) = installed.position(place) else {
+            unreachable!()
+        };
+        let place = *place;
+        put_in(&mut found, Numbered { number, place })?;
+    }
+    Ok(found)
 }
 
 /// The values of these properties.

@@ -2,6 +2,7 @@
 
 ghost use Rattle.std.specs.Prelude.{◌≡◌};
 ghost use Rattle.prop_bindings.specs.Places.{same_place, is_in};
+ghost use Rattle.prop_bindings.specs.Keys.{key_of};
 
 use signatures::ObjectId;
 
@@ -15,6 +16,13 @@ pub struct Place {
 }
 
 impl Place {
+    /// The numbers by which it is looked up.
+    pub fn key(&self) -> (usize, usize)
+        ensures { result ≡ key_of self.now }
+    {
+        (self.object.number(), self.property)
+    }
+
     /// Whether both are one property of one object.
     pub fn is_same(&self, other: &Place) -> bool
         ensures { result ≡ same_place self.now other.now }

@@ -1,12 +1,14 @@
 //! Whether a binding may be installed.
 
-ghost use Rattle.std.specs.Prelude.{◌↔◌, IsTrue};
+ghost use Rattle.std.specs.Prelude.{◌≡◌, ◌↔◌, IsTrue, OnOk, Some};
 ghost use Rattle.std.specs.List.{AllZip};
 ghost use Rattle.prop_bindings.specs.Fits.{FitsAt};
+ghost use Rattle.prop_bindings.specs.Places.{values_in};
 ghost use Rattle.prop_bindings.specs.Calls.{Prepares, IsOf, CoversBinding, InOneLoop};
 
 use crate::binding::Binding;
 use crate::fault::BindFault;
+use crate::order::value_of;
 use crate::place::Place;
 use meta_objects::{Meta, MetaSite};
 use object_tree::Tree;
@@ -21,8 +23,8 @@ pub struct Prepared {
     pub value: Value,
 }
 
-/// The binding of this site, or the first of these that holds: `BadSource`, `OtherLoop`, `BadType`. `Memory` comes only
-/// where a growth of memory was refused.
+/// The binding of this site, which is evaluated once, or the first of these that holds: `BadSource`, `OtherLoop`, `BadType`.
+/// `Memory` comes only where a growth of memory was refused.
 pub fn prepare(
     alloc: Global,
     meta: &Meta,
@@ -30,8 +32,11 @@ pub fn prepare(
     number: usize,
     target: ObjectId,
     sources: &[ObjectId],
+    count: &mut usize,
 ) -> Result<Prepared, BindFault>
-    ensures { Prepares meta.now number target sources.now tree.now result }
+    requires { count.old ≡ 0 }
+    ensures value { Prepares meta.now number target sources.now tree.now result }
+    ensures counted { OnOk result (count.new ≡ 1) }
 {
     let Some(site) = meta.sites().get(number) else {
         return Err(BindFault::BadSource);
@@ -51,7 +56,7 @@ pub fn prepare(
         sources: Items::from_slice(alloc, sources)?,
         formula: site.formula.copy()?,
     };
-    let value = binding.value(alloc, tree)?;
+    let value = value_of(alloc, &binding, tree, count)?;
     if !fits(meta, tree, &binding.target, &value) {
         return Err(BindFault::BadType);
     }
@@ -70,6 +75,16 @@ pub fn fits(meta: &Meta, tree: &Tree, place: &Place, value: &Value) -> bool
     };
     match class.properties.get(place.property) {
         Some(property) => tree.has_type(meta, value, property.kind),
+        None => false,
+    }
+}
+
+/// Whether a property has this value already.
+pub fn has_value(tree: &Tree, place: &Place, value: &Value) -> bool
+    ensures { IsTrue result ↔ (values_in tree.now place.now ≡ Some value.now) }
+{
+    match tree.value(place.object, place.property) {
+        Some(now) => now.is_same(value),
         None => false,
     }
 }

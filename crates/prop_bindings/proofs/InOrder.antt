@@ -1,0 +1,135 @@
+-- The changed ones of those that follow a property, in the order in which their bindings were installed, are those of all
+-- bound properties.
+use Rattle.std.proofs.Common.{◌≡◌, ℕ, zero, suc, ◌+◌, ◌<◌, ◌⊎◌, Bool, true, false, cond, not, List, [], ◌∷◌, map, inl, inr, Option, None, Some, refl, ap, sym, ◌∙◌, subst, arith}
+use Rattle.std.specs.Prelude.{slice_get}
+use Rattle.std.proofs.lemmas.Bool.{false≢true, cases_Bool}
+use Rattle.std.proofs.lemmas.Option.{same_Some}
+use Rattle.object_tree.specs.declared.object.Object.{Object}
+use Rattle.prop_bindings.specs.declared.place.Place.{Place}
+use Rattle.prop_bindings.specs.declared.binding.Binding.{Binding}
+use Rattle.prop_bindings.specs.declared.numbering.Numbered.{Numbered}
+use Rattle.prop_bindings.specs.Places.{In, same_place}
+use Rattle.prop_bindings.specs.Bindings.{binding_at, AreApart, without}
+use Rattle.prop_bindings.specs.Changes.{in_order, ReadsAlike, AreChanged, none_changed, one_changed, one_stayed}
+use Rattle.prop_bindings.specs.Graph.{position_of}
+use Rattle.prop_bindings.specs.Numbering.{places_of, Above, Rises, AreBy, AreInOrder}
+use Rattle.prop_bindings.proofs.Places.{decide_place, decide_in, same_place-refl}
+use Rattle.prop_bindings.proofs.Keyed.{position-target}
+
+-- each stands at its number among these, which begin at k
+abbrev Stand : ℕ → List Binding → List Numbered → Type 0
+Stand k bs [] = Unit {0}
+Stand k bs (f ∷ fs) = ((i : ℕ) × (b : Binding) × (f.number ≡ k + i) × (slice_get bs i ≡ Some b) × (b.target ≡ f.place)) × Stand k bs fs
+
+stand-tail : (k : ℕ) (b : Binding) (bs : List Binding) (fs : List Numbered) → Above k fs → Stand k (b ∷ bs) fs → Stand (suc k) bs fs
+stand-tail k b bs [] a h = tt
+stand-tail k b bs (f ∷ fs) a h = (by-index h.0.0 h.0.1 h.0.2 h.0.3 h.0.4, stand-tail k b bs fs a.1 h.1)
+  where
+    by-index : (i : ℕ) (c : Binding) → f.number ≡ k + i → slice_get (b ∷ bs) i ≡ Some c → c.target ≡ f.place → (i : ℕ) × (b : Binding) × (f.number ≡ suc k + i) × (slice_get bs i ≡ Some b) × (b.target ≡ f.place)
+    by-index zero c is at to = let over : k < f.number = a.0 in absurd (omega (arith, is, over))
+    by-index (suc i) c is at to = let moved : f.number ≡ suc k + i = omega (arith, is) in (i, c, moved, at, to)
+
+-- no binding of a property stands where it has none
+pub none-stands : (bs : List Binding) (q : Place) (i : ℕ) (c : Binding) → binding_at bs q ≡ None → slice_get bs i ≡ Some c → c.target ≡ q → ⊥
+none-stands [] q i c none at to = cc at
+none-stands (x ∷ xs) q zero c none at to =
+    let same : x ≡ c = same_Some x c at in
+    let hit : same_place x.target q ≡ true = subst (λ (r : Place). same_place x.target r ≡ true) (ap (λ (z : Binding). z.target) same ∙ to) (same_place-refl x.target) in
+    let some : binding_at (x ∷ xs) q ≡ Some x = ap (λ (y : Bool). cond y (Some x) (binding_at xs q)) hit in
+    cc (some, none)
+none-stands (x ∷ xs) q (suc i) c none at to = elim (cases_Bool (same_place x.target q)) [
+  | inl t ↦ (let some : binding_at (x ∷ xs) q ≡ Some x = ap (λ (y : Bool). cond y (Some x) (binding_at xs q)) t in cc (some, none))
+  | inr g ↦ none-stands xs q i c (sym (ap (λ (y : Bool). cond y (Some x) (binding_at xs q)) g) ∙ none) at to
+]
+
+above-over : (k : ℕ) (gs : List Numbered) (n : ℕ) → k < n → Above n gs → Above k gs
+above-over k [] n less a = tt
+above-over k (g ∷ gs) n less a = let more : n < g.number = a.0 in let both : k < g.number = omega (arith, less, more) in (both, above-over k gs n less a.1)
+
+stands-in : (k : ℕ) (bs : List Binding) (gs : List Numbered) (q : Place) → Stand k bs gs → In q (places_of gs) → (i : ℕ) × (c : Binding) × (slice_get bs i ≡ Some c) × (c.target ≡ q)
+stands-in k bs [] q t j = absurd j
+stands-in k bs (g ∷ gs) q t (inl e) = (t.0.0, t.0.1, t.0.3, t.0.4 ∙ e)
+stands-in k bs (g ∷ gs) q t (inr j) = stands-in k bs gs q t.1 j
+
+module _ (old new : List Object) (p : Place) where
+  abbrev targets : List Binding → List Place
+  targets bs = map (λ (b : Binding). b.target) (without p bs)
+
+  head-out : (b : Binding) (bs : List Binding) (cs : List Place) → (same_place b.target p ≡ true) ⊎ ReadsAlike old new b.target → AreChanged old new (targets bs) cs → AreChanged old new (targets (b ∷ bs)) cs
+  head-out b bs cs alike h = elim (cases_Bool (same_place b.target p)) [
+    | inl t ↦ subst (λ (x : Bool). AreChanged old new (map (λ (z : Binding). z.target) (cond (not x) (b ∷ without p bs) (without p bs))) cs) (sym t) h
+    | inr f ↦ subst (λ (x : Bool). AreChanged old new (map (λ (z : Binding). z.target) (cond (not x) (b ∷ without p bs) (without p bs))) cs) (sym f)
+        (elim alike [ inl t ↦ absurd (false≢true (sym f ∙ t)) | inr a ↦ one_stayed a h ])
+  ]
+
+  head-in : (b : Binding) (bs : List Binding) (cs : List Place) → same_place b.target p ≡ false → AreChanged old new (b.target ∷ targets bs) cs → AreChanged old new (targets (b ∷ bs)) cs
+  head-in b bs cs f h = subst (λ (x : Bool). AreChanged old new (map (λ (z : Binding). z.target) (cond (not x) (b ∷ without p bs) (without p bs))) cs) (sym f) h
+
+  -- the first is changed, or not, and the rest are whatever they are of a longer list
+  head-moves : (q : Place) (xs ys cs : List Place) → AreChanged old new (q ∷ xs) cs → ((ds : List Place) → AreChanged old new xs ds → AreChanged old new ys ds) → AreChanged old new (q ∷ ys) cs
+  head-moves q xs ys (d ∷ ds) (one_changed apart h) more = one_changed apart (more ds h)
+  head-moves q xs ys cs (one_stayed alike h) more = one_stayed alike (more cs h)
+
+  none-left : (bs : List Binding) → ((b : Binding) (i : ℕ) → slice_get bs i ≡ Some b → (same_place b.target p ≡ true) ⊎ ReadsAlike old new b.target) → AreChanged old new (targets bs) []
+  none-left [] alike = none_changed
+  none-left (b ∷ bs) alike = head-out b bs [] (alike b 0 refl) (none-left bs (λ c i at. alike c (suc i) at))
+
+  lifted : (bs : List Binding) (k : ℕ) (fs : List Numbered) (cs : List Place) → Rises fs → Stand k bs fs → ((q : Place) → In q (places_of fs) → same_place q p ≡ false) → AreApart bs → ((b : Binding) (i : ℕ) → slice_get bs i ≡ Some b → (same_place b.target p ≡ true) ⊎ (In b.target (places_of fs) ⊎ ReadsAlike old new b.target)) → AreChanged old new (places_of fs) cs → AreChanged old new (targets bs) cs
+  lifted bs k [] cs r s away apart alike none_changed = none-left bs (λ b i at. elim (alike b i at) [ inl t ↦ inl t | inr o ↦ elim o [ inl j ↦ absurd j | inr a ↦ inr a ] ])
+  lifted [] k (f ∷ fs) cs r s away apart alike h = absurd (cc (s.0.3))
+  lifted (b ∷ bs) k (f ∷ fs) cs r s away apart alike h = by-index (λ gs ds r2 s2 away2 alike2 h2. lifted bs (suc k) gs ds r2 s2 away2 apart.1 alike2 h2) s.0.0 s.0.1 s.0.2 s.0.3 s.0.4
+    where
+      -- the head isn't one of the rest
+      rest-alike : (c : Binding) (i : ℕ) → slice_get bs i ≡ Some c → f.place ≡ b.target → (same_place c.target p ≡ true) ⊎ (In c.target (places_of fs) ⊎ ReadsAlike old new c.target)
+      rest-alike c i at to = elim (alike c (suc i) at) [
+        | inl e ↦ inl e
+        | inr o ↦ elim o [
+          | inl j ↦ elim j [
+            | inl e ↦ absurd (none-stands bs b.target i c apart.0 at (sym e ∙ to))
+            | inr j2 ↦ inr (inl j2)
+          ]
+          | inr a ↦ inr (inr a)
+        ]
+      ]
+
+      by-index : ((gs : List Numbered) (ds : List Place) → Rises gs → Stand (suc k) bs gs → ((q : Place) → In q (places_of gs) → same_place q p ≡ false) → ((z : Binding) (i : ℕ) → slice_get bs i ≡ Some z → (same_place z.target p ≡ true) ⊎ (In z.target (places_of gs) ⊎ ReadsAlike old new z.target)) → AreChanged old new (places_of gs) ds → AreChanged old new (targets bs) ds) → (i : ℕ) (c : Binding) → f.number ≡ k + i → slice_get (b ∷ bs) i ≡ Some c → c.target ≡ f.place → AreChanged old new (targets (b ∷ bs)) cs
+      by-index again zero c is at to =
+          let same : b ≡ c = same_Some b c at in
+          let here : b.target ≡ f.place = ap (λ (z : Binding). z.target) same ∙ to in
+          let number : f.number ≡ k = omega (arith, is) in
+          let above : Above k fs = subst (λ (n : ℕ). Above n fs) number r.0 in
+          let tail = stand-tail k b bs fs above s.1 in
+          let out : same_place b.target p ≡ false = subst (λ (q : Place). same_place q p ≡ false) (sym here) (away f.place (inl refl)) in
+          head-in b bs cs out (head-moves b.target (places_of fs) (targets bs) cs (subst (λ (q : Place). AreChanged old new (q ∷ places_of fs) cs) (sym here) h)
+          (λ ds g. again fs ds r.1 tail (λ q i. away q (inr i)) (λ d j at2. rest-alike d j at2 (sym here)) g))
+      by-index again (suc i) c is at to =
+          let over : k < f.number = omega (arith, is) in
+          let above : Above k (f ∷ fs) = (over, above-over k fs f.number over r.0) in
+          let tail = stand-tail k b bs (f ∷ fs) above s in
+          let out : In b.target (places_of (f ∷ fs)) → ⊥ = λ j. (let found = stands-in (suc k) bs (f ∷ fs) b.target tail j in none-stands bs b.target found.0 found.1 apart.0 found.2 found.3) in
+          head-out b bs cs (elim (alike b 0 refl) [ inl t ↦ inl t | inr o ↦ elim o [ inl j ↦ absurd (out j) | inr a ↦ inr a ] ])
+          (again (f ∷ fs) cs r tail away (λ d j at2. alike d (suc j) at2) h)
+
+stands : (bs : List Binding) (fs : List Numbered) → AreBy (position_of bs) fs → Stand 0 bs fs
+stands bs [] h = tt
+stands bs (f ∷ fs) h = let found = position-target bs f.place f.number h.0 in let zeroth : f.number ≡ 0 + f.number = omega arith in ((f.number, found.0, zeroth, found.1, found.2), stands bs fs h.1)
+
+-- the first changed, or it didn't
+pub lifted-changes : (old new : List Object) (p : Place) (bs : List Binding) (others places cs : List Place) → AreApart bs → AreInOrder (position_of bs) p others places → (In p others → ⊥) → ((q : Place) → (p ≡ q → ⊥) → (In q others → ⊥) → ReadsAlike old new q) → AreChanged old new places cs → AreChanged old new (in_order p bs) cs
+lifted-changes old new p bs others places cs apart o away alike h =
+    head-moves old new p p (places_of o.sorted) (map (λ (b : Binding). b.target) (without p bs)) cs (subst (λ (xs : List Place). AreChanged old new xs cs) o.are h)
+    (λ ds g. lifted old new p bs 0 o.sorted ds o.numbered.0 (stands bs o.sorted o.numbered.1)
+    (λ q i. elim (decide_place q p) [ inl e ↦ absurd (away (subst (λ (r : Place). In r others) e ((o.same q).0 i))) | inr f ↦ f ]) apart
+    (λ b i at. elim (decide_place b.target p) [
+      | inl e ↦ inl (subst (λ (r : Place). same_place b.target r ≡ true) e (same_place-refl b.target))
+      | inr f ↦ elim (decide_in b.target (places_of o.sorted)) [
+        | inl j ↦ inr (inl j)
+        | inr out ↦ inr (inr (alike b.target (λ e. false≢true (sym f ∙ subst (λ (r : Place). same_place b.target r ≡ true) (sym e) (same_place-refl b.target))) (λ j. out ((o.same b.target).1 j))))
+      ]
+    ]) g)
+
+pub in-order-out : (N : Place → Option ℕ) (p : Place) (others places : List Place) → AreInOrder N p others places → (q : Place) → (In q places → ⊥) → (p ≡ q → ⊥) × (In q others → ⊥)
+in-order-out N p others places o q out = (
+  (λ e. out (subst (λ (xs : List Place). In q xs) (sym o.are) (inl e))),
+  (λ i. out (subst (λ (xs : List Place). In q xs) (sym o.are) (inr ((o.same q).1 i)))),
+)

@@ -1,0 +1,9 @@
+use Rattle.std.proofs.Common.{take}
+use Rattle.prop_bindings.specs.Bindings.{binding_at, without}
+use Rattle.prop_bindings.specs.Graph.{bindings_of, rank_of}
+use Rattle.prop_bindings.specs.Numbering.{Gains}
+use Rattle.prop_bindings.proofs.followers.add_readers.Given as goal
+
+abbrev pub invariant-loop-reader : goal.invariant-loop-reader
+invariant-loop-reader l =
+    Gains (binding_at (without l.from (bindings_of l.graph))) (rank_of l.graph.ranks) l.source (take l.reader-index l.readers) l.initial.found.items l.found.items

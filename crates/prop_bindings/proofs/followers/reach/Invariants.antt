@@ -1,0 +1,15 @@
+use Rattle.std.proofs.Common.{take, length, ◌≤◌, ◌-◌}
+use Rattle.prop_bindings.specs.Bindings.{binding_at, without}
+use Rattle.prop_bindings.specs.Graph.{bindings_of, rank_of}
+use Rattle.prop_bindings.specs.Numbering.{IsReach}
+use Rattle.prop_bindings.proofs.followers.reach.Given as goal
+
+-- the readers of the first i were found
+abbrev pub invariant-loop-i : goal.invariant-loop-i
+invariant-loop-i l = record {
+  within : l.i ≤ length l.found.items;
+  reach : IsReach (binding_at (without l.from (bindings_of l.graph))) (rank_of l.graph.ranks) l.from (take l.i l.found.items) l.found.items;
+}
+
+abbrev pub decreases-loop-i : goal.decreases-loop-i
+decreases-loop-i l = length l.graph.order.items - l.i

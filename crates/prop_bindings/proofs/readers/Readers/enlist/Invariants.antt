@@ -1,0 +1,11 @@
+use Rattle.std.proofs.Common.{take}
+use Rattle.prop_bindings.specs.declared.place.Place.{Place}
+use Rattle.prop_bindings.specs.Places.{In}
+use Rattle.prop_bindings.specs.Graph.{KeepReaders, readers_at}
+use Rattle.prop_bindings.proofs.readers.Readers.enlist.Given as goal
+
+abbrev pub invariant-loop-source : goal.invariant-loop-source
+invariant-loop-source l = record {
+  kept : KeepReaders l.initial.self l.self;
+  named : (m : Place) → In m (take l.source-index l.sources) → In l.target (readers_at l.self m);
+}

@@ -1,0 +1,179 @@
+//! The installed bindings with what finds what follows from a property.
+
+ghost use Rattle.std.specs.Prelude.{◌≡◌, [], OnOk};
+ghost use Rattle.prop_bindings.specs.Bindings.{binding_at, dropped, replaced, without};
+ghost use Rattle.prop_bindings.specs.Graph.{AreKeyed, AreNamed, AreRanks, AreTouched, HasRoom, IsGraph, KeepTouched, LosesReader, RankOfReader, bindings_of, rank_of};
+ghost use Rattle.prop_bindings.specs.Orders.{IsOrder};
+
+use crate::binding::Binding;
+use crate::installed::{Installed, Reader};
+use crate::place::{Place, contains};
+use crate::readers::Readers;
+use indexmap::{IndexMap, IndexSet};
+use signatures::ObjectId;
+use std::alloc::{AllocError, Global};
+
+/// The installed bindings, each property's readers, and an order of evaluation, in which sources stand before their
+/// readers, with the place of each property in it, and the objects that bindings have as targets' or as sources.
+#[derive(Drop)]
+pub struct Graph {
+    pub installed: Installed,
+    pub readers: Readers,
+    pub order: Vec<Place>,
+    pub ranks: IndexMap<(usize, usize), usize>,
+    pub touched: IndexSet<usize>,
+}
+
+impl Graph {
+    /// No bindings.
+    pub fn new(alloc: Global) -> Graph
+        ensures none { bindings_of result ≡ [] }
+        ensures graph { IsGraph result }
+    {
+        let installed = Installed::new(alloc);
+        let readers = Readers::new(alloc);
+        let order = Vec::new(alloc);
+        let ranks = IndexMap::new(alloc);
+        let touched = IndexSet::new(alloc);
+        Graph {
+            installed,
+            readers,
+            order,
+            ranks,
+            touched,
+        }
+    }
+
+    /// The place of a property in the order of evaluation.
+    fn rank(&self, place: &Place) -> Option<usize>
+        ensures { result ≡ rank_of self.now.ranks place.now }
+    {
+        match self.ranks.get(&place.key()) {
+            Some(rank) => Some(*rank),
+            None => None,
+        }
+    }
+
+    /// The place in the order of evaluation of a property, if its binding reads the source.
+    pub fn rank_of_reader(&self, reader: &Place, source: &Place) -> Option<usize>
+        requires { IsGraph self.now }
+        ensures { RankOfReader self.now reader.now source.now result }
+    {
+        let Some(found) = self.installed.reader(reader) else {
+            return None;
+        };
+        if !contains(found.reads(), source) {
+            return None;
+        }
+        self.rank(reader)
+    }
+
+    /// Makes room for a binding, which is named as a reader. Where memory is refused nothing changes that is seen.
+    pub fn make_room(&mut self, alloc: Global, reader: &Reader) -> Result<(), AllocError>
+        requires { IsGraph self.old }
+        ensures same { bindings_of self.new ≡ bindings_of self.old }
+        ensures order { self.new.order.items ≡ self.old.order.items }
+        ensures graph { IsGraph self.new }
+        ensures room { OnOk result (HasRoom self.new.installed) }
+        ensures named { OnOk result (AreNamed self.new.readers reader.now) }
+        ensures touched { OnOk result (AreTouched self.new.touched reader.now) }
+    {
+        self.installed.reserve()?;
+        self.readers.enlist(alloc, reader)?;
+        touch(&mut self.touched, reader.binding())?;
+        Ok(())
+    }
+
+    /// Puts a binding, for which there is room, in place of its target's old one, with an order of evaluation.
+    pub fn install(
+        &mut self,
+        reader: Reader,
+        order: Vec<Place>,
+        ranks: IndexMap<(usize, usize), usize>,
+    )
+        requires graph { IsGraph self.old }
+        requires room { HasRoom self.old.installed }
+        requires named { AreNamed self.old.readers reader }
+        requires touched { AreTouched self.old.touched reader }
+        requires order { IsOrder (binding_at (replaced (bindings_of self.old) reader)) order.items }
+        requires ranks { AreRanks order.items ranks }
+        ensures replaced { bindings_of self.new ≡ replaced (bindings_of self.old) reader }
+        ensures graph { IsGraph self.new }
+    {
+        let target = reader.binding().target;
+        unlist(&self.installed, &mut self.readers, &target, reader.reads());
+        self.installed.remove(&target);
+        self.installed.push(reader);
+        self.order = order;
+        self.ranks = ranks;
+    }
+
+    /// Removes the binding of a property.
+    pub fn remove(&mut self, place: &Place)
+        requires { IsGraph self.old }
+        ensures left { bindings_of self.new ≡ without place.now (bindings_of self.old) }
+        ensures graph { IsGraph self.new }
+    {
+        unlist(&self.installed, &mut self.readers, place, &[]);
+        self.installed.remove(place);
+    }
+
+    /// Removes the bindings whose target is of the object, or of which it is a source. It looks at them only where there may
+    /// be such a one.
+    pub fn drop_object(&mut self, object: ObjectId)
+        requires { IsGraph self.old }
+        ensures left { bindings_of self.new ≡ dropped object (bindings_of self.old) }
+        ensures graph { IsGraph self.new }
+    {
+        if !self.touched.contains(&object.number()) {
+            return;
+        }
+        self.drop_touching(object);
+        self.touched.swap_remove(&object.number());
+    }
+
+    /// Removes them one by one.
+    fn drop_touching(&mut self, object: ObjectId)
+        requires { IsGraph self.old }
+        ensures left { bindings_of self.new ≡ dropped object (bindings_of self.old) }
+        ensures graph { IsGraph self.new }
+    {
+        let mut i = 0;
+        while i < self.installed.len() {
+            let Some(reader) = self.installed.at(i) else {
+                return;
+            };
+            let binding = reader.binding();
+            if !binding.touches(object) {
+                i += 1;
+                continue;
+            }
+            let target = binding.target;
+            self.remove(&target);
+        }
+    }
+}
+
+/// Removes the reader that is a property's binding from what it reads, but for these.
+fn unlist(installed: &Installed, readers: &mut Readers, place: &Place, kept: &[Place])
+    requires { AreKeyed installed.now }
+    ensures { LosesReader kept.now place.now readers.old readers.new }
+{
+    match installed.reader(place) {
+        Some(old) => readers.unlist(old, kept),
+        None => {}
+    }
+}
+
+/// Adds the objects of a binding to those that bindings touch. Its error is that memory was refused; then some are added.
+fn touch(touched: &mut IndexSet<usize>, binding: &Binding) -> Result<(), AllocError>
+    ensures kept { KeepTouched touched.old touched.new }
+    ensures touched { OnOk result (AreTouched touched.new binding.now) }
+{
+    touched.insert(binding.target.object.number())?;
+    let sources = binding.sources.as_slice();
+    for source in sources {
+        touched.insert(source.number())?;
+    }
+    Ok(())
+}
