@@ -3,7 +3,9 @@
 #![tactic(auto)]
 
 mod laws;
+mod live_connections;
 mod store;
 
 pub use laws::{ended_is_forgotten, scheduled_once};
+pub use live_connections::LiveConnections;
 pub use store::Store;

@@ -5,24 +5,34 @@ ghost use Rattle.event_loops.specs.declared.item.Item.TheVariants.{Deletion};
 ghost use Rattle.delete_later.specs.Scheduling.{empty, IsHoused, scheduled_in};
 ghost use Rattle.delete_later.specs.Ending.{died_in, ended_in, next_in, IsNext, NoneIsNext};
 
-use connections::Connections;
+use crate::live_connections::LiveConnections;
 use event_loops::{Item, Loops, PostFault};
 use object_tree::Tree;
-use prop_bindings::Bindings;
+use prop_bindings::UncountedBindings;
 use signatures::{LoopId, ObjectId};
 use std::alloc::{AllocError, Global};
 
 /// The stores in which a run keeps its objects, what connects them and what waits for them.
-#[derive(Drop)]
 pub struct Store {
     /// The objects, and who is whose parent.
     pub tree: Tree,
     /// The connections between the objects.
-    pub connections: Connections,
+    pub connections: LiveConnections,
     /// The event loops, with the items that wait in them.
     pub loops: Loops,
     /// The bindings of the objects' properties.
-    pub bindings: Bindings,
+    pub bindings: UncountedBindings,
+}
+
+impl Drop for Store {
+    fn drop(self) {
+        let Store {
+            tree: _,
+            connections: _,
+            loops: _,
+            bindings: _,
+        } = self;
+    }
 }
 
 impl Store {
@@ -33,9 +43,9 @@ impl Store {
         let loops = Loops::new(alloc)?;
         Ok(Store {
             tree: Tree::new(alloc),
-            connections: Connections::new(alloc),
+            connections: LiveConnections::new(alloc),
             loops,
-            bindings: Bindings::new(alloc),
+            bindings: UncountedBindings::new(alloc),
         })
     }
 
@@ -74,6 +84,14 @@ impl Store {
     {
         self.connections.drop_object(object);
         self.loops.drop_object(object);
+    }
+
+    /// Gives back what removed connections still take up, which no rule can tell. It is for moments at which no emission
+    /// goes on, since one may stand on a connection that was removed.
+    pub fn sweep(&mut self)
+        ensures { self.new ≡ self.old }
+    {
+        self.connections.sweep();
     }
 
     /// The object that is deleted next while these are torn down, the latest of them last: the first living child of the

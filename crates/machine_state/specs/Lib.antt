@@ -7,3 +7,10 @@ pub mod Telling
 pub mod Connections
 pub mod Accepting
 pub mod Worlds
+pub mod Lists
+pub use Rattle.object_tree.specs.Adopting
+pub use Rattle.object_tree.specs.Creating
+pub use Rattle.object_tree.specs.Objects as ObjectTreeObjects
+pub use Rattle.prop_bindings.specs.Fits
+pub use Rattle.event_loops.specs.Queues
+pub use Rattle.delete_later.specs.Scheduling

@@ -9,7 +9,7 @@ use crate::endpoints::Endpoints;
 use crate::entry::Entry;
 use crate::fault::Fault;
 use crate::world::World;
-use connections::Connections;
+use delete_later::LiveConnections;
 use texts::ConnectionType;
 
 impl World {
@@ -63,7 +63,11 @@ impl World {
 }
 
 /// Adds a connection with the next number; without memory nothing changes. Whether a unique one exists isn't asked.
-pub fn join(connected: &mut Connections, ends: &Endpoints, how: ConnectionType) -> Result<(), Fault>
+pub fn join(
+    connected: &mut LiveConnections,
+    ends: &Endpoints,
+    how: ConnectionType,
+) -> Result<(), Fault>
     requires few { connected.old.last < 2 ^ 63 - 1 }
     ensures ok { OnOk result (connected.new ≡ newly_joined ends.now how connected.old) }
     ensures err { IfErr result (λ fault. (fault ≡ Memory) × (connected.new ≡ connected.old)) }
@@ -83,7 +87,7 @@ pub fn join(connected: &mut Connections, ends: &Endpoints, how: ConnectionType) 
 }
 
 /// Removes the connections that join these ends.
-pub fn part(connected: &mut Connections, ends: &Endpoints)
+pub fn part(connected: &mut LiveConnections, ends: &Endpoints)
     requires joined { IsTrue (are_joined ends.now connected.old) }
     ensures { connected.new ≡ parted ends.now connected.old }
 {

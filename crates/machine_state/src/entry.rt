@@ -1,7 +1,7 @@
 //! What a run writes down.
 
 ghost use Rattle.std.specs.Prelude.{◌≡◌, [], ◌∷◌, ◌++◌, ◌+◌, ◌<◌, ◌≤◌, ◌^◌, OnOk, OnErr, length, vec_len, vec_capacity};
-ghost use Rattle.object_tree.specs.Lists.{LosesLast};
+ghost use Rattle.machine_state.specs.Lists.{LosesLast};
 ghost use Rattle.machine_state.specs.declared.entry.Entry.TheVariants.{Accepted};
 
 use signatures::{Name, Text};
@@ -144,9 +144,14 @@ pub enum Entry {
 }
 
 /// The entries of a run, in their order.
-#[derive(Drop)]
 pub struct Trace {
     entries: Vec<Entry>,
+}
+
+impl Drop for Trace {
+    fn drop(self) {
+        let Trace { entries: _ } = self;
+    }
 }
 
 impl Model for Trace {

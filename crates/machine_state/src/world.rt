@@ -18,7 +18,6 @@ use signatures::{Name, ObjectId};
 use std::alloc::{AllocError, Global};
 
 /// All of a machine's state but the stack, and how many rules are left.
-#[derive(Drop)]
 pub struct World {
     /// The objects, the connections between them, the event loops, and the bindings of the objects' properties.
     pub store: Store,
@@ -30,6 +29,18 @@ pub struct World {
     pub events: u64,
     /// How many rules may still be used.
     pub left: u64,
+}
+
+impl Drop for World {
+    fn drop(self) {
+        let World {
+            store: _,
+            turn: _,
+            trace: _,
+            events: _,
+            left: _,
+        } = self;
+    }
 }
 
 impl World {
@@ -149,6 +160,13 @@ impl World {
             self.store.connections.cut(connection.number);
         }
         Ok(())
+    }
+
+    /// Gives back what removed connections still take up, where no emission goes on; the world stays as it is.
+    pub fn sweep(&mut self)
+        ensures { self.new ≡ self.old }
+    {
+        self.store.sweep();
     }
 }
 
