@@ -1,5 +1,6 @@
 -- After a rule that is well properties and bindings agree, if they did before it.
-use Rattle.std.proofs.Common.{◌≡◌, ℕ, Bool, true, false, not, List, [], ◌∷◌, length, take, Result, Ok, Err, Option, Some, None, sym, subst}
+use Rattle.std.proofs.Common.{◌≡◌, ℕ, Bool, true, false, not, cond, List, [], ◌∷◌, length, take, All, Result, Ok, Err, Option, Some, None, sym, ap, ◌∙◌, subst}
+use Rattle.std.proofs.lemmas.List.Elements.{All-push}
 use Rattle.std.specs.List.{find}
 use Rattle.signatures.specs.declared.value.Value.{Value}
 use Rattle.texts.specs.declared.connection.ConnectionType.{ConnectionType}
@@ -8,6 +9,8 @@ use Rattle.meta_model.specs.declared.object.MetaMethod.{MetaMethod}
 use Rattle.meta_model.specs.declared.object.Work.{Work}
 use Rattle.meta_model.specs.declared.object.Work.TheVariants.{Signal, Slot, Native}
 use Rattle.meta_model.specs.Loaded.{Loaded}
+use Rattle.meta_model.specs.Members.{IsClass}
+use Rattle.meta_model.specs.Sound.{IsPlain}
 use Rattle.connections.specs.declared.connection.Connection.{Connection}
 use Rattle.event_loops.specs.declared.item.Item.{Item}
 use Rattle.event_loops.specs.declared.item.Item.TheVariants.{Call, Deletion}
@@ -17,13 +20,17 @@ use Rattle.object_tree.specs.declared.life.Life.{Life}
 use Rattle.object_tree.specs.declared.object.Object.{Object}
 use Rattle.object_tree.specs.Objects.{life_of}
 use Rattle.object_tree.specs.Typed.{AreTyped}
+use Rattle.object_tree.proofs.Changing.{life-of-lives}
 use Rattle.prop_bindings.specs.declared.binding.Binding.{Binding}
 use Rattle.prop_bindings.specs.declared.place.Place.{Place}
-use Rattle.prop_bindings.specs.Bindings.{without}
-use Rattle.prop_bindings.specs.Fits.{Agree}
+use Rattle.prop_bindings.specs.Bindings.{binding_at, without, replaced}
+use Rattle.prop_bindings.specs.Fits.{IsFit, Agree}
 use Rattle.prop_bindings.specs.Places.{property_of, same_place}
-use Rattle.prop_bindings.proofs.Fitting.{all-stay}
+use Rattle.prop_bindings.proofs.Apart.{apart-replaced}
+use Rattle.prop_bindings.proofs.Fitting.{all-stay, lives-on}
+use Rattle.prop_bindings.proofs.Replaced.{without-at, push-none}
 use Rattle.prop_bindings.proofs.Leaving.{agree-fewer, left_agree}
+use Rattle.prop_bindings.proofs.Places.{same_place-refl}
 use Rattle.machine_state.specs.declared.endpoints.Endpoints.{Endpoints}
 use Rattle.machine_state.specs.declared.refusal.Refusal.{Refusal}
 use Rattle.machine_state.specs.declared.turn.Turn.{Turn}
@@ -33,25 +40,32 @@ use Rattle.machine_state.specs.Turns.{running, reaches_at_once}
 use Rattle.machine_rules.specs.Connecting.{kept_ends, names_of}
 use Rattle.machine_rules.specs.Destroying.{Dies, NextRule, ChildRule, DestroyRule, living_child, DefersOnce, Schedules}
 use Rattle.machine_rules.specs.Doings.{Doing, Write, Begin, Choose, Connect, Disconnect, Delete, Schedule, TakeAnswer, Nothing}
-use Rattle.machine_rules.specs.Good.{IsWell}
+use Rattle.machine_rules.specs.Good.{IsWell, IsAcyclic}
 use Rattle.machine_rules.specs.Rules.{RuleAt, BodyRule, Does, EmitRule, UpdateRule, NotifiesIf, TurnRule, Serves, Delivers, Arrives, BeginsIf, begun, with_used, linked, unlinked}
-use Rattle.machine_rules.specs.Runs.{Rules, done, then}
-use Rattle.machine_rules.specs.Settling.{Writes}
+use Rattle.machine_rules.specs.code.Going.{GoodRules, done, then}
+use Rattle.machine_rules.specs.Settling.{Writes, Installs}
+use Rattle.machine_rules.specs.There.{IsField}
+use Rattle.machine_rules.proofs.Fields.{old-there, stored-reads}
 use Rattle.machine_rules.proofs.Differing.{scheduled-agree}
 use Rattle.machine_rules.specs.Natives.{NativeAnswers}
+
+-- a binding that replaces another stands
+replaced-at : (bs : List Binding) (b : Binding) → binding_at (replaced bs b) b.target ≡ Some b
+replaced-at bs b =
+    push-none (without b.target bs) b b.target (without-at b.target bs) ∙ ap (λ (x : Bool). cond x (Some b) None) (same_place-refl b.target)
 
 module _ {p : Loaded} {s t : State} (agree : Agree p s.objects s.bindings) (well : IsWell p s t) where
   -- it is a state in which they do
   agree-at : (u : State) → t ≡ u → Agree p u.objects u.bindings → Agree p t.objects t.bindings
   agree-at u e before = let In : State → Type 0 = λ v. Agree p v.objects v.bindings in subst In (sym e) before
 
-  begun-agrees : (u : State) (below : List Activation) (o : ℕ) (x : Object) (m : ℕ) (method : MetaMethod) (arguments : List Value) (work : Work) → Agree p u.objects u.bindings → t ≡ begun u below o x m method arguments work → Agree p t.objects t.bindings
+  pub begun-agrees : (u : State) (below : List Activation) (o : ℕ) (x : Object) (m : ℕ) (method : MetaMethod) (arguments : List Value) (work : Work) → Agree p u.objects u.bindings → t ≡ begun u below o x m method arguments work → Agree p t.objects t.bindings
   begun-agrees u below o x m method arguments Signal before e = agree-at _ e before
   begun-agrees u below o x m method arguments (Slot statements) before e = agree-at _ e before
   begun-agrees u below o x m method arguments (Native effects) before e = agree-at _ e before
 
   -- a write settles the values
-  writes-agrees : {below : List Activation} {o q : ℕ} {new : Value} → Writes p s below o q new t → Agree p t.objects t.bindings
+  pub writes-agrees : {below : List Activation} {o q : ℕ} {new : Value} → Writes p s below o q new t → Agree p t.objects t.bindings
   writes-agrees {o = o} {q = q} x =
       let keep : Binding → Bool = λ b. not (same_place b.target (property_of o q)) in
       let typed : AreTyped p x.objects = subst (λ (v : State). AreTyped p v.objects) x.settles.gives well.values in
@@ -62,6 +76,47 @@ module _ {p : Loaded} {s t : State} (agree : Agree p s.objects s.bindings) (well
         apart = left.apart;
         acyclic = left.acyclic;
         settled = x.written.settled;
+      })
+
+  -- the target of a binding that was installed has its expression's value
+  bound-fits : {below : List Activation} {b : Binding} (x : Installs p s below b t) → AreTyped p x.objects → IsPlain x.property.kind → IsFit p x.objects b
+  bound-fits {b = b} x typed plain =
+      let on = lives-on s.objects x.objects x.differ b.target.object x.is.life (life-of-lives x.is.lives) in
+      let field : IsField p x.objects b.target.object b.target.property on.object x.property = record {
+        life = on.life;
+        lives = on.lives;
+        class = x.is.class;
+        is_class = subst (λ (k : ℕ). IsClass p k x.is.class) (sym on.same) x.is.is_class;
+        is_property = x.is.is_property;
+      } in
+      let there = old-there field typed in
+      record {
+        value = there.0;
+        is = sym (x.settled b.target b (replaced-at s.bindings b)) ∙ there.1;
+        typed = record {
+          object = on.object;
+          life = on.life;
+          lives = on.lives;
+          property = x.property;
+          is_property = record { class = field.class; is_class = field.is_class; is = field.is_property };
+          reads = stored-reads field typed there.1;
+        };
+        plain = plain;
+      }
+
+  -- .. and so does a bind to a property of a value type that closes no chain
+  pub installs-agrees : {below : List Activation} {b : Binding} → IsAcyclic t → (x : Installs p s below b t) → IsPlain x.property.kind → Agree p t.objects t.bindings
+  installs-agrees {b = b} acyclic x plain =
+      let keep : Binding → Bool = λ z. not (same_place z.target b.target) in
+      let typed : AreTyped p x.objects = subst (λ (v : State). AreTyped p v.objects) x.settles.gives well.values in
+      let left : Agree p s.objects (without b.target s.bindings) = agree-fewer p s.objects keep s.bindings agree in
+      let stay : All (IsFit p x.objects) (without b.target s.bindings) = all-stay p s.objects x.objects agree.typed typed x.differ (without b.target s.bindings) left.fit in
+      agree-at _ x.settles.gives (record {
+        typed = typed;
+        fit = All-push (IsFit p x.objects) (without b.target s.bindings) b stay (bound-fits x typed plain);
+        apart = apart-replaced s.bindings b agree.apart;
+        acyclic = subst (λ (v : State). IsAcyclic v) x.settles.gives acyclic;
+        settled = x.settled;
       })
 
   linked-agrees : (stack : List Activation) (ends : Endpoints) (how : ConnectionType) (names : Named (List ℕ)) (answer : Result (Unit {0}) Refusal) → t ≡ linked s stack ends how names answer → Agree p t.objects t.bindings
@@ -89,7 +144,7 @@ module _ {p : Loaded} {s t : State} (agree : Agree p s.objects s.bindings) (well
       by_child (Some x) d = dies-agrees d
       by_child None e = agree-at _ e agree
 
-  schedules-agrees : (stack : List Activation) (x : ℕ) (life : Option Life) → Schedules s stack x t life → Agree p t.objects t.bindings
+  pub schedules-agrees : (stack : List Activation) (x : ℕ) (life : Option Life) → Schedules s stack x t life → Agree p t.objects t.bindings
   schedules-agrees stack x None e = agree-at _ e agree
   schedules-agrees stack x (Some l) r = by_mark l.scheduled r
     where
@@ -153,6 +208,6 @@ module _ {p : Loaded} {s t : State} (agree : Agree p s.objects s.bindings) (well
   rule-agrees natives (Destroy next torn ∷ below) r = destroy-agrees below next torn r
 
 -- .. and so after runs of rules
-pub rules-settled : {p : Loaded} {natives : NativeAnswers} {d : ℕ} {s t : State} {n k : ℕ} → Rules p natives d s n t k → Agree p s.objects s.bindings → Agree p t.objects t.bindings
+pub rules-settled : {p : Loaded} {natives : NativeAnswers} {d : ℕ} {s t : State} {n k : ℕ} → GoodRules p natives d s n t k → Agree p s.objects s.bindings → Agree p t.objects t.bindings
 rules-settled done agree = agree
 rules-settled {natives = natives} (then {s = s} r good rest) agree = rules-settled rest (rule-agrees agree good.well natives s.stack r)

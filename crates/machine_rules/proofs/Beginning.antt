@@ -30,10 +30,10 @@ use Rattle.machine_state.specs.Connections.{silences, is_living, next_used}
 use Rattle.machine_state.proofs.Due.{used-among, used-due, used-living, used-heard, last-used}
 use Rattle.object_tree.specs.Typed.{ReadAs}
 use Rattle.machine_rules.specs.Good.{ArgumentsFit, EmissionFits, of_living, of_dead, TopFits, IsWell}
-use Rattle.machine_rules.specs.Sound.{Sends, SendsThese, Joined, IsDelivered, AgreeIn}
+use Rattle.machine_rules.specs.code.Sound.{Sends, SendsThese, Joined, IsDelivered, AgreeIn}
 use Rattle.machine_state.specs.Worlds.{at, noted, having_used, posting, GoesTo}
-use Rattle.machine_rules.specs.Reaches.{Reaches, StopsIn, RunsTo, CallsIn, Calls, OnlyCalls, begin_entry, entry_of_post, top_of, DoesWork, IsBegun, IsBarred, PostsCall}
-use Rattle.machine_rules.specs.Active.{shows}
+use Rattle.machine_rules.specs.code.Reaches.{Reaches, StopsIn, RunsTo, CallsIn, Calls, OnlyCalls, begin_entry, entry_of_post, top_of, DoesWork, IsBegun, IsBarred, PostsCall}
+use Rattle.machine_rules.specs.code.Active.{shows}
 use Rattle.machine_rules.proofs.Frames.{high, shows-over}
 use Rattle.machine_rules.specs.There.{IsMember}
 use Rattle.machine_rules.proofs.Dying.{lives-not-dead}

@@ -2,7 +2,7 @@
 use Rattle.std.proofs.Common.{◌≡◌, List, [], ◌∷◌, ◌++◌, length, arith, refl, sym, ap, ◌∙◌, append_assoc, append-nil}
 use denote.Bor.{Bor}
 use Rattle.meta_model.specs.declared.object.Statement.{Statement}
-use Rattle.machine_rules.specs.Remaining.{of_blocks}
+use Rattle.machine_rules.specs.code.Remaining.{of_blocks}
 
 -- the last block comes first
 pub of-last : (blocks : List (Bor (List Statement))) (b : Bor (List Statement)) → of_blocks (blocks ++ b ∷ []) ≡ b.now ++ of_blocks blocks

@@ -21,14 +21,15 @@ use Rattle.texts.specs.declared.connection.ConnectionType.{ConnectionType}
 use Rattle.machine_state.specs.declared.endpoints.Endpoints.{Endpoints}
 use Rattle.meta_model.specs.declared.effects.MetaEffects.{MetaEffects}
 use Rattle.machine_rules.specs.Doings.{Doing, Write, Begin, Choose, Connect, Disconnect, Delete, Schedule, TakeAnswer, Nothing, doing, doing_step}
-use Rattle.machine_rules.specs.Coded.{Yields}
+use Rattle.machine_rules.specs.code.Coded.{Yields}
 use Rattle.machine_rules.specs.Rules.{Rule, StepRule, Does, told, Connects, Disconnects}
 use Rattle.machine_rules.specs.Destroying.{Schedules}
 use Rattle.object_tree.specs.Objects.{life_of}
-use Rattle.machine_rules.specs.Sound.{AgreeIn}
-use Rattle.machine_rules.specs.Runs.{Rules, done, then, DoesNext}
+use Rattle.machine_rules.specs.code.Sound.{AgreeIn}
+use Rattle.machine_rules.specs.Faults.{DoesNext}
+use Rattle.machine_rules.specs.code.Going.{GoodRules, done, then}
 use Rattle.machine_state.specs.Worlds.{at, noted, Ticks, GoesTo}
-use Rattle.machine_rules.specs.Reaches.{StopsIn, RunsTo, Advances, Calls, OnlyCalls, Sets, Deletes, Went, Stalls, ConnectsIn, DisconnectsIn, SchedulesIn}
+use Rattle.machine_rules.specs.code.Reaches.{StopsIn, RunsTo, Advances, Calls, OnlyCalls, Sets, Deletes, Went, Stalls, ConnectsIn, DisconnectsIn, SchedulesIn}
 use Rattle.machine_rules.proofs.Reaching.{not-idle, reaches-low, stops-as, stops-memory, stops-stuck, ends-noted, ends-ticked}
 use Rattle.machine_rules.proofs.Frames.{high}
 use Rattle.machine_rules.proofs.Keeps.{some-stack, rules-kept}
@@ -177,7 +178,7 @@ lacks-read {p} {natives} {o = o} {w = w} {arguments = arguments} {x = x} {a = a}
 
 -- ---- a step uses a rule
 
-rules-fewer : {p : Loaded} {natives : NativeAnswers} {d : ℕ} {s t : State} {n k : ℕ} → Rules p natives d s n t k → s ≢ t → k < n
+rules-fewer : {p : Loaded} {natives : NativeAnswers} {d : ℕ} {s t : State} {n k : ℕ} → GoodRules p natives d s n t k → s ≢ t → k < n
 rules-fewer done other = absurd (other refl)
 rules-fewer (then r good rest) other = let more = rules-kept rest in omega (arith, more.fewer)
 

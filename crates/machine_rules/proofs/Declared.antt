@@ -14,7 +14,7 @@ use Rattle.object_tree.specs.declared.object.Object.{Object}
 use Rattle.object_tree.specs.Objects.{Lives}
 use Rattle.object_tree.specs.Typed.{ReadAs}
 use Rattle.machine_rules.specs.Good.{ArgumentsFit, EmissionFits, of_living, of_dead, destroyed_kinds}
-use Rattle.machine_rules.specs.Sound.{Receives, Sends, ReceivesThese, SendsThese}
+use Rattle.machine_rules.specs.code.Sound.{Receives, Sends, ReceivesThese, SendsThese}
 use Rattle.machine_rules.specs.There.{IsMember}
 use Rattle.machine_rules.proofs.Dying.{lives-created, dead-created, lives-not-dead}
 use Rattle.machine_rules.proofs.Fields.{life-unique}

@@ -13,7 +13,7 @@ use Rattle.object_tree.specs.declared.life.Life.{Life}
 use Rattle.object_tree.specs.declared.object.Object.{Object}
 use Rattle.object_tree.specs.Family.{children_of, IsChild, without_life}
 use Rattle.object_tree.specs.Objects.{life_of, name_of}
-use Rattle.machine_rules.specs.Sound.{AgreeIn}
+use Rattle.machine_rules.specs.code.Sound.{AgreeIn}
 use Rattle.object_tree.proofs.Changing.{life-of-lives}
 use Rattle.prop_bindings.proofs.Leaving.{left_agree}
 use Rattle.delete_later.specs.Ending.{last_of, next_in, first_child_of, IsNext, NoneIsNext}
@@ -26,17 +26,17 @@ use Rattle.machine_state.specs.declared.world.World.{World}
 use Rattle.machine_state.specs.Connections.{is_living}
 use Rattle.machine_state.specs.State.{State, Activation, Emit, Destroy}
 use Rattle.machine_state.specs.Worlds.{at, ticked, dying, ending, Ticks}
-use Rattle.machine_rules.specs.Active.{shows, shows_body}
+use Rattle.machine_rules.specs.code.Active.{shows, shows_body}
 use Rattle.machine_rules.specs.Destroying.{deleting, Dies, NextRule, ChildRule}
 use Rattle.machine_rules.specs.Good.{EmissionFits, of_dead, has_body, IsWell, Spares}
-use Rattle.machine_rules.specs.Keeps.{KeepsWorld}
-use Rattle.machine_rules.specs.Reaches.{Reaches, StopsIn, RunsTo, Deletes, Kills, entry_of_destroyed, Forgets}
+use Rattle.machine_rules.specs.code.Keeps.{KeepsWorld}
+use Rattle.machine_rules.specs.code.Reaches.{Reaches, StopsIn, RunsTo, Deletes, Kills, entry_of_destroyed, Forgets}
 use Rattle.machine_rules.specs.Rules.{Rule}
 use Rattle.machine_rules.specs.There.{IsDead}
 use Rattle.machine_rules.proofs.Dying.{dead-no-life, died-dead, other-seen}
 use Rattle.machine_rules.proofs.Beginning.{one-more, has-life}
 use Rattle.machine_rules.proofs.Declared.{emission-sends}
-use Rattle.machine_rules.specs.Sound.{SendsThese}
+use Rattle.machine_rules.specs.code.Sound.{SendsThese}
 use Rattle.meta_model.specs.Sound.{IsSound}
 use Rattle.machine_rules.proofs.Frames.{high, has-shown}
 use Rattle.machine_rules.proofs.Reaching.{none-spared, reaches-low, reaches-high, stops-as, stops-memory, stops-steps, stops-deep, stops-fatal, ends-after, ends-lifted, not-idle}

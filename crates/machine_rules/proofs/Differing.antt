@@ -17,7 +17,7 @@ use Rattle.prop_bindings.proofs.Fitting.{lives-alike, seen-same}
 use Rattle.prop_bindings.proofs.Leaving.{Stays, agree-living}
 use Rattle.prop_bindings.proofs.Values.{life-changed, life-kept}
 use Rattle.machine_rules.specs.There.{NoneDied}
-use Rattle.machine_rules.specs.Keeps.{StayThere}
+use Rattle.machine_rules.specs.code.Keeps.{StayThere}
 
 -- ---- nothing differs but values
 

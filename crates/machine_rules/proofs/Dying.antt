@@ -14,7 +14,7 @@ use Rattle.object_tree.proofs.Changing.{get-change_same, get-change_other, lengt
 use Rattle.object_tree.proofs.Families.{leaves-part}
 use Rattle.machine_state.specs.Connections.{is_living}
 use Rattle.machine_rules.specs.There.{IsDead}
-use Rattle.machine_rules.specs.Keeps.{StayThere}
+use Rattle.machine_rules.specs.code.Keeps.{StayThere}
 
 -- ---- the living and the dead
 

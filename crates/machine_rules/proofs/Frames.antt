@@ -6,7 +6,7 @@ use Rattle.machine_rules.specs.declared.active.Frame.{Frame}
 use Rattle.machine_rules.specs.declared.active.Frame.TheVariants.{Nothing, Over, rolls-Nothing, rolls-Over}
 use Rattle.machine_rules.specs.declared.active.Frame.TheFolds.{fold-roll-Frame}
 use Rattle.machine_rules.specs.declared.active.Frame.TheOpen as frame
-use Rattle.machine_rules.specs.Active.{whose, shows, shows_body, layer_shows, frame_shows}
+use Rattle.machine_rules.specs.code.Active.{whose, shows, shows_body, layer_shows, frame_shows}
 use Rattle.machine_rules.specs.Good.{has_body}
 
 -- ---- frames

@@ -45,17 +45,17 @@ use Rattle.machine_rules.proofs.Fitting.{kinds-fit}
 use Rattle.machine_rules.proofs.Lists.{all-snoc}
 use Rattle.machine_rules.proofs.Declared.{member-takes, member-sends}
 use Rattle.machine_rules.proofs.Dying.{lives-or-dead, lives-not-dead, died-stay, died-home, scheduled-stay}
-use Rattle.machine_rules.specs.Runs.{Rules, done, then}
-use Rattle.machine_rules.specs.Sound.{IsDeclared, Receives, Sends, Joined, AgreeIn}
-use Rattle.machine_rules.specs.Active.{whose, shows}
-use Rattle.machine_rules.specs.Reaches.{Reaches}
+use Rattle.machine_rules.specs.code.Going.{GoodRules, done, then}
+use Rattle.machine_rules.specs.code.Sound.{IsDeclared, Receives, Sends, Joined, AgreeIn}
+use Rattle.machine_rules.specs.code.Active.{whose, shows}
+use Rattle.machine_rules.specs.code.Reaches.{Reaches}
 use Rattle.machine_rules.specs.Settling.{Settles, Writes, Installs}
+use Rattle.machine_rules.proofs.Agreeing.{rules-settled}
 use Rattle.machine_rules.proofs.Differing.{differ-stay, differ-home}
 use Rattle.machine_state.specs.declared.telling.Cause.{Cause}
 use Rattle.prop_bindings.specs.declared.binding.Binding.{Binding}
 use Rattle.prop_bindings.specs.Changes.{DifferInValues}
-use Rattle.prop_bindings.specs.Fits.{Agree}
-use Rattle.machine_rules.specs.Keeps.{StayThere, AllJoined, Grows, Keeps, KeepsWorld}
+use Rattle.machine_rules.specs.code.Keeps.{StayThere, AllJoined, Grows, Keeps, KeepsWorld}
 use Rattle.object_tree.proofs.TypedObjects.{Follow, read-still}
 use Rattle.std.specs.Option.{option_map}
 use Rattle.machine_rules.specs.Natives.{NativeAnswers}
@@ -435,14 +435,9 @@ one-kept : {p : Loaded} {s t : State} (n : ℕ) → Keeps p s 1 t 0 → Keeps p 
 one-kept n x = record { objects = x.objects; joined = x.joined; connected = x.connected; paid = omega (arith, x.paid); housed = x.housed; posted = omega (arith, x.posted); no_turn = x.no_turn; events = x.events; fewer = omega arith; grows = x.grows }
 
 -- so do runs of rules
-pub rules-kept : {p : Loaded} {natives : NativeAnswers} {d : ℕ} {s t : State} {n k : ℕ} → Rules p natives d s n t k → Keeps p s n t k
+pub rules-kept : {p : Loaded} {natives : NativeAnswers} {d : ℕ} {s t : State} {n k : ℕ} → GoodRules p natives d s n t k → Keeps p s n t k
 rules-kept done = keeps-same
 rules-kept {p} {natives} (then {s = s} {m = m} {n = n} r good rest) = keeps-then (one-kept n (rule-kept p natives s m s.stack r)) (rules-kept rest)
-
--- .. and properties and bindings agree after each
-pub rules-agree : {p : Loaded} {natives : NativeAnswers} {d : ℕ} {s t : State} {n k : ℕ} → Rules p natives d s n t k → Agree p s.objects s.bindings → Agree p t.objects t.bindings
-rules-agree done agree = agree
-rules-agree (then r good rest) agree = rules-agree rest good.agree
 
 -- a stack that shows this
 abbrev pub some-top : Option ℕ → Activation
@@ -473,4 +468,4 @@ pub reaches-keeps : {p : Loaded} {natives : NativeAnswers} {d : ℕ} {h : List (
 reaches-keeps {h = h} x = let q = some-stack h in keeps-world (rules-kept (x.runs q.0 q.1))
 
 pub reaches-agree : {p : Loaded} {natives : NativeAnswers} {d : ℕ} {h : List (Option ℕ)} {w v : World} {a b : List Activation} → Reaches p natives d h w a v b → AgreeIn p w → AgreeIn p v
-reaches-agree {h = h} x agree = let q = some-stack h in rules-agree (x.runs q.0 q.1) agree
+reaches-agree {h = h} x agree = let q = some-stack h in rules-settled (x.runs q.0 q.1) agree

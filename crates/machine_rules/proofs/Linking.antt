@@ -14,7 +14,7 @@ use Rattle.delete_later.specs.Scheduling.{deferred_to, scheduled_in}
 use Rattle.machine_state.proofs.Deferring.{scheduled-now}
 use Rattle.event_loops.specs.Queues.{name_at}
 use Rattle.prop_bindings.specs.Fits.{Agree}
-use Rattle.machine_rules.specs.Sound.{AgreeIn}
+use Rattle.machine_rules.specs.code.Sound.{AgreeIn}
 use Rattle.object_tree.specs.Objects.{life_of}
 use Rattle.object_tree.proofs.Changing.{life-of-lives}
 use Rattle.std.specs.Option.{option_map}
@@ -32,7 +32,7 @@ use Rattle.machine_state.specs.Refusals.{refusal_number}
 use Rattle.machine_state.specs.State.{State, Activation}
 use Rattle.machine_state.specs.Worlds.{at, noted, connecting, disconnecting, scheduling, GoesTo}
 use Rattle.machine_rules.specs.Connecting.{AreThere, kept_ends, may_disconnect}
-use Rattle.machine_rules.specs.Reaches.{IsJudged, LacksEnds, NamesEnds, Went, Stalls, ConnectsIn, DisconnectsIn, SchedulesIn}
+use Rattle.machine_rules.specs.code.Reaches.{IsJudged, LacksEnds, NamesEnds, Went, Stalls, ConnectsIn, DisconnectsIn, SchedulesIn}
 use Rattle.machine_rules.specs.Rules.{Connects, Disconnects}
 use Rattle.machine_rules.proofs.Fields.{member-at}
 use Rattle.machine_rules.proofs.Fitting.{named-there}

@@ -23,12 +23,12 @@ use Rattle.machine_state.specs.declared.world.World.{World}
 use Rattle.machine_state.specs.State.{State, Activation, Update}
 use Rattle.machine_state.specs.Worlds.{at}
 use Rattle.machine_rules.specs.Good.{ArgumentsFit}
-use Rattle.machine_rules.specs.Keeps.{StayThere}
-use Rattle.machine_rules.specs.Reaches.{Calls}
+use Rattle.machine_rules.specs.code.Keeps.{StayThere}
+use Rattle.machine_rules.specs.code.Reaches.{Calls}
 use Rattle.machine_rules.specs.Rules.{Notifies, NotifiesIf, begun, UpdateRule}
 use Rattle.machine_rules.specs.Settling.{property_in, signal_at, notified}
 use Rattle.machine_rules.specs.There.{IsMember, IsField}
-use Rattle.machine_rules.specs.Writing.{NotifiesBy, HasNotifier, MayNotify, Announces}
+use Rattle.machine_rules.specs.code.Writing.{NotifiesBy, HasNotifier, MayNotify, Announces}
 use Rattle.machine_rules.proofs.Beginning.{fit-of}
 use Rattle.machine_rules.proofs.Dying.{lives-created}
 use Rattle.machine_rules.proofs.Fields.{life-unique, member-method, old-there, stored-reads}

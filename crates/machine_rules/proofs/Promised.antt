@@ -33,7 +33,7 @@ use Rattle.machine_state.specs.Objects.{shown, all_shown}
 use Rattle.machine_rules.specs.Good.{ArgumentsFit}
 use Rattle.machine_state.specs.declared.entry.ShownAction.{ShownAction}
 use Rattle.machine_rules.specs.Natives.{DeclaredBy, own, inherited, IsShownAs, AreRead, HasStored, IsTellable, AreTellable, set_shown, emit_shown, place_of}
-use Rattle.machine_rules.specs.Reaches.{DoesWork}
+use Rattle.machine_rules.specs.code.Reaches.{DoesWork}
 use Rattle.machine_rules.specs.There.{IsMember, IsField, LacksMember, LacksField}
 use Rattle.machine_rules.proofs.Fields.{some-is, class-unique, member-method, old-there, stored-reads}
 use Rattle.machine_rules.proofs.Inherited.{method-below, property-below}

@@ -16,23 +16,25 @@ use Rattle.signatures.specs.declared.value.Value.{Value}
 use Rattle.prop_bindings.specs.Fits.{Agree}
 use Rattle.object_tree.specs.declared.object.Object.{Object}
 use Rattle.machine_rules.specs.There.{IsDead, NoneDied, LacksField}
-use Rattle.machine_rules.specs.Sound.{AgreeIn}
+use Rattle.machine_rules.specs.code.Sound.{AgreeIn}
 use Rattle.machine_rules.specs.Good.{has_body, IsWell, Spares, IsGood, TopFits}
-use Rattle.machine_rules.specs.Runs.{Rules, done, then, DoesNext, WritesNext, WritesIll, WritesDeep, IsStuck, GoesIll, GoesFatal, GoesDeep, Reason}
+use Rattle.machine_rules.specs.Faults.{DoesNext, WritesNext, WritesIll, WritesDeep, GoesIll, GoesFatal, GoesDeep, Reason}
+use Rattle.machine_rules.specs.code.Going.{GoodRules, done, then, IsStuck}
 use Rattle.machine_state.specs.Worlds.{at, KeepsTheRest, Ticks, GoesTo}
-use Rattle.machine_rules.specs.Active.{shows}
-use Rattle.machine_rules.specs.Reaches.{Reaches, Leaves, StopsIn, RunsTo}
+use Rattle.machine_rules.specs.code.Active.{shows}
+use Rattle.machine_rules.specs.Faults.{Leaves}
+use Rattle.machine_rules.specs.code.Reaches.{Reaches, StopsIn, RunsTo}
 use Rattle.machine_rules.proofs.Frames.{high, shows-over}
 use Rattle.machine_state.specs.Faults.{IsFaultOf}
 use Rattle.machine_rules.specs.Natives.{NativeAnswers}
 
-pub rules-trans : {p : Loaded} {natives : NativeAnswers} {d : ℕ} {s m t : State} {n k j : ℕ} → Rules p natives d s n m k → Rules p natives d m k t j → Rules p natives d s n t j
+pub rules-trans : {p : Loaded} {natives : NativeAnswers} {d : ℕ} {s m t : State} {n k j : ℕ} → GoodRules p natives d s n m k → GoodRules p natives d m k t j → GoodRules p natives d s n t j
 rules-trans done r = r
 rules-trans (then x ok rest) r = then x ok (rules-trans rest r)
 
-pub rules-one : {p : Loaded} {natives : NativeAnswers} {d : ℕ} {s t : State} {n k : ℕ} → Rule p natives s t → IsGood p d s t → 0 < n → k ≡ n - 1 → Rules p natives d s n t k
+pub rules-one : {p : Loaded} {natives : NativeAnswers} {d : ℕ} {s t : State} {n k : ℕ} → Rule p natives s t → IsGood p d s t → 0 < n → k ≡ n - 1 → GoodRules p natives d s n t k
 rules-one {p} {natives} {d} {s} {t} {n} {k} x ok some e =
-    let Family : ℕ → Type 0 = λ a. Rules p natives d s a t k in
+    let Family : ℕ → Type 0 = λ a. GoodRules p natives d s a t k in
     let suc_is : suc k ≡ n = omega (arith, e) in
     subst Family suc_is (then x ok done)
 
@@ -63,7 +65,7 @@ reaches-low {p} {natives} {d} {h} {w} {v} {a} {b} step none low fits agree less 
   runs = λ below e.
       let shallow : length (b ++ below) ≤ d = omega (arith, length-append b below, high below e, fits) in
       let no_higher : length (b ++ below) ≤ length (a ++ below) = omega (arith, length-append b below, length-append a below, low) in
-      let good : IsGood p d (at w (a ++ below)) (at v (b ++ below)) = record { well = record { arguments = λ higher. absurd (omega (arith, higher, no_higher)); values = agree.typed }; spared = none-spared w.store.tree v.store.tree (a ++ below) none; agree = agree; shallow = shallow } in
+      let good : IsGood p d (at w (a ++ below)) (at v (b ++ below)) = record { well = record { arguments = λ higher. absurd (omega (arith, higher, no_higher)); values = agree.typed }; spared = none-spared w.store.tree v.store.tree (a ++ below) none; acyclic = agree.acyclic; shallow = shallow } in
       rules-one (step below e) good some less;
 }
 
@@ -72,7 +74,7 @@ pub reaches-high : {p : Loaded} {natives : NativeAnswers} {d : ℕ} {h active : 
 reaches-high {p} {natives} {d} {h} {active} {w} {v} {from} {top} {to} over step spared fit room agree less some = record {
   runs = λ below e.
       let shallow : length (top ∷ to ++ below) ≤ d = omega (arith, high (to ++ below) (shows-over to below over e), room) in
-      let good : IsGood p d (at w (from ++ below)) (at v (top ∷ to ++ below)) = record { well = record { arguments = λ higher. fit below; values = agree.typed }; spared = spared below e; agree = agree; shallow = shallow } in
+      let good : IsGood p d (at w (from ++ below)) (at v (top ∷ to ++ below)) = record { well = record { arguments = λ higher. fit below; values = agree.typed }; spared = spared below e; acyclic = agree.acyclic; shallow = shallow } in
       rules-one (step below e) good some less;
 }
 
@@ -135,7 +137,7 @@ pub stops-deep : {p : Loaded} {natives : NativeAnswers} {d : ℕ} {h : List (Opt
 stops-deep {p} {natives} {d} {w = w} {from = from} some next = record {
   stops = λ below e.
       let q = next below e in
-      let is : GoesDeep p d (at w (from ++ below)) (λ t. Rule p natives (at w (from ++ below)) t) = record { t = q.0; follows = q.1; well = q.2; spared = q.3; agree = q.4; deep = q.5 } in
+      let is : GoesDeep p d (at w (from ++ below)) (λ t. Rule p natives (at w (from ++ below)) t) = record { t = q.0; follows = q.1; well = q.2; spared = q.3; acyclic = q.4.acyclic; deep = q.5 } in
       (w, from ++ below, left-same w TooDeep, done, (some, inr is));
 }
 
@@ -156,7 +158,7 @@ reason-more p d s left BadType stuck closes follows due r =
 reason-more p d s left TooDeep stuck closes follows due r =
     elim r.1 [
       | inl write ↦ (r.0, inl write)
-      | inr deep ↦ (r.0, inr (record { t = deep.t; follows = follows deep.t deep.follows; well = deep.well; spared = deep.spared; agree = deep.agree; deep = deep.deep }))
+      | inr deep ↦ (r.0, inr (record { t = deep.t; follows = follows deep.t deep.follows; well = deep.well; spared = deep.spared; acyclic = deep.acyclic; deep = deep.deep }))
     ]
 reason-more p d s left BindingLoop stuck closes follows due r = (r.0, closes r.1)
 reason-more p d s left InUse stuck closes follows due r = let fatal = r.1 in (r.0, record { t = fatal.t; follows = follows fatal.t fatal.follows; well = fatal.well; fatal = fatal.fatal })

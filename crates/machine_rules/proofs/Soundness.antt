@@ -32,12 +32,12 @@ use Rattle.machine_state.specs.Worlds.{using, noted, HasWritten}
 use Rattle.machine_state.proofs.Due.{all-used, last-used}
 use Rattle.machine_rules.specs.Doings.{Doing, Write, Begin, Choose, Nothing, Connect, Disconnect, Delete, Schedule, TakeAnswer}
 use Rattle.machine_rules.specs.Good.{ArgumentsFit, TopFits, IsWell}
-use Rattle.machine_rules.specs.Keeps.{StayThere, AllJoined, KeepsWorld}
-use Rattle.machine_rules.specs.Reaches.{Reaches}
+use Rattle.machine_rules.specs.code.Keeps.{StayThere, AllJoined, KeepsWorld}
+use Rattle.machine_rules.specs.code.Reaches.{Reaches}
 use Rattle.machine_rules.specs.Settling.{Settles, Writes, Installs}
 use Rattle.machine_rules.specs.Rules.{RuleAt, BodyRule, Does, EmitRule, UpdateRule, NotifiesIf, TurnRule, Serves, Delivers, Arrives, Begins, BeginsIf, begun, with_used, linked, unlinked}
-use Rattle.machine_rules.specs.Runs.{Rules, done, then}
-use Rattle.machine_rules.specs.Sound.{SendsThese, IsDelivered, Joined, Waits, AllWait, Sound, AgreeIn, IsSoundWorld}
+use Rattle.machine_rules.specs.code.Going.{GoodRules, done, then}
+use Rattle.machine_rules.specs.code.Sound.{SendsThese, IsDelivered, Joined, Waits, AllWait, Sound, AgreeIn, IsSoundWorld}
 use Rattle.machine_rules.specs.Destroying.{Dies, forgotten, deferred, NextRule, ChildRule, DestroyRule, living_child, DefersOnce, Schedules}
 use Rattle.machine_rules.proofs.Beginning.{next-delivered, delivered-fits}
 use Rattle.machine_rules.proofs.Declared.{fit-takes, emission-sends}
@@ -275,7 +275,7 @@ module _ {p : Loaded} {s t : State} (program : IsSound p) (well : IsWell p s t) 
   rule-fair natives (Destroy next torn ∷ below) joined here all high r = destroy-fair below next torn all.1 high r
 
 -- .. and so after runs of rules
-pub rules-fair : {p : Loaded} {natives : NativeAnswers} {d : ℕ} {s t : State} {n k : ℕ} → IsSound p → Rules p natives d s n t k → AllJoined p s.objects s.connected.connections → Fair p s → Fair p t
+pub rules-fair : {p : Loaded} {natives : NativeAnswers} {d : ℕ} {s t : State} {n k : ℕ} → IsSound p → GoodRules p natives d s n t k → AllJoined p s.objects s.connected.connections → Fair p s → Fair p t
 rules-fair program done joined fair = fair
 rules-fair {p} {natives} program (then {s = s} {m = m} r good rest) joined fair =
     rules-fair program rest ((rule-kept p natives s m s.stack r).joined program joined) (rule-fair program good.well fair.waiting natives s.stack joined fair.emitted fair.emitted refl r)

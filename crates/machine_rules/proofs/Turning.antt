@@ -19,12 +19,12 @@ use Rattle.machine_state.specs.declared.turn.Turn.{Turn}
 use Rattle.machine_state.specs.declared.world.World.{World}
 use Rattle.machine_state.specs.State.{State, Activation, Destroy, IsIdle}
 use Rattle.machine_state.specs.Worlds.{at, with_queues, taking, taking_unwritten, turn_ended}
-use Rattle.machine_rules.specs.Active.{shows}
+use Rattle.machine_rules.specs.code.Active.{shows}
 use Rattle.machine_rules.specs.Good.{ArgumentsFit}
-use Rattle.machine_rules.specs.Reaches.{IsCalled, DoesWork, Reaches, StopsIn, RunsTo, Advances, IsBegun, IsBarred, top_of}
+use Rattle.machine_rules.specs.code.Reaches.{IsCalled, DoesWork, Reaches, StopsIn, RunsTo, Advances, IsBegun, IsBarred, top_of}
 use Rattle.machine_rules.specs.Rules.{Rule, TurnRule, Serves, Delivers, Begins, BeginsIf}
-use Rattle.machine_rules.specs.Runs.{done}
-use Rattle.machine_rules.specs.Sound.{Waits, IsSoundWorld, AgreeIn}
+use Rattle.machine_rules.specs.code.Going.{done}
+use Rattle.machine_rules.specs.code.Sound.{Waits, IsSoundWorld, AgreeIn}
 use Rattle.machine_rules.proofs.Beginning.{begun_world, begins-there, top-fits}
 use Rattle.machine_rules.proofs.Keeps.{reaches-keeps}
 use Rattle.machine_rules.proofs.Reaching.{left-same, none-spared, reaches-low, reaches-high, reaches-then, stops-after, ends-unchanged}

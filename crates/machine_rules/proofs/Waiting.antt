@@ -12,7 +12,7 @@ use Rattle.object_tree.proofs.Changing.{part-change, life-part}
 use Rattle.object_tree.specs.Objects.{home_of}
 use Rattle.machine_state.proofs.Due.{found-among}
 use Rattle.machine_rules.proofs.Lists.{all-snoc, all-filtered}
-use Rattle.machine_rules.specs.Sound.{AreHoused, Waits, AllWait}
+use Rattle.machine_rules.specs.code.Sound.{AreHoused, Waits, AllWait}
 
 -- ---- homes
 

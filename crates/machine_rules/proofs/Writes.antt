@@ -17,14 +17,14 @@ use Rattle.machine_state.specs.declared.world.World.{World}
 use Rattle.machine_state.specs.State.{Step, State, Activation, Body, Update}
 use Rattle.machine_state.specs.Telling.{AreTold}
 use Rattle.machine_state.specs.Worlds.{at, noted, HasWritten}
-use Rattle.machine_rules.specs.Active.{shows}
+use Rattle.machine_rules.specs.code.Active.{shows}
 use Rattle.machine_rules.specs.Doings.{Doing, Write, TakeAnswer, doing_step}
-use Rattle.machine_rules.specs.Reaches.{Reaches, StopsIn, RunsTo, MayNest, Sets}
-use Rattle.machine_rules.specs.Runs.{DoesNext, WritesIll, WritesDeep}
+use Rattle.machine_rules.specs.code.Reaches.{Reaches, StopsIn, RunsTo, MayNest, Sets}
+use Rattle.machine_rules.specs.Faults.{DoesNext, WritesIll, WritesDeep}
 use Rattle.machine_rules.specs.Settling.{Settles, Writes, notified}
-use Rattle.machine_rules.specs.Sound.{AgreeIn}
+use Rattle.machine_rules.specs.code.Sound.{AgreeIn}
 use Rattle.machine_rules.specs.There.{IsField, LacksField}
-use Rattle.machine_rules.specs.Writing.{MayWrite, IsUnwritten, missing, ill, deep}
+use Rattle.machine_rules.specs.code.Writing.{MayWrite, IsUnwritten, missing, ill, deep}
 use Rattle.machine_rules.proofs.Beginning.{one-more}
 use Rattle.machine_rules.proofs.Differing.{differ-spared}
 use Rattle.machine_rules.proofs.Reaching.{none-spared, reaches-high, ends-after, ends-lifted, stops-stuck, stops-ill-write, stops-deep-write}

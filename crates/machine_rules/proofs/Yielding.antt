@@ -19,9 +19,9 @@ use Rattle.machine_state.specs.declared.endpoints.Endpoints.{Endpoints}
 use Rattle.machine_rules.specs.declared.paths.Scope.{Scope}
 use Rattle.machine_rules.specs.Doings.{Doing, Write, Begin, Choose, Nothing, on_object, on_ends, chosen_by, doing}
 use Rattle.machine_rules.specs.Paths.{path_value, value_of, values_of}
-use Rattle.machine_rules.specs.Coded.{Yields, FindsBetween, chosen_of}
-use Rattle.machine_rules.specs.Scope.{ends_in}
-use Rattle.machine_rules.specs.Reaches.{Finds, Judges}
+use Rattle.machine_rules.specs.code.Coded.{Yields, FindsBetween, chosen_of}
+use Rattle.machine_rules.specs.code.Scope.{ends_in}
+use Rattle.machine_rules.specs.code.Reaches.{Finds, Judges}
 
 -- a path that leads to no object
 no-object : (act : ℕ → Option Doing) (found : Option Value) → ((r : Option ℕ) → found ≢ Some (value.Ref r)) → on_object act found ≡ None

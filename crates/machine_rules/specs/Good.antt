@@ -1,4 +1,4 @@
--- The moments that no rule of a run may bring (docs/machine.md, "Faults").
+-- The bad moments that a rule, or the taking of an event, may bring (docs/machine.md, "Faults"). None of them is forbidden.
 use Rattle.std.specs.Prelude.{◌≡◌, ℕ, ◌<◌, ◌≤◌, eqb, ◌||◌, Bool, false, IsTrue, List, [], ◌∷◌, length}
 use Rattle.signatures.specs.declared.value.Value.{Value}
 use Rattle.meta_model.specs.declared.object.MetaMethod.{MetaMethod}
@@ -8,7 +8,8 @@ use Rattle.meta_model.specs.declared.qobject.TheConstants.{QOBJECT, DESTROYED}
 use Rattle.meta_model.specs.Loaded.{Loaded}
 use Rattle.object_tree.specs.declared.object.Object.{Object}
 use Rattle.object_tree.specs.Typed.{ReadAs, AreTyped}
-use Rattle.prop_bindings.specs.Fits.{Agree}
+use Rattle.prop_bindings.specs.Bindings.{binding_at, Loop, Settled}
+use Rattle.prop_bindings.specs.Places.{values_in}
 use Rattle.machine_rules.specs.There.{IsMember, IsDead}
 use Rattle.machine_state.specs.State.{State, Activation, Body, Emit, Update, Destroy}
 
@@ -48,22 +49,34 @@ has_body o (Emit x g arguments used last ∷ below) = has_body o below
 has_body o (Update places ∷ below) = has_body o below
 has_body o (Destroy next torn ∷ below) = has_body o below
 
--- ---- rules
+-- ---- from a state s to the next, t
 
--- After a rule from s to t every property of a living object has a value of its type, and what was pushed has the
--- arguments that its method declares.
+-- what was pushed has the arguments that its method declares
+abbrev pub HasArguments : Loaded → State → State → Type 0
+HasArguments p s t = length s.stack < length t.stack → TopFits p t.objects t.stack
+
+-- .. and every property of a living object has a value of its type
 pub record IsWell (p : Loaded) (s t : State) : Type 0 where
-  pub arguments : length s.stack < length t.stack → TopFits p t.objects t.stack
+  pub arguments : HasArguments p s t
   pub values : AreTyped p t.objects
 
--- .. no object dies while a body of it is active
+-- no object dies while a body of it is active
 abbrev pub Spares : State → State → Type 0
 Spares s t = (o : ℕ) → IsTrue (has_body o s.stack) → IsDead t.objects o → IsDead s.objects o
 
--- .. no chain of bindings leads from a property back to itself, and activations nest no deeper than the depth. All bound
--- properties have their expressions' values then: between any two rules the values are settled.
+-- no chain of bindings leads from a property back to itself
+abbrev pub IsAcyclic : State → Type 0
+IsAcyclic t = ¬ Loop (binding_at t.bindings)
+
+-- .. and no bad moment is among these: activations nest no deeper than the depth, either
 pub record IsGood (p : Loaded) (depth : ℕ) (s t : State) : Type 0 where
   pub well : IsWell p s t
   pub spared : Spares s t
-  pub agree : Agree p t.objects t.bindings
+  pub acyclic : IsAcyclic t
   pub shallow : length t.stack ≤ depth
+
+-- ---- what is no bad moment: it follows where there is none
+
+-- all values are settled: each bound property has the value of its binding's expression
+abbrev pub AreSettled : State → Type 0
+AreSettled t = Settled (binding_at t.bindings) (values_in t.objects)

@@ -6,7 +6,7 @@ use Rattle.machine_state.specs.State.{State}
 use Rattle.machine_rules.specs.Good.{IsWell}
 use Rattle.machine_rules.specs.Natives.{NativeAnswers, AnswersOnce}
 use Rattle.machine_rules.specs.Rules.{Rule}
-use Rattle.machine_rules.specs.Runs.{Rules}
+use Rattle.machine_rules.specs.code.Going.{GoodRules}
 
 -- at most one state follows by a rule, where properties and bindings agree, if natives have one answer
 abbrev pub OneRule : NativeAnswers → Type 0
@@ -18,9 +18,8 @@ abbrev pub RuleSettles : NativeAnswers → Type 0
 RuleSettles natives =
     (p : Loaded) (s t : State) → Agree p s.objects s.bindings → Rule p natives s t → IsWell p s t → Agree p t.objects t.bindings
 
--- in every state of a run without a bad moment, from one in which they do, properties and bindings agree: so all values
--- are settled
+-- .. so in every state that rules without a bad moment lead to, from one in which they do, properties and bindings agree
 abbrev pub StaysSettled : NativeAnswers → Type 0
 StaysSettled natives =
     (p : Loaded) (depth : ℕ) (s t : State) (left after : ℕ) →
-    Agree p s.objects s.bindings → Rules p natives depth s left t after → Agree p t.objects t.bindings
+    Agree p s.objects s.bindings → GoodRules p natives depth s left t after → Agree p t.objects t.bindings

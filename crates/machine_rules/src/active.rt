@@ -1,7 +1,7 @@
 //! What is active below.
 
 ghost use Rattle.std.specs.Prelude.{◌≡◌, ◌<◌, [], ◌∷◌, length};
-ghost use Rattle.machine_rules.specs.Active.{shows_body, frame_shows};
+ghost use Rattle.machine_rules.specs.code.Active.{shows_body, frame_shows};
 
 use signatures::ObjectId;
 use std::marker::Model;
@@ -25,7 +25,7 @@ pub struct Active<'b> {
 
 impl<'b> Model for Active<'b> {
     ghost use Rattle.std.specs.Prelude.{◌≡◌, ℕ, List, length, Option};
-    ghost use Rattle.machine_rules.specs.Active.{frame_shows};
+    ghost use Rattle.machine_rules.specs.code.Active.{frame_shows};
 
     ghost Value = { List (Option ℕ) };
 

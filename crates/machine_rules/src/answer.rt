@@ -6,8 +6,8 @@ ghost use Rattle.meta_model.specs.declared.object.Work.TheVariants.{Native};
 ghost use Rattle.meta_model.specs.Members.{method_count};
 ghost use Rattle.native_slots.specs.Promises.{Promises};
 ghost use Rattle.machine_rules.specs.Natives.{DeclaredBy, AreRead, HasStored, MayAnswer, IsShownAs, IsTellable, AreTellable, TellsAnswer};
-ghost use Rattle.machine_rules.specs.Reaches.{CallFits, DoesWork};
-ghost use Rattle.machine_rules.specs.Sound.{IsSoundWorld};
+ghost use Rattle.machine_rules.specs.code.Reaches.{CallFits, DoesWork};
+ghost use Rattle.machine_rules.specs.code.Sound.{IsSoundWorld};
 
 use crate::method_call::MethodCall;
 use crate::setting::Setting;

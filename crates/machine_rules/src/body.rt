@@ -1,10 +1,10 @@
 //! Bodies of slots.
 
 ghost use Rattle.std.specs.Prelude.{◌≡◌, ◌<◌, length, map};
-ghost use Rattle.machine_rules.specs.Sound.{IsSoundWorld};
+ghost use Rattle.machine_rules.specs.code.Sound.{IsSoundWorld};
 ghost use Rattle.machine_state.specs.State.{Run, Body};
-ghost use Rattle.machine_rules.specs.Coded.{meant};
-ghost use Rattle.machine_rules.specs.Calls.{Finishes, CarriesOut};
+ghost use Rattle.machine_rules.specs.code.Coded.{meant};
+ghost use Rattle.machine_rules.specs.code.Calls.{Finishes, CarriesOut};
 ghost use Rattle.native_slots.specs.Promises.{Promises};
 
 use crate::active::Active;

@@ -5,7 +5,7 @@ ghost use Rattle.machine_state.specs.Refusals.{refusal_number};
 ghost use Rattle.machine_state.specs.declared.entry.Entry.TheVariants.{At};
 ghost use Rattle.machine_state.specs.declared.entry.Happening.TheVariants.{Refused};
 ghost use Rattle.machine_rules.specs.Connecting.{may_connect};
-ghost use Rattle.machine_rules.specs.Reaches.{IsJudged, LacksEnds, NamesEnds, LacksNames, ConnectsIn, DisconnectsIn};
+ghost use Rattle.machine_rules.specs.code.Reaches.{IsJudged, LacksEnds, NamesEnds, LacksNames, ConnectsIn, DisconnectsIn};
 
 use crate::ends::{FoundEnds, kept_ends};
 use crate::setting::Setting;

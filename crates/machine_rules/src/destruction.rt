@@ -1,9 +1,9 @@
 //! Deletions of objects.
 
 ghost use Rattle.std.specs.Prelude.{◌≡◌, ◌<◌, true, false, [], length, Some, IfOk, OnOk};
-ghost use Rattle.machine_rules.specs.Calls.{Finishes, Leads, RunsDeath, RunsDeletion};
-ghost use Rattle.machine_rules.specs.Reaches.{entry_of_destroyed, Forgets, SchedulesIn};
-ghost use Rattle.machine_rules.specs.Sound.{IsSoundWorld};
+ghost use Rattle.machine_rules.specs.code.Calls.{Finishes, Leads, RunsDeath, RunsDeletion};
+ghost use Rattle.machine_rules.specs.code.Reaches.{entry_of_destroyed, Forgets, SchedulesIn};
+ghost use Rattle.machine_rules.specs.code.Sound.{IsSoundWorld};
 ghost use Rattle.machine_state.specs.Connections.{is_living};
 ghost use Rattle.machine_state.specs.State.{Destroy};
 ghost use Rattle.native_slots.specs.Promises.{Promises};

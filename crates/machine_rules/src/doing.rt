@@ -3,8 +3,8 @@
 ghost use Rattle.std.specs.Prelude.{◌≡◌};
 ghost use Rattle.meta_model.specs.declared.object.Statement.TheOpen.{Set, Emit, Call, If, Connect, Disconnect, Delete, Later};
 ghost use Rattle.meta_model.specs.declared.object.Statement.TheViews.{out-Statement};
-ghost use Rattle.machine_rules.specs.Scope.{doing_in};
-ghost use Rattle.machine_rules.specs.Coded.{Yields, FindsBetween, chosen_of};
+ghost use Rattle.machine_rules.specs.code.Scope.{doing_in};
+ghost use Rattle.machine_rules.specs.code.Coded.{Yields, FindsBetween, chosen_of};
 
 use crate::paths::Scope;
 use expressions::EvalFault;

@@ -1,11 +1,11 @@
 //! Emissions, and the beginning of methods.
 
 ghost use Rattle.std.specs.Prelude.{◌<◌, length, OnOk};
-ghost use Rattle.machine_rules.specs.Sound.{IsSoundWorld, SendsThese, IsDelivered};
+ghost use Rattle.machine_rules.specs.code.Sound.{IsSoundWorld, SendsThese, IsDelivered};
 ghost use Rattle.machine_state.specs.State.{Emit};
-ghost use Rattle.machine_rules.specs.Calls.{Finishes, UsesNext, RunsCall, RunsUse, RunsOnlyCall};
-ghost use Rattle.machine_rules.specs.Reaches.{CallFits, DoesWork, top_of};
-ghost use Rattle.machine_rules.specs.Keeps.{KeepsWorld};
+ghost use Rattle.machine_rules.specs.code.Calls.{Finishes, UsesNext, RunsCall, RunsUse, RunsOnlyCall};
+ghost use Rattle.machine_rules.specs.code.Reaches.{CallFits, DoesWork, top_of};
+ghost use Rattle.machine_rules.specs.code.Keeps.{KeepsWorld};
 ghost use Rattle.native_slots.specs.Promises.{Promises};
 
 use crate::active::Active;

@@ -4,10 +4,10 @@ ghost use Rattle.std.specs.Prelude.{◌≡◌, ◌<◌, ◌∷◌, [], IsTrue, i
 ghost use Rattle.meta_model.specs.declared.object.Work.TheVariants.{Native};
 ghost use Rattle.native_slots.specs.Promises.{Promises};
 ghost use Rattle.machine_state.specs.State.{Ask, Body};
-ghost use Rattle.machine_rules.specs.Calls.{Finishes, CarriesOutAction};
+ghost use Rattle.machine_rules.specs.code.Calls.{Finishes, CarriesOutAction};
 ghost use Rattle.machine_rules.specs.Natives.{place_of};
-ghost use Rattle.machine_rules.specs.Reaches.{CallFits, DoesWork};
-ghost use Rattle.machine_rules.specs.Sound.{IsSoundWorld};
+ghost use Rattle.machine_rules.specs.code.Reaches.{CallFits, DoesWork};
+ghost use Rattle.machine_rules.specs.code.Sound.{IsSoundWorld};
 
 use crate::active::Active;
 use crate::method_call::MethodCall;

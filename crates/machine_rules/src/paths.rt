@@ -2,9 +2,9 @@
 
 ghost use Rattle.std.specs.Option.{option_copied};
 ghost use Rattle.expressions.specs.Evaluation.{Evaluates, EvaluatesAll};
-ghost use Rattle.machine_rules.specs.Reaches.{Finds, Judges};
+ghost use Rattle.machine_rules.specs.code.Reaches.{Finds, Judges};
 ghost use Rattle.machine_rules.specs.Paths.{root_value, step_value};
-ghost use Rattle.machine_rules.specs.Scope.{path_in, value_in, values_in};
+ghost use Rattle.machine_rules.specs.code.Scope.{path_in, value_in, values_in};
 
 use expressions::{self, EvalFault};
 use meta_objects::{MetaPath, MetaRoot, Step};

@@ -1,8 +1,8 @@
 //! Calls that are posted to event loops.
 
 ghost use Rattle.std.specs.Prelude.{◌≡◌, ◌<◌, IfOk};
-ghost use Rattle.machine_rules.specs.Sound.{IsSoundWorld};
-ghost use Rattle.machine_rules.specs.Reaches.{CallFits, PostsCall, entry_of_post};
+ghost use Rattle.machine_rules.specs.code.Sound.{IsSoundWorld};
+ghost use Rattle.machine_rules.specs.code.Reaches.{CallFits, PostsCall, entry_of_post};
 
 use crate::method_call::MethodCall;
 use crate::setting::Setting;

@@ -19,7 +19,7 @@ impl<'p> Model for Remaining<'p> {
     ghost use Rattle.std.specs.Prelude.{List, ◌++◌};
     ghost use Rattle.meta_model.specs.contracts.object.Statement as statement;
     ghost use Rattle.meta_model.specs.declared.object.Statement.{Statement};
-    ghost use Rattle.machine_rules.specs.Remaining.{of_blocks};
+    ghost use Rattle.machine_rules.specs.code.Remaining.{of_blocks};
 
     ghost Value = { List Statement };
 

@@ -1,7 +1,7 @@
 //! A program with its natives, and what its numbers lead to.
 
 ghost use Rattle.std.specs.Prelude.{◌≡◌, ◌≤◌, IfOk, IfErr, MatchOption};
-ghost use Rattle.machine_rules.specs.Reaches.{CallFits, entry_of_call, MayNest, IsBegun, IsBarred};
+ghost use Rattle.machine_rules.specs.code.Reaches.{CallFits, entry_of_call, MayNest, IsBegun, IsBarred};
 ghost use Rattle.machine_rules.specs.There.{IsMember, IsField, LacksMember, LacksField};
 
 use crate::active::Active;

@@ -1,8 +1,8 @@
 //! Turns of event loops.
 
 ghost use Rattle.std.specs.Prelude.{◌≡◌, ◌<◌, [], Some, None, OnOk};
-ghost use Rattle.machine_rules.specs.Sound.{IsSoundWorld};
-ghost use Rattle.machine_rules.specs.Reaches.{RunsTo, Advances, IsCalled, TakesCall};
+ghost use Rattle.machine_rules.specs.code.Sound.{IsSoundWorld};
+ghost use Rattle.machine_rules.specs.code.Reaches.{RunsTo, Advances, IsCalled, TakesCall};
 ghost use Rattle.native_slots.specs.Promises.{Promises};
 
 use crate::active::Active;
@@ -29,9 +29,24 @@ impl<N: Answering> Setting<N> {
         Ok(())
     }
 
+    /// Serves the turn once, after which the stack is empty: no emission stands on a connection that was removed, and what
+    /// these still take up is given back.
+    fn serve(&self, world: &mut World, turn: Turn) -> Result<(), Fault>
+        requires promises { Promises self.now.meta (N.takes self.now.natives) (N.gives self.now.natives) }
+        requires room { 0 < self.now.depth }
+        requires sound { IsSoundWorld self.now.meta world.old }
+        requires goes_on { world.old.turn ≡ Some turn }
+        requires left { 0 < world.old.left }
+        ensures { Advances self.now.meta (N.gives self.now.natives) self.now.depth [] world.old [] world.new [] result }
+    {
+        let result = self.serve_first(world, turn);
+        world.sweep();
+        result
+    }
+
     /// Delivers the first item that the turn may deliver, and runs the call or the deletion to its end; with none left the
     /// turn ends. A call of a dead object begins nothing.
-    fn serve(&self, world: &mut World, turn: Turn) -> Result<(), Fault>
+    fn serve_first(&self, world: &mut World, turn: Turn) -> Result<(), Fault>
         requires promises { Promises self.now.meta (N.takes self.now.natives) (N.gives self.now.natives) }
         requires room { 0 < self.now.depth }
         requires sound { IsSoundWorld self.now.meta world.old }

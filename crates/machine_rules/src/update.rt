@@ -1,11 +1,11 @@
 //! Writes of properties, and the notifications that follow them.
 
 ghost use Rattle.std.specs.Prelude.{◌≡◌, ◌<◌, is_some, length, IfOk, IfErr, MatchOption};
-ghost use Rattle.machine_rules.specs.Sound.{IsSoundWorld};
+ghost use Rattle.machine_rules.specs.code.Sound.{IsSoundWorld};
 ghost use Rattle.machine_state.specs.State.{Update};
-ghost use Rattle.machine_rules.specs.Calls.{Finishes, NotifiesFirst, RunsWrite};
+ghost use Rattle.machine_rules.specs.code.Calls.{Finishes, NotifiesFirst, RunsWrite};
 ghost use Rattle.machine_rules.specs.Settling.{signal_at, notified};
-ghost use Rattle.machine_rules.specs.Writing.{MayWrite, IsUnwritten, MayNotify, Announces};
+ghost use Rattle.machine_rules.specs.code.Writing.{MayWrite, IsUnwritten, MayNotify, Announces};
 ghost use Rattle.native_slots.specs.Promises.{Promises};
 
 use crate::active::Active;

@@ -2,7 +2,7 @@ use Rattle.std.proofs.Common.{subst}
 use Rattle.expressions.specs.declared.evaluation.EvalFault.{EvalFault}
 use Rattle.std.specs.Prelude.{Err}
 use Rattle.machine_rules.specs.Paths.{path_value}
-use Rattle.machine_rules.specs.Reaches.{Finds}
+use Rattle.machine_rules.specs.code.Reaches.{Finds}
 use Rattle.machine_rules.proofs.Yielding.{ends-left, no-sender, no-receiver, null-sender, null-receiver, at-ends}
 use Rattle.machine_rules.proofs.paths.Scope.ends_at.Goals as goal
 

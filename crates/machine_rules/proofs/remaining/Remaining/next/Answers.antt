@@ -1,6 +1,6 @@
 use Rattle.std.proofs.Common.{sym, ap, ◌∙◌}
 use Rattle.std.proofs.lemmas.Bool.{eqb-true}
-use Rattle.machine_rules.specs.Remaining.{of_blocks}
+use Rattle.machine_rules.specs.code.Remaining.{of_blocks}
 use Rattle.machine_rules.proofs.Blocks.{of-last, of-empty}
 use Rattle.machine_rules.proofs.remaining.Remaining.next.Goals as goal
 

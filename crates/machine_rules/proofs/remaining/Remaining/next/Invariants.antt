@@ -1,5 +1,5 @@
 use Rattle.std.proofs.Common.{◌≡◌, ◌++◌, length}
-use Rattle.machine_rules.specs.Remaining.{of_blocks}
+use Rattle.machine_rules.specs.code.Remaining.{of_blocks}
 use Rattle.machine_rules.proofs.remaining.Remaining.next.Given as goal
 
 -- what is left is what was left

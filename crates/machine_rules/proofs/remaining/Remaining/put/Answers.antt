@@ -1,6 +1,6 @@
 use Rattle.std.proofs.Common.{List, ◌++◌, ap, ◌∙◌}
 use Rattle.meta_model.specs.declared.object.Statement.{Statement}
-use Rattle.machine_rules.specs.Remaining.{of_blocks}
+use Rattle.machine_rules.specs.code.Remaining.{of_blocks}
 use Rattle.machine_rules.proofs.Blocks.{of-last}
 use Rattle.machine_rules.proofs.remaining.Remaining.put.Goals as goal
 

@@ -8,8 +8,8 @@ use Rattle.machine_state.specs.State.{Run, Act}
 use Rattle.std.specs.Option.{option_map}
 use Rattle.machine_rules.specs.Doings.{Write, Begin, doing_action}
 use Rattle.machine_rules.specs.Good.{ArgumentsFit}
-use Rattle.machine_rules.specs.Keeps.{KeepsWorld}
-use Rattle.machine_rules.specs.Sound.{IsSoundWorld}
+use Rattle.machine_rules.specs.code.Keeps.{KeepsWorld}
+use Rattle.machine_rules.specs.code.Sound.{IsSoundWorld}
 use Rattle.machine_rules.proofs.Keeps.{keeps-same, keeps-then, reaches-keeps}
 use Rattle.machine_rules.proofs.Declared.{fit-sends}
 use Rattle.machine_rules.proofs.Soundness.{emitted-still, reaches-sound, sound-used, sound-noted, sound-set}

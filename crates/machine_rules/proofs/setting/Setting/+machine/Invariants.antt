@@ -5,10 +5,10 @@ use Rattle.std.specs.Prelude.{IsTrue, is_some}
 use Rattle.native_slots.specs.declared.action.Action.{Action}
 use Rattle.machine_rules.specs.Natives.{place_of}
 use Rattle.machine_rules.specs.Settling.{notified}
-use Rattle.machine_rules.specs.Writing.{MayNotify}
-use Rattle.machine_rules.specs.Sound.{IsSoundWorld}
-use Rattle.machine_rules.specs.Reaches.{Reaches}
-use Rattle.machine_rules.specs.Keeps.{KeepsWorld}
+use Rattle.machine_rules.specs.code.Writing.{MayNotify}
+use Rattle.machine_rules.specs.code.Sound.{IsSoundWorld}
+use Rattle.machine_rules.specs.code.Reaches.{Reaches}
+use Rattle.machine_rules.specs.code.Keeps.{KeepsWorld}
 use Rattle.machine_rules.proofs.setting.Setting.+machine.Given as goal
 
 abbrev pub decreases-run_emission : goal.decreases-run_emission

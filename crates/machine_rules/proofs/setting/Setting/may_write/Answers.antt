@@ -1,4 +1,4 @@
-use Rattle.machine_rules.specs.Writing.{missing, ill}
+use Rattle.machine_rules.specs.code.Writing.{missing, ill}
 use Rattle.machine_rules.proofs.Beginning.{not-true}
 use Rattle.machine_rules.proofs.Writes.{written-may, unwritten-deep}
 use Rattle.machine_rules.proofs.setting.Setting.may_write.Goals as goal

@@ -1,6 +1,6 @@
 use Rattle.std.proofs.Common.{[]}
-use Rattle.machine_rules.specs.Sound.{IsSoundWorld}
-use Rattle.machine_rules.specs.Reaches.{Reaches}
+use Rattle.machine_rules.specs.code.Sound.{IsSoundWorld}
+use Rattle.machine_rules.specs.code.Reaches.{Reaches}
 use Rattle.machine_rules.proofs.setting.Setting.run_turn.Given as goal
 
 abbrev pub invariant-loop-world : goal.invariant-loop-world

@@ -42,9 +42,10 @@ use Rattle.prop_bindings.specs.Fits.{Agree}
 use Rattle.machine_state.specs.declared.entry.Shown.TheVariants as show
 use Rattle.machine_rules.specs.Destroying.{deleting, Dies, Schedules}
 use Rattle.machine_rules.specs.There.{IsMember, NoneDied}
-use Rattle.machine_rules.specs.Active.{shows}
-use Rattle.machine_rules.specs.Runs.{Rules, RulesStop, DoesNext, WritesNext}
-use Rattle.machine_state.specs.Worlds.{at, having_used, posting, taking, ending, KeepsTheRest, GoesTo}
+use Rattle.machine_rules.specs.code.Active.{shows}
+use Rattle.machine_rules.specs.Faults.{DoesNext, WritesNext, Leaves}
+use Rattle.machine_rules.specs.code.Going.{GoodRules, RulesStop}
+use Rattle.machine_state.specs.Worlds.{at, having_used, posting, taking, ending, GoesTo}
 
 -- ---- what a body's paths and expressions give to the code
 
@@ -67,12 +68,7 @@ pub record Reaches (p : Loaded) (natives : NativeAnswers) (depth : ℕ) (shown :
     (w : World) (from : List Activation) (v : World) (to : List Activation) : Type 0 where
   pub runs :
       (below : List Activation) → shows below ≡ shown →
-      Rules p natives depth (at w (from ++ below)) w.left (at v (to ++ below)) v.left
-
--- what is left where a run stops in the world u: that world; where memory was refused, with other objects and bindings, of
--- which nothing was written down
-abbrev pub Leaves : World → World → Fault → Type 0
-Leaves u v fault = KeepsTheRest u v × (fault ≢ Memory → v ≡ u)
+      GoodRules p natives depth (at w (from ++ below)) w.left (at v (to ++ below)) v.left
 
 -- over any stack that shows this, the machine comes to a state where it stops
 pub record StopsIn (p : Loaded) (natives : NativeAnswers) (depth : ℕ) (shown : List (Option ℕ))
@@ -80,7 +76,7 @@ pub record StopsIn (p : Loaded) (natives : NativeAnswers) (depth : ℕ) (shown :
   pub stops :
       (below : List Activation) → shows below ≡ shown →
       (u : World) × (stack : List Activation) × Leaves u v fault ×
-      Rules p natives depth (at w (from ++ below)) w.left (at u stack) u.left × RulesStop p natives depth (at u stack) u.left fault
+      GoodRules p natives depth (at w (from ++ below)) w.left (at u stack) u.left × RulesStop p natives depth (at u stack) u.left fault
 
 -- a call went from one top of the stack to another, or stopped on the way
 pub record RunsTo (p : Loaded) (natives : NativeAnswers) (depth : ℕ) (shown : List (Option ℕ))

@@ -1,26 +1,20 @@
--- Runs of rules, and why they stop (docs/machine.md, "Runs").
-use Rattle.std.specs.Prelude.{◌≡◌, ℕ, suc, ◌<◌, ◌≤◌, ◌⊎◌, List, ◌∷◌, length, Some}
+-- What comes next where a run stops, and why it stops (docs/machine.md, "Faults").
+use Rattle.std.specs.Prelude.{◌≡◌, ◌≢◌, ℕ, ◌<◌, ◌≤◌, ◌⊎◌, List, ◌∷◌, length, None, Some}
 use Rattle.signatures.specs.declared.value.Value.{Value}
 use Rattle.meta_model.specs.declared.object.MetaProperty.{MetaProperty}
+use Rattle.meta_model.specs.declared.object.Statement.{Statement}
+use Rattle.meta_model.specs.declared.object.Statement.TheViews.{out-Statement}
 use Rattle.meta_model.specs.Loaded.{Loaded}
 use Rattle.object_tree.specs.declared.object.Object.{Object}
 use Rattle.object_tree.specs.Typed.{ReadsAs}
-use Rattle.prop_bindings.specs.Fits.{Agree}
 use Rattle.machine_state.specs.declared.fault.Fault.{Fault}
 use Rattle.machine_state.specs.declared.fault.Fault.TheVariants.{BadType, TooDeep, BindingLoop, InUse, Steps, Memory, Stopped}
-use Rattle.machine_state.specs.State.{Step, State, Activation, Body, IsIdle}
-use Rattle.machine_rules.specs.Doings.{Doing, Write, TakeAnswer, doing_step}
-use Rattle.machine_rules.specs.Natives.{NativeAnswers}
-use Rattle.machine_rules.specs.Rules.{Rule}
-use Rattle.meta_model.specs.declared.effects.MetaEffects.{MetaEffects}
-use Rattle.machine_rules.specs.There.{IsField, LacksField}
-use Rattle.machine_rules.specs.Good.{IsWell, Spares, IsGood}
-
--- From s, with so many rules left, to t, with so many left: each state follows the one before it by one rule that
--- brings no bad moment.
-pub data Rules (p : Loaded) (natives : NativeAnswers) (depth : ℕ) : State → ℕ → State → ℕ → Type 0 where
-  done : {s : State} {n : ℕ} → Rules p natives depth s n s n
-  then : {s m t : State} {n k : ℕ} → Rule p natives s m → IsGood p depth s m → Rules p natives depth m n t k → Rules p natives depth s (suc n) t k
+use Rattle.machine_state.specs.State.{Step, Run, State, Activation, Body}
+use Rattle.machine_state.specs.declared.world.World.{World}
+use Rattle.machine_state.specs.Worlds.{KeepsTheRest}
+use Rattle.machine_rules.specs.Doings.{Doing, Write, doing, doing_step}
+use Rattle.machine_rules.specs.There.{IsField}
+use Rattle.machine_rules.specs.Good.{IsWell, Spares, IsAcyclic}
 
 -- ---- what comes next
 
@@ -63,15 +57,19 @@ pub record WritesDeep (p : Loaded) (depth : ℕ) (s : State) : Type 0 where
   pub fits : ReadsAs p s.objects value property.kind
   pub deep : depth ≤ length s.stack
 
--- ---- why a run stops
+-- What is going on is a body whose next statement lacks a value: an expression has none, a condition is no truth value, or
+-- a path leads to no object.
+pub record LacksValue (s : State) : Type 0 where
+  pub object : ℕ
+  pub method : ℕ
+  pub arguments : List Value
+  pub statement : Statement
+  pub rest : List Step
+  pub below : List Activation
+  pub is_next : s.stack ≡ Body object method arguments (Run statement ∷ rest) ∷ below
+  pub lacks : doing s.objects object arguments (out-Statement statement) ≡ None
 
--- What is going on has no next rule; a step that writes, only where its property isn't there. A native that is to answer
--- isn't stuck, whatever it may answer.
-pub record IsStuck (p : Loaded) (natives : NativeAnswers) (s : State) : Type 0 where
-  pub goes_on : ¬ IsIdle s
-  pub stuck : (t : State) → ¬ Rule p natives s t
-  pub lacks : (o q : ℕ) (new : Value) → WritesNext s o q new → LacksField p s.objects o q
-  pub asks_none : (effects : MetaEffects) → ¬ DoesNext s (TakeAnswer effects)
+-- ---- why a run stops
 
 -- what follows gives a property or a call a value that is not of its type
 pub record GoesIll (p : Loaded) (s : State) (Follows : State → Type 0) : Type 0 where
@@ -92,7 +90,7 @@ pub record GoesDeep (p : Loaded) (depth : ℕ) (s : State) (Follows : State → 
   pub follows : Follows t
   pub well : IsWell p s t
   pub spared : Spares s t
-  pub agree : Agree p t.objects t.bindings
+  pub acyclic : IsAcyclic t
   pub deep : depth < length t.stack
 
 -- Why a run stops in a state. Nothing follows, or what follows would give a value of a wrong type; an object would die
@@ -107,6 +105,7 @@ Reason Stuck Closes Follows Due p depth s left Steps = (left ≡ 0) × Due
 Reason Stuck Closes Follows Due p depth s left Memory = (0 < left) × Due
 Reason Stuck Closes Follows Due p depth s left Stopped = ⊥
 
--- why rules stop in a state: none of them binds a property
-abbrev pub RulesStop : Loaded → NativeAnswers → ℕ → State → ℕ → Fault → Type 0
-RulesStop p natives depth s left fault = Reason (IsStuck p natives s) ⊥ (λ t. Rule p natives s t) (¬ IsIdle s) p depth s left fault
+-- what is left where a run stops in the world u: that world; where memory was refused, with other objects and bindings, of
+-- which nothing was written down
+abbrev pub Leaves : World → World → Fault → Type 0
+Leaves u v fault = KeepsTheRest u v × (fault ≢ Memory → v ≡ u)

@@ -10,7 +10,7 @@ use Rattle.machine_state.specs.declared.entry.Entry.{Entry}
 use Rattle.machine_state.specs.declared.world.World.{World}
 use Rattle.machine_state.specs.State.{State}
 use Rattle.machine_state.specs.Worlds.{at}
-use Rattle.machine_rules.specs.Sound.{Joined, AreHoused}
+use Rattle.machine_rules.specs.code.Sound.{Joined, AreHoused}
 use Rattle.machine_rules.specs.There.{IsDead}
 
 -- a living object stays of its class, or dies; dead ones stay dead, no number of an object goes, and others may come

@@ -11,9 +11,9 @@ use Rattle.machine_state.specs.Worlds.{having_used}
 use Rattle.meta_model.specs.declared.effects.MetaEffects.{MetaEffects}
 use Rattle.native_slots.specs.declared.action.Action.{Action}
 use Rattle.machine_state.specs.State.{Step, Run, Act, Activation, Body, Emit, Update, Destroy}
-use Rattle.machine_rules.specs.Active.{shows}
+use Rattle.machine_rules.specs.code.Active.{shows}
 use Rattle.machine_rules.specs.Doings.{Doing, doing_step}
-use Rattle.machine_rules.specs.Reaches.{RunsTo, Advances, CallsIn, Calls, OnlyCalls, Sets, Deletes, Kills}
+use Rattle.machine_rules.specs.code.Reaches.{RunsTo, Advances, CallsIn, Calls, OnlyCalls, Sets, Deletes, Kills}
 use Rattle.machine_rules.specs.declared.method_call.MethodCall.{MethodCall}
 use Rattle.prop_bindings.specs.declared.place.Place.{Place}
 use Rattle.machine_rules.specs.Natives.{NativeAnswers}

@@ -6,7 +6,7 @@ use Rattle.meta_model.specs.declared.object.Statement.{Statement}
 use Rattle.machine_rules.specs.Doings.{Doing, Write, Begin, Choose, Connect, Disconnect, Delete, Schedule, Nothing}
 use Rattle.meta_model.specs.declared.object.MetaEndpoints.{MetaEndpoints}
 use Rattle.machine_state.specs.declared.endpoints.Endpoints.{Endpoints}
-use Rattle.machine_rules.specs.Scope.{ends_in}
+use Rattle.machine_rules.specs.code.Scope.{ends_in}
 use Rattle.machine_rules.specs.declared.paths.Scope.{Scope}
 use Rattle.machine_rules.specs.declared.doing.Doing.{Doing as Coded}
 use Rattle.machine_rules.specs.declared.doing.Doing.TheVariants as coded

@@ -1,0 +1,33 @@
+-- Rules that the code carries out, one after the other, and why it stops (docs/machine.md, "Runs").
+use Rattle.std.specs.Prelude.{ℕ, suc}
+use Rattle.signatures.specs.declared.value.Value.{Value}
+use Rattle.meta_model.specs.declared.effects.MetaEffects.{MetaEffects}
+use Rattle.meta_model.specs.Loaded.{Loaded}
+use Rattle.machine_state.specs.declared.fault.Fault.{Fault}
+use Rattle.machine_state.specs.State.{State, IsIdle}
+use Rattle.machine_rules.specs.Doings.{TakeAnswer}
+use Rattle.machine_rules.specs.Faults.{DoesNext, WritesNext, Reason}
+use Rattle.machine_rules.specs.Good.{IsGood}
+use Rattle.machine_rules.specs.Natives.{NativeAnswers}
+use Rattle.machine_rules.specs.Rules.{Rule}
+use Rattle.machine_rules.specs.There.{LacksField}
+
+-- From s, with so many rules left, to t, with so many left: the code tests what each rule would bring before it carries it
+-- out, so each state follows the one before it by one rule, and none of them is a bad moment.
+pub data GoodRules (p : Loaded) (natives : NativeAnswers) (depth : ℕ) : State → ℕ → State → ℕ → Type 0 where
+  done : {s : State} {n : ℕ} → GoodRules p natives depth s n s n
+  then : {s m t : State} {n k : ℕ} →
+      Rule p natives s m → IsGood p depth s m → GoodRules p natives depth m n t k → GoodRules p natives depth s (suc n) t k
+
+-- What is going on has no next rule; a step that writes, only where its property isn't there. A native that is to answer
+-- isn't stuck, whatever it may answer.
+pub record IsStuck (p : Loaded) (natives : NativeAnswers) (s : State) : Type 0 where
+  pub goes_on : ¬ IsIdle s
+  pub stuck : (t : State) → ¬ Rule p natives s t
+  pub lacks : (o q : ℕ) (new : Value) → WritesNext s o q new → LacksField p s.objects o q
+  pub asks_none : (effects : MetaEffects) → ¬ DoesNext s (TakeAnswer effects)
+
+-- why rules stop in a state: none of them binds a property
+abbrev pub RulesStop : Loaded → NativeAnswers → ℕ → State → ℕ → Fault → Type 0
+RulesStop p natives depth s left fault =
+    Reason (IsStuck p natives s) ⊥ (λ t. Rule p natives s t) (¬ IsIdle s) p depth s left fault
