@@ -9,7 +9,7 @@ use Rattle.object_tree.proofs.Changing.{life-part}
 use Rattle.object_tree.proofs.Families.{moved-part}
 use Rattle.meta_model.specs.Loaded.{Loaded}
 use Rattle.object_tree.specs.Objects.{home_of}
-use Rattle.machine_rules.specs.Sound.{AreHoused, AllWait}
+use Rattle.machine_rules.specs.code.Sound.{AreHoused, AllWait}
 use Rattle.machine_events.specs.events.Create.{IsHome}
 
 -- a loop that has a name is there

@@ -6,7 +6,7 @@ use Rattle.machine_state.specs.declared.refusal.Refusal.{Refusal}
 use Rattle.machine_events.specs.declared.judgement.NotAccepted.{NotAccepted}
 use Rattle.machine_events.specs.declared.judgement.NotAccepted.TheVariants.{Memory}
 use Rattle.machine_rules.specs.Judgement.{Gives, gives, Then, goes_on, ends}
-use Rattle.machine_events.specs.Judgement.{IsNotAccepted, refused, short}
+use Rattle.machine_events.specs.code.Judgement.{IsNotAccepted, refused, short}
 
 -- what is given is what was to be given
 pub given-is : {X : Type 0} {x y : X} → Gives x (Ok y) → y ≡ x

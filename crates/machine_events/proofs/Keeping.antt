@@ -19,20 +19,23 @@ use Rattle.machine_state.specs.Accepting.{accepted}
 use Rattle.machine_state.specs.State.{State, Activation}
 use Rattle.machine_state.specs.Worlds.{at, untouched}
 use Rattle.machine_rules.specs.Natives.{NativeAnswers}
-use Rattle.machine_rules.specs.Sound.{IsSoundWorld}
-use Rattle.machine_rules.specs.Keeps.{Grows, Keeps}
-use Rattle.machine_rules.proofs.Keeps.{grows-by, grows-same, grows-then, begins-kept, writes-kept, installs-kept, schedules-kept, rules-kept, rules-agree}
+use Rattle.machine_rules.specs.code.Sound.{IsSoundWorld}
+use Rattle.machine_rules.specs.code.Keeps.{Grows, Keeps}
+use Rattle.machine_rules.proofs.Keeps.{grows-by, grows-same, grows-then, begins-kept, writes-kept, installs-kept, schedules-kept, rule-kept}
+use Rattle.machine_rules.specs.Good.{IsGood}
+use Rattle.machine_rules.proofs.Agreeing.{rule-agrees}
 use Rattle.machine_events.specs.declared.events.invoke.Invocation.{Invocation}
 use Rattle.machine_events.specs.declared.events.invoke.Invocation.TheVariants.{Emit as EmitIt, Call as CallIt}
 use Rattle.machine_rules.specs.Judgement.{becomes, gives, goes_on}
 use Rattle.machine_events.proofs.Judged.{given-is}
 use Rattle.machine_events.specs.Laws.{AlwaysSettled}
-use Rattle.machine_events.specs.Runs.{Runs, done, rules, takes}
+use Rattle.machine_events.specs.Runs.{Run, done, goes, takes, Each, GoodRun}
 use Rattle.machine_events.specs.Takes.{judged, Takes, accepts, refuses}
-use Rattle.machine_events.specs.Taking.{WorldInvariant, Took}
+use Rattle.machine_events.specs.code.Taking.{WorldInvariant, Took}
 use Rattle.machine_events.specs.events.Block.{block}
 use Rattle.machine_events.specs.events.Invoke.{invoke}
 use Rattle.machine_events.proofs.Preservation.{runs-invariant}
+use Rattle.machine_events.proofs.Settling.{takes-agree}
 use Rattle.machine_events.proofs.Standing.{Invariant}
 
 -- ---- counts
@@ -78,7 +81,7 @@ counts-judged p (Unblock name) x = counts-blocked name false x
 counts-judged p (Delete name) (goes_on _ lives gives) = record { events = refl; connected = omega arith; posted = omega arith; grows = grows-by _ }
 counts-judged p {s} {t} (Later name) (goes_on o lives (becomes x)) = counts-kept (schedules-kept p (accepted s) s.stack o.number t (Some o.it) x)
 
-counts-takes : {p : Loaded} {s t : State} {e : Event} → Takes p e s t → Counts s t
+counts-takes : {p : Loaded} {s t : State} {e : Event} {a : Answer} → Takes p e a s t → Counts s t
 counts-takes {p = p} {e = e} (accepts idle x) = counts-judged p e x
 counts-takes (refuses k idle x) = record { events = refl; connected = omega arith; posted = omega arith; grows = grows-by _ }
 
@@ -89,13 +92,13 @@ pub record Pays (s : State) (n : ℕ) (t : State) (k : ℕ) : Type 0 where
   pub posted : t.queues.posted + k ≤ s.queues.posted + n
   pub grows : Grows s.trace t.trace
 
-pub runs-pay : {p : Loaded} {natives : NativeAnswers} {d : ℕ} {s t : State} {n k : ℕ} {es : List Event} → Runs p natives d s n es t k → Pays s n t k
+pub runs-pay : {p : Loaded} {natives : NativeAnswers} {s t : State} {n k : ℕ} {es : List Event} {xs : List Answer} → Run p natives s n es xs t k → Pays s n t k
 runs-pay {s = s} done = record { events = omega arith; connected = omega arith; posted = omega arith; grows = grows-same s.trace }
-runs-pay (rules r rest) =
-    let kept = rules-kept r in
+runs-pay {p} {natives} (goes {s = s} {m = m} x rest) =
+    let kept = rule-kept p natives s m s.stack x in
     let more = runs-pay rest in
-    record { events = omega (arith, kept.events, kept.fewer, more.events); connected = omega (arith, kept.paid, more.connected); posted = omega (arith, kept.posted, more.posted); grows = grows-then kept.grows more.grows }
-runs-pay (takes x good rest) =
+    record { events = omega (arith, kept.events, more.events); connected = omega (arith, kept.paid, more.connected); posted = omega (arith, kept.posted, more.posted); grows = grows-then kept.grows more.grows }
+runs-pay (takes x rest) =
     let one = counts-takes x in
     let more = runs-pay rest in
     record { events = omega (arith, one.events, more.events); connected = omega (arith, one.connected, more.connected); posted = omega (arith, one.posted, more.posted); grows = grows-then one.grows more.grows }
@@ -106,10 +109,10 @@ runs-pay (takes x good rest) =
 pub invariant-at : {p : Loaded} (w : World) → IsSoundWorld p w → Invariant p (at w [])
 invariant-at w sound = record { sound = record { agree = sound.is.agree; joined = sound.is.joined; housed = sound.is.housed; waiting = sound.is.waiting }; stands = tt; emitted = tt }
 
-keeps-run : {p : Loaded} {natives : NativeAnswers} {d : ℕ} {w v : World} {stack : List Activation} {es : List Event} → IsSound p → WorldInvariant p w → Runs p natives d (at w []) w.left es (at v stack) v.left → WorldInvariant p v
+keeps-run : {p : Loaded} {natives : NativeAnswers} {d : ℕ} {w v : World} {stack : List Activation} {es : List Event} {xs : List Answer} → IsSound p → WorldInvariant p w → GoodRun p natives d (at w []) w.left es xs (at v stack) v.left → WorldInvariant p v
 keeps-run {w = w} sound keeps runs =
     let up = runs-invariant sound runs (invariant-at w keeps.sound) in
-    let pays = runs-pay runs in
+    let pays = runs-pay runs.run in
     record {
       sound = record {
         program = sound;
@@ -121,8 +124,8 @@ keeps-run {w = w} sound keeps runs =
     }
 
 pub keeps-took : {p : Loaded} {natives : NativeAnswers} {d : ℕ} {w v : World} {e : Event} (r : Result Answer Fault) → IsSound p → WorldInvariant p w → Took p natives d w e v r → is_err r ≡ false → WorldInvariant p v
-keeps-took (Ok a) sound keeps took goes = keeps-run sound keeps took.cases.0.runs
-keeps-took (Err f) sound keeps took goes = absurd (cc goes)
+keeps-took (Ok a) sound keeps took on = keeps-run sound keeps took.cases.0.runs
+keeps-took (Err f) sound keeps took on = absurd (cc on)
 
 -- .. so all values are settled after an event that was answered
 pub settled-took : {p : Loaded} {natives : NativeAnswers} {d : ℕ} {w v : World} {e : Event} (r : Result Answer Fault) → IsSound p → WorldInvariant p w → Took p natives d w e v r → IfOk r (λ _. Settled (binding_at v.store.bindings) (values_in v.store.tree))
@@ -131,8 +134,8 @@ settled-took (Err f) sound keeps took = tt
 
 -- an event that was answered leaves no turn
 pub idle-took : {p : Loaded} {natives : NativeAnswers} {d : ℕ} {w v : World} {e : Event} (r : Result Answer Fault) → Took p natives d w e v r → is_err r ≡ false → v.turn ≡ None
-idle-took (Ok a) took goes = took.cases.0.ends.no_turn
-idle-took (Err f) took goes = absurd (cc goes)
+idle-took (Ok a) took on = took.cases.0.ends.no_turn
+idle-took (Err f) took on = absurd (cc on)
 
 -- where there is no binding, no chain leads anywhere
 no-chain : {from to : Place} → Chain (binding_at []) from to → ⊥
@@ -164,12 +167,12 @@ untouched-sound p steps program few = record {
 -- ---- values stay settled
 
 -- where objects and bindings agree at the start of a run, they do in every state that it comes to
-pub runs-agree : {p : Loaded} {natives : NativeAnswers} {d : ℕ} {s t : State} {n k : ℕ} {es : List Event} → Runs p natives d s n es t k → Agree p s.objects s.bindings → Agree p t.objects t.bindings
-runs-agree done agree = agree
-runs-agree (rules r rest) agree = runs-agree rest (rules-agree r agree)
-runs-agree (takes x good rest) agree = runs-agree rest good.agree
+run-agrees : {p : Loaded} {natives : NativeAnswers} {s t : State} {n k : ℕ} {es : List Event} {xs : List Answer} (d : ℕ) → IsSound p → (r : Run p natives s n es xs t k) → Each (IsGood p d) r → Agree p s.objects s.bindings → Agree p t.objects t.bindings
+run-agrees d sound done good agree = agree
+run-agrees {natives = natives} d sound (goes {s = s} x rest) good agree = run-agrees d sound rest good.1 (rule-agrees agree good.0.well natives s.stack x)
+run-agrees d sound (takes x rest) good agree = run-agrees d sound rest good.1 (takes-agree sound agree x good.0.well good.0.acyclic)
 
 pub always_settled : (natives : NativeAnswers) → AlwaysSettled natives
-always_settled natives p depth steps events t k front =
-    let agree = runs-agree front.runs (agree-none p) in
+always_settled natives p depth steps events answers t k sound r =
+    let agree = run-agrees depth sound r.run r.good (agree-none p) in
     (agree.settled, agree.acyclic)

@@ -5,9 +5,10 @@ mod Taken
 mod Pushed
 mod Judging
 pub mod Keeping
+pub mod Settling
 mod OneAnswer
-mod OneTaking
-mod OneRun
+pub mod OneTaking
+pub mod OneRun
 pub mod Inherited
 pub mod TypedPaths
 pub mod Standing

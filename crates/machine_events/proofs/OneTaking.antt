@@ -1,5 +1,5 @@
 -- An event has one answer.
-use Rattle.std.proofs.Common.{◌≡◌, ℕ, List, Option, None, Some, slice_get, length, arith, Result, Ok, Err, true, false, sym, ap, ◌∙◌, subst}
+use Rattle.std.proofs.Common.{◌≡◌, ℕ, List, Option, None, Some, slice_get, length, arith, Result, Ok, Err, true, false, refl, sym, ap, ◌∙◌, subst}
 use Rattle.signatures.specs.declared.sig.Sig.{Sig}
 use Rattle.meta_model.specs.declared.object.MetaMethod.{MetaMethod}
 use Rattle.meta_model.specs.declared.object.MetaObject.{MetaObject}
@@ -12,9 +12,13 @@ use Rattle.prop_bindings.specs.declared.binding.Binding.{Binding}
 use Rattle.prop_bindings.specs.Fits.{Agree}
 use Rattle.texts.specs.declared.connection.ConnectionType.{ConnectionType}
 use Rattle.texts.specs.declared.connection.Endpoints.{Endpoints as Named}
+use Rattle.script_lang.specs.declared.event.Event.{Event}
 use Rattle.script_lang.specs.declared.event.Event.TheVariants as event
 use Rattle.script_lang.specs.declared.event.Input.{Input}
+use Rattle.machine_state.specs.declared.fault.Answer.{Answer}
+use Rattle.machine_state.specs.declared.fault.Answer.TheVariants.{Refused}
 use Rattle.machine_state.specs.declared.refusal.Refusal.{Refusal}
+use Rattle.machine_state.specs.Refusals.{refusal_number}
 use Rattle.machine_state.specs.Accepting.{accepted, refused}
 use Rattle.machine_state.specs.State.{State}
 use Rattle.machine_rules.proofs.OneRule.{begins-one, writes-one, installs-one, schedules-one}
@@ -24,8 +28,9 @@ use Rattle.machine_rules.specs.Judgement.{Numbered}
 use Rattle.machine_rules.specs.Judgement.{HasOneAnswer}
 use Rattle.machine_rules.specs.Judgement.{becomes, goes_on, ends}
 use Rattle.machine_rules.specs.Settling.{Installs}
-use Rattle.machine_events.specs.Laws.{IsAcyclic, IsAcyclicIn, OneJudgement, OneTaking}
-use Rattle.machine_events.specs.Takes.{accepts, refuses}
+use Rattle.machine_rules.specs.Good.{IsAcyclic}
+use Rattle.machine_events.specs.Laws.{IsAcyclicIn, OneJudgement, OneTaking}
+use Rattle.machine_events.specs.Takes.{judged, Takes, accepts, refuses}
 use Rattle.machine_events.specs.events.Adopt.{adopt, Adopts}
 use Rattle.machine_events.specs.events.Assign.{assign}
 use Rattle.machine_events.specs.events.Bind.{IsSiteOf, may_bind, bind}
@@ -156,12 +161,22 @@ one_judgement p s (event.Delete name) a b sound agree f g acyclic = one-delete s
 one_judgement p s (event.Later name) a b sound agree f g acyclic = one-later s name a b f g
 
 pub one_taking : OneTaking
-one_taking p e s t u sound agree (accepts f a) (accepts g b) acyclic =
+one_taking p e x y s t u sound agree (accepts f a) (accepts g b) acyclic =
     let answers = one_judgement p s e (Ok t) (Ok u) sound agree a b acyclic in
-    cc answers
-one_taking p e s t u sound agree (accepts f a) (refuses k g b) acyclic = let no = one_judgement p s e (Err k) (Ok t) sound agree b a tt in absurd (cc no)
-one_taking p e s t u sound agree (refuses k f a) (accepts g b) acyclic = let no = one_judgement p s e (Err k) (Ok u) sound agree a b tt in absurd (cc no)
-one_taking p e s t u sound agree (refuses k f a) (refuses j g b) acyclic =
+    (refl, cc answers)
+one_taking p e x y s t u sound agree (accepts f a) (refuses k g b) acyclic = let no = one_judgement p s e (Err k) (Ok t) sound agree b a tt in absurd (cc no)
+one_taking p e x y s t u sound agree (refuses k f a) (accepts g b) acyclic = let no = one_judgement p s e (Err k) (Ok u) sound agree a b tt in absurd (cc no)
+one_taking p e x y s t u sound agree (refuses k f a) (refuses j g b) acyclic =
     let answers = one_judgement p s e (Err k) (Err j) sound agree a b tt in
     let same : k ≡ j = cc answers in
-    ap (λ (r : Refusal). refused s r) same
+    (ap (λ (r : Refusal). Refused (refusal_number r)) same, ap (λ (r : Refusal). refused s r) same)
+
+-- an event that its conditions refuse is taken with that answer
+pub answer-refused : {p : Loaded} {e : Event} {a : Answer} {s t : State} (k : Refusal) → IsSound p → Agree p s.objects s.bindings → Takes p e a s t → judged p s e (Err k) → a ≡ Refused (refusal_number k)
+answer-refused {p} {e} {s = s} {t = t} k sound agree (accepts idle y) is =
+    let no = one_judgement p s e (Err k) (Ok t) sound agree is y tt in
+    absurd (cc no)
+answer-refused {p} {e} {s = s} k sound agree (refuses r idle y) is =
+    let both = one_judgement p s e (Err r) (Err k) sound agree y is tt in
+    let same : r ≡ k = cc both in
+    ap (λ (x : Refusal). Refused (refusal_number x)) same

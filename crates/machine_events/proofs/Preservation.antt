@@ -43,7 +43,7 @@ use Rattle.machine_state.specs.declared.telling.Cause.{Cause}
 use Rattle.machine_state.specs.State.{Step, Run, Ask, Act, State, IsIdle, Activation, Body, Emit, Update, Destroy}
 use Rattle.machine_rules.specs.Rules.{Rule, RuleAt, BodyRule, Does, EmitRule, UpdateRule, Begins, begun, with_used, linked, unlinked, TurnRule, Serves, Delivers, Arrives, BeginsIf, NotifiesIf}
 use Rattle.machine_rules.specs.Settling.{Settles, Writes, Installs}
-use Rattle.machine_rules.specs.Writing.{MayNotify}
+use Rattle.machine_rules.specs.code.Writing.{MayNotify}
 use Rattle.object_tree.specs.Objects.{home_of}
 use Rattle.event_loops.specs.declared.item.Item.{Item}
 use Rattle.event_loops.specs.declared.item.Item.TheVariants.{Call, Deletion}
@@ -58,6 +58,7 @@ use Rattle.texts.specs.declared.connection.ConnectionType.{ConnectionType}
 use Rattle.texts.specs.declared.connection.Endpoints.{Endpoints as Named}
 use Rattle.script_lang.specs.declared.event.Input.{Input}
 use Rattle.machine_state.specs.Accepting.{accepted}
+use Rattle.machine_state.specs.declared.fault.Answer.{Answer}
 use Rattle.machine_events.specs.declared.events.invoke.Invocation.{Invocation}
 use Rattle.machine_events.specs.declared.events.invoke.Invocation.TheVariants.{Emit as EmitIt, Call as CallIt}
 use Rattle.machine_rules.specs.Judgement.{found as finds, holds as so, becomes, gives as just, goes_on}
@@ -70,12 +71,12 @@ use Rattle.machine_state.proofs.Due.{all-removed}
 use Rattle.machine_events.proofs.Judged.{given-is}
 use Rattle.machine_events.specs.events.Invoke.{invoke}
 use Rattle.machine_events.proofs.Judging.Naming.{living-is, living-object}
-use Rattle.machine_rules.specs.Good.{has_body, ArgumentsFit, TopFits, IsWell, Spares}
-use Rattle.machine_events.specs.Runs.{Runs, done, rules, takes}
-use Rattle.machine_rules.specs.Runs.{Rules}
-use Rattle.machine_rules.specs.Runs as of_rules
-use Rattle.machine_rules.specs.Sound.{Joined, AreHoused}
-use Rattle.machine_rules.specs.Keeps.{StayThere, Keeps}
+use Rattle.machine_rules.specs.Good.{has_body, ArgumentsFit, TopFits, IsWell, Spares, IsGood}
+use Rattle.machine_rules.proofs.Agreeing.{rule-agrees}
+use Rattle.machine_events.proofs.Settling.{takes-agree}
+use Rattle.machine_events.specs.Runs.{Run as ARun, done, goes, takes, Each, GoodRun}
+use Rattle.machine_rules.specs.code.Sound.{Joined, AreHoused}
+use Rattle.machine_rules.specs.code.Keeps.{StayThere, Keeps}
 use Rattle.machine_rules.specs.There.{IsDead, IsMember}
 use Rattle.machine_rules.proofs.Dying.{died-stay, scheduled-stay, scheduled-seen}
 use Rattle.machine_rules.proofs.Fields.{life-unique, member-method}
@@ -422,17 +423,24 @@ judged-invariant {p} {s} {t} (LaterEvent name) sound idle up (goes_on o lives (b
     kept-invariant sound (accepted-well well) agree (accepted-invariant up) (schedules-kept p (accepted s) s.stack o.number t (Some o.it) x)
     (schedules-stands sound (accepted-well well) s.stack o.number (Some o.it) up.stands x) (schedules-fair sound (accepted-well well) up.sound.waiting s.stack o.number (Some o.it) x up.emitted)
 
-takes-invariant : {p : Loaded} {s t : State} {e : Event} → IsSound p → Invariant p s → Takes p e s t → IsWell p s t → Agree p t.objects t.bindings → Invariant p t
+takes-invariant : {p : Loaded} {s t : State} {e : Event} {a : Answer} → IsSound p → Invariant p s → Takes p e a s t → IsWell p s t → Agree p t.objects t.bindings → Invariant p t
 takes-invariant {e = e} sound up (accepts idle x) well agree = judged-invariant e sound idle up x well agree
 takes-invariant sound up (refuses k idle x) well agree = record { sound = record { agree = up.sound.agree; joined = up.sound.joined; housed = up.sound.housed; waiting = up.sound.waiting }; stands = up.stands; emitted = up.emitted }
 
--- every state that rules lead to stands
-rules-invariant : {p : Loaded} {natives : NativeAnswers} {d : ℕ} {s t : State} {n k : ℕ} → IsSound p → Rules p natives d s n t k → Invariant p s → Invariant p t
-rules-invariant sound of_rules.done up = up
-rules-invariant {natives = natives} sound (of_rules.then r good rest) up = rules-invariant sound rest (rule-invariant sound good.well natives good.spared good.agree up r)
+-- ---- steps without a bad moment
+
+pub after-rule : {p : Loaded} {d : ℕ} {s t : State} (natives : NativeAnswers) → IsSound p → Invariant p s → IsGood p d s t → Rule p natives s t → Invariant p t
+after-rule {s = s} natives sound up good r =
+    rule-invariant sound good.well natives good.spared (rule-agrees up.sound.agree good.well natives s.stack r) up r
+
+pub after-event : {p : Loaded} {d : ℕ} {s t : State} {e : Event} {a : Answer} → IsSound p → Invariant p s → IsGood p d s t → Takes p e a s t → Invariant p t
+after-event sound up good x = takes-invariant sound up x good.well (takes-agree sound up.sound.agree x good.well good.acyclic)
 
 -- every state of a run keeps it
-pub runs-invariant : {p : Loaded} {natives : NativeAnswers} {d : ℕ} {s t : State} {n k : ℕ} {es : List Event} → IsSound p → Runs p natives d s n es t k → Invariant p s → Invariant p t
-runs-invariant sound done up = up
-runs-invariant sound (rules r rest) up = runs-invariant sound rest (rules-invariant sound r up)
-runs-invariant sound (takes x good rest) up = runs-invariant sound rest (takes-invariant sound up x good.well good.agree)
+run-invariant : {p : Loaded} {natives : NativeAnswers} {s t : State} {n k : ℕ} {es : List Event} {xs : List Answer} (d : ℕ) → IsSound p → (r : ARun p natives s n es xs t k) → Each (IsGood p d) r → Invariant p s → Invariant p t
+run-invariant d sound done good up = up
+run-invariant {natives = natives} d sound (goes x rest) good up = run-invariant d sound rest good.1 (after-rule natives sound up good.0 x)
+run-invariant d sound (takes x rest) good up = run-invariant d sound rest good.1 (after-event sound up good.0 x)
+
+pub runs-invariant : {p : Loaded} {natives : NativeAnswers} {d : ℕ} {s t : State} {n k : ℕ} {es : List Event} {xs : List Answer} → IsSound p → GoodRun p natives d s n es xs t k → Invariant p s → Invariant p t
+runs-invariant {d = d} sound r up = run-invariant d sound r.run r.good up

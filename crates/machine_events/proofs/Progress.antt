@@ -38,17 +38,18 @@ use Rattle.prop_bindings.specs.declared.place.Place.{Place}
 use Rattle.machine_state.specs.declared.turn.Turn.{Turn}
 use Rattle.machine_state.specs.Turns.{running, reaches_at_once}
 use Rattle.machine_state.specs.Connections.{is_living, next_used}
-use Rattle.machine_rules.specs.Runs.{DoesNext, IsStuck}
+use Rattle.machine_rules.specs.Faults.{DoesNext, LacksValue}
+use Rattle.machine_rules.specs.code.Going.{IsStuck}
 use Rattle.machine_rules.proofs.Reaching.{reason-more}
-use Rattle.machine_events.specs.Runs.{BindsIll, RunStops}
-use Rattle.machine_events.specs.Causes.{LacksValue, Cause}
+use Rattle.machine_events.specs.code.Taking.{RunStops}
+use Rattle.machine_events.specs.Causes.{BindsIll, Cause}
 use Rattle.machine_rules.specs.There.{IsField, LacksField}
-use Rattle.machine_rules.specs.Writing.{MayNotify}
+use Rattle.machine_rules.specs.code.Writing.{MayNotify}
 use Rattle.machine_rules.proofs.Beginning.{next-delivered}
 use Rattle.machine_rules.proofs.Fields.{old-there}
 use Rattle.machine_events.proofs.Possible.{IsPossible, possible, acts}
 use Rattle.machine_events.proofs.Standing.{BodyStands, Stands, Invariant}
-use Rattle.machine_rules.specs.Sound.{IsDelivered, Waits}
+use Rattle.machine_rules.specs.code.Sound.{IsDelivered, Waits}
 use Rattle.machine_rules.proofs.Soundness.{AllFit}
 use Rattle.machine_rules.proofs.Waiting.{loop-named, first-waits}
 
@@ -229,6 +230,6 @@ module _ {p : Loaded} {s : State} (sound : IsSound p) (up : Invariant p s) where
   pub cause-of : (natives : NativeAnswers) (d left : ℕ) (es : List Event) (f : Fault) → RunStops p natives d s left es f → Cause p natives d s left es f
   cause-of natives d left es f r = reason-more p d s left f held (λ closes. closes) (λ t follows. follows) (λ due. due) r
     where
-      held : IsStuck p natives s ⊎ BindsIll p s es → IsStuck p natives s × LacksValue s ⊎ BindsIll p s es
-      held (inl stuck) = inl (stuck, stuck-lacks stuck)
+      held : IsStuck p natives s ⊎ BindsIll p s es → LacksValue s ⊎ BindsIll p s es
+      held (inl stuck) = inl (stuck-lacks stuck)
       held (inr ill) = inr ill

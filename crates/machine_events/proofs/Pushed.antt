@@ -18,10 +18,10 @@ use Rattle.machine_state.specs.Objects.{all_shown}
 use Rattle.machine_state.specs.State.{Activation, Update}
 use Rattle.machine_state.specs.Accepting.{accepted}
 use Rattle.machine_state.specs.Worlds.{at, accepting_entries, accepting_turn, with_bound, HasWritten, HasBound, KeepsTheRest}
-use Rattle.machine_events.specs.Runs.{done, is_next}
+use Rattle.machine_events.specs.Runs.{is_next}
 use Rattle.machine_events.specs.Takes.{judged, accepts}
 use Rattle.machine_rules.specs.Natives.{NativeAnswers}
-use Rattle.machine_rules.specs.Reaches.{RunsTo, begin_entry, top_of, IsBegun, IsBarred}
+use Rattle.machine_rules.specs.code.Reaches.{RunsTo, begin_entry, top_of, IsBegun, IsBarred}
 use Rattle.prop_bindings.specs.declared.binding.Binding.{Binding}
 use Rattle.prop_bindings.specs.declared.place.Place.{Place}
 use Rattle.prop_bindings.specs.Bindings.{binding_at, Settled}
@@ -34,10 +34,10 @@ use Rattle.machine_rules.specs.Rules.{begun}
 use Rattle.machine_rules.specs.Settling.{Installs, notified}
 use Rattle.machine_rules.proofs.Beginning.{top-fits}
 use Rattle.machine_rules.proofs.Soundness.{sound-settled}
-use Rattle.machine_rules.specs.Sound.{IsSoundWorld}
-use Rattle.machine_events.specs.Taking.{AsksFor, WritesTo, Took, Halted}
+use Rattle.machine_rules.specs.code.Sound.{IsSoundWorld}
+use Rattle.machine_events.specs.code.Taking.{AsksFor, WritesTo, Took, Halted}
 use Rattle.machine_events.proofs.Judging.Assigning.{field-of}
-use Rattle.machine_events.proofs.Taken.{idle, Ready, good-pushed, took-run, took-unchanged}
+use Rattle.machine_events.proofs.Taken.{idle, none-yet, Ready, good-pushed, took-run, took-unchanged}
 
 begun-here : (w : World) (o : ℕ) (x : Object) (m : ℕ) (method : MetaMethod) (values : List Value) (work : Work) →
     at (accepting_entries w (begin_entry 1 x m method.sig.name (all_shown w.store.tree values) work ∷ [])) (top_of o m values w.store.connections.last work ∷ []) ≡ begun (accepted (at w [])) [] o x m method values work
@@ -117,7 +117,7 @@ began {p} {natives} {d} {o} {m} {w} {v} {u} {values = values} {work = work} {las
     let none : v.turn ≡ None = ap (λ (z : World). z.turn) v_is ∙ some.no_turn in
     let begun = judged-begun w e asks is v_is in
     let room : 0 < d = is.room in
-    took-run e (accepts (idle w some.no_turn) begun) (good-pushed w v agree_after fits (omega (arith, room))) (record { effect = _; why = begun }) some.some less none ends
+    took-run e (accepts (idle w some.no_turn) begun) (good-pushed w v agree_after fits (omega (arith, room))) some.some less none ends
 
 -- a method that fits begins, unless memory is refused
 pub barred-short : {p : Loaded} {natives : NativeAnswers} {d : ℕ} {w : World} {f : Fault} (e : Event) (r : Result Answer Fault) → 0 < d → Ready w → IsBarred d [] f → IsErrAnd r (λ y. y ≡ f) → Took p natives d w e w r
@@ -132,14 +132,14 @@ pub changed-run : {p : Loaded} {natives : NativeAnswers} {d : ℕ} {w v u : Worl
 changed-run {w = w} {v = v} lines changed e agree room some judged is ends =
     let less : v.left ≡ w.left - 1 = ap (λ (z : World). z.left) is in
     let none : v.turn ≡ None = ap (λ (z : World). z.turn) is ∙ some.no_turn in
-    took-run e (accepts (idle w some.no_turn) judged) (good-pushed w v agree tt (omega (arith, room))) (record { effect = _; why = judged }) some.some less none ends
+    took-run e (accepts (idle w some.no_turn) judged) (good-pushed w v agree tt (omega (arith, room))) some.some less none ends
 
 -- memory is refused as values have changed, and nothing is written down
 pub changed-short : {p : Loaded} {natives : NativeAnswers} {d : ℕ} {w v : World} {f : Fault} (e : Event) (r : Result Answer Fault) → Ready w → (f ≡ Memory) × KeepsTheRest w v → IsErrAnd r (λ y. y ≡ f) → Took p natives d w e v r
 changed-short e (Ok a) some why is = absurd is
 changed-short {p} {natives} {d} {w} {v} e (Err y) some why is =
     let Named : Fault → Type 0 = λ g. Halted p natives d w e v g in
-    record { cases = subst Named (sym (is ∙ why.0)) (record { u = w; leaves = (why.1, λ other. absurd (other refl)); stack = []; front = record { taken = []; rest = e ∷ []; split = refl; runs = done }; reason = (some.some, is_next (idle w some.no_turn)) }) }
+    record { cases = subst Named (sym (is ∙ why.0)) (record { u = w; leaves = (why.1, λ other. absurd (other refl)); stack = []; front = record { taken = []; rest = e ∷ []; split = refl; answers = []; runs = none-yet }; reason = (some.some, is_next (idle w some.no_turn)) }) }
 
 -- ---- what stays sound meanwhile
 

@@ -10,37 +10,44 @@ use Rattle.machine_state.specs.declared.fault.Fault.TheVariants.{Steps, Memory}
 use Rattle.machine_state.specs.declared.refusal.Refusal.{Refusal}
 use Rattle.machine_state.specs.declared.world.World.{World}
 use Rattle.machine_state.specs.Accepting.{refused}
+use Rattle.machine_state.specs.Refusals.{refusal_number}
 use Rattle.machine_state.specs.State.{State, Activation, IsIdle}
 use Rattle.machine_state.specs.Worlds.{at, after, Rejects}
 use Rattle.machine_rules.specs.Natives.{NativeAnswers}
-use Rattle.machine_rules.specs.Reaches.{RunsTo, Leaves}
+use Rattle.machine_rules.specs.Faults.{Leaves}
+use Rattle.machine_rules.specs.code.Reaches.{RunsTo}
 use Rattle.prop_bindings.specs.Fits.{Agree}
 use Rattle.machine_rules.specs.Good.{IsGood, TopFits}
-use Rattle.machine_rules.specs.Runs.{Rules}
-use Rattle.machine_rules.specs.Runs as of_rules
+use Rattle.machine_rules.specs.code.Going.{GoodRules}
+use Rattle.machine_rules.specs.code.Going as of_rules
 use Rattle.machine_events.specs.declared.judgement.NotAccepted.{NotAccepted}
-use Rattle.machine_events.specs.Judgement.{IsNotAccepted}
-use Rattle.machine_events.specs.Judgement as not_accepted
-use Rattle.machine_events.specs.Runs.{Runs, RunsWhole, done, rules, takes, is_next}
+use Rattle.machine_events.specs.code.Judgement.{IsNotAccepted}
+use Rattle.machine_events.specs.code.Judgement as not_accepted
+use Rattle.machine_events.specs.Runs.{GoodRun, RunsWhole, done, takes, is_next}
 use Rattle.machine_events.specs.Takes.{judged, Takes, accepts, refuses}
-use Rattle.machine_events.specs.Taking.{Halted, IsAccepted, Answered, Took, IsRefused}
+use Rattle.machine_events.specs.code.Taking.{Halted, SaysWhy, Took, IsRefused}
 use Rattle.machine_rules.proofs.Keeps.{rules-kept}
-use Rattle.machine_events.proofs.Running.{reason-of}
+use Rattle.machine_events.proofs.Running.{reason-of, rules-run}
 
 -- an event is taken, and rules follow
-pub runs-taken : {p : Loaded} {natives : NativeAnswers} {d : ℕ} {s m t : State} {n j k : ℕ} (e : Event) → Takes p e s m → IsGood p d s m → 0 < n → j ≡ n - 1 → Rules p natives d m j t k → Runs p natives d s n (e ∷ []) t k
-runs-taken {p} {natives} {d} {s} {m} {t} {n} {j} {k} e x good some less rest =
-    let Family : ℕ → Type 0 = λ a. Runs p natives d s a (e ∷ []) t k in
+pub runs-taken : {p : Loaded} {natives : NativeAnswers} {d : ℕ} {a : Answer} {s m t : State} {n j k : ℕ} (e : Event) → Takes p e a s m → IsGood p d s m → 0 < n → j ≡ n - 1 → GoodRules p natives d m j t k → GoodRun p natives d s n (e ∷ []) (a ∷ []) t k
+runs-taken {p} {natives} {d} {a} {s} {m} {t} {n} {j} {k} e x good some less rest =
+    let Family : ℕ → Type 0 = λ i. GoodRun p natives d s i (e ∷ []) (a ∷ []) t k in
     let suc_is : suc j ≡ n = omega (arith, less, some) in
-    subst Family suc_is (takes x good (rules rest done))
+    let after : GoodRun p natives d m j [] [] t k = rules-run rest in
+    subst Family suc_is (record { run = takes x after.run; good = (good, after.good) })
 
 -- an event that pushes nothing is good where objects and bindings agree
 pub good-quiet : {p : Loaded} {d : ℕ} (w v : World) → Agree p v.store.tree v.store.bindings → IsGood p d (at w []) (at v [])
-good-quiet w v agree = record { well = record { arguments = λ more. absurd (omega (arith, more)); values = agree.typed }; spared = λ o body gone. absurd (cc body); agree = agree; shallow = omega arith }
+good-quiet w v agree = record { well = record { arguments = λ more. absurd (omega (arith, more)); values = agree.typed }; spared = λ o body gone. absurd (cc body); acyclic = agree.acyclic; shallow = omega arith }
 
 -- .. and one that pushes an activation where its arguments fit too
 pub good-pushed : {p : Loaded} {d : ℕ} {top : Activation} (w v : World) → Agree p v.store.tree v.store.bindings → TopFits p v.store.tree (top ∷ []) → 1 ≤ d → IsGood p d (at w []) (at v (top ∷ []))
-good-pushed w v agree fit room = record { well = record { arguments = λ more. fit; values = agree.typed }; spared = λ o body gone. absurd (cc body); agree = agree; shallow = omega (arith, room) }
+good-pushed w v agree fit room = record { well = record { arguments = λ more. fit; values = agree.typed }; spared = λ o body gone. absurd (cc body); acyclic = agree.acyclic; shallow = omega (arith, room) }
+
+-- a run that hasn't begun
+pub none-yet : {p : Loaded} {natives : NativeAnswers} {d : ℕ} {s : State} {n : ℕ} → GoodRun p natives d s n [] [] s n
+none-yet = record { run = done; good = tt }
 
 -- natives that answer nothing
 abbrev pub no_natives : NativeAnswers
@@ -64,11 +71,11 @@ leaves-same w f = (refl, λ other. refl)
 
 -- memory was refused before anything changed
 pub halted-short : {p : Loaded} {natives : NativeAnswers} {d : ℕ} {w : World} (e : Event) → Ready w → Halted p natives d w e w Memory
-halted-short {w = w} e some = record { u = w; leaves = leaves-same w Memory; stack = []; front = record { taken = []; rest = e ∷ []; split = refl; runs = done }; reason = (some.some, is_next (idle w some.no_turn)) }
+halted-short {w = w} e some = record { u = w; leaves = leaves-same w Memory; stack = []; front = record { taken = []; rest = e ∷ []; split = refl; answers = []; runs = none-yet }; reason = (some.some, is_next (idle w some.no_turn)) }
 
 -- no rule is left for the event
 pub halted-spent : {p : Loaded} {natives : NativeAnswers} {d : ℕ} {w : World} (e : Event) → w.left ≡ 0 → w.turn ≡ None → Halted p natives d w e w Steps
-halted-spent {w = w} e none no_turn = record { u = w; leaves = leaves-same w Steps; stack = []; front = record { taken = []; rest = e ∷ []; split = refl; runs = done }; reason = (none, is_next (idle w no_turn)) }
+halted-spent {w = w} e none no_turn = record { u = w; leaves = leaves-same w Steps; stack = []; front = record { taken = []; rest = e ∷ []; split = refl; answers = []; runs = none-yet }; reason = (none, is_next (idle w no_turn)) }
 
 pub took-unchanged : {p : Loaded} {natives : NativeAnswers} {d : ℕ} {w v : World} {f : Fault} (e : Event) (r : Result Answer Fault) → Ready w → (f ≡ Memory) × (v ≡ w) → IsErrAnd r (λ y. y ≡ f) → Took p natives d w e v r
 took-unchanged e (Ok a) some same is = absurd is
@@ -93,10 +100,11 @@ took-halted {p} {natives} {d} {w} {v} e r halted same is = subst (λ (u : World)
 pub took-refused : {p : Loaded} {natives : NativeAnswers} {d : ℕ} {w v : World} (k : Refusal) (e : Event) (r : Result Answer Fault) → Agree p w.store.tree w.store.bindings → judged p (at w []) e (Err k) → Ready w → Rejects w k v r → Took p natives d w e v r
 took-refused {p} {natives} {d} {w} {v} k e (Ok a) agree judged some x =
     let target : World = after w (refused (at w []) k) in
-    let Family : World → Type 0 = λ u. RunsWhole p natives d (at w []) w.left (e ∷ []) (at u []) u.left in
-    let Answer_is : Answer → Type 0 = λ b. Answered p w e v b in
-    let taken : RunsWhole p natives d (at w []) w.left (e ∷ []) (at target []) target.left = record { runs = runs-taken e (refuses k (idle w some.no_turn) judged) (good-quiet w target agree) some.some (omega arith) of_rules.done; ends = idle target some.no_turn } in
-    record { cases = (subst Family (sym x.1) taken, subst Answer_is (sym x.0) (record { refusal = k; numbered = refl; why = judged; line = x.1 })) }
+    let said : Answer = answer.Refused (refusal_number k) in
+    let Family : World → Type 0 = λ u. RunsWhole p natives d (at w []) w.left (e ∷ []) (said ∷ []) (at u []) u.left in
+    let Answer_is : Answer → Type 0 = λ b. RunsWhole p natives d (at w []) w.left (e ∷ []) (b ∷ []) (at v []) v.left × SaysWhy p w e v b in
+    let taken : RunsWhole p natives d (at w []) w.left (e ∷ []) (said ∷ []) (at target []) target.left = record { runs = runs-taken e (refuses k (idle w some.no_turn) judged) (good-quiet w target agree) some.some (omega arith) of_rules.done; ends = idle target some.no_turn } in
+    record { cases = subst Answer_is (sym x.0) (subst Family (sym x.1) taken, record { refusal = k; numbered = refl; why = judged; line = x.1 }) }
 took-refused k e (Err f) agree judged some x = took-unchanged e (Err f) some x refl
 
 -- .. from a world in which nothing had changed
@@ -116,23 +124,23 @@ took-not-accepted {p} {natives} {d} {w} e r agree not_accepted.short some x =
 -- the event is accepted, and nothing is going on after it
 pub took-quiet : {p : Loaded} {natives : NativeAnswers} {d : ℕ} {w v : World} (t : State) (e : Event) → judged p (at w []) e (Ok t) → at (after w t) [] ≡ t → Agree p t.objects t.bindings → Ready w → t.turn ≡ None → v ≡ after w t → Took p natives d w e v (Ok answer.Done)
 took-quiet {p} {natives} {d} {w} {v} t e judged empty agree some no_turn is =
-    let Family : World → Type 0 = λ u. RunsWhole p natives d (at w []) w.left (e ∷ []) (at u []) u.left in
-    let Leads : State → Type 0 = λ u. Takes p e (at w []) u in
+    let Family : World → Type 0 = λ u. RunsWhole p natives d (at w []) w.left (e ∷ []) (answer.Done ∷ []) (at u []) u.left in
+    let Leads : State → Type 0 = λ u. Takes p e answer.Done (at w []) u in
     let quiet : World = after w t in
-    let taken : RunsWhole p natives d (at w []) w.left (e ∷ []) (at quiet []) quiet.left = record { ends = idle quiet no_turn; runs = runs-taken e (subst Leads (sym empty) (accepts (idle w some.no_turn) judged)) (good-quiet w (after w t) agree) some.some (omega arith) of_rules.done } in
-    record { cases = (subst Family (sym is) taken, record { effect = t; why = judged }) }
+    let taken : RunsWhole p natives d (at w []) w.left (e ∷ []) (answer.Done ∷ []) (at quiet []) quiet.left = record { ends = idle quiet no_turn; runs = runs-taken e (subst Leads (sym empty) (accepts (idle w some.no_turn) judged)) (good-quiet w (after w t) agree) some.some (omega arith) of_rules.done } in
+    record { cases = (subst Family (sym is) taken, tt) }
 
 -- ---- what an event pushes runs to its end, or stops on the way
 
-pub took-run : {p : Loaded} {natives : NativeAnswers} {d : ℕ} {w m v : World} {top : Activation} {r : Result (Unit {0}) Fault} (e : Event) → Takes p e (at w []) (at m (top ∷ [])) → IsGood p d (at w []) (at m (top ∷ [])) → IsAccepted p w e → 0 < w.left → m.left ≡ w.left - 1 → m.turn ≡ None → RunsTo p natives d [] m (top ∷ []) v [] r → MatchResult r (λ _. Took p natives d w e v (Ok answer.Done)) (λ f. Halted p natives d w e v f)
-took-run {v = v} {r = Ok _} e x good pass some less none ends = record { cases = (record { runs = runs-taken e x good some less (ends.cases.runs [] refl); ends = idle v ((rules-kept (ends.cases.runs [] refl)).no_turn none) }, pass) }
-took-run {p = p} {natives = natives} {d = d} {v = v} {r = Err f} e x good pass some less none ends =
+pub took-run : {p : Loaded} {natives : NativeAnswers} {d : ℕ} {w m v : World} {top : Activation} {r : Result (Unit {0}) Fault} (e : Event) → Takes p e answer.Done (at w []) (at m (top ∷ [])) → IsGood p d (at w []) (at m (top ∷ [])) → 0 < w.left → m.left ≡ w.left - 1 → m.turn ≡ None → RunsTo p natives d [] m (top ∷ []) v [] r → MatchResult r (λ _. Took p natives d w e v (Ok answer.Done)) (λ f. Halted p natives d w e v f)
+took-run {v = v} {r = Ok _} e x good some less none ends = record { cases = (record { runs = runs-taken e x good some less (ends.cases.runs [] refl); ends = idle v ((rules-kept (ends.cases.runs [] refl)).no_turn none) }, tt) }
+took-run {p = p} {natives = natives} {d = d} {v = v} {r = Err f} e x good some less none ends =
     let q = ends.cases.stops [] refl in
-    record { u = q.0; leaves = q.2; stack = q.1; front = record { taken = e ∷ []; rest = []; split = refl; runs = runs-taken e x good some less q.3 }; reason = reason-of p natives d (at q.0 q.1) q.0.left [] f q.4 }
+    record { u = q.0; leaves = q.2; stack = q.1; front = record { taken = e ∷ []; rest = []; split = refl; answers = answer.Done ∷ []; runs = runs-taken e x good some less q.3 }; reason = reason-of p natives d (at q.0 q.1) q.0.left [] f q.4 }
 
 -- a turn runs to its end, or stops on the way
-pub took-turn : {p : Loaded} {natives : NativeAnswers} {d : ℕ} {w m v : World} {r : Result (Unit {0}) Fault} (e : Event) → Takes p e (at w []) (at m []) → IsGood p d (at w []) (at m []) → IsAccepted p w e → 0 < w.left → m.left ≡ w.left - 1 → RunsTo p natives d [] m [] v [] r → OnOk r (v.turn ≡ None) → MatchResult r (λ _. Took p natives d w e v (Ok answer.Done)) (λ f. Halted p natives d w e v f)
-took-turn {v = v} {r = Ok _} e x good pass some less ends over = record { cases = (record { runs = runs-taken e x good some less (ends.cases.runs [] refl); ends = idle v over }, pass) }
-took-turn {p = p} {natives = natives} {d = d} {v = v} {r = Err f} e x good pass some less ends over =
+pub took-turn : {p : Loaded} {natives : NativeAnswers} {d : ℕ} {w m v : World} {r : Result (Unit {0}) Fault} (e : Event) → Takes p e answer.Done (at w []) (at m []) → IsGood p d (at w []) (at m []) → 0 < w.left → m.left ≡ w.left - 1 → RunsTo p natives d [] m [] v [] r → OnOk r (v.turn ≡ None) → MatchResult r (λ _. Took p natives d w e v (Ok answer.Done)) (λ f. Halted p natives d w e v f)
+took-turn {v = v} {r = Ok _} e x good some less ends over = record { cases = (record { runs = runs-taken e x good some less (ends.cases.runs [] refl); ends = idle v over }, tt) }
+took-turn {p = p} {natives = natives} {d = d} {v = v} {r = Err f} e x good some less ends over =
     let q = ends.cases.stops [] refl in
-    record { u = q.0; leaves = q.2; stack = q.1; front = record { taken = e ∷ []; rest = []; split = refl; runs = runs-taken e x good some less q.3 }; reason = reason-of p natives d (at q.0 q.1) q.0.left [] f q.4 }
+    record { u = q.0; leaves = q.2; stack = q.1; front = record { taken = e ∷ []; rest = []; split = refl; answers = answer.Done ∷ []; runs = runs-taken e x good some less q.3 }; reason = reason-of p natives d (at q.0 q.1) q.0.left [] f q.4 }

@@ -1,7 +1,14 @@
-pub mod Causes
-pub mod Judgement
-pub mod Laws
-pub mod Runs
-pub mod Takes
-pub mod Taking
 pub mod events
+pub mod Takes
+pub mod Runs
+pub mod Causes
+pub mod Laws
+pub mod code
+pub use Rattle.native_slots.specs.Promises
+pub use Rattle.prop_bindings.specs.Fits
+pub use Rattle.machine_state.specs.Connections
+pub use Rattle.machine_state.specs.Worlds
+pub use Rattle.machine_rules.specs.Good
+pub use Rattle.machine_rules.specs.Judgement as MachineRulesJudgement
+pub use Rattle.machine_rules.specs.code.Reaches
+pub use Rattle.machine_rules.specs.Faults

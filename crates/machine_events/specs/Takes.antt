@@ -1,11 +1,16 @@
 -- What an event comes to where nothing is going on (docs/machine.md, "Events").
-use Rattle.std.specs.Prelude.{true, false, Result, Ok, Err}
+use Rattle.std.specs.Prelude.{◌≡◌, ℕ, true, false, [], Result, Ok, Err}
 use Rattle.meta_model.specs.Loaded.{Loaded}
 use Rattle.script_lang.specs.declared.event.Event.{Event}
 use Rattle.script_lang.specs.declared.event.Event.TheVariants as event
+use Rattle.machine_state.specs.declared.fault.Answer.{Answer}
+use Rattle.machine_state.specs.declared.fault.Answer.TheVariants.{Done, Refused}
 use Rattle.machine_state.specs.declared.refusal.Refusal.{Refusal}
+use Rattle.machine_state.specs.Refusals.{refusal_number}
 use Rattle.machine_state.specs.Accepting.{refused}
 use Rattle.machine_state.specs.State.{State, IsIdle}
+use Rattle.machine_state.specs.Worlds.{at, after}
+use Rattle.machine_state.specs.declared.world.World.{World}
 use Rattle.machine_events.specs.declared.events.invoke.Invocation.TheVariants.{Emit, Call}
 use Rattle.machine_events.specs.events.AddLoop.{add_loop}
 use Rattle.machine_events.specs.events.Turn.{turn}
@@ -37,7 +42,15 @@ judged p s (event.Unblock name) = block s name false
 judged p s (event.Delete name) = delete s name
 judged p s (event.Later name) = later s name
 
--- the event is accepted or refused, where nothing is going on
-pub data Takes (p : Loaded) (e : Event) : State → State → Type 0 where
-  accepts : {s t : State} → IsIdle s → judged p s e (Ok t) → Takes p e s t
-  refuses : {s : State} (r : Refusal) → IsIdle s → judged p s e (Err r) → Takes p e s (refused s r)
+-- The event is taken, where nothing is going on, with this answer: it is accepted, or refused for the reason of this number,
+-- and then only its line is written.
+pub data Takes (p : Loaded) (e : Event) : Answer → State → State → Type 0 where
+  accepts : {s t : State} → IsIdle s → judged p s e (Ok t) → Takes p e Done s t
+  refuses : {s : State} (r : Refusal) → IsIdle s → judged p s e (Err r) → Takes p e (Refused (refusal_number r)) s (refused s r)
+
+-- .. of a world: the event is refused for the reason of this number, and only its line is written
+pub record IsRefusedAs (p : Loaded) (w : World) (e : Event) (n : ℕ) (v : World) : Type 0 where
+  pub refusal : Refusal
+  pub numbered : n ≡ refusal_number refusal
+  pub why : judged p (at w []) e (Err refusal)
+  pub line : v ≡ after w (refused (at w []) refusal)

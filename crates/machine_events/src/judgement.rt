@@ -1,7 +1,7 @@
 //! Why an event isn't accepted.
 
 ghost use Rattle.std.specs.Prelude.{◌<◌, ◌^◌};
-ghost use Rattle.machine_events.specs.Taking.{IsRefused};
+ghost use Rattle.machine_events.specs.code.Taking.{IsRefused};
 
 use machine_state::{Answer, Fault, Refusal, World};
 use std::alloc::AllocError;

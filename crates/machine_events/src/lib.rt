@@ -8,5 +8,8 @@ mod taking;
 
 pub use events::Invocation;
 pub use judgement::NotAccepted;
-pub use laws::{always_settled, one_front, one_judgement, one_run, one_taking};
+pub use laws::{
+    always_settled, one_front, one_judgement, one_run, one_run_of_answers, one_taking,
+    taking_settles,
+};
 pub use taking::take_event;

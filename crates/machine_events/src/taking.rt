@@ -2,7 +2,7 @@
 
 ghost use Rattle.std.specs.Prelude.{◌<◌, ◌≡◌, None};
 ghost use Rattle.native_slots.specs.Promises.{Promises};
-ghost use Rattle.machine_events.specs.Taking.{WorldInvariant, Answers};
+ghost use Rattle.machine_events.specs.code.Taking.{WorldInvariant, Answers};
 
 use crate::events::add_loop::add_loop;
 use crate::events::adopt::adopt;
@@ -21,8 +21,26 @@ use machine_state::{Answer, Fault, World};
 use native_slots::Answering;
 use script_lang::Event;
 
-/// Takes an event, and runs until nothing is going on.
+/// Takes an event, and runs until nothing is going on. Then no emission stands on a connection that was removed, and what
+/// these still take up is given back.
 pub fn take_event<N: Answering>(
+    setting: &Setting<N>,
+    world: &mut World,
+    event: &Event,
+) -> Result<Answer, Fault>
+    requires depth { 0 < setting.now.depth }
+    requires promises { Promises setting.now.meta (N.takes setting.now.natives) (N.gives setting.now.natives) }
+    requires idle { world.old.turn ≡ None }
+    requires keeps { WorldInvariant setting.now.meta world.old }
+    ensures { Answers N.gives setting.now event.now world.old world.new result }
+{
+    let result = run_event(setting, world, event);
+    world.sweep();
+    result
+}
+
+/// Takes an event, and runs until nothing is going on.
+fn run_event<N: Answering>(
     setting: &Setting<N>,
     world: &mut World,
     event: &Event,

@@ -17,9 +17,9 @@ use Rattle.prop_bindings.specs.Fits.{Agree}
 use Rattle.delete_later.proofs.Agreeing.{agree-on, live-moved}
 use Rattle.machine_rules.specs.Natives.{NativeAnswers}
 use Rattle.machine_rules.specs.Judgement.{Numbered, holds, fails, becomes, goes_on, ends}
-use Rattle.machine_events.specs.Judgement.{IsNotAccepted}
+use Rattle.machine_events.specs.code.Judgement.{IsNotAccepted}
 use Rattle.machine_events.specs.declared.judgement.NotAccepted.{NotAccepted}
-use Rattle.machine_events.specs.Taking.{Halted, adoption_reason}
+use Rattle.machine_events.specs.code.Taking.{Halted, adoption_reason}
 use Rattle.machine_events.specs.events.Adopt.{adopt}
 use Rattle.machine_events.specs.events.Named.{IsLiving, living}
 use Rattle.object_tree.proofs.TypedObjects.{typed-moved}

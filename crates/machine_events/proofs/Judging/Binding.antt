@@ -22,15 +22,16 @@ use Rattle.machine_rules.specs.Natives.{NativeAnswers}
 use Rattle.machine_rules.specs.Judgement.{Numbered, numbered, Check, Gives, ◌>>=◌, found, missing, holds, fails, gives, becomes, goes_on, ends}
 use Rattle.machine_rules.specs.Settling.{Installs}
 use Rattle.machine_events.specs.declared.judgement.NotAccepted.{NotAccepted}
-use Rattle.machine_events.specs.Judgement.{IsNotAccepted}
-use Rattle.machine_events.specs.Runs.{BindsNext, RunStops, done, is_next}
+use Rattle.machine_events.specs.code.Judgement.{IsNotAccepted}
+use Rattle.machine_events.specs.Causes.{BindsNext}
+use Rattle.machine_events.specs.Runs.{is_next}
 use Rattle.machine_events.specs.Takes.{judged}
-use Rattle.machine_events.specs.Taking.{AsksToBind, Halted, binding_reason}
+use Rattle.machine_events.specs.code.Taking.{AsksToBind, Halted, binding_reason, RunStops}
 use Rattle.machine_events.specs.events.Bind.{IsSiteOf, may_bind}
 use Rattle.machine_events.specs.events.Named.{IsLiving, living, all_living}
 use Rattle.machine_events.proofs.Judged.{then-ends, then-on}
 use Rattle.machine_events.proofs.Judging.Naming.{living-ok}
-use Rattle.machine_events.proofs.Taken.{idle, no_natives, Ready}
+use Rattle.machine_events.proofs.Taken.{idle, no_natives, none-yet, Ready}
 
 -- ---- what is named
 
@@ -101,7 +102,7 @@ module _ {p : Loaded} {w : World} {name target : List ℕ} {sources : List (List
   module _ {v : World} (rest : KeepsTheRest w v) where
     -- nothing changed, or memory was refused for what changes
     halted-before : {natives : NativeAnswers} {d : ℕ} {f : Fault} → (f ≢ Memory → v ≡ w) → RunStops p natives d (at w []) w.left (event ∷ []) f → Halted p natives d w event v f
-    halted-before same reason = record { u = w; leaves = (rest, same); stack = []; front = record { taken = []; rest = event ∷ []; split = refl; runs = done }; reason = reason }
+    halted-before same reason = record { u = w; leaves = (rest, same); stack = []; front = record { taken = []; rest = event ∷ []; split = refl; answers = []; runs = none-yet }; reason = reason }
 
     -- why no binding is installed
     pub not-bound : (natives : NativeAnswers) (d : ℕ) {f : BindFault} → Ready w → (f ≢ bind_fault.Memory → v ≡ w) → IsNotBound p w.store.tree w.store.bindings number o objects f →

@@ -23,11 +23,11 @@ use Rattle.machine_rules.specs.Natives.{NativeAnswers}
 use Rattle.machine_rules.specs.Good.{IsWell}
 use Rattle.machine_rules.proofs.Fields.{class-unique}
 use Rattle.machine_rules.specs.Judgement.{NothingIs, found, missing, holds, fails, gives, goes_on, ends}
-use Rattle.machine_events.specs.Runs.{done, by_event}
+use Rattle.machine_events.specs.Runs.{by_event}
 use Rattle.machine_events.specs.Takes.{accepts}
-use Rattle.machine_events.specs.Taking.{Halted, creation_reason}
+use Rattle.machine_events.specs.code.Taking.{Halted, creation_reason}
 use Rattle.machine_events.specs.events.Create.{create, IsClassOf, IsHome}
-use Rattle.machine_events.proofs.Taken.{idle, no_natives, Ready, halted-short, leaves-same}
+use Rattle.machine_events.proofs.Taken.{idle, no_natives, none-yet, Ready, halted-short, leaves-same}
 
 -- the class of a name
 class-of : {p : Loaded} {name : List ℕ} {number : ℕ} {kind : MetaObject} → IsClassNamed p name number → IsClass p number kind → IsClassOf p name (record { number = number; it = kind })
@@ -63,7 +63,7 @@ module _ (p : Loaded) (w : World) (name class : List ℕ) (loop : Option (List �
         u = w;
         leaves = leaves-same w BadType;
         stack = [];
-        front = record { taken = []; rest = New name class loop ∷ []; split = refl; runs = done };
+        front = record { taken = []; rest = New name class loop ∷ []; split = refl; answers = []; runs = none-yet };
         reason = (some.some, inr (inr (record { t = after; follows = by_event (accepts (idle w some.no_turn) (creates free named is room)); ill = not_well })));
       }
 

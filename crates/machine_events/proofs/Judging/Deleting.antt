@@ -23,12 +23,12 @@ use Rattle.machine_state.proofs.Deferring.{scheduled-now}
 use Rattle.machine_rules.specs.Natives.{NativeAnswers}
 use Rattle.machine_rules.specs.Destroying.{deferred, DefersOnce}
 use Rattle.machine_rules.specs.Judgement.{Numbered, becomes, gives, goes_on}
-use Rattle.machine_rules.specs.Reaches.{RunsTo}
-use Rattle.machine_rules.specs.Sound.{IsSoundWorld}
+use Rattle.machine_rules.specs.code.Reaches.{RunsTo}
+use Rattle.machine_rules.specs.code.Sound.{IsSoundWorld}
 use Rattle.machine_events.specs.declared.judgement.NotAccepted.{NotAccepted}
-use Rattle.machine_events.specs.Judgement.{IsNotAccepted}
+use Rattle.machine_events.specs.code.Judgement.{IsNotAccepted}
 use Rattle.machine_events.specs.Takes.{judged, accepts}
-use Rattle.machine_events.specs.Taking.{Took, Halted}
+use Rattle.machine_events.specs.code.Taking.{Took, Halted}
 use Rattle.machine_events.specs.events.Named.{IsLiving, living}
 use Rattle.machine_events.proofs.Judged.{then-ends}
 use Rattle.machine_events.proofs.Judging.Naming.{living-ok}
@@ -64,7 +64,7 @@ module _ (p : Loaded) (w : World) (name : List ℕ) where
         let Effect : World → Type 0 = λ z. judged p (at w []) (Delete name) (Ok (at z deletion)) in
         let Agrees : World → Type 0 = λ z. Agree p z.store.tree z.store.bindings in
         let effect : judged p (at w []) (Delete name) (Ok (at m deletion)) = subst Effect (sym m_is) deletes in
-        took-run (Delete name) (accepts (idle w some.no_turn) effect) (good-pushed w m (subst Agrees (sym m_is) agree) tt (omega (arith, room))) (record { effect = _; why = effect }) some.some
+        took-run (Delete name) (accepts (idle w some.no_turn) effect) (good-pushed w m (subst Agrees (sym m_is) agree) tt (omega (arith, room))) some.some
         (ap (λ (z : World). z.left) m_is) (ap (λ (z : World). z.turn) m_is ∙ some.no_turn) ends
 
     -- ---- `later`

@@ -12,10 +12,10 @@ use Rattle.machine_state.specs.State.{State}
 use Rattle.machine_state.specs.Worlds.{at, begun_turn, accepting_turn}
 use Rattle.prop_bindings.specs.Fits.{Agree}
 use Rattle.machine_rules.specs.Natives.{NativeAnswers}
-use Rattle.machine_rules.specs.Reaches.{RunsTo}
+use Rattle.machine_rules.specs.code.Reaches.{RunsTo}
 use Rattle.machine_rules.specs.Judgement.{found, missing, holds, fails, gives, goes_on, ends}
 use Rattle.machine_events.specs.Takes.{judged, accepts}
-use Rattle.machine_events.specs.Taking.{Took, Halted}
+use Rattle.machine_events.specs.code.Taking.{Took, Halted}
 use Rattle.machine_events.proofs.Taken.{idle, Ready, good-quiet, took-turn}
 
 module _ (p : Loaded) (w : World) (name : List ℕ) where
@@ -37,4 +37,4 @@ module _ (p : Loaded) (w : World) (name : List ℕ) where
       let Effect : World → Type 0 = λ z. judged p (at w []) (Turn name) (Ok (at z [])) in
       let Agrees : World → Type 0 = λ z. Agree p z.store.tree z.store.bindings in
       let effect : judged p (at w []) (Turn name) (Ok (at v [])) = subst Effect (sym v_is) begins in
-      took-turn (Turn name) (accepts (idle w some.no_turn) effect) (good-quiet w v (subst Agrees (sym v_is) agree)) (record { effect = _; why = effect }) some.some (ap (λ (z : World). z.left) v_is) went over
+      took-turn (Turn name) (accepts (idle w some.no_turn) effect) (good-quiet w v (subst Agrees (sym v_is) agree)) some.some (ap (λ (z : World). z.left) v_is) went over

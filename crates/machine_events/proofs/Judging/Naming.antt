@@ -7,7 +7,7 @@ use Rattle.object_tree.proofs.Changing.{lives-of-life}
 use Rattle.machine_state.specs.declared.refusal.Refusal.TheVariants.{NoObject, Dead}
 use Rattle.machine_rules.specs.Judgement.{Numbered, found, missing, gives, goes_on, ends}
 use Rattle.machine_events.specs.declared.judgement.NotAccepted.{NotAccepted}
-use Rattle.machine_events.specs.Judgement.{IsNotAccepted}
+use Rattle.machine_events.specs.code.Judgement.{IsNotAccepted}
 use Rattle.machine_events.specs.events.Named.{IsLiving, living, all_living}
 use Rattle.machine_events.proofs.Judged.{then-ends, then-on}
 

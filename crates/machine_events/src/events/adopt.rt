@@ -2,8 +2,8 @@
 
 ghost use Rattle.std.specs.Prelude.{◌≡◌, ◌<◌, [], IfOk, IfErr, None};
 ghost use Rattle.script_lang.specs.declared.event.Event.TheVariants.{Adopt};
-ghost use Rattle.machine_events.specs.Taking.{WorldInvariant, Answers};
-ghost use Rattle.machine_events.specs.Taking.{adoption_reason};
+ghost use Rattle.machine_events.specs.code.Taking.{WorldInvariant, Answers};
+ghost use Rattle.machine_events.specs.code.Taking.{adoption_reason};
 
 use crate::events::named::find_living;
 use crate::judgement::refuse;

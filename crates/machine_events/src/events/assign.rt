@@ -6,8 +6,8 @@ ghost use Rattle.prop_bindings.specs.Fits.{FitsAt};
 ghost use Rattle.machine_state.specs.Worlds.{at};
 ghost use Rattle.machine_rules.specs.Judgement.{NothingIs, numbered};
 ghost use Rattle.native_slots.specs.Promises.{Promises};
-ghost use Rattle.machine_events.specs.Judgement.{IsNotAccepted};
-ghost use Rattle.machine_events.specs.Taking.{WorldInvariant, Answers, WritesTo};
+ghost use Rattle.machine_events.specs.code.Judgement.{IsNotAccepted};
+ghost use Rattle.machine_events.specs.code.Taking.{WorldInvariant, Answers, WritesTo};
 ghost use Rattle.machine_events.specs.events.Assign.{assign, IsPropertyOf};
 ghost use Rattle.script_lang.specs.declared.event.Event.{Event as AnEvent};
 

@@ -4,8 +4,8 @@ ghost use Rattle.std.specs.Prelude.{◌≡◌, ℕ, ◌<◌, List, [], IfOk, IfE
 ghost use Rattle.script_lang.specs.declared.event.Event.TheVariants.{Bind};
 ghost use Rattle.machine_state.specs.Worlds.{at};
 ghost use Rattle.native_slots.specs.Promises.{Promises};
-ghost use Rattle.machine_events.specs.Judgement.{IsNotAccepted};
-ghost use Rattle.machine_events.specs.Taking.{WorldInvariant, Answers, AsksToBind, binding_reason};
+ghost use Rattle.machine_events.specs.code.Judgement.{IsNotAccepted};
+ghost use Rattle.machine_events.specs.code.Taking.{WorldInvariant, Answers, AsksToBind, binding_reason};
 ghost use Rattle.machine_events.specs.events.Bind.{may_bind};
 
 use crate::events::named::{find_all_living, find_living};

@@ -1,7 +1,7 @@
 //! `block` and `unblock`: an object's emissions call nothing, or call again.
 
 ghost use Rattle.std.specs.Prelude.{◌<◌, ◌≡◌, None};
-ghost use Rattle.machine_events.specs.Taking.{WorldInvariant, Answers, blocking};
+ghost use Rattle.machine_events.specs.code.Taking.{WorldInvariant, Answers, blocking};
 
 use crate::events::named::find_living;
 use crate::judgement::refuse;

@@ -3,8 +3,8 @@
 ghost use Rattle.std.specs.Prelude.{◌≡◌, ◌<◌, [], IfOk, IfErr, None};
 ghost use Rattle.script_lang.specs.declared.event.Event.TheVariants.{Connect};
 ghost use Rattle.machine_state.specs.Worlds.{at};
-ghost use Rattle.machine_events.specs.Judgement.{IsNotAccepted};
-ghost use Rattle.machine_events.specs.Taking.{WorldInvariant, Answers, ConnectsThese};
+ghost use Rattle.machine_events.specs.code.Judgement.{IsNotAccepted};
+ghost use Rattle.machine_events.specs.code.Taking.{WorldInvariant, Answers, ConnectsThese};
 ghost use Rattle.machine_events.specs.events.Connect.{connect};
 
 use crate::events::ends::find_ends;

@@ -2,10 +2,10 @@
 
 ghost use Rattle.std.specs.Prelude.{◌≡◌, ◌<◌, None, ℕ, List, [], Option, Err, MatchOption};
 ghost use Rattle.script_lang.specs.declared.event.Event.TheVariants.{New};
-ghost use Rattle.machine_events.specs.Taking.{WorldInvariant, Answers};
+ghost use Rattle.machine_events.specs.code.Taking.{WorldInvariant, Answers};
 ghost use Rattle.machine_state.specs.Worlds.{at};
 ghost use Rattle.machine_rules.specs.Judgement.{NothingIs};
-ghost use Rattle.machine_events.specs.Taking.{creation_reason};
+ghost use Rattle.machine_events.specs.code.Taking.{creation_reason};
 ghost use Rattle.machine_events.specs.events.Create.{create, IsHome};
 
 use machine_rules::Setting;

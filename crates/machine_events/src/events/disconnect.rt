@@ -4,8 +4,8 @@ ghost use Rattle.std.specs.Prelude.{◌<◌, [], IfOk, IfErr, IsTrue, ◌≡◌,
 ghost use Rattle.script_lang.specs.declared.event.Event.TheVariants.{Disconnect};
 ghost use Rattle.machine_state.specs.Connections.{are_joined};
 ghost use Rattle.machine_state.specs.Worlds.{at};
-ghost use Rattle.machine_events.specs.Judgement.{IsNotAccepted};
-ghost use Rattle.machine_events.specs.Taking.{WorldInvariant, Answers, DisconnectsThese};
+ghost use Rattle.machine_events.specs.code.Judgement.{IsNotAccepted};
+ghost use Rattle.machine_events.specs.code.Taking.{WorldInvariant, Answers, DisconnectsThese};
 ghost use Rattle.machine_events.specs.events.Disconnect.{disconnect};
 
 use crate::events::ends::find_ends;

@@ -3,7 +3,7 @@
 ghost use Rattle.std.specs.Prelude.{◌≡◌, ◌↔◌, IfOk, IfErr, IsTrue, MatchOption};
 ghost use Rattle.meta_model.specs.declared.object.Work.TheVariants.{Signal};
 ghost use Rattle.machine_rules.specs.Judgement.{NothingIs};
-ghost use Rattle.machine_events.specs.Judgement.{IsNotAccepted};
+ghost use Rattle.machine_events.specs.code.Judgement.{IsNotAccepted};
 ghost use Rattle.machine_events.specs.events.Ends.{FindsEnds, find_ends, IsSignalOf, IsSignalNumber};
 
 use crate::events::named::find_living;

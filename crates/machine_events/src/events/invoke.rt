@@ -2,12 +2,12 @@
 
 ghost use Rattle.std.specs.Prelude.{◌≡◌, ◌↔◌, ◌<◌, [], Ok, length, IfOk, IfErr, IsTrue, MatchOption, None};
 ghost use Rattle.machine_state.specs.Worlds.{at};
-ghost use Rattle.machine_rules.specs.Reaches.{CallFits};
+ghost use Rattle.machine_rules.specs.code.Reaches.{CallFits};
 ghost use Rattle.machine_rules.specs.Good.{ArgumentsFit};
 ghost use Rattle.machine_rules.specs.Judgement.{NothingIs, numbered};
 ghost use Rattle.native_slots.specs.Promises.{Promises};
-ghost use Rattle.machine_events.specs.Judgement.{IsNotAccepted};
-ghost use Rattle.machine_events.specs.Taking.{WorldInvariant, Answers, AsksFor, invoking};
+ghost use Rattle.machine_events.specs.code.Judgement.{IsNotAccepted};
+ghost use Rattle.machine_events.specs.code.Taking.{WorldInvariant, Answers, AsksFor, invoking};
 ghost use Rattle.machine_events.specs.events.Invoke.{invoke, May, IsAskedOf};
 ghost use Rattle.script_lang.specs.declared.event.Event.{Event as AnEvent};
 

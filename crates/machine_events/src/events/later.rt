@@ -2,7 +2,7 @@
 
 ghost use Rattle.std.specs.Prelude.{◌<◌, ◌≡◌, None};
 ghost use Rattle.script_lang.specs.declared.event.Event.TheVariants.{Later};
-ghost use Rattle.machine_events.specs.Taking.{WorldInvariant, Answers};
+ghost use Rattle.machine_events.specs.code.Taking.{WorldInvariant, Answers};
 
 use crate::events::named::find_living;
 use crate::judgement::refuse;

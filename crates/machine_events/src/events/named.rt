@@ -2,7 +2,7 @@
 
 ghost use Rattle.std.specs.Prelude.{Ok, IfOk, IfErr};
 ghost use Rattle.machine_rules.specs.Judgement.{numbered};
-ghost use Rattle.machine_events.specs.Judgement.{IsNotAccepted};
+ghost use Rattle.machine_events.specs.code.Judgement.{IsNotAccepted};
 ghost use Rattle.machine_events.specs.events.Named.{living, all_living, IsLiving};
 
 use crate::judgement::NotAccepted;

@@ -1,5 +1,10 @@
-use Rattle.machine_events.proofs.Taken.{halted-spent}
+use Rattle.std.proofs.Common.{sym, subst}
+use Rattle.machine_state.specs.declared.world.World.{World}
+use Rattle.machine_events.specs.code.Taking.{Answers}
 use Rattle.machine_events.proofs.taking.take_event.Goals as goal
 
-pub returns-then-world-eq0 : goal.returns-then-world-eq0
-returns-then-world-eq0 g c = record { cases = halted-spent _ c.if-world-eq0.true c.requires.idle }
+-- a sweep leaves the world as it is
+pub returns : goal.returns
+returns g c =
+    let After : World → Type 0 = λ w. Answers g.N.Answering.gives c.args.setting.now c.args.event.now c.args.world.now w c.run_event-result.result in
+    subst After (sym c.sweep.ensures) c.run_event-result.ensures

@@ -1,4 +1,4 @@
-use Rattle.machine_events.specs.Judgement.{refused}
+use Rattle.machine_events.specs.code.Judgement.{refused}
 use Rattle.machine_events.specs.events.Ends.{find_ends}
 use Rattle.machine_events.proofs.Judged.{then-ends, then-on, err-is}
 use Rattle.machine_events.proofs.Judging.Ends.{no-signal, no-method, finds-ends}

@@ -1,5 +1,5 @@
 use Rattle.std.proofs.Common.{sym}
-use Rattle.machine_events.specs.Judgement.{refused}
+use Rattle.machine_events.specs.code.Judgement.{refused}
 use Rattle.machine_events.proofs.Judging.Naming.{living-free, living-dead}
 use Rattle.machine_events.proofs.events.named.find_living.Goals as goal
 

@@ -3,7 +3,7 @@ use Rattle.std.proofs.lemmas.List.{take_more, drop_more}
 use Rattle.script_lang.specs.declared.event.Input.{Input}
 use Rattle.signatures.specs.declared.value.Value.{Value}
 use Rattle.machine_rules.specs.Judgement.{gives}
-use Rattle.machine_events.specs.Judgement.{IsNotAccepted}
+use Rattle.machine_events.specs.code.Judgement.{IsNotAccepted}
 use Rattle.machine_events.specs.events.Values.{values}
 use Rattle.machine_events.proofs.Judged.{err-is, short-is}
 use Rattle.machine_events.proofs.Judging.Reading.{values-snoc, values-end}

@@ -1,5 +1,5 @@
 -- What the machine's code does with an event (docs/machine.md, "Events").
-use Rattle.std.specs.Prelude.{◌≡◌, ℕ, ◌+◌, ◌<◌, ◌^◌, Bool, true, false, List, [], ◌∷◌, length, None, Result, Ok, Err}
+use Rattle.std.specs.Prelude.{◌≡◌, ℕ, ◌+◌, ◌<◌, ◌^◌, ◌⊎◌, Bool, true, false, List, [], ◌∷◌, length, Result, Ok, Err}
 use Rattle.signatures.specs.declared.value.Value.{Value}
 use Rattle.meta_model.specs.declared.site.MetaSite.{MetaSite}
 use Rattle.meta_model.specs.Loaded.{Loaded}
@@ -23,23 +23,25 @@ use Rattle.machine_state.specs.declared.fault.Fault.TheVariants.{BadType, Bindin
 use Rattle.machine_state.specs.declared.refusal.Refusal.{Refusal}
 use Rattle.machine_state.specs.declared.refusal.Refusal.TheVariants.{NameUsed, NoClass, TooManyObjects, NotOwned, Cycle, OtherLoop, BadSource}
 use Rattle.machine_state.specs.declared.world.World.{World}
-use Rattle.machine_state.specs.Accepting.{accepted, refused}
-use Rattle.machine_state.specs.Refusals.{refusal_number}
+use Rattle.machine_state.specs.Accepting.{accepted}
 use Rattle.machine_state.specs.State.{State, Activation}
-use Rattle.machine_state.specs.Worlds.{at, after, with_connection, without_connections, Rejects}
+use Rattle.machine_state.specs.Worlds.{at, with_connection, without_connections, Rejects}
 use Rattle.machine_rules.specs.declared.setting.Setting.{Setting}
+use Rattle.machine_rules.specs.Faults.{Reason}
 use Rattle.machine_rules.specs.Judgement.{numbered}
 use Rattle.machine_rules.specs.Natives.{NativeAnswers}
-use Rattle.machine_rules.specs.Reaches.{Leaves}
+use Rattle.machine_rules.specs.code.Going.{IsStuck}
+use Rattle.machine_rules.specs.Faults.{Leaves}
 use Rattle.machine_rules.specs.Rules.{Begins}
 use Rattle.machine_rules.specs.Settling.{Writes}
-use Rattle.machine_rules.specs.Sound.{IsSoundWorld}
+use Rattle.machine_rules.specs.code.Sound.{IsSoundWorld}
 use Rattle.machine_events.specs.declared.events.invoke.Invocation.{Invocation}
 use Rattle.machine_events.specs.declared.events.invoke.Invocation.TheVariants.{Emit, Call}
 use Rattle.machine_events.specs.declared.judgement.NotAccepted.{NotAccepted}
 use Rattle.machine_events.specs.declared.judgement.NotAccepted.TheVariants as reason
-use Rattle.machine_events.specs.Runs.{RunsWhole, RunsFront, RunStops}
-use Rattle.machine_events.specs.Takes.{judged}
+use Rattle.machine_events.specs.Causes.{BindsIll, BindsLoop}
+use Rattle.machine_events.specs.Runs.{RunsWhole, RunsFront, Follows, IsDue}
+use Rattle.machine_events.specs.Takes.{judged, IsRefusedAs}
 use Rattle.machine_events.specs.events.Bind.{IsSiteOf}
 use Rattle.machine_events.specs.events.Connect.{connect}
 use Rattle.machine_events.specs.events.Disconnect.{disconnect}
@@ -50,6 +52,12 @@ pub record WorldInvariant (p : Loaded) (w : World) : Type 0 where
   pub sound : IsSoundWorld p w
   pub events : w.events + w.left < 2 ^ 63
 
+-- why a run stops in a state, with these events left
+abbrev pub RunStops : Loaded → NativeAnswers → ℕ → State → ℕ → List Event → Fault → Type 0
+RunStops p natives depth s left events fault =
+    Reason (IsStuck p natives s ⊎ BindsIll p s events) (BindsLoop p s events) (λ t. Follows p natives s t events) (IsDue s events)
+    p depth s left fault
+
 -- the machine stopped before or after it took the event, in the world u, and v is left of it
 pub record Halted (p : Loaded) (natives : NativeAnswers) (depth : ℕ) (w : World) (e : Event) (v : World) (f : Fault) : Type 0 where
   pub u : World
@@ -58,27 +66,15 @@ pub record Halted (p : Loaded) (natives : NativeAnswers) (depth : ℕ) (w : Worl
   pub front : RunsFront p natives depth (at w []) w.left (e ∷ []) (at u stack) u.left
   pub reason : RunStops p natives depth (at u stack) u.left front.rest f
 
--- the event is accepted
-pub record IsAccepted (p : Loaded) (w : World) (e : Event) : Type 0 where
-  pub effect : State
-  pub why : judged p (at w []) e (Ok effect)
+abbrev pub SaysWhy : Loaded → World → Event → World → Answer → Type 0
+SaysWhy p w e v answer.Done = Unit {0}
+SaysWhy p w e v (answer.Refused n) = IsRefusedAs p w e n v
 
--- the event is refused for the reason of this number, and only its line is written
-pub record IsRefusedAs (p : Loaded) (w : World) (e : Event) (n : ℕ) (v : World) : Type 0 where
-  pub refusal : Refusal
-  pub numbered : n ≡ refusal_number refusal
-  pub why : judged p (at w []) e (Err refusal)
-  pub line : v ≡ after w (refused (at w []) refusal)
-
-abbrev pub Answered : Loaded → World → Event → World → Answer → Type 0
-Answered p w e v answer.Done = IsAccepted p w e
-Answered p w e v (answer.Refused n) = IsRefusedAs p w e n v
-
+-- the event was taken with this answer, and the run went on to its end; or it stopped
 abbrev pub TookCases : Loaded → NativeAnswers → ℕ → World → Event → World → Result Answer Fault → Type 0
-TookCases p natives depth w e v (Ok a) = RunsWhole p natives depth (at w []) w.left (e ∷ []) (at v []) v.left × Answered p w e v a
+TookCases p natives depth w e v (Ok a) = RunsWhole p natives depth (at w []) w.left (e ∷ []) (a ∷ []) (at v []) v.left × SaysWhy p w e v a
 TookCases p natives depth w e v (Err f) = Halted p natives depth w e v f
 
--- the event was taken and the run went on to its end, or stopped
 pub record Took (p : Loaded) (natives : NativeAnswers) (depth : ℕ) (w : World) (e : Event) (v : World) (result : Result Answer Fault) : Type 0 where
   pub cases : TookCases p natives depth w e v result
 
