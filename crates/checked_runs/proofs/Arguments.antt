@@ -43,9 +43,9 @@ use Rattle.machine_rules.specs.Good.{ArgumentsFit, of_living, of_dead, TopFits}
 use Rattle.machine_rules.specs.Judgement.{found as finds, holds as so, becomes, goes_on}
 use Rattle.machine_rules.specs.Natives.{NativeAnswers}
 use Rattle.machine_rules.specs.Rules.{Rule, RuleAt, BodyRule, Does, EmitRule, UpdateRule, NotifiesIf, TurnRule, Serves, Delivers, Arrives, Begins, BeginsIf, begun, with_used, linked, unlinked}
-use Rattle.machine_rules.specs.Sound.{Waits, SendsThese}
+use Rattle.machine_rules.specs.code.Sound.{Waits, SendsThese}
 use Rattle.machine_rules.specs.There.{IsMember}
-use Rattle.machine_rules.specs.Writing.{Announces}
+use Rattle.machine_rules.specs.code.Writing.{Announces}
 use Rattle.machine_rules.proofs.Beginning.{fit-of, next-delivered, delivered-fits}
 use Rattle.machine_rules.proofs.Declared.{living-fits}
 use Rattle.machine_rules.proofs.Dying.{died-dead}
@@ -56,12 +56,13 @@ use Rattle.machine_rules.proofs.Soundness.{AllFit}
 use Rattle.machine_rules.proofs.Waiting.{first-waits}
 use Rattle.machine_events.specs.declared.events.invoke.Invocation.{Invocation}
 use Rattle.machine_events.specs.declared.events.invoke.Invocation.TheVariants.{Emit as EmitIt, Call as CallIt}
+use Rattle.machine_state.specs.declared.fault.Answer.{Answer}
 use Rattle.machine_events.specs.Takes.{judged, Takes as Taking, accepts, refuses}
 use Rattle.machine_events.specs.events.Block.{block}
 use Rattle.machine_events.specs.events.Invoke.{invoke}
 use Rattle.machine_events.proofs.Standing.{Invariant}
-use Rattle.checked_runs.specs.Invariant.{Rung, BodyStands, Stacked, Holds}
-use Rattle.checked_runs.specs.Promised.{StepIsPromised, AllIsPromised}
+use Rattle.checked_runs.specs.code.Invariant.{Rung, BodyStands, Stacked, Holds}
+use Rattle.checked_runs.specs.code.Promised.{StepIsPromised, AllIsPromised}
 use Rattle.checked_runs.proofs.Giving.{does-give, answer-promised}
 use Rattle.checked_runs.proofs.Given.{given-is, living-is, living-object}
 use Rattle.checked_runs.proofs.Leading.{does-led}
@@ -275,6 +276,6 @@ module _ (p : Loaded) (s : State) (idle : IsIdle s) (classes : ℕ → Option �
   pushes-judged t (DeleteEvent name) (goes_on o lives given) = pushes-as (given-is given) (record { arguments = λ more. tt; promised = (tt, none-promised) })
   pushes-judged t (LaterEvent name) (goes_on o lives (becomes x)) = pushes-schedules (accepted s) t s.stack o.number (Some o.it) (omega arith) none-promised x
 
-pub takes-pushes : {p : Loaded} (s t : State) (e : Event) (classes : ℕ → Option ℕ) → Taking p e s t → Pushes p classes (length s.stack) t
+pub takes-pushes : {p : Loaded} (s t : State) (e : Event) {a : Answer} (classes : ℕ → Option ℕ) → Taking p e a s t → Pushes p classes (length s.stack) t
 takes-pushes {p} s t e classes (accepts idle x) = pushes-judged p s idle classes t e x
 takes-pushes {p} s t e classes (refuses k idle x) = pushes-none (omega arith) (none-promised p s idle classes)

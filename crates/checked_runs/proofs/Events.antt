@@ -26,7 +26,7 @@ use Rattle.prop_bindings.specs.declared.place.Place.{Place}
 use Rattle.prop_bindings.specs.Bindings.{binding_at, without, replaced}
 use Rattle.prop_bindings.specs.Calls.{IsOf as IsLivingOf}
 use Rattle.prop_bindings.specs.Fits.{Agree}
-use Rattle.prop_bindings.proofs.Installed.{installed-is}
+use Rattle.prop_bindings.proofs.Replaced.{installed-is}
 use Rattle.prop_bindings.proofs.Places.{decide_place}
 use Rattle.prop_bindings.proofs.Walks.{bound-other}
 use Rattle.effect_scan.specs.declared.node.Member.TheVariants.{Method, Property, Destruction}
@@ -46,13 +46,14 @@ use Rattle.machine_rules.proofs.Keeps.{class-of-lives}
 use Rattle.machine_rules.proofs.Lists.{all-filtered, all-snoc, all-weaken}
 use Rattle.machine_events.specs.declared.events.invoke.Invocation.{Invocation}
 use Rattle.machine_events.specs.declared.events.invoke.Invocation.TheVariants.{Emit as EmitIt, Call as CallIt}
+use Rattle.machine_state.specs.declared.fault.Answer.{Answer}
 use Rattle.machine_events.specs.Takes.{judged, Takes, accepts, refuses}
 use Rattle.machine_events.specs.events.Bind.{may_bind}
 use Rattle.machine_events.specs.events.Block.{block}
 use Rattle.machine_events.specs.events.Ends.{find_ends}
 use Rattle.machine_events.specs.events.Invoke.{invoke}
 use Rattle.machine_events.specs.events.Named.{IsLiving}
-use Rattle.checked_runs.specs.Invariant.{Stacked, AreClasses, AreOwned, IsOwned, IsWired, IsOf, IsSited, IsCovered, Holds}
+use Rattle.checked_runs.specs.code.Invariant.{Stacked, AreClasses, AreOwned, IsOwned, IsWired, IsOf, IsSited, IsCovered, Holds}
 use Rattle.checked_runs.proofs.Nodes.{named-node, property-node, end-node}
 use Rattle.checked_runs.proofs.Ladder.{rung-at}
 use Rattle.checked_runs.proofs.Given.{given-is, living-is, living-object, adopted-by, length-moved}
@@ -307,6 +308,6 @@ module _ {p : Loaded} {certificate : Certificate} (valid : IsValid p certificate
     event-held {t} (LaterEvent name) well (goes_on o lives (becomes x)) = (classes, (schedules-held valid sound classes (accepted s) t s.stack [] o.number (Some o.it) covered stands x).0)
 
   -- the taking of an event keeps it
-  pub takes-held : (s t : State) (e : Event) → HoldsSome s → Agree p s.objects s.bindings → IsWell p s t → Takes p e s t → HoldsSome t
+  pub takes-held : (s t : State) (e : Event) {a : Answer} → HoldsSome s → Agree p s.objects s.bindings → IsWell p s t → Takes p e a s t → HoldsSome t
   takes-held s t e held agree well (accepts idle x) = event-held s idle held.0 (held.1).covered agree e well x
   takes-held s t e held agree well (refuses k idle x) = (held.0, record { covered = (held.1).covered; rungs = (held.1).rungs; stacked = (held.1).stacked })

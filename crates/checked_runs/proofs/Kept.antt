@@ -13,20 +13,21 @@ use Rattle.effect_scan.specs.declared.node.Member.TheVariants.{Property}
 use Rattle.effect_scan.specs.Nodes.{node}
 use Rattle.certificate_lang.specs.declared.certificate.Certificate.{Certificate}
 use Rattle.rank_check.specs.Valid.{IsValid}
+use Rattle.machine_state.specs.declared.fault.Answer.{Answer}
 use Rattle.machine_state.specs.State.{Step, Run, State, Activation, Body}
 use Rattle.machine_state.specs.Worlds.{at, untouched}
 use Rattle.machine_rules.specs.Doings.{Write}
 use Rattle.machine_rules.specs.Good.{IsWell, IsGood, Spares, has_body}
 use Rattle.machine_rules.specs.Natives.{NativeAnswers}
 use Rattle.machine_rules.specs.Rules.{Rule}
-use Rattle.machine_rules.specs.Runs.{Rules, WritesDeep, GoesDeep, GoesFatal}
-use Rattle.machine_rules.specs.Runs as of_rules
+use Rattle.machine_rules.specs.Faults.{WritesDeep, GoesDeep, GoesFatal, LacksValue}
 use Rattle.machine_rules.proofs.Lists.{all-filtered, all-snoc}
-use Rattle.machine_events.specs.Runs.{Runs, done, rules, takes, Follows, by_rule, by_event, BindsLoop}
+use Rattle.machine_events.specs.Causes.{BindsLoop}
+use Rattle.machine_events.specs.Runs.{Run as ARun, done, goes, takes, Each, GoodRun, Follows, by_rule, by_event}
 use Rattle.machine_events.specs.Takes.{Takes, accepts, refuses}
 use Rattle.machine_events.proofs.Standing.{Invariant}
-use Rattle.machine_events.proofs.Preservation.{runs-invariant}
-use Rattle.checked_runs.specs.Invariant.{BodyStands, Rung, Stacked, IsSited, Holds}
+use Rattle.machine_events.proofs.Preservation.{after-rule, after-event}
+use Rattle.checked_runs.specs.code.Invariant.{BodyStands, Rung, Stacked, IsSited, Holds}
 use Rattle.checked_runs.proofs.Ladder.{falls-to, climbs, no-deeper}
 use Rattle.checked_runs.proofs.Leading.{does-led}
 use Rattle.checked_runs.proofs.Rules.{rule-held, bound-by}
@@ -34,9 +35,6 @@ use Rattle.checked_runs.proofs.Events.{HoldsSome, takes-held, binding-sited}
 use Rattle.checked_runs.proofs.Sites.{no-loop}
 use Rattle.checked_runs.proofs.Lacking.{body-typed, typed-does}
 use Rattle.checked_runs.proofs.Nodes.{body-named}
-use Rattle.machine_events.specs.Causes.{LacksValue}
-use Rattle.machine_events.proofs.Progress.{stuck-lacks}
-use Rattle.machine_rules.specs.Runs.{IsStuck}
 use Rattle.machine_rules.proofs.Keeps.{lives-of-class}
 use Rattle.meta_model.specs.declared.object.Work.{Work}
 use Rattle.meta_model.specs.declared.object.Statement.{Statement}
@@ -47,7 +45,7 @@ use Rattle.typing.specs.Typed.{IsTypedWork}
 use Rattle.object_tree.specs.declared.object.Object.{Object}
 use Rattle.object_tree.specs.Typed.{AreTyped}
 use Rattle.machine_rules.specs.Doings.{doing}
-use Rattle.checked_runs.specs.Invariant.{IsStepOf, runs}
+use Rattle.checked_runs.specs.code.Invariant.{IsStepOf, runs}
 use Rattle.checked_runs.proofs.Leading.{occurs-sound}
 
 -- ---- the start
@@ -107,24 +105,20 @@ module _ {p : Loaded} {certificate : Certificate} (valid : IsValid p certificate
   rule-kept {d} {s} {t} kept good rule =
       let up = kept.1 in
       let held = rule-held valid sound (kept.0).0 natives s t (kept.0).1 (up.sound).agree (up.sound).waiting good.well rule in
-      (((kept.0).0, held.0), runs-invariant sound (rules (of_rules.then {n = 0} rule good of_rules.done) done) up)
+      (((kept.0).0, held.0), after-rule natives sound up good rule)
 
-  rules-kept : {d : ℕ} {s t : State} {n k : ℕ} → Rules p natives d s n t k → Kept s → Kept t
-  rules-kept of_rules.done kept = kept
-  rules-kept (of_rules.then rule good rest) kept = rules-kept rest (rule-kept kept good rule)
-
-  takes-kept : {d : ℕ} {s t : State} {e : Event} → Kept s → IsGood p d s t → Takes p e s t → Kept t
+  takes-kept : {d : ℕ} {s t : State} {e : Event} {a : Answer} → Kept s → IsGood p d s t → Takes p e a s t → Kept t
   takes-kept {d} {s} {t} {e} kept good x =
       let up = kept.1 in
-      (takes-held valid sound s t e kept.0 (up.sound).agree good.well x, runs-invariant {natives = natives} sound (takes {n = 0} x good done) up)
+      (takes-held valid sound s t e kept.0 (up.sound).agree good.well x, after-event sound up good x)
 
-  runs-kept : {d : ℕ} {s t : State} {n k : ℕ} {es : List Event} → Runs p natives d s n es t k → Kept s → Kept t
-  runs-kept done kept = kept
-  runs-kept (rules r rest) kept = runs-kept rest (rules-kept r kept)
-  runs-kept (takes x good rest) kept = runs-kept rest (takes-kept kept good x)
+  steps-kept : {s t : State} {n k : ℕ} {es : List Event} {xs : List Answer} (d : ℕ) (r : ARun p natives s n es xs t k) → Each (IsGood p d) r → Kept s → Kept t
+  steps-kept d done good kept = kept
+  steps-kept d (goes {s = s} {m = m} x rest) good kept = steps-kept d rest good.1 (rule-kept {s = s} {t = m} kept good.0 x)
+  steps-kept d (takes {s = s} {m = m} x rest) good kept = steps-kept d rest good.1 (takes-kept {s = s} {t = m} kept good.0 x)
 
-  pub run-kept : {d steps left : ℕ} {s : State} {taken : List Event} → Runs p natives d (at (untouched steps) []) steps taken s left → Kept s
-  run-kept {steps = steps} r = runs-kept r (((λ o. None), start-holds p certificate steps), start-invariant p steps)
+  pub run-kept : {d steps left : ℕ} {s : State} {taken : List Event} {answers : List Answer} → GoodRun p natives d (at (untouched steps) []) steps taken answers s left → Kept s
+  run-kept {d} {steps = steps} r = steps-kept d r.run r.good (((λ o. None), start-holds p certificate steps), start-invariant p steps)
 
   -- ---- what follows
 
@@ -138,11 +132,11 @@ module _ {p : Loaded} {certificate : Certificate} (valid : IsValid p certificate
       let up = kept.1 in
       (takes-held valid sound s t e kept.0 (up.sound).agree well x, λ o body gone. absurd (no-body-idle x o body))
     where
-      idle-is : {e : Event} {u v : State} → Takes p e u v → u.stack ≡ []
+      idle-is : {e : Event} {a : Answer} {u v : State} → Takes p e a u v → u.stack ≡ []
       idle-is (accepts idle y) = idle.empty
       idle-is (refuses k idle y) = idle.empty
 
-      no-body-idle : {e : Event} → Takes p e s t → (o : ℕ) → IsTrue (has_body o s.stack) → ⊥
+      no-body-idle : {e : Event} {a : Answer} → Takes p e a s t → (o : ℕ) → IsTrue (has_body o s.stack) → ⊥
       no-body-idle y o body = let none : IsTrue (has_body o []) = subst (λ (l : List Activation). IsTrue (has_body o l)) (idle-is y) body in absurd (cc none)
 
   -- a body on top that writes leaves room for one more
@@ -182,11 +176,10 @@ module _ {p : Loaded} {certificate : Certificate} (valid : IsValid p certificate
       no-loop valid sound (kept.0).0 (binding_at (replaced s.bindings b)) (λ q z e. bound-by (IsSited p (kept.0).0) (replaced s.bindings b) all q z e) loops.closes
 
   -- the body on top does something
-  pub stuck-not : {s : State} → Kept s → IsStuck p natives s → ⊥
-  stuck-not {s} kept stuck =
+  pub lacks-not : {s : State} → Kept s → LacksValue s → ⊥
+  lacks-not {s} kept lacking =
       let held = (kept.0).1 in
-      let w = stuck-lacks sound kept.1 stuck in
-      first-does w held.rungs (subst (λ (l : List Activation). Stacked (kept.0).0 s.objects l held.rungs) w.is_next held.stacked)
+      first-does lacking held.rungs (subst (λ (l : List Activation). Stacked (kept.0).0 s.objects l held.rungs) lacking.is_next held.stacked)
     where
       first-does : (w : LacksValue s) → (rungs : List (Rung p certificate)) → Stacked (kept.0).0 s.objects (Body w.object w.method w.arguments (Run w.statement ∷ w.rest) ∷ w.below) rungs → ⊥
       first-does w [] st = absurd st

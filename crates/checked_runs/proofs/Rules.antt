@@ -34,7 +34,7 @@ use Rattle.prop_bindings.specs.Bindings.{binding_at, without, Settled}
 use Rattle.prop_bindings.specs.Changes.{DifferInValues, AreChanged, in_order}
 use Rattle.prop_bindings.specs.Fits.{Agree}
 use Rattle.prop_bindings.specs.Places.{property_of, same_place, values_in}
-use Rattle.prop_bindings.proofs.Installed.{without-fewer}
+use Rattle.prop_bindings.proofs.Replaced.{without-fewer}
 use Rattle.prop_bindings.proofs.Places.{decide_place, same_place-refl}
 use Rattle.effect_scan.specs.declared.node.Node.{Node}
 use Rattle.effect_scan.specs.declared.node.Member.TheVariants.{Method, Property, Destruction}
@@ -62,7 +62,7 @@ use Rattle.machine_rules.specs.Judgement.{holds as so, goes_on}
 use Rattle.machine_rules.specs.Natives.{NativeAnswers}
 use Rattle.machine_rules.specs.Rules.{Rule, RuleAt, BodyRule, Does, EmitRule, UpdateRule, NotifiesIf, TurnRule, Serves, Delivers, Arrives, BeginsIf, begun, with_used, linked, unlinked, Connects, Disconnects}
 use Rattle.machine_rules.specs.Settling.{Settles, Writes}
-use Rattle.machine_rules.specs.Sound.{AllWait, Waits}
+use Rattle.machine_rules.specs.code.Sound.{AllWait, Waits}
 use Rattle.machine_rules.specs.There.{IsDead, IsMember}
 use Rattle.machine_rules.proofs.Differing.{differ-stay, differ-spared}
 use Rattle.machine_rules.proofs.Dying.{died-stay, scheduled-stay, scheduled-seen, other-seen}
@@ -71,7 +71,7 @@ use Rattle.machine_rules.proofs.Inherited.{method-below}
 use Rattle.machine_rules.proofs.Keeps.{class-of-lives}
 use Rattle.machine_rules.proofs.Lists.{all-filtered, all-snoc}
 use Rattle.machine_rules.proofs.Waiting.{first-waits}
-use Rattle.checked_runs.specs.Invariant.{Rung, FallsTo, IsStepOf, runs, asks, acts, BodyStands, EmitStands, IsFollower, IsTorn, DestroyStands, Stacked, IsOwned, IsWired, IsSited, IsCovered, Holds}
+use Rattle.checked_runs.specs.code.Invariant.{Rung, FallsTo, IsStepOf, runs, asks, acts, BodyStands, EmitStands, IsFollower, IsTorn, DestroyStands, Stacked, IsOwned, IsWired, IsSited, IsCovered, Holds}
 use Rattle.checked_runs.proofs.Nodes.{named-node, end-node, body-named, late-named, named-again}
 use Rattle.checked_runs.proofs.Ladder.{higher-none, rung-at, falls-to, line-from}
 use Rattle.checked_runs.proofs.Worlds.{Leaves, classes-left, differ-leaves, scheduled-leaves, died-leaves, SparedIn, stacked-still}

@@ -10,25 +10,26 @@ use Rattle.object_tree.specs.declared.object.Object.{Object}
 use Rattle.object_tree.specs.Typed.{ReadsAs}
 use Rattle.certificate_lang.specs.declared.certificate.Certificate.{Certificate}
 use Rattle.rank_check.specs.Valid.{IsValid}
+use Rattle.machine_state.specs.declared.fault.Answer.{Answer}
 use Rattle.machine_state.specs.State.{State, Activation, Body}
 use Rattle.machine_state.specs.Worlds.{at, untouched}
 use Rattle.machine_rules.specs.Doings.{Write}
 use Rattle.machine_rules.specs.Good.{IsWell, IsGood}
 use Rattle.machine_rules.specs.Natives.{NativeAnswers}
 use Rattle.machine_rules.specs.Rules.{Rule}
-use Rattle.machine_rules.specs.Runs.{Rules, WritesNext}
-use Rattle.machine_rules.specs.Runs as of_rules
+use Rattle.machine_rules.specs.Faults.{WritesNext}
 use Rattle.machine_rules.specs.There.{IsField}
-use Rattle.machine_events.specs.Runs.{Runs, done, rules, takes, Follows, by_rule, by_event}
+use Rattle.machine_events.specs.Runs.{Run, done, goes, takes, Each, Follows, by_rule, by_event}
 use Rattle.machine_events.specs.Takes.{Takes as Taking}
-use Rattle.machine_events.proofs.Preservation.{runs-invariant}
+use Rattle.machine_events.proofs.Preservation.{after-rule, after-event}
 use Rattle.machine_events.proofs.Standing.{Invariant}
-use Rattle.checked_runs.specs.Invariant.{Rung, Stacked, Holds}
-use Rattle.checked_runs.specs.Promised.{AllIsPromised}
+use Rattle.checked_runs.specs.Claims.{IsFaultless}
+use Rattle.checked_runs.specs.code.Invariant.{Rung, Stacked, Holds}
+use Rattle.checked_runs.specs.code.Promised.{AllIsPromised}
 use Rattle.checked_runs.proofs.Arguments.{rule-pushes, takes-pushes}
 use Rattle.checked_runs.proofs.Events.{takes-held}
 use Rattle.checked_runs.proofs.Giving.{does-give}
-use Rattle.checked_runs.proofs.Kept.{Kept, start-holds, start-invariant, follows-held}
+use Rattle.checked_runs.proofs.Kept.{Kept, start-holds, start-invariant, follows-held, lacks-not}
 use Rattle.checked_runs.proofs.Ladder.{no-deeper}
 use Rattle.checked_runs.proofs.Rules.{rule-held}
 use Rattle.checked_runs.proofs.TypedSteps.{rule-agrees, takes-agrees}
@@ -63,7 +64,7 @@ module _ {p : Loaded} {certificate : Certificate} (valid : IsValid p certificate
       values = (rule-agrees natives s t ((stood.up).sound).agree (writes-fit stood) rule).typed;
     }
 
-    event-well : {s t : State} {e : Event} → Stood p certificate s → Taking p e s t → IsWell p s t
+    event-well : {s t : State} {e : Event} {a : Answer} → Stood p certificate s → Taking p e a s t → IsWell p s t
     event-well {s} {t} {e} stood x = record {
       arguments = (takes-pushes s t e stood.classes x).arguments;
       values = (takes-agrees valid sound (stood.classes, stood.held) ((stood.up).sound).agree x).typed;
@@ -74,13 +75,13 @@ module _ {p : Loaded} {certificate : Certificate} (valid : IsValid p certificate
     follows-good {s} {t} stood (by_rule rule) =
         let well = rule-well {s = s} {t = t} stood rule in
         let held = follows-held valid sound natives {s = s} {t = t} {next = []} (as-kept natives stood) well (by_rule rule) in
-        record { well = well; spared = held.1; agree = rule-agrees natives s t ((stood.up).sound).agree (writes-fit stood) rule; shallow = no-deeper valid (held.0).0 t.objects ((held.0).1).rungs t.stack ((held.0).1).stacked }
+        let agree = rule-agrees natives s t ((stood.up).sound).agree (writes-fit stood) rule in
+        record { well = well; spared = held.1; acyclic = agree.acyclic; shallow = no-deeper valid (held.0).0 t.objects ((held.0).1).rungs t.stack ((held.0).1).stacked }
     follows-good {s} {t} stood (by_event {e = e} {events = events} x) =
         let well = event-well stood x in
         let held = follows-held valid sound natives {s = s} {t = t} {next = e ∷ events} (as-kept natives stood) well (by_event x) in
-        record { well = well; spared = held.1; agree = takes-agrees valid sound (stood.classes, stood.held) ((stood.up).sound).agree x; shallow = no-deeper valid (held.0).0 t.objects ((held.0).1).rungs t.stack ((held.0).1).stacked }
-
-    -- ---- runs
+        let agree = takes-agrees valid sound (stood.classes, stood.held) ((stood.up).sound).agree x in
+        record { well = well; spared = held.1; acyclic = agree.acyclic; shallow = no-deeper valid (held.0).0 t.objects ((held.0).1).rungs t.stack ((held.0).1).stacked }
 
     rule-stood : {d : ℕ} {s t : State} → Stood p certificate s → IsGood p d s t → Rule p natives s t → Stood p certificate t
     rule-stood {d} {s} {t} stood good rule =
@@ -88,30 +89,63 @@ module _ {p : Loaded} {certificate : Certificate} (valid : IsValid p certificate
         record {
           classes = stood.classes;
           held = (rule-held valid sound stood.classes natives s t stood.held (up.sound).agree (up.sound).waiting good.well rule).0;
-          up = runs-invariant sound (rules (of_rules.then {n = 0} rule good of_rules.done) done) up;
+          up = after-rule natives sound up good rule;
           promised = (rule-pushes valid sound stood.classes accepts natives promises s stood.held up t stood.promised rule).promised;
         }
 
-    rules-stood : {d : ℕ} {s t : State} {n k : ℕ} → Rules p natives d s n t k → Stood p certificate s → Stood p certificate t
-    rules-stood of_rules.done stood = stood
-    rules-stood (of_rules.then {s = s} {m = m} rule good rest) stood = rules-stood rest (rule-stood {s = s} {t = m} stood good rule)
-
-    takes-stood : {d : ℕ} {s t : State} {e : Event} → Stood p certificate s → IsGood p d s t → Taking p e s t → Stood p certificate t
-    takes-stood {d} {s} {t} {e} stood good x =
+    event-stood : {d : ℕ} {s t : State} {e : Event} {a : Answer} → Stood p certificate s → IsGood p d s t → Taking p e a s t → Stood p certificate t
+    event-stood {d} {s} {t} {e} stood good x =
         let up = stood.up in
         let held = takes-held valid sound s t e (stood.classes, stood.held) (up.sound).agree good.well x in
         record {
           classes = held.0;
           held = held.1;
-          up = runs-invariant {natives = natives} sound (takes {n = 0} x good done) up;
+          up = after-event sound up good x;
           promised = (takes-pushes s t e held.0 x).promised;
         }
 
-    runs-stood : {d : ℕ} {s t : State} {n k : ℕ} {es : List Event} → Runs p natives d s n es t k → Stood p certificate s → Stood p certificate t
-    runs-stood done stood = stood
-    runs-stood (rules r rest) stood = runs-stood rest (rules-stood r stood)
-    runs-stood (takes x good rest) stood = runs-stood rest (takes-stood stood good x)
+    -- .. and stands
+    follows-stood : {s t : State} {next : List Event} → Stood p certificate s → IsGood p certificate.bound s t → Follows p natives s t next → Stood p certificate t
+    follows-stood {s} {t} stood good (by_rule rule) = rule-stood {s = s} {t = t} stood good rule
+    follows-stood {s} {t} stood good (by_event x) = event-stood {s = s} {t = t} stood good x
 
-    pub run-stood : {d steps left : ℕ} {s : State} {taken : List Event} → Runs p natives d (at (untouched steps) []) steps taken s left → Stood p certificate s
-    run-stood {steps = steps} r =
-        runs-stood r (record { classes = λ o. None; held = start-holds p certificate steps; up = start-invariant p steps; promised = tt })
+    -- ---- every step
+
+    pub follows-faultless : {s t : State} {next : List Event} → Stood p certificate s → Follows p natives s t next → IsFaultless p certificate.bound s t
+    follows-faultless {s} {t} stood follows =
+        let good = follows-good {s = s} {t = t} stood follows in
+        let after = follows-stood {s = s} {t = t} stood good follows in
+        record {
+          arguments = (good.well).arguments;
+          acyclic = good.acyclic;
+          spared = good.spared;
+          shallow = good.shallow;
+          typed = record { has_values = λ lacking. lacks-not valid sound natives (as-kept natives stood) lacking; values = (good.well).values };
+          settled = (((after.up).sound).agree).settled;
+        }
+
+    step-stood : {s t : State} {next : List Event} → Stood p certificate s → Follows p natives s t next → Stood p certificate t
+    step-stood {s} {t} stood follows = follows-stood {s = s} {t = t} stood (follows-good {s = s} {t = t} stood follows) follows
+
+    pub run-faultless : {s t : State} {n k : ℕ} {es : List Event} {xs : List Answer} (r : Run p natives s n es xs t k) → Stood p certificate s → Each (IsFaultless p certificate.bound) r
+    run-faultless done stood = tt
+    run-faultless (goes {s = s} {m = m} x rest) stood =
+        let next : Follows p natives s m [] = by_rule x in
+        (follows-faultless {s = s} {t = m} stood next, run-faultless rest (step-stood {s = s} {t = m} stood next))
+    run-faultless (takes {s = s} {m = m} {e = e} x rest) stood =
+        let next : Follows p natives s m (e ∷ []) = by_event x in
+        (follows-faultless {s = s} {t = m} stood next, run-faultless rest (step-stood {s = s} {t = m} stood next))
+
+    run-stood : {s t : State} {n k : ℕ} {es : List Event} {xs : List Answer} → Run p natives s n es xs t k → Stood p certificate s → Stood p certificate t
+    run-stood done stood = stood
+    run-stood (goes {s = s} {m = m} x rest) stood =
+        let next : Follows p natives s m [] = by_rule x in
+        run-stood rest (step-stood {s = s} {t = m} stood next)
+    run-stood (takes {s = s} {m = m} {e = e} x rest) stood =
+        let next : Follows p natives s m (e ∷ []) = by_event x in
+        run-stood rest (step-stood {s = s} {t = m} stood next)
+
+    -- where a run from the beginning comes to
+    pub come-stood : {steps left : ℕ} {s : State} {taken : List Event} {answers : List Answer} → Run p natives (at (untouched steps) []) steps taken answers s left → Stood p certificate s
+    come-stood {steps = steps} r =
+        run-stood r (record { classes = λ o. None; held = start-holds p certificate steps; up = start-invariant p steps; promised = tt })

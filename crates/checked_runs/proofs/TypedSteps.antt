@@ -57,17 +57,18 @@ use Rattle.machine_rules.specs.Doings.{Doing, Write, Begin, Choose, Connect, Dis
 use Rattle.machine_rules.specs.Judgement.{found as finds, holds as so, becomes, goes_on}
 use Rattle.machine_rules.specs.Natives.{NativeAnswers}
 use Rattle.machine_rules.specs.Rules.{Rule, RuleAt, BodyRule, Does, EmitRule, UpdateRule, NotifiesIf, TurnRule, Serves, Delivers, Arrives, BeginsIf, begun, with_used, linked, unlinked}
-use Rattle.machine_rules.specs.Runs.{WritesNext}
+use Rattle.machine_rules.specs.Faults.{WritesNext}
 use Rattle.machine_rules.specs.There.{IsField}
 use Rattle.machine_rules.proofs.Differing.{scheduled-agree}
 use Rattle.machine_rules.proofs.Fields.{field-property}
 use Rattle.machine_rules.proofs.Lists.{all-filtered, all-snoc}
 use Rattle.machine_events.specs.declared.events.invoke.Invocation.{Invocation}
 use Rattle.machine_events.specs.declared.events.invoke.Invocation.TheVariants.{Emit as EmitIt, Call as CallIt}
+use Rattle.machine_state.specs.declared.fault.Answer.{Answer}
 use Rattle.machine_events.specs.Takes.{judged, Takes, accepts, refuses}
 use Rattle.machine_events.specs.events.Block.{block}
 use Rattle.machine_events.specs.events.Invoke.{invoke}
-use Rattle.checked_runs.specs.Invariant.{IsSited, IsCovered}
+use Rattle.checked_runs.specs.code.Invariant.{IsSited, IsCovered}
 use Rattle.checked_runs.proofs.Binding.{may-fit}
 use Rattle.checked_runs.proofs.Events.{HoldsSome, binding-sited}
 use Rattle.checked_runs.proofs.Given.{given-is, living-is, living-object, adopted-by}
@@ -286,6 +287,6 @@ module _ {p : Loaded} {certificate : Certificate} (valid : IsValid p certificate
   event-agrees t (LaterEvent name) held idle (goes_on o lives (becomes x)) = schedules-agrees (accepted s) t agree s.stack o.number (Some o.it) x
 
 -- whatever event is taken, all is in agreement
-pub takes-agrees : {p : Loaded} {certificate : Certificate} (valid : IsValid p certificate) (sound : IsSound p) {s t : State} {e : Event} → HoldsSome valid sound s → Agree p s.objects s.bindings → Takes p e s t → Agree p t.objects t.bindings
+pub takes-agrees : {p : Loaded} {certificate : Certificate} (valid : IsValid p certificate) (sound : IsSound p) {s t : State} {e : Event} {a : Answer} → HoldsSome valid sound s → Agree p s.objects s.bindings → Takes p e a s t → Agree p t.objects t.bindings
 takes-agrees valid sound {s = s} {t = t} {e = e} held agree (accepts idle x) = event-agrees valid sound s agree t e held idle x
 takes-agrees valid sound held agree (refuses k idle x) = agree

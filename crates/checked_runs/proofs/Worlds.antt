@@ -19,11 +19,11 @@ use Rattle.effect_scan.specs.declared.node.Node.{Node}
 use Rattle.certificate_lang.specs.declared.certificate.Certificate.{Certificate}
 use Rattle.machine_state.specs.State.{Step, Activation, Body, Emit, Update, Destroy}
 use Rattle.machine_rules.specs.Good.{has_body}
-use Rattle.machine_rules.specs.Keeps.{StayThere}
+use Rattle.machine_rules.specs.code.Keeps.{StayThere}
 use Rattle.machine_rules.specs.There.{IsDead}
 use Rattle.machine_rules.proofs.Dying.{lives-not-dead}
 use Rattle.machine_rules.proofs.Keeps.{lives-of-class, values-stay}
-use Rattle.checked_runs.specs.Invariant.{Rung, BodyStands, Stands, Stacked, AreClasses, AreOwned, IsOwned}
+use Rattle.checked_runs.specs.code.Invariant.{Rung, BodyStands, Stands, Stacked, AreClasses, AreOwned, IsOwned}
 
 -- ---- what a change of objects leaves
 

@@ -1,3 +1,2 @@
-pub mod Invariant
-pub mod Promised
 pub mod Claims
+pub mod code

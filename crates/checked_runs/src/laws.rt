@@ -1,6 +1,6 @@
 //! What holds of every program that loads and has a valid certificate, for every list of events.
 
-ghost use Rattle.checked_runs.specs.Claims.{EachIsFaultless, NeverInUse, NeverLoops, NeverStuck, NeverTooDeep, StopsAtLimits};
+ghost use Rattle.checked_runs.specs.Claims.{EachIsFaultless, EachRunIsFaultless, NeverInUse, NeverLoops, NeverLacksValue, NeverStuck, NeverTooDeep, StopsAtLimits};
 
 use native_slots::Answering;
 
@@ -19,14 +19,24 @@ pub fn never_loops<N: Answering>(_natives: &N)
     ensures { NeverLoops (N.gives _natives.now) }
 {}
 
-/// What goes on is never without a next rule, but for what a native is to answer: no expression lacks a value.
+/// No expression lacks a value, and no condition a truth value.
+pub fn never_lacks_value<N: Answering>(_natives: &N)
+    ensures { NeverLacksValue (N.gives _natives.now) }
+{}
+
+/// What goes on is never without a next rule, but for what a native is to answer.
 pub fn never_stuck<N: Answering>(_natives: &N)
     ensures { NeverStuck (N.gives _natives.now) }
 {}
 
-/// Where natives keep what the program declares of them, every step of every run has its methods' arguments and its
-/// properties' values of their types, spares objects with active bodies, closes no chain of bindings, leaves all values
-/// settled, and nests no deeper than the bound.
+/// Where natives keep what the program declares of them, each step of each run from the beginning has its methods'
+/// arguments, closes no chain of bindings, spares objects with active bodies, nests no deeper than the bound, has all
+/// values of their types, and leaves all settled.
+pub fn each_run_is_faultless<N: Answering>(_natives: &N)
+    ensures { EachRunIsFaultless (N.takes _natives.now) (N.gives _natives.now) }
+{}
+
+/// Whatever may follow a state of such a run is so, also where no rule is left to carry it out.
 pub fn each_is_faultless<N: Answering>(_natives: &N)
     ensures { EachIsFaultless (N.takes _natives.now) (N.gives _natives.now) }
 {}
