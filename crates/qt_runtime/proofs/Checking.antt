@@ -1,6 +1,6 @@
 -- A machine of a checked program stays one, and stops for a limit alone.
-use Rattle.std.proofs.Common.{◌≡◌, ℕ, ◌⊎◌, inl, inr, true, false, List, [], ◌∷◌, ◌++◌, Result, Ok, Err, refl, sym, ap, ◌∙◌, subst}
-use Rattle.std.specs.Prelude.{IfErr}
+use Rattle.std.proofs.Common.{◌≡◌, ℕ, ◌≤◌, ◌⊎◌, inl, inr, Bool, true, false, List, [], ◌∷◌, ◌++◌, length, Result, Ok, Err, sym, ◌∙◌, subst}
+use Rattle.std.specs.Prelude.{IfOk, IfErr}
 use Rattle.std.specs.Result.{IsErrAnd}
 use Rattle.certificate_lang.specs.declared.certificate.Certificate.{Certificate}
 use Rattle.rank_check.specs.Valid.{IsValid}
@@ -11,29 +11,23 @@ use Rattle.native_slots.specs.Promises.{Takes}
 use Rattle.machine_state.specs.declared.fault.Answer.{Answer}
 use Rattle.machine_state.specs.declared.fault.Fault.{Fault}
 use Rattle.machine_state.specs.declared.world.World.{World}
-use Rattle.machine_state.specs.Worlds.{at, untouched}
+use Rattle.machine_state.specs.Worlds.{at}
 use Rattle.machine_state.specs.State.{State}
+use Rattle.machine_rules.specs.Good.{HasArguments, Spares, IsAcyclic, AreSettled}
 use Rattle.machine_rules.specs.Natives.{NativeAnswers}
-use Rattle.machine_rules.specs.Runs.{IsStuck}
-use Rattle.machine_rules.proofs.Reaching.{reason-more}
-use Rattle.machine_events.specs.Causes.{LacksValue, Cause}
-use Rattle.machine_events.specs.Runs.{Runs, RunStops, BindsIll}
-use Rattle.machine_events.specs.Runs as runs
-use Rattle.machine_events.proofs.Running.{runs-trans}
-use Rattle.checked_runs.specs.Claims.{IsLimit, IsReached}
-use Rattle.checked_runs.proofs.Claims.{only_limits}
-use Rattle.qt_runtime.specs.Checked.{HasCome, IsChecked, StopsAtLimit}
-use Rattle.qt_runtime.specs.Seen.{Seen, AreKept, AcceptsEvent, RefusesEvent, OnDone, OnRefused, Completes, Halts, Stays, begun}
+use Rattle.machine_events.specs.Causes.{Cause}
+use Rattle.machine_events.specs.Runs.{done}
+use Rattle.machine_events.proofs.Running.{run-trans, each-weaker}
+use Rattle.checked_runs.specs.Claims.{IsTypedStep, IsFaultless, IsLimit, IsReached}
+use Rattle.checked_runs.proofs.Claims.{only_limits, each_run_is_faultless}
+use Rattle.qt_runtime.specs.Checked.{IsChecked, InEachRun, Claims, StopsAtLimit}
+use Rattle.qt_runtime.specs.Seen.{Seen, AreKept, Completes, Halts, Stays, begun}
 use Rattle.qt_runtime.proofs.Applying.{still-goes}
-use Rattle.qt_runtime.proofs.Halting.{completes-of}
+use Rattle.qt_runtime.proofs.Halting.{seen}
 
--- what is there besides a lack of values is why the run stops
-reason-of : (p : Loaded) (natives : NativeAnswers) (d left : ℕ) (s : State) (es : List Event) (f : Fault) → Cause p natives d s left es f → RunStops p natives d s left es f
-reason-of p natives d left s es f cause = reason-more p d s left f held (λ closes. closes) (λ t follows. follows) (λ due. due) cause
-  where
-    held : IsStuck p natives s × LacksValue s ⊎ BindsIll p s es → IsStuck p natives s ⊎ BindsIll p s es
-    held (inl stuck) = inl stuck.0
-    held (inr ill) = inr ill
+-- the program that is within is the one that is seen
+pub sound-of : {N : Type 0} {a : Seen N} {p : Loaded} {natives : N} {depth : ℕ} {w : World} {stopped : Bool} → IsSound p → seen p natives depth w stopped ≡ a → IsSound a.program
+sound-of {N} sound is = subst (λ (m : Seen N). IsSound m.program) is sound
 
 -- ---- it stays one
 
@@ -46,19 +40,19 @@ module _ {N : Type 0} (gives : N → NativeAnswers) where
         certificate = certificate;
         valid = subst At (sym same) valid;
         bound = bound;
-        came = λ went. record { steps = steps; taken = []; runs = runs.done };
+        came = λ went. record { steps = steps; taken = []; answers = []; run = done };
       } in
       subst (λ (m : Seen N). IsChecked gives m) (sym is) checked
 
   -- it goes on from where it came
-  pub completes-checked : {a b : Seen N} {es : List Event} → Completes gives a es b → IsChecked gives a → IsChecked gives b
-  completes-checked {a} {b} {es} x checked =
+  pub completes-checked : {a b : Seen N} {es : List Event} {xs : List Answer} → Completes gives a es xs b → IsChecked gives a → IsChecked gives b
+  completes-checked {a} {b} {es} {xs} x checked =
       let come = checked.came x.went in
       let further : IsChecked gives (record a { world = b.world }) = record {
         certificate = checked.certificate;
         valid = checked.valid;
         bound = checked.bound;
-        came = λ went. record { steps = come.steps; taken = come.taken ++ es; runs = runs-trans come.runs x.whole.runs };
+        came = λ went. record { steps = come.steps; taken = come.taken ++ es; answers = come.answers ++ xs; run = run-trans come.run x.whole.runs.run };
       } in
       subst (λ (m : Seen N). IsChecked gives m) (sym x.same) further
 
@@ -75,36 +69,61 @@ module _ {N : Type 0} (gives : N → NativeAnswers) where
 -- ---- it stops for a limit
 
 module _ {N : Type 0} (takes : N → Takes) (gives : N → NativeAnswers) where
+  -- it has come to where it is
+  is-reached : {a : Seen N} → IsSound a.program → AreKept takes gives a → (checked : IsChecked gives a) → a.stopped ≡ false → IsReached (takes a.natives) (gives a.natives) a.program checked.certificate (at a.world []) a.world.left
+  is-reached sound kept checked went =
+      let come = checked.came went in
+      record { sound = sound; valid = checked.valid; promises = kept; steps = come.steps; taken = come.taken; answers = come.answers; run = come.run }
+
   halts-limit : {a b : Seen N} {es : List Event} {f : Fault} → IsSound a.program → AreKept takes gives a → Halts gives a es f b → IsChecked gives a → IsLimit f
   halts-limit {a} {f = f} sound kept x checked =
       let come = checked.came x.went in
       let natives = gives a.natives in
       let stop = at x.world x.stack in
-      let RunsAt : ℕ → Type 0 = λ d. Runs a.program natives d (at (untouched come.steps) []) come.steps (come.taken ++ x.front.taken) stop x.world.left in
-      let StopsAt : ℕ → Type 0 = λ d. RunStops a.program natives d stop x.world.left x.front.rest f in
-      let reached : IsReached (takes a.natives) natives a.program checked.certificate stop = record {
+      let StopsAt : ℕ → Type 0 = λ d. Cause a.program natives d stop x.world.left x.front.rest f in
+      let reached : IsReached (takes a.natives) natives a.program checked.certificate stop x.world.left = record {
         sound = sound;
         valid = checked.valid;
         promises = kept;
         steps = come.steps;
-        left = x.world.left;
         taken = come.taken ++ x.front.taken;
-        runs = subst RunsAt checked.bound (runs-trans come.runs x.front.runs);
+        answers = come.answers ++ x.front.answers;
+        run = run-trans come.run x.front.runs.run;
       } in
-      only_limits x.world.left x.front.rest f reached (subst StopsAt checked.bound (reason-of a.program natives a.depth x.world.left stop x.front.rest f x.cause))
+      only_limits x.world.left x.front.rest f reached (subst StopsAt checked.bound x.cause)
 
   stops-checked : {a b : Seen N} {es : List Event} {f : Fault} → IsSound a.program → AreKept takes gives a → Halts gives a es f b ⊎ Stays a f b → IsChecked gives a → IsChecked gives b × StopsAtLimit a f
   stops-checked sound kept (inl halts) checked = (halts-checked gives halts checked, inl (halts-limit sound kept halts checked))
   stops-checked sound kept (inr stays) checked = (subst (λ (m : Seen N). IsChecked gives m) (sym stays.same) checked, inr stays.stopped)
 
   -- what an event comes to for a machine of a checked program
-  pub applied-checked : {a b : Seen N} (e : Event) (r : Result Answer Fault) → IsSound a.program → AreKept takes gives a → OnDone r (AcceptsEvent gives a e b) → OnRefused r (λ n. RefusesEvent gives a e n b)
-      → IfErr r (λ f. Halts gives a (e ∷ []) f b ⊎ Stays a f b) → IsChecked gives a → IsChecked gives b × IfErr r (StopsAtLimit a)
-  applied-checked e (Ok x) sound kept accepted refused stopped checked = (completes-checked gives (completes-of x accepted refused) checked, tt)
-  applied-checked e (Err f) sound kept accepted refused stopped checked = stops-checked sound kept stopped checked
+  pub applied-checked : {a b : Seen N} (e : Event) (r : Result Answer Fault) → IsSound a.program → AreKept takes gives a → IfOk r (λ x. Completes gives a (e ∷ []) (x ∷ []) b) → IfErr r (λ f. Halts gives a (e ∷ []) f b ⊎ Stays a f b) → IsChecked gives a → IsChecked gives b × IfErr r (StopsAtLimit a)
+  applied-checked e (Ok x) sound kept taken stopped checked = (completes-checked gives taken checked, tt)
+  applied-checked e (Err f) sound kept taken stopped checked = stops-checked sound kept stopped checked
+
+  -- ---- the claims
+
+  each-faultless : {a : Seen N} → IsSound a.program → AreKept takes gives a → (checked : IsChecked gives a) → InEachRun gives a (IsFaultless a.program checked.certificate.bound)
+  each-faultless {a} sound kept checked went events answers t left run =
+      each_run_is_faultless (takes a.natives) (gives a.natives) a.program checked.certificate (at a.world []) t a.world.left left events answers (is-reached sound kept checked went) run
+
+  pub claims-hold : {a : Seen N} → IsSound a.program → AreKept takes gives a → IsChecked gives a → Claims gives a
+  claims-hold {a} sound kept checked =
+      let d : ℕ = checked.certificate.bound in
+      let Step : State → State → Type 0 = IsFaultless a.program d in
+      let all : InEachRun gives a Step = each-faultless sound kept checked in
+      let Shallow : State → State → Type 0 = λ s t. length t.stack ≤ a.depth in
+      record {
+        arguments = λ went events answers t left run. each-weaker Step (HasArguments a.program) (λ s u x. x.arguments) run (all went events answers t left run);
+        acyclic = λ went events answers t left run. each-weaker Step (λ s u. IsAcyclic u) (λ s u x. x.acyclic) run (all went events answers t left run);
+        spared = λ went events answers t left run. each-weaker Step Spares (λ s u x. x.spared) run (all went events answers t left run);
+        shallow = λ went events answers t left run. each-weaker Step Shallow (λ s u x. subst (λ (k : ℕ). length u.stack ≤ k) (sym checked.bound) x.shallow) run (all went events answers t left run);
+        typed = λ went events answers t left run. each-weaker Step (IsTypedStep a.program) (λ s u x. x.typed) run (all went events answers t left run);
+        settled = λ went events answers t left run. each-weaker Step (λ s u. AreSettled u) (λ s u x. x.settled) run (all went events answers t left run);
+      }
 
 -- where a machine stops that had taken events before, behind a `?`
-pub limit-behind : {N : Type 0} {gives : N → NativeAnswers} {a b : Seen N} {es : List Event} {f : Fault} (r : Result (Unit {0}) Fault) → Completes gives a es b → StopsAtLimit b f → IsErrAnd r (λ y. y ≡ f) → IfErr r (StopsAtLimit a)
+pub limit-behind : {N : Type 0} {gives : N → NativeAnswers} {a b : Seen N} {es : List Event} {xs : List Answer} {f : Fault} (r : Result (Unit {0}) Fault) → Completes gives a es xs b → StopsAtLimit b f → IsErrAnd r (λ y. y ≡ f) → IfErr r (StopsAtLimit a)
 limit-behind (Ok _) x stops is = tt
 limit-behind {f = f} (Err g) x stops is =
     let limit : IsLimit f = elim stops [

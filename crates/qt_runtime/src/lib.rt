@@ -4,8 +4,12 @@
 mod machine;
 
 pub use machine::Machine;
-pub use machine_events::{always_settled, one_front, one_judgement, one_run, one_taking};
+pub use machine_events::{
+    always_settled, one_front, one_judgement, one_run, one_run_of_answers, one_taking,
+    taking_settles,
+};
 pub use machine_state::{Answer, Entry, Fault, Happening, Shown, ShownAction};
 pub use meta_objects::{Meta, MetaFault};
 pub use native_slots::{Answering, Natives};
-pub use script_lang::{Event, ScriptFault, read_script};
+pub use rank_check::Checked;
+pub use script_lang::{ConnectionType, Endpoints, Event, Input, Literal, ScriptFault, read_script};

@@ -1,7 +1,10 @@
-ghost use Rattle.std.specs.Prelude.{◌≡◌, ◌<◌, ◌≤◌, ◌^◌, ◌∷◌, [], IfOk, IfErr, false, None};
+ghost use Rattle.std.specs.Prelude.{◌≡◌, ◌↔◌, ◌<◌, ◌≤◌, ◌^◌, ◌∷◌, [], length, Err, IfOk, IfErr, true, false, None};
+ghost use Rattle.machine_state.specs.declared.fault.Fault.TheVariants.{Steps};
 ghost use Rattle.native_slots.specs.Promises.{Promises};
-ghost use Rattle.qt_runtime.specs.Checked.{IsChecked, StopsAtLimit};
-ghost use Rattle.qt_runtime.specs.Seen.{AreKept, OnDone, OnRefused, AcceptsEvent, RefusesEvent, IsSettled, Stops, RunsAll, begun};
+ghost use Rattle.machine_rules.specs.Good.{HasArguments, Spares, IsAcyclic, AreSettled};
+ghost use Rattle.checked_runs.specs.Claims.{IsTypedStep};
+ghost use Rattle.qt_runtime.specs.Checked.{Claims, IsChecked, InEachRun, StopsAtLimit};
+ghost use Rattle.qt_runtime.specs.Seen.{AreKept, Completes, RefusesExactly, IsSettled, Stops, RunsAll, begun};
 
 use machine_events::take_event;
 use machine_rules::Setting;
@@ -14,11 +17,20 @@ use std::alloc::{AllocError, Global};
 use std::marker::Model;
 
 /// A run of a program, event by event.
-#[derive(Drop)]
 pub struct Machine<N> {
     setting: Setting<N>,
     world: World,
     stopped: bool,
+}
+
+impl<N: Drop> Drop for Machine<N> {
+    fn drop(self) {
+        let Machine {
+            setting: _,
+            world: _,
+            stopped: _,
+        } = self;
+    }
 }
 
 impl<N> Model for Machine<N> {
@@ -28,7 +40,7 @@ impl<N> Model for Machine<N> {
     ghost use Rattle.meta_model.specs.contracts.site.SourceProperty as source;
     ghost use Rattle.native_slots.specs.Promises.{Promises};
     ghost use Rattle.qt_runtime.specs.Seen.{Seen};
-    ghost use Rattle.qt_runtime.specs.Invariant.{MachineInvariant};
+    ghost use Rattle.qt_runtime.specs.code.Invariant.{MachineInvariant};
 
     ghost Value = { Seen N };
 
@@ -92,42 +104,72 @@ impl<N: Answering + Drop> Machine<N> {
     }
 
     /// Applies an event: takes it, and runs until nothing is going on. `Refused` tells the first of the event's
-    /// conditions that doesn't hold; then only its line is written. A fault stops the machine: `BadType` where the next
-    /// statement lacks a value that it needs, or the next rule would give a value of a wrong type; `InUse` where by it
-    /// an object would die while a body of it is active; `BindingLoop` where a chain of bindings would lead from a
-    /// property back to itself; `TooDeep` where it would nest activations deeper than the depth; `Steps` where a rule
-    /// is due and none is left; `Memory` where a growth of memory was refused. The trace then ends with the last whole
-    /// rule. On a machine that has stopped the answer is `Stopped`, and nothing changes. A machine of a checked program
-    /// stays one, and stops with `Steps` or `Memory` alone.
+    /// conditions that doesn't hold, exactly where one doesn't; then only its line is written. A fault stops the machine:
+    /// `BadType` where the next statement lacks a value that it needs, or the next rule would give a value of a wrong
+    /// type; `InUse` where by it an object would die while a body of it is active; `BindingLoop` where a chain of
+    /// bindings would lead from a property back to itself; `TooDeep` where it would nest activations deeper than the
+    /// depth; `Steps` where a rule is due and none is left; `Memory` where a growth of memory was refused. The trace then
+    /// ends with the last whole rule. On a machine that has stopped the answer is `Stopped`, and nothing changes.
+    ///
+    /// A machine of a checked program stays one, and stops with `Steps` or `Memory` alone. In each of its runs every call
+    /// that is delivered has the arguments that its method declares, no binding depends on itself, no object dies while a
+    /// body of its own is active, activations nest no deeper than the depth, every value is of its type, and all values
+    /// are settled.
     pub fn apply(&mut self, event: &Event) -> Result<Answer, Fault>
         requires { AreKept N.takes N.gives self.old }
-        ensures done { OnDone result (AcceptsEvent N.gives self.old event.now self.new) }
-        ensures refused { OnRefused result
-            (λ number. RefusesEvent N.gives self.old event.now number self.new) }
+        ensures taken { IfOk result
+            (λ answer. Completes N.gives self.old (event.now ∷ []) (answer ∷ []) self.new) }
+        ensures refused { IfOk result (λ answer. RefusesExactly self.old event.now answer self.new) }
         ensures stopped { IfErr result (λ fault. Stops N.gives self.old (event.now ∷ []) fault self.new) }
-        ensures settled { IfOk result (λ _. IsSettled self.new) }
+        ensures spent { self.old.stopped ≡ false
+            → (result ≡ Err Steps) ↔ ((self.new.stopped ≡ true) × (self.new.world.left ≡ 0)) }
+        ensures left_settled { IfOk result (λ _. IsSettled self.new) }
         ensures kept { AreKept N.takes N.gives self.new }
         ensures checked { IsChecked N.gives self.old
             → IsChecked N.gives self.new × IfErr result (StopsAtLimit self.old) }
+        ensures arguments { IsChecked N.gives self.old
+            → InEachRun N.gives self.old (HasArguments self.old.program) }
+        ensures acyclic { IsChecked N.gives self.old
+            → InEachRun N.gives self.old (λ s t. IsAcyclic t) }
+        ensures spared { IsChecked N.gives self.old
+            → InEachRun N.gives self.old Spares }
+        ensures shallow { IsChecked N.gives self.old
+            → InEachRun N.gives self.old (λ s t. length t.stack ≤ self.old.depth) }
+        ensures typed { IsChecked N.gives self.old
+            → InEachRun N.gives self.old (IsTypedStep self.old.program) }
+        ensures settled { IsChecked N.gives self.old
+            → InEachRun N.gives self.old (λ s t. AreSettled t) }
     {
+        // The contract of `classes` says that the numbers in bodies are those of members.
+        let _ = self.setting.meta.classes();
         if self.stopped {
             return Err(Fault::Stopped);
         }
-        // The contract of `classes` says that the numbers in bodies are those of members.
-        let _ = self.setting.meta.classes();
         let result = take_event(&self.setting, &mut self.world, event);
         self.stopped = result.is_err();
         result
     }
 
     /// Applies events in their order until a fault comes, as `apply` does each. A machine of a checked program stays one,
-    /// and stops with `Steps` or `Memory` alone.
+    /// and stops with `Steps` or `Memory` alone; in each of its runs the claims hold as `apply` says them.
     pub fn run(&mut self, events: &[Event]) -> Result<(), Fault>
         requires { AreKept N.takes N.gives self.old }
         ensures ran { RunsAll N.gives self.old events.now result self.new }
         ensures kept { AreKept N.takes N.gives self.new }
         ensures checked { IsChecked N.gives self.old
             → IsChecked N.gives self.new × IfErr result (StopsAtLimit self.old) }
+        ensures arguments { IsChecked N.gives self.old
+            → InEachRun N.gives self.old (HasArguments self.old.program) }
+        ensures acyclic { IsChecked N.gives self.old
+            → InEachRun N.gives self.old (λ s t. IsAcyclic t) }
+        ensures spared { IsChecked N.gives self.old
+            → InEachRun N.gives self.old Spares }
+        ensures shallow { IsChecked N.gives self.old
+            → InEachRun N.gives self.old (λ s t. length t.stack ≤ self.old.depth) }
+        ensures typed { IsChecked N.gives self.old
+            → InEachRun N.gives self.old (IsTypedStep self.old.program) }
+        ensures settled { IsChecked N.gives self.old
+            → InEachRun N.gives self.old (λ s t. AreSettled t) }
     {
         if self.is_stopped() {
             return Err(Fault::Stopped);
@@ -142,7 +184,11 @@ impl<N: Answering + Drop> Machine<N> {
     fn is_stopped(&self) -> bool
         ensures value { result ≡ self.now.stopped }
         ensures idle { result ≡ false → self.now.world.turn ≡ None }
+        ensures claims { AreKept N.takes N.gives self.now → IsChecked N.gives self.now
+            → Claims N.gives self.now }
     {
+        // The contract of `classes` says that the numbers in bodies are those of members.
+        let _ = self.setting.meta.classes();
         self.stopped
     }
 

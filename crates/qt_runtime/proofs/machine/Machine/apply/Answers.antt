@@ -1,9 +1,9 @@
 use Rattle.std.proofs.Common.{subst, sym, ◌∙◌, ◌⊎◌, ◌∷◌, []}
-use Rattle.std.specs.Prelude.{IfErr}
+use Rattle.std.specs.Prelude.{IfOk, IfErr}
 use Rattle.qt_runtime.specs.Checked.{IsChecked, StopsAtLimit}
-use Rattle.qt_runtime.proofs.Checking.{applied-checked}
-use Rattle.qt_runtime.specs.Seen.{Seen, AreKept, OnDone, OnRefused, AcceptsEvent, RefusesEvent, Halts, Stays}
-use Rattle.qt_runtime.proofs.Halting.{seen, applied-done, applied-refused, applied-stopped}
+use Rattle.qt_runtime.proofs.Checking.{applied-checked, claims-hold, sound-of}
+use Rattle.qt_runtime.specs.Seen.{Seen, AreKept, Completes, RefusesExactly, Halts, Stays}
+use Rattle.qt_runtime.proofs.Halting.{seen, applied-taken, applied-refused, applied-stopped, applied-spent}
 use Rattle.machine_events.proofs.Keeping.{keeps-took, settled-took, idle-took}
 use Rattle.qt_runtime.proofs.machine.Machine.apply.Goals as goal
 
@@ -21,15 +21,15 @@ returns-clause-kept g c =
     let Kept : Seen _ → Type 0 = λ m. AreKept g.N.Answering.takes g.N.Answering.gives m in
     subst Kept (sym c.self.view_is) c.requires
 
-pub returns-clause-done : goal.returns-clause-done
-returns-clause-done g c =
-    let From : Seen _ → Type 0 = λ a. OnDone c.take_event-result.result (AcceptsEvent g.N.Answering.gives a c.args.event.now (seen c.self.inside.setting.meta c.self.inside.setting.natives c.self.inside.setting.depth c.take_event-result.new.world c.is_err-self-inside.result)) in
-    subst From c.self.view_is (applied-done g.N.Answering.gives c.self.inside.setting.natives c.take_event-result.result c.take_event-result.ensures c.if-self.false c.is_err-self-inside.ensures.value)
+pub returns-clause-taken : goal.returns-clause-taken
+returns-clause-taken g c =
+    let From : Seen _ → Type 0 = λ a. IfOk c.take_event-result.result (λ x. Completes g.N.Answering.gives a (c.args.event.now ∷ []) (x ∷ []) (seen c.self.inside.setting.meta c.self.inside.setting.natives c.self.inside.setting.depth c.take_event-result.new.world c.is_err-self-inside.result)) in
+    subst From c.self.view_is (applied-taken g.N.Answering.gives c.self.inside.setting.natives c.take_event-result.result c.take_event-result.ensures c.if-self.false c.is_err-self-inside.ensures.value)
 
 pub returns-clause-refused : goal.returns-clause-refused
 returns-clause-refused g c =
-    let From : Seen _ → Type 0 = λ a. OnRefused c.take_event-result.result (λ n. RefusesEvent g.N.Answering.gives a c.args.event.now n (seen c.self.inside.setting.meta c.self.inside.setting.natives c.self.inside.setting.depth c.take_event-result.new.world c.is_err-self-inside.result)) in
-    subst From c.self.view_is (applied-refused g.N.Answering.gives c.self.inside.setting.natives c.take_event-result.result c.take_event-result.ensures c.if-self.false c.is_err-self-inside.ensures.value)
+    let From : Seen _ → Type 0 = λ a. IfOk c.take_event-result.result (λ x. RefusesExactly a c.args.event.now x (seen c.self.inside.setting.meta c.self.inside.setting.natives c.self.inside.setting.depth c.take_event-result.new.world c.is_err-self-inside.result)) in
+    subst From c.self.view_is (applied-refused g.N.Answering.gives c.self.inside.setting.natives _ _ c.take_event-result.result c.classes.ensures.sound (c.self.invariant.keeps c.if-self.false).sound (c.self.invariant.idle c.if-self.false) c.take_event-result.ensures)
 
 pub returns-clause-stopped : goal.returns-clause-stopped
 returns-clause-stopped g c =
@@ -37,8 +37,11 @@ returns-clause-stopped g c =
     let From : Seen _ → Type 0 = λ a. IfErr c.take_event-result.result (λ f. Halts g.N.Answering.gives a (c.args.event.now ∷ []) f after ⊎ Stays a f after) in
     subst From c.self.view_is (applied-stopped g.N.Answering.gives c.self.inside.setting.natives c.take_event-result.result c.classes.ensures.sound (c.self.invariant.keeps c.if-self.false).sound c.take_event-result.ensures c.if-self.false c.is_err-self-inside.ensures.value)
 
-pub returns-clause-settled : goal.returns-clause-settled
-returns-clause-settled g c = settled-took c.take_event-result.result c.classes.ensures.sound (c.self.invariant.keeps c.if-self.false) c.take_event-result.ensures
+pub returns-clause-spent : goal.returns-clause-spent
+returns-clause-spent g c = λ went. applied-spent g.N.Answering.gives c.self.inside.setting.natives c.take_event-result.result c.take_event-result.ensures c.is_err-self-inside.ensures.value
+
+pub returns-clause-left_settled : goal.returns-clause-left_settled
+returns-clause-left_settled g c = settled-took c.take_event-result.result c.classes.ensures.sound (c.self.invariant.keeps c.if-self.false) c.take_event-result.ensures
 
 pub returns-clause-checked : goal.returns-clause-checked
 returns-clause-checked g c =
@@ -53,5 +56,23 @@ returns-clause-checked g c =
     let after : Seen _ = seen c.self.inside.setting.meta natives c.self.inside.setting.depth c.take_event-result.new.world c.is_err-self-inside.result in
     let Kept : Seen _ → Type 0 = λ m. AreKept takes gives m in
     let From : Seen _ → Type 0 = λ a. IsChecked gives a → IsChecked gives after × IfErr result (StopsAtLimit a) in
-    subst From c.self.view_is (applied-checked takes gives c.args.event.now result sound (subst Kept (sym c.self.view_is) c.requires) (applied-done gives natives result took went is)
-    (applied-refused gives natives result took went is) (applied-stopped gives natives result sound (c.self.invariant.keeps went).sound took went is))
+    subst From c.self.view_is (applied-checked takes gives c.args.event.now result sound (subst Kept (sym c.self.view_is) c.requires) (applied-taken gives natives result took went is)
+    (applied-stopped gives natives result sound (c.self.invariant.keeps went).sound took went is))
+
+pub returns-clause-arguments : goal.returns-clause-arguments
+returns-clause-arguments g c = λ checked. (claims-hold g.N.Answering.takes g.N.Answering.gives (sound-of c.classes.ensures.sound c.self.view_is) c.requires checked).arguments
+
+pub returns-clause-acyclic : goal.returns-clause-acyclic
+returns-clause-acyclic g c = λ checked. (claims-hold g.N.Answering.takes g.N.Answering.gives (sound-of c.classes.ensures.sound c.self.view_is) c.requires checked).acyclic
+
+pub returns-clause-spared : goal.returns-clause-spared
+returns-clause-spared g c = λ checked. (claims-hold g.N.Answering.takes g.N.Answering.gives (sound-of c.classes.ensures.sound c.self.view_is) c.requires checked).spared
+
+pub returns-clause-shallow : goal.returns-clause-shallow
+returns-clause-shallow g c = λ checked. (claims-hold g.N.Answering.takes g.N.Answering.gives (sound-of c.classes.ensures.sound c.self.view_is) c.requires checked).shallow
+
+pub returns-clause-typed : goal.returns-clause-typed
+returns-clause-typed g c = λ checked. (claims-hold g.N.Answering.takes g.N.Answering.gives (sound-of c.classes.ensures.sound c.self.view_is) c.requires checked).typed
+
+pub returns-clause-settled : goal.returns-clause-settled
+returns-clause-settled g c = λ checked. (claims-hold g.N.Answering.takes g.N.Answering.gives (sound-of c.classes.ensures.sound c.self.view_is) c.requires checked).settled

@@ -1,4 +1,5 @@
-use Rattle.std.proofs.Common.{take}
+use Rattle.std.proofs.Common.{List, take}
+use Rattle.machine_state.specs.declared.fault.Answer.{Answer}
 use Rattle.qt_runtime.specs.Checked.{IsChecked}
 use Rattle.qt_runtime.specs.Seen.{AreKept, Completes}
 use Rattle.qt_runtime.proofs.machine.Machine.run.Given as goal
@@ -6,7 +7,7 @@ use Rattle.qt_runtime.proofs.machine.Machine.run.Given as goal
 -- the events so far were taken
 abbrev pub invariant-loop-event : goal.invariant-loop-event
 invariant-loop-event g l = record {
-  taken : Completes g.N.Answering.gives l.fn.self (take l.event-index l.events) l.self;
+  taken : (answers : List Answer) × Completes g.N.Answering.gives l.fn.self (take l.event-index l.events) answers l.self;
   checked : IsChecked g.N.Answering.gives l.fn.self → IsChecked g.N.Answering.gives l.self;
   kept : AreKept g.N.Answering.takes g.N.Answering.gives l.self;
 }
