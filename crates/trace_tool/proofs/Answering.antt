@@ -1,4 +1,4 @@
--- From the bytes that were sent to the answer of a command.
+-- What a run and a command line answer.
 use Rattle.std.proofs.Common.{◌≡◌, ℕ, ◌≤◌, inl, inr, true, false, List, [], ◌∷◌, length, Option, Result, Ok, Err, sym, ap, ◌∙◌, subst, arith}
 use Rattle.std.specs.Prelude.{IfErr}
 use Rattle.certificate_lang.specs.declared.certificate.Certificate.{Certificate}
@@ -9,29 +9,23 @@ use Rattle.native_slots.specs.FaultNumbers.{number_of}
 use Rattle.native_slots.specs.Fitting.{Fit}
 use Rattle.script_lang.specs.declared.event.Event.{Event}
 use Rattle.machine_rules.specs.Natives.{NativeAnswers}
-use Rattle.qt_runtime.specs.Checked.{StopsAtLimit}
+use Rattle.machine_rules.specs.Good.{HasArguments, Spares, IsAcyclic, AreSettled}
+use Rattle.checked_runs.specs.Claims.{IsTypedStep}
+use Rattle.qt_runtime.specs.Checked.{Claims, InEachRun, StopsAtLimit}
 use Rattle.qt_runtime.specs.Seen.{Seen, begun}
 use Rattle.machine_state.specs.declared.fault.Fault.{Fault}
-use Rattle.trace_tool.specs.Commands.{Answers, EndsAtLimit, AreNotRunnable, AreRead, AreChecked, MayNotRun, CommandWrites, InputWrites, MetaWrites, CertifyWrites, CheckWrites, CheckedRunWrites, RunWrites, of_closures, not_fit, other_texts, does, read, unread, memory}
+use Rattle.program_commands.specs.Commands.{Answers, MetaWrites, CertifyWrites, CheckWrites}
+use Rattle.trace_tool.specs.Commands.{EndsAtLimit, AreNotRunnable, AreRead, AreChecked, MayNotRun, CommandWrites, InputWrites, CheckedRunWrites, RunWrites, of_closures, not_fit, other_texts, does, read, unread, memory}
 use Rattle.trace_tool.specs.Cut.{AreTexts}
-use Rattle.trace_tool.specs.Refusals.{memory_line, usage_line}
+use Rattle.program_commands.specs.Refusals.{memory_line, usage_line}
 use Rattle.trace_tool.specs.Words.{IsCommand}
-use Rattle.trace_tool.specs.declared.refusal.Refusal.{Refusal}
-use Rattle.trace_tool.specs.declared.refusal.Refusal.TheVariants.{Numbered}
+use Rattle.program_commands.specs.declared.refusal.Refusal.{Refusal}
+use Rattle.program_commands.specs.declared.refusal.Refusal.TheVariants.{Numbered}
 use Rattle.trace_tool.specs.declared.input.InputFault.{InputFault}
 use Rattle.trace_tool.specs.declared.input.InputFault.TheVariants.{Unread, Memory}
 use Rattle.trace_tool.specs.declared.words.Command.{Command}
 use Rattle.trace_tool.specs.declared.words.Command.TheVariants.{Meta, Certify, Check, Run, RunUnchecked}
 use Rattle.trace_tool.specs.declared.words.Options.{Options}
-use Rattle.trace_lines.specs.Sent.{SendsWith}
-
-pub answered : {Writes : List ℕ → ℕ → Type 0} {before after : Option (List ℕ)} {bytes : List ℕ} {expected status : ℕ} →
-    Writes bytes expected → SendsWith before after bytes expected status → Answers Writes before after status
-answered {Writes} {before} {after} {bytes} {expected} {status} meaning s = record {
-  bytes = bytes;
-  appended = s.sends.appended;
-  meaning = subst (Writes bytes) (sym s.is) meaning;
-}
 
 -- the texts are read, and the closures don't fit
 pub unfit : {heads : List NativeHead} {program script : List ℕ} {loaded : Loaded} {events : List Event} {refusal : Refusal} (fault : NativeFault) →
@@ -55,6 +49,13 @@ ends_at_limit {N} {before = before} (Err fault) is stops =
       | inl limit ↦ limit
       | inr stopped ↦ let no : true ≡ false = sym stopped ∙ ap (λ (m : Seen N). m.stopped) is in absurd (cc no)
     ]
+
+-- the claims on a machine that is known
+pub claims_of : {N : Type 0} {gives : N → NativeAnswers} {before machine : Seen N} → before ≡ machine → InEachRun gives before (HasArguments before.program) → InEachRun gives before (λ s t. IsAcyclic t) → InEachRun gives before Spares → InEachRun gives before (λ s t. length t.stack ≤ before.depth) →
+    InEachRun gives before (IsTypedStep before.program) → InEachRun gives before (λ s t. AreSettled t) → Claims gives machine
+claims_of {N} {gives} {before} is arguments acyclic spared shallow typed settled =
+    let claims : Claims gives before = record { arguments = arguments; acyclic = acyclic; spared = spared; shallow = shallow; typed = typed; settled = settled } in
+    subst (λ (m : Seen N). Claims gives m) is claims
 
 pub read_done : {N : Type 0} {gives : N → NativeAnswers} {heads : List NativeHead} {natives : N} {words : List (List ℕ)} {found : Result (List ℕ) InputFault} {command : Command} {input : List ℕ} {before after : Option (List ℕ)} {status : ℕ} →
     IsCommand words command → found ≡ Ok input → Answers (InputWrites gives heads natives command input) before after status → Answers (CommandWrites gives heads natives words found) before after status

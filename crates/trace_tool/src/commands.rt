@@ -1,19 +1,17 @@
 ghost use Rattle.std.specs.Prelude.{◌≡◌, map, IfOk};
-ghost use Rattle.trace_tool.specs.Commands.{Answers, AnswersCommand, CommandWrites, InputWrites, read_of};
-ghost use Rattle.trace_tool.specs.Refusals.{usage_line};
+ghost use Rattle.program_commands.specs.Commands.{Answers};
+ghost use Rattle.trace_tool.specs.Commands.{AnswersCommand, CommandWrites, InputWrites, read_of};
+ghost use Rattle.program_commands.specs.Refusals.{usage_line};
 ghost use Rattle.trace_lines.specs.Sent.{SendsWith};
 ghost use Rattle.trace_tool.specs.Words.{IsCommand, IsWithinLimits};
 ghost use Rattle.trace_tool.specs.declared.words.Command.{Command as ACommand};
 
-use crate::certifying::certify;
-use crate::checks::check;
 use crate::cut::{one_text, three_texts, two_texts};
-use crate::description::meta;
 use crate::input::{InputFault, LARGEST_INPUT, read_input};
-use crate::refusal::{Refusal, UNDONE};
-use crate::runs::{refuse, run, run_unchecked};
+use crate::runs::{run, run_unchecked};
 use crate::words::Command;
 use native_slots::{Answering, Natives};
+use program_commands::{Refusal, UNDONE, certify, check, meta, refuse};
 use std::alloc::Global;
 use std::io::{Read, Write};
 use trace_lines::WriteFault;

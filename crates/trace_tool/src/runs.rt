@@ -1,13 +1,15 @@
-ghost use Rattle.std.specs.Prelude.{◌<◌, ◌≤◌, ◌^◌, map, IfOk, MatchResult};
-ghost use Rattle.trace_tool.specs.Commands.{Loads, IsRefused, AreRead, AreRefused, AreChecked, AreUnchecked};
-ghost use Rattle.trace_tool.specs.Commands.{RunWrites, CheckedRunWrites, Answers, run_text, run_status};
-ghost use Rattle.trace_tool.specs.Refusals.{refusal_line, refusal_status};
+ghost use Rattle.std.specs.Prelude.{◌<◌, ◌≤◌, ◌^◌, List, map, IfOk, MatchResult};
+ghost use Rattle.meta_model.specs.Loaded.{Loaded};
+ghost use Rattle.certificate_lang.specs.declared.certificate.Certificate.{Certificate};
+ghost use Rattle.script_lang.specs.declared.event.Event.{Event as AnEvent};
+ghost use Rattle.program_commands.specs.Commands.{Answers};
+ghost use Rattle.trace_tool.specs.Accepted.{AcceptedWrites};
+ghost use Rattle.trace_tool.specs.Commands.{AreRead, AreRefused, AreChecked, AreUnchecked};
+ghost use Rattle.trace_tool.specs.Commands.{RunWrites, CheckedRunWrites, Accepts, run_text, run_status};
 ghost use Rattle.trace_lines.specs.Sent.{SendsWith};
 
-use crate::checks::load_certified;
-use crate::refusal::Refusal;
-use class_lang::read_program;
 use native_slots::{Answering, Natives};
+use program_commands::{Refusal, load_certified, load_program, refuse};
 use qt_runtime::{Entry, Event, Fault, Machine, Meta, read_script};
 use rank_check::{Checked, check as judge};
 use sqlite_items::Items;
@@ -23,6 +25,7 @@ const FAULT: u8 = 4;
 /// At most as many activations nest as the certificate's bound says, and at most `steps` rules are used (1 to 2^63 - 1).
 /// The answer is the exit status: 0 after a whole run, 4 after a fault, 3 where the certificate isn't valid, 2 where a
 /// text or a native is refused, 1 for want of memory outside the run.
+/// Where it accepts, as `Accepts` says, the run's text is written, or `memory`, and nothing is refused.
 /// There is a `WriteFault` only where the writer failed; nothing is written after that.
 pub fn run<W: Write>(
     alloc: Global,
@@ -34,8 +37,13 @@ pub fn run<W: Write>(
     w: &mut W,
 ) -> Result<u8, WriteFault>
     requires steps { (1 ≤ steps) × (steps < 2 ^ 63) }
-    ensures { let heads = map (λ slot. slot.head) natives.slots.items in
+    ensures written { let heads = map (λ slot. slot.head) natives.slots.items in
         let Writes = CheckedRunWrites ⟦<Natives as Answering>⟧.gives heads natives program.now certificate.now script.now steps in
+        IfOk result (λ status. Answers Writes (W.contents w.old) (W.contents w.new) status) }
+    ensures accepted { let heads = map (λ slot. slot.head) natives.slots.items in
+        (loaded : Loaded) (read : Certificate) (events : List AnEvent) →
+        Accepts heads program.now certificate.now script.now loaded read events →
+        let Writes = AcceptedWrites ⟦<Natives as Answering>⟧.gives natives loaded read events steps in
         IfOk result (λ status. Answers Writes (W.contents w.old) (W.contents w.new) status) }
 {
     let (checked, events) = match load_checked(alloc, program, certificate, script) {
@@ -113,27 +121,6 @@ fn load(alloc: Global, program: &[u8], script: &[u8]) -> Result<(Meta, Items<Eve
     let meta = load_program(alloc, program)?;
     let events = read_script(alloc, script)?;
     Ok((meta, events))
-}
-
-/// Reads and loads a program.
-pub fn load_program(alloc: Global, program: &[u8]) -> Result<Meta, Refusal>
-    ensures { MatchResult result (Loads program.now) (IsRefused program.now) }
-{
-    let program = read_program(alloc, program)?;
-    let meta = Meta::build(alloc, &program)?;
-    Ok(meta)
-}
-
-/// Writes a refusal's line.
-pub fn refuse<W: Write>(alloc: Global, refusal: &Refusal, w: &mut W) -> Result<u8, WriteFault>
-    ensures { IfOk result (λ status.
-        SendsWith (W.contents w.old) (W.contents w.new)
-        (refusal_line refusal.now) (refusal_status refusal.now) status) }
-{
-    let mut output = Output::new(alloc);
-    refusal.put(&mut output, w)?;
-    output.finish(w)?;
-    Ok(refusal.status())
 }
 
 /// Writes the trace of a run, and the fault that stopped it.

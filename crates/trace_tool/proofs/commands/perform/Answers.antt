@@ -1,6 +1,7 @@
 use Rattle.std.proofs.Common.{◌<◌, ◌≤◌, length, arith}
 use Rattle.std.proofs.lemmas.Result.{IfOk-weaker}
-use Rattle.trace_tool.proofs.Answering.{answered, meta_done, meta_undone, certify_done, certify_undone, check_done, check_undone, run_done, run_undone, unchecked_done, unchecked_undone}
+use Rattle.program_commands.proofs.Answering.{answered}
+use Rattle.trace_tool.proofs.Answering.{meta_done, meta_undone, certify_done, certify_undone, check_done, check_undone, run_done, run_undone, unchecked_done, unchecked_undone}
 use Rattle.trace_tool.specs.Commands.{large}
 use Rattle.trace_tool.proofs.commands.perform.Goals as goal
 
@@ -56,7 +57,7 @@ returns-in-Some-three_texts g c =
     let few : length c.args.input.now ≤ 67108864 = omega (arith, c.if-input-gt-LARGEST_INPUT.false) in
     IfOk-weaker c.run.result _ _
     (λ status a. record { bytes = a.bytes; appended = a.appended; meaning = run_done c.in-Run.steps c.in-Run.is few c.in-Some-three_texts.ensures.cut a.meaning })
-    c.run.ensures
+    c.run.ensures.written
 
 pub returns-in-Run : goal.returns-in-Run
 returns-in-Run g c =

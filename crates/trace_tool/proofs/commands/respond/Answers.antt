@@ -1,6 +1,7 @@
 use Rattle.std.proofs.Common.{Err, ap, refl, ◌∙◌}
 use Rattle.std.proofs.lemmas.Result.{IfOk-weaker}
-use Rattle.trace_tool.proofs.Answering.{answered, memory_done, read_done, unread_done}
+use Rattle.program_commands.proofs.Answering.{answered}
+use Rattle.trace_tool.proofs.Answering.{memory_done, read_done, unread_done}
 use Rattle.trace_lines.proofs.Sending.{none_sent}
 use Rattle.trace_tool.specs.Commands.{read_of, unknown}
 use Rattle.trace_tool.proofs.commands.respond.Goals as goal

@@ -1,5 +1,6 @@
 use Rattle.std.proofs.lemmas.Result.{IfOk-weaker}
-use Rattle.trace_tool.proofs.Answering.{answered, unfit}
+use Rattle.program_commands.proofs.Answering.{answered}
+use Rattle.trace_tool.proofs.Answering.{unfit}
 use Rattle.trace_tool.specs.Commands.{refused, of_texts, ran, memory}
 use Rattle.trace_tool.proofs.runs.run_unchecked.Goals as goal
 

@@ -3,12 +3,12 @@
 ghost use Rattle.std.specs.Prelude.{◌≡◌, ◌++◌, codes, IfOk, OnOk};
 ghost use Rattle.trace_lines.specs.CertificateLines.{certificate_text};
 ghost use Rattle.trace_lines.specs.Sent.{Adds, SendsWith};
-ghost use Rattle.trace_tool.specs.Commands.{CertifyWrites, Answers};
+ghost use Rattle.program_commands.specs.Commands.{CertifyWrites, Answers};
 ghost use Rattle.typing.specs.declared.spot.Spot.TheVariants.{Binding};
-ghost use Rattle.trace_tool.specs.Reasons.{spot_text, shown_by, reason_line, reason_status};
+ghost use Rattle.program_commands.specs.Reasons.{spot_text, shown_by, reason_line, reason_status};
 
+use crate::loading::{load_program, refuse};
 use crate::refusal::{DENIED, UNDONE};
-use crate::runs::{load_program, refuse};
 use effect_scan::Node;
 use meta_objects::Meta;
 use rank_check::{Certificate, Spot};

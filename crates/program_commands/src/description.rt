@@ -1,11 +1,11 @@
 //! The command `meta`.
 
 ghost use Rattle.std.specs.Prelude.{IfOk};
-ghost use Rattle.trace_tool.specs.Commands.{MetaWrites, Answers};
+ghost use Rattle.program_commands.specs.Commands.{MetaWrites, Answers};
 ghost use Rattle.trace_lines.specs.MetaLines.{meta_text};
 ghost use Rattle.trace_lines.specs.Sent.{SendsWith};
 
-use crate::runs::{load_program, refuse};
+use crate::loading::{load_program, refuse};
 use meta_objects::Meta;
 use std::alloc::Global;
 use std::io::Write;

@@ -1,6 +1,6 @@
 use Rattle.std.proofs.lemmas.Result.{err_from_is_err_and}
-use Rattle.trace_tool.specs.Commands.{uncertified_program, uncertified}
-use Rattle.trace_tool.proofs.checks.load_certified.Goals as goal
+use Rattle.program_commands.specs.Loading.{uncertified_program, uncertified}
+use Rattle.program_commands.proofs.loading.load_certified.Goals as goal
 
 pub returns-in_err-meta : goal.returns-in_err-meta
 returns-in_err-meta c =

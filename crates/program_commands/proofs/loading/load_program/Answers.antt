@@ -1,6 +1,6 @@
 use Rattle.std.proofs.lemmas.Result.{err_from_is_err_and}
-use Rattle.trace_tool.specs.Commands.{text, load}
-use Rattle.trace_tool.proofs.runs.load_program.Goals as goal
+use Rattle.program_commands.specs.Loading.{text, load}
+use Rattle.program_commands.proofs.loading.load_program.Goals as goal
 
 pub returns-in_err-program : goal.returns-in_err-program
 returns-in_err-program c =

@@ -1,14 +1,13 @@
 //! Programs with their certificates.
 
 ghost use Rattle.std.specs.Prelude.{IfOk, MatchResult};
-ghost use Rattle.trace_tool.specs.Commands.{AreCertified, AreUncertified, AreValid, AreInvalid, CheckWrites, Answers};
-ghost use Rattle.trace_tool.specs.Refusals.{yes_line};
+ghost use Rattle.program_commands.specs.Commands.{CheckWrites, Answers};
+ghost use Rattle.program_commands.specs.Loading.{AreValid, AreInvalid};
+ghost use Rattle.program_commands.specs.Refusals.{yes_line};
 ghost use Rattle.trace_lines.specs.Sent.{SendsWith};
 
+use crate::loading::{load_certified, refuse};
 use crate::refusal::Refusal;
-use crate::runs::{load_program, refuse};
-use certificate_lang::{Certificate, read_certificate};
-use qt_runtime::Meta;
 use rank_check::{Checked, check as judge};
 use std::alloc::Global;
 use std::io::Write;
@@ -45,21 +44,6 @@ fn load_valid(alloc: Global, program: &[u8], certificate: &[u8]) -> Result<Check
     let (meta, certificate) = load_certified(alloc, program, certificate)?;
     let checked = judge(alloc, meta, certificate)?;
     Ok(checked)
-}
-
-/// Reads and loads a program, and reads its certificate.
-pub fn load_certified(
-    alloc: Global,
-    program: &[u8],
-    certificate: &[u8],
-) -> Result<(Meta, Certificate), Refusal>
-    ensures { MatchResult result
-        (λ loaded. AreCertified program.now certificate.now loaded.0 loaded.1)
-        (AreUncertified program.now certificate.now) }
-{
-    let meta = load_program(alloc, program)?;
-    let certificate = read_certificate(alloc, certificate)?;
-    Ok((meta, certificate))
 }
 
 /// Writes that a certificate is valid.

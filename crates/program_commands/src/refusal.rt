@@ -1,6 +1,6 @@
 ghost use Rattle.std.specs.Prelude.{◌≡◌, OnOk};
 ghost use Rattle.trace_lines.specs.Sent.{Adds};
-ghost use Rattle.trace_tool.specs.Refusals.{numbered, refusal_line, refusal_status};
+ghost use Rattle.program_commands.specs.Refusals.{numbered, refusal_line, refusal_status};
 
 use certificate_lang::CertificateFault;
 use class_lang::TextFault;
@@ -77,7 +77,7 @@ impl Refusal {
 impl From<TextFault> for Refusal {
     ghost use Rattle.std.specs.Prelude.{◌≡◌};
     ghost use Rattle.class_lang.specs.Reads.{number_of};
-    ghost use Rattle.trace_tool.specs.Refusals.{numbered};
+    ghost use Rattle.program_commands.specs.Refusals.{numbered};
 
     ghost from_gives = { λ fault refusal. refusal ≡ numbered (number_of fault) };
 
@@ -89,7 +89,7 @@ impl From<TextFault> for Refusal {
 impl From<MetaFault> for Refusal {
     ghost use Rattle.std.specs.Prelude.{◌≡◌};
     ghost use Rattle.meta_model.specs.FaultNumbers.{number_of};
-    ghost use Rattle.trace_tool.specs.Refusals.{numbered};
+    ghost use Rattle.program_commands.specs.Refusals.{numbered};
 
     ghost from_gives = { λ fault refusal. refusal ≡ numbered (number_of fault) };
 
@@ -101,7 +101,7 @@ impl From<MetaFault> for Refusal {
 impl From<NativeFault> for Refusal {
     ghost use Rattle.std.specs.Prelude.{◌≡◌};
     ghost use Rattle.native_slots.specs.FaultNumbers.{number_of};
-    ghost use Rattle.trace_tool.specs.declared.refusal.Refusal.TheVariants.{Numbered};
+    ghost use Rattle.program_commands.specs.declared.refusal.Refusal.TheVariants.{Numbered};
 
     ghost from_gives = { λ fault refusal. refusal ≡ Numbered (number_of fault) };
 
@@ -113,7 +113,7 @@ impl From<NativeFault> for Refusal {
 impl From<CertificateFault> for Refusal {
     ghost use Rattle.std.specs.Prelude.{◌≡◌};
     ghost use Rattle.certificate_lang.specs.Reads.{number_of};
-    ghost use Rattle.trace_tool.specs.Refusals.{numbered};
+    ghost use Rattle.program_commands.specs.Refusals.{numbered};
 
     ghost from_gives = { λ fault refusal. refusal ≡ numbered (number_of fault) };
 
@@ -125,7 +125,7 @@ impl From<CertificateFault> for Refusal {
 impl From<No> for Refusal {
     ghost use Rattle.std.specs.Prelude.{◌≡◌};
     ghost use Rattle.rank_check.specs.Checks.{number_of};
-    ghost use Rattle.trace_tool.specs.Refusals.{denied};
+    ghost use Rattle.program_commands.specs.Refusals.{denied};
 
     ghost from_gives = { λ no refusal. refusal ≡ denied (number_of no) };
 
@@ -139,7 +139,7 @@ impl From<No> for Refusal {
 
 impl From<ScriptFault> for Refusal {
     ghost use Rattle.std.specs.Prelude.{◌≡◌};
-    ghost use Rattle.trace_tool.specs.Refusals.{of_script};
+    ghost use Rattle.program_commands.specs.Refusals.{of_script};
 
     ghost from_gives = { λ fault refusal. refusal ≡ of_script fault };
 

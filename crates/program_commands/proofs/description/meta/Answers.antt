@@ -1,7 +1,7 @@
 use Rattle.std.proofs.lemmas.Result.{IfOk-weaker}
-use Rattle.trace_tool.proofs.Answering.{answered}
-use Rattle.trace_tool.specs.Commands.{refused, wrote}
-use Rattle.trace_tool.proofs.description.meta.Goals as goal
+use Rattle.program_commands.proofs.Answering.{answered}
+use Rattle.program_commands.specs.Commands.{refused, wrote}
+use Rattle.program_commands.proofs.description.meta.Goals as goal
 
 pub returns-in-Ok : goal.returns-in-Ok
 returns-in-Ok g c = IfOk-weaker c.describe.result _ _ (λ status s. answered (wrote c.in-Ok.meta c.in-Ok.ensures) s) c.describe.ensures

@@ -9,7 +9,7 @@ use Rattle.rank_make.specs.declared.why.Why.{Why}
 use Rattle.rank_make.specs.declared.why.Why.TheVariants.{Wire, BodyType, Cycle, DestroyPath, TooHigh, Memory}
 use Rattle.trace_lines.specs.Lines.{newline}
 use Rattle.trace_lines.specs.NodeLines.{text_of_node, text_of_nodes}
-use Rattle.trace_tool.specs.Refusals.{memory_line}
+use Rattle.program_commands.specs.Refusals.{memory_line}
 
 -- what isn't there has no text
 abbrev pub site_text : Option MetaSite → List ℕ

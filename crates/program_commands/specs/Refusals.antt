@@ -2,8 +2,8 @@
 use Rattle.std.specs.Prelude.{ℕ, List, ◌++◌, codes, decimal, Option, Some, None}
 use Rattle.script_lang.specs.declared.fault.ScriptFault.{ScriptFault}
 use Rattle.script_lang.specs.declared.fault.ScriptFault.TheVariants as script
-use Rattle.trace_tool.specs.declared.refusal.Refusal.{Refusal}
-use Rattle.trace_tool.specs.declared.refusal.Refusal.TheVariants.{Numbered, BadLine, Denied, Memory}
+use Rattle.program_commands.specs.declared.refusal.Refusal.{Refusal}
+use Rattle.program_commands.specs.declared.refusal.Refusal.TheVariants.{Numbered, BadLine, Denied, Memory}
 use Rattle.trace_lines.specs.Lines.{newline}
 
 -- the refusal of this number; want of memory has none

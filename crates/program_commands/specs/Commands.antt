@@ -1,0 +1,42 @@
+-- What the commands on programs and certificates write, and their exit status (docs/commands.md). A definition says which
+-- bytes and which status belong together. Want of memory may come at any time; that it comes only where a growth of memory
+-- was refused is not stated here.
+use Rattle.std.specs.Prelude.{ℕ, List, Option, Ok, Err}
+use Rattle.std.specs.Io.KnownBytes.{Appends}
+use Rattle.certificate_lang.specs.declared.certificate.Certificate.{Certificate}
+use Rattle.meta_model.specs.Loaded.{Loaded}
+use Rattle.rank_make.specs.Makes.{Makes}
+use Rattle.rank_make.specs.declared.why.Why.{Why}
+use Rattle.program_commands.specs.declared.refusal.Refusal.{Refusal}
+use Rattle.trace_lines.specs.CertificateLines.{certificate_text}
+use Rattle.trace_lines.specs.MetaLines.{meta_text}
+use Rattle.program_commands.specs.Reasons.{reason_line, reason_status}
+use Rattle.program_commands.specs.Refusals.{memory_line, yes_line, refusal_line, refusal_status}
+use Rattle.program_commands.specs.Loading.{Loads, IsRefused, AreInvalid, AreValid}
+
+-- `check`, from the texts of the program and the certificate: the bytes that are written, and the exit status
+pub data CheckWrites (program certificate : List ℕ) : List ℕ → ℕ → Type 0 where
+  not_valid : (refusal : Refusal) → AreInvalid program certificate refusal → CheckWrites program certificate (refusal_line refusal) (refusal_status refusal)
+  agreed : (loaded : Loaded) (read : Certificate) → AreValid program certificate loaded read → CheckWrites program certificate yes_line 0
+  memory : CheckWrites program certificate memory_line 1
+
+-- `certify`, from the program's text: the bytes that are written, and the exit status
+pub data CertifyWrites (program : List ℕ) : List ℕ → ℕ → Type 0 where
+  refused : (refusal : Refusal) → IsRefused program refusal → CertifyWrites program (refusal_line refusal) (refusal_status refusal)
+  made : (loaded : Loaded) (certificate : Certificate) → Loads program loaded → Makes loaded (Ok certificate) →
+      CertifyWrites program (certificate_text certificate) 0
+  not_made : (loaded : Loaded) (why : Why) → Loads program loaded → Makes loaded (Err why) →
+      CertifyWrites program (reason_line loaded why) (reason_status why)
+  memory : CertifyWrites program memory_line 1
+
+-- `meta`, from the program's text: the bytes that are written, and the exit status
+pub data MetaWrites (program : List ℕ) : List ℕ → ℕ → Type 0 where
+  refused : (refusal : Refusal) → IsRefused program refusal → MetaWrites program (refusal_line refusal) (refusal_status refusal)
+  wrote : (loaded : Loaded) → Loads program loaded → MetaWrites program (meta_text loaded) 0
+  memory : MetaWrites program memory_line 1
+
+-- Bytes that belong to the status were added to what the writer held.
+pub record Answers (Writes : List ℕ → ℕ → Type 0) (before after : Option (List ℕ)) (status : ℕ) : Type 0 where
+  pub bytes : List ℕ
+  pub appended : Appends before after bytes
+  pub meaning : Writes bytes status
