@@ -1,7 +1,6 @@
-//! Worked examples of what members may lead to, and of certificates, beside what they have to be.
+//! Worked examples of what only a direct call shows of checks: what members may lead to at once, and what is kept of a program
+//! with a valid certificate.
 #![tactic(auto)]
 
-#[cfg(test)]
-mod certificates;
 #[cfg(test)]
 mod tests;

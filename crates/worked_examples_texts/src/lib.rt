@@ -1,4 +1,5 @@
-//! Worked examples of texts: signatures, values and expressions, beside what they have to be.
+//! Worked examples of what only a direct call shows of texts: the trees and tokens that they stand for, normal forms, the types
+//! and values of expressions, and colours.
 #![tactic(auto)]
 
 #[cfg(test)]

@@ -1,8 +1,6 @@
-//! Expected texts are worked out by hand from docs/language.md.
+//! Expected answers are worked out by hand from docs/language.md, and of traces from docs/traces.md.
 
-mod bindings;
 mod bodies;
-mod natives;
+mod colours;
 mod normal_forms;
-mod scripts;
-mod types;
+mod types_and_values;

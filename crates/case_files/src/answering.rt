@@ -1,0 +1,46 @@
+//! What command lines answer.
+
+use doubler::{class, doubled, effects, twice};
+use explained_commands::{KeptReader, TracedWriter, WriteFault, explained_command};
+use native_slots::{NativeSlot, Natives};
+use signatures::Value;
+use std::alloc::Global;
+use std::io;
+
+/// Does what the words say on an input, with the program's own native: what is written on standard output goes to
+/// `output`, what on standard error to `errors`. Answers the exit status.
+pub fn answered(
+    alloc: Global,
+    words: &[&str],
+    input: &[u8],
+    tells_refusals: bool,
+    output: &mut Vec<u8>,
+    errors: &mut Vec<u8>,
+) -> io::Result<u8> {
+    let class = class(alloc)?;
+    let sig = twice(alloc)?;
+    let effects = effects(alloc)?;
+    let work = Box::new(alloc, move |arguments: &[Value], _: &[Value]| {
+        match arguments {
+            [Value::Int(number)] => doubled(alloc, number.saturating_mul(2)),
+            _ => Ok(Vec::new(alloc)),
+        }
+    })?;
+    let mut slots = Vec::new(alloc);
+    slots.push(NativeSlot::new(class, sig, effects, work))?;
+    let natives = Natives::of(slots);
+    let mut reader = KeptReader::new(alloc, input);
+    let mut writer = TracedWriter::new(alloc, output);
+    match explained_command(
+        alloc,
+        words,
+        &mut reader,
+        natives,
+        &mut writer,
+        errors,
+        tells_refusals,
+    ) {
+        Ok(status) => Ok(status),
+        Err(WriteFault::Failed(fault)) => Err(fault),
+    }
+}

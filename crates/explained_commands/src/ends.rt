@@ -1,0 +1,71 @@
+//! What a command writes on standard output, what is told of its end on standard error, and its exit status.
+
+ghost use Rattle.std.specs.Prelude.{◌≡◌, map, false, IfOk};
+ghost use Rattle.trace_tool.specs.Commands.{AnswersCommand};
+
+use explanations::{Answer, KeptReader, explanation};
+use native_slots::{Answering, Natives};
+use run_reports::{Seen, TracedWriter, fault_report, refusal_report};
+use std::alloc::{AllocError, Global};
+use std::io::{Read, Write};
+use trace_tool::{WriteFault, command};
+
+/// The exit status of a command that did what it was asked.
+const SUCCESS: u8 = 0;
+
+/// Does what the words say, as [`command`] does, and then writes to `errors` what a person needs of this end: why events were
+/// refused, where `tells_refusals` asks for it, and what another answer than success means. Where that fails nothing else
+/// changes, and after a `WriteFault` nothing is told.
+pub fn explained_command<R: Read + Drop, W: Write + Drop, E: Write>(
+    alloc: Global,
+    words: &[&str],
+    reader: &mut KeptReader<R>,
+    natives: Natives,
+    writer: &mut TracedWriter<W>,
+    errors: &mut E,
+    tells_refusals: bool,
+) -> Result<u8, WriteFault>
+    ensures answers { let said = map (λ word. word.now) words.now in
+        let heads = map (λ slot. slot.head) natives.slots.items in
+        IfOk result (λ status.
+        AnswersCommand ⟦<Natives as Answering>⟧.gives heads natives said (R.remaining reader.old.inner)
+        (W.contents writer.old.inner) (W.contents writer.new.inner) status) }
+    ensures silent { result ≡ Ok 0 → tells_refusals ≡ false → errors.new ≡ errors.old }
+{
+    let status = command(alloc, words, reader, natives, writer)?;
+    let input = reader.kept();
+    let seen = writer.seen();
+    if tells_refusals {
+        tell(errors, refusal_report(alloc, input, seen));
+    }
+    if status != SUCCESS {
+        explain(alloc, words, input, seen, errors);
+    }
+    Ok(status)
+}
+
+/// Writes what the last line of the output means for this input, if it is an answer that is explained.
+fn explain<E: Write>(
+    alloc: Global,
+    words: &[&str],
+    input: Option<&[u8]>,
+    seen: &Seen,
+    errors: &mut E,
+) {
+    let Some(answer) = Answer::of(seen.last_line()) else {
+        return;
+    };
+    if let Ok(text) = explanation(alloc, words, input, answer) {
+        errors.write_all(text.as_bytes()).ok();
+    }
+    if let Answer::Fault(number) = answer {
+        tell(errors, fault_report(alloc, input, seen, number));
+    }
+}
+
+/// Writes a report, if there is one.
+fn tell<E: Write>(errors: &mut E, report: Result<Option<String>, AllocError>) {
+    if let Ok(Some(text)) = report {
+        errors.write_all(text.as_bytes()).ok();
+    }
+}

@@ -1,0 +1,9 @@
+//! Commands together with what a person is told of their ends.
+#![tactic(auto)]
+
+mod ends;
+
+pub use ends::explained_command;
+pub use explanations::KeptReader;
+pub use run_reports::{EXPLAIN, TracedWriter, is_asked};
+pub use trace_tool::WriteFault;
