@@ -1,0 +1,98 @@
+#!/usr/bin/env python3
+"""Measures the built program on inputs that are made here, for docs/tested.md: user seconds and the most memory of each, as
+the least of some runs. Nothing of it is part of the gate.
+Usage: bench/measure.py [ROW..]   (default: every row; the program is built first, as ./gammonfig builds it)"""
+import os
+import subprocess
+import sys
+import tempfile
+
+ROOT = os.path.dirname(os.path.dirname(os.path.abspath(__file__)))
+PROGRAM = os.path.join(os.environ.get("XDG_CACHE_HOME") or os.path.expanduser("~/.cache"), "gammonfig", "gammonfig")
+RUN = ["run", "--unchecked", "256", "--steps", "9000000000"]
+TIMES = 3
+
+
+def name(number):
+    """A short name that is no reserved word: letters for the number, and a 0."""
+    letters = "abcdefghijklmnopqrstuvwxyzABCDEFGHIJKLMNOPQRSTUVWXYZ"
+    text, number = "", number + 1
+    while number:
+        number -= 1
+        text = letters[number % 52] + text
+        number //= 52
+    return text + "0"
+
+
+def joined(program, lines):
+    return program + "\n%%\n" + "\n".join(lines) + "\n"
+
+
+FOLLOWED = "class X { property int x; } class Y { property int y; } class Q { property int q; } binding b Y.y (X a) = a.x + 1;"
+NODES = "class N { } owns N N;"
+
+
+def followers(count):
+    return ["new x X", "new q Q"] + [f"new {name(i)} Y\nbind b {name(i)} x" for i in range(count)]
+
+
+def children(count):
+    return ["new p_ N", "new q_ N"] + [f"new {name(i)} N\nadopt p_ {name(i)}" for i in range(count)]
+
+
+def chain(length, writes):
+    classes = " ".join(f"class C{i} {{ property int p; }}" for i in range(length + 1))
+    sites = " ".join(f"binding b{i} C{i + 1}.p (C{i} a) = a.p + 1;" for i in range(length))
+    objects = [f"new c{i} C{i}" for i in range(length + 1)] + [f"bind b{i} c{i + 1} c{i}" for i in range(length)]
+    return joined(f"{classes} {sites}", objects + [f"set c0.p {i + 1}" for i in range(writes)])
+
+
+def emissions(slots, count):
+    program = "class A { signal s(int); } class B { property int n; slot f(int v) { set this.n = v; } } wire A s(int) -> B f(int) direct;"
+    objects = ["new a A"] + [f"new {name(i)} B\nconnect a s(int) {name(i)} f(int) direct" for i in range(slots)]
+    return joined(program, objects + [f"emit a.s({i})" for i in range(count)])
+
+
+ROWS = {
+    "followed": lambda: joined(FOLLOWED, followers(1000) + [f"set x.x {i + 1}" for i in range(1000)]),
+    "unrelated": lambda: joined(FOLLOWED, followers(1000) + [f"set q.q {i + 1}" for i in range(20000)]),
+    "unrelated-none": lambda: joined(FOLLOWED, followers(0) + [f"set q.q {i + 1}" for i in range(20000)]),
+    "chain": lambda: chain(60, 20000),
+    "children-moved-last": lambda: joined(NODES, children(24000) + [f"adopt q_ {name(i)}" for i in reversed(range(24000))]),
+    "children-deleted-last": lambda: joined(NODES, children(15000) + [f"delete {name(i)}" for i in reversed(range(15000))]),
+    "created-and-deleted": lambda: joined("class A { }", [f"new {name(i)} A\ndelete {name(i)}" for i in range(45000)]),
+    "created": lambda: joined("class A { }", [f"new {name(i)} A\nblock {name(i)}" for i in range(45000)]),
+    "emissions": lambda: emissions(100, 10000),
+}
+
+
+def measured(path):
+    """The user seconds and the most memory, in MB, of a run on this input."""
+    with open(path, "rb") as text:
+        child = subprocess.Popen([PROGRAM, *RUN], stdin=text, stdout=subprocess.DEVNULL)
+        _, status, usage = os.wait4(child.pid, 0)
+        child.returncode = os.waitstatus_to_exitcode(status)
+    if child.returncode:
+        sys.exit(f"the run on {path} ended with {child.returncode}")
+    return usage.ru_utime, usage.ru_maxrss / 1024
+
+
+def main():
+    rows = sys.argv[1:] or list(ROWS)
+    unknown = [row for row in rows if row not in ROWS]
+    if unknown:
+        sys.exit(f"no such row: {' '.join(unknown)}; there are {' '.join(ROWS)}")
+    built = subprocess.run([f"{ROOT}/gammonfig", *RUN], input=b"%%\n", stdout=subprocess.DEVNULL)
+    if built.returncode:
+        sys.exit("the program can't be built")
+    with tempfile.TemporaryDirectory() as room:
+        for row in rows:
+            path = f"{room}/{row}"
+            with open(path, "w") as text:
+                text.write(ROWS[row]())
+            found = [measured(path) for _ in range(TIMES)]
+            print(f"{row:24} {min(it[0] for it in found):6.2f} s {max(it[1] for it in found):7.1f} MB", flush=True)
+
+
+if __name__ == "__main__":
+    main()
