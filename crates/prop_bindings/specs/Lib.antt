@@ -1,4 +1,5 @@
 pub mod Places
+pub mod Plans
 pub mod Keys
 pub mod Bindings
 pub mod Changes

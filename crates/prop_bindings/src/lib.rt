@@ -13,6 +13,7 @@ mod laws;
 mod numbering;
 mod order;
 mod place;
+mod planned;
 mod preparing;
 mod readers;
 mod sources;
