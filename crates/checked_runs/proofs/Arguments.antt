@@ -38,7 +38,7 @@ use Rattle.machine_state.specs.State.{Step, Run, Act, State, IsIdle, Activation,
 use Rattle.machine_state.specs.Turns.{running, reaches_at_once}
 use Rattle.machine_rules.specs.Connecting.{kept_ends, names_of}
 use Rattle.machine_rules.specs.Destroying.{Dies, NextRule, ChildRule, DestroyRule, living_child, DefersOnce, Schedules}
-use Rattle.machine_rules.specs.Doings.{Doing, Write, Begin, Choose, Connect, Disconnect, Delete, Schedule, TakeAnswer, Nothing, doing_step}
+use Rattle.machine_rules.specs.Operations.{Operation, Write, Begin, Choose, Connect, Disconnect, Delete, Schedule, TakeAnswer, Nothing, operation_of_step}
 use Rattle.machine_rules.specs.Good.{ArgumentsFit, of_living, of_dead, TopFits}
 use Rattle.machine_rules.specs.Judgement.{found as finds, holds as so, becomes, goes_on}
 use Rattle.machine_rules.specs.Natives.{NativeAnswers}
@@ -61,7 +61,7 @@ use Rattle.machine_events.specs.Takes.{judged, Takes as Taking, accepts, refuses
 use Rattle.machine_events.specs.events.Block.{block}
 use Rattle.machine_events.specs.events.Invoke.{invoke}
 use Rattle.machine_events.proofs.Standing.{Invariant}
-use Rattle.checked_runs.specs.code.Invariant.{Rung, BodyStands, Stacked, Holds}
+use Rattle.checked_runs.specs.code.Invariant.{Level, BodyStands, Stacked, Holds}
 use Rattle.checked_runs.specs.code.Promised.{StepIsPromised, AllIsPromised}
 use Rattle.checked_runs.proofs.Giving.{does-give, answer-promised}
 use Rattle.checked_runs.proofs.Given.{given-is, living-is, living-object}
@@ -140,7 +140,7 @@ module _ {p : Loaded} {certificate : Certificate} (valid : IsValid p certificate
 
   -- ---- bodies
 
-  pushes-does : (t : State) (n o m : ℕ) (arguments : List Value) (y : Step) (rest : List Step) (below : List Activation) {x : Node} (b : BodyStands p s.objects o m arguments (y ∷ rest) x) → n ≡ suc (length below) → StepIsPromised p classes o y → AllByRecursion (StepIsPromised p classes o) rest → AllIsPromised p classes below → (d : Doing) → doing_step s.objects o arguments y ≡ Some d → Does p natives s o m arguments rest below d t → Pushes p classes n t
+  pushes-does : (t : State) (n o m : ℕ) (arguments : List Value) (y : Step) (rest : List Step) (below : List Activation) {x : Node} (b : BodyStands p s.objects o m arguments (y ∷ rest) x) → n ≡ suc (length below) → StepIsPromised p classes o y → AllByRecursion (StepIsPromised p classes o) rest → AllIsPromised p classes below → (d : Operation) → operation_of_step s.objects o arguments y ≡ Some d → Does p natives s o m arguments rest below d t → Pushes p classes n t
   pushes-does t n o m arguments y rest below b high one left all (Write x q new) is does = pushes-as (does.settles).gives (record { arguments = λ more. tt; promised = (tt, (left, all)) })
   pushes-does t n o m arguments y rest below b high one left all (Begin x k given) is does =
       let gives = does-give valid sound classes known agree.typed b y (Begin x k given) (b.steps).0 one is in
@@ -228,20 +228,20 @@ module _ {p : Loaded} {certificate : Certificate} (valid : IsValid p certificate
 
   -- ---- all rules
 
-  pushes-at : (t : State) (stack : List Activation) (rungs : List (Rung p certificate)) → s.stack ≡ stack → AllIsPromised p classes stack → Stacked classes s.objects stack rungs → RuleAt p natives s t stack → Pushes p classes (length s.stack) t
-  pushes-at t [] rungs is all st rule = pushes-turn t (subst (AllIsPromised p classes) (sym is) tt) is s.turn rule
+  pushes-at : (t : State) (stack : List Activation) (levels : List (Level p certificate)) → s.stack ≡ stack → AllIsPromised p classes stack → Stacked classes s.objects stack levels → RuleAt p natives s t stack → Pushes p classes (length s.stack) t
+  pushes-at t [] levels is all st rule = pushes-turn t (subst (AllIsPromised p classes) (sym is) tt) is s.turn rule
   pushes-at t (a ∷ below) [] is all st rule = absurd st
-  pushes-at t (Body o m arguments left ∷ below) (r ∷ rungs) is all st rule = pushes-body t (length s.stack) o m arguments left below st.0 (ap (λ (l : List Activation). length l) is) all.0 all.1 rule
-  pushes-at t (Emit o g arguments used last ∷ below) (r ∷ rungs) is all st rule =
+  pushes-at t (Body o m arguments left ∷ below) (r ∷ levels) is all st rule = pushes-body t (length s.stack) o m arguments left below st.0 (ap (λ (l : List Activation). length l) is) all.0 all.1 rule
+  pushes-at t (Emit o g arguments used last ∷ below) (r ∷ levels) is all st rule =
       pushes-emission t (length s.stack) o g arguments used last below (ap (λ (l : List Activation). length l) is) (emitted-on-top is) all.1 (next_used s.objects s.connected.connections o g used last) refl rule
     where
       emitted-on-top : s.stack ≡ Emit o g arguments used last ∷ below → SendsThese p s.objects o g arguments
       emitted-on-top e = (subst (λ (l : List Activation). AllFit p s.objects l) e up.emitted).0
-  pushes-at t (Update places ∷ below) (r ∷ rungs) is all st rule = pushes-update t (length s.stack) places below (ap (λ (l : List Activation). length l) is) all.1 rule
-  pushes-at t (Destroy next torn ∷ below) (r ∷ rungs) is all st rule = pushes-destroy s t below next torn (ap (λ (l : List Activation). length l) is) all.1 rule
+  pushes-at t (Update places ∷ below) (r ∷ levels) is all st rule = pushes-update t (length s.stack) places below (ap (λ (l : List Activation). length l) is) all.1 rule
+  pushes-at t (Destroy next torn ∷ below) (r ∷ levels) is all st rule = pushes-destroy s t below next torn (ap (λ (l : List Activation). length l) is) all.1 rule
 
   pub rule-pushes : (t : State) → AllIsPromised p classes s.stack → Rule p natives s t → Pushes p classes (length s.stack) t
-  rule-pushes t all rule = pushes-at t s.stack held.rungs refl all held.stacked rule
+  rule-pushes t all rule = pushes-at t s.stack held.levels refl all held.stacked rule
 
 -- ---- events
 

@@ -55,7 +55,7 @@ use Rattle.machine_events.specs.events.Invoke.{invoke}
 use Rattle.machine_events.specs.events.Named.{IsLiving}
 use Rattle.checked_runs.specs.code.Invariant.{Stacked, AreClasses, AreOwned, IsOwned, IsWired, IsOf, IsSited, IsCovered, Holds}
 use Rattle.checked_runs.proofs.Nodes.{named-node, property-node, end-node}
-use Rattle.checked_runs.proofs.Ladder.{rung-at}
+use Rattle.checked_runs.proofs.Ladder.{level-at}
 use Rattle.checked_runs.proofs.Given.{given-is, living-is, living-object, adopted-by, length-moved}
 use Rattle.checked_runs.proofs.Worlds.{Leaves, classes-left, all-changed, all-left}
 use Rattle.checked_runs.proofs.Rules.{writes-held, settles-held, begun-held, wired-by, deletes-held, schedules-held}
@@ -187,7 +187,7 @@ module _ {p : Loaded} {certificate : Certificate} (valid : IsValid p certificate
     objects-held : (objects : List Object) → Leaves p classes s.objects objects → Holds p certificate classes (record (accepted s) { objects = objects })
     objects-held objects left = record {
       covered = record { known = classes-left left covered.known; owned = left.children covered.owned; wired = covered.wired; sited = covered.sited };
-      rungs = [];
+      levels = [];
       stacked = idle-stacked classes objects s.stack idle.empty;
     }
 
@@ -197,7 +197,7 @@ module _ {p : Loaded} {certificate : Certificate} (valid : IsValid p certificate
     invoked-held : (t : State) (a : Invocation) (name called : List ℕ) (inputs : List Input) → IsWell p s t → invoke p s a name called inputs (Ok t) → Holds p certificate classes t
     invoked-held t a name called inputs well (goes_on o lives (goes_on m asked (goes_on vs given (goes_on _ fit (becomes b))))) =
         let life = (b.is).life in
-        let r = rung-at valid (node life.class (Method (named m.number))) (named-node sound life.class m.number b.method (b.is).is_method) in
+        let r = level-at valid (node life.class (Method (named m.number))) (named-node sound life.class m.number b.method (b.is).is_method) in
         begun-held valid sound classes (accepted s) t (length s.stack) s.stack o.number b.object m.number b.method vs (b.method).work [] r.0 covered b.is refl r.1 tt stands (omega arith) well.arguments b.gives
 
     blocked-held : {t : State} (name : List ℕ) (on : Bool) → block s name on (Ok t) → Holds p certificate classes t
@@ -240,7 +240,7 @@ module _ {p : Loaded} {certificate : Certificate} (valid : IsValid p certificate
     bound-held t b sited x =
         let life = (x.is).life in
         let class_is : classes b.target.object ≡ Some life.class = (covered.known).lives b.target.object life.class (class-of-lives s.objects b.target.object (x.is).lives) in
-        let r = rung-at valid (node life.class (Property b.target.property)) (property-node sound life.class b.target.property x.property (record { class = (x.is).class; is_class = (x.is).is_class; is = (x.is).is_property })) in
+        let r = level-at valid (node life.class (Property b.target.property)) (property-node sound life.class b.target.property x.property (record { class = (x.is).class; is_class = (x.is).is_class; is = (x.is).is_property })) in
         let all = all-snoc (IsSited p classes) (filter_kept b) b (all-filtered (IsSited p classes) _ s.bindings covered.sited) sited in
         settles-held valid sound classes {s = accepted s} s.stack [] r.0 b.target life.class x.objects (replaced s.bindings b) x.changed covered agree stands tt class_is r.1 x.differ all x.settled
         (λ q z other e. same-elsewhere q z other e) (λ q other none. x.kept q none) x.changes x.settles
@@ -255,8 +255,8 @@ module _ {p : Loaded} {certificate : Certificate} (valid : IsValid p certificate
         ]
 
     event-held : {t : State} (e : Event) → IsWell p s t → judged p s e (Ok t) → HoldsSome t
-    event-held (Loop name) well (goes_on _ free given) = let Family : State → Type 0 = λ u. Holds p certificate classes u in (classes, subst Family (sym (given-is given)) (record { covered = covered; rungs = []; stacked = stands }))
-    event-held (Turn name) well (goes_on home is given) = let Family : State → Type 0 = λ u. Holds p certificate classes u in (classes, subst Family (sym (given-is given)) (record { covered = covered; rungs = []; stacked = stands }))
+    event-held (Loop name) well (goes_on _ free given) = let Family : State → Type 0 = λ u. Holds p certificate classes u in (classes, subst Family (sym (given-is given)) (record { covered = covered; levels = []; stacked = stands }))
+    event-held (Turn name) well (goes_on home is given) = let Family : State → Type 0 = λ u. Holds p certificate classes u in (classes, subst Family (sym (given-is given)) (record { covered = covered; levels = []; stacked = stands }))
     event-held (New name class loop) well (goes_on _ free (goes_on c (finds is) (goes_on home lives (goes_on _ room given)))) =
         let z : Object = fresh name c.number home (initial_values c.it) in
         let l : Life = begun_life c.number home (initial_values c.it) in
@@ -264,20 +264,20 @@ module _ {p : Loaded} {certificate : Certificate} (valid : IsValid p certificate
           with-class (length s.objects) c.number classes,
           subst Family (sym (given-is given)) (record {
             covered = created-covered classes s.objects covered.known c.number (slice_get_within p.classes c.number c.it (is.is).is) z l refl refl refl s.connected.connections s.bindings covered;
-            rungs = [];
+            levels = [];
             stacked = idle-stacked (with-class (length s.objects) c.number classes) (s.objects ++ z ∷ []) s.stack idle.empty;
           }),
         )
     event-held (Adopt parent child) well (goes_on a is_parent (goes_on c is_child (goes_on _ (so owns) (goes_on _ over (goes_on _ home (becomes x)))))) =
         let owned : IsOwned p classes a.number c.number = record { above = (a.it).class; is_above = known-living a (living-is is_parent); below = (c.it).class; is_below = known-living c (living-is is_child); owns = owns } in
         let Family : State → Type 0 = λ u. Holds p certificate classes u in
-        (classes, subst Family (sym x.gives) (adopted-by (λ (l : List Object). Holds p certificate classes (record (accepted s) { objects = l })) (record { covered = covered; rungs = []; stacked = stands }) (objects-held (moved a.number c.number s.objects) (moved-leaves s.objects a.number c.number owned)) x.is))
+        (classes, subst Family (sym x.gives) (adopted-by (λ (l : List Object). Holds p certificate classes (record (accepted s) { objects = l })) (record { covered = covered; levels = []; stacked = stands }) (objects-held (moved a.number c.number s.objects) (moved-leaves s.objects a.number c.number owned)) x.is))
     event-held (Connect e how) well (goes_on f both (goes_on _ (goes_on _ (so covers) rest) given)) =
         let Family : State → Type 0 = λ u. Holds p certificate classes u in (
           classes,
           subst Family (sym (given-is given)) (record {
             covered = record { known = covered.known; owned = covered.owned; wired = all-snoc (IsWired p classes) s.connected.connections _ covered.wired (connection-wired e how (s.connected.last + 1) f both covers); sited = covered.sited };
-            rungs = [];
+            levels = [];
             stacked = stands;
           }),
         )
@@ -286,14 +286,14 @@ module _ {p : Loaded} {certificate : Certificate} (valid : IsValid p certificate
           classes,
           subst Family (sym (given-is given)) (record {
             covered = record { known = covered.known; owned = covered.owned; wired = all-removed (IsWired p classes) (joins_these f.ends) s.connected covered.wired; sited = covered.sited };
-            rungs = [];
+            levels = [];
             stacked = stands;
           }),
         )
     event-held (Set name property i) well (goes_on o lives (goes_on q _ (goes_on v _ (goes_on _ fits (becomes w))))) =
         let life = (w.is).life in
         let class_is : classes o.number ≡ Some life.class = (covered.known).lives o.number life.class (class-of-lives s.objects o.number (w.is).lives) in
-        let r = rung-at valid (node life.class (Property q.number)) (property-node sound life.class q.number w.property (record { class = (w.is).class; is_class = (w.is).is_class; is = (w.is).is_property })) in
+        let r = level-at valid (node life.class (Property q.number)) (property-node sound life.class q.number w.property (record { class = (w.is).class; is_class = (w.is).is_class; is = (w.is).is_property })) in
         (classes, writes-held valid sound classes {s = accepted s} s.stack [] r.0 o.number q.number life.class v covered agree stands tt class_is r.1 w)
     event-held {t} (Bind site target sources) well (goes_on b may (becomes x)) = (classes, bound-held t b (binding-sited site target sources b may) x)
     event-held {t} (EmitEvent name signal inputs) well x = (classes, invoked-held t EmitIt name signal inputs well x)
@@ -303,11 +303,11 @@ module _ {p : Loaded} {certificate : Certificate} (valid : IsValid p certificate
     event-held (DeleteEvent name) well (goes_on o lives given) =
         let it = living-object o (living-is lives) in
         let class = (agree.typed o.number it.0 o.it it.1).is_class in
-        let r = rung-at valid (node (o.it).class Destruction) (end-node sound (o.it).class _ class) in
+        let r = level-at valid (node (o.it).class Destruction) (end-node sound (o.it).class _ class) in
         (classes, (deletes-held valid sound classes (accepted s) _ s.stack [] r.0 o.number (o.it).class covered stands tt r.1 (known-living o (living-is lives)) (itself class) (given-is given)).0)
     event-held {t} (LaterEvent name) well (goes_on o lives (becomes x)) = (classes, (schedules-held valid sound classes (accepted s) t s.stack [] o.number (Some o.it) covered stands x).0)
 
   -- the taking of an event keeps it
   pub takes-held : (s t : State) (e : Event) {a : Answer} → HoldsSome s → Agree p s.objects s.bindings → IsWell p s t → Takes p e a s t → HoldsSome t
   takes-held s t e held agree well (accepts idle x) = event-held s idle held.0 (held.1).covered agree e well x
-  takes-held s t e held agree well (refuses k idle x) = (held.0, record { covered = (held.1).covered; rungs = (held.1).rungs; stacked = (held.1).stacked })
+  takes-held s t e held agree well (refuses k idle x) = (held.0, record { covered = (held.1).covered; levels = (held.1).levels; stacked = (held.1).stacked })

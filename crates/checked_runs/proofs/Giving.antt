@@ -42,7 +42,7 @@ use Rattle.effect_scan.specs.declared.node.Node.{Node}
 use Rattle.certificate_lang.specs.declared.certificate.Certificate.{Certificate}
 use Rattle.rank_check.specs.Valid.{IsValid}
 use Rattle.machine_state.specs.State.{State, Step, Run, Ask, Act, Activation}
-use Rattle.machine_rules.specs.Doings.{Doing, Write, Begin, Choose, Connect, Disconnect, Delete, Schedule, TakeAnswer, Nothing, on_object, chosen_by, doing, doing_action, doing_step}
+use Rattle.machine_rules.specs.Operations.{Operation, Write, Begin, Choose, Connect, Disconnect, Delete, Schedule, TakeAnswer, Nothing, on_object, chosen_by, operation, operation_of_action, operation_of_step}
 use Rattle.machine_rules.specs.Natives.{NativeAnswers}
 use Rattle.machine_rules.specs.Paths.{path_value, value_of, values_of}
 use Rattle.machine_rules.specs.Rules.{Answers}
@@ -112,7 +112,7 @@ all-plain-read p objects (v ∷ vs) (T ∷ Ts) h =
 -- ---- statements
 
 -- what is written is of the property's type, and what a method begins with of its parameters' types
-abbrev pub GivesTyped : Loaded → List Object → Doing → Type 0
+abbrev pub GivesTyped : Loaded → List Object → Operation → Type 0
 GivesTyped p objects (Write y q new) = (z : Object) (property : MetaProperty) → IsField p objects y q z property → ReadsAs p objects new property.kind
 GivesTyped p objects (Begin y n given) = (z : Object) (method : MetaMethod) → IsMember p objects y n z method → ReadAs p objects given method.kinds
 GivesTyped p objects (Choose block) = Unit {0}
@@ -143,11 +143,11 @@ module _ {p : Loaded} {objects : List Object} (sound : IsSound p) where
       subst (λ (w : MetaMethod). ReadAs p objects given w.kinds) (one-method y n z k c declared lives beneath is x method member) read
 
 -- what is done where a value is found
-map-typed : (p : Loaded) (objects : List Object) {X : Type 0} (act : X → Doing) (found : Option X) (v : X) → found ≡ Some v → GivesTyped p objects (act v) → IfSome (option_map act found) (GivesTyped p objects)
+map-typed : (p : Loaded) (objects : List Object) {X : Type 0} (act : X → Operation) (found : Option X) (v : X) → found ≡ Some v → GivesTyped p objects (act v) → IfSome (option_map act found) (GivesTyped p objects)
 map-typed p objects {X} act found v is all = subst (λ (w : Option X). IfSome (option_map act w) (GivesTyped p objects)) (sym is) all
 
 -- .. on null nothing is done, and on an object what may be
-on-typed : (p : Loaded) (objects : List Object) {c : ℕ} (act : ℕ → Option Doing) (found : Option Value) → Reaches p objects c found → ((y : ℕ) (z : Object) (k : Life) → Lives objects y z k → Below p k.class c → IfSome (act y) (GivesTyped p objects)) → IfSome (on_object act found) (GivesTyped p objects)
+on-typed : (p : Loaded) (objects : List Object) {c : ℕ} (act : ℕ → Option Operation) (found : Option Value) → Reaches p objects c found → ((y : ℕ) (z : Object) (k : Life) → Lives objects y z k → Below p k.class c → IfSome (act y) (GivesTyped p objects)) → IfSome (on_object act found) (GivesTyped p objects)
 on-typed p objects act found to_null all = tt
 on-typed p objects act found (to_object {o = y} {x = z} {l = k} lives beneath) all = all y z k lives beneath
 
@@ -160,7 +160,7 @@ chosen-typed p objects block other (Some (value.Text n)) = tt
 chosen-typed p objects block other (Some (value.Ref n)) = tt
 
 module _ {p : Loaded} {objects : List Object} (sound : IsSound p) (typed : AreTyped p objects) (o me : ℕ) (x : Object) (l : Life) (arguments : List Value) (kinds : List ValueType) (lives : Lives objects o x l) (below : Below p l.class me) (fit : ReadAs p objects arguments kinds) where
-  pub statement-gives : (f : layer.Statement-F Statement) → IsSoundStatement p me kinds f → IsTypedStatement p me kinds f → IfSome (doing objects o arguments f) (GivesTyped p objects)
+  pub statement-gives : (f : layer.Statement-F Statement) → IsSoundStatement p me kinds f → IsTypedStatement p me kinds f → IfSome (operation objects o arguments f) (GivesTyped p objects)
   statement-gives f (set_sound {path = path} {q = q} {e = e} is) t =
       let at = same-class me kinds path is.class t.class is.leads t.leads in
       let v = body_has p sound (class_of objects) me kinds (path_value objects o arguments) (paths-typed sound typed o me x l arguments kinds lives below fit) (t.property).kind e is.value t.given in
@@ -201,7 +201,7 @@ module _ {p : Loaded} {certificate : Certificate} (valid : IsValid p certificate
   own-class : (class : ℕ) → classes o ≡ Some class → b.class ≡ class
   own-class class is = same_Some _ _ (sym (known o b.class b.lives) ∙ is)
 
-  action-gives : (effects : MetaEffects) (it : Action) → IsPromised p classes o effects it → IfSome (doing_action o effects it) (GivesTyped p objects)
+  action-gives : (effects : MetaEffects) (it : Action) → IsPromised p classes o effects it → IfSome (operation_of_action o effects it) (GivesTyped p objects)
   action-gives effects (action.Set place v) kept =
       let w = kept.within in
       let class_is : (own.1).class ≡ kept.class = own.3 ∙ own-class kept.class kept.is in
@@ -217,7 +217,7 @@ module _ {p : Loaded} {certificate : Certificate} (valid : IsValid p certificate
       (λ z method member. subst (λ (k : MetaMethod). ReadAs p objects given k.kinds)
       (member-method (record { life = own.1; lives = own.2; is_method = is }) member) (all-plain-read p objects given (w.signal).kinds w.typed))
 
-  slot-gives : (s : Statement) → IsStepOf (b.method).work (Run s) → IfSome (doing objects o arguments (out-Statement s)) (GivesTyped p objects)
+  slot-gives : (s : Statement) → IsStepOf (b.method).work (Run s) → IfSome (operation objects o arguments (out-Statement s)) (GivesTyped p objects)
   slot-gives s (runs {body = body} slot occurs) =
       let kinds = (b.method).kinds in
       let work = subst (λ (w : Work). IsSoundWork p b.class m kinds w) slot ((sound.classes b.class (b.is).class (b.is).is_class).methods m b.method (b.is).is).work in
@@ -226,14 +226,14 @@ module _ {p : Loaded} {certificate : Certificate} (valid : IsValid p certificate
       statement-gives sound typed o work.declaring own.0 own.1 arguments kinds own.2 (subst (λ (k : ℕ). Below p k work.declaring) (sym own.3) work.below) b.typed (out-Statement s)
       (occurs-sound sound work.declaring kinds s body work.sound occurs) (all s occurs)
 
-  step-gives : (y : Step) → IsStepOf (b.method).work y → StepIsPromised p classes o y → IfSome (doing_step objects o arguments y) (GivesTyped p objects)
+  step-gives : (y : Step) → IsStepOf (b.method).work y → StepIsPromised p classes o y → IfSome (operation_of_step objects o arguments y) (GivesTyped p objects)
   step-gives (Run s) of kept = slot-gives s of
   step-gives (Ask effects) of kept = tt
   step-gives (Act effects it) of kept = action-gives effects it kept
 
   -- what a step does gives typed values
-  pub does-give : (y : Step) (d : Doing) → IsStepOf (b.method).work y → StepIsPromised p classes o y → doing_step objects o arguments y ≡ Some d → GivesTyped p objects d
-  does-give y d of kept is = subst (λ (found : Option Doing). IfSome found (GivesTyped p objects)) is (step-gives y of kept)
+  pub does-give : (y : Step) (d : Operation) → IsStepOf (b.method).work y → StepIsPromised p classes o y → operation_of_step objects o arguments y ≡ Some d → GivesTyped p objects d
+  does-give y d of kept is = subst (λ (found : Option Operation). IfSome found (GivesTyped p objects)) is (step-gives y of kept)
 
 -- ---- the answers of natives
 

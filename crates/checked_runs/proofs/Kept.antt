@@ -16,7 +16,7 @@ use Rattle.rank_check.specs.Valid.{IsValid}
 use Rattle.machine_state.specs.declared.fault.Answer.{Answer}
 use Rattle.machine_state.specs.State.{Step, Run, State, Activation, Body}
 use Rattle.machine_state.specs.Worlds.{at, untouched}
-use Rattle.machine_rules.specs.Doings.{Write}
+use Rattle.machine_rules.specs.Operations.{Write}
 use Rattle.machine_rules.specs.Good.{IsWell, IsGood, Spares, has_body}
 use Rattle.machine_rules.specs.Natives.{NativeAnswers}
 use Rattle.machine_rules.specs.Rules.{Rule}
@@ -27,7 +27,7 @@ use Rattle.machine_events.specs.Runs.{Run as ARun, done, goes, takes, Each, Good
 use Rattle.machine_events.specs.Takes.{Takes, accepts, refuses}
 use Rattle.machine_events.proofs.Standing.{Invariant}
 use Rattle.machine_events.proofs.Preservation.{after-rule, after-event}
-use Rattle.checked_runs.specs.code.Invariant.{BodyStands, Rung, Stacked, IsSited, Holds}
+use Rattle.checked_runs.specs.code.Invariant.{BodyStands, Level, Stacked, IsSited, Holds}
 use Rattle.checked_runs.proofs.Ladder.{falls-to, climbs, no-deeper}
 use Rattle.checked_runs.proofs.Leading.{does-led}
 use Rattle.checked_runs.proofs.Rules.{rule-held, bound-by}
@@ -44,7 +44,7 @@ use Rattle.meta_model.specs.Sound.{IsSoundWork}
 use Rattle.typing.specs.Typed.{IsTypedWork}
 use Rattle.object_tree.specs.declared.object.Object.{Object}
 use Rattle.object_tree.specs.Typed.{AreTyped}
-use Rattle.machine_rules.specs.Doings.{doing}
+use Rattle.machine_rules.specs.Operations.{operation}
 use Rattle.checked_runs.specs.code.Invariant.{IsStepOf, runs}
 use Rattle.checked_runs.proofs.Leading.{occurs-sound}
 
@@ -78,14 +78,14 @@ start-holds p certificate steps = record {
     wired = tt;
     sited = tt;
   };
-  rungs = [];
+  levels = [];
   stacked = tt;
 }
 
 -- ---- bodies
 
 -- a body that stands has the values that its next statement needs
-body-does : {p : Loaded} {certificate : Certificate} {objects : List Object} {o m : ℕ} {arguments : List Value} {statement : Statement} {rest : List Step} {x : Node} → IsValid p certificate → IsSound p → AreTyped p objects → (b : BodyStands p objects o m arguments (Run statement ∷ rest) x) → IsStepOf (b.method).work (Run statement) → doing objects o arguments (out-Statement statement) ≡ None → ⊥
+body-does : {p : Loaded} {certificate : Certificate} {objects : List Object} {o m : ℕ} {arguments : List Value} {statement : Statement} {rest : List Step} {x : Node} → IsValid p certificate → IsSound p → AreTyped p objects → (b : BodyStands p objects o m arguments (Run statement ∷ rest) x) → IsStepOf (b.method).work (Run statement) → operation objects o arguments (out-Statement statement) ≡ None → ⊥
 body-does {p} {objects = objects} {o = o} {m = m} {arguments = arguments} {statement = statement} valid sound typed b (runs {body = body} slot occurs) none =
     let kinds = (b.method).kinds in
     let work = subst (λ (w : Work). IsSoundWork p b.class m kinds w) slot ((sound.classes b.class (b.is).class (b.is).is_class).methods m b.method (b.is).is).work in
@@ -144,21 +144,21 @@ module _ {p : Loaded} {certificate : Certificate} (valid : IsValid p certificate
   writes-low {s} kept w =
       let n = w.next in
       let held = (kept.0).1 in
-      room held.rungs (subst (λ (l : List Activation). Stacked (kept.0).0 s.objects l held.rungs) n.is_next held.stacked) (subst (λ (l : List Activation). certificate.bound ≤ length l) n.is_next w.deep)
+      room held.levels (subst (λ (l : List Activation). Stacked (kept.0).0 s.objects l held.levels) n.is_next held.stacked) (subst (λ (l : List Activation). certificate.bound ≤ length l) n.is_next w.deep)
     where
-      room : (rungs : List (Rung p certificate)) → Stacked (kept.0).0 s.objects (Body (w.next).object (w.next).method (w.next).arguments ((w.next).step ∷ (w.next).rest) ∷ (w.next).below) rungs → certificate.bound ≤ suc (length (w.next).below) → ⊥
+      room : (levels : List (Level p certificate)) → Stacked (kept.0).0 s.objects (Body (w.next).object (w.next).method (w.next).arguments ((w.next).step ∷ (w.next).rest) ∷ (w.next).below) levels → certificate.bound ≤ suc (length (w.next).below) → ⊥
       room [] st deep = absurd st
-      room (r ∷ rungs) st deep =
+      room (r ∷ levels) st deep =
           let led = does-led sound ((kept.1).sound).agree.typed st.0 (w.next).step (Write w.object w.number w.value) ((st.0).steps).0 (w.next).does in
           let up = falls-to valid sound (node ((w.is).life).class (Property w.number)) r.is (led w.it (w.is).life (w.is).lives) in
-          let low = climbs valid (kept.0).0 s.objects r.line r rungs (w.next).below refl st.1 st.2 in
+          let low = climbs valid (kept.0).0 s.objects r.line r levels (w.next).below refl st.1 st.2 in
           let fall = (up.2).rank in
           omega (arith, low, fall, deep)
 
   pub deep-not : {s : State} {next : List Event} → Kept s → GoesDeep p certificate.bound s (λ t. Follows p natives s t next) → ⊥
   deep-not kept g =
       let held = (follows-held kept g.well g.follows).0 in
-      let low = no-deeper valid held.0 (g.t).objects (held.1).rungs (g.t).stack (held.1).stacked in
+      let low = no-deeper valid held.0 (g.t).objects (held.1).levels (g.t).stack (held.1).stacked in
       let deep = g.deep in
       omega (arith, low, deep)
 
@@ -179,8 +179,8 @@ module _ {p : Loaded} {certificate : Certificate} (valid : IsValid p certificate
   pub lacks-not : {s : State} → Kept s → LacksValue s → ⊥
   lacks-not {s} kept lacking =
       let held = (kept.0).1 in
-      first-does lacking held.rungs (subst (λ (l : List Activation). Stacked (kept.0).0 s.objects l held.rungs) lacking.is_next held.stacked)
+      first-does lacking held.levels (subst (λ (l : List Activation). Stacked (kept.0).0 s.objects l held.levels) lacking.is_next held.stacked)
     where
-      first-does : (w : LacksValue s) → (rungs : List (Rung p certificate)) → Stacked (kept.0).0 s.objects (Body w.object w.method w.arguments (Run w.statement ∷ w.rest) ∷ w.below) rungs → ⊥
+      first-does : (w : LacksValue s) → (levels : List (Level p certificate)) → Stacked (kept.0).0 s.objects (Body w.object w.method w.arguments (Run w.statement ∷ w.rest) ∷ w.below) levels → ⊥
       first-does w [] st = absurd st
-      first-does w (r ∷ rungs) st = body-does valid sound ((kept.1).sound).agree.typed st.0 ((st.0).steps).0 w.lacks
+      first-does w (r ∷ levels) st = body-does valid sound ((kept.1).sound).agree.typed st.0 ((st.0).steps).0 w.lacks

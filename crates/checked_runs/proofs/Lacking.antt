@@ -32,7 +32,7 @@ use Rattle.effect_scan.specs.declared.node.Member.TheVariants.{Method}
 use Rattle.effect_scan.specs.Nodes.{node, named}
 use Rattle.certificate_lang.specs.declared.certificate.Certificate.{Certificate}
 use Rattle.rank_check.specs.Valid.{IsValid}
-use Rattle.machine_rules.specs.Doings.{Doing, Write, Begin, on_object, chosen_by, doing}
+use Rattle.machine_rules.specs.Operations.{Operation, Write, Begin, on_object, chosen_by, operation}
 use Rattle.machine_rules.specs.Paths.{root_value, step_value, steps_value, path_value, value_of, values_of}
 use Rattle.machine_rules.specs.There.{IsField}
 use Rattle.machine_rules.proofs.Fields.{old-there, stored-reads, read-get, read-there, method-unique}
@@ -101,7 +101,7 @@ none-map : {X Y : Type 0} (f : X → Y) (found : Option X) (x : X) → found ≡
 none-map f found x is none = let no : Some (f x) ≡ None = sym (ap (option_map f) is) ∙ none in absurd (cc no)
 
 -- something is done on null, and on an object where it may be
-none-on : {p : Loaded} {objects : List Object} {c : ℕ} (act : ℕ → Option Doing) (found : Option Value) → Reaches p objects c found → ((y : ℕ) → act y ≡ None → ⊥) → on_object act found ≡ None → ⊥
+none-on : {p : Loaded} {objects : List Object} {c : ℕ} (act : ℕ → Option Operation) (found : Option Value) → Reaches p objects c found → ((y : ℕ) → act y ≡ None → ⊥) → on_object act found ≡ None → ⊥
 none-on act found to_null some none = absurd (cc none)
 none-on act found (to_object {o = y} lives below) some none = some y none
 
@@ -119,11 +119,11 @@ module _ {p : Loaded} {objects : List Object} (sound : IsSound p) (typed : AreTy
   given-none : (T : ValueType) (e : Expr MetaPath) → IsSoundExpr p me kinds e → IsGivenIn p me kinds T e → {Y : Type 0} (f : Value → Y) → option_map f (value_of objects o arguments e) ≡ None → ⊥
   given-none T e is given f none = let v = body_has p sound (class_of objects) me kinds (path_value objects o arguments) paths-typed T e is given in none-map f (value_of objects o arguments e) v.0 v.1 none
 
-  arguments-none : (Ts : List ValueType) (es : List (Expr MetaPath)) → AreSoundExprs p me kinds es → AllZip (IsGivenIn p me kinds) Ts es → (f : List Value → Doing) → option_map f (values_of objects o arguments es) ≡ None → ⊥
+  arguments-none : (Ts : List ValueType) (es : List (Expr MetaPath)) → AreSoundExprs p me kinds es → AllZip (IsGivenIn p me kinds) Ts es → (f : List Value → Operation) → option_map f (values_of objects o arguments es) ≡ None → ⊥
   arguments-none Ts es are given f none = let vs = arguments_have p sound (class_of objects) me kinds (path_value objects o arguments) paths-typed Ts es are given in none-map f (values_of objects o arguments es) vs.0 vs.1 none
 
   -- a typed statement does something
-  pub typed-does : (f : layer.Statement-F Statement) → IsSoundStatement p me kinds f → IsTypedStatement p me kinds f → doing objects o arguments f ≡ None → ⊥
+  pub typed-does : (f : layer.Statement-F Statement) → IsSoundStatement p me kinds f → IsTypedStatement p me kinds f → operation objects o arguments f ≡ None → ⊥
   typed-does f (set_sound {path = path} {q = q} {e = e} is) t none =
       none-on (λ y. option_map (λ (new : Value). Write y q new) (value_of objects o arguments e)) (path_value objects o arguments path) (reached path is.leads)
       (λ y. given-none (t.property).kind e is.value t.given (λ (new : Value). Write y q new)) none

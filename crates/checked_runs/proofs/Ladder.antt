@@ -13,7 +13,7 @@ use Rattle.certificate_lang.specs.declared.certificate.Line.{Line}
 use Rattle.certificate_lang.specs.declared.certificate.Certificate.{Certificate}
 use Rattle.rank_check.specs.Valid.{IsLineOf, IsValid}
 use Rattle.machine_state.specs.State.{Activation}
-use Rattle.checked_runs.specs.code.Invariant.{Falls, IsNoHigher, Rung, FallsTo, Stacked}
+use Rattle.checked_runs.specs.code.Invariant.{Falls, IsNoHigher, Level, FallsTo, Stacked}
 
 pub higher-none : {p : Loaded} {a b c : Line} → IsNoHigher p a b → Falls p b c → Falls p a c
 higher-none {c = c} up f = record { rank = omega (arith, up.rank, f.rank); set = λ d none. f.set d (up.set d none) }
@@ -30,33 +30,33 @@ module _ {p : Loaded} {certificate : Certificate} (valid : IsValid p certificate
   }
 
   -- each node has a line
-  pub rung-at : (x : Node) → IsNode p x → (r : Rung p certificate) × (r.node ≡ x)
-  rung-at x is = let found = valid.each_node x is in (record { node = x; line = found.0; is = found.1 }, refl)
+  pub level-at : (x : Node) → IsNode p x → (r : Level p certificate) × (r.node ≡ x)
+  level-at x is = let found = valid.each_node x is in (record { node = x; line = found.0; is = found.1 }, refl)
 
-  pub below-bound : (r : Rung p certificate) → r.line.rank < certificate.bound
+  pub below-bound : (r : Level p certificate) → r.line.rank < certificate.bound
   below-bound r = valid.bounded.ranks r.line r.is.stands
 
   -- so many ranks are below the one on top as activations stand below it
-  pub climbs : (classes : ℕ → Option ℕ) (objects : List Object) (line : Line) (r : Rung p certificate) (rungs : List (Rung p certificate)) (stack : List Activation) → r.line ≡ line → FallsTo rungs line → Stacked classes objects stack rungs → line.rank + length stack < certificate.bound
+  pub climbs : (classes : ℕ → Option ℕ) (objects : List Object) (line : Line) (r : Level p certificate) (levels : List (Level p certificate)) (stack : List Activation) → r.line ≡ line → FallsTo levels line → Stacked classes objects stack levels → line.rank + length stack < certificate.bound
   climbs classes objects line r [] [] e falls st = let low = below-bound r in omega (arith, low, ap (λ (l : Line). l.rank) e)
   climbs classes objects line r [] (a ∷ stack) e falls st = absurd st
-  climbs classes objects line r (s ∷ rungs) [] e falls st = absurd st
-  climbs classes objects line r (s ∷ rungs) (a ∷ stack) e falls st =
-      let rest = climbs classes objects s.line s rungs stack refl st.1 st.2 in
+  climbs classes objects line r (s ∷ levels) [] e falls st = absurd st
+  climbs classes objects line r (s ∷ levels) (a ∷ stack) e falls st =
+      let rest = climbs classes objects s.line s levels stack refl st.1 st.2 in
       let fall = falls.rank in
       omega (arith, rest, fall)
 
   -- the stack is no longer than the bound
-  pub no-deeper : (classes : ℕ → Option ℕ) (objects : List Object) (rungs : List (Rung p certificate)) (stack : List Activation) → Stacked classes objects stack rungs → length stack ≤ certificate.bound
-  no-deeper classes objects rungs [] st = omega arith
+  pub no-deeper : (classes : ℕ → Option ℕ) (objects : List Object) (levels : List (Level p certificate)) (stack : List Activation) → Stacked classes objects stack levels → length stack ≤ certificate.bound
+  no-deeper classes objects levels [] st = omega arith
   no-deeper classes objects [] (a ∷ stack) st = absurd st
-  no-deeper classes objects (s ∷ rungs) (a ∷ stack) st =
-      let rest = climbs classes objects s.line s rungs stack refl st.1 st.2 in
+  no-deeper classes objects (s ∷ levels) (a ∷ stack) st =
+      let rest = climbs classes objects s.line s levels stack refl st.1 st.2 in
       omega (arith, rest)
 
   module _ (sound : IsSound p) where
     -- what an edge leads to has a line, and it falls to it
-    pub falls-to : {x : Node} {a : Line} (y : Node) → IsLineOf p certificate x a → MayLead p x y → (r : Rung p certificate) × (r.node ≡ y) × Falls p a r.line
+    pub falls-to : {x : Node} {a : Line} (y : Node) → IsLineOf p certificate x a → MayLead p x y → (r : Level p certificate) × (r.node ≡ y) × Falls p a r.line
     falls-to {x} {a} y from leads =
         let found = valid.each_node y (join_nodes sound x y leads).1 in
         (record { node = y; line = found.0; is = found.1 }, refl, falls-along leads from found.1)

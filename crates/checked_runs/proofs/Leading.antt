@@ -40,7 +40,7 @@ use Rattle.effect_scan.specs.Effects.{reach_of_type, reach_of_root, reach_after,
 use Rattle.effect_scan.specs.Edges.{ReachedAs, MayLead, by_work}
 use Rattle.rank_check.proofs.Elements.{element_at}
 use Rattle.machine_state.specs.State.{Step, Run, Ask, Act}
-use Rattle.machine_rules.specs.Doings.{Doing, Write, Begin, Choose, Connect, Disconnect, Delete, Schedule, TakeAnswer, Nothing, on_object, chosen_by, doing, doing_action, doing_step}
+use Rattle.machine_rules.specs.Operations.{Operation, Write, Begin, Choose, Connect, Disconnect, Delete, Schedule, TakeAnswer, Nothing, on_object, chosen_by, operation, operation_of_action, operation_of_step}
 use Rattle.machine_rules.specs.Paths.{path_value, steps_value, root_value, value_of, values_of}
 use Rattle.machine_rules.proofs.Fields.{life-unique}
 use Rattle.machine_rules.proofs.Keeps.{lives-of-class}
@@ -103,7 +103,7 @@ module _ {p : Loaded} (sound : IsSound p) where
     LeadsToMember y member = (z : Object) (k : Life) → Lives objects y z k → MayLead p x (node k.class member)
 
     -- what a step does, the method may lead to; the block that is chosen is part of the body
-    abbrev pub IsLed : Doing → Type 0
+    abbrev pub IsLed : Operation → Type 0
     IsLed (Write y q new) = LeadsToMember y (Property q)
     IsLed (Begin y n given) = LeadsToMember y (Method n) × (named n ≡ n)
     IsLed (Choose block) = (body : List Statement) × ((b.method).work ≡ Slot body) × ((s : Statement) → Occurs s block → Occurs s body)
@@ -148,7 +148,7 @@ module _ {p : Loaded} (sound : IsSound p) where
           ]
 
       -- what is done on the object that a path leads to
-      on-path : (path : MetaPath) {c : ℕ} → LeadsToClass p me (b.method).kinds path c → (act : ℕ → Option Doing) → ((y : ℕ) (z : Object) (k : Life) → path_value objects o arguments path ≡ Some (value.Ref (Some y)) → Lives objects y z k → Below p k.class c → IfSome (act y) IsLed)
+      on-path : (path : MetaPath) {c : ℕ} → LeadsToClass p me (b.method).kinds path c → (act : ℕ → Option Operation) → ((y : ℕ) (z : Object) (k : Life) → path_value objects o arguments path ≡ Some (value.Ref (Some y)) → Lives objects y z k → Below p k.class c → IfSome (act y) IsLed)
           → IfSome (on_object act (path_value objects o arguments path)) IsLed
       on-path path {c} leads act all = given (path_value objects o arguments path) refl (reaches path leads)
         where
@@ -157,10 +157,10 @@ module _ {p : Loaded} (sound : IsSound p) where
           given found is (to_object {o = y} {x = z} {l = k} lives beneath) = all y z k is lives beneath
 
       -- anything done there that is not looked at
-      idle-path : (path : MetaPath) {c : ℕ} → LeadsToClass p me (b.method).kinds path c → (act : ℕ → Option Doing) → ((y : ℕ) → IfSome (act y) IsLed) → IfSome (on_object act (path_value objects o arguments path)) IsLed
+      idle-path : (path : MetaPath) {c : ℕ} → LeadsToClass p me (b.method).kinds path c → (act : ℕ → Option Operation) → ((y : ℕ) → IfSome (act y) IsLed) → IfSome (on_object act (path_value objects o arguments path)) IsLed
       idle-path path leads act all = on-path path leads act (λ y z k is lives beneath. all y)
 
-    map-led : {X : Type 0} (act : X → Doing) (found : Option X) → ((v : X) → IsLed (act v)) → IfSome (option_map act found) IsLed
+    map-led : {X : Type 0} (act : X → Operation) (found : Option X) → ((v : X) → IsLed (act v)) → IfSome (option_map act found) IsLed
     map-led act None all = tt
     map-led act (Some v) all = all v
 
@@ -190,7 +190,7 @@ module _ {p : Loaded} (sound : IsSound p) where
       within t e block other whole (chosen is i) at = let r = within t e block other _ i at in (λ u j. chosen is (r.0 u j), λ u j. chosen is (r.1 u j))
       within t e block other whole (otherwise is i) at = let r = within t e block other _ i at in (λ u j. otherwise is (r.0 u j), λ u j. otherwise is (r.1 u j))
 
-      statement-led : (f : layer.Statement-F Statement) → out-Statement s ≡ f → IsSoundStatement p me (b.method).kinds f → IfSome (doing objects o arguments f) IsLed
+      statement-led : (f : layer.Statement-F Statement) → out-Statement s ≡ f → IsSoundStatement p me (b.method).kinds f → IfSome (operation objects o arguments f) IsLed
       statement-led f at (set_sound {path = path} {q = q} {e = e} is) =
           on-path me under path is.leads (λ y. option_map (λ (new : Value). Write y q new) (value_of objects o arguments e)) (λ y z k there lives beneath.
           map-led (λ (new : Value). Write y q new) (value_of objects o arguments e) (λ new.
@@ -215,7 +215,7 @@ module _ {p : Loaded} (sound : IsSound p) where
       statement-led f at (later_sound {path = path} leads) = idle-path me under path leads (λ y. Some (Schedule y)) (λ y. tt)
 
     -- what an action of a native does
-    action-led : (effects : MetaEffects) (it : Action) → (b.method).work ≡ Native effects → IfSome (doing_action o effects it) IsLed
+    action-led : (effects : MetaEffects) (it : Action) → (b.method).work ≡ Native effects → IfSome (operation_of_action o effects it) IsLed
     action-led effects (action.Set k v) native = given (slice_get effects.sets k) refl
       where
         given : (found : Option ℕ) → slice_get effects.sets k ≡ found → IfSome (option_map (λ (q : ℕ). Write o q v) found) IsLed
@@ -240,12 +240,12 @@ module _ {p : Loaded} (sound : IsSound p) where
           late g is,
         )
 
-    step-led : (y : Step) → IsStepOf (b.method).work y → IfSome (doing_step objects o arguments y) IsLed
+    step-led : (y : Step) → IsStepOf (b.method).work y → IfSome (operation_of_step objects o arguments y) IsLed
     step-led (Run s) (runs {body = body} slot occurs) =
         let work = subst (λ (w : Work). IsSoundWork p b.class m (b.method).kinds w) slot ((sound.classes b.class (b.is).class (b.is).is_class).methods m b.method (b.is).is).work in
         statement-led body slot s occurs work.declaring work.below (out-Statement s) refl (occurs-sound work.declaring (b.method).kinds s body work.sound occurs)
     step-led (Ask effects) (asks native) = native
     step-led (Act effects it) (acts native) = action-led effects it native
 
-    pub does-led : (y : Step) (d : Doing) → IsStepOf (b.method).work y → doing_step objects o arguments y ≡ Some d → IsLed d
-    does-led y d of is = subst (λ (found : Option Doing). IfSome found IsLed) is (step-led y of)
+    pub does-led : (y : Step) (d : Operation) → IsStepOf (b.method).work y → operation_of_step objects o arguments y ≡ Some d → IsLed d
+    does-led y d of is = subst (λ (found : Option Operation). IfSome found IsLed) is (step-led y of)

@@ -56,7 +56,7 @@ use Rattle.machine_state.specs.Turns.{running, reaches_at_once}
 use Rattle.machine_state.proofs.Due.{found-among, all-removed, all-used, used-due, used-among}
 use Rattle.machine_rules.specs.Connecting.{kept_ends, names_of, named_signal, found_ends, may_connect}
 use Rattle.machine_rules.specs.Destroying.{Dies, NextRule, ChildRule, DestroyRule, living_child, DefersOnce, Schedules, deleting}
-use Rattle.machine_rules.specs.Doings.{Doing, Write, Begin, Choose, Connect, Disconnect, Delete, Schedule, TakeAnswer, Nothing, doing_step}
+use Rattle.machine_rules.specs.Operations.{Operation, Write, Begin, Choose, Connect, Disconnect, Delete, Schedule, TakeAnswer, Nothing, operation_of_step}
 use Rattle.machine_rules.specs.Good.{ArgumentsFit, TopFits, IsWell, Spares, has_body}
 use Rattle.machine_rules.specs.Judgement.{holds as so, goes_on}
 use Rattle.machine_rules.specs.Natives.{NativeAnswers}
@@ -71,9 +71,9 @@ use Rattle.machine_rules.proofs.Inherited.{method-below}
 use Rattle.machine_rules.proofs.Keeps.{class-of-lives}
 use Rattle.machine_rules.proofs.Lists.{all-filtered, all-snoc}
 use Rattle.machine_rules.proofs.Waiting.{first-waits}
-use Rattle.checked_runs.specs.code.Invariant.{Rung, FallsTo, IsStepOf, runs, asks, acts, BodyStands, EmitStands, IsFollower, IsTorn, DestroyStands, Stacked, IsOwned, IsWired, IsSited, IsCovered, Holds}
+use Rattle.checked_runs.specs.code.Invariant.{Level, FallsTo, IsStepOf, runs, asks, acts, BodyStands, EmitStands, IsFollower, IsTorn, DestroyStands, Stacked, IsOwned, IsWired, IsSited, IsCovered, Holds}
 use Rattle.checked_runs.proofs.Nodes.{named-node, end-node, body-named, late-named, named-again}
-use Rattle.checked_runs.proofs.Ladder.{higher-none, rung-at, falls-to, line-from}
+use Rattle.checked_runs.proofs.Ladder.{higher-none, level-at, falls-to, line-from}
 use Rattle.checked_runs.proofs.Worlds.{Leaves, classes-left, differ-leaves, scheduled-leaves, died-leaves, SparedIn, stacked-still}
 use Rattle.checked_runs.proofs.Followers.{IsKnown, followers}
 use Rattle.checked_runs.proofs.Leading.{does-led}
@@ -116,10 +116,10 @@ module _ {p : Loaded} {certificate : Certificate} (valid : IsValid p certificate
 
   -- ---- a method begins
 
-  body-held : (u : State) (below : List Activation) {o m : ℕ} {x : Object} {method : MetaMethod} {arguments : List Value} {left : List Step} (rungs : List (Rung p certificate)) (r : Rung p certificate) (is : IsMember p u.objects o m x method) →
-      r.node ≡ node (is.life).class (Method (named m)) → FallsTo rungs r.line → Stacked classes u.objects below rungs → method.work ≢ Signal → ArgumentsFit p u.objects o m arguments → AllByRecursion (IsStepOf method.work) left →
-      Stacked classes u.objects (Body o m arguments left ∷ below) (r ∷ rungs)
-  body-held u below {o = o} {m = m} {method = method} {arguments = arguments} rungs r is at falls st bodied fit steps =
+  body-held : (u : State) (below : List Activation) {o m : ℕ} {x : Object} {method : MetaMethod} {arguments : List Value} {left : List Step} (levels : List (Level p certificate)) (r : Level p certificate) (is : IsMember p u.objects o m x method) →
+      r.node ≡ node (is.life).class (Method (named m)) → FallsTo levels r.line → Stacked classes u.objects below levels → method.work ≢ Signal → ArgumentsFit p u.objects o m arguments → AllByRecursion (IsStepOf method.work) left →
+      Stacked classes u.objects (Body o m arguments left ∷ below) (r ∷ levels)
+  body-held u below {o = o} {m = m} {method = method} {arguments = arguments} levels r is at falls st bodied fit steps =
       let same : fit.method ≡ method = member-method fit.is is in (
         record {
           class = (is.life).class;
@@ -135,28 +135,28 @@ module _ {p : Loaded} {certificate : Certificate} (valid : IsValid p certificate
         st,
       )
 
-  pub begun-held : (u t : State) (n : ℕ) (below : List Activation) (o : ℕ) (x : Object) (m : ℕ) (method : MetaMethod) (arguments : List Value) (work : Work) (rungs : List (Rung p certificate)) (r : Rung p certificate) → Covered u → (is : IsMember p u.objects o m x method) → method.work ≡ work →
-      r.node ≡ node (is.life).class (Method (named m)) → FallsTo rungs r.line → Stacked classes u.objects below rungs → n < suc (length below) → (n < length t.stack → TopFits p t.objects t.stack) → t ≡ begun u below o x m method arguments work → Held t
-  begun-held u t n below o x m method arguments Signal rungs r covered is work_is at falls st higher fits e =
+  pub begun-held : (u t : State) (n : ℕ) (below : List Activation) (o : ℕ) (x : Object) (m : ℕ) (method : MetaMethod) (arguments : List Value) (work : Work) (levels : List (Level p certificate)) (r : Level p certificate) → Covered u → (is : IsMember p u.objects o m x method) → method.work ≡ work →
+      r.node ≡ node (is.life).class (Method (named m)) → FallsTo levels r.line → Stacked classes u.objects below levels → n < suc (length below) → (n < length t.stack → TopFits p t.objects t.stack) → t ≡ begun u below o x m method arguments work → Held t
+  begun-held u t n below o x m method arguments Signal levels r covered is work_is at falls st higher fits e =
       let Family : State → Type 0 = λ v. Held v in
-      subst Family (sym e) (record { covered = covered; rungs = r ∷ rungs; stacked = (record { class = (is.life).class; is = known-member u covered is; at = at }, falls, st) })
-  begun-held u t n below o x m method arguments (Slot statements) rungs r covered is work_is at falls st higher fits e =
+      subst Family (sym e) (record { covered = covered; levels = r ∷ levels; stacked = (record { class = (is.life).class; is = known-member u covered is; at = at }, falls, st) })
+  begun-held u t n below o x m method arguments (Slot statements) levels r covered is work_is at falls st higher fits e =
       let Family : State → Type 0 = λ v. (n < length v.stack → TopFits p v.objects v.stack) → Held v in
-      subst Family (sym e) (λ top. record { covered = covered; rungs = r ∷ rungs; stacked = body-held u below rungs r is at falls st (λ bad. absurd (cc (sym work_is ∙ bad))) (top higher) (left-runs method.work statements statements work_is (λ s i. i)) }) fits
-  begun-held u t n below o x m method arguments (Native effects) rungs r covered is work_is at falls st higher fits e =
+      subst Family (sym e) (λ top. record { covered = covered; levels = r ∷ levels; stacked = body-held u below levels r is at falls st (λ bad. absurd (cc (sym work_is ∙ bad))) (top higher) (left-runs method.work statements statements work_is (λ s i. i)) }) fits
+  begun-held u t n below o x m method arguments (Native effects) levels r covered is work_is at falls st higher fits e =
       let Family : State → Type 0 = λ v. (n < length v.stack → TopFits p v.objects v.stack) → Held v in
-      subst Family (sym e) (λ top. record { covered = covered; rungs = r ∷ rungs; stacked = body-held u below rungs r is at falls st (λ bad. absurd (cc (sym work_is ∙ bad))) (top higher) (asks work_is, tt) }) fits
+      subst Family (sym e) (λ top. record { covered = covered; levels = r ∷ levels; stacked = body-held u below levels r is at falls st (λ bad. absurd (cc (sym work_is ∙ bad))) (top higher) (asks work_is, tt) }) fits
 
   -- ---- no body of an object that a deletion may end
 
-  no-body : (objects : List Object) (x d : ℕ) (line : Line) (stack : List Activation) (rungs : List (Rung p certificate)) → classes x ≡ Some d → ((o c : ℕ) → class_of objects o ≡ Some c → classes o ≡ Some c) → FallsTo rungs line → Stacked classes objects stack rungs → IsTrue (has_body x stack) → ¬ Destroys p line d
-  no-body objects x d line [] rungs is known falls st body = absurd (cc body)
+  no-body : (objects : List Object) (x d : ℕ) (line : Line) (stack : List Activation) (levels : List (Level p certificate)) → classes x ≡ Some d → ((o c : ℕ) → class_of objects o ≡ Some c → classes o ≡ Some c) → FallsTo levels line → Stacked classes objects stack levels → IsTrue (has_body x stack) → ¬ Destroys p line d
+  no-body objects x d line [] levels is known falls st body = absurd (cc body)
   no-body objects x d line (a ∷ stack) [] is known falls st body = absurd st
-  no-body objects x d line (Emit o g arguments used last ∷ stack) (r ∷ rungs) is known falls st body = falls.set d (no-body objects x d r.line stack rungs is known st.1 st.2 body)
-  no-body objects x d line (Update places ∷ stack) (r ∷ rungs) is known falls st body = falls.set d (no-body objects x d r.line stack rungs is known st.1 st.2 body)
-  no-body objects x d line (Destroy next torn ∷ stack) (r ∷ rungs) is known falls st body = falls.set d (no-body objects x d r.line stack rungs is known st.1 st.2 body)
-  no-body objects x d line (Body o m arguments left ∷ stack) (r ∷ rungs) is known falls st body =
-      falls.set d (by_object (cases_Bool (eqb o x)) (λ more. no-body objects x d r.line stack rungs is known st.1 st.2 more))
+  no-body objects x d line (Emit o g arguments used last ∷ stack) (r ∷ levels) is known falls st body = falls.set d (no-body objects x d r.line stack levels is known st.1 st.2 body)
+  no-body objects x d line (Update places ∷ stack) (r ∷ levels) is known falls st body = falls.set d (no-body objects x d r.line stack levels is known st.1 st.2 body)
+  no-body objects x d line (Destroy next torn ∷ stack) (r ∷ levels) is known falls st body = falls.set d (no-body objects x d r.line stack levels is known st.1 st.2 body)
+  no-body objects x d line (Body o m arguments left ∷ stack) (r ∷ levels) is known falls st body =
+      falls.set d (by_object (cases_Bool (eqb o x)) (λ more. no-body objects x d r.line stack levels is known st.1 st.2 more))
     where
       by_object : (eqb o x ≡ true) ⊎ (eqb o x ≡ false) → (IsTrue (has_body x stack) → ¬ Destroys p r.line d) → ¬ Destroys p r.line d
       by_object (inr other) more = more (ap (λ (b : Bool). b || has_body x stack) (sym other) ∙ body)
@@ -172,14 +172,14 @@ module _ {p : Loaded} {certificate : Certificate} (valid : IsValid p certificate
   known-targets [] all = tt
   known-targets (b ∷ bs) all = (((all.0).target.class, (all.0).target.is), known-targets bs all.1)
 
-  pub settles-held : {s t : State} (below : List Activation) (rungs : List (Rung p certificate)) (r : Rung p certificate) (place : Place) (class : ℕ) {cause : Cause} (objects : List Object) (bindings : List Binding) (changed : List Place) →
-      Covered s → Agree p s.objects s.bindings → Stacked classes s.objects below rungs → FallsTo rungs r.line → classes place.object ≡ Some class → r.node ≡ node class (Property place.property) →
+  pub settles-held : {s t : State} (below : List Activation) (levels : List (Level p certificate)) (r : Level p certificate) (place : Place) (class : ℕ) {cause : Cause} (objects : List Object) (bindings : List Binding) (changed : List Place) →
+      Covered s → Agree p s.objects s.bindings → Stacked classes s.objects below levels → FallsTo levels r.line → classes place.object ≡ Some class → r.node ≡ node class (Property place.property) →
       DifferInValues s.objects objects → AllByRecursion (IsSited p classes) bindings → Settled (binding_at bindings) (values_in objects) →
       ((q : Place) (b : Binding) → ¬ (place ≡ q) → binding_at bindings q ≡ Some b → binding_at s.bindings q ≡ Some b) →
       ((q : Place) → ¬ (place ≡ q) → binding_at bindings q ≡ None → values_in objects q ≡ values_in s.objects q) →
       AreChanged s.objects objects (in_order place s.bindings) changed →
       Settles p s below cause place objects bindings changed t → Held t
-  settles-held {s} {t} below rungs r place class objects bindings changed covered agree st falls is at differ sited settled same kept changes settles =
+  settles-held {s} {t} below levels r place class objects bindings changed covered agree st falls is at differ sited settled same kept changes settles =
       let left : Leaves p classes s.objects objects = differ-leaves s.objects objects differ in
       let line_is = subst (λ (z : Node). IsLineOf p certificate z r.line) at r.is in
       let targets = known-targets (without place s.bindings) (all-filtered (IsSited p classes) _ s.bindings covered.sited) in
@@ -188,35 +188,35 @@ module _ {p : Loaded} {certificate : Certificate} (valid : IsValid p certificate
       let Family : State → Type 0 = λ v. Held v in
       subst Family (sym settles.gives) (record {
         covered = record { known = classes-left left covered.known; owned = left.children covered.owned; wired = covered.wired; sited = sited };
-        rungs = r ∷ rungs;
-        stacked = (notifies, falls, stacked-still classes s.objects objects (differ-stay s.objects objects differ) below rungs (λ o body gone. differ-spared s.objects objects differ o gone) st);
+        levels = r ∷ levels;
+        stacked = (notifies, falls, stacked-still classes s.objects objects (differ-stay s.objects objects differ) below levels (λ o body gone. differ-spared s.objects objects differ o gone) st);
       })
 
-  pub writes-held : {s t : State} (below : List Activation) (rungs : List (Rung p certificate)) (r : Rung p certificate) (o q class : ℕ) (new : Value) → Covered s → Agree p s.objects s.bindings → Stacked classes s.objects below rungs → FallsTo rungs r.line → classes o ≡ Some class → r.node ≡ node class (Property q) → Writes p s below o q new t → Held t
-  writes-held {s} below rungs r o q class new covered agree st falls is at w =
+  pub writes-held : {s t : State} (below : List Activation) (levels : List (Level p certificate)) (r : Level p certificate) (o q class : ℕ) (new : Value) → Covered s → Agree p s.objects s.bindings → Stacked classes s.objects below levels → FallsTo levels r.line → classes o ≡ Some class → r.node ≡ node class (Property q) → Writes p s below o q new t → Held t
+  writes-held {s} below levels r o q class new covered agree st falls is at w =
       let place : Place = property_of o q in
-      settles-held below rungs r place class w.objects (without place s.bindings) w.changed covered agree st falls is at w.written.objects (all-filtered (IsSited p classes) _ s.bindings covered.sited) w.written.settled
+      settles-held below levels r place class w.objects (without place s.bindings) w.changed covered agree st falls is at w.written.objects (all-filtered (IsSited p classes) _ s.bindings covered.sited) w.written.settled
       (λ z b other e. without-fewer place s.bindings z b e) (λ z other none. w.written.kept z none other) w.written.changes w.settles
 
   -- ---- an object dies
 
-  dies-held : {s t : State} (below : List Activation) (rungs : List (Rung p certificate)) (r : Rung p certificate) (c x : ℕ) (torn : List ℕ) → Covered s → Stacked classes s.objects below rungs → FallsTo rungs r.line → r.node ≡ node c Destruction → IsTorn p classes c x → AllByRecursion (IsTorn p classes c) torn → Dies s (Destroy (Some x) torn ∷ below) x t → Held t × SparedIn below s.objects t.objects
-  dies-held {s} {t} below rungs r c x torn covered st falls at this all d =
+  dies-held : {s t : State} (below : List Activation) (levels : List (Level p certificate)) (r : Level p certificate) (c x : ℕ) (torn : List ℕ) → Covered s → Stacked classes s.objects below levels → FallsTo levels r.line → r.node ≡ node c Destruction → IsTorn p classes c x → AllByRecursion (IsTorn p classes c) torn → Dies s (Destroy (Some x) torn ∷ below) x t → Held t × SparedIn below s.objects t.objects
+  dies-held {s} {t} below levels r c x torn covered st falls at this all d =
       let line_is = subst (λ (z : Node). IsLineOf p certificate z r.line) at r.is in
       let after_it : List Object = without_life x s.objects in
       let left : Leaves p classes s.objects after_it = died-leaves s.objects x in
       let next = falls-to valid sound (node this.class (Method DESTROYED)) line_is (by_destruction (record { from = refl; to = refl; closure = this.closed })) in
       let destroyed = valid.sets.closures (node c Destruction) r.line this.class refl line_is this.closed in
       let spared : SparedIn below s.objects after_it = λ o body gone. elim (cases_eq o x) [
-        | inl same ↦ absurd (no-body s.objects x this.class r.line below rungs this.is (covered.known).lives falls st (subst (λ (k : ℕ). IsTrue (has_body k below)) same body) destroyed)
+        | inl same ↦ absurd (no-body s.objects x this.class r.line below levels this.is (covered.known).lives falls st (subst (λ (k : ℕ). IsTrue (has_body k below)) same body) destroyed)
         | inr other ↦ sym (other-seen s.objects x o other) ∙ gone
       ] in
       let Family : State → Type 0 = λ v. Held v × SparedIn below s.objects v.objects in
       subst Family (sym d.gives) (
         record {
           covered = record { known = classes-left left covered.known; owned = left.children covered.owned; wired = covered.wired; sited = all-filtered (IsSited p classes) _ s.bindings covered.sited };
-          rungs = next.0 ∷ r ∷ rungs;
-          stacked = (record { class = this.class; is = this.is; at = next.1 }, next.2, (record { class = c; at = at; coming = this; gone = all }, falls, stacked-still classes s.objects after_it (died-stay s.objects x d.named) below rungs spared st));
+          levels = next.0 ∷ r ∷ levels;
+          stacked = (record { class = this.class; is = this.is; at = next.1 }, next.2, (record { class = c; at = at; coming = this; gone = all }, falls, stacked-still classes s.objects after_it (died-stay s.objects x d.named) below levels spared st));
         },
         spared,
       )
@@ -228,48 +228,48 @@ module _ {p : Loaded} {certificate : Certificate} (valid : IsValid p certificate
   same-spared : (objects : List Object) (stack : List Activation) → SparedIn stack objects objects
   same-spared objects stack o body gone = gone
 
-  destroy-goes : (s t : State) (below : List Activation) (rungs : List (Rung p certificate)) (r : Rung p certificate) (next : Option ℕ) (torn : List ℕ) → Covered s → DestroyStands p classes next torn r.node → FallsTo rungs r.line → Stacked classes s.objects below rungs → DestroyRule s below t next torn → Goes s below t
-  destroy-goes s t below rungs r (Some x) torn covered d falls st rule = by_life (is_living s.objects x) rule
+  destroy-goes : (s t : State) (below : List Activation) (levels : List (Level p certificate)) (r : Level p certificate) (next : Option ℕ) (torn : List ℕ) → Covered s → DestroyStands p classes next torn r.node → FallsTo levels r.line → Stacked classes s.objects below levels → DestroyRule s below t next torn → Goes s below t
+  destroy-goes s t below levels r (Some x) torn covered d falls st rule = by_life (is_living s.objects x) rule
     where
       by_life : (b : Bool) → NextRule s below t x torn b → Goes s below t
-      by_life true dies = dies-held below rungs r d.class x torn covered st falls d.at d.coming d.gone dies
+      by_life true dies = dies-held below levels r d.class x torn covered st falls d.at d.coming d.gone dies
       by_life false e =
           let Family : State → Type 0 = λ v. Goes s below v in
           subst Family (sym e) (
             record {
               covered = record { known = covered.known; owned = covered.owned; wired = all-removed (IsWired p classes) (touches x) s.connected covered.wired; sited = covered.sited };
-              rungs = r ∷ rungs;
+              levels = r ∷ levels;
               stacked = (record { class = d.class; at = d.at; coming = tt; gone = (d.coming, d.gone) }, falls, st);
             },
             same-spared s.objects below,
           )
-  destroy-goes s t below rungs r None [] covered d falls st rule =
+  destroy-goes s t below levels r None [] covered d falls st rule =
       let Family : State → Type 0 = λ v. Goes s below v in
-      subst Family (sym rule) (record { covered = covered; rungs = rungs; stacked = st }, same-spared s.objects below)
-  destroy-goes s t below rungs r None (parent ∷ torn) covered d falls st rule = by_child (living_child s parent) refl rule
+      subst Family (sym rule) (record { covered = covered; levels = levels; stacked = st }, same-spared s.objects below)
+  destroy-goes s t below levels r None (parent ∷ torn) covered d falls st rule = by_child (living_child s parent) refl rule
     where
       by_child : (found : Option ℕ) → living_child s parent ≡ found → ChildRule s below t parent torn found → Goes s below t
       by_child None is e =
           let Family : State → Type 0 = λ v. Goes s below v in
-          subst Family (sym e) (record { covered = covered; rungs = r ∷ rungs; stacked = (record { class = d.class; at = d.at; coming = tt; gone = (d.gone).1 }, falls, st) }, same-spared s.objects below)
+          subst Family (sym e) (record { covered = covered; levels = r ∷ levels; stacked = (record { class = d.class; at = d.at; coming = tt; gone = (d.gone).1 }, falls, st) }, same-spared s.objects below)
       by_child (Some x) is dies =
           let owned = found-among (IsOwned p classes parent) (is_living s.objects) (children_of s.objects parent) x (covered.owned parent) is in
           let up = (d.gone).0 in
           let same : up.class ≡ owned.above = same_Some _ _ (sym up.is ∙ owned.is_above) in
-          dies-held below rungs r d.class x (parent ∷ torn) covered st falls d.at (record { class = owned.below; is = owned.is_below; closed = child (subst (λ (k : ℕ). Closure p d.class k) same up.closed) owned.owns }) d.gone dies
+          dies-held below levels r d.class x (parent ∷ torn) covered st falls d.at (record { class = owned.below; is = owned.is_below; closed = child (subst (λ (k : ℕ). Closure p d.class k) same up.closed) owned.owns }) d.gone dies
 
   -- ---- updates
 
-  update-goes : (s t : State) (below : List Activation) (rungs : List (Rung p certificate)) (r : Rung p certificate) (places : List Place) → Covered s → IsWell p s t → length s.stack ≡ suc (length below) → AllByRecursion (IsFollower p certificate classes r.line) places → FallsTo rungs r.line → Stacked classes s.objects below rungs → UpdateRule p s below t places → Held t
-  update-goes s t below rungs r [] covered well high all falls st e =
+  update-goes : (s t : State) (below : List Activation) (levels : List (Level p certificate)) (r : Level p certificate) (places : List Place) → Covered s → IsWell p s t → length s.stack ≡ suc (length below) → AllByRecursion (IsFollower p certificate classes r.line) places → FallsTo levels r.line → Stacked classes s.objects below levels → UpdateRule p s below t places → Held t
+  update-goes s t below levels r [] covered well high all falls st e =
       let Family : State → Type 0 = λ v. Held v in
-      subst Family (sym e) (record { covered = covered; rungs = rungs; stacked = st })
-  update-goes s t below rungs r (place ∷ places) covered well high all falls st rule = by_life (life_of s.objects place.object) rule
+      subst Family (sym e) (record { covered = covered; levels = levels; stacked = st })
+  update-goes s t below levels r (place ∷ places) covered well high all falls st rule = by_life (life_of s.objects place.object) rule
     where
       by_life : (life : Option Life) → NotifiesIf p s (Update places ∷ below) place t life → Held t
       by_life None e =
           let Family : State → Type 0 = λ v. Held v in
-          subst Family (sym e) (record { covered = covered; rungs = r ∷ rungs; stacked = (all.1, falls, st) })
+          subst Family (sym e) (record { covered = covered; levels = r ∷ levels; stacked = (all.1, falls, st) })
       by_life (Some l) n =
           let follower = all.0 in
           let at_class : follower.class ≡ (n.is).life.class = same_Some _ _ (sym follower.is ∙ (covered.known).lives place.object (n.is).life.class (class-of-lives s.objects place.object (n.is).lives)) in
@@ -279,7 +279,7 @@ module _ {p : Loaded} {certificate : Certificate} (valid : IsValid p certificate
           let Family : State → Type 0 = λ v. Held v in
           subst Family (sym n.gives) (record {
             covered = covered;
-            rungs = next.0 ∷ r ∷ rungs;
+            levels = next.0 ∷ r ∷ levels;
             stacked = (record { class = (n.is).life.class; is = (covered.known).lives place.object (n.is).life.class (class-of-lives s.objects place.object (n.is).lives); at = next.1 }, higher-none no_higher next.2, (all.1, falls, st));
           })
 
@@ -290,12 +290,12 @@ module _ {p : Loaded} {certificate : Certificate} (valid : IsValid p certificate
   not-queued Auto home runner e bad = absurd (cc bad)
   not-queued Queued home runner e bad = absurd (cc e)
 
-  emission-goes : (s t : State) (below : List Activation) (rungs : List (Rung p certificate)) (r : Rung p certificate) (o g : ℕ) (arguments : List Value) (used last : ℕ) → Covered s → IsWell p s t → length s.stack ≡ suc (length below) → EmitStands classes o g r.node → FallsTo rungs r.line → Stacked classes s.objects below rungs →
+  emission-goes : (s t : State) (below : List Activation) (levels : List (Level p certificate)) (r : Level p certificate) (o g : ℕ) (arguments : List Value) (used last : ℕ) → Covered s → IsWell p s t → length s.stack ≡ suc (length below) → EmitStands classes o g r.node → FallsTo levels r.line → Stacked classes s.objects below levels →
       (found : Option Connection) → next_used s.objects s.connected.connections o g used last ≡ found → EmitRule p s o g arguments last below t found → Held t
-  emission-goes s t below rungs r o g arguments used last covered well high emits falls st None is e =
+  emission-goes s t below levels r o g arguments used last covered well high emits falls st None is e =
       let Family : State → Type 0 = λ v. Held v in
-      subst Family (sym e) (record { covered = covered; rungs = rungs; stacked = st })
-  emission-goes s t below rungs r o g arguments used last covered well high emits falls st (Some c) is u =
+      subst Family (sym e) (record { covered = covered; levels = levels; stacked = st })
+  emission-goes s t below levels r o g arguments used last covered well high emits falls st (Some c) is u =
       by_way (reaches_at_once c.kind u.home (running s.turn)) refl u.arrives
     where
       after_it : State
@@ -310,13 +310,13 @@ module _ {p : Loaded} {certificate : Certificate} (valid : IsValid p certificate
       due : (c.sender ≡ o) × (c.signal ≡ g)
       due = (used-due s.objects s.connected.connections o g used last c is).0
 
-      stands : Stacked classes s.objects (Emit o g arguments c.number last ∷ below) (r ∷ rungs)
+      stands : Stacked classes s.objects (Emit o g arguments c.number last ∷ below) (r ∷ levels)
       stands = (emits, falls, st)
 
       by_way : (b : Bool) → reaches_at_once c.kind u.home (running s.turn) ≡ b → Arrives after_it (Emit o g arguments c.number last ∷ below) u.home c.receiver u.receiver c.method u.method (take (length (u.method).kinds) arguments) t b → Held t
       by_way false late x =
           let Family : State → Type 0 = λ v. Held v in
-          subst Family (sym x.gives) (record { covered = covered_used; rungs = r ∷ rungs; stacked = stands })
+          subst Family (sym x.gives) (record { covered = covered_used; levels = r ∷ levels; stacked = stands })
       by_way true once x =
           let life = (u.is).life in
           let sender : wired.sender ≡ emits.class = same_Some _ _ (sym wired.is_sender ∙ ap classes due.0 ∙ emits.is) in
@@ -332,7 +332,7 @@ module _ {p : Loaded} {certificate : Certificate} (valid : IsValid p certificate
             to = record { below = subst (λ (k : ℕ). Below p k (wired.wire).receiver) receiver wired.above_receiver; is = ap Method (late ∙ wired.method) };
           }) in
           let next = falls-to valid sound (node life.class (Method (named c.method))) line_is leads in
-          begun-held after_it t (length s.stack) (Emit o g arguments c.number last ∷ below) c.receiver u.receiver c.method u.method (take (length (u.method).kinds) arguments) (u.method).work (r ∷ rungs) next.0 covered_used u.is refl next.1 next.2 stands (omega (arith, high)) well.arguments x
+          begun-held after_it t (length s.stack) (Emit o g arguments c.number last ∷ below) c.receiver u.receiver c.method u.method (take (length (u.method).kinds) arguments) (u.method).work (r ∷ levels) next.0 covered_used u.is refl next.1 next.2 stands (omega (arith, high)) well.arguments x
 
   -- ---- connections
 
@@ -356,13 +356,13 @@ module _ {p : Loaded} {certificate : Certificate} (valid : IsValid p certificate
         kind = sym by.same_kind;
       }
 
-  linked-held : (s t : State) (stack : List Activation) (rungs : List (Rung p certificate)) (ends : Endpoints) (how : ConnectionType) → Covered s → Stacked classes s.objects stack rungs → Connects p s stack ends how t → Goes s stack t
-  linked-held s t stack rungs ends how covered st x = by_answer x.answer x.judged x.gives
+  linked-held : (s t : State) (stack : List Activation) (levels : List (Level p certificate)) (ends : Endpoints) (how : ConnectionType) → Covered s → Stacked classes s.objects stack levels → Connects p s stack ends how t → Goes s stack t
+  linked-held s t stack levels ends how covered st x = by_answer x.answer x.judged x.gives
     where
       by_answer : (answer : Result (Unit {0}) Refusal) → may_connect p s.connected (found_ends x.spelled) (x.spelled).signal.sig (x.spelled).method.sig how answer → t ≡ linked s stack (kept_ends ends) how (names_of x.kept) answer → Goes s stack t
       by_answer (Err k) judged e =
           let Family : State → Type 0 = λ v. Goes s stack v in
-          subst Family (sym e) (record { covered = covered; rungs = rungs; stacked = st }, same-spared s.objects stack)
+          subst Family (sym e) (record { covered = covered; levels = levels; stacked = st }, same-spared s.objects stack)
       by_answer (Ok _) (goes_on _ (so covers) rest) e =
           let there = x.spelled in
           let wired = wired-by (there.sends).life.class (there.receives).life.class ends.sender ends.receiver ends.signal ends.method (s.connected.last + 1) there.signal there.method how.kind how.single (known-member s covered there.sends) (known-member s covered there.receives) (there.sends).is_method (there.receives).is_method covers in
@@ -370,25 +370,25 @@ module _ {p : Loaded} {certificate : Certificate} (valid : IsValid p certificate
           subst Family (sym e) (
             record {
               covered = record { known = covered.known; owned = covered.owned; wired = all-snoc (IsWired p classes) s.connected.connections _ covered.wired wired; sited = covered.sited };
-              rungs = rungs;
+              levels = levels;
               stacked = st;
             },
             same-spared s.objects stack,
           )
 
-  unlinked-held : (s t : State) (stack : List Activation) (rungs : List (Rung p certificate)) (ends : Endpoints) → Covered s → Stacked classes s.objects stack rungs → Disconnects p s stack ends t → Goes s stack t
-  unlinked-held s t stack rungs ends covered st x = by_answer x.answer x.gives
+  unlinked-held : (s t : State) (stack : List Activation) (levels : List (Level p certificate)) (ends : Endpoints) → Covered s → Stacked classes s.objects stack levels → Disconnects p s stack ends t → Goes s stack t
+  unlinked-held s t stack levels ends covered st x = by_answer x.answer x.gives
     where
       by_answer : (answer : Result (Unit {0}) Refusal) → t ≡ unlinked s stack (kept_ends ends) (names_of x.kept) answer → Goes s stack t
       by_answer (Err k) e =
           let Family : State → Type 0 = λ v. Goes s stack v in
-          subst Family (sym e) (record { covered = covered; rungs = rungs; stacked = st }, same-spared s.objects stack)
+          subst Family (sym e) (record { covered = covered; levels = levels; stacked = st }, same-spared s.objects stack)
       by_answer (Ok _) e =
           let Family : State → Type 0 = λ v. Goes s stack v in
           subst Family (sym e) (
             record {
               covered = record { known = covered.known; owned = covered.owned; wired = all-removed (IsWired p classes) (joins_these (kept_ends ends)) s.connected covered.wired; sited = covered.sited };
-              rungs = rungs;
+              levels = levels;
               stacked = st;
             },
             same-spared s.objects stack,
@@ -396,16 +396,16 @@ module _ {p : Loaded} {certificate : Certificate} (valid : IsValid p certificate
 
   -- ---- an object is scheduled
 
-  pub schedules-held : (s t : State) (stack : List Activation) (rungs : List (Rung p certificate)) (x : ℕ) (life : Option Life) → Covered s → Stacked classes s.objects stack rungs → Schedules s stack x t life → Goes s stack t
-  schedules-held s t stack rungs x None covered st e =
+  pub schedules-held : (s t : State) (stack : List Activation) (levels : List (Level p certificate)) (x : ℕ) (life : Option Life) → Covered s → Stacked classes s.objects stack levels → Schedules s stack x t life → Goes s stack t
+  schedules-held s t stack levels x None covered st e =
       let Family : State → Type 0 = λ v. Goes s stack v in
-      subst Family (sym e) (record { covered = covered; rungs = rungs; stacked = st }, same-spared s.objects stack)
-  schedules-held s t stack rungs x (Some l) covered st rule = by_mark l.scheduled rule
+      subst Family (sym e) (record { covered = covered; levels = levels; stacked = st }, same-spared s.objects stack)
+  schedules-held s t stack levels x (Some l) covered st rule = by_mark l.scheduled rule
     where
       by_mark : (b : Bool) → DefersOnce s stack l.home x t b → Goes s stack t
       by_mark true e =
           let Family : State → Type 0 = λ v. Goes s stack v in
-          subst Family (sym e) (record { covered = covered; rungs = rungs; stacked = st }, same-spared s.objects stack)
+          subst Family (sym e) (record { covered = covered; levels = levels; stacked = st }, same-spared s.objects stack)
       by_mark false d =
           let new : List Object = change_life x scheduled s.objects in
           let left : Leaves p classes s.objects new = scheduled-leaves s.objects x in
@@ -414,8 +414,8 @@ module _ {p : Loaded} {certificate : Certificate} (valid : IsValid p certificate
           subst Family (sym d.gives) (
             record {
               covered = record { known = classes-left left covered.known; owned = left.children covered.owned; wired = covered.wired; sited = covered.sited };
-              rungs = rungs;
-              stacked = stacked-still classes s.objects new (scheduled-stay s.objects x) stack rungs spared st;
+              levels = levels;
+              stacked = stacked-still classes s.objects new (scheduled-stay s.objects x) stack levels spared st;
             },
             spared,
           )
@@ -437,68 +437,68 @@ module _ {p : Loaded} {certificate : Certificate} (valid : IsValid p certificate
   body-with : {objects : List Object} {o m : ℕ} {arguments : List Value} {left : List Step} {x : Node} (b : BodyStands p objects o m arguments left x) (rest : List Step) → AllByRecursion (IsStepOf (b.method).work) rest → BodyStands p objects o m arguments rest x
   body-with b rest steps = record { class = b.class; lives = b.lives; at = b.at; method = b.method; is = b.is; bodied = b.bodied; typed = b.typed; steps = steps }
 
-  pub deletes-held : (s t : State) (stack : List Activation) (rungs : List (Rung p certificate)) (r : Rung p certificate) (x class : ℕ) → Covered s → Stacked classes s.objects stack rungs → FallsTo rungs r.line → r.node ≡ node class Destruction → classes x ≡ Some class → Closure p class class → t ≡ deleting s stack x → Goes s stack t
-  deletes-held s t stack rungs r x class covered st falls at is closed e =
+  pub deletes-held : (s t : State) (stack : List Activation) (levels : List (Level p certificate)) (r : Level p certificate) (x class : ℕ) → Covered s → Stacked classes s.objects stack levels → FallsTo levels r.line → r.node ≡ node class Destruction → classes x ≡ Some class → Closure p class class → t ≡ deleting s stack x → Goes s stack t
+  deletes-held s t stack levels r x class covered st falls at is closed e =
       let Family : State → Type 0 = λ v. Goes s stack v in
       subst Family (sym e) (
         record {
           covered = covered;
-          rungs = r ∷ rungs;
+          levels = r ∷ levels;
           stacked = (record { class = class; at = at; coming = record { class = class; is = is; closed = closed }; gone = tt }, falls, st);
         },
         same-spared s.objects stack,
       )
 
-  does-goes : (natives : NativeAnswers) (s t : State) (below : List Activation) (rungs : List (Rung p certificate)) (r : Rung p certificate) (o m : ℕ) (arguments : List Value) (y : Step) (rest : List Step) → Covered s → Agree p s.objects s.bindings → IsWell p s t → length s.stack ≡ suc (length below) →
-      BodyStands p s.objects o m arguments (y ∷ rest) r.node → FallsTo rungs r.line → Stacked classes s.objects below rungs → (d : Doing) → doing_step s.objects o arguments y ≡ Some d → Does p natives s o m arguments rest below d t → Goes s (Body o m arguments rest ∷ below) t
-  does-goes natives s t below rungs r o m arguments y rest covered agree well high b falls st d is does = by_doing d is does
+  does-goes : (natives : NativeAnswers) (s t : State) (below : List Activation) (levels : List (Level p certificate)) (r : Level p certificate) (o m : ℕ) (arguments : List Value) (y : Step) (rest : List Step) → Covered s → Agree p s.objects s.bindings → IsWell p s t → length s.stack ≡ suc (length below) →
+      BodyStands p s.objects o m arguments (y ∷ rest) r.node → FallsTo levels r.line → Stacked classes s.objects below levels → (d : Operation) → operation_of_step s.objects o arguments y ≡ Some d → Does p natives s o m arguments rest below d t → Goes s (Body o m arguments rest ∷ below) t
+  does-goes natives s t below levels r o m arguments y rest covered agree well high b falls st d is does = by_operation d is does
     where
       stack : List Activation
       stack = Body o m arguments rest ∷ below
 
-      stands : Stacked classes s.objects stack (r ∷ rungs)
+      stands : Stacked classes s.objects stack (r ∷ levels)
       stands = (body-with b rest (b.steps).1, falls, st)
 
       told-goes : {v : State} → t ≡ v → Goes s stack v → Goes s stack t
       told-goes e h = let Family : State → Type 0 = λ w. Goes s stack w in subst Family (sym e) h
 
-      by_doing : (d : Doing) → doing_step s.objects o arguments y ≡ Some d → Does p natives s o m arguments rest below d t → Goes s stack t
-      by_doing (Write x q new) is does =
+      by_operation : (d : Operation) → operation_of_step s.objects o arguments y ≡ Some d → Does p natives s o m arguments rest below d t → Goes s stack t
+      by_operation (Write x q new) is does =
           let life = (does.is).life in
           let led = does-led sound agree.typed b y (Write x q new) (b.steps).0 is in
           let next = falls-to valid sound (node life.class (Property q)) r.is (led does.object life (does.is).lives) in
           let spared : SparedIn stack s.objects t.objects = λ k body gone. differ-spared s.objects does.objects does.written.objects k (subst (λ (v : State). IsDead v.objects k) does.settles.gives gone) in
-          (writes-held stack (r ∷ rungs) next.0 x q life.class new covered agree stands next.2 ((covered.known).lives x life.class (class-of-lives s.objects x (does.is).lives)) next.1 does, spared)
-      by_doing (Begin x n given) is does =
+          (writes-held stack (r ∷ levels) next.0 x q life.class new covered agree stands next.2 ((covered.known).lives x life.class (class-of-lives s.objects x (does.is).lives)) next.1 does, spared)
+      by_operation (Begin x n given) is does =
           let life = (does.is).life in
           let led = does-led sound agree.typed b y (Begin x n given) (b.steps).0 is in
           let next = falls-to valid sound (node life.class (Method n)) r.is (led.0 does.object life (does.is).lives) in (
-            begun-held s t (length s.stack) stack x does.object n does.method given (does.method).work (r ∷ rungs) next.0 covered does.is refl (next.1 ∙ ap (λ (k : ℕ). node life.class (Method k)) (sym led.1)) next.2 stands (omega (arith, high)) well.arguments does.gives,
+            begun-held s t (length s.stack) stack x does.object n does.method given (does.method).work (r ∷ levels) next.0 covered does.is refl (next.1 ∙ ap (λ (k : ℕ). node life.class (Method k)) (sym led.1)) next.2 stands (omega (arith, high)) well.arguments does.gives,
             spared-as stack s.objects t.objects (begun-objects s t stack x does.object n does.method given (does.method).work does.gives),
           )
-      by_doing (Choose block) is does =
+      by_operation (Choose block) is does =
           let led = does-led sound agree.typed b y (Choose block) (b.steps).0 is in
-          told-goes does (record { covered = covered; rungs = r ∷ rungs; stacked = (body-with b (map Run block ++ rest) (steps-append (IsStepOf (b.method).work) (map Run block) rest (left-runs (b.method).work led.0 block led.1 led.2) (b.steps).1), falls, st) }, same-spared s.objects stack)
-      by_doing (Connect ends how) is does = linked-held s t stack (r ∷ rungs) ends how covered stands does
-      by_doing (Disconnect ends) is does = unlinked-held s t stack (r ∷ rungs) ends covered stands does
-      by_doing (Delete x) is does =
+          told-goes does (record { covered = covered; levels = r ∷ levels; stacked = (body-with b (map Run block ++ rest) (steps-append (IsStepOf (b.method).work) (map Run block) rest (left-runs (b.method).work led.0 block led.1 led.2) (b.steps).1), falls, st) }, same-spared s.objects stack)
+      by_operation (Connect ends how) is does = linked-held s t stack (r ∷ levels) ends how covered stands does
+      by_operation (Disconnect ends) is does = unlinked-held s t stack (r ∷ levels) ends covered stands does
+      by_operation (Delete x) is does =
           let led = does-led sound agree.typed b y (Delete x) (b.steps).0 is in
           let z = led.0 in
           let next = falls-to valid sound (node (z.1).class Destruction) r.is (led.1 z.0 z.1 z.2) in
-          deletes-held s t stack (r ∷ rungs) next.0 x (z.1).class covered stands next.2 next.1 ((covered.known).lives x (z.1).class (class-of-lives s.objects x z.2)) (itself (agree.typed x z.0 z.1 z.2).is_class) does
-      by_doing (Schedule x) is does = schedules-held s t stack (r ∷ rungs) x (life_of s.objects x) covered stands does
-      by_doing (TakeAnswer effects) is does =
+          deletes-held s t stack (r ∷ levels) next.0 x (z.1).class covered stands next.2 next.1 ((covered.known).lives x (z.1).class (class-of-lives s.objects x z.2)) (itself (agree.typed x z.0 z.1 z.2).is_class) does
+      by_operation (Schedule x) is does = schedules-held s t stack (r ∷ levels) x (life_of s.objects x) covered stands does
+      by_operation (TakeAnswer effects) is does =
           let native = does-led sound agree.typed b y (TakeAnswer effects) (b.steps).0 is in
-          told-goes does.gives (record { covered = covered; rungs = r ∷ rungs; stacked = (body-with b (map (Act effects) does.actions ++ rest) (steps-append (IsStepOf (b.method).work) (map (Act effects) does.actions) rest (left-acts (b.method).work effects does.actions native) (b.steps).1), falls, st) }, same-spared s.objects stack)
-      by_doing Nothing is does = told-goes does (record { covered = covered; rungs = r ∷ rungs; stacked = stands }, same-spared s.objects stack)
+          told-goes does.gives (record { covered = covered; levels = r ∷ levels; stacked = (body-with b (map (Act effects) does.actions ++ rest) (steps-append (IsStepOf (b.method).work) (map (Act effects) does.actions) rest (left-acts (b.method).work effects does.actions native) (b.steps).1), falls, st) }, same-spared s.objects stack)
+      by_operation Nothing is does = told-goes does (record { covered = covered; levels = r ∷ levels; stacked = stands }, same-spared s.objects stack)
 
-  body-goes : (natives : NativeAnswers) (s t : State) (below : List Activation) (rungs : List (Rung p certificate)) (r : Rung p certificate) (o m : ℕ) (arguments : List Value) (left : List Step) → Covered s → Agree p s.objects s.bindings → IsWell p s t → length s.stack ≡ suc (length below) →
-      BodyStands p s.objects o m arguments left r.node → FallsTo rungs r.line → Stacked classes s.objects below rungs → BodyRule p natives s o m arguments below t left → Held t × SparedIn (Body o m arguments left ∷ below) s.objects t.objects
-  body-goes natives s t below rungs r o m arguments [] covered agree well high b falls st e =
+  body-goes : (natives : NativeAnswers) (s t : State) (below : List Activation) (levels : List (Level p certificate)) (r : Level p certificate) (o m : ℕ) (arguments : List Value) (left : List Step) → Covered s → Agree p s.objects s.bindings → IsWell p s t → length s.stack ≡ suc (length below) →
+      BodyStands p s.objects o m arguments left r.node → FallsTo levels r.line → Stacked classes s.objects below levels → BodyRule p natives s o m arguments below t left → Held t × SparedIn (Body o m arguments left ∷ below) s.objects t.objects
+  body-goes natives s t below levels r o m arguments [] covered agree well high b falls st e =
       let Family : State → Type 0 = λ v. Held v × SparedIn (Body o m arguments [] ∷ below) s.objects v.objects in
-      subst Family (sym e) (record { covered = covered; rungs = rungs; stacked = st }, same-spared s.objects (Body o m arguments [] ∷ below))
-  body-goes natives s t below rungs r o m arguments (y ∷ rest) covered agree well high b falls st rule =
-      let g = does-goes natives s t below rungs r o m arguments y rest covered agree well high b falls st rule.what rule.is rule.does in
+      subst Family (sym e) (record { covered = covered; levels = levels; stacked = st }, same-spared s.objects (Body o m arguments [] ∷ below))
+  body-goes natives s t below levels r o m arguments (y ∷ rest) covered agree well high b falls st rule =
+      let g = does-goes natives s t below levels r o m arguments y rest covered agree well high b falls st rule.what rule.is rule.does in
       (g.0, g.1)
 
   -- ---- turns
@@ -512,15 +512,15 @@ module _ {p : Loaded} {certificate : Certificate} (valid : IsValid p certificate
       by_life : (life : Option Life) → BeginsIf p u o m arguments t life → Held t
       by_life None e =
           let Family : State → Type 0 = λ v. Held v in
-          subst Family (sym e) (record { covered = covered; rungs = []; stacked = st })
+          subst Family (sym e) (record { covered = covered; levels = []; stacked = st })
       by_life (Some l) b =
           let life = (b.is).life in
-          let r = rung-at valid (node life.class (Method (named m))) (named-node sound life.class m b.method (b.is).is_method) in
+          let r = level-at valid (node life.class (Method (named m))) (named-node sound life.class m b.method (b.is).is_method) in
           begun-held u t (length s.stack) [] o b.object m b.method arguments (b.method).work [] r.0 covered b.is refl r.1 tt tt (omega (arith, low)) well.arguments b.gives
   delivers-held s t queues (Deletion o) covered st low well waits rule =
       let known = (covered.known).each o waits in
       let class = is_class p known.0 known.2 in
-      let r = rung-at valid (node known.0 Destruction) (end-node sound known.0 class.0 class.1) in
+      let r = level-at valid (node known.0 Destruction) (end-node sound known.0 class.0 class.1) in
       (deletes-held (record s { queues = queues }) t [] [] r.0 o known.0 covered tt tt r.1 known.1 (itself class.1) rule).0
 
   turn-held : (s t : State) → Covered s → Stacked {p = p} {certificate = certificate} classes s.objects s.stack [] → length s.stack ≡ 0 → IsWell p s t → AllWait p s.objects s.queues.loops → (turn : Option Turn) → TurnRule p s t turn → Held t
@@ -530,7 +530,7 @@ module _ {p : Loaded} {certificate : Certificate} (valid : IsValid p certificate
       by_first : (found : Option Posted) → find (is_before turn.limit) (items_at s.queues.loops turn.home) ≡ found → Serves p s t turn found → Held t
       by_first None is e =
           let Family : State → Type 0 = λ v. Held v in
-          subst Family (sym e) (record { covered = covered; rungs = []; stacked = st })
+          subst Family (sym e) (record { covered = covered; levels = []; stacked = st })
       by_first (Some q) is d =
           delivers-held s t (taken_before turn.home turn.limit s.queues) q.item covered st low well (first-waits p s.objects s.queues.loops turn.home turn.limit q waiting is) d
 
@@ -552,22 +552,22 @@ module _ {p : Loaded} {certificate : Certificate} (valid : IsValid p certificate
       by_way true e = begun-objects (with_used s c) t (Emit o g arguments c.number last ∷ below) c.receiver u.receiver c.method u.method (take (length (u.method).kinds) arguments) (u.method).work e
       by_way false x = ap (λ (v : State). v.objects) x.gives
 
-  rule-at : (natives : NativeAnswers) (s t : State) (stack : List Activation) (rungs : List (Rung p certificate)) → s.stack ≡ stack → Covered s → Agree p s.objects s.bindings → AllWait p s.objects s.queues.loops → IsWell p s t → Stacked classes s.objects stack rungs → RuleAt p natives s t stack → Held t × SparedIn stack s.objects t.objects
+  rule-at : (natives : NativeAnswers) (s t : State) (stack : List Activation) (levels : List (Level p certificate)) → s.stack ≡ stack → Covered s → Agree p s.objects s.bindings → AllWait p s.objects s.queues.loops → IsWell p s t → Stacked classes s.objects stack levels → RuleAt p natives s t stack → Held t × SparedIn stack s.objects t.objects
   rule-at natives s t [] [] is covered agree waiting well st rule =
       (turn-held s t covered (subst (λ (l : List Activation). Stacked {p = p} {certificate = certificate} classes s.objects l []) (sym is) st) (ap (λ (l : List Activation). length l) is) well waiting s.turn rule, λ o body gone. absurd (cc body))
-  rule-at natives s t [] (r ∷ rungs) is covered agree waiting well st rule = absurd st
+  rule-at natives s t [] (r ∷ levels) is covered agree waiting well st rule = absurd st
   rule-at natives s t (a ∷ below) [] is covered agree waiting well st rule = absurd st
-  rule-at natives s t (Body o m arguments left ∷ below) (r ∷ rungs) is covered agree waiting well st rule =
-      body-goes natives s t below rungs r o m arguments left covered agree well (ap (λ (l : List Activation). length l) is) st.0 st.1 st.2 rule
-  rule-at natives s t (Emit o g arguments used last ∷ below) (r ∷ rungs) is covered agree waiting well st rule = (
-    emission-goes s t below rungs r o g arguments used last covered well (ap (λ (l : List Activation). length l) is) st.0 st.1 st.2 (next_used s.objects s.connected.connections o g used last) refl rule,
+  rule-at natives s t (Body o m arguments left ∷ below) (r ∷ levels) is covered agree waiting well st rule =
+      body-goes natives s t below levels r o m arguments left covered agree well (ap (λ (l : List Activation). length l) is) st.0 st.1 st.2 rule
+  rule-at natives s t (Emit o g arguments used last ∷ below) (r ∷ levels) is covered agree waiting well st rule = (
+    emission-goes s t below levels r o g arguments used last covered well (ap (λ (l : List Activation). length l) is) st.0 st.1 st.2 (next_used s.objects s.connected.connections o g used last) refl rule,
     spared-as (Emit o g arguments used last ∷ below) s.objects t.objects (emission-objects s t o g arguments last below (next_used s.objects s.connected.connections o g used last) rule),
   )
-  rule-at natives s t (Update places ∷ below) (r ∷ rungs) is covered agree waiting well st rule =
-      (update-goes s t below rungs r places covered well (ap (λ (l : List Activation). length l) is) st.0 st.1 st.2 rule, spared-as (Update places ∷ below) s.objects t.objects (update-objects s t below places rule))
-  rule-at natives s t (Destroy next torn ∷ below) (r ∷ rungs) is covered agree waiting well st rule =
-      let g = destroy-goes s t below rungs r next torn covered st.0 st.1 st.2 rule in (g.0, λ o body gone. g.1 o body gone)
+  rule-at natives s t (Update places ∷ below) (r ∷ levels) is covered agree waiting well st rule =
+      (update-goes s t below levels r places covered well (ap (λ (l : List Activation). length l) is) st.0 st.1 st.2 rule, spared-as (Update places ∷ below) s.objects t.objects (update-objects s t below places rule))
+  rule-at natives s t (Destroy next torn ∷ below) (r ∷ levels) is covered agree waiting well st rule =
+      let g = destroy-goes s t below levels r next torn covered st.0 st.1 st.2 rule in (g.0, λ o body gone. g.1 o body gone)
 
   -- each rule keeps it, and spares every object that has a body
   pub rule-held : (natives : NativeAnswers) (s t : State) → Held s → Agree p s.objects s.bindings → AllWait p s.objects s.queues.loops → IsWell p s t → Rule p natives s t → Held t × Spares s t
-  rule-held natives s t held agree waiting well rule = rule-at natives s t s.stack held.rungs refl held.covered agree waiting well held.stacked rule
+  rule-held natives s t held agree waiting well rule = rule-at natives s t s.stack held.levels refl held.covered agree waiting well held.stacked rule

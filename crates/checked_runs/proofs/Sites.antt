@@ -31,7 +31,7 @@ use Rattle.rank_check.specs.Valid.{IsLineOf, IsValid}
 use Rattle.checked_runs.specs.code.Invariant.{IsOf, IsSited}
 use Rattle.checked_runs.proofs.Nodes.{found-in}
 use Rattle.effect_scan.proofs.Standing.{join_nodes}
-use Rattle.checked_runs.proofs.Ladder.{line-from, line-unique, rung-at}
+use Rattle.checked_runs.proofs.Ladder.{line-from, line-unique, level-at}
 
 -- ---- the names in an expression are its paths
 
@@ -170,7 +170,7 @@ module _ {p : Loaded} {certificate : Certificate} (valid : IsValid p certificate
       let found = sited q b is in
       let target = (found.0).target in
       let leads = reads-lead found.0 reads in
-      let r = rung-at valid (node target.class (Property b.target.property)) (join_nodes sound _ _ leads.2).1 in
+      let r = level-at valid (node target.class (Property b.target.property)) (join_nodes sound _ _ leads.2).1 in
       let here = subst (λ (x : Node). IsLineOf p certificate x (r.0).line) r.1 (r.0).is in
       ((r.0).line, (target.class, subst (λ (z : Place). classes z.object ≡ Some target.class) found.1 target.is, subst (λ (z : Place). IsLineOf p certificate (node target.class (Property z.property)) (r.0).line) found.1 here))
 

@@ -13,7 +13,7 @@ use Rattle.rank_check.specs.Valid.{IsValid}
 use Rattle.machine_state.specs.declared.fault.Answer.{Answer}
 use Rattle.machine_state.specs.State.{State, Activation, Body}
 use Rattle.machine_state.specs.Worlds.{at, untouched}
-use Rattle.machine_rules.specs.Doings.{Write}
+use Rattle.machine_rules.specs.Operations.{Write}
 use Rattle.machine_rules.specs.Good.{IsWell, IsGood}
 use Rattle.machine_rules.specs.Natives.{NativeAnswers}
 use Rattle.machine_rules.specs.Rules.{Rule}
@@ -24,7 +24,7 @@ use Rattle.machine_events.specs.Takes.{Takes as Taking}
 use Rattle.machine_events.proofs.Preservation.{after-rule, after-event}
 use Rattle.machine_events.proofs.Standing.{Invariant}
 use Rattle.checked_runs.specs.Claims.{IsFaultless}
-use Rattle.checked_runs.specs.code.Invariant.{Rung, Stacked, Holds}
+use Rattle.checked_runs.specs.code.Invariant.{Level, Stacked, Holds}
 use Rattle.checked_runs.specs.code.Promised.{AllIsPromised}
 use Rattle.checked_runs.proofs.Arguments.{rule-pushes, takes-pushes}
 use Rattle.checked_runs.proofs.Events.{takes-held}
@@ -49,11 +49,11 @@ module _ {p : Loaded} {certificate : Certificate} (valid : IsValid p certificate
   pub writes-fit : {s : State} → Stood p certificate s → (o q : ℕ) (v : Value) → WritesNext s o q v → (x : Object) (property : MetaProperty) → IsField p s.objects o q x property → ReadsAs p s.objects v property.kind
   writes-fit {s} stood o q v n x property field =
       let held = stood.held in
-      on-top held.rungs (subst (λ (l : List Activation). Stacked stood.classes s.objects l held.rungs) n.is_next held.stacked) (subst (AllIsPromised p stood.classes) n.is_next stood.promised)
+      on-top held.levels (subst (λ (l : List Activation). Stacked stood.classes s.objects l held.levels) n.is_next held.stacked) (subst (AllIsPromised p stood.classes) n.is_next stood.promised)
     where
-      on-top : (rungs : List (Rung p certificate)) → Stacked stood.classes s.objects (Body n.object n.method n.arguments (n.step ∷ n.rest) ∷ n.below) rungs → AllIsPromised p stood.classes (Body n.object n.method n.arguments (n.step ∷ n.rest) ∷ n.below) → ReadsAs p s.objects v property.kind
+      on-top : (levels : List (Level p certificate)) → Stacked stood.classes s.objects (Body n.object n.method n.arguments (n.step ∷ n.rest) ∷ n.below) levels → AllIsPromised p stood.classes (Body n.object n.method n.arguments (n.step ∷ n.rest) ∷ n.below) → ReadsAs p s.objects v property.kind
       on-top [] st all = absurd st
-      on-top (r ∷ rungs) st all =
+      on-top (r ∷ levels) st all =
           does-give valid sound stood.classes (((stood.held).covered).known).lives ((stood.up).sound).agree.typed st.0 n.step (Write o q v) ((st.0).steps).0 (all.0).0 n.does x property field
 
   module _ (accepts : Takes) (natives : NativeAnswers) (promises : Promises p accepts natives) where
@@ -76,12 +76,12 @@ module _ {p : Loaded} {certificate : Certificate} (valid : IsValid p certificate
         let well = rule-well {s = s} {t = t} stood rule in
         let held = follows-held valid sound natives {s = s} {t = t} {next = []} (as-kept natives stood) well (by_rule rule) in
         let agree = rule-agrees natives s t ((stood.up).sound).agree (writes-fit stood) rule in
-        record { well = well; spared = held.1; acyclic = agree.acyclic; shallow = no-deeper valid (held.0).0 t.objects ((held.0).1).rungs t.stack ((held.0).1).stacked }
+        record { well = well; spared = held.1; acyclic = agree.acyclic; shallow = no-deeper valid (held.0).0 t.objects ((held.0).1).levels t.stack ((held.0).1).stacked }
     follows-good {s} {t} stood (by_event {e = e} {events = events} x) =
         let well = event-well stood x in
         let held = follows-held valid sound natives {s = s} {t = t} {next = e ∷ events} (as-kept natives stood) well (by_event x) in
         let agree = takes-agrees valid sound (stood.classes, stood.held) ((stood.up).sound).agree x in
-        record { well = well; spared = held.1; acyclic = agree.acyclic; shallow = no-deeper valid (held.0).0 t.objects ((held.0).1).rungs t.stack ((held.0).1).stacked }
+        record { well = well; spared = held.1; acyclic = agree.acyclic; shallow = no-deeper valid (held.0).0 t.objects ((held.0).1).levels t.stack ((held.0).1).stacked }
 
     rule-stood : {d : ℕ} {s t : State} → Stood p certificate s → IsGood p d s t → Rule p natives s t → Stood p certificate t
     rule-stood {d} {s} {t} stood good rule =

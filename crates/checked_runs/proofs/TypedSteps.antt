@@ -53,7 +53,7 @@ use Rattle.machine_state.specs.State.{Step, State, IsIdle, Activation, Body, Emi
 use Rattle.machine_state.specs.Turns.{running, reaches_at_once}
 use Rattle.machine_rules.specs.Connecting.{kept_ends, names_of}
 use Rattle.machine_rules.specs.Destroying.{Dies, NextRule, ChildRule, DestroyRule, living_child, DefersOnce, Schedules}
-use Rattle.machine_rules.specs.Doings.{Doing, Write, Begin, Choose, Connect, Disconnect, Delete, Schedule, TakeAnswer, Nothing, doing_step}
+use Rattle.machine_rules.specs.Operations.{Operation, Write, Begin, Choose, Connect, Disconnect, Delete, Schedule, TakeAnswer, Nothing, operation_of_step}
 use Rattle.machine_rules.specs.Judgement.{found as finds, holds as so, becomes, goes_on}
 use Rattle.machine_rules.specs.Natives.{NativeAnswers}
 use Rattle.machine_rules.specs.Rules.{Rule, RuleAt, BodyRule, Does, EmitRule, UpdateRule, NotifiesIf, TurnRule, Serves, Delivers, Arrives, BeginsIf, begun, with_used, linked, unlinked}
@@ -122,7 +122,7 @@ module _ {p : Loaded} (s t : State) (agree : Agree p s.objects s.bindings) where
       by_mark true e = agree-at _ e agree
       by_mark false d = agree-at _ d.gives (scheduled-agree p s.objects s.bindings x agree)
 
-  does-agrees : (natives : NativeAnswers) (o m : ℕ) (arguments : List Value) (step : Step) (rest : List Step) (below : List Activation) (d : Doing) → s.stack ≡ Body o m arguments (step ∷ rest) ∷ below → doing_step s.objects o arguments step ≡ Some d → WritesFit p s → Does p natives s o m arguments rest below d t → Agree p t.objects t.bindings
+  does-agrees : (natives : NativeAnswers) (o m : ℕ) (arguments : List Value) (step : Step) (rest : List Step) (below : List Activation) (d : Operation) → s.stack ≡ Body o m arguments (step ∷ rest) ∷ below → operation_of_step s.objects o arguments step ≡ Some d → WritesFit p s → Does p natives s o m arguments rest below d t → Agree p t.objects t.bindings
   does-agrees natives o m arguments step rest below (Write x q new) at is fit does =
       let next : WritesNext s x q new = record { object = o; method = m; arguments = arguments; step = step; rest = rest; below = below; is_next = at; does = is } in
       writes-agree agree does (fit x q new next does.object does.property does.is)

@@ -23,7 +23,7 @@ use Rattle.machine_rules.specs.code.Keeps.{StayThere}
 use Rattle.machine_rules.specs.There.{IsDead}
 use Rattle.machine_rules.proofs.Dying.{lives-not-dead}
 use Rattle.machine_rules.proofs.Keeps.{lives-of-class, values-stay}
-use Rattle.checked_runs.specs.code.Invariant.{Rung, BodyStands, Stands, Stacked, AreClasses, AreOwned, IsOwned}
+use Rattle.checked_runs.specs.code.Invariant.{Level, BodyStands, Stands, Stacked, AreClasses, AreOwned, IsOwned}
 
 -- ---- what a change of objects leaves
 
@@ -158,14 +158,14 @@ spared-below old new (Update places) below spared k body gone = spared k body go
 spared-below old new (Destroy next torn) below spared k body gone = spared k body gone
 
 module _ {p : Loaded} {certificate : Certificate} (classes : ℕ → Option ℕ) (old new : List Object) (stay : StayThere old new) where
-  stands-still : (a : Activation) (below : List Activation) (rung : Rung p certificate) → SparedIn (a ∷ below) old new → Stands classes old a rung → Stands classes new a rung
-  stands-still (Body o m arguments left) below rung spared st = body-still stay (spared o (own-body o (has_body o below))) st
-  stands-still (Emit o g arguments used last) below rung spared st = st
-  stands-still (Update places) below rung spared st = st
-  stands-still (Destroy next torn) below rung spared st = st
+  stands-still : (a : Activation) (below : List Activation) (level : Level p certificate) → SparedIn (a ∷ below) old new → Stands classes old a level → Stands classes new a level
+  stands-still (Body o m arguments left) below level spared st = body-still stay (spared o (own-body o (has_body o below))) st
+  stands-still (Emit o g arguments used last) below level spared st = st
+  stands-still (Update places) below level spared st = st
+  stands-still (Destroy next torn) below level spared st = st
 
-  pub stacked-still : (stack : List Activation) (rungs : List (Rung p certificate)) → SparedIn stack old new → Stacked classes old stack rungs → Stacked classes new stack rungs
+  pub stacked-still : (stack : List Activation) (levels : List (Level p certificate)) → SparedIn stack old new → Stacked classes old stack levels → Stacked classes new stack levels
   stacked-still [] [] spared st = tt
-  stacked-still [] (r ∷ rungs) spared st = absurd st
+  stacked-still [] (r ∷ levels) spared st = absurd st
   stacked-still (a ∷ stack) [] spared st = absurd st
-  stacked-still (a ∷ stack) (r ∷ rungs) spared st = (stands-still a stack r spared st.0, st.1, stacked-still stack rungs (spared-below old new a stack spared) st.2)
+  stacked-still (a ∷ stack) (r ∷ levels) spared st = (stands-still a stack r spared st.0, st.1, stacked-still stack levels (spared-below old new a stack spared) st.2)

@@ -24,7 +24,7 @@ use Rattle.meta_model.specs.declared.effects.MetaEffects.{MetaEffects}
 use Rattle.native_slots.specs.declared.action.Action.{Action}
 use Rattle.native_slots.specs.declared.action.Action.TheVariants as action
 use Rattle.machine_rules.specs.Connecting.{AreThere}
-use Rattle.machine_rules.specs.Doings.{Doing, Write, Begin, Choose, Connect, Disconnect, Delete, Schedule, TakeAnswer, Nothing, on_object, on_ends, chosen_by, doing, doing_action, doing_step}
+use Rattle.machine_rules.specs.Operations.{Operation, Write, Begin, Choose, Connect, Disconnect, Delete, Schedule, TakeAnswer, Nothing, on_object, on_ends, chosen_by, operation, operation_of_action, operation_of_step}
 use Rattle.object_tree.specs.Typed.{AreTyped}
 use Rattle.machine_rules.specs.Paths.{path_value, value_of, values_of}
 use Rattle.machine_rules.specs.There.{IsMember, IsField}
@@ -33,7 +33,7 @@ use Rattle.machine_events.proofs.Standing.{ActionStands, StepStands, BodyStands}
 use Rattle.machine_events.proofs.TypedPaths.{Reaches, to_null, to_object, path-reaches}
 
 -- the members that are named are there, and a block that is chosen is sound for the body
-abbrev pub IsPossible : Loaded → List Object → ℕ → List ValueType → Doing → Type 0
+abbrev pub IsPossible : Loaded → List Object → ℕ → List ValueType → Operation → Type 0
 IsPossible p objects me kinds (Write x q new) = (object : Object) × (property : MetaProperty) × IsField p objects x q object property
 IsPossible p objects me kinds (Begin x n given) = (object : Object) × (method : MetaMethod) × IsMember p objects x n object method
 IsPossible p objects me kinds (Choose block) = AreSound p me kinds block
@@ -46,16 +46,16 @@ IsPossible p objects me kinds Nothing = Unit {0}
 
 -- ---- what is so of all that may be found
 
-map-so : {X : Type 0} (P : Doing → Type 0) (act : X → Doing) (found : Option X) → ((v : X) → P (act v)) → IfSome (option_map act found) P
+map-so : {X : Type 0} (P : Operation → Type 0) (act : X → Operation) (found : Option X) → ((v : X) → P (act v)) → IfSome (option_map act found) P
 map-so P act None all = tt
 map-so P act (Some v) all = all v
 
 -- a path leads to null, or to an object of the class
-object-so : {p : Loaded} {objects : List Object} {c : ℕ} (P : Doing → Type 0) (act : ℕ → Option Doing) (found : Option Value) → Reaches p objects c found → P Nothing → ((y : ℕ) (x : Object) (l : Life) → Lives objects y x l → Below p l.class c → IfSome (act y) P) → IfSome (on_object act found) P
+object-so : {p : Loaded} {objects : List Object} {c : ℕ} (P : Operation → Type 0) (act : ℕ → Option Operation) (found : Option Value) → Reaches p objects c found → P Nothing → ((y : ℕ) (x : Object) (l : Life) → Lives objects y x l → Below p l.class c → IfSome (act y) P) → IfSome (on_object act found) P
 object-so P act found to_null none all = none
 object-so P act found (to_object {o = y} {x = x} {l = l} lives beneath) none all = all y x l lives beneath
 
-chosen-so : (P : Doing → Type 0) (block other : List Statement) (found : Option Value) → P (Choose block) → P (Choose other) → IfSome (chosen_by block other found) P
+chosen-so : (P : Operation → Type 0) (block other : List Statement) (found : Option Value) → P (Choose block) → P (Choose other) → IfSome (chosen_by block other found) P
 chosen-so P block other None first second = tt
 chosen-so P block other (Some (value.Bool true)) first second = first
 chosen-so P block other (Some (value.Bool false)) first second = second
@@ -67,11 +67,11 @@ chosen-so P block other (Some (value.Ref n)) first second = tt
 
 module _ {p : Loaded} {objects : List Object} (sound : IsSound p) (typed : AreTyped p objects) where
   module _ {o : ℕ} {arguments : List Value} {left : List Step} (body : BodyStands p objects o arguments left) where
-    abbrev Possible : Doing → Type 0
+    abbrev Possible : Operation → Type 0
     Possible d = IsPossible p objects body.declaring body.kinds d
 
     -- the objects at two ends have the signal and the method
-    ends-so : (act : Endpoints → Doing) (ends : MetaEndpoints) → AreSoundEnds p body.declaring body.kinds ends → ((between : Endpoints) → AreThere p objects between → Possible (act between)) →
+    ends-so : (act : Endpoints → Operation) (ends : MetaEndpoints) → AreSoundEnds p body.declaring body.kinds ends → ((between : Endpoints) → AreThere p objects between → Possible (act between)) →
         IfSome (on_ends act ends (path_value objects o arguments ends.sender) (path_value objects o arguments ends.receiver)) Possible
     ends-so act ends is so =
         let between : ℕ → ℕ → Endpoints = λ x y. record { sender = x; signal = ends.signal; receiver = y; method = ends.method } in
@@ -89,12 +89,12 @@ module _ {p : Loaded} {objects : List Object} (sound : IsSound p) (typed : AreTy
         })))
 
     -- what is done with the object that a path leads to needs nothing of it
-    object-alone : (act : ℕ → Doing) (path : MetaPath) {class : ℕ} → LeadsToClass p body.declaring body.kinds path class → ((y : ℕ) → Possible (act y)) → IfSome (on_object (λ y. Some (act y)) (path_value objects o arguments path)) Possible
+    object-alone : (act : ℕ → Operation) (path : MetaPath) {class : ℕ} → LeadsToClass p body.declaring body.kinds path class → ((y : ℕ) → Possible (act y)) → IfSome (on_object (λ y. Some (act y)) (path_value objects o arguments path)) Possible
     object-alone act path leads so =
         let reaches = path-reaches objects o body.declaring body.object body.life arguments body.kinds path sound typed body.lives body.below body.typed leads in
         object-so Possible (λ y. Some (act y)) (path_value objects o arguments path) reaches tt (λ y z l lives beneath. so y)
 
-    statement-so : (f : layer.Statement-F Statement) → IsSoundStatement p body.declaring body.kinds f → IfSome (doing objects o arguments f) Possible
+    statement-so : (f : layer.Statement-F Statement) → IsSoundStatement p body.declaring body.kinds f → IfSome (operation objects o arguments f) Possible
     statement-so f (set_sound {path = path} {q = q} {e = e} is) =
         let reaches = path-reaches objects o body.declaring body.object body.life arguments body.kinds path sound typed body.lives body.below body.typed is.leads in
         object-so Possible (λ y. option_map (λ (new : Value). Write y q new) (value_of objects o arguments e)) (path_value objects o arguments path) reaches tt
@@ -116,7 +116,7 @@ module _ {p : Loaded} {objects : List Object} (sound : IsSound p) (typed : AreTy
     statement-so f (later_sound {path = path} leads) = object-alone Schedule path leads (λ y. tt)
 
     -- the property or the signal that an action names is there
-    action-so : (effects : MetaEffects) (it : Action) → ActionStands p body.life.class effects it → IfSome (doing_action o effects it) Possible
+    action-so : (effects : MetaEffects) (it : Action) → ActionStands p body.life.class effects it → IfSome (operation_of_action o effects it) Possible
     action-so effects (action.Set k v) is =
         let Found : Option ℕ → Type 0 = λ found. IfSome (option_map (λ (q : ℕ). Write o q v) found) Possible in
         subst Found (sym is.2) (body.object, is.1, record { life = body.life; lives = body.lives; class = is.3.class; is_class = is.3.is_class; is_property = is.3.is })
@@ -124,22 +124,22 @@ module _ {p : Loaded} {objects : List Object} (sound : IsSound p) (typed : AreTy
         let Found : Option ℕ → Type 0 = λ found. IfSome (option_map (λ (g : ℕ). Begin o g given) found) Possible in
         subst Found (sym is.2) (body.object, is.1, record { life = body.life; lives = body.lives; is_method = is.3 })
 
-    step-so : (x : Step) → StepStands p body.life.class body.declaring body.kinds x → IfSome (doing_step objects o arguments x) Possible
+    step-so : (x : Step) → StepStands p body.life.class body.declaring body.kinds x → IfSome (operation_of_step objects o arguments x) Possible
     step-so (Run x) is = statement-so (out-Statement x) is
     step-so (Ask effects) is = tt
     step-so (Act effects it) is = action-so effects it is
 
 -- the first step of what is left of a body
-pub possible : {p : Loaded} {objects : List Object} {o : ℕ} {arguments : List Value} {x : Step} {rest : List Step} → IsSound p → AreTyped p objects → (body : BodyStands p objects o arguments (x ∷ rest)) → (d : Doing) → doing_step objects o arguments x ≡ Some d → IsPossible p objects body.declaring body.kinds d
+pub possible : {p : Loaded} {objects : List Object} {o : ℕ} {arguments : List Value} {x : Step} {rest : List Step} → IsSound p → AreTyped p objects → (body : BodyStands p objects o arguments (x ∷ rest)) → (d : Operation) → operation_of_step objects o arguments x ≡ Some d → IsPossible p objects body.declaring body.kinds d
 possible {p} {objects} {x = x} sound typed body d is =
-    let Found : Option Doing → Type 0 = λ f. IfSome f (λ e. IsPossible p objects body.declaring body.kinds e) in
+    let Found : Option Operation → Type 0 = λ f. IfSome f (λ e. IsPossible p objects body.declaring body.kinds e) in
     subst Found is (step-so sound typed body x body.steps.0)
 
 -- an action of a body that stands does something
-pub acts : {p : Loaded} {objects : List Object} {o : ℕ} {arguments : List Value} {effects : MetaEffects} {it : Action} {rest : List Step} → (body : BodyStands p objects o arguments (Act effects it ∷ rest)) → doing_action o effects it ≡ None → ⊥
+pub acts : {p : Loaded} {objects : List Object} {o : ℕ} {arguments : List Value} {effects : MetaEffects} {it : Action} {rest : List Step} → (body : BodyStands p objects o arguments (Act effects it ∷ rest)) → operation_of_action o effects it ≡ None → ⊥
 acts {p} {o = o} {effects = effects} {it = it} body is = by_action body.life.class it body.steps.0 is
   where
-    by_action : (c : ℕ) (a : Action) → ActionStands p c effects a → doing_action o effects a ≡ None → ⊥
+    by_action : (c : ℕ) (a : Action) → ActionStands p c effects a → operation_of_action o effects a ≡ None → ⊥
     by_action c (action.Set k v) there none =
         let same : Some (Write o there.0 v) ≡ None = sym (ap (option_map (λ (q : ℕ). Write o q v)) there.2) ∙ none in absurd (cc same)
     by_action c (action.Emit k given) there none =

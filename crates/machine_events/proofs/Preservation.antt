@@ -35,7 +35,7 @@ use Rattle.machine_state.specs.declared.endpoints.Endpoints.{Endpoints}
 use Rattle.machine_state.specs.declared.refusal.Refusal.{Refusal}
 use Rattle.machine_rules.specs.Natives.{NativeAnswers, IsShownAs, set_shown, emit_shown, AreShownAs}
 use Rattle.machine_rules.specs.Connecting.{AreThere, kept_ends, names_of}
-use Rattle.machine_rules.specs.Doings.{Doing, Write, Begin, Choose, Connect as Link, Disconnect as Unlink, Delete, Schedule, TakeAnswer, Nothing, doing_step}
+use Rattle.machine_rules.specs.Operations.{Operation, Write, Begin, Choose, Connect as Link, Disconnect as Unlink, Delete, Schedule, TakeAnswer, Nothing, operation_of_step}
 use Rattle.machine_rules.specs.Destroying.{Dies, NextRule, ChildRule, DestroyRule, living_child, DefersOnce, Schedules}
 use Rattle.machine_events.proofs.Possible.{possible}
 use Rattle.machine_events.proofs.Standing.{ActionStands, StepStands, BodyStands, Stands, Invariant, AllStand, SparedIn, all-stand-still}
@@ -194,7 +194,7 @@ module _ {p : Loaded} {s t : State} (sound : IsSound p) (well : IsWell p s t) wh
       by_mark false d = as-is d.gives (all-stand-still p s.objects _ stack (scheduled-stay s.objects x) (λ o body gone. sym (scheduled-seen s.objects x o) ∙ gone) all)
 
   -- what a step does, over what stands
-  does-stands : (natives : NativeAnswers) → AreTyped p s.objects → (o m : ℕ) (arguments : List Value) (x : Step) (rest : List Step) (below : List Activation) (d : Doing) → BodyStands p s.objects o arguments (x ∷ rest) → doing_step s.objects o arguments x ≡ Some d → AllByRecursion (Stands p s.objects) below → length s.stack ≡ suc (length below) → Does p natives s o m arguments rest below d t → AllStand p t
+  does-stands : (natives : NativeAnswers) → AreTyped p s.objects → (o m : ℕ) (arguments : List Value) (x : Step) (rest : List Step) (below : List Activation) (d : Operation) → BodyStands p s.objects o arguments (x ∷ rest) → operation_of_step s.objects o arguments x ≡ Some d → AllByRecursion (Stands p s.objects) below → length s.stack ≡ suc (length below) → Does p natives s o m arguments rest below d t → AllStand p t
   does-stands natives typed o m arguments x rest below (Write y q new) body is lower high does = writes-stands does (body-rest body, lower)
   does-stands natives typed o m arguments x rest below (Begin y n given) body is lower high does = begins-stands does (omega (arith, high)) (body-rest body, lower)
   does-stands natives typed o m arguments x rest below (Choose block) body is lower high does =

@@ -21,7 +21,7 @@ use Rattle.object_tree.specs.declared.object.Object.{Object}
 use Rattle.machine_state.specs.State.{Step, Run, Ask, Act, State, Activation, Body, Emit, Update, Destroy}
 use Rattle.machine_rules.specs.Rules.{RuleAt, StepRule, Does, EmitRule, UpdateRule, Connects, Disconnects, TurnRule, Serves, Delivers, Arrives, with_used, BeginsIf, NotifiesIf}
 use Rattle.machine_rules.specs.Destroying.{Dies, NextRule, ChildRule, DestroyRule, living_child, DefersOnce, Schedules}
-use Rattle.machine_rules.specs.Doings.{Doing, Write, Begin, Choose, Connect, Disconnect, Delete, Schedule, TakeAnswer, Nothing, doing_step}
+use Rattle.machine_rules.specs.Operations.{Operation, Write, Begin, Choose, Connect, Disconnect, Delete, Schedule, TakeAnswer, Nothing, operation_of_step}
 use Rattle.std.specs.Prelude.{is_some}
 use Rattle.std.specs.List.{find}
 use Rattle.object_tree.specs.Family.{children_of}
@@ -126,7 +126,7 @@ module _ {p : Loaded} {s : State} (sound : IsSound p) (up : Invariant p s) where
           stays _ (record { loop = named.0; is_loop = named.1; name = there.0.name; named = ap (option_map (λ (y : Object). y.name)) there.1.is; gives = refl })
 
   -- what is possible is done by some rule
-  possible-goes : (natives : NativeAnswers) (o m : ℕ) (arguments : List Value) (rest : List Step) (below : List Activation) (me : ℕ) (kinds : List ValueType) (d : Doing) → IsPossible p s.objects me kinds d → ((x q : ℕ) (new : Value) → d ≡ Write x q new → LacksField p s.objects x q) → ((effects : MetaEffects) → d ≡ TakeAnswer effects → ⊥) → ((t : State) → ¬ Does p natives s o m arguments rest below d t) → ⊥
+  possible-goes : (natives : NativeAnswers) (o m : ℕ) (arguments : List Value) (rest : List Step) (below : List Activation) (me : ℕ) (kinds : List ValueType) (d : Operation) → IsPossible p s.objects me kinds d → ((x q : ℕ) (new : Value) → d ≡ Write x q new → LacksField p s.objects x q) → ((effects : MetaEffects) → d ≡ TakeAnswer effects → ⊥) → ((t : State) → ¬ Does p natives s o m arguments rest below d t) → ⊥
   possible-goes natives o m arguments rest below me kinds (Write x q new) may lacks asks none = lacks x q new refl may.0 may.1 may.2
   possible-goes natives o m arguments rest below me kinds (Begin x n given) may lacks asks none = none _ (record { object = may.0; method = may.1; is = may.2; gives = refl })
   possible-goes natives o m arguments rest below me kinds (Choose block) may lacks asks none = none _ refl
@@ -138,13 +138,13 @@ module _ {p : Loaded} {s : State} (sound : IsSound p) (up : Invariant p s) where
   possible-goes natives o m arguments rest below me kinds Nothing may lacks asks none = none _ refl
 
   -- a step that has no next rule does nothing that is possible
-  step-none : {natives : NativeAnswers} (o m : ℕ) (arguments : List Value) (x : Step) (rest : List Step) (below : List Activation) → s.stack ≡ Body o m arguments (x ∷ rest) ∷ below → IsStuck p natives s → BodyStands p s.objects o arguments (x ∷ rest) → ((t : State) → ¬ StepRule p natives s o m arguments x rest below t) → doing_step s.objects o arguments x ≡ None
-  step-none {natives} o m arguments x rest below e halts body stuck = by_found (doing_step s.objects o arguments x) refl
+  step-none : {natives : NativeAnswers} (o m : ℕ) (arguments : List Value) (x : Step) (rest : List Step) (below : List Activation) → s.stack ≡ Body o m arguments (x ∷ rest) ∷ below → IsStuck p natives s → BodyStands p s.objects o arguments (x ∷ rest) → ((t : State) → ¬ StepRule p natives s o m arguments x rest below t) → operation_of_step s.objects o arguments x ≡ None
+  step-none {natives} o m arguments x rest below e halts body stuck = by_found (operation_of_step s.objects o arguments x) refl
     where
-      by_found : (found : Option Doing) → doing_step s.objects o arguments x ≡ found → doing_step s.objects o arguments x ≡ None
+      by_found : (found : Option Operation) → operation_of_step s.objects o arguments x ≡ found → operation_of_step s.objects o arguments x ≡ None
       by_found None is = is
       by_found (Some d) is =
-          let next : (k : Doing) → d ≡ k → DoesNext s k = λ k same. record { object = o; method = m; arguments = arguments; step = x; rest = rest; below = below; is_next = e; does = is ∙ ap (λ (k : Doing). Some k) same } in
+          let next : (k : Operation) → d ≡ k → DoesNext s k = λ k same. record { object = o; method = m; arguments = arguments; step = x; rest = rest; below = below; is_next = e; does = is ∙ ap (λ (k : Operation). Some k) same } in
           absurd (possible-goes natives o m arguments rest below body.declaring body.kinds d (possible sound up.sound.agree.typed body d is)
           (λ y q new same. halts.lacks y q new (next (Write y q new) same)) (λ effects same. halts.asks_none effects (next (TakeAnswer effects) same))
           (λ t does. stuck t (record { what = d; is = is; does = does })))

@@ -21,7 +21,7 @@ use Rattle.machine_state.specs.Worlds.{at, accepting_entries, accepting_turn, wi
 use Rattle.machine_events.specs.Runs.{is_next}
 use Rattle.machine_events.specs.Takes.{judged, accepts}
 use Rattle.machine_rules.specs.Natives.{NativeAnswers}
-use Rattle.machine_rules.specs.code.Reaches.{RunsTo, begin_entry, top_of, IsBegun, IsBarred}
+use Rattle.machine_rules.specs.code.Reaches.{RunsTo, begin_entry, top_of, IsActivated, IsBarred}
 use Rattle.prop_bindings.specs.declared.binding.Binding.{Binding}
 use Rattle.prop_bindings.specs.declared.place.Place.{Place}
 use Rattle.prop_bindings.specs.Bindings.{binding_at, Settled}
@@ -46,7 +46,7 @@ begun-here w o x m method values (Slot statements) = refl
 begun-here w o x m method values (Native effects) = refl
 
 -- a method begins
-pub judged-begun : {p : Loaded} {d o m : ℕ} {v : World} {values : List Value} {line : Entry} {work : Work} {last : ℕ} (w : World) (e : Event) → AsksFor p w o m values e → IsBegun p d [] w o m values line work last → v ≡ accepting_entries w (line ∷ []) → judged p (at w []) e (Ok (at v (top_of o m values last work ∷ [])))
+pub judged-begun : {p : Loaded} {d o m : ℕ} {v : World} {values : List Value} {line : Entry} {work : Work} {last : ℕ} (w : World) (e : Event) → AsksFor p w o m values e → IsActivated p d [] w o m values line work last → v ≡ accepting_entries w (line ∷ []) → judged p (at w []) e (Ok (at v (top_of o m values last work ∷ [])))
 judged-begun {p} {d} {o} {m} {v} {values} {line} {work} {last} w e asks is v_is =
     let noted : Entry → World = λ y. accepting_entries w (y ∷ []) in
     let entry : Entry = begin_entry 1 is.object m is.method.sig.name (all_shown w.store.tree values) is.method.work in
@@ -106,7 +106,7 @@ installed {p} {v} {changed = changed} w has =
 
 -- ---- .. and it runs to its end, or stops on the way
 
-pub began : {p : Loaded} {natives : NativeAnswers} {d o m : ℕ} {w v u : World} {values : List Value} {line : Entry} {work : Work} {last : ℕ} {r : Result (Unit {0}) Fault} (e : Event) → Agree p w.store.tree w.store.bindings → ArgumentsFit p w.store.tree o m values → Ready w → AsksFor p w o m values e → IsBegun p d [] w o m values line work last → v ≡ accepting_entries w (line ∷ []) → RunsTo p natives d [] v (top_of o m values last work ∷ []) u [] r →
+pub began : {p : Loaded} {natives : NativeAnswers} {d o m : ℕ} {w v u : World} {values : List Value} {line : Entry} {work : Work} {last : ℕ} {r : Result (Unit {0}) Fault} (e : Event) → Agree p w.store.tree w.store.bindings → ArgumentsFit p w.store.tree o m values → Ready w → AsksFor p w o m values e → IsActivated p d [] w o m values line work last → v ≡ accepting_entries w (line ∷ []) → RunsTo p natives d [] v (top_of o m values last work ∷ []) u [] r →
     MatchResult r (λ _. Took p natives d w e u (Ok Done)) (λ f. Halted p natives d w e u f)
 began {p} {natives} {d} {o} {m} {w} {v} {u} {values = values} {work = work} {last = last} {r = r} e agree fit some asks is v_is ends =
     let Agrees : World → Type 0 = λ z. Agree p z.store.tree z.store.bindings in

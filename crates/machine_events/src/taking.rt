@@ -16,7 +16,7 @@ use crate::events::disconnect::disconnect;
 use crate::events::invoke::{Invocation, invoke};
 use crate::events::later::later;
 use crate::events::turn::turn;
-use machine_rules::Setting;
+use machine_rules::Interpreter;
 use machine_state::{Answer, Fault, World};
 use native_slots::Answering;
 use script_lang::Event;
@@ -24,58 +24,58 @@ use script_lang::Event;
 /// Takes an event, and runs until nothing is going on. Then no emission stands on a connection that was removed, and what
 /// these still take up is given back.
 pub fn take_event<N: Answering>(
-    setting: &Setting<N>,
+    interpreter: &Interpreter<N>,
     world: &mut World,
     event: &Event,
 ) -> Result<Answer, Fault>
-    requires depth { 0 < setting.now.depth }
-    requires promises { Promises setting.now.meta (N.takes setting.now.natives) (N.gives setting.now.natives) }
+    requires depth { 0 < interpreter.now.depth }
+    requires promises { Promises interpreter.now.meta (N.takes interpreter.now.natives) (N.gives interpreter.now.natives) }
     requires idle { world.old.turn ≡ None }
-    requires keeps { WorldInvariant setting.now.meta world.old }
-    ensures { Answers N.gives setting.now event.now world.old world.new result }
+    requires keeps { WorldInvariant interpreter.now.meta world.old }
+    ensures { Answers N.gives interpreter.now event.now world.old world.new result }
 {
-    let result = run_event(setting, world, event);
+    let result = run_event(interpreter, world, event);
     world.sweep();
     result
 }
 
 /// Takes an event, and runs until nothing is going on.
 fn run_event<N: Answering>(
-    setting: &Setting<N>,
+    interpreter: &Interpreter<N>,
     world: &mut World,
     event: &Event,
 ) -> Result<Answer, Fault>
-    requires depth { 0 < setting.now.depth }
-    requires promises { Promises setting.now.meta (N.takes setting.now.natives) (N.gives setting.now.natives) }
+    requires depth { 0 < interpreter.now.depth }
+    requires promises { Promises interpreter.now.meta (N.takes interpreter.now.natives) (N.gives interpreter.now.natives) }
     requires idle { world.old.turn ≡ None }
-    requires keeps { WorldInvariant setting.now.meta world.old }
-    ensures { Answers N.gives setting.now event.now world.old world.new result }
+    requires keeps { WorldInvariant interpreter.now.meta world.old }
+    ensures { Answers N.gives interpreter.now event.now world.old world.new result }
 {
     if world.left == 0 {
         return Err(Fault::Steps);
     }
     match event {
-        Event::Loop(name) => add_loop(setting, world, name),
-        Event::Turn(name) => turn(setting, world, name),
-        Event::New(name, class, home) => create(setting, world, name, class, home),
-        Event::Adopt(parent, child) => adopt(setting, world, parent, child),
-        Event::Connect(named, how) => connect(setting, world, named, *how),
-        Event::Disconnect(named) => disconnect(setting, world, named),
-        Event::Set(name, property, input) => assign(setting, world, name, property, input),
+        Event::Loop(name) => add_loop(interpreter, world, name),
+        Event::Turn(name) => turn(interpreter, world, name),
+        Event::New(name, class, home) => create(interpreter, world, name, class, home),
+        Event::Adopt(parent, child) => adopt(interpreter, world, parent, child),
+        Event::Connect(named, how) => connect(interpreter, world, named, *how),
+        Event::Disconnect(named) => disconnect(interpreter, world, named),
+        Event::Set(name, property, input) => assign(interpreter, world, name, property, input),
         Event::Emit(name, signal, inputs) => {
             let inputs = inputs.as_slice();
-            invoke(setting, world, Invocation::Emit, name, signal, inputs)
+            invoke(interpreter, world, Invocation::Emit, name, signal, inputs)
         }
         Event::Call(name, slot, inputs) => {
             let inputs = inputs.as_slice();
-            invoke(setting, world, Invocation::Call, name, slot, inputs)
+            invoke(interpreter, world, Invocation::Call, name, slot, inputs)
         }
         Event::Bind(site, target, sources) => {
-            bind(setting, world, site, target, sources.as_slice())
+            bind(interpreter, world, site, target, sources.as_slice())
         }
-        Event::Block(name) => block(setting, world, name, true),
-        Event::Unblock(name) => block(setting, world, name, false),
-        Event::Delete(name) => delete(setting, world, name),
-        Event::Later(name) => later(setting, world, name),
+        Event::Block(name) => block(interpreter, world, name, true),
+        Event::Unblock(name) => block(interpreter, world, name, false),
+        Event::Delete(name) => delete(interpreter, world, name),
+        Event::Later(name) => later(interpreter, world, name),
     }
 }

@@ -39,7 +39,7 @@ use Rattle.machine_state.specs.State.{Step, State, Activation, Body, Emit, Updat
 use Rattle.machine_state.specs.Turns.{running, reaches_at_once}
 use Rattle.machine_rules.specs.Connecting.{kept_ends, names_of}
 use Rattle.machine_rules.specs.Destroying.{Dies, NextRule, ChildRule, DestroyRule, living_child, DefersOnce, Schedules}
-use Rattle.machine_rules.specs.Doings.{Doing, Write, Begin, Choose, Connect, Disconnect, Delete, Schedule, TakeAnswer, Nothing}
+use Rattle.machine_rules.specs.Operations.{Operation, Write, Begin, Choose, Connect, Disconnect, Delete, Schedule, TakeAnswer, Nothing}
 use Rattle.machine_rules.specs.Good.{IsWell, IsAcyclic}
 use Rattle.machine_rules.specs.Rules.{RuleAt, BodyRule, Does, EmitRule, UpdateRule, NotifiesIf, TurnRule, Serves, Delivers, Arrives, BeginsIf, begun, with_used, linked, unlinked}
 use Rattle.machine_rules.specs.code.Going.{GoodRules, done, then}
@@ -152,7 +152,7 @@ module _ {p : Loaded} {s t : State} (agree : Agree p s.objects s.bindings) (well
       by_mark true e = agree-at _ e agree
       by_mark false d = agree-at _ d.gives (scheduled-agree p s.objects s.bindings x agree)
 
-  does-agrees : (natives : NativeAnswers) (o m : ℕ) (arguments : List Value) (rest : List Step) (below : List Activation) (d : Doing) → Does p natives s o m arguments rest below d t → Agree p t.objects t.bindings
+  does-agrees : (natives : NativeAnswers) (o m : ℕ) (arguments : List Value) (rest : List Step) (below : List Activation) (d : Operation) → Does p natives s o m arguments rest below d t → Agree p t.objects t.bindings
   does-agrees natives o m arguments rest below (Write x q new) does = writes-agrees does
   does-agrees natives o m arguments rest below (Begin x n given) does = begun-agrees s (Body o m arguments rest ∷ below) x does.object n does.method given does.method.work agree does.gives
   does-agrees natives o m arguments rest below (Choose block) does = agree-at _ does agree

@@ -32,14 +32,14 @@ use Rattle.object_tree.specs.Typed.{ReadAs}
 use Rattle.machine_rules.specs.Good.{ArgumentsFit, EmissionFits, of_living, of_dead, TopFits, IsWell}
 use Rattle.machine_rules.specs.code.Sound.{Sends, SendsThese, Joined, IsDelivered, AgreeIn}
 use Rattle.machine_state.specs.Worlds.{at, noted, having_used, posting, GoesTo}
-use Rattle.machine_rules.specs.code.Reaches.{Reaches, StopsIn, RunsTo, CallsIn, Calls, OnlyCalls, begin_entry, entry_of_post, top_of, DoesWork, IsBegun, IsBarred, PostsCall}
+use Rattle.machine_rules.specs.code.Reaches.{Reaches, StopsIn, RunsTo, CallsIn, Calls, OnlyCalls, begin_entry, entry_of_post, top_of, DoesWork, IsActivated, IsBarred, PostsCall}
 use Rattle.machine_rules.specs.code.Active.{shows}
 use Rattle.machine_rules.proofs.Frames.{high, shows-over}
 use Rattle.machine_rules.specs.There.{IsMember}
 use Rattle.machine_rules.proofs.Dying.{lives-not-dead}
 use Rattle.machine_rules.proofs.Reaching.{none-spared, same-spared, reaches-high, ends-after, ends-lifted, not-idle, ends-noted, stops-as, stops-memory, stops-deep, stops-ill, stops-stuck}
 use Rattle.machine_rules.proofs.Fields.{member-method, method-unique, read-front}
-use Rattle.machine_rules.specs.Doings.{Write, Begin, TakeAnswer}
+use Rattle.machine_rules.specs.Operations.{Write, Begin, TakeAnswer}
 use Rattle.machine_rules.specs.Natives.{NativeAnswers}
 
 -- the world after a method began
@@ -83,7 +83,7 @@ fits-top last (Slot statements) below is fit = fit
 fits-top last (Native effects) below is fit = fit
 
 reaches-begun : {p : Loaded} {natives : NativeAnswers} {d o m : ℕ} {h active : List (Option ℕ)} {w u v : World} {from to : List Activation} {arguments : List Value} {line : Entry} {work : Work} {last : ℕ} →
-    active ≡ shows to ++ h → CallsIn p natives w u from to o m arguments → IsBegun p d active u o m arguments line work last → ArgumentsFit p u.store.tree o m arguments → AgreeIn p u → 0 < w.left → u.left ≡ w.left → v ≡ noted u (line ∷ []) →
+    active ≡ shows to ++ h → CallsIn p natives w u from to o m arguments → IsActivated p d active u o m arguments line work last → ArgumentsFit p u.store.tree o m arguments → AgreeIn p u → 0 < w.left → u.left ≡ w.left → v ≡ noted u (line ∷ []) →
     Reaches p natives d h w from v (top_of o m arguments last work ∷ to)
 reaches-begun {p} {natives} {d} {o} {m} {h} {active} {w} {u} {v} {from} {to} {arguments} {line} {work} {last} over calls is fit agree some same v_is =
     let Pushed : World → Work → ℕ → Type 0 = λ z k l. Reaches p natives d h w from z (top_of o m arguments l k ∷ to) in
@@ -95,7 +95,7 @@ reaches-begun {p} {natives} {d} {o} {m} {h} {active} {w} {u} {v} {from} {to} {ar
 
 -- a method begins, and what it pushed runs
 pub ends-begun : {p : Loaded} {natives : NativeAnswers} {d o m : ℕ} {h active : List (Option ℕ)} {w u v z : World} {from to : List Activation} {arguments : List Value} {line : Entry} {work : Work} {last : ℕ} {r : Result (Unit {0}) Fault} →
-    active ≡ shows to ++ h → CallsIn p natives w u from to o m arguments → IsBegun p d active u o m arguments line work last → ArgumentsFit p u.store.tree o m arguments → AgreeIn p u → 0 < w.left → u.left ≡ w.left → v ≡ noted u (line ∷ []) →
+    active ≡ shows to ++ h → CallsIn p natives w u from to o m arguments → IsActivated p d active u o m arguments line work last → ArgumentsFit p u.store.tree o m arguments → AgreeIn p u → 0 < w.left → u.left ≡ w.left → v ≡ noted u (line ∷ []) →
     RunsTo p natives d active v (top_of o m arguments last work ∷ []) z [] r → RunsTo p natives d h w from z to r
 ends-begun over calls is fit agree some same v_is x = ends-after (reaches-begun over calls is fit agree some same v_is) (ends-lifted over x)
 
@@ -203,7 +203,7 @@ delivered-fits {p} {objects} {c} {x} {method} {arguments} {taken} d is cut count
 -- ---- a connection is used
 
 -- what is found of a method before the connection is used holds after it
-pub begun-used : {p : Loaded} {d o m : ℕ} {active : List (Option ℕ)} {w : World} {arguments : List Value} {line : Entry} {work : Work} {last : ℕ} (c : Connection) → IsBegun p d active w o m arguments line work last → IsBegun p d active (having_used w c) o m arguments line work last
+pub begun-used : {p : Loaded} {d o m : ℕ} {active : List (Option ℕ)} {w : World} {arguments : List Value} {line : Entry} {work : Work} {last : ℕ} (c : Connection) → IsActivated p d active w o m arguments line work last → IsActivated p d active (having_used w c) o m arguments line work last
 begun-used {w = w} c x = record { room = x.room; object = x.object; method = x.method; is = x.is; is_line = x.is_line; is_work = x.is_work; is_last = x.is_last ∙ sym (last-used c w.store.connections) }
 
 -- memory was refused, behind a `?`
@@ -280,7 +280,7 @@ not-true true e h = absurd (cc e)
 not-true false e h = absurd (cc h)
 
 -- what is found of a method that may begin is what it does
-pub begun-work : {p : Loaded} {d o m : ℕ} {active : List (Option ℕ)} {w : World} {arguments : List Value} {line : Entry} {work : Work} {last : ℕ} → IsBegun p d active w o m arguments line work last → DoesWork p w.store.tree o m work
+pub begun-work : {p : Loaded} {d o m : ℕ} {active : List (Option ℕ)} {w : World} {arguments : List Value} {line : Entry} {work : Work} {last : ℕ} → IsActivated p d active w o m arguments line work last → DoesWork p w.store.tree o m work
 begun-work x = record { object = x.object; method = x.method; is = x.is; is_work = x.is_work }
 
 -- .. also in a world with the same objects

@@ -10,7 +10,7 @@ use Rattle.expressions.specs.declared.evaluation.EvalFault.{EvalFault}
 use Rattle.expressions.specs.declared.evaluation.EvalFault.TheVariants as eval
 use Rattle.machine_state.specs.declared.entry.Entry.{Entry}
 use Rattle.machine_state.specs.declared.entry.Entry.TheVariants.{At}
-use Rattle.machine_state.specs.declared.entry.Happening.TheVariants.{OnNull, Answered}
+use Rattle.machine_state.specs.declared.entry.EntryKind.TheVariants.{OnNull, Answered}
 use Rattle.native_slots.specs.declared.action.Action.{Action}
 use Rattle.machine_state.specs.declared.fault.Fault.{Fault}
 use Rattle.machine_state.specs.declared.fault.Fault.TheVariants.{BadType}
@@ -20,7 +20,7 @@ use Rattle.machine_state.specs.State.{Step, Run, Ask, Act, State, Activation, Bo
 use Rattle.texts.specs.declared.connection.ConnectionType.{ConnectionType}
 use Rattle.machine_state.specs.declared.endpoints.Endpoints.{Endpoints}
 use Rattle.meta_model.specs.declared.effects.MetaEffects.{MetaEffects}
-use Rattle.machine_rules.specs.Doings.{Doing, Write, Begin, Choose, Connect, Disconnect, Delete, Schedule, TakeAnswer, Nothing, doing, doing_step}
+use Rattle.machine_rules.specs.Operations.{Operation, Write, Begin, Choose, Connect, Disconnect, Delete, Schedule, TakeAnswer, Nothing, operation, operation_of_step}
 use Rattle.machine_rules.specs.code.Coded.{Yields}
 use Rattle.machine_rules.specs.Rules.{Rule, StepRule, Does, told, Connects, Disconnects}
 use Rattle.machine_rules.specs.Destroying.{Schedules}
@@ -41,17 +41,17 @@ use Rattle.machine_rules.specs.Natives.{NativeAnswers, MayAnswer, TellsAnswer}
 abbrev next : World → ℕ → ℕ → List Value → Step → List Step → List Activation → State
 next w o m arguments x rest below = at w (Body o m arguments (x ∷ rest) ∷ below)
 
-does-rule : (p : Loaded) (natives : NativeAnswers) (w : World) (o m : ℕ) (arguments : List Value) (x : Step) (rest : List Step) (d : Doing) (below : List Activation) (t : State) → doing_step w.store.tree o arguments x ≡ Some d → Does p natives (next w o m arguments x rest below) o m arguments rest below d t → Rule p natives (next w o m arguments x rest below) t
+does-rule : (p : Loaded) (natives : NativeAnswers) (w : World) (o m : ℕ) (arguments : List Value) (x : Step) (rest : List Step) (d : Operation) (below : List Activation) (t : State) → operation_of_step w.store.tree o arguments x ≡ Some d → Does p natives (next w o m arguments x rest below) o m arguments rest below d t → Rule p natives (next w o m arguments x rest below) t
 does-rule p natives w o m arguments x rest d below t is does =
     let r : StepRule p natives (next w o m arguments x rest below) o m arguments x rest below t = record { what = d; is = is; does = does } in
     r
 
-rule-does : (p : Loaded) (natives : NativeAnswers) (w : World) (o m : ℕ) (arguments : List Value) (x : Step) (rest : List Step) (d : Doing) (below : List Activation) (t : State) → doing_step w.store.tree o arguments x ≡ Some d → Rule p natives (next w o m arguments x rest below) t → Does p natives (next w o m arguments x rest below) o m arguments rest below d t
+rule-does : (p : Loaded) (natives : NativeAnswers) (w : World) (o m : ℕ) (arguments : List Value) (x : Step) (rest : List Step) (d : Operation) (below : List Activation) (t : State) → operation_of_step w.store.tree o arguments x ≡ Some d → Rule p natives (next w o m arguments x rest below) t → Does p natives (next w o m arguments x rest below) o m arguments rest below d t
 rule-does p natives w o m arguments x rest d below t is rule =
     let r : StepRule p natives (next w o m arguments x rest below) o m arguments x rest below t = rule in
     let both : Some r.what ≡ Some d = sym r.is ∙ is in
     let same : r.what ≡ d = cc both in
-    let Done : Doing → Type 0 = λ e. Does p natives (next w o m arguments x rest below) o m arguments rest below e t in
+    let Done : Operation → Type 0 = λ e. Does p natives (next w o m arguments x rest below) o m arguments rest below e t in
     subst Done same r.does
 
 -- what was read is what the state has
@@ -60,24 +60,24 @@ moved {a} {b} {n} {o} {k} {l} F objects this arguments x =
     subst (λ (i : List Value). F b o i) arguments (subst (λ (i : ℕ). F b i k) this (subst (λ (i : List Object). F i n k) objects x))
 
 -- what it does next is what the step does
-next-does : (w : World) {o m : ℕ} {arguments : List Value} {x : Step} {rest : List Step} {below : List Activation} {d : Doing} → DoesNext (next w o m arguments x rest below) d → doing_step w.store.tree o arguments x ≡ Some d
+next-does : (w : World) {o m : ℕ} {arguments : List Value} {x : Step} {rest : List Step} {below : List Activation} {d : Operation} → DoesNext (next w o m arguments x rest below) d → operation_of_step w.store.tree o arguments x ≡ Some d
 next-does w {o} {m} {arguments} {x} {rest} {below} {d} n =
     let stacks : (Body o m arguments (x ∷ rest) ∷ below) ≡ (Body n.object n.method n.arguments (n.step ∷ n.rest) ∷ n.below) = n.is_next in
     let o_is : n.object ≡ o = cc stacks in
     let arguments_is : n.arguments ≡ arguments = cc stacks in
     let x_is : n.step ≡ x = cc stacks in
-    let By : Step → Type 0 = λ y. doing_step w.store.tree o arguments y ≡ Some d in
-    subst By x_is (moved (λ objects k l. doing_step objects k l n.step ≡ Some d) refl o_is arguments_is n.does)
+    let By : Step → Type 0 = λ y. operation_of_step w.store.tree o arguments y ≡ Some d in
+    subst By x_is (moved (λ objects k l. operation_of_step objects k l n.step ≡ Some d) refl o_is arguments_is n.does)
 
 -- a method begins
-pub does-call : {p : Loaded} {natives : NativeAnswers} {w : World} {o : ℕ} {arguments : List Value} {x : Step} (m : ℕ) (rest : List Step) {y n : ℕ} {given : List Value} → doing_step w.store.tree o arguments x ≡ Some (Begin y n given) → Calls p natives w (Body o m arguments (x ∷ rest) ∷ []) (Body o m arguments rest ∷ []) y n given
+pub does-call : {p : Loaded} {natives : NativeAnswers} {w : World} {o : ℕ} {arguments : List Value} {x : Step} (m : ℕ) (rest : List Step) {y n : ℕ} {given : List Value} → operation_of_step w.store.tree o arguments x ≡ Some (Begin y n given) → Calls p natives w (Body o m arguments (x ∷ rest) ∷ []) (Body o m arguments rest ∷ []) y n given
 does-call {p} {natives} {w} {o} {arguments} {x} m rest {y} {n} {given} is = record { no_lower = omega arith; objects = refl; goes_on = λ below. not-idle w _ below; gives = λ below t b. does-rule p natives w o m arguments x rest (Begin y n given) below t is b }
 
-pub does-call-alone : {p : Loaded} {natives : NativeAnswers} {w : World} {o : ℕ} {arguments : List Value} {x : Step} (m : ℕ) (rest : List Step) {y n : ℕ} {given : List Value} → doing_step w.store.tree o arguments x ≡ Some (Begin y n given) → OnlyCalls p natives w (Body o m arguments (x ∷ rest) ∷ []) (Body o m arguments rest ∷ []) y n given
+pub does-call-alone : {p : Loaded} {natives : NativeAnswers} {w : World} {o : ℕ} {arguments : List Value} {x : Step} (m : ℕ) (rest : List Step) {y n : ℕ} {given : List Value} → operation_of_step w.store.tree o arguments x ≡ Some (Begin y n given) → OnlyCalls p natives w (Body o m arguments (x ∷ rest) ∷ []) (Body o m arguments rest ∷ []) y n given
 does-call-alone {p} {natives} {w} {o} {arguments} {x} m rest {y} {n} {given} is = record { next = λ below what does. let both : Some what ≡ Some (Begin y n given) = sym (next-does w does) ∙ is in cc both; begins = λ below t r. rule-does p natives w o m arguments x rest (Begin y n given) below t is r }
 
 -- a property is written
-pub does-set : {p : Loaded} {natives : NativeAnswers} {w : World} {o : ℕ} {arguments : List Value} {x : Step} (m : ℕ) (rest : List Step) {y q : ℕ} {new : Value} → doing_step w.store.tree o arguments x ≡ Some (Write y q new) → Sets p natives w (Body o m arguments (x ∷ rest) ∷ []) (Body o m arguments rest ∷ []) y q new
+pub does-set : {p : Loaded} {natives : NativeAnswers} {w : World} {o : ℕ} {arguments : List Value} {x : Step} (m : ℕ) (rest : List Step) {y q : ℕ} {new : Value} → operation_of_step w.store.tree o arguments x ≡ Some (Write y q new) → Sets p natives w (Body o m arguments (x ∷ rest) ∷ []) (Body o m arguments rest ∷ []) y q new
 does-set {p} {natives} {w} {o} {arguments} {x} m rest {y} {q} {new} is = record {
   as_high = refl;
   next = λ below. record { object = o; method = m; arguments = arguments; step = x; rest = rest; below = below; is_next = refl; does = is };
@@ -87,7 +87,7 @@ does-set {p} {natives} {w} {o} {arguments} {x} m rest {y} {q} {new} is = record 
 }
 
 -- nothing is done
-pub does-nothing : {p : Loaded} {natives : NativeAnswers} {w : World} {o : ℕ} {arguments : List Value} {x : Step} (m : ℕ) (rest : List Step) {d : ℕ} {h : List (Option ℕ)} {v : World} (n : ℕ) (r : Result (Unit {0}) Fault) → doing_step w.store.tree o arguments x ≡ Some Nothing → length h < d → AgreeIn p w → 0 < w.left → n ≡ length h + 1 → GoesTo w (noted w (At n OnNull ∷ [])) v r → RunsTo p natives d h w (Body o m arguments (x ∷ rest) ∷ []) v (Body o m arguments rest ∷ []) r
+pub does-nothing : {p : Loaded} {natives : NativeAnswers} {w : World} {o : ℕ} {arguments : List Value} {x : Step} (m : ℕ) (rest : List Step) {d : ℕ} {h : List (Option ℕ)} {v : World} (n : ℕ) (r : Result (Unit {0}) Fault) → operation_of_step w.store.tree o arguments x ≡ Some Nothing → length h < d → AgreeIn p w → 0 < w.left → n ≡ length h + 1 → GoesTo w (noted w (At n OnNull ∷ [])) v r → RunsTo p natives d h w (Body o m arguments (x ∷ rest) ∷ []) v (Body o m arguments rest ∷ []) r
 does-nothing {p} {natives} {w} {o} {arguments} {x} m rest {d} {h} {v} n r is room agree some n_is notes =
     ends-noted (noted w (At n OnNull ∷ [])) r
     (λ below k.
@@ -116,7 +116,7 @@ does-answer {p} {natives} {w} {o = o} {m = m} {arguments = arguments} effects ac
     (λ k gone. gone) room agree refl some notes
 
 -- what this relation tells of is done, and nothing is pushed
-does-told : {p : Loaded} {natives : NativeAnswers} {w v : World} {o : ℕ} {arguments : List Value} {x : Step} (m : ℕ) (rest : List Step) {d : ℕ} {h : List (Option ℕ)} (what : Doing) (What : State → List Activation → State → Type 0) (n : ℕ) (r : Result (Unit {0}) Fault) → doing_step w.store.tree o arguments x ≡ Some what →
+does-told : {p : Loaded} {natives : NativeAnswers} {w v : World} {o : ℕ} {arguments : List Value} {x : Step} (m : ℕ) (rest : List Step) {d : ℕ} {h : List (Option ℕ)} (what : Operation) (What : State → List Activation → State → Type 0) (n : ℕ) (r : Result (Unit {0}) Fault) → operation_of_step w.store.tree o arguments x ≡ Some what →
     ((a b : ℕ) (new : Value) → what ≢ Write a b new) → ((effects : MetaEffects) → what ≢ TakeAnswer effects) →
     ((below : List Activation) (t : State) → What (next w o m arguments x rest below) (Body o m arguments rest ∷ below) t → Does p natives (next w o m arguments x rest below) o m arguments rest below what t) →
     ((below : List Activation) (t : State) → Does p natives (next w o m arguments x rest below) o m arguments rest below what t → What (next w o m arguments x rest below) (Body o m arguments rest ∷ below) t) →
@@ -135,33 +135,33 @@ does-told {p} {natives} {w} {v} {o} {arguments} {x} m rest {d} {h} what What n (
     record { cases = subst At (sym stays.same) stops }
 
 -- a connection is made
-pub does-connect : {p : Loaded} {natives : NativeAnswers} {w v : World} {o : ℕ} {arguments : List Value} {x : Step} (m : ℕ) (rest : List Step) {d : ℕ} {h : List (Option ℕ)} (ends : Endpoints) (how : ConnectionType) (n : ℕ) (r : Result (Unit {0}) Fault) → doing_step w.store.tree o arguments x ≡ Some (Connect ends how) → length h < d → AgreeIn p w → 0 < w.left → n ≡ length h + 1 → ConnectsIn p w n ends how v r → RunsTo p natives d h w (Body o m arguments (x ∷ rest) ∷ []) v (Body o m arguments rest ∷ []) r
+pub does-connect : {p : Loaded} {natives : NativeAnswers} {w v : World} {o : ℕ} {arguments : List Value} {x : Step} (m : ℕ) (rest : List Step) {d : ℕ} {h : List (Option ℕ)} (ends : Endpoints) (how : ConnectionType) (n : ℕ) (r : Result (Unit {0}) Fault) → operation_of_step w.store.tree o arguments x ≡ Some (Connect ends how) → length h < d → AgreeIn p w → 0 < w.left → n ≡ length h + 1 → ConnectsIn p w n ends how v r → RunsTo p natives d h w (Body o m arguments (x ∷ rest) ∷ []) v (Body o m arguments rest ∷ []) r
 does-connect {p} {natives} m rest ends how n r is room agree some n_is went =
     does-told m rest (Connect ends how) (λ s stack t. Connects p s stack ends how t) n r is (λ a b new e. absurd (cc e)) (λ effects e. absurd (cc e)) (λ below t does. does) (λ below t does. does) room agree some n_is went
 
 -- .. or removed
-pub does-disconnect : {p : Loaded} {natives : NativeAnswers} {w v : World} {o : ℕ} {arguments : List Value} {x : Step} (m : ℕ) (rest : List Step) {d : ℕ} {h : List (Option ℕ)} (ends : Endpoints) (n : ℕ) (r : Result (Unit {0}) Fault) → doing_step w.store.tree o arguments x ≡ Some (Disconnect ends) → length h < d → AgreeIn p w → 0 < w.left → n ≡ length h + 1 → DisconnectsIn p w n ends v r → RunsTo p natives d h w (Body o m arguments (x ∷ rest) ∷ []) v (Body o m arguments rest ∷ []) r
+pub does-disconnect : {p : Loaded} {natives : NativeAnswers} {w v : World} {o : ℕ} {arguments : List Value} {x : Step} (m : ℕ) (rest : List Step) {d : ℕ} {h : List (Option ℕ)} (ends : Endpoints) (n : ℕ) (r : Result (Unit {0}) Fault) → operation_of_step w.store.tree o arguments x ≡ Some (Disconnect ends) → length h < d → AgreeIn p w → 0 < w.left → n ≡ length h + 1 → DisconnectsIn p w n ends v r → RunsTo p natives d h w (Body o m arguments (x ∷ rest) ∷ []) v (Body o m arguments rest ∷ []) r
 does-disconnect {p} {natives} m rest ends n r is room agree some n_is went =
     does-told m rest (Disconnect ends) (λ s stack t. Disconnects p s stack ends t) n r is (λ a b new e. absurd (cc e)) (λ effects e. absurd (cc e)) (λ below t does. does) (λ below t does. does) room agree some n_is went
 
 -- an object is scheduled for deletion
-pub does-schedule : {p : Loaded} {natives : NativeAnswers} {w v : World} {o : ℕ} {arguments : List Value} {x : Step} (m : ℕ) (rest : List Step) {d : ℕ} {h : List (Option ℕ)} (y : ℕ) (n : ℕ) (r : Result (Unit {0}) Fault) → doing_step w.store.tree o arguments x ≡ Some (Schedule y) → length h < d → AgreeIn p w → 0 < w.left → n ≡ length h + 1 → SchedulesIn w n y v r → RunsTo p natives d h w (Body o m arguments (x ∷ rest) ∷ []) v (Body o m arguments rest ∷ []) r
+pub does-schedule : {p : Loaded} {natives : NativeAnswers} {w v : World} {o : ℕ} {arguments : List Value} {x : Step} (m : ℕ) (rest : List Step) {d : ℕ} {h : List (Option ℕ)} (y : ℕ) (n : ℕ) (r : Result (Unit {0}) Fault) → operation_of_step w.store.tree o arguments x ≡ Some (Schedule y) → length h < d → AgreeIn p w → 0 < w.left → n ≡ length h + 1 → SchedulesIn w n y v r → RunsTo p natives d h w (Body o m arguments (x ∷ rest) ∷ []) v (Body o m arguments rest ∷ []) r
 does-schedule m rest y n r is room agree some n_is went =
     does-told m rest (Schedule y) (λ s stack t. Schedules s stack y t (life_of s.objects y)) n r is (λ a b new e. absurd (cc e)) (λ effects e. absurd (cc e)) (λ below t does. does) (λ below t does. does) room agree some n_is went
 
 -- .. or deleted
-pub does-delete : {p : Loaded} {natives : NativeAnswers} {w : World} {o : ℕ} {arguments : List Value} {x : Step} (m : ℕ) (rest : List Step) {y : ℕ} → doing_step w.store.tree o arguments x ≡ Some (Delete y) → Deletes p natives w (Body o m arguments (x ∷ rest) ∷ []) (Body o m arguments rest ∷ []) y
+pub does-delete : {p : Loaded} {natives : NativeAnswers} {w : World} {o : ℕ} {arguments : List Value} {x : Step} (m : ℕ) (rest : List Step) {y : ℕ} → operation_of_step w.store.tree o arguments x ≡ Some (Delete y) → Deletes p natives w (Body o m arguments (x ∷ rest) ∷ []) (Body o m arguments rest ∷ []) y
 does-delete {p} {natives} {w} {o} {arguments} {x} m rest {y} is = record { gives = λ below. does-rule p natives w o m arguments x rest (Delete y) below _ is refl }
 
 -- a block comes next
-pub does-choose : {p : Loaded} {natives : NativeAnswers} {w : World} {o : ℕ} {arguments : List Value} {x : Step} (m : ℕ) (rest : List Statement) {d : ℕ} {h : List (Option ℕ)} {v : World} (r : Result (Unit {0}) Fault) (block : List Statement) → doing_step w.store.tree o arguments x ≡ Some (Choose block) → length h < d → AgreeIn p w → Ticks w v r → RunsTo p natives d h w (Body o m arguments (x ∷ map Run rest) ∷ []) v (Body o m arguments (map Run (block ++ rest)) ∷ []) r
+pub does-choose : {p : Loaded} {natives : NativeAnswers} {w : World} {o : ℕ} {arguments : List Value} {x : Step} (m : ℕ) (rest : List Statement) {d : ℕ} {h : List (Option ℕ)} {v : World} (r : Result (Unit {0}) Fault) (block : List Statement) → operation_of_step w.store.tree o arguments x ≡ Some (Choose block) → length h < d → AgreeIn p w → Ticks w v r → RunsTo p natives d h w (Body o m arguments (x ∷ map Run rest) ∷ []) v (Body o m arguments (map Run (block ++ rest)) ∷ []) r
 does-choose {p} {natives} {w} {o} {arguments} {x} m rest {d} {h} {v} r block is room agree ticks =
     let To : List Step → Type 0 = λ l. RunsTo p natives d h w (Body o m arguments (x ∷ map Run rest) ∷ []) v (Body o m arguments l ∷ []) r in
     subst To (sym (map-append Run block rest))
     (ends-ticked {b = Body o m arguments (map Run block ++ map Run rest) ∷ []} r (λ below k. does-rule p natives w o m arguments x (map Run rest) (Choose block) below _ is refl) (omega arith) room agree ticks)
 
 -- a step that lacks a value has no rule
-pub lacks-rule : {p : Loaded} {natives : NativeAnswers} {w : World} {o : ℕ} {arguments : List Value} {x : Step} (m : ℕ) (rest : List Step) {d : ℕ} {h : List (Option ℕ)} → 0 < w.left → doing_step w.store.tree o arguments x ≡ None → StopsIn p natives d h w (Body o m arguments (x ∷ rest) ∷ []) w BadType
+pub lacks-rule : {p : Loaded} {natives : NativeAnswers} {w : World} {o : ℕ} {arguments : List Value} {x : Step} (m : ℕ) (rest : List Step) {d : ℕ} {h : List (Option ℕ)} → 0 < w.left → operation_of_step w.store.tree o arguments x ≡ None → StopsIn p natives d h w (Body o m arguments (x ∷ rest) ∷ []) w BadType
 lacks-rule {p} {natives} {w} {o} {arguments} {x} m rest some none =
     stops-stuck (not-idle w (Body o m arguments (x ∷ rest))) some (λ below t rule.
     let r : StepRule p natives (next w o m arguments x rest below) o m arguments x rest below t = rule in
@@ -170,10 +170,10 @@ lacks-rule {p} {natives} {w} {o} {arguments} {x} m rest some none =
     (λ below a b new writes. let both : None ≡ Some (Write a b new) = sym none ∙ next-does w writes in absurd (cc both))
     (λ below effects asks. let both : None ≡ Some (TakeAnswer effects) = sym none ∙ next-does w asks in absurd (cc both))
 
-pub lacks-read : {p : Loaded} {natives : NativeAnswers} {d o : ℕ} {h : List (Option ℕ)} {w : World} {arguments : List Value} {x : Statement} {f : EvalFault} {a : List Object} {i : ℕ} {l : List Value} (m : ℕ) (rest : List Step) → 0 < w.left → a ≡ w.store.tree → i ≡ o → l ≡ arguments → Yields (doing a i l (out-Statement x)) (Err f) → f ≡ eval.BadType → StopsIn p natives d h w (Body o m arguments (Run x ∷ rest) ∷ []) w BadType
+pub lacks-read : {p : Loaded} {natives : NativeAnswers} {d o : ℕ} {h : List (Option ℕ)} {w : World} {arguments : List Value} {x : Statement} {f : EvalFault} {a : List Object} {i : ℕ} {l : List Value} (m : ℕ) (rest : List Step) → 0 < w.left → a ≡ w.store.tree → i ≡ o → l ≡ arguments → Yields (operation a i l (out-Statement x)) (Err f) → f ≡ eval.BadType → StopsIn p natives d h w (Body o m arguments (Run x ∷ rest) ∷ []) w BadType
 lacks-read {p} {natives} {o = o} {w = w} {arguments = arguments} {x = x} {a = a} {i = i} {l = l} m rest some objects this given yields is =
-    let At : EvalFault → Type 0 = λ g. Yields (doing a i l (out-Statement x)) (Err g) in
-    let none : doing w.store.tree o arguments (out-Statement x) ≡ None = moved (λ b j k. doing b j k (out-Statement x) ≡ None) objects this given (subst At is yields) in
+    let At : EvalFault → Type 0 = λ g. Yields (operation a i l (out-Statement x)) (Err g) in
+    let none : operation w.store.tree o arguments (out-Statement x) ≡ None = moved (λ b j k. operation b j k (out-Statement x) ≡ None) objects this given (subst At is yields) in
     lacks-rule m rest some none
 
 -- ---- a step uses a rule

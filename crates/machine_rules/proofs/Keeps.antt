@@ -20,7 +20,7 @@ use Rattle.prop_bindings.specs.declared.place.Place.{Place}
 use Rattle.machine_state.specs.State.{Step, State, Activation, Body, Emit, Update, Destroy}
 use Rattle.machine_rules.specs.Destroying.{Dies, forgotten, deferred, NextRule, ChildRule, DestroyRule, living_child, DefersOnce, Schedules}
 use Rattle.machine_rules.specs.Rules.{RuleAt, BodyRule, Does, EmitRule, UpdateRule, NotifiesIf, Begins, BeginsIf, begun, with_used, linked, unlinked, TurnRule, Serves, Delivers, Arrives}
-use Rattle.machine_rules.specs.Doings.{Doing, Write, Begin, Choose, Connect, Disconnect, Delete, Schedule, TakeAnswer, Nothing}
+use Rattle.machine_rules.specs.Operations.{Operation, Write, Begin, Choose, Connect, Disconnect, Delete, Schedule, TakeAnswer, Nothing}
 use Rattle.machine_state.specs.Connections.{is_living, next_used, joins_these}
 use Rattle.connections.specs.Connected.{touches}
 use Rattle.machine_state.specs.declared.turn.Turn.{Turn}
@@ -343,7 +343,7 @@ schedules-kept p s stack x t (Some l) r = by_mark l.scheduled r
 
 -- ---- bodies
 
-does-kept : (p : Loaded) (natives : NativeAnswers) (s : State) (o m : ℕ) (arguments : List Value) (rest : List Step) (below : List Activation) (d : Doing) (t : State) → Does p natives s o m arguments rest below d t → Keeps p s 1 t 0
+does-kept : (p : Loaded) (natives : NativeAnswers) (s : State) (o m : ℕ) (arguments : List Value) (rest : List Step) (below : List Activation) (d : Operation) (t : State) → Does p natives s o m arguments rest below d t → Keeps p s 1 t 0
 does-kept p natives s o m arguments rest below (Write x q new) t does = writes-kept does
 does-kept p natives s o m arguments rest below (Begin x n given) t does = begins-kept does
 does-kept p natives s o m arguments rest below (Choose block) t does = keeps-is does (keeps-all _ (grows-same s.trace))

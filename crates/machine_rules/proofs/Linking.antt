@@ -23,7 +23,7 @@ use Rattle.machine_rules.proofs.Dying.{scheduled-seen}
 use Rattle.machine_rules.proofs.Differing.{scheduled-agree}
 use Rattle.machine_state.specs.declared.endpoints.Endpoints.{Endpoints}
 use Rattle.machine_state.specs.declared.entry.Entry.TheVariants.{At}
-use Rattle.machine_state.specs.declared.entry.Happening.TheVariants.{Connected, Disconnected, Refused, Scheduled}
+use Rattle.machine_state.specs.declared.entry.EntryKind.TheVariants.{Connected, Disconnected, Refused, Scheduled}
 use Rattle.machine_state.specs.declared.fault.Fault.{Fault}
 use Rattle.machine_state.specs.declared.refusal.Refusal.{Refusal}
 use Rattle.machine_state.specs.declared.refusal.Refusal.TheVariants.{NoConnection}

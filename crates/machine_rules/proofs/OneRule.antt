@@ -41,7 +41,7 @@ use Rattle.machine_rules.specs.Connecting.{AreThere, kept_ends, names_of, found_
 use Rattle.machine_rules.specs.Judgement.{HasOneAnswer}
 use Rattle.machine_rules.proofs.OneAnswer.{one-check, one-then}
 use Rattle.machine_rules.specs.Destroying.{Dies, died, NextRule, ChildRule, DestroyRule, living_child, Defers, deferred, DefersOnce, Schedules}
-use Rattle.machine_rules.specs.Doings.{Doing, Write, Begin, Choose, Connect, Disconnect, Delete, Schedule, TakeAnswer, Nothing}
+use Rattle.machine_rules.specs.Operations.{Operation, Write, Begin, Choose, Connect, Disconnect, Delete, Schedule, TakeAnswer, Nothing}
 use Rattle.machine_rules.specs.Rules.{Rule, RuleAt, BodyRule, Does, EmitRule, Uses, UpdateRule, Notifies, NotifiesIf, Begins, BeginsIf, begun, with_used, Connects, Disconnects, linked, unlinked, Arrives, posted, TurnRule, Serves, Delivers}
 use Rattle.machine_rules.specs.Settling.{Settles, Writes, Installs, notified}
 use Rattle.machine_rules.proofs.Answering.{answers-one}
@@ -165,7 +165,7 @@ schedules-one s t u stack x (Some l) a b = by_mark l.scheduled a b
 
 -- ---- bodies
 
-does-one : (p : Loaded) (natives : NativeAnswers) → AnswersOnce natives → (s : State) (o m : ℕ) (arguments : List Value) (rest : List Step) (below : List Activation) (d : Doing) (t u : State) → Agree p s.objects s.bindings → Does p natives s o m arguments rest below d t → Does p natives s o m arguments rest below d u → t ≡ u
+does-one : (p : Loaded) (natives : NativeAnswers) → AnswersOnce natives → (s : State) (o m : ℕ) (arguments : List Value) (rest : List Step) (below : List Activation) (d : Operation) (t u : State) → Agree p s.objects s.bindings → Does p natives s o m arguments rest below d t → Does p natives s o m arguments rest below d u → t ≡ u
 does-one p natives once s o m arguments rest below (Write x q new) t u agree a b = writes-one agree a b
 does-one p natives once s o m arguments rest below (Begin x n given) t u agree a b = begins-one a b
 does-one p natives once s o m arguments rest below (Choose block) t u agree a b = a ∙ sym b
@@ -181,7 +181,7 @@ body-one p natives once s o m arguments below t u [] agree a b = a ∙ sym b
 body-one p natives once s o m arguments below t u (x ∷ rest) agree a b =
     let both : Some a.what ≡ Some b.what = sym a.is ∙ b.is in
     let same : a.what ≡ b.what = cc both in
-    let Done : Doing → Type 0 = λ d. Does p natives s o m arguments rest below d u in
+    let Done : Operation → Type 0 = λ d. Does p natives s o m arguments rest below d u in
     does-one p natives once s o m arguments rest below a.what t u agree a.does (subst Done (sym same) b.does)
 
 arrives-one : {t u : State} (s : State) (stack : List Activation) (home o : ℕ) (x : Object) (m : ℕ) (method : MetaMethod) (arguments : List Value) (b : Bool) → Arrives s stack home o x m method arguments t b → Arrives s stack home o x m method arguments u b → t ≡ u

@@ -30,7 +30,7 @@ use Rattle.machine_state.specs.State.{Step, State, Activation, Body, Emit, Updat
 use Rattle.machine_state.specs.Turns.{running, reaches_at_once}
 use Rattle.machine_state.specs.Worlds.{using, noted, HasWritten}
 use Rattle.machine_state.proofs.Due.{all-used, last-used}
-use Rattle.machine_rules.specs.Doings.{Doing, Write, Begin, Choose, Nothing, Connect, Disconnect, Delete, Schedule, TakeAnswer}
+use Rattle.machine_rules.specs.Operations.{Operation, Write, Begin, Choose, Nothing, Connect, Disconnect, Delete, Schedule, TakeAnswer}
 use Rattle.machine_rules.specs.Good.{ArgumentsFit, TopFits, IsWell}
 use Rattle.machine_rules.specs.code.Keeps.{StayThere, AllJoined, KeepsWorld}
 use Rattle.machine_rules.specs.code.Reaches.{Reaches}
@@ -208,7 +208,7 @@ module _ {p : Loaded} {s t : State} (program : IsSound p) (well : IsWell p s t) 
       by_mark true e = quiet-fair e lower
       by_mark false d = deferred-fair stack d.loop l.home x d.name d.gives (named-created s.objects x d.named) lower
 
-  does-fair : (natives : NativeAnswers) (o m : ℕ) (arguments : List Value) (rest : List Step) (below : List Activation) (d : Doing) → AllFit p s.objects below → length s.stack ≡ suc (length below) → Does p natives s o m arguments rest below d t → Fair p t
+  does-fair : (natives : NativeAnswers) (o m : ℕ) (arguments : List Value) (rest : List Step) (below : List Activation) (d : Operation) → AllFit p s.objects below → length s.stack ≡ suc (length below) → Does p natives s o m arguments rest below d t → Fair p t
   does-fair natives o m arguments rest below (Write y q new) lower high does = writes-fair does (tt, lower)
   does-fair natives o m arguments rest below (Begin y n given) lower high does = begins-fair does (omega (arith, high)) (tt, lower)
   does-fair natives o m arguments rest below (Choose block) lower high does = quiet-fair does (tt, lower)

@@ -21,7 +21,7 @@ use Rattle.machine_state.specs.State.{State, Activation, Destroy, IsIdle}
 use Rattle.machine_state.specs.Worlds.{at, with_queues, taking, taking_unwritten, turn_ended}
 use Rattle.machine_rules.specs.code.Active.{shows}
 use Rattle.machine_rules.specs.Good.{ArgumentsFit}
-use Rattle.machine_rules.specs.code.Reaches.{IsCalled, DoesWork, Reaches, StopsIn, RunsTo, Advances, IsBegun, IsBarred, top_of}
+use Rattle.machine_rules.specs.code.Reaches.{IsCalled, DoesWork, Reaches, StopsIn, RunsTo, Advances, IsActivated, IsBarred, top_of}
 use Rattle.machine_rules.specs.Rules.{Rule, TurnRule, Serves, Delivers, Begins, BeginsIf}
 use Rattle.machine_rules.specs.code.Going.{done}
 use Rattle.machine_rules.specs.code.Sound.{Waits, IsSoundWorld, AgreeIn}
@@ -81,7 +81,7 @@ reaches-ended {p} {natives} {d} {w} {v} is none agree some v_is =
 
 -- the first item that the turn may deliver is taken, and its call begins
 pub reaches-served : {p : Loaded} {natives : NativeAnswers} {d o m : ℕ} {active : List (Option ℕ)} {w v : World} {turn : Turn} {q : Posted} {arguments : List Value} {line : Entry} {work : Work} {last : ℕ} →
-    w.turn ≡ Some turn → Some q ≡ find (is_before turn.limit) (items_at w.store.loops.loops turn.home) → q.item ≡ Call o m arguments → active ≡ [] → IsBegun p d active w o m arguments line work last → ArgumentsFit p w.store.tree o m arguments → AgreeIn p w → 0 < w.left → v ≡ taking w (line ∷ []) turn.home turn.limit →
+    w.turn ≡ Some turn → Some q ≡ find (is_before turn.limit) (items_at w.store.loops.loops turn.home) → q.item ≡ Call o m arguments → active ≡ [] → IsActivated p d active w o m arguments line work last → ArgumentsFit p w.store.tree o m arguments → AgreeIn p w → 0 < w.left → v ≡ taking w (line ∷ []) turn.home turn.limit →
     Reaches p natives d [] w [] v (top_of o m arguments last work ∷ [])
 reaches-served {p} {natives} {d} {o} {m} {active} {w} {v} {turn} {q} {arguments} {line} {work} {last} is found item_is none begun fit agree some v_is =
     let none_active : length active ≡ 0 = ap (λ (l : List (Option ℕ)). length l) none in

@@ -18,7 +18,7 @@ use Rattle.machine_state.specs.State.{Step, State, Activation, Body, Update}
 use Rattle.machine_state.specs.Telling.{AreTold}
 use Rattle.machine_state.specs.Worlds.{at, noted, HasWritten}
 use Rattle.machine_rules.specs.code.Active.{shows}
-use Rattle.machine_rules.specs.Doings.{Doing, Write, TakeAnswer, doing_step}
+use Rattle.machine_rules.specs.Operations.{Operation, Write, TakeAnswer, operation_of_step}
 use Rattle.machine_rules.specs.code.Reaches.{Reaches, StopsIn, RunsTo, MayNest, Sets}
 use Rattle.machine_rules.specs.Faults.{DoesNext, WritesIll, WritesDeep}
 use Rattle.machine_rules.specs.Settling.{Settles, Writes, notified}
@@ -75,15 +75,15 @@ ends-written over sets some may written agree rest = ends-after (reaches-written
 -- ---- a property isn't written
 
 -- a step does one thing
-one-doing : {s : State} {c d : Doing} → DoesNext s c → DoesNext s d → c ≡ d
-one-doing {s} {c} {d} m n =
+one-operation : {s : State} {c d : Operation} → DoesNext s c → DoesNext s d → c ≡ d
+one-operation {s} {c} {d} m n =
     let stacks : (Body m.object m.method m.arguments (m.step ∷ m.rest) ∷ m.below) ≡ (Body n.object n.method n.arguments (n.step ∷ n.rest) ∷ n.below) = sym m.is_next ∙ n.is_next in
     let object_is : m.object ≡ n.object = cc stacks in
     let arguments_is : m.arguments ≡ n.arguments = cc stacks in
     let step_is : m.step ≡ n.step = cc stacks in
-    let by_object : ℕ → Option Doing = λ k. doing_step s.objects k n.arguments n.step in
-    let by_arguments : List Value → Option Doing = λ l. doing_step s.objects m.object l n.step in
-    let by_step : Step → Option Doing = λ x. doing_step s.objects m.object m.arguments x in
+    let by_object : ℕ → Option Operation = λ k. operation_of_step s.objects k n.arguments n.step in
+    let by_arguments : List Value → Option Operation = λ l. operation_of_step s.objects m.object l n.step in
+    let by_step : Step → Option Operation = λ x. operation_of_step s.objects m.object m.arguments x in
     let both : Some c ≡ Some d = sym m.does ∙ ap by_step step_is ∙ ap by_arguments arguments_is ∙ ap by_object object_is ∙ n.does in
     cc both
 
@@ -93,12 +93,12 @@ stops-unwritten {p} {natives} {place = place} {w = w} {new = new} over sets some
     stops-stuck sets.goes_on some
     (λ below t r. let k = sets.only below t r in none k.object k.property k.is)
     (λ below a b value next.
-    let same : Write place.object place.property new ≡ Write a b value = one-doing (sets.next below) next in
+    let same : Write place.object place.property new ≡ Write a b value = one-operation (sets.next below) next in
     let object_is : place.object ≡ a = cc same in
     let property_is : place.property ≡ b = cc same in
     let By : ℕ → ℕ → Type 0 = λ o q. LacksField p w.store.tree o q in
     subst (λ (q : ℕ). By a q) property_is (subst (λ (o : ℕ). By o place.property) object_is none))
-    (λ below effects next. let same : Write place.object place.property new ≡ TakeAnswer effects = one-doing (sets.next below) next in absurd (cc same))
+    (λ below effects next. let same : Write place.object place.property new ≡ TakeAnswer effects = one-operation (sets.next below) next in absurd (cc same))
 stops-unwritten {p} {natives} {place = place} {w = w} {from = from} {new = new} over sets some (ill {x = x} {property = property} f not) =
     stops-ill-write some (λ below.
     let is : WritesIll p (at w (from ++ below)) = record { object = place.object; number = place.property; value = new; next = sets.next below; it = x; property = property; is = f; ill = not } in

@@ -13,18 +13,18 @@ use Rattle.meta_model.specs.declared.object.Statement.{Statement}
 use Rattle.meta_model.specs.declared.object.Statement.TheOpen as layer
 use Rattle.meta_model.specs.declared.object.Statement.TheViews.{out-Statement}
 use Rattle.object_tree.specs.declared.object.Object.{Object}
-use Rattle.machine_rules.specs.declared.doing.Doing.{Doing as Coded}
+use Rattle.machine_rules.specs.declared.operation.Operation.{Operation as Coded}
 use Rattle.meta_model.specs.declared.object.MetaEndpoints.{MetaEndpoints}
 use Rattle.machine_state.specs.declared.endpoints.Endpoints.{Endpoints}
 use Rattle.machine_rules.specs.declared.paths.Scope.{Scope}
-use Rattle.machine_rules.specs.Doings.{Doing, Write, Begin, Choose, Nothing, on_object, on_ends, chosen_by, doing}
+use Rattle.machine_rules.specs.Operations.{Operation, Write, Begin, Choose, Nothing, on_object, on_ends, chosen_by, operation}
 use Rattle.machine_rules.specs.Paths.{path_value, value_of, values_of}
 use Rattle.machine_rules.specs.code.Coded.{Yields, FindsBetween, chosen_of}
 use Rattle.machine_rules.specs.code.Scope.{ends_in}
 use Rattle.machine_rules.specs.code.Reaches.{Finds, Judges}
 
 -- a path that leads to no object
-no-object : (act : ℕ → Option Doing) (found : Option Value) → ((r : Option ℕ) → found ≢ Some (value.Ref r)) → on_object act found ≡ None
+no-object : (act : ℕ → Option Operation) (found : Option Value) → ((r : Option ℕ) → found ≢ Some (value.Ref r)) → on_object act found ≡ None
 no-object act None none = refl
 no-object act (Some (value.Ref r)) none = absurd (none r refl)
 no-object act (Some (value.Int n)) none = refl
@@ -40,31 +40,31 @@ no-truth block other (Some (value.Text t)) none = refl
 no-truth block other (Some (value.Ref r)) none = refl
 
 -- what a call that failed leaves behind a `?`
-yields-left : (found : Option Doing) (e : EvalFault) (r : Result Coded EvalFault) → (e ≡ BadType → found ≡ None) → IsErrAnd r (λ y. y ≡ e) → Yields found r
+yields-left : (found : Option Operation) (e : EvalFault) (r : Result Coded EvalFault) → (e ≡ BadType → found ≡ None) → IsErrAnd r (λ y. y ≡ e) → Yields found r
 yields-left found e (Ok d) lacks is = absurd is
 yields-left found e (Err BadType) lacks is = lacks (sym is)
 yields-left found e (Err Memory) lacks is = tt
 
 -- .. where two ends are looked for
-pub ends-left : (scope : Scope) (ends : MetaEndpoints) (e : EvalFault) (r : Result (Option Endpoints) EvalFault) → (e ≡ BadType → (act : Endpoints → Doing) → ends_in scope act ends ≡ None) → IsErrAnd r (λ y. y ≡ e) → FindsBetween scope ends r
+pub ends-left : (scope : Scope) (ends : MetaEndpoints) (e : EvalFault) (r : Result (Option Endpoints) EvalFault) → (e ≡ BadType → (act : Endpoints → Operation) → ends_in scope act ends ≡ None) → IsErrAnd r (λ y. y ≡ e) → FindsBetween scope ends r
 ends-left scope ends e (Ok d) lacks is = absurd is
 ends-left scope ends e (Err BadType) lacks is = lacks (sym is)
 ends-left scope ends e (Err Memory) lacks is = tt
 
 -- a statement of which nothing is found at its ends
-pub ends-lack : (scope : Scope) (ends : MetaEndpoints) (act : Endpoints → Doing) (e : EvalFault) (r : Result Coded EvalFault) → FindsBetween scope ends (Err e) → IsErrAnd r (λ y. y ≡ e) → Yields (ends_in scope act ends) r
+pub ends-lack : (scope : Scope) (ends : MetaEndpoints) (act : Endpoints → Operation) (e : EvalFault) (r : Result Coded EvalFault) → FindsBetween scope ends (Err e) → IsErrAnd r (λ y. y ≡ e) → Yields (ends_in scope act ends) r
 ends-lack scope ends act e r finds is =
     let At : EvalFault → Type 0 = λ g. FindsBetween scope ends (Err g) in
     yields-left (ends_in scope act ends) e r (λ bad. let none = subst At bad finds in none act) is
 
 -- no value of an expression, or of expressions
-no-value : {X : Type 0} (act : X → Doing) (found : Option X) → found ≡ None → option_map act found ≡ None
+no-value : {X : Type 0} (act : X → Operation) (found : Option X) → found ≡ None → option_map act found ≡ None
 no-value act found none = ap (option_map act) none
 
 module _ (objects : List Object) (o : ℕ) (arguments : List Value) where
   -- ---- a path to an object, and what is done with it
 
-  module _ (act : ℕ → Option Doing) (path : MetaPath) where
+  module _ (act : ℕ → Option Operation) (path : MetaPath) where
     abbrev found : Option Value
     found = path_value objects o arguments path
 
@@ -76,82 +76,82 @@ module _ (objects : List Object) (o : ℕ) (arguments : List Value) where
     pub at-null : path_value objects o arguments path ≡ Some (value.Ref None) → on_object act (path_value objects o arguments path) ≡ Some Nothing
     at-null is = ap (on_object act) is
 
-    pub at-object : {x : ℕ} {d : Option Doing} → path_value objects o arguments path ≡ Some (value.Ref (Some x)) → act x ≡ d → on_object act (path_value objects o arguments path) ≡ d
+    pub at-object : {x : ℕ} {d : Option Operation} → path_value objects o arguments path ≡ Some (value.Ref (Some x)) → act x ≡ d → on_object act (path_value objects o arguments path) ≡ d
     at-object is does = ap (on_object act) is ∙ does
 
   -- ---- the objects at two ends
 
   -- no object at the sender's end, and none at the receiver's
-  pub no-sender : (act : Endpoints → Doing) (ends : MetaEndpoints) → ((r : Option ℕ) → path_value objects o arguments ends.sender ≢ Some (value.Ref r)) → on_ends act ends (path_value objects o arguments ends.sender) (path_value objects o arguments ends.receiver) ≡ None
+  pub no-sender : (act : Endpoints → Operation) (ends : MetaEndpoints) → ((r : Option ℕ) → path_value objects o arguments ends.sender ≢ Some (value.Ref r)) → on_ends act ends (path_value objects o arguments ends.sender) (path_value objects o arguments ends.receiver) ≡ None
   no-sender act ends none = no-object _ (path_value objects o arguments ends.sender) none
 
-  pub no-receiver : (act : Endpoints → Doing) (ends : MetaEndpoints) {x : ℕ} → path_value objects o arguments ends.sender ≡ Some (value.Ref (Some x)) → ((r : Option ℕ) → path_value objects o arguments ends.receiver ≢ Some (value.Ref r)) → on_ends act ends (path_value objects o arguments ends.sender) (path_value objects o arguments ends.receiver) ≡ None
+  pub no-receiver : (act : Endpoints → Operation) (ends : MetaEndpoints) {x : ℕ} → path_value objects o arguments ends.sender ≡ Some (value.Ref (Some x)) → ((r : Option ℕ) → path_value objects o arguments ends.receiver ≢ Some (value.Ref r)) → on_ends act ends (path_value objects o arguments ends.sender) (path_value objects o arguments ends.receiver) ≡ None
   no-receiver act ends there none = at-object _ ends.sender there (no-object _ (path_value objects o arguments ends.receiver) none)
 
   -- .. null
-  pub null-sender : (act : Endpoints → Doing) (ends : MetaEndpoints) → path_value objects o arguments ends.sender ≡ Some (value.Ref None) → on_ends act ends (path_value objects o arguments ends.sender) (path_value objects o arguments ends.receiver) ≡ Some Nothing
+  pub null-sender : (act : Endpoints → Operation) (ends : MetaEndpoints) → path_value objects o arguments ends.sender ≡ Some (value.Ref None) → on_ends act ends (path_value objects o arguments ends.sender) (path_value objects o arguments ends.receiver) ≡ Some Nothing
   null-sender act ends is = at-null _ ends.sender is
 
-  pub null-receiver : (act : Endpoints → Doing) (ends : MetaEndpoints) {x : ℕ} → path_value objects o arguments ends.sender ≡ Some (value.Ref (Some x)) → path_value objects o arguments ends.receiver ≡ Some (value.Ref None) → on_ends act ends (path_value objects o arguments ends.sender) (path_value objects o arguments ends.receiver) ≡ Some Nothing
+  pub null-receiver : (act : Endpoints → Operation) (ends : MetaEndpoints) {x : ℕ} → path_value objects o arguments ends.sender ≡ Some (value.Ref (Some x)) → path_value objects o arguments ends.receiver ≡ Some (value.Ref None) → on_ends act ends (path_value objects o arguments ends.sender) (path_value objects o arguments ends.receiver) ≡ Some Nothing
   null-receiver act ends there is = at-object _ ends.sender there (at-null _ ends.receiver is)
 
   -- .. objects
-  pub at-ends : (act : Endpoints → Doing) (ends : MetaEndpoints) {x y : ℕ} → path_value objects o arguments ends.sender ≡ Some (value.Ref (Some x)) → path_value objects o arguments ends.receiver ≡ Some (value.Ref (Some y)) → on_ends act ends (path_value objects o arguments ends.sender) (path_value objects o arguments ends.receiver) ≡ Some (act (record { sender = x; signal = ends.signal; receiver = y; method = ends.method }))
+  pub at-ends : (act : Endpoints → Operation) (ends : MetaEndpoints) {x y : ℕ} → path_value objects o arguments ends.sender ≡ Some (value.Ref (Some x)) → path_value objects o arguments ends.receiver ≡ Some (value.Ref (Some y)) → on_ends act ends (path_value objects o arguments ends.sender) (path_value objects o arguments ends.receiver) ≡ Some (act (record { sender = x; signal = ends.signal; receiver = y; method = ends.method }))
   at-ends act ends there is = at-object _ ends.sender there (at-object _ ends.receiver is refl)
 
   -- ---- statements
 
-  abbrev set-act : ℕ → Expr MetaPath → ℕ → Option Doing
+  abbrev set-act : ℕ → Expr MetaPath → ℕ → Option Operation
   set-act q e x = option_map (λ (new : Value). Write x q new) (value_of objects o arguments e)
 
-  abbrev call-act : ℕ → List (Expr MetaPath) → ℕ → Option Doing
+  abbrev call-act : ℕ → List (Expr MetaPath) → ℕ → Option Operation
   call-act n es x = option_map (λ (given : List Value). Begin x n given) (values_of objects o arguments es)
 
-  pub set-no-target : (path : MetaPath) (q : ℕ) (e : Expr MetaPath) (f : EvalFault) (r : Result Coded EvalFault) → Finds (path_value objects o arguments path) (Err f) → IsErrAnd r (λ y. y ≡ f) → Yields (doing objects o arguments (layer.Set path q e)) r
+  pub set-no-target : (path : MetaPath) (q : ℕ) (e : Expr MetaPath) (f : EvalFault) (r : Result Coded EvalFault) → Finds (path_value objects o arguments path) (Err f) → IsErrAnd r (λ y. y ≡ f) → Yields (operation objects o arguments (layer.Set path q e)) r
   set-no-target path q e f r finds is = no-target (set-act q e) path f r finds is
 
-  pub set-nothing : (path : MetaPath) (q : ℕ) (e : Expr MetaPath) → path_value objects o arguments path ≡ Some (value.Ref None) → doing objects o arguments (layer.Set path q e) ≡ Some Nothing
+  pub set-nothing : (path : MetaPath) (q : ℕ) (e : Expr MetaPath) → path_value objects o arguments path ≡ Some (value.Ref None) → operation objects o arguments (layer.Set path q e) ≡ Some Nothing
   set-nothing path q e is = at-null (set-act q e) path is
 
-  pub set-no-value : (path : MetaPath) (q : ℕ) (e : Expr MetaPath) (x : ℕ) (f : EvalFault) (r : Result Coded EvalFault) → path_value objects o arguments path ≡ Some (value.Ref (Some x)) → Evaluates (value_of objects o arguments e) (Err f) → IsErrAnd r (λ y. y ≡ f) → Yields (doing objects o arguments (layer.Set path q e)) r
+  pub set-no-value : (path : MetaPath) (q : ℕ) (e : Expr MetaPath) (x : ℕ) (f : EvalFault) (r : Result Coded EvalFault) → path_value objects o arguments path ≡ Some (value.Ref (Some x)) → Evaluates (value_of objects o arguments e) (Err f) → IsErrAnd r (λ y. y ≡ f) → Yields (operation objects o arguments (layer.Set path q e)) r
   set-no-value path q e x f r there evaluates is =
       let At : EvalFault → Type 0 = λ g. Evaluates (value_of objects o arguments e) (Err g) in
-      yields-left (doing objects o arguments (layer.Set path q e)) f r
+      yields-left (operation objects o arguments (layer.Set path q e)) f r
       (λ bad. at-object (set-act q e) path there (no-value (λ (new : Value). Write x q new) (value_of objects o arguments e) (subst At bad evaluates))) is
 
-  pub set-writes : (path : MetaPath) (q : ℕ) (e : Expr MetaPath) {x : ℕ} {new : Value} → path_value objects o arguments path ≡ Some (value.Ref (Some x)) → value_of objects o arguments e ≡ Some new → doing objects o arguments (layer.Set path q e) ≡ Some (Write x q new)
+  pub set-writes : (path : MetaPath) (q : ℕ) (e : Expr MetaPath) {x : ℕ} {new : Value} → path_value objects o arguments path ≡ Some (value.Ref (Some x)) → value_of objects o arguments e ≡ Some new → operation objects o arguments (layer.Set path q e) ≡ Some (Write x q new)
   set-writes path q e {x} there gives = at-object (set-act q e) path there (ap (option_map (λ (new : Value). Write x q new)) gives)
 
-  pub emit-no-values : (g : ℕ) (es : List (Expr MetaPath)) (f : EvalFault) (r : Result Coded EvalFault) → EvaluatesAll (values_of objects o arguments es) (Err f) → IsErrAnd r (λ y. y ≡ f) → Yields (doing objects o arguments (layer.Emit g es)) r
+  pub emit-no-values : (g : ℕ) (es : List (Expr MetaPath)) (f : EvalFault) (r : Result Coded EvalFault) → EvaluatesAll (values_of objects o arguments es) (Err f) → IsErrAnd r (λ y. y ≡ f) → Yields (operation objects o arguments (layer.Emit g es)) r
   emit-no-values g es f r evaluates is =
       let At : EvalFault → Type 0 = λ h. EvaluatesAll (values_of objects o arguments es) (Err h) in
-      yields-left (doing objects o arguments (layer.Emit g es)) f r
+      yields-left (operation objects o arguments (layer.Emit g es)) f r
       (λ bad. no-value (λ (given : List Value). Begin o g given) (values_of objects o arguments es) (subst At bad evaluates)) is
 
-  pub emit-begins : (g : ℕ) (es : List (Expr MetaPath)) {given : List Value} → values_of objects o arguments es ≡ Some given → doing objects o arguments (layer.Emit g es) ≡ Some (Begin o g given)
+  pub emit-begins : (g : ℕ) (es : List (Expr MetaPath)) {given : List Value} → values_of objects o arguments es ≡ Some given → operation objects o arguments (layer.Emit g es) ≡ Some (Begin o g given)
   emit-begins g es gives = ap (option_map (λ (given : List Value). Begin o g given)) gives
 
-  pub call-no-target : (path : MetaPath) (n : ℕ) (es : List (Expr MetaPath)) (f : EvalFault) (r : Result Coded EvalFault) → Finds (path_value objects o arguments path) (Err f) → IsErrAnd r (λ y. y ≡ f) → Yields (doing objects o arguments (layer.Call path n es)) r
+  pub call-no-target : (path : MetaPath) (n : ℕ) (es : List (Expr MetaPath)) (f : EvalFault) (r : Result Coded EvalFault) → Finds (path_value objects o arguments path) (Err f) → IsErrAnd r (λ y. y ≡ f) → Yields (operation objects o arguments (layer.Call path n es)) r
   call-no-target path n es f r finds is = no-target (call-act n es) path f r finds is
 
-  pub call-nothing : (path : MetaPath) (n : ℕ) (es : List (Expr MetaPath)) → path_value objects o arguments path ≡ Some (value.Ref None) → doing objects o arguments (layer.Call path n es) ≡ Some Nothing
+  pub call-nothing : (path : MetaPath) (n : ℕ) (es : List (Expr MetaPath)) → path_value objects o arguments path ≡ Some (value.Ref None) → operation objects o arguments (layer.Call path n es) ≡ Some Nothing
   call-nothing path n es is = at-null (call-act n es) path is
 
-  pub call-no-values : (path : MetaPath) (n : ℕ) (es : List (Expr MetaPath)) (x : ℕ) (f : EvalFault) (r : Result Coded EvalFault) → path_value objects o arguments path ≡ Some (value.Ref (Some x)) → EvaluatesAll (values_of objects o arguments es) (Err f) → IsErrAnd r (λ y. y ≡ f) → Yields (doing objects o arguments (layer.Call path n es)) r
+  pub call-no-values : (path : MetaPath) (n : ℕ) (es : List (Expr MetaPath)) (x : ℕ) (f : EvalFault) (r : Result Coded EvalFault) → path_value objects o arguments path ≡ Some (value.Ref (Some x)) → EvaluatesAll (values_of objects o arguments es) (Err f) → IsErrAnd r (λ y. y ≡ f) → Yields (operation objects o arguments (layer.Call path n es)) r
   call-no-values path n es x f r there evaluates is =
       let At : EvalFault → Type 0 = λ g. EvaluatesAll (values_of objects o arguments es) (Err g) in
-      yields-left (doing objects o arguments (layer.Call path n es)) f r
+      yields-left (operation objects o arguments (layer.Call path n es)) f r
       (λ bad. at-object (call-act n es) path there (no-value (λ (given : List Value). Begin x n given) (values_of objects o arguments es) (subst At bad evaluates))) is
 
-  pub call-begins : (path : MetaPath) (n : ℕ) (es : List (Expr MetaPath)) {x : ℕ} {given : List Value} → path_value objects o arguments path ≡ Some (value.Ref (Some x)) → values_of objects o arguments es ≡ Some given → doing objects o arguments (layer.Call path n es) ≡ Some (Begin x n given)
+  pub call-begins : (path : MetaPath) (n : ℕ) (es : List (Expr MetaPath)) {x : ℕ} {given : List Value} → path_value objects o arguments path ≡ Some (value.Ref (Some x)) → values_of objects o arguments es ≡ Some given → operation objects o arguments (layer.Call path n es) ≡ Some (Begin x n given)
   call-begins path n es {x} there gives = at-object (call-act n es) path there (ap (option_map (λ (given : List Value). Begin x n given)) gives)
 
-  pub if-no-truth : (e : Expr MetaPath) (block other : List Statement) (f : EvalFault) (r : Result Coded EvalFault) → Judges (value_of objects o arguments e) (Err f) → IsErrAnd r (λ y. y ≡ f) → Yields (doing objects o arguments (layer.If e block other)) r
+  pub if-no-truth : (e : Expr MetaPath) (block other : List Statement) (f : EvalFault) (r : Result Coded EvalFault) → Judges (value_of objects o arguments e) (Err f) → IsErrAnd r (λ y. y ≡ f) → Yields (operation objects o arguments (layer.If e block other)) r
   if-no-truth e block other f r judges is =
       let At : EvalFault → Type 0 = λ g. Judges (value_of objects o arguments e) (Err g) in
-      yields-left (doing objects o arguments (layer.If e block other)) f r (λ bad. no-truth block other (value_of objects o arguments e) (subst At bad judges)) is
+      yields-left (operation objects o arguments (layer.If e block other)) f r (λ bad. no-truth block other (value_of objects o arguments e) (subst At bad judges)) is
 
-  pub if-chooses : (e : Expr MetaPath) (block other chosen : List Statement) (holds : Bool) → value_of objects o arguments e ≡ Some (value.Bool holds) → chosen ≡ chosen_of holds block other → doing objects o arguments (layer.If e block other) ≡ Some (Choose chosen)
+  pub if-chooses : (e : Expr MetaPath) (block other chosen : List Statement) (holds : Bool) → value_of objects o arguments e ≡ Some (value.Bool holds) → chosen ≡ chosen_of holds block other → operation objects o arguments (layer.If e block other) ≡ Some (Choose chosen)
   if-chooses e block other chosen holds gives is = ap (chosen_by block other) gives ∙ chosen-is holds ∙ ap (λ (l : List Statement). Some (Choose l)) (sym is)
     where
       chosen-is : (holds : Bool) → chosen_by block other (Some (value.Bool holds)) ≡ Some (Choose (chosen_of holds block other))
@@ -159,5 +159,5 @@ module _ (objects : List Object) (o : ℕ) (arguments : List Value) where
       chosen-is false = refl
 
   -- what is done by a statement is what its one layer does
-  pub yields-out : (s : Statement) (x : layer.Statement-F Statement) (r : Result Coded EvalFault) → out-Statement s ≡ x → Yields (doing objects o arguments x) r → Yields (doing objects o arguments (out-Statement s)) r
-  yields-out s x r is yields = let F : layer.Statement-F Statement → Type 0 = λ y. Yields (doing objects o arguments y) r in subst F (sym is) yields
+  pub yields-out : (s : Statement) (x : layer.Statement-F Statement) (r : Result Coded EvalFault) → out-Statement s ≡ x → Yields (operation objects o arguments x) r → Yields (operation objects o arguments (out-Statement s)) r
+  yields-out s x r is yields = let F : layer.Statement-F Statement → Type 0 = λ y. Yields (operation objects o arguments y) r in subst F (sym is) yields

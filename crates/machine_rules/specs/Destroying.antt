@@ -12,7 +12,7 @@ use Rattle.object_tree.specs.declared.life.Life.{Life}
 use Rattle.object_tree.specs.Family.{children_of}
 use Rattle.object_tree.specs.Objects.{name_of}
 use Rattle.machine_state.specs.declared.entry.Entry.TheVariants.{At}
-use Rattle.machine_state.specs.declared.entry.Happening.TheVariants as happening
+use Rattle.machine_state.specs.declared.entry.EntryKind.TheVariants as entry_kind
 use Rattle.machine_state.specs.declared.entry.Shown.TheVariants as show
 use Rattle.machine_state.specs.Connections.{is_living}
 use Rattle.machine_state.specs.State.{State, Activation, Emit, Destroy}
@@ -30,8 +30,8 @@ deleting s below x = record s { stack = Destroy (Some x) [] ∷ below }
 abbrev pub died : State → List Activation → ℕ → List ℕ → State
 died s stack x name = record (with_store s (died_in x (store_of s))) {
   stack = Emit x DESTROYED (value.Ref None ∷ []) 0 s.connected.last ∷ stack;
-  trace = s.trace ++ At (length stack) (happening.Died name)
-      ∷ At (suc (length stack)) (happening.Emitted name destroyed.name (show.Null ∷ []) false) ∷ [];
+  trace = s.trace ++ At (length stack) (entry_kind.Died name)
+      ∷ At (suc (length stack)) (entry_kind.Emitted name destroyed.name (show.Null ∷ []) false) ∷ [];
 }
 
 -- .. whatever its name is
@@ -72,7 +72,7 @@ DestroyRule s below t None (parent ∷ torn) = ChildRule s below t parent torn (
 abbrev pub deferred : State → List Activation → List ℕ → ℕ → ℕ → List ℕ → State
 deferred s stack loop home x name = record (with_store s (deferred_to home x (store_of s))) {
   stack = stack;
-  trace = s.trace ++ At (length stack) (happening.Scheduled loop name) ∷ [];
+  trace = s.trace ++ At (length stack) (entry_kind.Scheduled loop name) ∷ [];
 }
 
 -- .. whatever the names are

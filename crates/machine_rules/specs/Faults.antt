@@ -12,14 +12,14 @@ use Rattle.machine_state.specs.declared.fault.Fault.TheVariants.{BadType, TooDee
 use Rattle.machine_state.specs.State.{Step, Run, State, Activation, Body}
 use Rattle.machine_state.specs.declared.world.World.{World}
 use Rattle.machine_state.specs.Worlds.{KeepsTheRest}
-use Rattle.machine_rules.specs.Doings.{Doing, Write, doing, doing_step}
+use Rattle.machine_rules.specs.Operations.{Operation, Write, operation, operation_of_step}
 use Rattle.machine_rules.specs.There.{IsField}
 use Rattle.machine_rules.specs.Good.{IsWell, Spares, IsAcyclic}
 
 -- ---- what comes next
 
 -- what is going on is a body whose next step does this
-pub record DoesNext (s : State) (what : Doing) : Type 0 where
+pub record DoesNext (s : State) (what : Operation) : Type 0 where
   pub object : ℕ
   pub method : ℕ
   pub arguments : List Value
@@ -27,7 +27,7 @@ pub record DoesNext (s : State) (what : Doing) : Type 0 where
   pub rest : List Step
   pub below : List Activation
   pub is_next : s.stack ≡ Body object method arguments (step ∷ rest) ∷ below
-  pub does : doing_step s.objects object arguments step ≡ Some what
+  pub does : operation_of_step s.objects object arguments step ≡ Some what
 
 -- .. it writes this value to a property
 abbrev pub WritesNext : State → ℕ → ℕ → Value → Type 0
@@ -67,7 +67,7 @@ pub record LacksValue (s : State) : Type 0 where
   pub rest : List Step
   pub below : List Activation
   pub is_next : s.stack ≡ Body object method arguments (Run statement ∷ rest) ∷ below
-  pub lacks : doing s.objects object arguments (out-Statement statement) ≡ None
+  pub lacks : operation s.objects object arguments (out-Statement statement) ≡ None
 
 -- ---- why a run stops
 

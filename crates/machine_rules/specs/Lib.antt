@@ -1,6 +1,6 @@
 pub mod Paths
 pub mod Natives
-pub mod Doings
+pub mod Operations
 pub mod There
 pub mod Judgement
 pub mod Connecting

@@ -15,7 +15,7 @@ use Rattle.native_slots.specs.declared.action.Action.{Action}
 use Rattle.native_slots.specs.declared.action.Action.TheVariants as action
 use Rattle.machine_state.specs.declared.entry.Entry.{Entry}
 use Rattle.machine_state.specs.declared.entry.Entry.TheVariants.{At}
-use Rattle.machine_state.specs.declared.entry.Happening.TheVariants.{Answered}
+use Rattle.machine_state.specs.declared.entry.EntryKind.TheVariants.{Answered}
 use Rattle.machine_state.specs.declared.entry.ShownAction.{ShownAction}
 use Rattle.machine_state.specs.declared.entry.ShownAction.TheVariants as show
 use Rattle.machine_state.specs.Objects.{shown, all_shown}

@@ -22,8 +22,8 @@ use Rattle.object_tree.specs.declared.life.Life.{Life}
 use Rattle.connections.specs.declared.connection.Connection.{Connection}
 use Rattle.machine_state.specs.declared.entry.Entry.{Entry}
 use Rattle.machine_state.specs.declared.entry.Entry.TheVariants.{At}
-use Rattle.machine_state.specs.declared.entry.Happening.{Happening}
-use Rattle.machine_state.specs.declared.entry.Happening.TheVariants as happening
+use Rattle.machine_state.specs.declared.entry.EntryKind.{EntryKind}
+use Rattle.machine_state.specs.declared.entry.EntryKind.TheVariants as entry_kind
 use Rattle.machine_state.specs.declared.entry.ShownAction.{ShownAction}
 use Rattle.meta_model.specs.declared.effects.MetaEffects.{MetaEffects}
 use Rattle.native_slots.specs.declared.action.Action.{Action}
@@ -37,7 +37,7 @@ use Rattle.machine_rules.specs.There.{IsMember, IsField}
 use Rattle.machine_rules.specs.Connecting.{AreThere, kept_ends, names_of, found_ends, may_connect, may_disconnect}
 use Rattle.machine_rules.specs.Destroying.{deleting, DestroyRule, Schedules}
 use Rattle.machine_rules.specs.Settling.{Writes}
-use Rattle.machine_rules.specs.Doings.{Doing, Write, Begin, Choose, Connect, Disconnect, Delete, Schedule, TakeAnswer, Nothing, doing_step}
+use Rattle.machine_rules.specs.Operations.{Operation, Write, Begin, Choose, Connect, Disconnect, Delete, Schedule, TakeAnswer, Nothing, operation_of_step}
 use Rattle.machine_rules.specs.Natives.{NativeAnswers, MayAnswer, AreShownAs}
 use Rattle.prop_bindings.specs.declared.place.Place.{Place}
 use Rattle.machine_state.specs.State.{Step, Run, Ask, Act, State, Activation, Body, Emit, Update, Destroy}
@@ -53,13 +53,13 @@ pushed s top below notes = record s { stack = top ∷ below; trace = s.trace ++ 
 abbrev pub begun : State → List Activation → ℕ → Object → ℕ → MetaMethod → List Value → Work → State
 begun s below o x m method arguments Signal =
     pushed s (Emit o m arguments 0 s.connected.last) below
-    (λ d. At d (happening.Emitted x.name method.sig.name (all_shown s.objects arguments) (is_silent x m)) ∷ [])
+    (λ d. At d (entry_kind.Emitted x.name method.sig.name (all_shown s.objects arguments) (is_silent x m)) ∷ [])
 begun s below o x m method arguments (Slot statements) =
     pushed s (Body o m arguments (map Run statements)) below
-    (λ d. At d (happening.Called x.name method.sig.name (all_shown s.objects arguments)) ∷ [])
+    (λ d. At d (entry_kind.Called x.name method.sig.name (all_shown s.objects arguments)) ∷ [])
 begun s below o x m method arguments (Native effects) =
     pushed s (Body o m arguments (Ask effects ∷ [])) below
-    (λ d. At d (happening.Called x.name method.sig.name (all_shown s.objects arguments)) ∷ [])
+    (λ d. At d (entry_kind.Called x.name method.sig.name (all_shown s.objects arguments)) ∷ [])
 
 -- method m of object o begins with these arguments
 pub record Begins (p : Loaded) (s : State) (below : List Activation) (o m : ℕ) (arguments : List Value) (t : State) : Type 0 where
@@ -96,13 +96,13 @@ UpdateRule p s below t (place ∷ places) = NotifiesIf p s (Update places ∷ be
 -- ---- bodies
 
 -- this is written down, and nothing is pushed
-abbrev pub told : State → List Activation → Happening → State
+abbrev pub told : State → List Activation → EntryKind → State
 told s stack what = record s { stack = stack; trace = s.trace ++ At (length stack) what ∷ [] }
 
 -- a connection is made, or refused, which changes nothing else
 abbrev pub linked : State → List Activation → Endpoints → ConnectionType → Named (List ℕ) → Result (Unit {0}) Refusal → State
-linked s stack ends how names (Ok _) = told (with_connection s ends how) stack (happening.Connected names how)
-linked s stack ends how names (Err r) = told s stack (happening.Refused (refusal_number r))
+linked s stack ends how names (Ok _) = told (with_connection s ends how) stack (entry_kind.Connected names how)
+linked s stack ends how names (Err r) = told s stack (entry_kind.Refused (refusal_number r))
 
 -- a statement connects: its signal and method are judged as they are spelled; `destroyed()` is kept and written down as
 -- `destroyed(QObject*)`
@@ -115,8 +115,8 @@ pub record Connects (p : Loaded) (s : State) (stack : List Activation) (ends : E
 
 -- the connections are removed, or that is refused
 abbrev pub unlinked : State → List Activation → Endpoints → Named (List ℕ) → Result (Unit {0}) Refusal → State
-unlinked s stack ends names (Ok _) = told (without_connections s ends) stack (happening.Disconnected names)
-unlinked s stack ends names (Err r) = told s stack (happening.Refused (refusal_number r))
+unlinked s stack ends names (Ok _) = told (without_connections s ends) stack (entry_kind.Disconnected names)
+unlinked s stack ends names (Err r) = told s stack (entry_kind.Refused (refusal_number r))
 
 -- a statement disconnects
 pub record Disconnects (p : Loaded) (s : State) (stack : List Activation) (ends : Endpoints) (t : State) : Type 0 where
@@ -132,10 +132,10 @@ pub record Answers (p : Loaded) (natives : NativeAnswers) (s : State) (o m : ℕ
   pub may : MayAnswer p natives s.objects o m arguments effects actions
   pub lines : List ShownAction
   pub are_shown : AreShownAs p s.objects o effects actions lines
-  pub gives : t ≡ told s (Body o m arguments (map (Act effects) actions ++ rest) ∷ below) (happening.Answered lines)
+  pub gives : t ≡ told s (Body o m arguments (map (Act effects) actions ++ rest) ∷ below) (entry_kind.Answered lines)
 
 -- this is done by a step of the body of method m of object o, over what is left of the body and what is below it
-abbrev pub Does : Loaded → NativeAnswers → State → ℕ → ℕ → List Value → List Step → List Activation → Doing → State → Type 0
+abbrev pub Does : Loaded → NativeAnswers → State → ℕ → ℕ → List Value → List Step → List Activation → Operation → State → Type 0
 Does p natives s o m arguments rest below (Write x q new) t = Writes p s (Body o m arguments rest ∷ below) x q new t
 Does p natives s o m arguments rest below (Begin x n given) t = Begins p s (Body o m arguments rest ∷ below) x n given t
 Does p natives s o m arguments rest below (Choose block) t = t ≡ record s { stack = Body o m arguments (map Run block ++ rest) ∷ below }
@@ -144,13 +144,13 @@ Does p natives s o m arguments rest below (Disconnect ends) t = Disconnects p s 
 Does p natives s o m arguments rest below (Delete x) t = t ≡ deleting s (Body o m arguments rest ∷ below) x
 Does p natives s o m arguments rest below (Schedule x) t = Schedules s (Body o m arguments rest ∷ below) x t (life_of s.objects x)
 Does p natives s o m arguments rest below (TakeAnswer effects) t = Answers p natives s o m arguments effects rest below t
-Does p natives s o m arguments rest below Nothing t = t ≡ told s (Body o m arguments rest ∷ below) happening.OnNull
+Does p natives s o m arguments rest below Nothing t = t ≡ told s (Body o m arguments rest ∷ below) entry_kind.OnNull
 
 -- a step is carried out, and `rest` follows it
 pub record StepRule (p : Loaded) (natives : NativeAnswers) (s : State) (o m : ℕ) (arguments : List Value)
     (step : Step) (rest : List Step) (below : List Activation) (t : State) : Type 0 where
-  pub what : Doing
-  pub is : doing_step s.objects o arguments step ≡ Some what
+  pub what : Operation
+  pub is : operation_of_step s.objects o arguments step ≡ Some what
   pub does : Does p natives s o m arguments rest below what t
 
 -- the next step is carried out; with none left the body ends
@@ -165,7 +165,7 @@ abbrev pub posted : State → List Activation → List ℕ → ℕ → ℕ → O
 posted s stack name home o x m method arguments = record s {
   queues = posted_to home (Call o m arguments) s.queues;
   stack = stack;
-  trace = s.trace ++ At (length stack) (happening.Posted name x.name method.sig.name (all_shown s.objects arguments)) ∷ [];
+  trace = s.trace ++ At (length stack) (entry_kind.Posted name x.name method.sig.name (all_shown s.objects arguments)) ∷ [];
 }
 
 -- .. of this loop

@@ -9,16 +9,16 @@ ghost use Rattle.machine_rules.specs.Natives.{DeclaredBy, AreRead, HasStored, Ma
 ghost use Rattle.machine_rules.specs.code.Reaches.{CallFits, DoesWork};
 ghost use Rattle.machine_rules.specs.code.Sound.{IsSoundWorld};
 
+use crate::interpreter::Interpreter;
 use crate::method_call::MethodCall;
-use crate::setting::Setting;
-use machine_state::{Entry, Happening, ShownAction, World, show, show_all};
+use machine_state::{Entry, EntryKind, ShownAction, World, show, show_all};
 use meta_objects::{Meta, MetaEffects};
 use native_slots::{Action, Answering};
 use signatures::{ObjectId, Value};
 use sqlite_items::Items;
 use std::alloc::AllocError;
 
-impl<N: Answering> Setting<N> {
+impl<N: Answering> Interpreter<N> {
     /// What a native answers, by the class that declares it, its arguments and the present values of what it reads. The
     /// error is that memory was refused, to the native or before.
     pub fn answer(
@@ -91,7 +91,7 @@ impl<N: Answering> Setting<N> {
             lines.push(line)?;
         }
         let actions = Items::from_vec(lines);
-        Ok(Entry::At(depth, Happening::Answered { actions }))
+        Ok(Entry::At(depth, EntryKind::Answered { actions }))
     }
 
     /// An action of an object's native as it is written down.

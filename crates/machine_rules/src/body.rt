@@ -8,17 +8,17 @@ ghost use Rattle.machine_rules.specs.code.Calls.{Finishes, CarriesOut};
 ghost use Rattle.native_slots.specs.Promises.{Promises};
 
 use crate::active::Active;
-use crate::doing::Doing;
+use crate::interpreter::Interpreter;
 use crate::method_call::MethodCall;
+use crate::operation::Operation;
 use crate::paths::Scope;
 use crate::remaining::Remaining;
-use crate::setting::Setting;
-use machine_state::{Entry, Fault, Happening, World};
+use machine_state::{Entry, EntryKind, Fault, World};
 use meta_objects::Statement;
 use native_slots::Answering;
 use signatures::ObjectId;
 
-impl<N: Answering> Setting<N> {
+impl<N: Answering> Interpreter<N> {
     /// Carries out the statements of a body, and ends it.
     #[cycle(machine)]
     pub fn run_body(
@@ -38,8 +38,8 @@ impl<N: Answering> Setting<N> {
         let mut left = Remaining::all(self.alloc, statements);
         while let Some(statement) = left.next() {
             world.require_rule()?;
-            let doing = self.scope(world, &*call).doing_of(statement)?;
-            self.carry_out(world, active, call.object, doing, &mut left)?;
+            let operation = self.scope(world, &*call).operation_of(statement)?;
+            self.carry_out(world, active, call.object, operation, &mut left)?;
         }
         world.tick()
     }
@@ -51,7 +51,7 @@ impl<N: Answering> Setting<N> {
         world: &mut World,
         active: &Active<'_>,
         object: ObjectId,
-        done: Doing<'p>,
+        done: Operation<'p>,
         left: &mut Remaining<'p>,
     ) -> Result<(), Fault>
         requires promises { Promises self.now.meta (N.takes self.now.natives) (N.gives self.now.natives) }
@@ -63,8 +63,8 @@ impl<N: Answering> Setting<N> {
     {
         let over = (&*active).over(Some(object));
         match done {
-            Doing::Write(place, new) => self.write(world, &over, &place, new),
-            Doing::Begin(target, method, given) => {
+            Operation::Write(place, new) => self.write(world, &over, &place, new),
+            Operation::Begin(target, method, given) => {
                 let call = MethodCall {
                     object: target,
                     method,
@@ -72,15 +72,15 @@ impl<N: Answering> Setting<N> {
                 };
                 self.begin_typed(world, &over, &call)
             }
-            Doing::Choose(block) => {
+            Operation::Choose(block) => {
                 left.put(block)?;
                 world.tick()
             }
-            Doing::Connect(ends, how) => self.connect(world, over.count(), ends, how),
-            Doing::Disconnect(ends) => self.disconnect(world, over.count(), ends),
-            Doing::Delete(target) => self.delete(world, &over, target),
-            Doing::Schedule(target) => self.schedule(world, over.count(), target),
-            Doing::Nothing => world.note(Entry::At(over.count(), Happening::OnNull)),
+            Operation::Connect(ends, how) => self.connect(world, over.count(), ends, how),
+            Operation::Disconnect(ends) => self.disconnect(world, over.count(), ends),
+            Operation::Delete(target) => self.delete(world, &over, target),
+            Operation::Schedule(target) => self.schedule(world, over.count(), target),
+            Operation::Nothing => world.note(Entry::At(over.count(), EntryKind::OnNull)),
         }
     }
 

@@ -3,19 +3,19 @@
 ghost use Rattle.std.specs.Prelude.{◌≡◌, ◌<◌, ◌^◌, ◌-◌, IfOk, IfErr, MatchOption};
 ghost use Rattle.machine_state.specs.Refusals.{refusal_number};
 ghost use Rattle.machine_state.specs.declared.entry.Entry.TheVariants.{At};
-ghost use Rattle.machine_state.specs.declared.entry.Happening.TheVariants.{Refused};
+ghost use Rattle.machine_state.specs.declared.entry.EntryKind.TheVariants.{Refused};
 ghost use Rattle.machine_rules.specs.Connecting.{may_connect};
 ghost use Rattle.machine_rules.specs.code.Reaches.{IsJudged, LacksEnds, NamesEnds, LacksNames, ConnectsIn, DisconnectsIn};
 
 use crate::ends::{FoundEnds, kept_ends};
-use crate::setting::Setting;
-use machine_state::{Endpoints, Entry, Fault, Happening, Refusal, World};
+use crate::interpreter::Interpreter;
+use machine_state::{Endpoints, Entry, EntryKind, Fault, Refusal, World};
 use meta_objects::Wired;
 use native_slots::Answering;
 use signatures::{Name, Sig};
 use texts::{self, ConnectionType};
 
-impl<N: Answering> Setting<N> {
+impl<N: Answering> Interpreter<N> {
     /// Connects by a statement, where `depth` activations are on the stack, or writes down why that is refused: the first
     /// of `NotWired`, `Incompatible` and `Exists` that holds. `BadType` where an object or its method isn't there, and
     /// `Memory`; then nothing changes.
@@ -38,7 +38,7 @@ impl<N: Answering> Setting<N> {
         }
         let kept = kept_ends(&ends);
         let names = self.names(world, &kept)?;
-        let line = Entry::At(depth, Happening::Connected(names, how));
+        let line = Entry::At(depth, EntryKind::Connected(names, how));
         world.connect(line, &kept, how)
     }
 
@@ -53,7 +53,7 @@ impl<N: Answering> Setting<N> {
         if !world.are_joined(&kept) {
             return world.note(refused(depth, Refusal::NoConnection));
         }
-        let line = Entry::At(depth, Happening::Disconnected(names));
+        let line = Entry::At(depth, EntryKind::Disconnected(names));
         world.disconnect(line, &kept)
     }
 
@@ -135,5 +135,5 @@ impl<N: Answering> Setting<N> {
 fn refused(depth: usize, refusal: Refusal) -> Entry
     ensures { result ≡ At depth (Refused (refusal_number refusal)) }
 {
-    Entry::At(depth, Happening::Refused(refusal.number()))
+    Entry::At(depth, EntryKind::Refused(refusal.number()))
 }

@@ -9,16 +9,16 @@ ghost use Rattle.machine_state.specs.State.{Destroy};
 ghost use Rattle.native_slots.specs.Promises.{Promises};
 
 use crate::active::Active;
+use crate::interpreter::Interpreter;
 use crate::method_call::MethodCall;
-use crate::setting::Setting;
-use machine_state::{Entry, Fault, Happening, Shown, World};
+use machine_state::{Entry, EntryKind, Fault, Shown, World};
 use meta_model::DESTROYED;
 use native_slots::Answering;
 use signatures::{Name, ObjectId, Value};
 use sqlite_items::Items;
 use std::alloc::AllocError;
 
-impl<N: Answering> Setting<N> {
+impl<N: Answering> Interpreter<N> {
     /// Deletes an object, over what is left of the top of the stack.
     #[cycle(machine)]
     pub fn delete(
@@ -118,7 +118,7 @@ impl<N: Answering> Setting<N> {
         };
         let died = Entry::At(
             over.count(),
-            Happening::Died {
+            EntryKind::Died {
                 object: name.copy()?,
             },
         );
@@ -139,7 +139,7 @@ impl<N: Answering> Setting<N> {
     {
         let mut arguments = Items::new(self.alloc);
         arguments.push(Shown::Null)?;
-        let emitted = Happening::Emitted {
+        let emitted = EntryKind::Emitted {
             object: name.copy()?,
             signal: Name::new(self.alloc, b"destroyed")?,
             arguments,
@@ -164,7 +164,7 @@ impl<N: Answering> Setting<N> {
         let Some(event_loop) = world.store.loops.name(life.home) else {
             unreachable!()
         };
-        let scheduled = Happening::Scheduled {
+        let scheduled = EntryKind::Scheduled {
             event_loop: event_loop.copy()?,
             object: found.name.copy()?,
         };

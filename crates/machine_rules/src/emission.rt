@@ -9,15 +9,15 @@ ghost use Rattle.machine_rules.specs.code.Keeps.{KeepsWorld};
 ghost use Rattle.native_slots.specs.Promises.{Promises};
 
 use crate::active::Active;
+use crate::interpreter::{Callee, Interpreter};
 use crate::method_call::{MethodCall, front};
-use crate::setting::{Begun, Setting};
 use connections::Connection;
 use machine_state::{Fault, World, reaches_at_once};
 use meta_objects::Work;
 use native_slots::Answering;
 use signatures::Value;
 
-impl<N: Answering> Setting<N> {
+impl<N: Answering> Interpreter<N> {
     /// Uses the connections of an emission one after the other, and ends it.
     #[cycle(machine)]
     pub fn run_emission(
@@ -100,9 +100,9 @@ impl<N: Answering> Setting<N> {
         ensures ends { RunsUse self.now.meta (N.gives self.now.natives) self.now.depth active.now
             connection.now call.now world.old world.new result }
     {
-        let (line, begun) = self.begun(world, active, call)?;
+        let (line, callee) = self.activate(world, active, call)?;
         world.use_connection(line, connection)?;
-        self.run_begun(world, active, call, &begun)
+        self.run_callee(world, active, call, &callee)
     }
 
     /// Begins a method whose arguments an expression gave, over what is left of the top of the stack; `BadType` where the
@@ -146,33 +146,33 @@ impl<N: Answering> Setting<N> {
         requires fit { CallFits self.now.meta world.old.store.tree call.now }
         ensures ends { RunsCall self.now.meta (N.gives self.now.natives) self.now.depth active.now call.now world.old world.new result }
     {
-        let (line, begun) = self.begun(world, active, call)?;
+        let (line, callee) = self.activate(world, active, call)?;
         world.note(line)?;
-        self.run_begun(world, active, call, &begun)
+        self.run_callee(world, active, call, &callee)
     }
 
     /// Runs a method that has begun to its end.
     #[cycle(machine)]
-    pub fn run_begun(
+    pub fn run_callee(
         &self,
         world: &mut World,
         active: &Active<'_>,
         call: &MethodCall<'_>,
-        begun: &Begun<'_>,
+        callee: &Callee<'_>,
     ) -> Result<(), Fault>
         requires promises { Promises self.now.meta (N.takes self.now.natives) (N.gives self.now.natives) }
         requires room { length active.now < self.now.depth }
         requires sound { IsSoundWorld self.now.meta world.old }
         requires fit { CallFits self.now.meta world.old.store.tree call.now }
         requires work { DoesWork self.now.meta world.old.store.tree
-            call.now.object call.now.method begun.now.work.now }
+            call.now.object call.now.method callee.now.work.now }
         ensures ends { Finishes self.now.meta (N.gives self.now.natives) self.now.depth active.now
             (top_of call.now.object call.now.method call.now.arguments.now
-            begun.now.last begun.now.work.now)
+            callee.now.last callee.now.work.now)
             world.old world.new result }
     {
-        match begun.work {
-            Work::Signal => self.run_emission(world, active, call, begun.last),
+        match callee.work {
+            Work::Signal => self.run_emission(world, active, call, callee.last),
             Work::Slot(body) => self.run_body(world, active, call, body.as_slice()),
             Work::Native(effects) => self.run_native(world, active, call, effects),
         }

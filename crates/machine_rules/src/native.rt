@@ -10,15 +10,15 @@ ghost use Rattle.machine_rules.specs.code.Reaches.{CallFits, DoesWork};
 ghost use Rattle.machine_rules.specs.code.Sound.{IsSoundWorld};
 
 use crate::active::Active;
+use crate::interpreter::Interpreter;
 use crate::method_call::MethodCall;
-use crate::setting::Setting;
 use machine_state::{Fault, World};
 use meta_objects::MetaEffects;
 use native_slots::{Action, Answering};
 use prop_bindings::Place;
 use signatures::ObjectId;
 
-impl<N: Answering> Setting<N> {
+impl<N: Answering> Interpreter<N> {
     /// Takes the answer of a native, carries its actions out, and ends its body. A native that was refused memory stops the
     /// run, as any other want of memory does.
     #[cycle(machine)]

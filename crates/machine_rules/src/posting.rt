@@ -4,18 +4,18 @@ ghost use Rattle.std.specs.Prelude.{◌≡◌, ◌<◌, IfOk};
 ghost use Rattle.machine_rules.specs.code.Sound.{IsSoundWorld};
 ghost use Rattle.machine_rules.specs.code.Reaches.{CallFits, PostsCall, entry_of_post};
 
+use crate::interpreter::Interpreter;
 use crate::method_call::MethodCall;
-use crate::setting::Setting;
 use connections::Connection;
 use event_loops::Item;
-use machine_state::{Entry, Fault, Happening, World, show_all};
+use machine_state::{Entry, EntryKind, Fault, World, show_all};
 use meta_objects::MetaMethod;
 use native_slots::Answering;
 use object_tree::Object;
 use signatures::{Arguments, Name, Value};
 use std::alloc::AllocError;
 
-impl<N: Answering> Setting<N> {
+impl<N: Answering> Interpreter<N> {
     /// Uses a connection and posts its call to the event loop in which the object that is called lives, where `depth`
     /// activations are on the stack; without memory nothing changes.
     pub fn post(
@@ -63,7 +63,7 @@ impl<N: Answering> Setting<N> {
         ensures { IfOk result (λ entry. entry ≡
             entry_of_post world.now depth event_loop.now object.now method.now arguments.now) }
     {
-        let posted = Happening::Posted {
+        let posted = EntryKind::Posted {
             event_loop: event_loop.copy()?,
             object: object.name.copy()?,
             method: method.sig.name.copy()?,

@@ -6,14 +6,14 @@ ghost use Rattle.machine_rules.specs.code.Reaches.{RunsTo, Advances, IsCalled, T
 ghost use Rattle.native_slots.specs.Promises.{Promises};
 
 use crate::active::Active;
+use crate::interpreter::Interpreter;
 use crate::method_call::MethodCall;
-use crate::setting::Setting;
 use event_loops::{Item, Posted};
 use machine_state::{Entry, Fault, Turn, World};
 use native_slots::Answering;
 use signatures::Arguments;
 
-impl<N: Answering> Setting<N> {
+impl<N: Answering> Interpreter<N> {
     /// Carries the turn that goes on to its end, if one does.
     pub fn run_turn(&self, world: &mut World) -> Result<(), Fault>
         requires promises { Promises self.now.meta (N.takes self.now.natives) (N.gives self.now.natives) }
@@ -103,14 +103,14 @@ impl<N: Answering> Setting<N> {
             method,
             arguments: arguments.as_slice(),
         };
-        let (line, begun) = self.begun(world, &below, &call)?;
+        let (line, callee) = self.activate(world, &below, &call)?;
         let given = take_call(world, line, turn)?;
         let call = MethodCall {
             object,
             method,
             arguments: given.as_slice(),
         };
-        self.run_begun(world, &below, &call, &begun)
+        self.run_callee(world, &below, &call, &callee)
     }
 }
 

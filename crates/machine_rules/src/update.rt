@@ -9,8 +9,8 @@ ghost use Rattle.machine_rules.specs.code.Writing.{MayWrite, IsUnwritten, MayNot
 ghost use Rattle.native_slots.specs.Promises.{Promises};
 
 use crate::active::Active;
+use crate::interpreter::Interpreter;
 use crate::method_call::{MethodCall, front};
-use crate::setting::Setting;
 use machine_state::{Fault, World};
 use native_slots::Answering;
 use object_tree::Tree;
@@ -18,7 +18,7 @@ use prop_bindings::Place;
 use signatures::Value;
 use std::alloc::AllocError;
 
-impl<N: Answering> Setting<N> {
+impl<N: Answering> Interpreter<N> {
     /// Writes a property of an object, over what is left of the top of the stack, and notifies what changes with it;
     /// `BadType` where the object has no such property, or the value isn't of its type.
     #[cycle(machine)]

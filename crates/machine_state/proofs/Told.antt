@@ -16,7 +16,7 @@ use Rattle.machine_state.specs.declared.entry.Entry.TheVariants.{At}
 use Rattle.machine_state.specs.declared.telling.Cause.{Cause}
 use Rattle.machine_state.specs.declared.telling.Cause.TheVariants.{Follow}
 use Rattle.machine_state.specs.Objects.{shown}
-use Rattle.machine_state.specs.Telling.{HasValue, IsTold, AreTold, happening_of, others}
+use Rattle.machine_state.specs.Telling.{HasValue, IsTold, AreTold, entry_kind_of, others}
 
 module _ (p : Loaded) (objects : List Object) where
   -- ---- one answer
@@ -32,7 +32,7 @@ module _ (p : Loaded) (objects : List Object) where
   one-line : (d : ℕ) (cause : Cause) (at : Place) (x y : Entry) → IsTold p objects d cause at x → IsTold p objects d cause at y → x ≡ y
   one-line d cause at x y tx ty =
       let same = one-value at tx.has ty.has in
-      let line : List ℕ → List ℕ → Value → Entry = λ object property value. At d (happening_of cause object property (shown objects value)) in
+      let line : List ℕ → List ℕ → Value → Entry = λ object property value. At d (entry_kind_of cause object property (shown objects value)) in
       tx.is
       ∙ ap (λ (z : Object). line z.name tx.has.property.name tx.has.value) same.0
       ∙ ap (λ (z : MetaProperty). line ty.has.object.name z.name tx.has.value) same.1

@@ -12,8 +12,8 @@ use Rattle.prop_bindings.specs.declared.place.Place.{Place}
 use Rattle.prop_bindings.specs.Places.{same_place}
 use Rattle.machine_state.specs.declared.entry.Entry.{Entry}
 use Rattle.machine_state.specs.declared.entry.Entry.TheVariants.{At}
-use Rattle.machine_state.specs.declared.entry.Happening.{Happening}
-use Rattle.machine_state.specs.declared.entry.Happening.TheVariants as happening
+use Rattle.machine_state.specs.declared.entry.EntryKind.{EntryKind}
+use Rattle.machine_state.specs.declared.entry.EntryKind.TheVariants as entry_kind
 use Rattle.machine_state.specs.declared.entry.Shown.{Shown}
 use Rattle.machine_state.specs.declared.telling.Cause.{Cause}
 use Rattle.machine_state.specs.declared.telling.Cause.TheVariants.{Write, Bind, Follow}
@@ -35,15 +35,15 @@ pub record HaveValues (p : Loaded) (objects : List Object) (first : Place) (chan
   pub of_changed : AllByRecursion (HasValue p objects) changed
 
 -- a property of this name comes to this value
-abbrev pub happening_of : Cause → List ℕ → List ℕ → Shown → Happening
-happening_of Write object property value = happening.Written object property value
-happening_of Bind object property value = happening.Bound object property value
-happening_of Follow object property value = happening.Followed object property value
+abbrev pub entry_kind_of : Cause → List ℕ → List ℕ → Shown → EntryKind
+entry_kind_of Write object property value = entry_kind.Written object property value
+entry_kind_of Bind object property value = entry_kind.Bound object property value
+entry_kind_of Follow object property value = entry_kind.Followed object property value
 
 -- it is written down with the value that it has now
 pub record IsTold (p : Loaded) (objects : List Object) (depth : ℕ) (cause : Cause) (at : Place) (entry : Entry) : Type 0 where
   pub has : HasValue p objects at
-  pub is : entry ≡ At depth (happening_of cause has.object.name has.property.name (shown objects has.value))
+  pub is : entry ≡ At depth (entry_kind_of cause has.object.name has.property.name (shown objects has.value))
 
 -- those that change with the one that is written or bound
 abbrev pub others : Place → List Place → List Place

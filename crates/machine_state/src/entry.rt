@@ -46,7 +46,7 @@ pub enum ShownAction {
 
 /// What happens by a rule or an event.
 #[derive(Drop)]
-pub enum Happening {
+pub enum EntryKind {
     /// A signal is emitted.
     Emitted {
         /// Whose signal.
@@ -140,7 +140,7 @@ pub enum Entry {
     /// The event of this number was refused for the reason of this number.
     Refused(u64, u8),
     /// This happens at this depth: the length of the stack of activations, after what was pushed.
-    At(usize, Happening),
+    At(usize, EntryKind),
 }
 
 /// The entries of a run, in their order.

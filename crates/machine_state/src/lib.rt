@@ -15,7 +15,7 @@ mod turn;
 mod world;
 
 pub use endpoints::Endpoints;
-pub use entry::{Entry, Happening, Shown, ShownAction, Trace};
+pub use entry::{Entry, EntryKind, Shown, ShownAction, Trace};
 pub use fault::{Answer, Fault};
 pub use refusal::Refusal;
 pub use showing::{show, show_all};

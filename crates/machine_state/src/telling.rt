@@ -1,9 +1,9 @@
 //! What a change of a property writes down: the property that is written or bound, and each other one that changes with it.
 
 ghost use Rattle.std.specs.Prelude.{◌≡◌, IfOk};
-ghost use Rattle.machine_state.specs.Telling.{HasValue, HaveValues, IsTold, AreTold, happening_of};
+ghost use Rattle.machine_state.specs.Telling.{HasValue, HaveValues, IsTold, AreTold, entry_kind_of};
 
-use crate::entry::{Entry, Happening, Shown};
+use crate::entry::{Entry, EntryKind, Shown};
 use crate::showing::show;
 use meta_objects::Meta;
 use object_tree::Tree;
@@ -77,27 +77,27 @@ impl<'w> Telling<'w> {
             unreachable!()
         };
         let value = show(self.tree, value)?;
-        let what = happening(cause, object.name.copy()?, property.name.copy()?, value);
+        let what = entry_kind(cause, object.name.copy()?, property.name.copy()?, value);
         Ok(Entry::At(self.depth, what))
     }
 }
 
 /// What happens where a property comes to a value so.
-fn happening(cause: Cause, object: Name, property: Name, value: Shown) -> Happening
-    ensures { result ≡ happening_of cause object property value }
+fn entry_kind(cause: Cause, object: Name, property: Name, value: Shown) -> EntryKind
+    ensures { result ≡ entry_kind_of cause object property value }
 {
     match cause {
-        Cause::Write => Happening::Written {
+        Cause::Write => EntryKind::Written {
             object,
             property,
             value,
         },
-        Cause::Bind => Happening::Bound {
+        Cause::Bind => EntryKind::Bound {
             object,
             property,
             value,
         },
-        Cause::Follow => Happening::Followed {
+        Cause::Follow => EntryKind::Followed {
             object,
             property,
             value,

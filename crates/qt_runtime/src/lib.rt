@@ -8,7 +8,7 @@ pub use machine_events::{
     always_settled, one_front, one_judgement, one_run, one_run_of_answers, one_taking,
     taking_settles,
 };
-pub use machine_state::{Answer, Entry, Fault, Happening, Shown, ShownAction};
+pub use machine_state::{Answer, Entry, EntryKind, Fault, Shown, ShownAction};
 pub use meta_objects::{Meta, MetaFault};
 pub use native_slots::{Answering, Natives};
 pub use rank_check::Checked;

@@ -7,7 +7,7 @@ ghost use Rattle.qt_runtime.specs.Checked.{Claims, IsChecked, InEachRun, StopsAt
 ghost use Rattle.qt_runtime.specs.Seen.{AreKept, Completes, RefusesExactly, IsSettled, Stops, RunsAll, begun};
 
 use machine_events::take_event;
-use machine_rules::Setting;
+use machine_rules::Interpreter;
 use machine_state::{Answer, Entry, Fault, World};
 use meta_objects::Meta;
 use native_slots::Answering;
@@ -18,7 +18,7 @@ use std::marker::Model;
 
 /// A run of a program, event by event.
 pub struct Machine<N> {
-    setting: Setting<N>,
+    interpreter: Interpreter<N>,
     world: World,
     stopped: bool,
 }
@@ -26,7 +26,7 @@ pub struct Machine<N> {
 impl<N: Drop> Drop for Machine<N> {
     fn drop(self) {
         let Machine {
-            setting: _,
+            interpreter: _,
             world: _,
             stopped: _,
         } = self;
@@ -48,14 +48,14 @@ impl<N> Model for Machine<N> {
         (codes, statement.the_row.coded, (expr.the_row source.the_row).coded) };
 
     ghost view = { λ m. record {
-      program = m.setting.meta;
-      natives = m.setting.natives;
-      depth = m.setting.depth;
+      program = m.interpreter.meta;
+      natives = m.interpreter.natives;
+      depth = m.interpreter.depth;
       world = m.world;
       stopped = m.stopped;
     } };
 
-    ghost invariant = { λ m. MachineInvariant m.setting.meta m.setting.depth m.world m.stopped };
+    ghost invariant = { λ m. MachineInvariant m.interpreter.meta m.interpreter.depth m.world m.stopped };
 }
 
 impl<N: Answering + Drop> Machine<N> {
@@ -78,7 +78,7 @@ impl<N: Answering + Drop> Machine<N> {
         let _ = meta.classes();
         let world = World::new(alloc, steps)?;
         Ok(Machine {
-            setting: Setting::new(alloc, meta, natives, depth),
+            interpreter: Interpreter::new(alloc, meta, natives, depth),
             world,
             stopped: false,
         })
@@ -141,11 +141,11 @@ impl<N: Answering + Drop> Machine<N> {
             → InEachRun N.gives self.old (λ s t. AreSettled t) }
     {
         // The contract of `classes` says that the numbers in bodies are those of members.
-        let _ = self.setting.meta.classes();
+        let _ = self.interpreter.meta.classes();
         if self.stopped {
             return Err(Fault::Stopped);
         }
-        let result = take_event(&self.setting, &mut self.world, event);
+        let result = take_event(&self.interpreter, &mut self.world, event);
         self.stopped = result.is_err();
         result
     }
@@ -188,7 +188,7 @@ impl<N: Answering + Drop> Machine<N> {
             → Claims N.gives self.now }
     {
         // The contract of `classes` says that the numbers in bodies are those of members.
-        let _ = self.setting.meta.classes();
+        let _ = self.interpreter.meta.classes();
         self.stopped
     }
 

@@ -14,8 +14,8 @@ use Rattle.machine_state.specs.declared.entry.ShownAction.{ShownAction}
 use Rattle.machine_state.specs.declared.entry.ShownAction.TheVariants as action
 use Rattle.machine_state.specs.declared.entry.Entry.{Entry}
 use Rattle.machine_state.specs.declared.entry.Entry.TheVariants.{Accepted, Refused, At}
-use Rattle.machine_state.specs.declared.entry.Happening.{Happening}
-use Rattle.machine_state.specs.declared.entry.Happening.TheVariants.{Emitted, Called, Answered, Written, Bound, Followed, OnNull, Connected, Disconnected, Refused as RefusedStatement, Posted, Scheduled, Died}
+use Rattle.machine_state.specs.declared.entry.EntryKind.{EntryKind}
+use Rattle.machine_state.specs.declared.entry.EntryKind.TheVariants.{Emitted, Called, Answered, Written, Bound, Followed, OnNull, Connected, Disconnected, Refused as RefusedStatement, Posted, Scheduled, Died}
 
 abbrev pub newline : List ℕ
 newline = codes "\n"
@@ -123,29 +123,29 @@ abbrev pub actions_text : List ShownAction → List ℕ
 actions_text [] = []
 actions_text (a ∷ more) = codes " " ++ action_text a ++ flat_map (λ b. codes ", " ++ action_text b) more
 
-abbrev pub happening_text : Happening → List ℕ
-happening_text (Emitted object signal arguments blocked) = emitted_text object signal arguments blocked
-happening_text (Called object slot arguments) = called_text object slot arguments
-happening_text (Answered actions) = codes "native" ++ actions_text actions
-happening_text (Posted event_loop object method arguments) = posted_text event_loop object method arguments
-happening_text (Scheduled event_loop object) = scheduled_text event_loop object
-happening_text (Died object) = died_text object
-happening_text (Written object property value) = property_text (codes "set ") object property value
-happening_text (Bound object property value) = property_text (codes "bind ") object property value
-happening_text (Followed object property value) = property_text (codes "follow ") object property value
-happening_text OnNull = codes "null"
-happening_text (Connected ends how) = connected_text ends how
-happening_text (Disconnected ends) = codes "disconnect " ++ ends_text ends
-happening_text (RefusedStatement refusal) = codes "refused " ++ decimal refusal
+abbrev pub entry_kind_text : EntryKind → List ℕ
+entry_kind_text (Emitted object signal arguments blocked) = emitted_text object signal arguments blocked
+entry_kind_text (Called object slot arguments) = called_text object slot arguments
+entry_kind_text (Answered actions) = codes "native" ++ actions_text actions
+entry_kind_text (Posted event_loop object method arguments) = posted_text event_loop object method arguments
+entry_kind_text (Scheduled event_loop object) = scheduled_text event_loop object
+entry_kind_text (Died object) = died_text object
+entry_kind_text (Written object property value) = property_text (codes "set ") object property value
+entry_kind_text (Bound object property value) = property_text (codes "bind ") object property value
+entry_kind_text (Followed object property value) = property_text (codes "follow ") object property value
+entry_kind_text OnNull = codes "null"
+entry_kind_text (Connected ends how) = connected_text ends how
+entry_kind_text (Disconnected ends) = codes "disconnect " ++ ends_text ends
+entry_kind_text (RefusedStatement refusal) = codes "refused " ++ decimal refusal
 
 -- `d`, and what happens at this depth
-abbrev pub depth_line : ℕ → Happening → List ℕ
-depth_line depth happening = decimal depth ++ codes " " ++ happening_text happening ++ newline
+abbrev pub depth_line : ℕ → EntryKind → List ℕ
+depth_line depth entry_kind = decimal depth ++ codes " " ++ entry_kind_text entry_kind ++ newline
 
 abbrev pub entry_line : Entry → List ℕ
 entry_line (Accepted event) = codes "event " ++ decimal event ++ newline
 entry_line (Refused event refusal) = refused_event_line event refusal
-entry_line (At depth happening) = depth_line depth happening
+entry_line (At depth entry_kind) = depth_line depth entry_kind
 
 -- the lines of the entries, in their order
 abbrev pub trace_text : List Entry → List ℕ

@@ -1,13 +1,13 @@
 //! The text of the output's lines.
 
 ghost use Rattle.std.specs.Prelude.{◌++◌, codes, decimal, OnOk};
-ghost use Rattle.trace_lines.specs.Lines.{newline, value_text, bare_call_text, action_text, actions_text, arguments_text, member_text, call_text, blocked_text, emitted_text, called_text, property_text, happening_text, depth_line, refused_event_line, entry_line, trace_text, post_text, posted_text, scheduled_text, died_text};
+ghost use Rattle.trace_lines.specs.Lines.{newline, value_text, bare_call_text, action_text, actions_text, arguments_text, member_text, call_text, blocked_text, emitted_text, called_text, property_text, entry_kind_text, depth_line, refused_event_line, entry_line, trace_text, post_text, posted_text, scheduled_text, died_text};
 ghost use Rattle.trace_lines.specs.Sent.{Adds};
 
 use crate::fault::WriteFault;
 use crate::output::Output;
 use itoa::{Buffer, Integer};
-use machine_state::{Entry, Happening, Shown, ShownAction};
+use machine_state::{Entry, EntryKind, Shown, ShownAction};
 use signatures::{Name, Text};
 use std::io::Write;
 
@@ -294,50 +294,50 @@ impl Output {
     }
 
     /// Adds what happens.
-    fn happening<W: Write>(&mut self, w: &mut W, happening: &Happening) -> Result<(), WriteFault>
+    fn entry_kind<W: Write>(&mut self, w: &mut W, entry_kind: &EntryKind) -> Result<(), WriteFault>
         ensures { OnOk result (Adds (W.contents w.old) self.old (W.contents w.new) self.new
-            (happening_text happening.now)) }
+            (entry_kind_text entry_kind.now)) }
     {
-        match happening {
-            Happening::Emitted {
+        match entry_kind {
+            EntryKind::Emitted {
                 object,
                 signal,
                 arguments,
                 blocked,
             } => self.emitted(w, object, signal, arguments.as_slice(), *blocked)?,
-            Happening::Called {
+            EntryKind::Called {
                 object,
                 slot,
                 arguments,
             } => self.called(w, object, slot, arguments.as_slice())?,
-            Happening::Answered { actions } => self.answered(w, actions.as_slice())?,
-            Happening::Posted {
+            EntryKind::Answered { actions } => self.answered(w, actions.as_slice())?,
+            EntryKind::Posted {
                 event_loop,
                 object,
                 method,
                 arguments,
             } => self.posted(w, event_loop, object, method, arguments.as_slice())?,
-            Happening::Scheduled { event_loop, object } => self.scheduled(w, event_loop, object)?,
-            Happening::Died { object } => self.died(w, object)?,
-            Happening::Written {
+            EntryKind::Scheduled { event_loop, object } => self.scheduled(w, event_loop, object)?,
+            EntryKind::Died { object } => self.died(w, object)?,
+            EntryKind::Written {
                 object,
                 property,
                 value,
             } => self.changed(w, b"set ", object, property, value)?,
-            Happening::Bound {
+            EntryKind::Bound {
                 object,
                 property,
                 value,
             } => self.changed(w, b"bind ", object, property, value)?,
-            Happening::Followed {
+            EntryKind::Followed {
                 object,
                 property,
                 value,
             } => self.changed(w, b"follow ", object, property, value)?,
-            Happening::OnNull => self.put(w, b"null")?,
-            Happening::Connected(ends, how) => self.connected(w, ends, *how)?,
-            Happening::Disconnected(ends) => self.disconnected(w, ends)?,
-            Happening::Refused(refusal) => self.refused_statement(w, *refusal)?,
+            EntryKind::OnNull => self.put(w, b"null")?,
+            EntryKind::Connected(ends, how) => self.connected(w, ends, *how)?,
+            EntryKind::Disconnected(ends) => self.disconnected(w, ends)?,
+            EntryKind::Refused(refusal) => self.refused_statement(w, *refusal)?,
         }
         Ok(())
     }
@@ -347,14 +347,14 @@ impl Output {
         &mut self,
         w: &mut W,
         depth: usize,
-        happening: &Happening,
+        entry_kind: &EntryKind,
     ) -> Result<(), WriteFault>
         ensures { OnOk result (Adds (W.contents w.old) self.old (W.contents w.new) self.new
-            (depth_line depth happening.now)) }
+            (depth_line depth entry_kind.now)) }
     {
         self.number(w, depth)?;
         self.put(w, b" ")?;
-        self.happening(w, happening)?;
+        self.entry_kind(w, entry_kind)?;
         self.put(w, b"\n")?;
         Ok(())
     }
@@ -409,7 +409,7 @@ impl Output {
         match entry {
             Entry::Accepted(event) => self.numbered(w, b"event ", *event)?,
             Entry::Refused(event, refusal) => self.refused_event(w, *event, *refusal)?,
-            Entry::At(depth, happening) => self.at_depth(w, *depth, happening)?,
+            Entry::At(depth, entry_kind) => self.at_depth(w, *depth, entry_kind)?,
         }
         Ok(())
     }

@@ -43,15 +43,15 @@ pub record IsNoHigher (p : Loaded) (lower upper : Line) : Type 0 where
   pub set : (d : ℕ) → ¬ Destroys p lower d → ¬ Destroys p upper d
 
 -- a node with its line
-pub record Rung (p : Loaded) (certificate : Certificate) : Type 0 where
+pub record Level (p : Loaded) (certificate : Certificate) : Type 0 where
   pub node : Node
   pub line : Line
   pub is : IsLineOf p certificate node line
 
 -- it falls to this line from what is on top, if anything is
-abbrev pub FallsTo : {p : Loaded} {certificate : Certificate} → List (Rung p certificate) → Line → Type 0
+abbrev pub FallsTo : {p : Loaded} {certificate : Certificate} → List (Level p certificate) → Line → Type 0
 FallsTo [] line = Unit {0}
-FallsTo {p} (rung ∷ rungs) line = Falls p rung.line line
+FallsTo {p} (level ∷ levels) line = Falls p level.line line
 
 -- ---- what activations stand at. `classes` are the classes of all objects that were ever created.
 
@@ -102,18 +102,18 @@ pub record DestroyStands (p : Loaded) (classes : ℕ → Option ℕ) (next : Opt
   pub coming : IsTornIf p classes class next
   pub gone : AllByRecursion (IsTorn p classes class) torn
 
-abbrev pub Stands : {p : Loaded} {certificate : Certificate} → (ℕ → Option ℕ) → List Object → Activation → Rung p certificate → Type 0
-Stands {p} classes objects (Body o m arguments left) rung = BodyStands p objects o m arguments left rung.node
-Stands classes objects (Emit o g arguments used last) rung = EmitStands classes o g rung.node
-Stands {p} {certificate} classes objects (Update places) rung = AllByRecursion (IsFollower p certificate classes rung.line) places
-Stands {p} classes objects (Destroy next torn) rung = DestroyStands p classes next torn rung.node
+abbrev pub Stands : {p : Loaded} {certificate : Certificate} → (ℕ → Option ℕ) → List Object → Activation → Level p certificate → Type 0
+Stands {p} classes objects (Body o m arguments left) level = BodyStands p objects o m arguments left level.node
+Stands classes objects (Emit o g arguments used last) level = EmitStands classes o g level.node
+Stands {p} {certificate} classes objects (Update places) level = AllByRecursion (IsFollower p certificate classes level.line) places
+Stands {p} classes objects (Destroy next torn) level = DestroyStands p classes next torn level.node
 
 -- the activations of a stack stand at these nodes, which fall from each to the one above it
-abbrev pub Stacked : {p : Loaded} {certificate : Certificate} → (ℕ → Option ℕ) → List Object → List Activation → List (Rung p certificate) → Type 0
+abbrev pub Stacked : {p : Loaded} {certificate : Certificate} → (ℕ → Option ℕ) → List Object → List Activation → List (Level p certificate) → Type 0
 Stacked classes objects [] [] = Unit {0}
-Stacked classes objects [] (rung ∷ rungs) = ⊥
+Stacked classes objects [] (level ∷ levels) = ⊥
 Stacked classes objects (a ∷ stack) [] = ⊥
-Stacked classes objects (a ∷ stack) (rung ∷ rungs) = Stands classes objects a rung × FallsTo rungs rung.line × Stacked classes objects stack rungs
+Stacked classes objects (a ∷ stack) (level ∷ levels) = Stands classes objects a level × FallsTo levels level.line × Stacked classes objects stack levels
 
 -- ---- the world
 
@@ -173,5 +173,5 @@ pub record IsCovered (p : Loaded) (classes : ℕ → Option ℕ) (objects : List
 -- what a run keeps
 pub record Holds (p : Loaded) (certificate : Certificate) (classes : ℕ → Option ℕ) (s : State) : Type 0 where
   pub covered : IsCovered p classes s.objects s.connected.connections s.bindings
-  pub rungs : List (Rung p certificate)
-  pub stacked : Stacked classes s.objects s.stack rungs
+  pub levels : List (Level p certificate)
+  pub stacked : Stacked classes s.objects s.stack levels

@@ -12,7 +12,7 @@ use Rattle.object_tree.proofs.TypedObjects.{typed-change}
 use Rattle.script_lang.specs.declared.event.Event.TheVariants.{Delete, Later}
 use Rattle.machine_state.specs.declared.entry.Entry.{Entry}
 use Rattle.machine_state.specs.declared.entry.Entry.TheVariants.{At}
-use Rattle.machine_state.specs.declared.entry.Happening.TheVariants.{Scheduled}
+use Rattle.machine_state.specs.declared.entry.EntryKind.TheVariants.{Scheduled}
 use Rattle.machine_state.specs.declared.fault.Answer.TheVariants as answer
 use Rattle.machine_state.specs.declared.fault.Fault.{Fault}
 use Rattle.machine_state.specs.declared.world.World.{World}

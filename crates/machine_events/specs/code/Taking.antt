@@ -26,7 +26,7 @@ use Rattle.machine_state.specs.declared.world.World.{World}
 use Rattle.machine_state.specs.Accepting.{accepted}
 use Rattle.machine_state.specs.State.{State, Activation}
 use Rattle.machine_state.specs.Worlds.{at, with_connection, without_connections, Rejects}
-use Rattle.machine_rules.specs.declared.setting.Setting.{Setting}
+use Rattle.machine_rules.specs.declared.interpreter.Interpreter.{Interpreter}
 use Rattle.machine_rules.specs.Faults.{Reason}
 use Rattle.machine_rules.specs.Judgement.{numbered}
 use Rattle.machine_rules.specs.Natives.{NativeAnswers}
@@ -78,9 +78,9 @@ TookCases p natives depth w e v (Err f) = Halted p natives depth w e v f
 pub record Took (p : Loaded) (natives : NativeAnswers) (depth : ℕ) (w : World) (e : Event) (v : World) (result : Result Answer Fault) : Type 0 where
   pub cases : TookCases p natives depth w e v result
 
--- .. in the setting of a run
-abbrev pub Answers : {N : Type 0} → (N → NativeAnswers) → Setting N → Event → World → World → Result Answer Fault → Type 0
-Answers gives setting e w v result = Took setting.meta (gives setting.natives) setting.depth w e v result
+-- .. in the interpreter of a run
+abbrev pub Answers : {N : Type 0} → (N → NativeAnswers) → Interpreter N → Event → World → World → Result Answer Fault → Type 0
+Answers gives interpreter e w v result = Took interpreter.meta (gives interpreter.natives) interpreter.depth w e v result
 
 -- what becomes of an event that isn't accepted
 abbrev pub IsRefused : World → NotAccepted → World → Result Answer Fault → Type 0

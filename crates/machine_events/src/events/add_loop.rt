@@ -4,21 +4,21 @@ ghost use Rattle.std.specs.Prelude.{◌≡◌, ◌<◌, None};
 ghost use Rattle.script_lang.specs.declared.event.Event.TheVariants.{Loop};
 ghost use Rattle.machine_events.specs.code.Taking.{WorldInvariant, Answers};
 
-use machine_rules::Setting;
+use machine_rules::Interpreter;
 use machine_state::{Answer, Fault, Refusal, World};
 use native_slots::Answering;
 use signatures::Name;
 
 /// Adds an event loop.
 pub fn add_loop<N: Answering>(
-    setting: &Setting<N>,
+    interpreter: &Interpreter<N>,
     world: &mut World,
     name: &Name,
 ) -> Result<Answer, Fault>
     requires left { 0 < world.old.left }
     requires idle { world.old.turn ≡ None }
-    requires keeps { WorldInvariant setting.now.meta world.old }
-    ensures { Answers N.gives setting.now (Loop name.now) world.old world.new result }
+    requires keeps { WorldInvariant interpreter.now.meta world.old }
+    ensures { Answers N.gives interpreter.now (Loop name.now) world.old world.new result }
 {
     match world.store.loops.find(name) {
         Some(_) => world.refuse(Refusal::LoopExists),

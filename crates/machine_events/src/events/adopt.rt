@@ -7,7 +7,7 @@ ghost use Rattle.machine_events.specs.code.Taking.{adoption_reason};
 
 use crate::events::named::find_living;
 use crate::judgement::refuse;
-use machine_rules::Setting;
+use machine_rules::Interpreter;
 use machine_state::{Answer, Fault, Refusal, World};
 use native_slots::Answering;
 use object_tree::AdoptFault;
@@ -15,15 +15,15 @@ use signatures::{Name, ObjectId};
 
 /// Makes one object the parent of another.
 pub fn adopt<N: Answering>(
-    setting: &Setting<N>,
+    interpreter: &Interpreter<N>,
     world: &mut World,
     parent: &Name,
     child: &Name,
 ) -> Result<Answer, Fault>
     requires left { 0 < world.old.left }
     requires idle { world.old.turn ≡ None }
-    requires keeps { WorldInvariant setting.now.meta world.old }
-    ensures { Answers N.gives setting.now (Adopt parent.now child.now) world.old world.new result }
+    requires keeps { WorldInvariant interpreter.now.meta world.old }
+    ensures { Answers N.gives interpreter.now (Adopt parent.now child.now) world.old world.new result }
 {
     let parent = match find_living(world, parent) {
         Ok((number, _)) => ObjectId::new(number),
@@ -33,7 +33,7 @@ pub fn adopt<N: Answering>(
         Ok((number, _)) => ObjectId::new(number),
         Err(reason) => return refuse(world, reason),
     };
-    match world.adopt(&setting.meta, parent, child) {
+    match world.adopt(&interpreter.meta, parent, child) {
         Ok(()) => Ok(Answer::Done),
         Err(fault) => {
             let refusal = reason(fault)?;

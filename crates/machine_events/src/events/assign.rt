@@ -14,7 +14,7 @@ ghost use Rattle.script_lang.specs.declared.event.Event.{Event as AnEvent};
 use crate::events::named::find_living;
 use crate::events::values::read_input;
 use crate::judgement::{NotAccepted, refuse};
-use machine_rules::{Active, Setting};
+use machine_rules::{Active, Interpreter};
 use machine_state::{Answer, Fault, Refusal, World};
 use meta_objects::{Meta, MetaProperty};
 use native_slots::Answering;
@@ -31,49 +31,49 @@ struct Assignment {
 
 /// Writes a property, and runs what it notifies.
 pub fn assign<N: Answering>(
-    setting: &Setting<N>,
+    interpreter: &Interpreter<N>,
     world: &mut World,
     name: &Name,
     property: &Name,
     input: &Input,
 ) -> Result<Answer, Fault>
-    requires depth { 0 < setting.now.depth }
-    requires promises { Promises setting.now.meta (N.takes setting.now.natives) (N.gives setting.now.natives) }
+    requires depth { 0 < interpreter.now.depth }
+    requires promises { Promises interpreter.now.meta (N.takes interpreter.now.natives) (N.gives interpreter.now.natives) }
     requires left { 0 < world.old.left }
     requires idle { world.old.turn ≡ None }
-    requires keeps { WorldInvariant setting.now.meta world.old }
-    ensures { Answers N.gives setting.now (Set name.now property.now input.now)
+    requires keeps { WorldInvariant interpreter.now.meta world.old }
+    ensures { Answers N.gives interpreter.now (Set name.now property.now input.now)
         world.old world.new result }
 {
-    match judge(setting, world, name, property, input) {
+    match judge(interpreter, world, name, property, input) {
         Err(reason) => refuse(world, reason),
-        Ok(Assignment { place, value }) => write(setting, world, &place, value),
+        Ok(Assignment { place, value }) => write(interpreter, world, &place, value),
     }
 }
 
 /// What the event writes, or why it isn't accepted.
 fn judge<N: Answering>(
-    setting: &Setting<N>,
+    interpreter: &Interpreter<N>,
     world: &World,
     name: &Name,
     property: &Name,
     input: &Input,
 ) -> Result<Assignment, NotAccepted>
-    ensures accepted { IfOk result (λ a. WritesTo setting.now.meta world.now
+    ensures accepted { IfOk result (λ a. WritesTo interpreter.now.meta world.now
         a.place.object a.place.property a.value (Set name.now property.now input.now)) }
-    ensures fits { IfOk result (λ a. FitsAt setting.now.meta world.now.store.tree a.place a.value) }
+    ensures fits { IfOk result (λ a. FitsAt interpreter.now.meta world.now.store.tree a.place a.value) }
     ensures refused { IfErr result (IsNotAccepted
-        (assign setting.now.meta (at world.now []) name.now property.now input.now)) }
+        (assign interpreter.now.meta (at world.now []) name.now property.now input.now)) }
 {
     let (object, life) = find_living(world, name)?;
-    let Some((property, declared)) = property_of(&setting.meta, life.class, property) else {
+    let Some((property, declared)) = property_of(&interpreter.meta, life.class, property) else {
         return Err(NotAccepted::Refused(Refusal::NoMember));
     };
     let value = read_input(world, input)?;
     if world
         .store
         .tree
-        .has_type(&setting.meta, &value, declared.kind)
+        .has_type(&interpreter.meta, &value, declared.kind)
     {
         let place = Place {
             object: ObjectId::new(object),
@@ -100,22 +100,22 @@ fn property_of<'m>(meta: &'m Meta, class: usize, name: &Name) -> Option<(usize, 
 
 /// Writes a property for an event that is accepted, and runs what it notifies.
 fn write<N: Answering>(
-    setting: &Setting<N>,
+    interpreter: &Interpreter<N>,
     world: &mut World,
     place: &Place,
     value: Value,
 ) -> Result<Answer, Fault>
-    requires depth { 0 < setting.now.depth }
-    requires promises { Promises setting.now.meta (N.takes setting.now.natives) (N.gives setting.now.natives) }
+    requires depth { 0 < interpreter.now.depth }
+    requires promises { Promises interpreter.now.meta (N.takes interpreter.now.natives) (N.gives interpreter.now.natives) }
     requires left { 0 < world.old.left }
     requires idle { world.old.turn ≡ None }
-    requires keeps { WorldInvariant setting.now.meta world.old }
-    requires fits { FitsAt setting.now.meta world.old.store.tree place.now value }
+    requires keeps { WorldInvariant interpreter.now.meta world.old }
+    requires fits { FitsAt interpreter.now.meta world.old.store.tree place.now value }
     ensures { (e : AnEvent) →
-        WritesTo setting.now.meta world.old place.now.object place.now.property value e →
-        Answers N.gives setting.now e world.old world.new result }
+        WritesTo interpreter.now.meta world.old place.now.object place.now.property value e →
+        Answers N.gives interpreter.now e world.old world.new result }
 {
-    let changed = world.accept_write(&setting.meta, place, value)?;
-    setting.run_update(world, &Active::nothing(), changed.as_slice())?;
+    let changed = world.accept_write(&interpreter.meta, place, value)?;
+    interpreter.run_update(world, &Active::nothing(), changed.as_slice())?;
     Ok(Answer::Done)
 }

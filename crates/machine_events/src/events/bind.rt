@@ -10,7 +10,7 @@ ghost use Rattle.machine_events.specs.events.Bind.{may_bind};
 
 use crate::events::named::{find_all_living, find_living};
 use crate::judgement::{NotAccepted, refuse};
-use machine_rules::{Active, Setting};
+use machine_rules::{Active, Interpreter};
 use machine_state::{Answer, Fault, Refusal, World};
 use native_slots::Answering;
 use prop_bindings::BindFault;
@@ -27,51 +27,51 @@ struct Asked {
 
 /// Binds a property, and runs what is notified.
 pub fn bind<N: Answering>(
-    setting: &Setting<N>,
+    interpreter: &Interpreter<N>,
     world: &mut World,
     site: &Name,
     target: &Name,
     sources: &[Name],
 ) -> Result<Answer, Fault>
-    requires depth { 0 < setting.now.depth }
-    requires promises { Promises setting.now.meta (N.takes setting.now.natives) (N.gives setting.now.natives) }
+    requires depth { 0 < interpreter.now.depth }
+    requires promises { Promises interpreter.now.meta (N.takes interpreter.now.natives) (N.gives interpreter.now.natives) }
     requires left { 0 < world.old.left }
     requires idle { world.old.turn ≡ None }
-    requires keeps { WorldInvariant setting.now.meta world.old }
-    ensures { Answers N.gives setting.now (Bind site.now target.now sources.now)
+    requires keeps { WorldInvariant interpreter.now.meta world.old }
+    ensures { Answers N.gives interpreter.now (Bind site.now target.now sources.now)
         world.old world.new result }
 {
-    match judge(setting, world, site, target, sources) {
+    match judge(interpreter, world, site, target, sources) {
         Err(reason) => refuse(world, reason),
-        Ok(asked) => install(setting, world, &asked),
+        Ok(asked) => install(interpreter, world, &asked),
     }
 }
 
 /// What is to be bound, or why the event isn't accepted. Whether the site covers the objects is judged as the binding is
 /// installed.
 fn judge<N: Answering>(
-    setting: &Setting<N>,
+    interpreter: &Interpreter<N>,
     world: &World,
     site: &Name,
     target: &Name,
     sources: &[Name],
 ) -> Result<Asked, NotAccepted>
-    ensures asked { IfOk result (λ a. AsksToBind setting.now.meta world.now
+    ensures asked { IfOk result (λ a. AsksToBind interpreter.now.meta world.now
         site.now target.now sources.now a.site a.target a.sources) }
     ensures refused { IfErr result (IsNotAccepted
-        (may_bind setting.now.meta (at world.now []) site.now target.now sources.now)) }
+        (may_bind interpreter.now.meta (at world.now []) site.now target.now sources.now)) }
 {
-    let Some(number) = setting.meta.site(site) else {
+    let Some(number) = interpreter.meta.site(site) else {
         return Err(NotAccepted::Refused(Refusal::BadSource));
     };
-    let Some(declared) = setting.meta.site_at(number) else {
+    let Some(declared) = interpreter.meta.site_at(number) else {
         unreachable!()
     };
     if sources.len() != declared.formals.len() {
         return Err(NotAccepted::Refused(Refusal::BadSource));
     }
     let (target, _) = find_living(world, target)?;
-    let sources = find_all_living(setting.alloc, world, sources)?;
+    let sources = find_all_living(interpreter.alloc, world, sources)?;
     Ok(Asked {
         site: number,
         target: ObjectId::new(target),
@@ -81,24 +81,24 @@ fn judge<N: Answering>(
 
 /// Installs the binding, and runs what is notified; or refuses the event.
 fn install<N: Answering>(
-    setting: &Setting<N>,
+    interpreter: &Interpreter<N>,
     world: &mut World,
     asked: &Asked,
 ) -> Result<Answer, Fault>
-    requires depth { 0 < setting.now.depth }
-    requires promises { Promises setting.now.meta (N.takes setting.now.natives) (N.gives setting.now.natives) }
+    requires depth { 0 < interpreter.now.depth }
+    requires promises { Promises interpreter.now.meta (N.takes interpreter.now.natives) (N.gives interpreter.now.natives) }
     requires left { 0 < world.old.left }
     requires idle { world.old.turn ≡ None }
-    requires keeps { WorldInvariant setting.now.meta world.old }
+    requires keeps { WorldInvariant interpreter.now.meta world.old }
     ensures { (site target : List ℕ) (sources : List (List ℕ)) →
-        AsksToBind setting.now.meta world.old site target sources
+        AsksToBind interpreter.now.meta world.old site target sources
         asked.now.site asked.now.target asked.now.sources →
-        Answers N.gives setting.now (Bind site target sources) world.old world.new result }
+        Answers N.gives interpreter.now (Bind site target sources) world.old world.new result }
 {
     let sources = asked.sources.as_slice();
-    match world.accept_bind(&setting.meta, asked.site, asked.target, sources) {
+    match world.accept_bind(&interpreter.meta, asked.site, asked.target, sources) {
         Ok(changed) => {
-            setting.run_update(world, &Active::nothing(), changed.as_slice())?;
+            interpreter.run_update(world, &Active::nothing(), changed.as_slice())?;
             Ok(Answer::Done)
         }
         Err(fault) => {

@@ -5,22 +5,22 @@ ghost use Rattle.machine_events.specs.code.Taking.{WorldInvariant, Answers, bloc
 
 use crate::events::named::find_living;
 use crate::judgement::refuse;
-use machine_rules::Setting;
+use machine_rules::Interpreter;
 use machine_state::{Answer, Fault, World};
 use native_slots::Answering;
 use signatures::{Name, ObjectId};
 
 /// Blocks an object, or lets it emit again.
 pub fn block<N: Answering>(
-    setting: &Setting<N>,
+    interpreter: &Interpreter<N>,
     world: &mut World,
     name: &Name,
     on: bool,
 ) -> Result<Answer, Fault>
     requires left { 0 < world.old.left }
     requires idle { world.old.turn ≡ None }
-    requires keeps { WorldInvariant setting.now.meta world.old }
-    ensures { Answers N.gives setting.now (blocking on name.now) world.old world.new result }
+    requires keeps { WorldInvariant interpreter.now.meta world.old }
+    ensures { Answers N.gives interpreter.now (blocking on name.now) world.old world.new result }
 {
     let object = match find_living(world, name) {
         Ok((number, _)) => ObjectId::new(number),

@@ -9,7 +9,7 @@ ghost use Rattle.machine_events.specs.events.Connect.{connect};
 
 use crate::events::ends::find_ends;
 use crate::judgement::{NotAccepted, refuse};
-use machine_rules::Setting;
+use machine_rules::Interpreter;
 use machine_state::{Answer, Endpoints, Fault, World};
 use native_slots::Answering;
 use signatures::Name;
@@ -17,17 +17,17 @@ use texts::{self, ConnectionType};
 
 /// Makes a connection.
 pub fn connect<N: Answering>(
-    setting: &Setting<N>,
+    interpreter: &Interpreter<N>,
     world: &mut World,
     named: &texts::Endpoints<Name>,
     how: ConnectionType,
 ) -> Result<Answer, Fault>
     requires left { 0 < world.old.left }
     requires idle { world.old.turn ≡ None }
-    requires keeps { WorldInvariant setting.now.meta world.old }
-    ensures { Answers N.gives setting.now (Connect named.now how) world.old world.new result }
+    requires keeps { WorldInvariant interpreter.now.meta world.old }
+    ensures { Answers N.gives interpreter.now (Connect named.now how) world.old world.new result }
 {
-    match judge(setting, world, named, how) {
+    match judge(interpreter, world, named, how) {
         Err(reason) => refuse(world, reason),
         Ok(ends) => {
             world.accept_connection(ends, how)?;
@@ -38,18 +38,18 @@ pub fn connect<N: Answering>(
 
 /// What is connected, or why the event isn't accepted.
 fn judge<N: Answering>(
-    setting: &Setting<N>,
+    interpreter: &Interpreter<N>,
     world: &World,
     named: &texts::Endpoints<Name>,
     how: ConnectionType,
 ) -> Result<Endpoints, NotAccepted>
     ensures accepted { IfOk result
-        (ConnectsThese setting.now.meta world.now named.now how) }
+        (ConnectsThese interpreter.now.meta world.now named.now how) }
     ensures refused { IfErr result (IsNotAccepted
-        (connect setting.now.meta (at world.now []) named.now how)) }
+        (connect interpreter.now.meta (at world.now []) named.now how)) }
 {
-    let found = find_ends(setting, world, named)?;
-    match setting.may_connect(world, &found, &named.signal, &named.method, how) {
+    let found = find_ends(interpreter, world, named)?;
+    match interpreter.may_connect(world, &found, &named.signal, &named.method, how) {
         Ok(()) => Ok(found.ends),
         Err(refusal) => Err(NotAccepted::Refused(refusal)),
     }

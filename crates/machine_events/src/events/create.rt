@@ -8,7 +8,7 @@ ghost use Rattle.machine_rules.specs.Judgement.{NothingIs};
 ghost use Rattle.machine_events.specs.code.Taking.{creation_reason};
 ghost use Rattle.machine_events.specs.events.Create.{create, IsHome};
 
-use machine_rules::Setting;
+use machine_rules::Interpreter;
 use machine_state::{Answer, Fault, MAIN, Refusal, World};
 use native_slots::Answering;
 use object_tree::CreateFault;
@@ -16,7 +16,7 @@ use signatures::{LoopId, Name};
 
 /// Creates an object in the event loop of a name, or in `main` where none is named.
 pub fn create<N: Answering>(
-    setting: &Setting<N>,
+    interpreter: &Interpreter<N>,
     world: &mut World,
     name: &Name,
     class: &Name,
@@ -24,14 +24,14 @@ pub fn create<N: Answering>(
 ) -> Result<Answer, Fault>
     requires left { 0 < world.old.left }
     requires idle { world.old.turn ≡ None }
-    requires keeps { WorldInvariant setting.now.meta world.old }
-    ensures { Answers N.gives setting.now (New name.now class.now home.now) world.old world.new result }
+    requires keeps { WorldInvariant interpreter.now.meta world.old }
+    ensures { Answers N.gives interpreter.now (New name.now class.now home.now) world.old world.new result }
 {
     let Some(home) = home_of(world, home) else {
-        let refusal = refusal_without_loop(setting, world, name, class);
+        let refusal = refusal_without_loop(interpreter, world, name, class);
         return world.refuse(refusal);
     };
-    match world.create(&setting.meta, name, class, home) {
+    match world.create(&interpreter.meta, name, class, home) {
         Ok(_object) => Ok(Answer::Done),
         Err(fault) => {
             let refusal = reason(fault)?;
@@ -53,17 +53,17 @@ fn home_of(world: &World, name: &Option<Name>) -> Option<LoopId>
 
 /// Why the event is refused where there is no such event loop.
 fn refusal_without_loop<N: Answering>(
-    setting: &Setting<N>,
+    interpreter: &Interpreter<N>,
     world: &World,
     name: &Name,
     class: &Name,
 ) -> Refusal
     ensures { (home : Option (List ℕ)) → NothingIs (IsHome world.now.store.loops.loops home) →
-        create setting.now.meta (at world.now []) name.now class.now home (Err result) }
+        create interpreter.now.meta (at world.now []) name.now class.now home (Err result) }
 {
     match world.find(name) {
         Some(_) => Refusal::NameUsed,
-        None => match setting.meta.class(class) {
+        None => match interpreter.meta.class(class) {
             Some(_) => Refusal::NoLoop,
             None => Refusal::NoClass,
         },

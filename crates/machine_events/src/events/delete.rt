@@ -7,23 +7,23 @@ ghost use Rattle.machine_events.specs.code.Taking.{WorldInvariant, Answers};
 
 use crate::events::named::find_living;
 use crate::judgement::refuse;
-use machine_rules::{Active, Setting};
+use machine_rules::{Active, Interpreter};
 use machine_state::{Answer, Fault, World};
 use native_slots::Answering;
 use signatures::{Name, ObjectId};
 
 /// Begins the deletion of an object, and carries it out.
 pub fn delete<N: Answering>(
-    setting: &Setting<N>,
+    interpreter: &Interpreter<N>,
     world: &mut World,
     name: &Name,
 ) -> Result<Answer, Fault>
-    requires depth { 0 < setting.now.depth }
-    requires promises { Promises setting.now.meta (N.takes setting.now.natives) (N.gives setting.now.natives) }
+    requires depth { 0 < interpreter.now.depth }
+    requires promises { Promises interpreter.now.meta (N.takes interpreter.now.natives) (N.gives interpreter.now.natives) }
     requires left { 0 < world.old.left }
     requires idle { world.old.turn ≡ None }
-    requires keeps { WorldInvariant setting.now.meta world.old }
-    ensures { Answers N.gives setting.now (Delete name.now) world.old world.new result }
+    requires keeps { WorldInvariant interpreter.now.meta world.old }
+    ensures { Answers N.gives interpreter.now (Delete name.now) world.old world.new result }
 {
     let object = match find_living(world, name) {
         Ok((number, _)) => ObjectId::new(number),
@@ -31,6 +31,6 @@ pub fn delete<N: Answering>(
     };
     world.accept()?;
     let below = Active::nothing();
-    setting.run_deletion(world, &below, object)?;
+    interpreter.run_deletion(world, &below, object)?;
     Ok(Answer::Done)
 }

@@ -10,7 +10,7 @@ ghost use Rattle.machine_events.specs.events.Disconnect.{disconnect};
 
 use crate::events::ends::find_ends;
 use crate::judgement::{NotAccepted, refuse};
-use machine_rules::Setting;
+use machine_rules::Interpreter;
 use machine_state::{Answer, Endpoints, Fault, Refusal, World};
 use native_slots::Answering;
 use signatures::Name;
@@ -18,16 +18,16 @@ use texts;
 
 /// Removes the connections between two objects' methods.
 pub fn disconnect<N: Answering>(
-    setting: &Setting<N>,
+    interpreter: &Interpreter<N>,
     world: &mut World,
     named: &texts::Endpoints<Name>,
 ) -> Result<Answer, Fault>
     requires left { 0 < world.old.left }
     requires idle { world.old.turn ≡ None }
-    requires keeps { WorldInvariant setting.now.meta world.old }
-    ensures { Answers N.gives setting.now (Disconnect named.now) world.old world.new result }
+    requires keeps { WorldInvariant interpreter.now.meta world.old }
+    ensures { Answers N.gives interpreter.now (Disconnect named.now) world.old world.new result }
 {
-    match judge(setting, world, named) {
+    match judge(interpreter, world, named) {
         Err(reason) => refuse(world, reason),
         Ok(ends) => {
             world.accept_disconnection(ends)?;
@@ -38,16 +38,16 @@ pub fn disconnect<N: Answering>(
 
 /// What is no longer connected, or why the event isn't accepted.
 fn judge<N: Answering>(
-    setting: &Setting<N>,
+    interpreter: &Interpreter<N>,
     world: &World,
     named: &texts::Endpoints<Name>,
 ) -> Result<Endpoints, NotAccepted>
-    ensures accepted { IfOk result (DisconnectsThese setting.now.meta world.now named.now) }
+    ensures accepted { IfOk result (DisconnectsThese interpreter.now.meta world.now named.now) }
     ensures joined { IfOk result (λ ends. IsTrue (are_joined ends world.now.store.connections)) }
     ensures refused { IfErr result (IsNotAccepted
-        (disconnect setting.now.meta (at world.now []) named.now)) }
+        (disconnect interpreter.now.meta (at world.now []) named.now)) }
 {
-    let found = find_ends(setting, world, named)?;
+    let found = find_ends(interpreter, world, named)?;
     if !world.are_joined(&found.ends) {
         return Err(NotAccepted::Refused(Refusal::NoConnection));
     }

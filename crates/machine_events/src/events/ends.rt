@@ -8,7 +8,7 @@ ghost use Rattle.machine_events.specs.events.Ends.{FindsEnds, find_ends, IsSigna
 
 use crate::events::named::find_living;
 use crate::judgement::NotAccepted;
-use machine_rules::{FoundEnds, Setting, named_signal};
+use machine_rules::{FoundEnds, Interpreter, named_signal};
 use machine_state::{Endpoints, Refusal, World};
 use meta_objects::{Meta, MetaMethod, Work};
 use native_slots::Answering;
@@ -17,20 +17,20 @@ use texts;
 
 /// The objects and methods that are named, or why the event isn't accepted.
 pub fn find_ends<N: Answering>(
-    setting: &Setting<N>,
+    interpreter: &Interpreter<N>,
     world: &World,
     named: &texts::Endpoints<Name>,
 ) -> Result<FoundEnds, NotAccepted>
-    ensures found { IfOk result (λ f. FindsEnds setting.now.meta world.now.store.tree named.now f) }
+    ensures found { IfOk result (λ f. FindsEnds interpreter.now.meta world.now.store.tree named.now f) }
     ensures refused { IfErr result (IsNotAccepted
-        (find_ends setting.now.meta world.now.store.tree named.now)) }
+        (find_ends interpreter.now.meta world.now.store.tree named.now)) }
 {
     let (sender, from) = find_living(world, &named.sender)?;
     let (receiver, to) = find_living(world, &named.receiver)?;
-    let Some(signal) = signal_of(&setting.meta, from.class, &named.signal) else {
+    let Some(signal) = signal_of(&interpreter.meta, from.class, &named.signal) else {
         return Err(NotAccepted::Refused(Refusal::NoMember));
     };
-    let Some(method) = setting.meta.method(to.class, &named.method) else {
+    let Some(method) = interpreter.meta.method(to.class, &named.method) else {
         return Err(NotAccepted::Refused(Refusal::NoMember));
     };
     Ok(FoundEnds {

@@ -15,7 +15,7 @@ use crate::events::ends::is_signal;
 use crate::events::named::find_living;
 use crate::events::values::read_inputs;
 use crate::judgement::{NotAccepted, refuse};
-use machine_rules::{Active, MethodCall, Setting};
+use machine_rules::{Active, Interpreter, MethodCall};
 use machine_state::{Answer, Fault, Refusal, World};
 use meta_model::OBJECT_NAME_CHANGED;
 use meta_objects::{Meta, MetaMethod};
@@ -54,22 +54,22 @@ struct Invoked {
 
 /// Emits a signal or calls a slot, and runs it.
 pub fn invoke<N: Answering>(
-    setting: &Setting<N>,
+    interpreter: &Interpreter<N>,
     world: &mut World,
     invocation: Invocation,
     name: &Name,
     called: &Name,
     inputs: &[Input],
 ) -> Result<Answer, Fault>
-    requires depth { 0 < setting.now.depth }
-    requires promises { Promises setting.now.meta (N.takes setting.now.natives) (N.gives setting.now.natives) }
+    requires depth { 0 < interpreter.now.depth }
+    requires promises { Promises interpreter.now.meta (N.takes interpreter.now.natives) (N.gives interpreter.now.natives) }
     requires left { 0 < world.old.left }
     requires idle { world.old.turn ≡ None }
-    requires keeps { WorldInvariant setting.now.meta world.old }
-    ensures { Answers N.gives setting.now (invoking invocation name.now called.now inputs.now)
+    requires keeps { WorldInvariant interpreter.now.meta world.old }
+    ensures { Answers N.gives interpreter.now (invoking invocation name.now called.now inputs.now)
         world.old world.new result }
 {
-    match judge(setting, world, invocation, name, called, inputs) {
+    match judge(interpreter, world, invocation, name, called, inputs) {
         Err(reason) => refuse(world, reason),
         Ok(
             Invoked {
@@ -83,30 +83,30 @@ pub fn invoke<N: Answering>(
                 method,
                 arguments: values.as_slice(),
             };
-            begin(setting, world, &call)
+            begin(interpreter, world, &call)
         }
     }
 }
 
 /// What the event begins, or why it isn't accepted.
 fn judge<N: Answering>(
-    setting: &Setting<N>,
+    interpreter: &Interpreter<N>,
     world: &World,
     invocation: Invocation,
     name: &Name,
     called: &Name,
     inputs: &[Input],
 ) -> Result<Invoked, NotAccepted>
-    ensures accepted { IfOk result (λ i. AsksFor setting.now.meta world.now
+    ensures accepted { IfOk result (λ i. AsksFor interpreter.now.meta world.now
         i.object i.method i.values (invoking invocation name.now called.now inputs.now)) }
-    ensures fits { IfOk result (λ i. ArgumentsFit setting.now.meta world.now.store.tree
+    ensures fits { IfOk result (λ i. ArgumentsFit interpreter.now.meta world.now.store.tree
         i.object i.method i.values) }
     ensures refused { IfErr result (IsNotAccepted
-        (invoke setting.now.meta (at world.now []) invocation name.now called.now inputs.now)) }
+        (invoke interpreter.now.meta (at world.now []) invocation name.now called.now inputs.now)) }
 {
     let (object, life) = find_living(world, name)?;
     let Some((method, declared)) = method_of(
-        &setting.meta,
+        &interpreter.meta,
         life.class,
         invocation,
         called,
@@ -114,8 +114,12 @@ fn judge<N: Answering>(
     ) else {
         return Err(NotAccepted::Refused(Refusal::NoMember));
     };
-    let values = read_inputs(setting.alloc, world, inputs)?;
-    if world.store.tree.have_types(&setting.meta, values.as_slice(), declared.kinds.as_slice()) {
+    let values = read_inputs(interpreter.alloc, world, inputs)?;
+    if world.store.tree.have_types(
+        &interpreter.meta,
+        values.as_slice(),
+        declared.kinds.as_slice(),
+    ) {
         Ok(Invoked {
             object: ObjectId::new(object),
             method,
@@ -153,23 +157,23 @@ fn method_of<'m>(
 
 /// Begins a method for an event that is accepted, and runs it.
 fn begin<N: Answering>(
-    setting: &Setting<N>,
+    interpreter: &Interpreter<N>,
     world: &mut World,
     call: &MethodCall<'_>,
 ) -> Result<Answer, Fault>
-    requires depth { 0 < setting.now.depth }
-    requires promises { Promises setting.now.meta (N.takes setting.now.natives) (N.gives setting.now.natives) }
+    requires depth { 0 < interpreter.now.depth }
+    requires promises { Promises interpreter.now.meta (N.takes interpreter.now.natives) (N.gives interpreter.now.natives) }
     requires left { 0 < world.old.left }
     requires idle { world.old.turn ≡ None }
-    requires keeps { WorldInvariant setting.now.meta world.old }
-    requires fit { CallFits setting.now.meta world.old.store.tree call.now }
+    requires keeps { WorldInvariant interpreter.now.meta world.old }
+    requires fit { CallFits interpreter.now.meta world.old.store.tree call.now }
     ensures { (e : AnEvent) →
-        AsksFor setting.now.meta world.old call.now.object call.now.method call.now.arguments.now e →
-        Answers N.gives setting.now e world.old world.new result }
+        AsksFor interpreter.now.meta world.old call.now.object call.now.method call.now.arguments.now e →
+        Answers N.gives interpreter.now e world.old world.new result }
 {
     let below = Active::nothing();
-    let (line, begun) = setting.begun(world, &below, call)?;
+    let (line, callee) = interpreter.activate(world, &below, call)?;
     world.accept_with(line)?;
-    setting.run_begun(world, &below, call, &begun)?;
+    interpreter.run_callee(world, &below, call, &callee)?;
     Ok(Answer::Done)
 }

@@ -6,21 +6,21 @@ ghost use Rattle.machine_events.specs.code.Taking.{WorldInvariant, Answers};
 
 use crate::events::named::find_living;
 use crate::judgement::refuse;
-use machine_rules::Setting;
-use machine_state::{Answer, Entry, Fault, Happening, World};
+use machine_rules::Interpreter;
+use machine_state::{Answer, Entry, EntryKind, Fault, World};
 use native_slots::Answering;
 use signatures::{Name, ObjectId};
 
 /// Schedules an object for deletion, unless it is scheduled already.
 pub fn later<N: Answering>(
-    setting: &Setting<N>,
+    interpreter: &Interpreter<N>,
     world: &mut World,
     name: &Name,
 ) -> Result<Answer, Fault>
     requires left { 0 < world.old.left }
     requires idle { world.old.turn ≡ None }
-    requires keeps { WorldInvariant setting.now.meta world.old }
-    ensures { Answers N.gives setting.now (Later name.now) world.old world.new result }
+    requires keeps { WorldInvariant interpreter.now.meta world.old }
+    ensures { Answers N.gives interpreter.now (Later name.now) world.old world.new result }
 {
     let (object, life) = match find_living(world, name) {
         Ok((number, life)) => (ObjectId::new(number), life),
@@ -33,7 +33,7 @@ pub fn later<N: Answering>(
     let Some(event_loop) = world.store.loops.name(life.home) else {
         unreachable!()
     };
-    let scheduled = Happening::Scheduled {
+    let scheduled = EntryKind::Scheduled {
         event_loop: event_loop.copy()?,
         object: name.copy()?,
     };

@@ -1,4 +1,4 @@
--- What calls of the machine's functions do in the setting of a run, over what is active below (docs/machine.md, "Runs").
+-- What calls of the machine's functions do in the interpreter of a run, over what is active below (docs/machine.md, "Runs").
 -- Each call comes to what it says, or stops on the way.
 use Rattle.std.specs.Prelude.{◌≡◌, ℕ, List, [], ◌∷◌, ◌++◌, map, Option, Some, Result}
 use Rattle.signatures.specs.declared.value.Value.{Value}
@@ -12,7 +12,7 @@ use Rattle.meta_model.specs.declared.effects.MetaEffects.{MetaEffects}
 use Rattle.native_slots.specs.declared.action.Action.{Action}
 use Rattle.machine_state.specs.State.{Step, Run, Act, Activation, Body, Emit, Update, Destroy}
 use Rattle.machine_rules.specs.code.Active.{shows}
-use Rattle.machine_rules.specs.Doings.{Doing, doing_step}
+use Rattle.machine_rules.specs.Operations.{Operation, operation_of_step}
 use Rattle.machine_rules.specs.code.Reaches.{RunsTo, Advances, CallsIn, Calls, OnlyCalls, Sets, Deletes, Kills}
 use Rattle.machine_rules.specs.declared.method_call.MethodCall.{MethodCall}
 use Rattle.prop_bindings.specs.declared.place.Place.{Place}
@@ -40,10 +40,10 @@ UsesNext p natives depth active c arguments w v result =
 -- this is done by the next step, in every body of the object in which it does that and the statements `rest` follow; the
 -- statements `left` are left of the body then
 abbrev pub CarriesOut :
-    Loaded → NativeAnswers → ℕ → List (Option ℕ) → ℕ → Doing → List Statement → List Statement →
+    Loaded → NativeAnswers → ℕ → List (Option ℕ) → ℕ → Operation → List Statement → List Statement →
     World → World → Result (Unit {0}) Fault → Type 0
 CarriesOut p natives depth active o done rest left w v result =
-    (m : ℕ) (arguments : List Value) (x : Step) → doing_step w.store.tree o arguments x ≡ Some done →
+    (m : ℕ) (arguments : List Value) (x : Step) → operation_of_step w.store.tree o arguments x ≡ Some done →
     Advances p natives depth active w (Body o m arguments (x ∷ map Run rest) ∷ []) v (Body o m arguments (map Run left) ∷ []) result
 
 -- an action of a native is carried out, in every body of the object in which it comes next

@@ -5,7 +5,7 @@ use Rattle.meta_model.specs.declared.effects.MetaEffects.{MetaEffects}
 use Rattle.meta_model.specs.Loaded.{Loaded}
 use Rattle.machine_state.specs.declared.fault.Fault.{Fault}
 use Rattle.machine_state.specs.State.{State, IsIdle}
-use Rattle.machine_rules.specs.Doings.{TakeAnswer}
+use Rattle.machine_rules.specs.Operations.{TakeAnswer}
 use Rattle.machine_rules.specs.Faults.{DoesNext, WritesNext, Reason}
 use Rattle.machine_rules.specs.Good.{IsGood}
 use Rattle.machine_rules.specs.Natives.{NativeAnswers}

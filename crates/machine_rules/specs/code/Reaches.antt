@@ -16,7 +16,7 @@ use Rattle.machine_state.specs.declared.turn.Turn.{Turn}
 use Rattle.std.specs.List.{find}
 use Rattle.machine_state.specs.declared.entry.Entry.{Entry}
 use Rattle.machine_state.specs.declared.entry.Entry.TheVariants.{At}
-use Rattle.machine_state.specs.declared.entry.Happening.TheVariants as happening
+use Rattle.machine_state.specs.declared.entry.EntryKind.TheVariants as entry_kind
 use Rattle.machine_state.specs.declared.entry.Shown.{Shown}
 use Rattle.object_tree.specs.declared.object.Object.{Object}
 use Rattle.machine_state.specs.declared.fault.Fault.{Fault}
@@ -33,7 +33,7 @@ use Rattle.machine_rules.specs.Connecting.{AreThere, may_connect, found_ends, na
 use Rattle.machine_rules.specs.declared.method_call.MethodCall.{MethodCall}
 use Rattle.machine_rules.specs.Good.{ArgumentsFit}
 use Rattle.machine_rules.specs.Natives.{NativeAnswers}
-use Rattle.machine_rules.specs.Doings.{Doing, Begin}
+use Rattle.machine_rules.specs.Operations.{Operation, Begin}
 use Rattle.machine_rules.specs.Rules.{Rule, Begins, Connects, Disconnects}
 use Rattle.machine_rules.specs.Settling.{Writes}
 use Rattle.meta_model.specs.Outlines.{destroyed}
@@ -110,7 +110,7 @@ Calls p natives w from to o m arguments = CallsIn p natives w w from to o m argu
 
 -- .. and nothing else may
 pub record OnlyCalls (p : Loaded) (natives : NativeAnswers) (w : World) (from to : List Activation) (o m : ℕ) (arguments : List Value) : Type 0 where
-  pub next : (below : List Activation) (what : Doing) → DoesNext (at w (from ++ below)) what → what ≡ Begin o m arguments
+  pub next : (below : List Activation) (what : Operation) → DoesNext (at w (from ++ below)) what → what ≡ Begin o m arguments
   pub begins :
       (below : List Activation) (t : State) →
       Rule p natives (at w (from ++ below)) t → Begins p (at w (from ++ below)) (to ++ below) o m arguments t
@@ -143,9 +143,9 @@ CallFits p objects call = ArgumentsFit p objects call.object call.method call.ar
 
 -- the entry of a method that begins
 abbrev pub begin_entry : ℕ → Object → ℕ → List ℕ → List Shown → Work → Entry
-begin_entry depth x m method given Signal = At depth (happening.Emitted x.name method given (is_silent x m))
-begin_entry depth x m method given (Slot statements) = At depth (happening.Called x.name method given)
-begin_entry depth x m method given (Native effects) = At depth (happening.Called x.name method given)
+begin_entry depth x m method given Signal = At depth (entry_kind.Emitted x.name method given (is_silent x m))
+begin_entry depth x m method given (Slot statements) = At depth (entry_kind.Called x.name method given)
+begin_entry depth x m method given (Native effects) = At depth (entry_kind.Called x.name method given)
 
 -- the entry of a method of an object that begins with these arguments, where so many activations are on the stack
 abbrev pub entry_of_call : World → ℕ → Object → ℕ → MetaMethod → List Value → Entry
@@ -153,11 +153,11 @@ entry_of_call w depth x m method arguments = begin_entry depth x m method.sig.na
 
 -- .. of the signal `destroyed` of an object of this name
 abbrev pub entry_of_destroyed : ℕ → List ℕ → Entry
-entry_of_destroyed depth name = At depth (happening.Emitted name destroyed.name (show.Null ∷ []) false)
+entry_of_destroyed depth name = At depth (entry_kind.Emitted name destroyed.name (show.Null ∷ []) false)
 
 -- .. of a call of a method of an object that is posted to the event loop of this name
 abbrev pub entry_of_post : World → ℕ → List ℕ → Object → MetaMethod → List Value → Entry
-entry_of_post w depth name x method arguments = At depth (happening.Posted name x.name method.sig.name (all_shown w.store.tree arguments))
+entry_of_post w depth name x method arguments = At depth (entry_kind.Posted name x.name method.sig.name (all_shown w.store.tree arguments))
 
 -- a connection was used and a call of a method posted to the event loop in which its object lives, where so many
 -- activations are on the stack; or memory was refused
@@ -188,7 +188,7 @@ pub record DoesWork (p : Loaded) (objects : List Object) (o m : ℕ) (work : Wor
 
 -- what is found of a method that may begin over a stack that shows this: the line to be written, what is to run, and
 -- the last connection that was made before
-pub record IsBegun (p : Loaded) (depth : ℕ) (active : List (Option ℕ)) (w : World) (o m : ℕ) (arguments : List Value)
+pub record IsActivated (p : Loaded) (depth : ℕ) (active : List (Option ℕ)) (w : World) (o m : ℕ) (arguments : List Value)
     (line : Entry) (work : Work) (last : ℕ) : Type 0 where
   pub room : length active < depth
   pub object : Object

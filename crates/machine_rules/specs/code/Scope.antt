@@ -9,7 +9,7 @@ use Rattle.meta_model.specs.declared.object.Statement.{Statement}
 use Rattle.meta_model.specs.declared.object.Statement.TheOpen as layer
 use Rattle.machine_state.specs.declared.endpoints.Endpoints.{Endpoints}
 use Rattle.machine_rules.specs.Paths.{path_value, value_of, values_of}
-use Rattle.machine_rules.specs.Doings.{Doing, on_ends, doing}
+use Rattle.machine_rules.specs.Operations.{Operation, on_ends, operation}
 use Rattle.machine_rules.specs.declared.paths.Scope.{Scope}
 
 -- the value that a path leads to
@@ -24,9 +24,9 @@ abbrev pub values_in : Scope → List (Expr MetaPath) → Option (List Value)
 values_in scope es = values_of scope.objects.now scope.this scope.arguments.now es
 
 -- what is done with the objects that the paths of two ends lead to
-abbrev pub ends_in : Scope → (Endpoints → Doing) → MetaEndpoints → Option Doing
+abbrev pub ends_in : Scope → (Endpoints → Operation) → MetaEndpoints → Option Operation
 ends_in scope act ends = on_ends act ends (path_in scope ends.sender) (path_in scope ends.receiver)
 
 -- what a statement does
-abbrev pub doing_in : Scope → layer.Statement-F Statement → Option Doing
-doing_in scope statement = doing scope.objects.now scope.this scope.arguments.now statement
+abbrev pub operation_in : Scope → layer.Statement-F Statement → Option Operation
+operation_in scope statement = operation scope.objects.now scope.this scope.arguments.now statement

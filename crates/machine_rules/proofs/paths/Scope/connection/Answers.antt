@@ -1,4 +1,4 @@
-use Rattle.machine_rules.specs.Doings.{Connect}
+use Rattle.machine_rules.specs.Operations.{Connect}
 use Rattle.machine_rules.proofs.Yielding.{ends-lack}
 use Rattle.machine_rules.proofs.paths.Scope.connection.Goals as goal
 

@@ -1,4 +1,4 @@
-use Rattle.machine_rules.specs.Doings.{Disconnect}
+use Rattle.machine_rules.specs.Operations.{Disconnect}
 use Rattle.machine_rules.proofs.Yielding.{ends-lack}
 use Rattle.machine_rules.proofs.paths.Scope.disconnection.Goals as goal
 
