@@ -5,7 +5,7 @@ use Rattle.prop_bindings.specs.declared.place.Place.{Place}
 use Rattle.prop_bindings.specs.declared.binding.Binding.{Binding}
 use Rattle.prop_bindings.specs.Bindings.{binding_at, AreApart, reads_any, Chain, direct, further, Loop}
 use Rattle.prop_bindings.specs.Laws.{AcyclicDetermine}
-use Rattle.prop_bindings.specs.Orders.{IsOrder, bound, reached_by, Halved}
+use Rattle.prop_bindings.specs.code.Orders.{IsOrder, bound, reached_by, Halved}
 use Rattle.prop_bindings.proofs.Places.{decide_place}
 use Rattle.prop_bindings.proofs.Passes.{determines}
 use Rattle.prop_bindings.proofs.Walks.{halved-none, halved-skip, halved-reached, halved-sooner, halved-loop, halved-ordered, halved-covers, bound-same, bound-other}

@@ -5,9 +5,7 @@ use Rattle.prop_bindings.specs.declared.place.Place.{Place}
 use Rattle.prop_bindings.specs.declared.binding.Binding.{Binding}
 use Rattle.prop_bindings.specs.Places.{same_place}
 use Rattle.prop_bindings.specs.Bindings.{binding_at, AreApart, without, replaced, Loop}
-use Rattle.prop_bindings.specs.Orders.{IsOrder}
 use Rattle.prop_bindings.proofs.Places.{decide_place, same_place-refl, different}
-use Rattle.prop_bindings.proofs.Walks.{ordered-fewer}
 use Rattle.prop_bindings.proofs.Replaced.{push-none, without-at}
 use Rattle.prop_bindings.proofs.Acyclic.{chain-more}
 
@@ -49,12 +47,6 @@ apart-fewer keep (b ∷ bs) apart = elim (cases_Bool (keep b)) [
   | inl k ↦ subst AreApart (sym (ap (λ (x : Bool). cond x (b ∷ filter keep bs) (filter keep bs)) k)) (none-fewer keep bs b.target apart.0, apart-fewer keep bs apart.1)
   | inr k ↦ subst AreApart (sym (ap (λ (x : Bool). cond x (b ∷ filter keep bs) (filter keep bs)) k)) (apart-fewer keep bs apart.1)
 ]
-
-pub order-fewer : (keep : Binding → Bool) (bs : List Binding) (order : List Place) → AreApart bs → IsOrder (binding_at bs) order → IsOrder (binding_at (filter keep bs)) order
-order-fewer keep bs order apart o = record {
-  ordered = ordered-fewer (binding_at bs) (binding_at (filter keep bs)) (some-fewer keep bs apart) order o.ordered;
-  covers = λ p z some. o.covers p z (some-fewer keep bs apart p z some);
-}
 
 -- one more binding, of what isn't bound yet
 pub apart-more : (bs : List Binding) (b : Binding) → AreApart bs → binding_at bs b.target ≡ None → AreApart (bs ++ b ∷ [])

@@ -1,5 +1,5 @@
 -- What the calls answer, from what a walk found and what was settled after it.
-use Rattle.std.proofs.Common.{◌≡◌, ◌-◌, true, false, List, [], ◌∷◌, ◌++◌, length, take, drop, Some, refl, ap, sym, ◌∙◌, subst}
+use Rattle.std.proofs.Common.{◌≡◌, ◌-◌, true, false, List, [], ◌∷◌, ◌++◌, length, take, drop, inl, Some, refl, ap, sym, ◌∙◌, subst}
 use Rattle.std.proofs.lemmas.List.{take_rest}
 use Rattle.std.proofs.lemmas.List.Elements.{All-filter, All-push}
 use Rattle.std.proofs.lemmas.Option.{same_Some}
@@ -8,13 +8,15 @@ use Rattle.meta_model.specs.Loaded.{Loaded}
 use Rattle.object_tree.specs.declared.object.Object.{Object}
 use Rattle.prop_bindings.specs.declared.place.Place.{Place}
 use Rattle.prop_bindings.specs.declared.binding.Binding.{Binding}
-use Rattle.prop_bindings.specs.Places.{values_in}
+use Rattle.prop_bindings.specs.Places.{values_in, Distinct}
 use Rattle.prop_bindings.specs.Bindings.{binding_at, without, replaced, reads_any, value_of, Settled, Loop}
-use Rattle.prop_bindings.specs.Changes.{in_order, DifferInValues, AreChanged, none_changed, one_stayed, IsWritten, IsInstalled}
-use Rattle.prop_bindings.specs.Fits.{FitsAt, IsFit, Agree, AreSound}
-use Rattle.prop_bindings.specs.Orders.{IsOrder, update, pass, bound, Distinct, Halved, IsAffected, IsLater, IsWalked}
+use Rattle.prop_bindings.specs.Changes.{in_order, DifferInValues, AreChanged, none_changed, one_stayed, IsWritten, IsInstalled, one}
+use Rattle.prop_bindings.specs.Fits.{FitsAt, IsFit, IsInOneLoop, Agree}
+use Rattle.prop_bindings.specs.code.Parts.{AreSound}
+use Rattle.prop_bindings.specs.code.Orders.{IsOrder, update, pass, bound, Halved, IsAffected, IsLater, IsWalked}
 use Rattle.prop_bindings.proofs.Apart.{apart-fewer, apart-replaced, acyclic-fewer}
 use Rattle.prop_bindings.proofs.Fitting.{fit-stays}
+use Rattle.prop_bindings.proofs.Homes.{joined-stays, all-joined}
 use Rattle.prop_bindings.proofs.Replaced.{without-fewer}
 use Rattle.prop_bindings.proofs.Settling.{written-value, written-settled, written-kept, closes-loop, installed-order, installed-acyclic, installed-settled, installed-kept, later-is}
 use Rattle.prop_bindings.proofs.Walks.{bound-other}
@@ -30,20 +32,21 @@ module _ (bs : List Binding) (old new : List Object) (at : Place) (v : Value) (f
   settled : Settled (binding_at (without at bs)) (values_in new)
   settled = written-settled bs at followers v (values_in old) (values_in new) affected before is
 
-  pub is_written : (changed : List Place) → DifferInValues old new → AreChanged old new (in_order at bs) changed → IsWritten bs (without at bs) old new at v changed
+  pub is_written : (changed : List Place) → DifferInValues old new → AreChanged old new (in_order (at ∷ []) bs) changed → IsWritten bs (without at bs) old new (one at v) changed
   is_written changed differ changes = record {
     bindings = refl;
     objects = differ;
-    written = written-value bs at followers v (values_in old) (values_in new) affected before is;
+    written = (written-value bs at followers v (values_in old) (values_in new) affected before is, tt);
     settled = settled;
-    kept = λ q none away. written-kept bs at followers v (values_in old) (values_in new) affected before is q none away;
+    kept = λ q none away. written-kept bs at followers v (values_in old) (values_in new) affected before is q none (λ e. away (inl e));
     changes = changes;
   }
 
-  pub agree_written : (p : Loaded) → Agree p old bs → AreSound p new bs → Agree p new (without at bs)
-  agree_written p agree sound = record {
+  pub agree_written : (p : Loaded) → DifferInValues old new → Agree p old bs → AreSound p new bs → Agree p new (without at bs)
+  agree_written p differ agree sound = record {
     typed = sound.0;
     fit = All-filter _ (IsFit p new) bs sound.1;
+    one_loop = All-filter _ (IsInOneLoop new) bs (all-joined old new differ bs agree.one_loop);
     apart = apart-fewer _ bs agree.apart;
     acyclic = acyclic-fewer _ bs agree.apart agree.acyclic;
     settled = settled;
@@ -58,20 +61,21 @@ module _ (bs : List Binding) (objects : List Object) (at : Place) (v : Value) (b
   left : Settled (binding_at (without at bs)) (values_in objects)
   left q b some = before q b (without-fewer at bs q b some)
 
-  pub is_kept : values_in objects at ≡ Some v → IsWritten bs (without at bs) objects objects at v []
+  pub is_kept : values_in objects at ≡ Some v → IsWritten bs (without at bs) objects objects (one at v) []
   is_kept has = record {
     bindings = refl;
     objects = refl;
-    written = has;
+    written = (has, tt);
     settled = left;
     kept = λ q none away. refl;
-    changes = all-stay objects (in_order at bs);
+    changes = all-stay objects (in_order (at ∷ []) bs);
   }
 
   pub agree_kept : (p : Loaded) → Agree p objects bs → Agree p objects (without at bs)
   agree_kept p agree = record {
     typed = agree.typed;
     fit = All-filter _ (IsFit p objects) bs agree.fit;
+    one_loop = All-filter _ (IsInOneLoop objects) bs agree.one_loop;
     apart = apart-fewer _ bs agree.apart;
     acyclic = acyclic-fewer _ bs agree.apart agree.acyclic;
     settled = left;
@@ -105,7 +109,7 @@ module _ (bs : List Binding) (b : Binding) (order sooner later : List Place) (o 
       settles : Settled (binding_at (replaced bs b)) (values_in new)
       settles = installed-settled bs b order sooner walked.reached o both apart v (values_in old) (values_in new) once before has follows
 
-      pub is_installed : (cs : List Binding) (changed : List Place) → cs ≡ replaced bs b → DifferInValues old new → AreChanged old new (in_order b.target bs) changed → IsInstalled bs cs old new b changed
+      pub is_installed : (cs : List Binding) (changed : List Place) → cs ≡ replaced bs b → DifferInValues old new → AreChanged old new (in_order (b.target ∷ []) bs) changed → IsInstalled bs cs old new b changed
       is_installed cs changed left differ changes = record {
         bindings = left;
         acyclic = subst (λ (xs : List Binding). ¬ Loop (binding_at xs)) (sym left) (installed-acyclic bs b order sooner walked.reached o both apart);
@@ -118,10 +122,11 @@ module _ (bs : List Binding) (b : Binding) (order sooner later : List Place) (o 
       pub is_later : IsLater (binding_at bs) (bound (binding_at bs) b.target b) b.target (b.target ∷ walked.reached)
       is_later = later-is bs b order sooner walked.reached o both apart v (values_in old) (values_in new) once before has follows
 
-      pub agree_installed : (p : Loaded) (cs : List Binding) → cs ≡ replaced bs b → DifferInValues old new → Agree p old bs → IsFit p old b → AreSound p new bs → Agree p new cs
-      agree_installed p cs left differ agree fit sound = subst (λ (xs : List Binding). Agree p new xs) (sym left) (record {
+      pub agree_installed : (p : Loaded) (cs : List Binding) → cs ≡ replaced bs b → DifferInValues old new → Agree p old bs → IsFit p old b → IsInOneLoop old b → AreSound p new bs → Agree p new cs
+      agree_installed p cs left differ agree fit joined sound = subst (λ (xs : List Binding). Agree p new xs) (sym left) (record {
         typed = sound.0;
         fit = All-push (IsFit p new) (without b.target bs) b (All-filter _ (IsFit p new) bs sound.1) (fit-stays p old new agree.typed sound.0 differ b fit);
+        one_loop = All-push (IsInOneLoop new) (without b.target bs) b (All-filter _ (IsInOneLoop new) bs (all-joined old new differ bs agree.one_loop)) (joined-stays old new differ b joined);
         apart = apart-replaced bs b agree.apart;
         acyclic = installed-acyclic bs b order sooner walked.reached o both apart;
         settled = settles;

@@ -7,7 +7,7 @@ use Rattle.prop_bindings.specs.Places.{In}
 use Rattle.prop_bindings.specs.Bindings.{Chain, direct, further, Loop}
 use Rattle.prop_bindings.specs.Changes.{ReadsAlike, AreChanged, none_changed, one_changed, one_stayed}
 use Rattle.prop_bindings.specs.Counts.{CountsReached, CountsFrom}
-use Rattle.prop_bindings.specs.Orders.{IsAffected, IsLater}
+use Rattle.prop_bindings.specs.code.Orders.{IsAffected, IsLater}
 use Rattle.prop_bindings.proofs.Places.{decide_in}
 
 -- what changed doesn't read as it did

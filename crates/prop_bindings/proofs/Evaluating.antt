@@ -1,6 +1,6 @@
 -- What an evaluation, and a write with those of its followers, make of objects and sound bindings.
-use Rattle.std.proofs.Common.{◌≡◌, List, map, Option, None, Some, ap, sym, ◌∙◌, subst, refl}
-use Rattle.std.specs.Option.{is_some, option_map}
+use Rattle.std.proofs.Common.{◌≡◌, List, Option, None, Some, ap, sym, ◌∙◌, subst, refl}
+use Rattle.std.specs.Option.{option_map}
 use Rattle.object_tree.specs.Seen.{seen}
 use Rattle.std.proofs.Math.Path.{fun_ext}
 use Rattle.std.proofs.lemmas.Option.{same_Some}
@@ -13,15 +13,15 @@ use Rattle.prop_bindings.specs.declared.place.Place.{Place}
 use Rattle.prop_bindings.specs.declared.binding.Binding.{Binding}
 use Rattle.prop_bindings.specs.Places.{values_in, In}
 use Rattle.prop_bindings.specs.Bindings.{binding_at, value_of}
-use Rattle.prop_bindings.specs.Changes.{DifferInValues, DifferAt, ReadsAlike}
-use Rattle.prop_bindings.specs.Fits.{FitsAt, IsFit, AreSound, IsSoundBySome, StaySound, IsSoundWith, StaySoundWith}
-use Rattle.prop_bindings.specs.Orders.{given, evaluated, pass, update}
-use Rattle.prop_bindings.proofs.Kept.{reads-alike}
+use Rattle.prop_bindings.specs.Changes.{DifferInValues, ReadsAlike}
+use Rattle.prop_bindings.specs.Fits.{FitsAt, IsFit}
+use Rattle.prop_bindings.specs.code.Orders.{given, evaluated, pass, update}
+use Rattle.prop_bindings.specs.code.Parts.{AreSound, IsSoundBySome, StaySound, IsSoundWith, StaySoundWith}
+use Rattle.prop_bindings.proofs.Staying.{reads-alike}
 use Rattle.prop_bindings.proofs.Passes.{pass-other}
-use Rattle.prop_bindings.proofs.Places.{different, update-other}
-use Rattle.prop_bindings.proofs.Values.{written-differs, values-updated, value-kept}
-use Rattle.prop_bindings.proofs.Alike.{BothAlike}
-use Rattle.prop_bindings.proofs.Fitting.{all-stay, envs-alike}
+use Rattle.prop_bindings.proofs.Places.{update-other}
+use Rattle.prop_bindings.proofs.Values.{written-differs, values-updated}
+use Rattle.prop_bindings.proofs.Fitting.{all-stay}
 use Rattle.prop_bindings.proofs.There.{bound-has, has-value}
 
 -- ---- a value of its type is written
@@ -60,19 +60,10 @@ module _ (objects : List Object) (bs : List Binding) (at : Place) (b : Binding) 
         values-updated objects at v found.0 found.1 q
         ∙ sym (ap (λ (o : Option Binding). given o at (values_in objects) q) some ∙ ap (λ (w : Option Value). update (values_in objects) at w q) is)
 
-    pub evaluated-kept : (q : Place) → (at ≡ q → ⊥) → values_in after q ≡ values_in objects q
-    evaluated-kept q apart = value-kept objects at q v (different at q apart)
-
     pub evaluated-sound : StaySound objects after bs
     evaluated-sound p sound = given-sound p objects bs at v sound (evaluated-fits p sound)
 
 -- ---- a write and what follows
-some-alike : (v w : Option Value) → BothAlike v w → is_some w ≡ is_some v
-some-alike None None h = refl
-some-alike None (Some w) h = absurd (cc h)
-some-alike (Some v) None h = absurd (cc h)
-some-alike (Some v) (Some w) h = refl
-
 module _ (old new : List Object) (bs : List Binding) (at : Place) (v : Value) (s : IsSoundWith old bs at v) where
   abbrev mid : List Object
   mid = change_life at.object (written at.property v) old
@@ -82,18 +73,6 @@ module _ (old new : List Object) (bs : List Binding) (at : Place) (v : Value) (s
 
   pub settle-sound : StaySound mid new bs → StaySoundWith old new bs at v
   settle-sound stay p sound fits = stay p (given-sound p old bs at v sound fits)
-
-  -- where the evaluations were given up
-  pub settle-differs : (places followers : List Place) (before : List (Option Value)) → DifferInValues mid new → StaySound mid new bs → ((q : Place) → (In q followers → ⊥) → values_in new q ≡ values_in mid q) → ((q : Place) → (In q places → ⊥) → (at ≡ q → ⊥) × (In q followers → ⊥)) → before ≡ map (values_in old) places → DifferAt old new places before
-  settle-differs places followers before differ stay kept out-of had =
-      let whole : DifferInValues old new = differ ∙ written-differs at.object at.property v old in
-      let now = settle-sound stay s.0 s.1 s.2 in
-      record {
-        objects = whole;
-        properties = λ q. some-alike (values_in old q) (values_in new q) (envs-alike s.0 old new s.1.0 now.0 whole q);
-        had = had;
-        others = λ q out. let away = out-of q out in kept q away.1 ∙ value-kept old at q v (different at q away.0);
-      }
 
   -- what neither is written nor follows reads as it did
   pub rest-alike : (followers : List Place) → DifferInValues old new → ((q : Place) → values_in new q ≡ pass (binding_at bs) followers (update (values_in old) at (Some v)) q) → (q : Place) → (at ≡ q → ⊥) → (In q followers → ⊥) → ReadsAlike old new q

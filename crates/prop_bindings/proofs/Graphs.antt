@@ -10,8 +10,8 @@ use Rattle.prop_bindings.specs.declared.installed.Installed.{Installed}
 use Rattle.indexmap.specs.IndexSet.{contains}
 use Rattle.prop_bindings.specs.Places.{In, same_place}
 use Rattle.prop_bindings.specs.Bindings.{binding_at, AreApart, Reads, read_by, touches, without, replaced}
-use Rattle.prop_bindings.specs.Graph.{AreKeyed, AreNamed, AreTouched, IsGraph, KeepReaders, KeepTouched, RankOfReader, bindings_in, bindings_of, position_of, rank_of, readers_at}
-use Rattle.prop_bindings.specs.Orders.{Ordered, IsOrder, bound}
+use Rattle.prop_bindings.specs.code.Graph.{AreKeyed, AreNamed, AreTouched, IsGraph, KeepReaders, KeepTouched, RankOfReader, bindings_in, bindings_of, position_of, rank_of, readers_at}
+use Rattle.prop_bindings.specs.code.Orders.{Ordered, IsOrder, bound}
 use Rattle.prop_bindings.proofs.Apart.{apart-fewer, apart-replaced}
 use Rattle.prop_bindings.proofs.Replaced.{installed-is, order-without, without-at, without-fewer}
 use Rattle.prop_bindings.proofs.Keyed.{position-target}

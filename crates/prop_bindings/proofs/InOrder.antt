@@ -1,6 +1,6 @@
 -- The changed ones of those that follow a property, in the order in which their bindings were installed, are those of all
 -- bound properties.
-use Rattle.std.proofs.Common.{◌≡◌, ℕ, zero, suc, ◌+◌, ◌<◌, ◌⊎◌, Bool, true, false, cond, not, List, [], ◌∷◌, map, inl, inr, Option, None, Some, refl, ap, sym, ◌∙◌, subst, arith}
+use Rattle.std.proofs.Common.{◌≡◌, ℕ, zero, suc, ◌+◌, ◌<◌, ◌⊎◌, Bool, true, false, cond, not, List, [], ◌∷◌, map, inl, inr, None, Some, refl, ap, sym, ◌∙◌, subst, arith}
 use Rattle.std.specs.Prelude.{slice_get}
 use Rattle.std.proofs.lemmas.Bool.{false≢true, cases_Bool}
 use Rattle.std.proofs.lemmas.Option.{same_Some}
@@ -11,8 +11,8 @@ use Rattle.prop_bindings.specs.declared.numbering.Numbered.{Numbered}
 use Rattle.prop_bindings.specs.Places.{In, same_place}
 use Rattle.prop_bindings.specs.Bindings.{binding_at, AreApart, without}
 use Rattle.prop_bindings.specs.Changes.{in_order, ReadsAlike, AreChanged, none_changed, one_changed, one_stayed}
-use Rattle.prop_bindings.specs.Graph.{position_of}
-use Rattle.prop_bindings.specs.Numbering.{places_of, Above, Rises, AreBy, AreInOrder}
+use Rattle.prop_bindings.specs.code.Graph.{position_of}
+use Rattle.prop_bindings.specs.code.Numbering.{places_of, Above, Rises, AreBy, AreInOrder}
 use Rattle.prop_bindings.proofs.Places.{decide_place, decide_in, same_place-refl}
 use Rattle.prop_bindings.proofs.Keyed.{position-target}
 
@@ -115,7 +115,7 @@ stands bs [] h = tt
 stands bs (f ∷ fs) h = let found = position-target bs f.place f.number h.0 in let zeroth : f.number ≡ 0 + f.number = omega arith in ((f.number, found.0, zeroth, found.1, found.2), stands bs fs h.1)
 
 -- the first changed, or it didn't
-pub lifted-changes : (old new : List Object) (p : Place) (bs : List Binding) (others places cs : List Place) → AreApart bs → AreInOrder (position_of bs) p others places → (In p others → ⊥) → ((q : Place) → (p ≡ q → ⊥) → (In q others → ⊥) → ReadsAlike old new q) → AreChanged old new places cs → AreChanged old new (in_order p bs) cs
+pub lifted-changes : (old new : List Object) (p : Place) (bs : List Binding) (others places cs : List Place) → AreApart bs → AreInOrder (position_of bs) p others places → (In p others → ⊥) → ((q : Place) → (p ≡ q → ⊥) → (In q others → ⊥) → ReadsAlike old new q) → AreChanged old new places cs → AreChanged old new (in_order (p ∷ []) bs) cs
 lifted-changes old new p bs others places cs apart o away alike h =
     head-moves old new p p (places_of o.sorted) (map (λ (b : Binding). b.target) (without p bs)) cs (subst (λ (xs : List Place). AreChanged old new xs cs) o.are h)
     (λ ds g. lifted old new p bs 0 o.sorted ds o.numbered.0 (stands bs o.sorted o.numbered.1)
@@ -127,9 +127,3 @@ lifted-changes old new p bs others places cs apart o away alike h =
         | inr out ↦ inr (inr (alike b.target (λ e. false≢true (sym f ∙ subst (λ (r : Place). same_place b.target r ≡ true) (sym e) (same_place-refl b.target))) (λ j. out ((o.same b.target).1 j))))
       ]
     ]) g)
-
-pub in-order-out : (N : Place → Option ℕ) (p : Place) (others places : List Place) → AreInOrder N p others places → (q : Place) → (In q places → ⊥) → (p ≡ q → ⊥) × (In q others → ⊥)
-in-order-out N p others places o q out = (
-  (λ e. out (subst (λ (xs : List Place). In q xs) (sym o.are) (inl e))),
-  (λ i. out (subst (λ (xs : List Place). In q xs) (sym o.are) (inr ((o.same q).1 i)))),
-)

@@ -9,10 +9,10 @@ use Rattle.std.proofs.lemmas.Option.{same_Some}
 use Rattle.prop_bindings.specs.declared.place.Place.{Place}
 use Rattle.prop_bindings.specs.declared.binding.Binding.{Binding}
 use Rattle.prop_bindings.specs.Places.{In, property_of, same_place}
-use Rattle.prop_bindings.specs.Groups.{forgotten}
-use Rattle.prop_bindings.specs.Keys.{key_of, same_key}
+use Rattle.prop_bindings.specs.code.Groups.{forgotten}
+use Rattle.prop_bindings.specs.code.Keys.{key_of, same_key}
 use Rattle.prop_bindings.specs.Bindings.{binding_at, AreApart, without}
-use Rattle.prop_bindings.specs.Graph.{position_of}
+use Rattle.prop_bindings.specs.code.Graph.{position_of}
 use Rattle.prop_bindings.proofs.Places.{decide_place, same_place-true, same_place-refl, different, In-left, In-right}
 
 pub same_place-sym : (p q : Place) → same_place p q ≡ same_place q p

@@ -1,6 +1,6 @@
 -- Objects and bindings that agree do so after a change that leaves what the bindings touch as it was, and once one of the
 -- objects is dead, without what touches it.
-use Rattle.std.proofs.Common.{◌≡◌, ◌≢◌, ℕ, zero, suc, eqb, Bool, true, not, ◌||◌, List, [], ◌∷◌, filter, All, get_or, inl, inr, Option, None, Some, refl, ap, sym, ◌∙◌, subst}
+use Rattle.std.proofs.Common.{◌≡◌, ◌≢◌, ℕ, zero, suc, eqb, Bool, true, not, ◌||◌, ◌<◌, arith, List, [], ◌∷◌, filter, All, length, get_or, inl, inr, Option, None, Some, refl, ap, sym, ◌∙◌, subst}
 use Rattle.std.specs.Prelude.{slice_get}
 use Rattle.std.specs.Option.{option_map, option_and_then}
 use Rattle.std.proofs.lemmas.Bool.{false≢true, cases_Bool, eq-eqb}
@@ -13,7 +13,7 @@ use Rattle.object_tree.specs.declared.life.Life.{Life}
 use Rattle.object_tree.specs.declared.object.Object.{Object}
 use Rattle.object_tree.specs.Children.{is_among}
 use Rattle.object_tree.specs.Family.{dead, leaves, parent_of, without_life}
-use Rattle.object_tree.specs.Objects.{life_of}
+use Rattle.object_tree.specs.Objects.{life_of, home_of}
 use Rattle.object_tree.specs.Typed.{AreTyped}
 use Rattle.object_tree.proofs.Changing.{get-change_other, life-of-lives, lives-of-life}
 use Rattle.object_tree.proofs.Families.{leaves-part}
@@ -23,7 +23,7 @@ use Rattle.prop_bindings.specs.declared.place.Place.{Place}
 use Rattle.prop_bindings.specs.declared.binding.Binding.{Binding}
 use Rattle.prop_bindings.specs.Places.{property_of, values_in}
 use Rattle.prop_bindings.specs.Bindings.{binding_at, place_of, touches, dropped, value_of}
-use Rattle.prop_bindings.specs.Fits.{IsFit, Agree}
+use Rattle.prop_bindings.specs.Fits.{IsFit, IsInOneLoop, Agree}
 use Rattle.prop_bindings.specs.Laws.{LeftAgree}
 use Rattle.prop_bindings.proofs.Apart.{some-fewer, apart-fewer, acyclic-fewer}
 use Rattle.prop_bindings.proofs.Alike.{reads-sort, plain-has}
@@ -36,6 +36,7 @@ pub agree-none : (p : Loaded) (objects : List Object) → AreTyped p objects →
 agree-none p objects typed = record {
   typed = typed;
   fit = All-nil (IsFit p objects);
+  one_loop = All-nil (IsInOneLoop objects);
   apart = tt;
   acyclic = λ loop. (let last = chain-ends (binding_at []) loop.1 in let is : None ≡ Some last.0 = last.1 in none-some last.0 is);
   settled = λ q b some. absurd (none-some b some);
@@ -46,6 +47,7 @@ pub agree-fewer : (p : Loaded) (objects : List Object) (keep : Binding → Bool)
 agree-fewer p objects keep bs a = record {
   typed = a.typed;
   fit = All-filter keep (IsFit p objects) bs a.fit;
+  one_loop = All-filter keep (IsInOneLoop objects) bs a.one_loop;
   apart = apart-fewer keep bs a.apart;
   acyclic = acyclic-fewer keep bs a.apart a.acyclic;
   settled = λ q b some. a.settled q b (some-fewer keep bs a.apart q b some);
@@ -69,9 +71,9 @@ touches-target b = or-left (eqb b.target.object b.target.object) (is_among b.tar
 touches-source : (b : Binding) (k o : ℕ) → slice_get b.sources k ≡ Some o → touches o b ≡ true
 touches-source b k o is = or-right (eqb b.target.object o) (is_among o b.sources) (among-source b.sources k o is)
 
--- ---- objects that live on in their class, with their values
+-- ---- objects that live on in their class and their event loop, with their values
 abbrev pub Stays : List Object → List Object → ℕ → Type 0
-Stays old new o = (l : Life) → life_of old o ≡ Some l → (m : Life) × (life_of new o ≡ Some m) × (m.class ≡ l.class) × (m.values ≡ l.values)
+Stays old new o = (l : Life) → life_of old o ≡ Some l → (m : Life) × (life_of new o ≡ Some m) × (m.class ≡ l.class) × (m.values ≡ l.values) × (m.home ≡ l.home)
 
 -- .. all that the binding touches
 abbrev pub StayFor : List Object → List Object → Binding → Type 0
@@ -116,6 +118,32 @@ module _ (old new : List Object) (b : Binding) (stays : StayFor old new b) where
         plain = f.plain;
       }
 
+got : (xs : List ℕ) (k d : ℕ) → k < length xs → slice_get xs k ≡ Some (get_or xs k d)
+got [] k d within = absurd (omega (arith, within))
+got (x ∷ xs) zero d within = refl
+got (x ∷ xs) (suc k) d within = let less : k < length xs = omega (arith, within) in got xs k d less
+
+-- what lives, and in which event loop
+home-there : (objects : List Object) (o home : ℕ) → home_of objects o ≡ Some home → (l : Life) × (life_of objects o ≡ Some l) × (l.home ≡ home)
+home-there objects o home is = by-life (life_of objects o) refl is
+  where
+    by-life : (there : Option Life) → life_of objects o ≡ there → option_map (λ (l : Life). l.home) there ≡ Some home → (l : Life) × (life_of objects o ≡ Some l) × (l.home ≡ home)
+    by-life None at e = absurd (cc e)
+    by-life (Some l) at e = (l, at, same_Some l.home home e)
+
+home-still : (old new : List Object) (o home : ℕ) → Stays old new o → home_of old o ≡ Some home → home_of new o ≡ Some home
+home-still old new o home stays is =
+    let was = home-there old o home is in
+    let on = stays was.0 was.1 in
+    ap (option_map (λ (l : Life). l.home)) on.1 ∙ ap Some (on.4 ∙ was.2)
+
+joined-still : (p : Loaded) (old new : List Object) (b : Binding) → StayFor old new b → IsFit p old b → IsInOneLoop old b → IsInOneLoop new b
+joined-still p old new b stays f h k d within =
+    let o : ℕ = get_or b.sources k d in
+    let at : home_of old b.target.object ≡ Some f.typed.life.home = ap (option_map (λ (l : Life). l.home)) (life-of-lives f.typed.lives) in
+    home-still old new o f.typed.life.home (stays o (touches-source b k o (got b.sources k d within))) (h k d within ∙ at)
+    ∙ sym (home-still old new b.target.object f.typed.life.home (stays b.target.object (touches-target b)) at)
+
 all-still : (p : Loaded) (old new : List Object) (bs : List Binding) → All (StayFor old new) bs → All (IsFit p old) bs → All (IsFit p new) bs
 all-still p old new bs stay fit k d within = fit-still old new (get_or bs k d) (stay k d within) p (fit k d within)
 
@@ -123,6 +151,7 @@ pub agree-kept : (p : Loaded) (old new : List Object) (bs : List Binding) → Ar
 agree-kept p old new bs typed stay a = record {
   typed = typed;
   fit = all-still p old new bs stay a.fit;
+  one_loop = λ k d within. joined-still p old new (get_or bs k d) (stay k d within) (a.fit k d within) (a.one_loop k d within);
   apart = a.apart;
   acyclic = a.acyclic;
   settled = λ q b some.
@@ -143,7 +172,7 @@ life-kept o k objects other =
     ∙ leaves-part (λ (there : Option Object). option_and_then (λ (x : Object). x.life) there) (parent_of objects o) o k objects (λ x. refl)
 
 stays-apart : (o k : ℕ) (objects : List Object) → k ≢ o → Stays objects (without_life o objects) k
-stays-apart o k objects other l is = (l, life-kept o k objects other ∙ is, refl, refl)
+stays-apart o k objects other l is = (l, life-kept o k objects other ∙ is, refl, refl, refl)
 
 untouched : (o : ℕ) (objects : List Object) (b : Binding) → not (touches o b) ≡ true → StayFor objects (without_life o objects) b
 untouched o objects b away k touched = stays-apart o k objects (λ same.

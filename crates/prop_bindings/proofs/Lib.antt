@@ -14,9 +14,11 @@ pub mod Apart
 pub mod Settling
 pub mod There
 pub mod More
+pub mod Homes
 pub mod Leaving
 pub mod Once
-pub mod Kept
+pub mod Assigned
+pub mod Staying
 pub mod Evaluating
 pub mod Calling
 pub mod Short
@@ -30,5 +32,4 @@ pub mod InOrder
 pub mod Counting
 pub mod Ranked
 pub mod Dropping
-pub mod Counted
 pub mod Touching

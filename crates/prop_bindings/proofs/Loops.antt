@@ -4,7 +4,7 @@ use Rattle.prop_bindings.specs.declared.place.Place.{Place}
 use Rattle.prop_bindings.specs.declared.binding.Binding.{Binding}
 use Rattle.prop_bindings.specs.Places.{In}
 use Rattle.prop_bindings.specs.Bindings.{Reads, Chain, direct, further, Loop}
-use Rattle.prop_bindings.specs.Orders.{Free, Ordered, Covers}
+use Rattle.prop_bindings.specs.code.Orders.{Free, Ordered, Covers}
 
 -- a reader of a member is a member
 abbrev Closed : (Place → Option Binding) → List Place → Type 0

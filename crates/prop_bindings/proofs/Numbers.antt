@@ -10,10 +10,10 @@ use Rattle.std.proofs.lemmas.Option.{same_Some}
 use Rattle.prop_bindings.specs.declared.place.Place.{Place}
 use Rattle.prop_bindings.specs.declared.binding.Binding.{Binding}
 use Rattle.prop_bindings.specs.declared.numbering.Numbered.{Numbered}
-use Rattle.prop_bindings.specs.Places.{In}
+use Rattle.prop_bindings.specs.Places.{In, Distinct}
 use Rattle.prop_bindings.specs.Bindings.{Reads}
-use Rattle.prop_bindings.specs.Numbering.{places_of, Above, Beneath, Rises, AreBy, IsNumbering, PutIn, there, put, SplitsAt, is_at}
-use Rattle.prop_bindings.specs.Orders.{Ordered, Distinct}
+use Rattle.prop_bindings.specs.code.Numbering.{places_of, Above, Beneath, Rises, AreBy, IsNumbering, PutIn, there, put, SplitsAt, is_at}
+use Rattle.prop_bindings.specs.code.Orders.{Ordered}
 
 -- no two properties have one number
 abbrev pub IsOneToOne : (Place → Option ℕ) → Type 0

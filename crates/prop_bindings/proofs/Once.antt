@@ -1,14 +1,15 @@
 -- A write and a bind have one outcome.
-use Rattle.std.proofs.Common.{◌≡◌, true, List, inl, inr, None, ap, sym, ◌∙◌, subst}
-use Rattle.std.proofs.lemmas.Bool.{false≢true}
+use Rattle.std.proofs.Common.{◌≡◌, Bool, cond, List, [], ◌∷◌, inl, inr, None, Some, ap, sym, ◌∙◌, subst}
+use Rattle.std.specs.List.{AllByRecursion}
+use Rattle.std.proofs.lemmas.Bool.{cases_Bool}
 use Rattle.object_tree.specs.declared.object.Object.{Object}
 use Rattle.prop_bindings.specs.declared.place.Place.{Place}
 use Rattle.prop_bindings.specs.declared.binding.Binding.{Binding}
-use Rattle.prop_bindings.specs.Places.{values_in, same_place}
-use Rattle.prop_bindings.specs.Bindings.{binding_at, AreApart, without, replaced, Settled, Loop}
-use Rattle.prop_bindings.specs.Changes.{DifferInValues, AreChanged, in_order}
+use Rattle.prop_bindings.specs.Places.{Env, In, is_in, values_in}
+use Rattle.prop_bindings.specs.Bindings.{binding_at, AreApart, without, without_all, replaced, Settled, Loop}
+use Rattle.prop_bindings.specs.Changes.{Assignment, DifferInValues, AreChanged, in_order, lasting, places_in}
 use Rattle.prop_bindings.specs.Laws.{WrittenOnce, InstalledOnce}
-use Rattle.prop_bindings.proofs.Places.{decide_place, same_place-refl}
+use Rattle.prop_bindings.proofs.Places.{decide_in, is_in-true}
 use Rattle.prop_bindings.proofs.Acyclic.{acyclic_determine}
 use Rattle.prop_bindings.proofs.Apart.{apart-fewer, apart-replaced, acyclic-fewer}
 use Rattle.prop_bindings.proofs.Values.{same-objects}
@@ -19,18 +20,46 @@ pub objects-once : (bs : List Binding) (old new other : List Object) → AreApar
 objects-once bs old new other apart acyclic d e s t same =
     same-objects new other (e ∙ sym d) (λ q. sym ((acyclic_determine bs apart acyclic).once (values_in new) (values_in other) s t same q))
 
+-- ---- after several writes
+apart-all : (ps : List Place) (bs : List Binding) → AreApart bs → AreApart (without_all ps bs)
+apart-all [] bs a = a
+apart-all (p ∷ ps) bs a = apart-all ps (without p bs) (apart-fewer _ bs a)
+
+acyclic-all : (ps : List Place) (bs : List Binding) → AreApart bs → (¬ Loop (binding_at bs)) → ¬ Loop (binding_at (without_all ps bs))
+acyclic-all [] bs a acyclic = acyclic
+acyclic-all (p ∷ ps) bs a acyclic = acyclic-all ps (without p bs) (apart-fewer _ bs a) (acyclic-fewer _ bs a acyclic)
+
+abbrev Have : Env → List Assignment → Type 0
+Have e writes = AllByRecursion (λ (a : Assignment). e a.place ≡ Some a.value) (lasting writes)
+
+given-once : (e f : Env) (writes : List Assignment) → Have e writes → Have f writes → (q : Place) → In q (places_in writes) → f q ≡ e q
+given-once e f [] he hf q i = absurd i
+given-once e f (a ∷ rest) he hf q i = elim (cases_Bool (is_in (places_in rest) a.place)) [
+  | inl t ↦
+      let he2 : Have e rest = subst (λ (b : Bool). AllByRecursion (λ (z : Assignment). e z.place ≡ Some z.value) (cond b (lasting rest) (a ∷ lasting rest))) t he in
+      let hf2 : Have f rest = subst (λ (b : Bool). AllByRecursion (λ (z : Assignment). f z.place ≡ Some z.value) (cond b (lasting rest) (a ∷ lasting rest))) t hf in
+      given-once e f rest he2 hf2 q (elim i [ inl same ↦ subst (λ (r : Place). In r (places_in rest)) same (is_in-true (places_in rest) a.place t) | inr j ↦ j ])
+  | inr n ↦
+      let he2 = subst (λ (b : Bool). AllByRecursion (λ (z : Assignment). e z.place ≡ Some z.value) (cond b (lasting rest) (a ∷ lasting rest))) n he in
+      let hf2 = subst (λ (b : Bool). AllByRecursion (λ (z : Assignment). f z.place ≡ Some z.value) (cond b (lasting rest) (a ∷ lasting rest))) n hf in
+      elim i [
+        | inl same ↦ subst (λ (r : Place). f r ≡ e r) same (hf2.0 ∙ sym he2.0)
+        | inr j ↦ given-once e f rest he2.1 hf2.1 q j
+      ]
+]
+
 pub written_once : WrittenOnce
-written_once p bs old at v a cs ds new other changed others w u =
+written_once p bs old writes a cs ds new other changed others w u =
+    let ps : List Place = places_in writes in
     let now = subst (λ (xs : List Binding). Settled (binding_at xs) (values_in new)) w.bindings w.settled in
     let then = subst (λ (xs : List Binding). Settled (binding_at xs) (values_in other)) u.bindings u.settled in
-    let one : new ≡ other = objects-once (without at bs) old new other (apart-fewer _ bs a.apart) (acyclic-fewer _ bs a.apart a.acyclic) w.objects u.objects now then (λ q none. elim (decide_place at q) [
-      | inl e ↦ subst (λ (r : Place). values_in other r ≡ values_in new r) e (u.written ∙ sym w.written)
-      | inr f ↦
-          let away : ¬ (at ≡ q) = λ e. false≢true (sym f ∙ subst (λ (r : Place). same_place at r ≡ true) e (same_place-refl at)) in
-          u.kept q (ap (λ (xs : List Binding). binding_at xs q) u.bindings ∙ none) away
-          ∙ sym (w.kept q (ap (λ (xs : List Binding). binding_at xs q) w.bindings ∙ none) away)
+    let one : new ≡ other = objects-once (without_all ps bs) old new other (apart-all ps bs a.apart) (acyclic-all ps bs a.apart a.acyclic) w.objects u.objects now then (λ q none. elim (decide_in q ps) [
+      | inl i ↦ given-once (values_in new) (values_in other) writes w.written u.written q i
+      | inr out ↦
+          u.kept q (ap (λ (xs : List Binding). binding_at xs q) u.bindings ∙ none) out
+          ∙ sym (w.kept q (ap (λ (xs : List Binding). binding_at xs q) w.bindings ∙ none) out)
     ]) in
-    (w.bindings ∙ sym u.bindings, one, changed-once old new (in_order at bs) changed others w.changes (subst (λ (xs : List Object). AreChanged old xs (in_order at bs) others) (sym one) u.changes))
+    (w.bindings ∙ sym u.bindings, one, changed-once old new (in_order ps bs) changed others w.changes (subst (λ (xs : List Object). AreChanged old xs (in_order ps bs) others) (sym one) u.changes))
 
 pub installed_once : InstalledOnce
 installed_once p bs old b a cs ds new other changed others w u =
@@ -40,4 +69,4 @@ installed_once p bs old b a cs ds new other changed others w u =
     let one : new ≡ other = objects-once (replaced bs b) old new other (apart-replaced bs b a.apart) acyclic w.objects u.objects now then (λ q none.
     u.kept q (ap (λ (xs : List Binding). binding_at xs q) u.bindings ∙ none)
     ∙ sym (w.kept q (ap (λ (xs : List Binding). binding_at xs q) w.bindings ∙ none))) in
-    (w.bindings ∙ sym u.bindings, one, changed-once old new (in_order b.target bs) changed others w.changes (subst (λ (xs : List Object). AreChanged old xs (in_order b.target bs) others) (sym one) u.changes))
+    (w.bindings ∙ sym u.bindings, one, changed-once old new (in_order (b.target ∷ []) bs) changed others w.changes (subst (λ (xs : List Object). AreChanged old xs (in_order (b.target ∷ []) bs) others) (sym one) u.changes))

@@ -8,7 +8,7 @@ use Rattle.prop_bindings.specs.declared.binding.Binding.{Binding}
 use Rattle.prop_bindings.specs.Places.{same_place, In}
 use Rattle.prop_bindings.specs.Bindings.{value_of, Settled}
 use Rattle.prop_bindings.specs.Laws.{Determines}
-use Rattle.prop_bindings.specs.Orders.{Free, Ordered, Covers, IsOrder, given, evaluated, pass, IsAffected, IsLater}
+use Rattle.prop_bindings.specs.code.Orders.{Free, Ordered, Covers, IsOrder, given, evaluated, pass, IsAffected, IsLater}
 use Rattle.prop_bindings.proofs.Naming.{value-agree}
 use Rattle.prop_bindings.proofs.Places.{decide_place, decide_in, same_place-refl, update-same, update-other}
 

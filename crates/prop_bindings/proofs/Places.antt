@@ -5,7 +5,7 @@ use Rattle.std.proofs.lemmas.Bool.Decides.{nat_tests}
 use Rattle.signatures.specs.declared.value.Value.{Value}
 use Rattle.prop_bindings.specs.declared.place.Place.{Place}
 use Rattle.prop_bindings.specs.Places.{same_place, is_in, In}
-use Rattle.prop_bindings.specs.Orders.{update}
+use Rattle.prop_bindings.specs.code.Orders.{update}
 
 pub same_place-true : (p q : Place) → same_place p q ≡ true → p ≡ q
 same_place-true p q h = let a : p.object ≡ q.object = grind (arith, nat_tests) in let b : p.property ≡ q.property = grind (arith, nat_tests) in

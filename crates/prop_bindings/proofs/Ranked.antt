@@ -7,8 +7,8 @@ use Rattle.std.proofs.lemmas.Option.{same_Some}
 use Rattle.indexmap.specs.IndexMap.{IndexMap, get}
 use Rattle.prop_bindings.specs.declared.place.Place.{Place}
 use Rattle.prop_bindings.specs.Places.{In}
-use Rattle.prop_bindings.specs.Keys.{key_of, same_key}
-use Rattle.prop_bindings.specs.Graph.{rank_of}
+use Rattle.prop_bindings.specs.code.Keys.{key_of, same_key}
+use Rattle.prop_bindings.specs.code.Graph.{rank_of}
 use Rattle.prop_bindings.proofs.Places.{In-cases, same_place-true}
 
 slice-at : (xs : List Place) (i : ℕ) (x : Place) → i < length xs → x ≡ get_or xs i x → slice_get xs i ≡ Some x

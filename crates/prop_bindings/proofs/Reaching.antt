@@ -6,8 +6,8 @@ use Rattle.prop_bindings.specs.declared.binding.Binding.{Binding}
 use Rattle.prop_bindings.specs.declared.numbering.Numbered.{Numbered}
 use Rattle.prop_bindings.specs.Places.{In}
 use Rattle.prop_bindings.specs.Bindings.{Reads, direct, further}
-use Rattle.prop_bindings.specs.Numbering.{places_of, IsNumbering, PutIn, Gains, IsReach}
-use Rattle.prop_bindings.specs.Orders.{Ordered, IsAffected}
+use Rattle.prop_bindings.specs.code.Numbering.{places_of, IsNumbering, PutIn, Gains, IsReach}
+use Rattle.prop_bindings.specs.code.Orders.{Ordered, IsAffected}
 use Rattle.prop_bindings.proofs.Places.{In-cases}
 use Rattle.prop_bindings.proofs.Numbers.{IsOneToOne, added, put-front, by-at, numbered-distinct, ordered-numbered}
 

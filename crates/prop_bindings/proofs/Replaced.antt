@@ -6,7 +6,7 @@ use Rattle.prop_bindings.specs.declared.place.Place.{Place}
 use Rattle.prop_bindings.specs.declared.binding.Binding.{Binding}
 use Rattle.prop_bindings.specs.Places.{same_place}
 use Rattle.prop_bindings.specs.Bindings.{binding_at, without, Loop}
-use Rattle.prop_bindings.specs.Orders.{Ordered, Covers, IsOrder, bound}
+use Rattle.prop_bindings.specs.code.Orders.{IsOrder, bound}
 use Rattle.prop_bindings.proofs.Places.{decide_place, same_place-true, same_place-refl}
 use Rattle.prop_bindings.proofs.Passes.{none_or_some}
 use Rattle.prop_bindings.proofs.Walks.{bound-other, ordered-fewer}
@@ -68,12 +68,6 @@ pub order-without : (p : Place) (bs : List Binding) (order : List Place) → IsO
 order-without p bs order o = record {
   ordered = ordered-fewer (binding_at bs) (binding_at (without p bs)) (without-fewer p bs) order o.ordered;
   covers = λ q b g. o.covers q b (without-fewer p bs q b g);
-}
-
-pub order-installed : (bs : List Binding) (b : Binding) (order : List Place) → Ordered (bound (binding_at bs) b.target b) order × Covers (bound (binding_at bs) b.target b) order → IsOrder (binding_at (without b.target bs ++ b ∷ [])) order
-order-installed bs b order o = record {
-  ordered = subst (λ (F : Place → Option Binding). Ordered F order) (sym (installed-is bs b)) o.0;
-  covers = subst (λ (F : Place → Option Binding). Covers F order) (sym (installed-is bs b)) o.1;
 }
 
 pub loop-installed : (bs : List Binding) (b : Binding) → Loop (bound (binding_at bs) b.target b) → Loop (binding_at (without b.target bs ++ b ∷ []))

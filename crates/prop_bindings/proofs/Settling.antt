@@ -4,11 +4,11 @@ use Rattle.std.proofs.Math.Path.{fun_ext}
 use Rattle.signatures.specs.declared.value.Value.{Value}
 use Rattle.prop_bindings.specs.declared.place.Place.{Place}
 use Rattle.prop_bindings.specs.declared.binding.Binding.{Binding}
-use Rattle.prop_bindings.specs.Places.{In}
+use Rattle.prop_bindings.specs.Places.{In, Distinct}
 use Rattle.prop_bindings.specs.Bindings.{binding_at, without, replaced, reads_any, value_of, Settled, Loop}
-use Rattle.prop_bindings.specs.Orders.{AreBound, IsOrder, IsWalked, update, given, evaluated, pass, bound, Distinct, Halved, IsAffected, IsLater}
+use Rattle.prop_bindings.specs.code.Orders.{AreBound, IsOrder, IsWalked, update, given, evaluated, pass, bound, Halved, IsAffected, IsLater}
 use Rattle.prop_bindings.proofs.Places.{different, update-same, update-other}
-use Rattle.prop_bindings.proofs.Passes.{pass-other, pass-unbound, settled_by_affected, settled_by_later}
+use Rattle.prop_bindings.proofs.Passes.{pass-unbound, settled_by_affected, settled_by_later}
 use Rattle.prop_bindings.proofs.Loops.{no_loop, chain-ends}
 use Rattle.prop_bindings.proofs.Walks.{bound-same, bound-other, halved-loop, halved-ordered, halved-covers, later-by}
 use Rattle.prop_bindings.proofs.Replaced.{without-at, without-other, without-fewer, installed-is, loop-installed}
@@ -42,10 +42,6 @@ module _ (bs : List Binding) (p : Place) (reached : List Place) (v : Value) (e f
 
   pub written-kept : (q : Place) → binding_at (without p bs) q ≡ None → (¬ (p ≡ q)) → f q ≡ e q
   written-kept q none apart = passed q ∙ pass-unbound (binding_at (without p bs)) reached (update e p (Some v)) q none ∙ update-other e p (Some v) q apart
-
-  -- what isn't reached stays
-  pub written-rest : (q : Place) → (¬ (p ≡ q)) → (In q reached → ⊥) → f q ≡ e q
-  written-rest q apart out = passed q ∙ pass-other (binding_at (without p bs)) reached (update e p (Some v)) q out ∙ update-other e p (Some v) q apart
 
 -- ---- a bind
 -- what a walk reached is bound, and isn't where it began

@@ -19,15 +19,17 @@ use Rattle.meta_model.specs.Sound.{IsSound, IsSoundSite, IsPlain}
 use Rattle.object_tree.specs.declared.life.Life.{Life}
 use Rattle.object_tree.specs.declared.object.Object.{Object}
 use Rattle.object_tree.proofs.Changing.{life-of-lives}
-use Rattle.prop_bindings.specs.declared.place.Place.{Place}
 use Rattle.prop_bindings.specs.declared.binding.Binding.{Binding}
 use Rattle.prop_bindings.specs.declared.fault.BindFault.{BindFault}
 use Rattle.prop_bindings.specs.declared.fault.BindFault.TheVariants as bind
+use Rattle.prop_bindings.specs.declared.planned.PlannedBind.{PlannedBind}
 use Rattle.prop_bindings.specs.declared.preparing.Prepared.{Prepared}
 use Rattle.prop_bindings.specs.FaultNumbers.{fault_of}
 use Rattle.prop_bindings.specs.Places.{property_of, values_in}
 use Rattle.prop_bindings.specs.Bindings.{binding_at, replaced, value_of, Loop}
-use Rattle.prop_bindings.specs.Calls.{IsOf, MayBind, CoversBinding, binding_of, new_binding, IsNotBound, bad_source, bad_type, closes, no_memory, Binds, IsPrepared, Prepares, IsNotInstalled, loops, short, Installs}
+use Rattle.prop_bindings.specs.Calls.{IsOf, MayBind, CoversBinding, binding_of, new_binding, IsNotBound, bad_source, bad_type, closes, no_memory}
+use Rattle.prop_bindings.specs.Plans.{PlansBind, after}
+use Rattle.prop_bindings.specs.code.Parts.{IsPrepared, Prepares, IsNotInstalled, loops, short, Installs}
 use Rattle.prop_bindings.specs.Changes.{IsInstalled}
 use Rattle.prop_bindings.specs.Fits.{FitsAt, IsFit}
 use Rattle.prop_bindings.proofs.Calling.{fits-of}
@@ -122,19 +124,19 @@ module _ (p : Loaded) (objects : List Object) (number target : ℕ) (sources : L
   prepares-err fault (Ok found) is why = absurd is
   prepares-err fault (Err f) is why = λ bs. subst (λ (g : BindFault). IsNotBound p objects bs number target sources g) (sym is) (why bs)
 
-  pub binds-err : (bs : List Binding) (fault : BindFault) (r : Result (List Place) BindFault) → IsErrAnd r (λ f. f ≡ fault) → ((zs : List Binding) → IsNotBound p objects zs number target sources fault) → Binds p number target sources bs objects r bs objects
-  binds-err bs fault (Ok changed) is why = absurd is
-  binds-err bs fault (Err f) is why = (subst (λ (g : BindFault). IsNotBound p objects bs number target sources g) (sym is) (why bs), refl, refl)
-
   -- .. and the two parts of `bind` together
   not-installed : (bs : List Binding) (b : Binding) (v : Value) (fault : BindFault) → IsPrepared p objects number target sources b v → IsNotInstalled bs b fault → IsNotBound p objects bs number target sources fault
   not-installed bs b v fault made (loops chain) = closes made.may (subst (IsFit p objects) made.is made.fit) (subst (λ (z : Binding). Loop (binding_at (replaced bs z))) made.is chain)
   not-installed bs b v fault made short = no_memory
 
-  pub binds-both : (bs cs : List Binding) (new : List Object) (b : Binding) (v : Value) (r : Result (List Place) BindFault) → IsPrepared p objects number target sources b v → Installs b bs objects r cs new → Binds p number target sources bs objects r cs new
-  binds-both bs cs new b v (Ok changed) made done = record {
-    may = made.may;
-    fit = subst (IsFit p objects) made.is made.fit;
-    installs = subst (λ (z : Binding). IsInstalled bs cs objects new z changed) made.is done;
+  pub binds-both : (bs : List Binding) (b : Binding) (v : Value) (r : Result PlannedBind BindFault) → IsPrepared p objects number target sources b v → Installs b bs objects r → PlansBind p number target sources bs objects r
+  binds-both bs b v (Ok plan) made done = record {
+    bound = record {
+      may = made.may;
+      fit = subst (IsFit p objects) made.is made.fit;
+      installs = subst (λ (z : Binding). IsInstalled bs (replaced bs plan.reader) objects (after plan.planned objects) z plan.planned.changed) made.is done.installs;
+    };
+    binding = done.binding ∙ made.is;
+    at = done.target;
   }
-  binds-both bs cs new b v (Err fault) made why = (not-installed bs b v fault made why.0, why.1, why.2)
+  binds-both bs b v (Err fault) made why = not-installed bs b v fault made why

@@ -17,7 +17,7 @@ use Rattle.prop_bindings.specs.declared.place.Place.{Place}
 use Rattle.prop_bindings.specs.declared.binding.Binding.{Binding}
 use Rattle.prop_bindings.specs.Places.{same_place, values_in}
 use Rattle.prop_bindings.specs.Bindings.{binding_at}
-use Rattle.prop_bindings.specs.Fits.{FitsAt, IsFit}
+use Rattle.prop_bindings.specs.Fits.{FitsAt}
 use Rattle.prop_bindings.proofs.Places.{decide_place, same_place-refl}
 
 -- ---- a list of bindings
@@ -56,10 +56,3 @@ has-value p objects typed at v f =
     ∙ ap (option_map (λ (q : MetaProperty). q.kind)) (ap (λ (c : MetaObject). slice_get c.properties at.property) class ∙ f.is_property.is) in
     let found = read-at p objects f.life.values (map (λ (q : MetaProperty). q.kind) t.class.properties) at.property f.property.kind t.typed kind in
     (found.0, ap (λ (there : Option Life). option_and_then (λ (l : Life). slice_get l.values at.property) there) (life-of-lives f.lives) ∙ found.1)
-
--- .. so has each bound one
-pub bound-value : (p : Loaded) (objects : List Object) (bs : List Binding) → AreTyped p objects → All (IsFit p objects) bs → (q : Place) (b : Binding) → binding_at bs q ≡ Some b → (w : Value) × (values_in objects q ≡ Some w)
-bound-value p objects bs typed fit q b some =
-    let has = bound-has (IsFit p objects) bs fit q b some in
-    let found = has-value p objects typed b.target has.0.value has.0.typed in
-    (found.0, ap (values_in objects) (sym has.1) ∙ found.1)

@@ -14,7 +14,7 @@ use Rattle.object_tree.proofs.Changing.{get-change_same, get-change_other}
 use Rattle.prop_bindings.specs.declared.place.Place.{Place}
 use Rattle.prop_bindings.specs.Places.{property_of, same_place, values_in}
 use Rattle.prop_bindings.specs.Changes.{valueless, DifferInValues}
-use Rattle.prop_bindings.specs.Orders.{update}
+use Rattle.prop_bindings.specs.code.Orders.{update}
 use Rattle.prop_bindings.proofs.Places.{decide_place, same_place-refl}
 
 abbrev emptied : Life → Life
@@ -68,6 +68,16 @@ set-apart : (q k : ℕ) (v : Value) (there : Option Life) → k ≢ q → value_
 set-apart q k v None apart = refl
 set-apart q k v (Some l) apart = get-set_other l.values q k v apart
 
+set-all : (vs : List Value) (q : ℕ) (v : Value) → slice_get (slice_set vs q v) q ≡ option_map (λ (own : Value). v) (slice_get vs q)
+set-all [] zero v = refl
+set-all [] (suc q) v = refl
+set-all (x ∷ vs) zero v = refl
+set-all (x ∷ vs) (suc q) v = set-all vs q v
+
+set-there : (q : ℕ) (v : Value) (there : Option Life) → value_at q (option_map (written q v) there) ≡ option_map (λ (own : Value). v) (value_at q there)
+set-there q v None = refl
+set-there q v (Some l) = set-all l.values q v
+
 pub value-written : (xs : List Object) (at : Place) (v w : Value) → values_in xs at ≡ Some w → values_in (change_life at.object (written at.property v) xs) at ≡ Some v
 value-written xs at v w is = ap (value_at at.property) (life-changed at.object (written at.property v) xs) ∙ set-in at.property v w (life_of xs at.object) is
 
@@ -90,6 +100,19 @@ values-updated xs at v w is q = elim (decide_place at q) [
   | inl e ↦ subst (λ (p : Place). values_in (change_life at.object (written at.property v) xs) p ≡ update (values_in xs) at (Some v) p) e
       (value-written xs at v w is ∙ sym (ap (λ (b : Bool). cond b (Some v) (values_in xs at)) (same_place-refl at)))
   | inr f ↦ value-kept xs at q v f ∙ sym (ap (λ (b : Bool). cond b (Some v) (values_in xs q)) f)
+]
+
+-- .. whatever is there
+map-same : (o : Option Value) → option_map (λ (own : Value). own) o ≡ o
+map-same None = refl
+map-same (Some w) = refl
+
+pub value-changed : (xs : List Object) (at : Place) (v : Value) (q : Place) → values_in (change_life at.object (written at.property v) xs) q ≡ option_map (λ (own : Value). cond (same_place at q) v own) (values_in xs q)
+value-changed xs at v q = elim (decide_place at q) [
+  | inl e ↦ subst (λ (r : Place). values_in (change_life at.object (written at.property v) xs) r ≡ option_map (λ (own : Value). cond (same_place at r) v own) (values_in xs r)) e
+      (ap (value_at at.property) (life-changed at.object (written at.property v) xs) ∙ set-there at.property v (life_of xs at.object)
+      ∙ sym (ap (λ (b : Bool). option_map (λ (own : Value). cond b v own) (values_in xs at)) (same_place-refl at)))
+  | inr f ↦ value-kept xs at q v f ∙ sym (ap (λ (b : Bool). option_map (λ (own : Value). cond b v own) (values_in xs q)) f ∙ map-same (values_in xs q))
 ]
 
 -- ---- objects by their values and all else

@@ -3,8 +3,8 @@ use Rattle.std.proofs.Common.{◌≡◌, ℕ, ◌+◌, ◌<◌, length, drop, ge
 use Rattle.std.proofs.lemmas.List.{drop_more}
 use Rattle.prop_bindings.specs.declared.place.Place.{Place}
 use Rattle.prop_bindings.specs.declared.binding.Binding.{Binding}
-use Rattle.prop_bindings.specs.Places.{is_in, In}
-use Rattle.prop_bindings.specs.Orders.{Ordered, Halved, AgreesBut, Distinct, reached_by}
+use Rattle.prop_bindings.specs.Places.{is_in, In, Distinct}
+use Rattle.prop_bindings.specs.code.Orders.{Ordered, Halved, AgreesBut, reached_by}
 use Rattle.prop_bindings.proofs.Places.{is_in-true, is_in-false, different}
 use Rattle.prop_bindings.proofs.Walks.{halved-none, halved-skip, halved-again, halved-reached, halved-sooner, halved-unbound, distinct-push}
 

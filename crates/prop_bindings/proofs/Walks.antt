@@ -3,9 +3,9 @@ use Rattle.std.proofs.Common.{◌≡◌, Bool, true, false, cond, List, [], ◌�
 use Rattle.std.proofs.lemmas.Bool.{false≢true}
 use Rattle.prop_bindings.specs.declared.place.Place.{Place}
 use Rattle.prop_bindings.specs.declared.binding.Binding.{Binding}
-use Rattle.prop_bindings.specs.Places.{same_place, In}
+use Rattle.prop_bindings.specs.Places.{same_place, In, Distinct}
 use Rattle.prop_bindings.specs.Bindings.{Reads, reads_any, Chain, direct, further, Loop}
-use Rattle.prop_bindings.specs.Orders.{Free, Ordered, Covers, bound, reached_by, Halved, Distinct, IsLater}
+use Rattle.prop_bindings.specs.code.Orders.{Free, Ordered, Covers, bound, reached_by, Halved, IsLater}
 use Rattle.prop_bindings.proofs.Naming.{reads_any-true, reads_any-false}
 use Rattle.prop_bindings.proofs.Places.{decide_place, same_place-refl, In-left, In-right, In-cases}
 

@@ -59,6 +59,11 @@ AreApart (b ∷ bs) = (binding_at bs b.target ≡ None) × AreApart bs
 abbrev pub without : Place → List Binding → List Binding
 without p bs = filter (λ b. not (same_place b.target p)) bs
 
+-- .. after a write of several
+abbrev pub without_all : List Place → List Binding → List Binding
+without_all [] bs = bs
+without_all (p ∷ ps) bs = without_all ps (without p bs)
+
 -- a binding replaces the old one of its target, and stands last
 abbrev pub replaced : List Binding → Binding → List Binding
 replaced bs b = without b.target bs ++ b ∷ []

@@ -1,12 +1,10 @@
--- What `bind` and `write` answer, with what is installed and the objects before and after (docs/machine.md, "Bindings").
--- Where one is refused nothing changes.
-use Rattle.std.specs.Prelude.{◌≡◌, ℕ, List, All, Result, Ok, Err, Some, slice_get}
-use Rattle.std.specs.List.{AllZip}
-use Rattle.signatures.specs.declared.value.Value.{Value}
+-- When a write and a bind may be, and why one isn't (docs/machine.md, "Bindings").
+use Rattle.std.specs.Prelude.{◌≡◌, ℕ, List, Result, Ok, Err, Some, slice_get}
+use Rattle.std.specs.List.{AllZip, AllByRecursion}
 use Rattle.meta_model.specs.Loaded.{Loaded}
 use Rattle.meta_model.specs.Members.{Below}
 use Rattle.object_tree.specs.declared.object.Object.{Object}
-use Rattle.object_tree.specs.Objects.{class_of, home_of}
+use Rattle.object_tree.specs.Objects.{class_of}
 use Rattle.meta_model.specs.declared.site.MetaSite.{MetaSite}
 use Rattle.prop_bindings.specs.declared.place.Place.{Place}
 use Rattle.prop_bindings.specs.declared.binding.Binding.{Binding}
@@ -14,22 +12,26 @@ use Rattle.prop_bindings.specs.declared.fault.BindFault.{BindFault}
 use Rattle.prop_bindings.specs.declared.fault.BindFault.TheVariants as bind
 use Rattle.prop_bindings.specs.declared.fault.WriteFault.{WriteFault}
 use Rattle.prop_bindings.specs.declared.fault.WriteFault.TheVariants as write
-use Rattle.prop_bindings.specs.declared.preparing.Prepared.{Prepared}
-use Rattle.prop_bindings.specs.Places.{property_of, values_in}
-use Rattle.prop_bindings.specs.Bindings.{value_of, binding_at, replaced, Loop}
-use Rattle.prop_bindings.specs.Changes.{IsWritten, IsInstalled}
-use Rattle.prop_bindings.specs.Fits.{FitsAt, IsFit}
+use Rattle.prop_bindings.specs.Places.{property_of}
+use Rattle.prop_bindings.specs.Bindings.{binding_at, replaced, Loop}
+use Rattle.prop_bindings.specs.Changes.{Assignment, IsWritten, IsInstalled}
+use Rattle.prop_bindings.specs.Fits.{FitsAt, IsFit, InOneLoop}
 
 -- ---- write
--- why a value isn't written
-pub data IsNotWritten (p : Loaded) (objects : List Object) (at : Place) (v : Value) : WriteFault → Type 0 where
-  bad_type : (¬ FitsAt p objects at v) → IsNotWritten p objects at v write.BadType
-  no_memory : IsNotWritten p objects at v write.Memory
+-- each value is of its property's type
+abbrev pub AllFit : Loaded → List Object → List Assignment → Type 0
+AllFit p objects writes = AllByRecursion (λ (a : Assignment). FitsAt p objects a.place a.value) writes
 
-abbrev pub Writes : Loaded → Place → Value → List Binding → List Object → Result (List Place) WriteFault
-    → List Binding → List Object → Type 0
-Writes p at v bs old (Ok changed) cs new = FitsAt p old at v × IsWritten bs cs old new at v changed
-Writes p at v bs old (Err fault) cs new = IsNotWritten p old at v fault × (cs ≡ bs) × (new ≡ old)
+-- why values aren't written
+pub data IsNotWritten (p : Loaded) (objects : List Object) (writes : List Assignment) : WriteFault → Type 0 where
+  bad_type : (¬ AllFit p objects writes) → IsNotWritten p objects writes write.BadType
+  no_memory : IsNotWritten p objects writes write.Memory
+
+-- what a write answers, with the bindings and the objects before it and after it
+abbrev pub Writes : Loaded → List Assignment → List Binding → List Object → Result (List Place) WriteFault → List Binding
+    → List Object → Type 0
+Writes p writes bs old (Ok changed) cs new = AllFit p old writes × IsWritten bs cs old new writes changed
+Writes p writes bs old (Err fault) cs new = IsNotWritten p old writes fault
 
 -- ---- bind
 -- the living object is of the class or of one below it
@@ -50,10 +52,6 @@ pub record IsSited (p : Loaded) (objects : List Object) (number target : ℕ) (s
   pub site : MetaSite
   pub is : slice_get p.sites number ≡ Some site
   pub covers : CoversBinding p objects site target sources
-
--- the sources live in the target's event loop
-abbrev pub InOneLoop : List Object → ℕ → List ℕ → Type 0
-InOneLoop objects target sources = All (λ (o : ℕ). home_of objects o ≡ home_of objects target) sources
 
 -- the binding of a site
 abbrev pub binding_of : MetaSite → ℕ → ℕ → List ℕ → Binding
@@ -91,35 +89,8 @@ pub record IsBound (p : Loaded) (bs : List Binding) (old : List Object)
   pub fit : IsFit p old (new_binding may)
   pub installs : IsInstalled bs cs old new (new_binding may) changed
 
-abbrev pub Binds : Loaded → ℕ → ℕ → List ℕ → List Binding → List Object
-    → Result (List Place) BindFault → List Binding → List Object → Type 0
-Binds p number target sources bs old (Ok changed) cs new =
-    IsBound p bs old number target sources cs new changed
-Binds p number target sources bs old (Err fault) cs new =
-    IsNotBound p old bs number target sources fault × (cs ≡ bs) × (new ≡ old)
-
--- ---- the two parts of `bind`
--- a binding that may be installed if it closes no chain, with its expression's value
-pub record IsPrepared (p : Loaded) (objects : List Object) (number target : ℕ)
-    (sources : List ℕ) (b : Binding) (v : Value) : Type 0 where
-  pub may : MayBind p objects number target sources
-  pub is : b ≡ new_binding may
-  pub fit : IsFit p objects b
-  pub has : value_of b (values_in objects) ≡ Some v
-
--- whatever is installed already
-abbrev pub Prepares : Loaded → ℕ → ℕ → List ℕ → List Object → Result Prepared BindFault → Type 0
-Prepares p number target sources objects (Ok found) =
-    IsPrepared p objects number target sources found.binding found.value
-Prepares p number target sources objects (Err fault) =
-    (bs : List Binding) → IsNotBound p objects bs number target sources fault
-
--- why one that may be isn't
-pub data IsNotInstalled (bs : List Binding) (b : Binding) : BindFault → Type 0 where
-  loops : Loop (binding_at (replaced bs b)) → IsNotInstalled bs b bind.BindingLoop
-  short : IsNotInstalled bs b bind.Memory
-
-abbrev pub Installs : Binding → List Binding → List Object → Result (List Place) BindFault → List Binding → List Object
-    → Type 0
-Installs b bs old (Ok changed) cs new = IsInstalled bs cs old new b changed
-Installs b bs old (Err fault) cs new = IsNotInstalled bs b fault × (cs ≡ bs) × (new ≡ old)
+-- what a bind answers, with the bindings and the objects before it and after it
+abbrev pub Binds : Loaded → ℕ → ℕ → List ℕ → List Binding → List Object → Result (List Place) BindFault → List Binding
+    → List Object → Type 0
+Binds p number target sources bs old (Ok changed) cs new = IsBound p bs old number target sources cs new changed
+Binds p number target sources bs old (Err fault) cs new = IsNotBound p old bs number target sources fault

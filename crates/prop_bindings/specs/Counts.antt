@@ -1,15 +1,14 @@
 -- How many evaluations a write and a bind take (Qt 6, "Qt Bindable Properties": what doesn't depend on a change isn't
 -- evaluated; docs/machine.md, "Bindings").
-use Rattle.std.specs.Prelude.{◌≡◌, ◌≢◌, ◌⊎◌, ℕ, suc, List, [], length, Option, Some, Result, Ok, Err, slice_get}
+use Rattle.std.specs.Prelude.{◌≡◌, ◌≢◌, ◌⊎◌, ℕ, suc, List, [], length, Option, Some, slice_get}
 use Rattle.signatures.specs.declared.value.Value.{Value}
 use Rattle.meta_model.specs.Loaded.{Loaded}
 use Rattle.meta_model.specs.declared.site.MetaSite.{MetaSite}
 use Rattle.object_tree.specs.declared.object.Object.{Object}
 use Rattle.prop_bindings.specs.declared.place.Place.{Place}
 use Rattle.prop_bindings.specs.declared.binding.Binding.{Binding}
-use Rattle.prop_bindings.specs.Places.{In, property_of, values_in}
+use Rattle.prop_bindings.specs.Places.{In, Distinct, property_of, values_in}
 use Rattle.prop_bindings.specs.Bindings.{binding_at, Chain}
-use Rattle.prop_bindings.specs.Orders.{Distinct}
 
 -- the installed bindings, and how many evaluations the last write or bind took
 pub record Kept : Type 0 where
@@ -36,23 +35,13 @@ CountsWritten F at v objects changed n =
     (values_in objects at ≡ Some v → (changed ≡ []) × (n ≡ 0))
     × (values_in objects at ≢ Some v → CountsReached F at changed n)
 
--- Where it is refused the count stands as it was.
-abbrev pub CountsWrite : {E : Type 0} → Place → Value → List Object → Kept → Result (List Place) E → Kept → Type 0
-CountsWrite at v objects old (Ok changed) new = CountsWritten (binding_at new.installed) at v objects changed new.evaluated
-CountsWrite at v objects old (Err fault) new = new.evaluated ≡ old.evaluated
-
 -- A bind evaluates the new binding too.
 pub record CountsFrom (F : Place → Option Binding) (target : Place) (changed : List Place) (n : ℕ) : Type 0 where
   pub others : ℕ
   pub one_more : n ≡ suc others
   pub counts : CountsReached F target changed others
 
--- .. of a binding's target
-abbrev pub CountsInstall : {E : Type 0} → Place → Kept → Result (List Place) E → Kept → Type 0
-CountsInstall target old (Ok changed) new = CountsFrom (binding_at new.installed) target changed new.evaluated
-CountsInstall target old (Err fault) new = new.evaluated ≡ old.evaluated
-
-abbrev pub CountsBind : {E : Type 0} → Loaded → ℕ → ℕ → Kept → Result (List Place) E → Kept → Type 0
-CountsBind p number target old (Ok changed) new = (site : MetaSite) → slice_get p.sites number ≡ Some site
-    → CountsFrom (binding_at new.installed) (property_of target site.property) changed new.evaluated
-CountsBind p number target old (Err fault) new = new.evaluated ≡ old.evaluated
+-- .. to the target of a site's binding
+abbrev pub CountsBound : Loaded → ℕ → ℕ → List Binding → List Place → ℕ → Type 0
+CountsBound p number target bs changed n = (site : MetaSite) → slice_get p.sites number ≡ Some site
+    → CountsFrom (binding_at bs) (property_of target site.property) changed n

@@ -8,7 +8,7 @@ use Rattle.object_tree.specs.Family.{without_life}
 use Rattle.prop_bindings.specs.declared.place.Place.{Place}
 use Rattle.prop_bindings.specs.declared.binding.Binding.{Binding}
 use Rattle.prop_bindings.specs.Bindings.{binding_at, AreApart, dropped, Settled, Loop}
-use Rattle.prop_bindings.specs.Changes.{IsWritten, IsInstalled}
+use Rattle.prop_bindings.specs.Changes.{Assignment, IsWritten, IsInstalled}
 use Rattle.prop_bindings.specs.Fits.{Agree}
 
 -- the values agree with e on what isn't bound
@@ -26,9 +26,9 @@ AcyclicDetermine = (bs : List Binding) → AreApart bs → (¬ Loop (binding_at 
 
 -- what a write makes of bindings and objects that agree is one thing
 abbrev pub WrittenOnce : Type 0
-WrittenOnce = (p : Loaded) (bs : List Binding) (old : List Object) (at : Place) (v : Value) → Agree p old bs
+WrittenOnce = (p : Loaded) (bs : List Binding) (old : List Object) (writes : List Assignment) → Agree p old bs
     → (cs ds : List Binding) (new other : List Object) (changed others : List Place)
-    → IsWritten bs cs old new at v changed → IsWritten bs ds old other at v others
+    → IsWritten bs cs old new writes changed → IsWritten bs ds old other writes others
     → (cs ≡ ds) × (new ≡ other) × (changed ≡ others)
 
 -- .. and what a bind makes of them

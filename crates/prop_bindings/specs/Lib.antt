@@ -1,13 +1,10 @@
 pub mod Places
-pub mod Keys
 pub mod Bindings
 pub mod Changes
 pub mod Fits
 pub mod Calls
+pub mod Plans
 pub mod Counts
-pub mod Orders
-pub mod Numbering
-pub mod Groups
-pub mod Graph
 pub mod Laws
 pub mod FaultNumbers
+pub mod code

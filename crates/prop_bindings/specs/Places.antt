@@ -21,6 +21,11 @@ abbrev pub In : Place → List Place → Type 0
 In p [] = ⊥
 In p (q ∷ qs) = (q ≡ p) ⊎ In p qs
 
+-- each once
+abbrev pub Distinct : List Place → Type 0
+Distinct [] = Unit {0}
+Distinct (p ∷ ps) = (In p ps → ⊥) × Distinct ps
+
 -- the values of all properties; none where no such object lives, or it has no such property
 abbrev pub Env : Type 0
 Env = Place → Option Value

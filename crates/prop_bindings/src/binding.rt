@@ -1,17 +1,12 @@
 //! Bindings, and what their expressions read.
 
 ghost use Rattle.std.specs.Prelude.{◌≡◌, ◌∷◌, [], ◌++◌, filter_map, IfOk, OnOk};
-ghost use Rattle.expressions.specs.Evaluation.{Evaluates};
 ghost use Rattle.object_tree.specs.Children.{is_among};
-ghost use Rattle.prop_bindings.specs.Places.{values_in};
-ghost use Rattle.prop_bindings.specs.Bindings.{named_in, place_of, read_by, value_of, touches};
+ghost use Rattle.prop_bindings.specs.Bindings.{named_in, place_of, read_by, touches};
 
 use crate::place::Place;
-use crate::sources::Sources;
-use expressions::{EvalFault, eval};
 use meta_objects::{Formula, SourceProperty};
-use object_tree::Tree;
-use signatures::{ObjectId, Value};
+use signatures::ObjectId;
 use sqlite_items::Items;
 use std::alloc::{AllocError, Global};
 use texts::Expr;
@@ -30,17 +25,6 @@ pub struct Binding {
 }
 
 impl Binding {
-    /// The value of the expression over the present values; `BadType` where it has none.
-    pub fn value(&self, alloc: Global, objects: &Tree) -> Result<Value, EvalFault>
-        ensures { Evaluates (value_of self.now (values_in objects.now)) result }
-    {
-        let sources = Sources {
-            objects,
-            sources: self.sources.as_slice(),
-        };
-        eval(alloc, self.formula.expression(), &sources)
-    }
-
     /// The properties that the expression names, in its order. Its error is that memory was refused.
     pub fn reads(&self, alloc: Global) -> Result<Vec<Place>, AllocError>
         ensures { IfOk result (λ reads. reads.items ≡ read_by self.now) }

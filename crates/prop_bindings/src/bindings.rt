@@ -2,23 +2,27 @@
 
 ghost use Rattle.std.specs.Prelude.{◌≡◌, slice_get, IfOk, OnOk, OnErr};
 ghost use Rattle.std.specs.Option.{option_copied};
-ghost use Rattle.prop_bindings.specs.Bindings.{binding_at, dropped, without};
-ghost use Rattle.prop_bindings.specs.Calls.{Writes, Binds, Installs};
-ghost use Rattle.prop_bindings.specs.Changes.{IsWritten};
-ghost use Rattle.prop_bindings.specs.Counts.{CountsBind, CountsInstall, CountsWrite, CountsWritten, Kept, nothing_kept};
-ghost use Rattle.prop_bindings.specs.Fits.{Agree, AgreesAt, AgreesWith, StayAgreeing, StayAgreeingAt};
-ghost use Rattle.prop_bindings.specs.Graph.{IsGraph, bindings_of};
+ghost use Rattle.prop_bindings.specs.Bindings.{binding_at, dropped, replaced, without};
+ghost use Rattle.prop_bindings.specs.Calls.{Binds, Writes};
+ghost use Rattle.prop_bindings.specs.Changes.{IsWritten, one};
+ghost use Rattle.prop_bindings.specs.Counts.{CountsBound, CountsFrom, CountsWritten, Kept, nothing_kept};
+ghost use Rattle.prop_bindings.specs.Fits.{Agree};
 ghost use Rattle.prop_bindings.specs.Laws.{Determines};
+ghost use Rattle.prop_bindings.specs.Plans.{PlansBind, PlansWrite, after};
+ghost use Rattle.prop_bindings.specs.code.Graph.{IsGraph, bindings_of};
+ghost use Rattle.prop_bindings.specs.code.Parts.{AgreesAt, AgreesWith, Installs, MayInstall, StayAgreeing, StayAgreeingAt};
 
 use crate::binding::Binding;
-use crate::changes::settle;
+use crate::changes::plan;
 use crate::fault::{BindFault, WriteFault};
 use crate::followers::followers;
 use crate::graph::Graph;
 use crate::installed::Reader;
 use crate::order::{Walked, ranks_of, walk};
 use crate::place::Place;
+use crate::planned::{Planned, PlannedBind, assign};
 use crate::preparing::{Prepared, fits, has_value, prepare};
+use indexmap::IndexMap;
 use meta_objects::Meta;
 use object_tree::Tree;
 use signatures::{ObjectId, Value};
@@ -42,7 +46,7 @@ impl Model for Bindings {
     ghost use Rattle.std.specs.Coded.{codes};
     ghost use Rattle.prop_bindings.specs.contracts.binding.Binding as held;
     ghost use Rattle.prop_bindings.specs.Counts.{Kept};
-    ghost use Rattle.prop_bindings.specs.Graph.{IsGraph, bindings_of};
+    ghost use Rattle.prop_bindings.specs.code.Graph.{IsGraph, bindings_of};
 
     ghost Value = { Kept };
 
@@ -91,10 +95,163 @@ impl Bindings {
         let _graph = &self.graph;
     }
 
-    /// Writes a property of a living object, which ends its binding; the values that follow from it change with it. It
-    /// answers the properties that no longer read as they did: this one, if it changed, then the others in the order in
-    /// which their bindings were installed. `BadType` where no such object lives, it has no such property, or the value
-    /// isn't of its type; `Memory` comes only where a growth was refused. Then nothing changes.
+    /// Plans a write of a property of a living object, which ends its binding; the values that follow from it change with
+    /// it. `BadType` where no such object lives, it has no such property, or the value isn't of its type; `Memory` comes
+    /// only where a growth was refused.
+    pub fn plan_write(
+        &self,
+        meta: &Meta,
+        tree: &Tree,
+        place: &Place,
+        value: Value,
+    ) -> Result<Planned, WriteFault>
+        requires agree { Agree meta.now tree.now self.now.installed }
+        ensures value { PlansWrite meta.now (one place.now value) self.now.installed tree.now result }
+        ensures target { IfOk result (λ plan. plan.target ≡ place.now) }
+        ensures agree { IfOk result (λ plan. Agree meta.now (after plan tree.now)
+            (without place.now self.now.installed)) }
+        ensures counted { IfOk result (λ plan. CountsWritten
+            (binding_at (without place.now self.now.installed)) place.now value tree.now
+            plan.changed plan.evaluated) }
+    {
+        if !fits(meta, tree, place, &value) {
+            return Err(WriteFault::BadType);
+        }
+        let planned = plan_over(self.alloc, &self.graph, tree, place, value)?;
+        Ok(planned)
+    }
+
+    /// Carries out a planned write, for the bindings and objects for which it was planned. It takes no memory, and answers
+    /// the properties that no longer read as they did, in the order in which they are notified.
+    pub fn carry_out(&mut self, tree: &mut Tree, planned: Planned) -> Items<Place>
+        ensures value { result ≡ planned.changed }
+        ensures left { self.new.installed ≡ without planned.target self.old.installed }
+        ensures objects { tree.new ≡ after planned tree.old }
+        ensures counted { self.new.evaluated ≡ planned.evaluated }
+    {
+        let Planned {
+            target,
+            values,
+            changed,
+            evaluated,
+        } = planned;
+        self.graph.remove(&target);
+        assign(tree, values);
+        self.evaluated = evaluated;
+        changed
+    }
+
+    /// Plans to install the binding of a site for living objects, in place of the target's old one; the target and the
+    /// values that follow from it change with it. Refused, where the first of these holds, with `BadSource` (there is no
+    /// such site, or it doesn't cover the objects, or not so many), `OtherLoop` (a source lives in another event loop),
+    /// `BadType` (the expression has no value of the target's type), `BindingLoop` (a chain of bindings would lead from a
+    /// property back to itself); `Memory` comes only where a growth was refused.
+    pub fn plan_bind(
+        &self,
+        meta: &Meta,
+        tree: &Tree,
+        site: usize,
+        target: ObjectId,
+        sources: &[ObjectId],
+    ) -> Result<PlannedBind, BindFault>
+        requires agree { Agree meta.now tree.now self.now.installed }
+        ensures value { PlansBind meta.now site target sources.now self.now.installed tree.now
+            result }
+        ensures may { IfOk result (MayInstall self.now.installed) }
+        ensures agree { IfOk result (λ plan. Agree meta.now (after plan.planned tree.now)
+            (replaced self.now.installed plan.reader)) }
+        ensures counted { IfOk result (λ plan. CountsFrom
+            (binding_at (replaced self.now.installed plan.reader)) plan.reader.target
+            plan.planned.changed plan.planned.evaluated) }
+    {
+        let mut count = 0;
+        let prepared = prepare(self.alloc, meta, tree, site, target, sources, &mut count)?;
+        self.plan_install(tree, prepared, count)
+    }
+
+    /// Plans to install a binding whose expression has this value, after so many evaluations. `BindingLoop` where it would
+    /// close a chain, `Memory` only where a growth was refused.
+    fn plan_install(
+        &self,
+        tree: &Tree,
+        prepared: Prepared,
+        before: usize,
+    ) -> Result<PlannedBind, BindFault>
+        requires agree { AgreesWith tree.now self.now.installed prepared.binding prepared.value }
+        requires once { before ≡ 1 }
+        ensures value { Installs prepared.binding self.now.installed tree.now result }
+        ensures may { IfOk result (MayInstall self.now.installed) }
+        ensures agree { IfOk result (λ plan. StayAgreeing tree.now (after plan.planned tree.now)
+            self.now.installed (replaced self.now.installed plan.reader) prepared.binding) }
+        ensures counted { IfOk result (λ plan. CountsFrom
+            (binding_at (replaced self.now.installed plan.reader)) plan.reader.target
+            plan.planned.changed plan.planned.evaluated) }
+    {
+        let Prepared { binding, value } = prepared;
+        let target = binding.target;
+        let reader = Reader::new(self.alloc, binding)?;
+        let walked = walk(self.alloc, &self.graph, &target)?;
+        let Walked { mut sooner, later } = walked;
+        if reader.reads_any(&later) {
+            return Err(BindFault::BindingLoop);
+        }
+        sooner.extend_from_slice(&later)?;
+        let ranks = ranks_of(self.alloc, &sooner)?;
+        let planned = plan(
+            self.alloc,
+            &self.graph.installed,
+            &later[1..],
+            tree,
+            &target,
+            value,
+            before,
+        )?;
+        Ok(PlannedBind {
+            reader,
+            order: sooner,
+            ranks,
+            planned,
+        })
+    }
+
+    /// Carries out a planned bind, for the bindings and objects for which it was planned. It answers the properties that no
+    /// longer read as they did, in the order in which they are notified. Its error is that memory was refused; then nothing
+    /// changes.
+    pub fn carry_out_bind(
+        &mut self,
+        tree: &mut Tree,
+        planned: PlannedBind,
+    ) -> Result<Items<Place>, AllocError>
+        requires may { MayInstall self.old.installed planned }
+        ensures value { IfOk result (λ changed. changed ≡ planned.planned.changed) }
+        ensures installed { OnOk result
+            (self.new.installed ≡ replaced self.old.installed planned.reader) }
+        ensures objects { OnOk result (tree.new ≡ after planned.planned tree.old) }
+        ensures counted { OnOk result (self.new.evaluated ≡ planned.planned.evaluated) }
+        ensures err { OnErr result ((self.new ≡ self.old) × (tree.new ≡ tree.old)) }
+    {
+        let PlannedBind {
+            reader,
+            order,
+            ranks,
+            planned,
+        } = planned;
+        self.graph.make_room(self.alloc, &reader)?;
+        self.graph.install(reader, order, ranks);
+        let Planned {
+            target: _,
+            values,
+            changed,
+            evaluated,
+        } = planned;
+        assign(tree, values);
+        self.evaluated = evaluated;
+        Ok(changed)
+    }
+
+    /// Writes a property: plans it, and carries the plan out at once. It answers the properties that no longer read as they
+    /// did: this one, if it changed, then the others in the order in which their bindings were installed. Refused as
+    /// `plan_write` is; then nothing changes.
     pub fn write(
         &mut self,
         meta: &Meta,
@@ -103,28 +260,20 @@ impl Bindings {
         value: Value,
     ) -> Result<Items<Place>, WriteFault>
         requires agree { Agree meta.now tree.old self.old.installed }
-        ensures value { Writes meta.now place.now value self.old.installed tree.old result
+        ensures value { Writes meta.now (one place.now value) self.old.installed tree.old result
             self.new.installed tree.new }
         ensures agree { Agree meta.now tree.new self.new.installed }
-        ensures counted { CountsWrite place.now value tree.old self.old result self.new }
+        ensures counted { IfOk result (λ changed. CountsWritten (binding_at self.new.installed)
+            place.now value tree.old changed self.new.evaluated) }
+        ensures err { OnErr result ((self.new ≡ self.old) × (tree.new ≡ tree.old)) }
     {
-        if !fits(meta, tree, place, &value) {
-            return Err(WriteFault::BadType);
-        }
-        let mut count = 0;
-        let changed = write_over(self.alloc, &self.graph, tree, place, value, &mut count)?;
-        self.graph.remove(place);
-        self.evaluated = count;
-        Ok(changed)
+        let planned = self.plan_write(meta, tree, place, value)?;
+        Ok(self.carry_out(tree, planned))
     }
 
-    /// Installs the binding of a site for living objects, in place of the target's old one; the target and the values
-    /// that follow from it change with it. It answers the properties that no longer read as they did: the target, if it
-    /// changed, then the others in the order in which their bindings were installed. Refused, where the first of these
-    /// holds, with `BadSource` (there is no such site, or it doesn't cover the objects, or not so many), `OtherLoop` (a
-    /// source lives in another event loop), `BadType` (the expression has no value of the target's type), `BindingLoop`
-    /// (a chain of bindings would lead from a property back to itself); `Memory` comes only where a growth was refused.
-    /// Then nothing changes.
+    /// Installs the binding of a site: plans it, and carries the plan out at once. It answers the properties that no longer
+    /// read as they did: the target, if it changed, then the others in the order in which their bindings were installed.
+    /// Refused as `plan_bind` is; then nothing changes.
     pub fn bind(
         &mut self,
         meta: &Meta,
@@ -137,52 +286,12 @@ impl Bindings {
         ensures value { Binds meta.now site target sources.now self.old.installed tree.old result
             self.new.installed tree.new }
         ensures agree { Agree meta.now tree.new self.new.installed }
-        ensures counted { CountsBind meta.now site target self.old result self.new }
+        ensures counted { IfOk result (λ changed. CountsBound meta.now site target
+            self.new.installed changed self.new.evaluated) }
+        ensures err { OnErr result ((self.new ≡ self.old) × (tree.new ≡ tree.old)) }
     {
-        let mut count = 0;
-        let prepared = prepare(self.alloc, meta, tree, site, target, sources, &mut count)?;
-        self.install(tree, prepared, count)
-    }
-
-    /// Installs a binding whose expression has this value, after so many evaluations. `BindingLoop` where it would close
-    /// a chain, `Memory` only where a growth was refused; then nothing changes.
-    fn install(
-        &mut self,
-        tree: &mut Tree,
-        prepared: Prepared,
-        before: usize,
-    ) -> Result<Items<Place>, BindFault>
-        requires agree { AgreesWith tree.old self.old.installed prepared.binding prepared.value }
-        requires once { before ≡ 1 }
-        ensures value { Installs prepared.binding self.old.installed tree.old result
-            self.new.installed tree.new }
-        ensures agree { StayAgreeing tree.old tree.new self.old.installed self.new.installed
-            prepared.binding }
-        ensures counted { CountsInstall prepared.binding.target self.old result self.new }
-    {
-        let Prepared { binding, value } = prepared;
-        let target = binding.target;
-        let reader = Reader::new(self.alloc, binding)?;
-        let walked = walk(self.alloc, &self.graph, &target)?;
-        let Walked { mut sooner, later } = walked;
-        if reader.reads_any(&later) {
-            return Err(BindFault::BindingLoop);
-        }
-        sooner.extend_from_slice(&later)?;
-        let ranks = ranks_of(self.alloc, &sooner)?;
-        self.graph.make_room(self.alloc, &reader)?;
-        let mut count = before;
-        let changed = settle(
-            self.alloc,
-            &self.graph.installed,
-            &later[1..],
-            tree,
-            &target,
-            value,
-            &mut count,
-        )?;
-        self.graph.install(reader, sooner, ranks);
-        self.evaluated = count;
+        let planned = self.plan_bind(meta, tree, site, target, sources)?;
+        let changed = self.carry_out_bind(tree, planned)?;
         Ok(changed)
     }
 
@@ -195,39 +304,36 @@ impl Bindings {
     }
 }
 
-/// Gives a property a value that is of its type, and what follows from it without its own binding. Its error is that memory
-/// was refused; then nothing changes.
-fn write_over(
+/// Plans to give a property a value that is of its type, and what follows from it without its own binding. Its error is that
+/// memory was refused.
+fn plan_over(
     alloc: Global,
     graph: &Graph,
-    tree: &mut Tree,
+    tree: &Tree,
     place: &Place,
     value: Value,
-    count: &mut usize,
-) -> Result<Items<Place>, AllocError>
+) -> Result<Planned, AllocError>
     requires graph { IsGraph graph.now }
-    requires agree { AgreesAt tree.old (bindings_of graph.now) place.now value }
-    requires none { count.old ≡ 0 }
-    ensures value { IfOk result (λ changed. IsWritten (bindings_of graph.now)
-        (without place.now (bindings_of graph.now)) tree.old tree.new place.now value changed) }
-    ensures agree { OnOk result (StayAgreeingAt tree.old tree.new (bindings_of graph.now) place.now value) }
-    ensures counted { IfOk result (λ changed.
+    requires agree { AgreesAt tree.now (bindings_of graph.now) place.now value }
+    ensures target { IfOk result (λ plan. plan.target ≡ place.now) }
+    ensures value { IfOk result (λ plan. IsWritten (bindings_of graph.now)
+        (without place.now (bindings_of graph.now)) tree.now (after plan tree.now)
+        (one place.now value) plan.changed) }
+    ensures agree { IfOk result (λ plan. StayAgreeingAt tree.now (after plan tree.now)
+        (bindings_of graph.now) place.now value) }
+    ensures counted { IfOk result (λ plan.
         CountsWritten (binding_at (without place.now (bindings_of graph.now))) place.now value
-        tree.old changed count.new) }
-    ensures err { OnErr result (tree.new ≡ tree.old) }
+        tree.now plan.changed plan.evaluated) }
 {
     if has_value(tree, place, &value) {
-        return Ok(Items::from_vec(Vec::new(alloc)));
+        return Ok(Planned {
+            target: *place,
+            values: IndexMap::new(alloc),
+            changed: Items::from_vec(Vec::new(alloc)),
+            evaluated: 0,
+        });
     }
     let followers = followers(alloc, graph, place)?;
-    let changed = settle(
-        alloc,
-        &graph.installed,
-        &followers,
-        tree,
-        place,
-        value,
-        count,
-    )?;
-    Ok(changed)
+    let planned = plan(alloc, &graph.installed, &followers, tree, place, value, 0)?;
+    Ok(planned)
 }

@@ -1,64 +1,71 @@
-//! A property is given a value, and what follows from it changes.
+//! A property is to have a value, and what follows from it is to change.
 
-ghost use Rattle.std.specs.Prelude.{◌≡◌, ◌↔◌, ◌+◌, ◌<◌, ◌^◌, List, map, length, IfOk, OnOk, OnErr, IsTrue, Some};
+ghost use Rattle.std.specs.Prelude.{◌≡◌, ◌↔◌, ◌+◌, ◌<◌, ◌^◌, ◌∷◌, [], length, IfOk, IsTrue, Some};
 ghost use Rattle.std.specs.Option.{option_map};
-ghost use Rattle.object_tree.specs.declared.object.Object.{Object};
 ghost use Rattle.object_tree.specs.Seen.{seen};
 ghost use Rattle.prop_bindings.specs.declared.place.Place.{Place};
 ghost use Rattle.prop_bindings.specs.Places.{In, values_in};
 ghost use Rattle.prop_bindings.specs.Bindings.{AreApart, binding_at};
-ghost use Rattle.prop_bindings.specs.Changes.{in_order, DifferInValues, DifferAt, AreChanged};
-ghost use Rattle.prop_bindings.specs.Fits.{IsSoundWith, StaySoundWith};
-ghost use Rattle.prop_bindings.specs.Graph.{AreKeyed, bindings_in, position_of};
-ghost use Rattle.prop_bindings.specs.Numbering.{AreInOrder, IsNumbering, places_of};
-ghost use Rattle.prop_bindings.specs.Orders.{AreBound, pass, update};
+ghost use Rattle.prop_bindings.specs.Changes.{in_order, DifferInValues, AreChanged};
+ghost use Rattle.prop_bindings.specs.Plans.{after};
+ghost use Rattle.prop_bindings.specs.code.Graph.{AreKeyed, bindings_in, position_of};
+ghost use Rattle.prop_bindings.specs.code.Numbering.{AreInOrder, IsNumbering, places_of};
+ghost use Rattle.prop_bindings.specs.code.Orders.{AreBound, pass, update};
+ghost use Rattle.prop_bindings.specs.code.Parts.{IsSoundWith, StaySoundWith, ahead, value_ahead};
 
+use crate::ahead::value_ahead;
+use crate::evaluation::evaluate_all;
 use crate::installed::Installed;
 use crate::numbering::{Numbered, put_in};
-use crate::order::evaluate_all;
 use crate::place::Place;
+use crate::planned::Planned;
+use indexmap::IndexMap;
 use object_tree::Tree;
 use signatures::Value;
 use sqlite_items::Items;
 use std::alloc::{AllocError, Global};
 
-/// Gives a property a value, and then each of its followers, in their order, its expression's value, each of which is one
-/// evaluation more. It answers the changed properties: this one, if it changed, then the followers in the order in which
-/// their bindings were installed. Its error is that memory was refused; then nothing changes.
-pub fn settle(
+/// A property is to have a value, and then each of its followers, in their order, its expression's value, each of which is
+/// one evaluation more. The changed properties are this one, if it changes, then the followers in the order in which their
+/// bindings were installed. Its error is that memory was refused.
+pub fn plan(
     alloc: Global,
     installed: &Installed,
     followers: &[Place],
-    tree: &mut Tree,
+    tree: &Tree,
     place: &Place,
     value: Value,
-    count: &mut usize,
-) -> Result<Items<Place>, AllocError>
+    before: usize,
+) -> Result<Planned, AllocError>
     requires keyed { AreKeyed installed.now }
     requires apart { AreApart (bindings_in installed.now) }
-    requires sound { IsSoundWith tree.old (bindings_in installed.now) place.now value }
+    requires sound { IsSoundWith tree.now (bindings_in installed.now) place.now value }
     requires bound { AreBound (binding_at (bindings_in installed.now)) followers.now }
     requires others { In place.now followers.now → ⊥ }
-    requires few { count.old + length followers.now < 2 ^ 64 }
-    ensures values { OnOk result ((q : Place) → values_in tree.new q
+    requires few { before + length followers.now < 2 ^ 64 }
+    ensures target { IfOk result (λ plan. plan.target ≡ place.now) }
+    ensures values { IfOk result (λ plan. (q : Place) → values_in (after plan tree.now) q
         ≡ pass (binding_at (bindings_in installed.now)) followers.now
-        (update (values_in tree.old) place.now (Some value)) q) }
-    ensures changed { IfOk result (λ changed.
-        AreChanged tree.old tree.new (in_order place.now (bindings_in installed.now)) changed) }
-    ensures objects { DifferInValues tree.old tree.new }
-    ensures sound { StaySoundWith tree.old tree.new (bindings_in installed.now) place.now value }
-    ensures counted { OnOk result (count.new ≡ count.old + length followers.now) }
-    ensures err { OnErr result (tree.new ≡ tree.old) }
+        (update (values_in tree.now) place.now (Some value)) q) }
+    ensures changed { IfOk result (λ plan. AreChanged tree.now (after plan tree.now)
+        (in_order (place.now ∷ []) (bindings_in installed.now)) plan.changed) }
+    ensures objects { IfOk result (λ plan. DifferInValues tree.now (after plan tree.now)) }
+    ensures sound { IfOk result (λ plan. StaySoundWith tree.now (after plan tree.now)
+        (bindings_in installed.now) place.now value) }
+    ensures counted { IfOk result (λ plan. plan.evaluated ≡ before + length followers.now) }
 {
-    let mut places = sorted(alloc, installed, followers, place)?;
-    let before = values_at(alloc, &places, tree)?;
-    tree.set_value(place.object, place.property, value);
-    if let Err(fault) = evaluate_all(alloc, installed, followers, tree, count) {
-        restore(&places, before, tree);
-        return Err(fault);
-    }
-    keep_changed(&mut places, &before, tree);
-    Ok(Items::from_vec(places))
+    let mut count = before;
+    let mut values = IndexMap::with_capacity(alloc, followers.len())?;
+    values.insert(place.key(), value)?;
+    evaluate_all(alloc, installed, followers, tree, &mut values, &mut count)?;
+    let places = sorted(alloc, installed, followers, place)?;
+    let changed = changed_among(alloc, &places, tree, &values)?;
+    Ok(Planned {
+        target: *place,
+        values,
+        changed,
+        evaluated: count,
+    })
 }
 
 /// A property, and then these others in the order in which their bindings were installed.
@@ -106,60 +113,36 @@ fn by_position(
     Ok(found)
 }
 
-/// The values of these properties.
-fn values_at(alloc: Global, places: &[Place], tree: &Tree) -> Result<Vec<Option<Value>>, AllocError>
-    ensures { IfOk result (λ found. found.items ≡ map (values_in tree.now) places.now) }
+/// Those of the properties that no longer read as they did once these have their values.
+fn changed_among(
+    alloc: Global,
+    places: &[Place],
+    tree: &Tree,
+    values: &IndexMap<(usize, usize), Value>,
+) -> Result<Items<Place>, AllocError>
+    ensures { IfOk result (λ changed.
+        AreChanged tree.now (ahead values.now tree.now) places.now changed) }
 {
-    let mut found = Vec::new(alloc);
+    let mut changed = Vec::new(alloc);
     for place in places {
-        let value = match tree.value(place.object, place.property) {
-            Some(value) => Some(value.copy()?),
-            None => None,
-        };
-        found.push(value)?;
-    }
-    Ok(found)
-}
-
-/// Gives these properties the values back that they had.
-fn restore(places: &[Place], before: Vec<Option<Value>>, tree: &mut Tree)
-    requires { length before.items ≡ length places.now }
-    ensures { (old : List Object) → DifferAt old tree.old places.now before.items → tree.new ≡ old }
-{
-    let mut values = before;
-    while let Some(value) = values.pop() {
-        let place = &places[values.len()];
-        if let Some(value) = value {
-            tree.set_value(place.object, place.property, value);
-        }
-    }
-}
-
-/// Keeps the properties that no longer read as they did.
-fn keep_changed(places: &mut Vec<Place>, before: &[Option<Value>], tree: &Tree)
-    requires { length before.now ≡ length places.old.items }
-    ensures { (old : List Object) → DifferInValues old tree.now
-        → before.now ≡ map (values_in old) places.old.items
-        → AreChanged old tree.now places.old.items places.new.items }
-{
-    let mut kept = 0;
-    for i in 0..places.len() {
-        if reads_as(tree, &places[i], &before[i]) {
+        if stays(place, tree, values) {
             continue;
         }
-        places.swap(kept, i);
-        kept += 1;
+        changed.push(*place)?;
     }
-    places.truncate(kept);
+    Ok(Items::from_vec(changed))
 }
 
-/// Whether the property reads as this value, or none, would.
-fn reads_as(tree: &Tree, place: &Place, before: &Option<Value>) -> bool
-    ensures { IsTrue result ↔ (option_map (seen tree.now) (values_in tree.now place.now)
-        ≡ option_map (seen tree.now) before.now) }
+/// Whether the property still reads as it did once these have their values.
+fn stays(place: &Place, tree: &Tree, values: &IndexMap<(usize, usize), Value>) -> bool
+    ensures { IsTrue result ↔ (option_map (seen tree.now) (value_ahead values.now tree.now place.now)
+        ≡ option_map (seen tree.now) (values_in tree.now place.now)) }
 {
-    match (tree.value(place.object, place.property), before) {
-        (Some(now), Some(value)) => tree.is_same(now, value),
+    match (
+        value_ahead(tree, values, place),
+        tree.value(place.object, place.property),
+    ) {
+        (Some(new), Some(old)) => tree.is_same(new, old),
         (None, None) => true,
         _ => false,
     }

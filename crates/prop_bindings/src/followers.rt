@@ -3,9 +3,9 @@
 ghost use Rattle.std.specs.Prelude.{◌≡◌, IfOk, OnOk};
 ghost use Rattle.prop_bindings.specs.Places.{same_place};
 ghost use Rattle.prop_bindings.specs.Bindings.{binding_at, without};
-ghost use Rattle.prop_bindings.specs.Graph.{IsGraph, bindings_of, rank_of, readers_at};
-ghost use Rattle.prop_bindings.specs.Numbering.{Gains, IsNumbering, IsReach, places_of};
-ghost use Rattle.prop_bindings.specs.Orders.{IsAffected};
+ghost use Rattle.prop_bindings.specs.code.Graph.{IsGraph, bindings_of, rank_of, readers_at};
+ghost use Rattle.prop_bindings.specs.code.Numbering.{Gains, IsNumbering, IsReach, places_of};
+ghost use Rattle.prop_bindings.specs.code.Orders.{IsAffected};
 
 use crate::graph::Graph;
 use crate::numbering::{Numbered, put_in};

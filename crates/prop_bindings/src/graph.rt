@@ -2,8 +2,8 @@
 
 ghost use Rattle.std.specs.Prelude.{◌≡◌, [], OnOk};
 ghost use Rattle.prop_bindings.specs.Bindings.{binding_at, dropped, replaced, without};
-ghost use Rattle.prop_bindings.specs.Graph.{AreKeyed, AreNamed, AreRanks, AreTouched, HasRoom, IsGraph, KeepTouched, LosesReader, RankOfReader, bindings_of, rank_of};
-ghost use Rattle.prop_bindings.specs.Orders.{IsOrder};
+ghost use Rattle.prop_bindings.specs.code.Graph.{AreKeyed, AreNamed, AreRanks, AreTouched, HasRoom, IsGraph, KeepTouched, LosesReader, RankOfReader, bindings_of, rank_of};
+ghost use Rattle.prop_bindings.specs.code.Orders.{IsOrder};
 
 use crate::binding::Binding;
 use crate::installed::{Installed, Reader};

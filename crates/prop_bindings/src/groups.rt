@@ -3,7 +3,7 @@
 ghost use Rattle.std.specs.Prelude.{◌≡◌, ◌∷◌, [], ◌++◌, ◌<◌, filter, not, false, if◌then◌else◌, OnOk, IsSomeAnd};
 ghost use Rattle.std.specs.Vec.{vec_len, vec_capacity};
 ghost use Rattle.prop_bindings.specs.Places.{same_place};
-ghost use Rattle.prop_bindings.specs.Groups.{list_of, HasRoomAt, Keeps, Pushes, Forgets, SameGroups, forgotten};
+ghost use Rattle.prop_bindings.specs.code.Groups.{list_of, HasRoomAt, Keeps, Pushes, Forgets, SameGroups, forgotten};
 
 use crate::place::Place;
 use indexmap::IndexMap;

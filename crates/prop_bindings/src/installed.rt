@@ -5,7 +5,7 @@ ghost use Rattle.std.specs.List.{list_any};
 ghost use Rattle.std.specs.Option.{is_some, option_copied};
 ghost use Rattle.prop_bindings.specs.Places.{is_in};
 ghost use Rattle.prop_bindings.specs.Bindings.{AreApart, binding_at, read_by, reads_any, without};
-ghost use Rattle.prop_bindings.specs.Graph.{AreKeyed, HasRoom, bindings_in, position_of};
+ghost use Rattle.prop_bindings.specs.code.Graph.{AreKeyed, HasRoom, bindings_in, position_of};
 
 use crate::binding::Binding;
 use crate::place::{Place, contains};

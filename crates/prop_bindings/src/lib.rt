@@ -1,9 +1,11 @@
 //! Bindings of properties, and the values that follow from them.
 #![tactic(auto)]
 
+mod ahead;
 mod binding;
 mod bindings;
 mod changes;
+mod evaluation;
 mod fault;
 mod followers;
 mod graph;
@@ -13,9 +15,9 @@ mod laws;
 mod numbering;
 mod order;
 mod place;
+mod planned;
 mod preparing;
 mod readers;
-mod sources;
 mod uncounted;
 
 pub use binding::Binding;
@@ -23,4 +25,5 @@ pub use bindings::Bindings;
 pub use fault::{BindFault, WriteFault};
 pub use laws::{acyclic_determine, installed_once, left_agree, written_once};
 pub use place::Place;
+pub use planned::{Planned, PlannedBind};
 pub use uncounted::UncountedBindings;

@@ -1,7 +1,7 @@
 //! Numbered properties, in the order of their numbers.
 
 ghost use Rattle.std.specs.Prelude.{◌≡◌, OnOk};
-ghost use Rattle.prop_bindings.specs.Numbering.{PutIn, Rises, SplitsAt, is_at};
+ghost use Rattle.prop_bindings.specs.code.Numbering.{PutIn, Rises, SplitsAt, is_at};
 
 use crate::place::Place;
 use std::alloc::AllocError;

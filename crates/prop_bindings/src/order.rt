@@ -1,23 +1,13 @@
-//! Orders of evaluation, and evaluation in an order.
+//! Orders of evaluation.
 
-ghost use Rattle.std.specs.Prelude.{◌≡◌, ◌+◌, ◌<◌, ◌^◌, length, None, IfOk, OnOk};
-ghost use Rattle.prop_bindings.specs.declared.place.Place.{Place};
-ghost use Rattle.prop_bindings.specs.Places.{In, values_in};
-ghost use Rattle.prop_bindings.specs.Bindings.{binding_at, value_of};
-ghost use Rattle.prop_bindings.specs.Changes.{DifferInValues};
-ghost use Rattle.prop_bindings.specs.Fits.{IsSoundBySome, StaySound};
-ghost use Rattle.prop_bindings.specs.Graph.{AreKeyed, AreRanks, IsGraph, bindings_in, bindings_of};
-ghost use Rattle.prop_bindings.specs.Orders.{AreBound, IsBoundBy, IsWalked, evaluated, pass};
-ghost use Rattle.expressions.specs.Evaluation.{Evaluates};
+ghost use Rattle.std.specs.Prelude.{IfOk};
+ghost use Rattle.prop_bindings.specs.Bindings.{binding_at};
+ghost use Rattle.prop_bindings.specs.code.Graph.{AreRanks, IsGraph, bindings_of};
+ghost use Rattle.prop_bindings.specs.code.Orders.{IsWalked};
 
-use crate::binding::Binding;
 use crate::graph::Graph;
-use crate::installed::Installed;
 use crate::place::{Place, contains};
-use expressions::EvalFault;
 use indexmap::IndexMap;
-use object_tree::Tree;
-use signatures::Value;
 use std::alloc::{AllocError, Global};
 
 /// What a walk over an order of evaluation finds.
@@ -67,77 +57,4 @@ pub fn ranks_of(
         ranks.insert(order[i].key(), i)?;
     }
     Ok(ranks)
-}
-
-/// Gives each of these bound properties its expression's value, in this order. Its error is that memory was refused: then
-/// those that come first have theirs.
-pub fn evaluate_all(
-    alloc: Global,
-    installed: &Installed,
-    order: &[Place],
-    tree: &mut Tree,
-    count: &mut usize,
-) -> Result<(), AllocError>
-    requires keyed { AreKeyed installed.now }
-    requires sound { IsSoundBySome tree.old (bindings_in installed.now) }
-    requires bound { AreBound (binding_at (bindings_in installed.now)) order.now }
-    requires few { count.old + length order.now < 2 ^ 64 }
-    ensures values { OnOk result ((q : Place) → values_in tree.new q
-        ≡ pass (binding_at (bindings_in installed.now)) order.now (values_in tree.old) q) }
-    ensures objects { DifferInValues tree.old tree.new }
-    ensures kept { (q : Place) → (In q order.now → ⊥) → values_in tree.new q ≡ values_in tree.old q }
-    ensures sound { StaySound tree.old tree.new (bindings_in installed.now) }
-    ensures counted { OnOk result (count.new ≡ count.old + length order.now) }
-{
-    for place in order {
-        evaluate(alloc, installed, place, tree, count)?;
-    }
-    Ok(())
-}
-
-/// Gives a bound property its expression's value. Its error is that memory was refused: then nothing changes.
-fn evaluate(
-    alloc: Global,
-    installed: &Installed,
-    place: &Place,
-    tree: &mut Tree,
-    count: &mut usize,
-) -> Result<(), AllocError>
-    requires keyed { AreKeyed installed.now }
-    requires sound { IsSoundBySome tree.old (bindings_in installed.now) }
-    requires bound { IsBoundBy (binding_at (bindings_in installed.now)) place.now }
-    requires few { count.old + 1 < 2 ^ 64 }
-    ensures values { OnOk result ((q : Place) → values_in tree.new q
-        ≡ evaluated (binding_at (bindings_in installed.now)) place.now (values_in tree.old) q) }
-    ensures objects { DifferInValues tree.old tree.new }
-    ensures kept { (q : Place) → (place.now ≡ q → ⊥) → values_in tree.new q ≡ values_in tree.old q }
-    ensures sound { StaySound tree.old tree.new (bindings_in installed.now) }
-    ensures counted { count.new ≡ count.old + 1 }
-{
-    let Some(reader) = installed.reader(place) else {
-        unreachable!()
-    };
-    match value_of(alloc, reader.binding(), tree, count) {
-        Ok(value) => {
-            tree.set_value(place.object, place.property, value);
-            Ok(())
-        }
-        Err(EvalFault::BadType) => unreachable!(),
-        Err(EvalFault::Memory) => Err(AllocError),
-    }
-}
-
-/// The value of a binding's expression over the present values, which is one evaluation more; `BadType` where it has none.
-pub fn value_of(
-    alloc: Global,
-    binding: &Binding,
-    objects: &Tree,
-    count: &mut usize,
-) -> Result<Value, EvalFault>
-    requires { count.old + 1 < 2 ^ 64 }
-    ensures value { Evaluates (value_of binding.now (values_in objects.now)) result }
-    ensures counted { count.new ≡ count.old + 1 }
-{
-    *count += 1;
-    binding.value(alloc, objects)
 }

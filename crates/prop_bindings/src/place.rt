@@ -2,7 +2,7 @@
 
 ghost use Rattle.std.specs.Prelude.{◌≡◌};
 ghost use Rattle.prop_bindings.specs.Places.{same_place, is_in};
-ghost use Rattle.prop_bindings.specs.Keys.{key_of};
+ghost use Rattle.prop_bindings.specs.code.Keys.{key_of};
 
 use signatures::ObjectId;
 

@@ -1,15 +1,20 @@
 //! Whether a binding may be installed.
 
-ghost use Rattle.std.specs.Prelude.{◌≡◌, ◌↔◌, IsTrue, OnOk, Some};
+ghost use Rattle.std.specs.Prelude.{◌≡◌, ◌↔◌, ◌+◌, ◌<◌, ◌^◌, IsTrue, OnOk, Some};
 ghost use Rattle.std.specs.List.{AllZip};
-ghost use Rattle.prop_bindings.specs.Fits.{FitsAt};
+ghost use Rattle.expressions.specs.Evaluation.{Evaluates};
+ghost use Rattle.prop_bindings.specs.Fits.{FitsAt, InOneLoop};
 ghost use Rattle.prop_bindings.specs.Places.{values_in};
-ghost use Rattle.prop_bindings.specs.Calls.{Prepares, IsOf, CoversBinding, InOneLoop};
+ghost use Rattle.prop_bindings.specs.Bindings.{value_of};
+ghost use Rattle.prop_bindings.specs.Calls.{IsOf, CoversBinding};
+ghost use Rattle.prop_bindings.specs.code.Parts.{Prepares};
 
 use crate::binding::Binding;
+use crate::evaluation::value_of;
 use crate::fault::BindFault;
-use crate::order::value_of;
 use crate::place::Place;
+use expressions::EvalFault;
+use indexmap::IndexMap;
 use meta_objects::{Meta, MetaSite};
 use object_tree::Tree;
 use signatures::{ObjectId, Value};
@@ -56,11 +61,26 @@ pub fn prepare(
         sources: Items::from_slice(alloc, sources)?,
         formula: site.formula.copy()?,
     };
-    let value = value_of(alloc, &binding, tree, count)?;
+    let value = present_value(alloc, &binding, tree, count)?;
     if !fits(meta, tree, &binding.target, &value) {
         return Err(BindFault::BadType);
     }
     Ok(Prepared { binding, value })
+}
+
+/// The value of a binding's expression over the present values; `BadType` where it has none. It is one evaluation more.
+fn present_value(
+    alloc: Global,
+    binding: &Binding,
+    tree: &Tree,
+    count: &mut usize,
+) -> Result<Value, EvalFault>
+    requires { count.old + 1 < 2 ^ 64 }
+    ensures value { Evaluates (value_of binding.now (values_in tree.now)) result }
+    ensures counted { count.new ≡ count.old + 1 }
+{
+    let none = IndexMap::new(alloc);
+    value_of(alloc, binding, tree, &none, count)
 }
 
 /// Whether the value is of the type of a living object's property.

@@ -3,7 +3,7 @@
 ghost use Rattle.std.specs.Prelude.{◌≡◌, OnOk};
 ghost use Rattle.prop_bindings.specs.declared.place.Place.{Place};
 ghost use Rattle.prop_bindings.specs.Places.{In};
-ghost use Rattle.prop_bindings.specs.Graph.{AreNamed, KeepReaders, LosesOnly, LosesReader, readers_at};
+ghost use Rattle.prop_bindings.specs.code.Graph.{AreNamed, KeepReaders, LosesOnly, LosesReader, readers_at};
 
 use crate::groups::{Places, drop_empty, forget_place, make_room, places_of, push_place};
 use crate::installed::Reader;

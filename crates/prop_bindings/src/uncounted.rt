@@ -1,18 +1,21 @@
 //! The installed bindings, without the count of evaluations.
 
-ghost use Rattle.std.specs.Prelude.{◌≡◌, []};
-ghost use Rattle.prop_bindings.specs.Bindings.{dropped};
-ghost use Rattle.prop_bindings.specs.Calls.{Writes, Binds};
+ghost use Rattle.std.specs.Prelude.{◌≡◌, [], IfOk, OnOk, OnErr};
+ghost use Rattle.prop_bindings.specs.Bindings.{dropped, replaced, without};
+ghost use Rattle.prop_bindings.specs.Changes.{one};
 ghost use Rattle.prop_bindings.specs.Fits.{Agree};
+ghost use Rattle.prop_bindings.specs.Plans.{PlansBind, PlansWrite, after};
+ghost use Rattle.prop_bindings.specs.code.Parts.{MayInstall};
 
 use crate::bindings::Bindings;
 use crate::fault::{BindFault, WriteFault};
 use crate::place::Place;
+use crate::planned::{Planned, PlannedBind};
 use meta_objects::Meta;
 use object_tree::Tree;
 use signatures::{ObjectId, Value};
 use sqlite_items::Items;
-use std::alloc::Global;
+use std::alloc::{AllocError, Global};
 use std::marker::Model;
 
 /// `Bindings` of which contracts see the installed ones alone: how many evaluations a call took is no part of the state of
@@ -52,35 +55,64 @@ impl UncountedBindings {
         &self.bindings
     }
 
-    /// Writes a property, as `Bindings::write` does.
-    pub fn write(
-        &mut self,
+    /// Plans a write of a property, as `Bindings::plan_write` does.
+    pub fn plan_write(
+        &self,
         meta: &Meta,
-        tree: &mut Tree,
+        tree: &Tree,
         place: &Place,
         value: Value,
-    ) -> Result<Items<Place>, WriteFault>
-        requires agree { Agree meta.now tree.old self.old }
-        ensures value { Writes meta.now place.now value self.old tree.old result self.new tree.new }
-        ensures agree { Agree meta.now tree.new self.new }
+    ) -> Result<Planned, WriteFault>
+        requires agree { Agree meta.now tree.now self.now }
+        ensures value { PlansWrite meta.now (one place.now value) self.now tree.now result }
+        ensures target { IfOk result (λ plan. plan.target ≡ place.now) }
+        ensures agree { IfOk result (λ plan. Agree meta.now (after plan tree.now)
+            (without place.now self.now)) }
     {
-        self.bindings.write(meta, tree, place, value)
+        self.bindings.plan_write(meta, tree, place, value)
     }
 
-    /// Installs the binding of a site, as `Bindings::bind` does.
-    pub fn bind(
-        &mut self,
+    /// Carries out a planned write, as `Bindings::carry_out` does. It takes no memory.
+    pub fn carry_out(&mut self, tree: &mut Tree, planned: Planned) -> Items<Place>
+        ensures value { result ≡ planned.changed }
+        ensures left { self.new ≡ without planned.target self.old }
+        ensures objects { tree.new ≡ after planned tree.old }
+    {
+        self.bindings.carry_out(tree, planned)
+    }
+
+    /// Plans to install the binding of a site, as `Bindings::plan_bind` does.
+    pub fn plan_bind(
+        &self,
         meta: &Meta,
-        tree: &mut Tree,
+        tree: &Tree,
         site: usize,
         target: ObjectId,
         sources: &[ObjectId],
-    ) -> Result<Items<Place>, BindFault>
-        requires agree { Agree meta.now tree.old self.old }
-        ensures value { Binds meta.now site target sources.now self.old tree.old result self.new tree.new }
-        ensures agree { Agree meta.now tree.new self.new }
+    ) -> Result<PlannedBind, BindFault>
+        requires agree { Agree meta.now tree.now self.now }
+        ensures value { PlansBind meta.now site target sources.now self.now tree.now result }
+        ensures may { IfOk result (MayInstall self.now) }
+        ensures agree { IfOk result (λ plan. Agree meta.now (after plan.planned tree.now)
+            (replaced self.now plan.reader)) }
     {
-        self.bindings.bind(meta, tree, site, target, sources)
+        self.bindings.plan_bind(meta, tree, site, target, sources)
+    }
+
+    /// Carries out a planned bind, as `Bindings::carry_out_bind` does. Its error is that memory was refused; then nothing
+    /// changes.
+    pub fn carry_out_bind(
+        &mut self,
+        tree: &mut Tree,
+        planned: PlannedBind,
+    ) -> Result<Items<Place>, AllocError>
+        requires may { MayInstall self.old planned }
+        ensures value { IfOk result (λ changed. changed ≡ planned.planned.changed) }
+        ensures installed { OnOk result (self.new ≡ replaced self.old planned.reader) }
+        ensures objects { OnOk result (tree.new ≡ after planned.planned tree.old) }
+        ensures err { OnErr result ((self.new ≡ self.old) × (tree.new ≡ tree.old)) }
+    {
+        self.bindings.carry_out_bind(tree, planned)
     }
 
     /// Removes the bindings of an object, as `Bindings::drop_object` does. It takes no memory.

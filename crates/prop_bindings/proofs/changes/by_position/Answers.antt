@@ -6,8 +6,8 @@ use Rattle.prop_bindings.proofs.Ranked.{taken-places}
 use Rattle.prop_bindings.specs.declared.place.Place.{Place}
 use Rattle.prop_bindings.specs.declared.numbering.Numbered.{Numbered}
 use Rattle.prop_bindings.specs.Places.{In}
-use Rattle.prop_bindings.specs.Graph.{bindings_in, position_of}
-use Rattle.prop_bindings.specs.Numbering.{IsNumbering, places_of}
+use Rattle.prop_bindings.specs.code.Graph.{bindings_in, position_of}
+use Rattle.prop_bindings.specs.code.Numbering.{IsNumbering, places_of}
 use Rattle.prop_bindings.proofs.Graphs.{positions-apart}
 use Rattle.prop_bindings.proofs.Numbers.{added}
 use Rattle.prop_bindings.proofs.Places.{In-cases, In-left, In-right}

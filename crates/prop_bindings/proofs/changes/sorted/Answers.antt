@@ -1,6 +1,6 @@
 use Rattle.std.proofs.Common.{◌∙◌, ◌∷◌, List, ap}
 use Rattle.prop_bindings.specs.declared.numbering.Numbered.{Numbered}
-use Rattle.prop_bindings.specs.Numbering.{places_of}
+use Rattle.prop_bindings.specs.code.Numbering.{places_of}
 use Rattle.prop_bindings.proofs.Numbers.{walked-all}
 use Rattle.prop_bindings.proofs.changes.sorted.Goals as goal
 

@@ -1,9 +1,9 @@
 use Rattle.std.proofs.Common.{◌≡◌, ◌∙◌, List, ap, sym, subst}
 use Rattle.prop_bindings.specs.declared.place.Place.{Place}
 use Rattle.prop_bindings.specs.Bindings.{binding_at, without}
-use Rattle.prop_bindings.specs.Graph.{bindings_of, rank_of}
-use Rattle.prop_bindings.specs.Numbering.{places_of}
-use Rattle.prop_bindings.specs.Orders.{IsAffected}
+use Rattle.prop_bindings.specs.code.Graph.{bindings_of, rank_of}
+use Rattle.prop_bindings.specs.code.Numbering.{places_of}
+use Rattle.prop_bindings.specs.code.Orders.{IsAffected}
 use Rattle.prop_bindings.specs.declared.numbering.Numbered.{Numbered}
 use Rattle.prop_bindings.proofs.Numbers.{walked-all}
 use Rattle.prop_bindings.proofs.Walks.{ordered-fewer}

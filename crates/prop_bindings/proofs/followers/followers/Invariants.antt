@@ -1,5 +1,5 @@
 use Rattle.std.proofs.Common.{◌≡◌, ◌++◌, drop}
-use Rattle.prop_bindings.specs.Numbering.{places_of}
+use Rattle.prop_bindings.specs.code.Numbering.{places_of}
 use Rattle.prop_bindings.proofs.followers.followers.Given as goal
 
 abbrev pub invariant-loop-each : goal.invariant-loop-each

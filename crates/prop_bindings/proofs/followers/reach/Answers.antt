@@ -1,8 +1,8 @@
 use Rattle.std.proofs.Common.{◌<◌, ◌≤◌, length, List, refl, sym, subst, arith}
 use Rattle.prop_bindings.specs.declared.numbering.Numbered.{Numbered}
 use Rattle.prop_bindings.specs.Bindings.{binding_at, without}
-use Rattle.prop_bindings.specs.Graph.{bindings_of, rank_of, readers_at}
-use Rattle.prop_bindings.specs.Numbering.{Gains, IsNumbering}
+use Rattle.prop_bindings.specs.code.Graph.{bindings_of, rank_of, readers_at}
+use Rattle.prop_bindings.specs.code.Numbering.{Gains, IsNumbering}
 use Rattle.prop_bindings.proofs.Graphs.{rank-short}
 use Rattle.prop_bindings.proofs.Numbers.{numbered-fits, taken-all}
 use Rattle.prop_bindings.proofs.Reaching.{reach-all, reach-first, reach-next}

@@ -1,7 +1,7 @@
 use Rattle.std.proofs.Common.{take, length, ◌≤◌, ◌-◌}
 use Rattle.prop_bindings.specs.Bindings.{binding_at, without}
-use Rattle.prop_bindings.specs.Graph.{bindings_of, rank_of}
-use Rattle.prop_bindings.specs.Numbering.{IsReach}
+use Rattle.prop_bindings.specs.code.Graph.{bindings_of, rank_of}
+use Rattle.prop_bindings.specs.code.Numbering.{IsReach}
 use Rattle.prop_bindings.proofs.followers.reach.Given as goal
 
 -- the readers of the first i were found

@@ -1,7 +1,7 @@
 use Rattle.std.proofs.Common.{◌≡◌, ℕ, true, take, eqb}
 use Rattle.indexmap.specs.IndexSet.{contains}
 use Rattle.object_tree.specs.Children.{is_among}
-use Rattle.prop_bindings.specs.Graph.{KeepTouched}
+use Rattle.prop_bindings.specs.code.Graph.{KeepTouched}
 use Rattle.prop_bindings.proofs.graph.touch.Given as goal
 
 abbrev pub invariant-loop-source : goal.invariant-loop-source

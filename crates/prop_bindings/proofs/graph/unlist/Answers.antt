@@ -1,6 +1,6 @@
 use Rattle.std.proofs.Common.{inl, sym, subst}
 use Rattle.prop_bindings.specs.declared.place.Place.{Place}
-use Rattle.prop_bindings.specs.Graph.{LosesReader, bindings_in}
+use Rattle.prop_bindings.specs.code.Graph.{LosesReader, bindings_in}
 use Rattle.prop_bindings.proofs.Keyed.{target-of}
 use Rattle.prop_bindings.proofs.graph.unlist.Goals as goal
 

@@ -2,7 +2,7 @@ use Rattle.std.proofs.Common.{◌≡◌, ℕ, take, Some}
 use Rattle.std.specs.Prelude.{slice_get}
 use Rattle.prop_bindings.specs.declared.place.Place.{Place}
 use Rattle.prop_bindings.specs.Places.{In}
-use Rattle.prop_bindings.specs.Graph.{rank_of}
+use Rattle.prop_bindings.specs.code.Graph.{rank_of}
 use Rattle.prop_bindings.proofs.order.ranks_of.Given as goal
 
 abbrev pub invariant-loop-i : goal.invariant-loop-i

@@ -3,8 +3,9 @@ use Rattle.std.proofs.Math.ListN.{drop_of_length-le}
 use Rattle.prop_bindings.specs.declared.place.Place.{Place}
 use Rattle.prop_bindings.specs.declared.binding.Binding.{Binding}
 use Rattle.prop_bindings.specs.Bindings.{binding_at}
-use Rattle.prop_bindings.specs.Graph.{bindings_of}
-use Rattle.prop_bindings.specs.Orders.{Distinct, reached_by}
+use Rattle.prop_bindings.specs.code.Graph.{bindings_of}
+use Rattle.prop_bindings.specs.Places.{Distinct}
+use Rattle.prop_bindings.specs.code.Orders.{reached_by}
 use Rattle.prop_bindings.proofs.Walking.{At, next-is, at-first, at-again, at-unbound, at-reached, at-sooner, distinct-more}
 use Rattle.prop_bindings.proofs.order.walk.Goals as goal
 

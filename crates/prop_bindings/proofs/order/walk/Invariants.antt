@@ -1,8 +1,8 @@
 use Rattle.std.proofs.Common.{◌≡◌, drop, List, ◌∷◌}
 use Rattle.prop_bindings.specs.declared.place.Place.{Place}
+use Rattle.prop_bindings.specs.Places.{Distinct}
 use Rattle.prop_bindings.specs.Bindings.{binding_at}
-use Rattle.prop_bindings.specs.Graph.{bindings_of}
-use Rattle.prop_bindings.specs.Orders.{Distinct}
+use Rattle.prop_bindings.specs.code.Graph.{bindings_of}
 use Rattle.prop_bindings.proofs.Walking.{At}
 use Rattle.prop_bindings.proofs.order.walk.Given as goal
 

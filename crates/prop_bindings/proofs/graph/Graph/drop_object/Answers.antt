@@ -1,8 +1,8 @@
-use Rattle.std.proofs.Common.{◌≡◌, ◌∙◌, ℕ, true, false, eqb, List, ap, refl, sym, subst}
+use Rattle.std.proofs.Common.{◌≡◌, ◌∙◌, ℕ, false, eqb, List, ap, refl, sym}
 use Rattle.indexmap.specs.IndexSet.{contains}
 use Rattle.prop_bindings.specs.declared.binding.Binding.{Binding}
 use Rattle.prop_bindings.specs.Bindings.{binding_at}
-use Rattle.prop_bindings.specs.Graph.{bindings_of}
+use Rattle.prop_bindings.specs.code.Graph.{bindings_of}
 use Rattle.prop_bindings.proofs.Dropping.{left-untouched, none-dropped}
 use Rattle.prop_bindings.proofs.Graphs.{untouched-graph}
 use Rattle.prop_bindings.proofs.graph.Graph.drop_object.Goals as goal

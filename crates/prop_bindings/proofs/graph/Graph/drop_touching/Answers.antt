@@ -1,7 +1,7 @@
 use Rattle.std.proofs.Common.{◌≡◌, ◌∙◌, ◌<◌, suc, take, length, List, ap, sym, subst, refl, arith, add-one}
 use Rattle.prop_bindings.specs.declared.binding.Binding.{Binding}
 use Rattle.prop_bindings.specs.Bindings.{dropped, touches, without}
-use Rattle.prop_bindings.specs.Graph.{bindings_of}
+use Rattle.prop_bindings.specs.code.Graph.{bindings_of}
 use Rattle.prop_bindings.proofs.Dropping.{dropped-same, found-at, front-more, front-same, none-taken, shorter, stands-within, take-all, take-whole}
 use Rattle.prop_bindings.proofs.graph.Graph.drop_touching.Goals as goal
 

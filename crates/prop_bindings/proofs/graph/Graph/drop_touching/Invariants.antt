@@ -1,6 +1,6 @@
 use Rattle.std.proofs.Common.{◌≡◌, ◌≤◌, ◌-◌, length, take}
 use Rattle.prop_bindings.specs.Bindings.{dropped}
-use Rattle.prop_bindings.specs.Graph.{IsGraph, bindings_of}
+use Rattle.prop_bindings.specs.code.Graph.{IsGraph, bindings_of}
 use Rattle.prop_bindings.proofs.graph.Graph.drop_touching.Given as goal
 
 -- the first i stay

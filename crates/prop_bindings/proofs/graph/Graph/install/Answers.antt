@@ -2,7 +2,7 @@ use Rattle.std.proofs.Common.{refl, ◌≡◌, ◌∙◌, ◌++◌, ◌∷◌, [
 use Rattle.prop_bindings.specs.declared.place.Place.{Place}
 use Rattle.prop_bindings.specs.declared.binding.Binding.{Binding}
 use Rattle.prop_bindings.specs.Bindings.{binding_at, without}
-use Rattle.prop_bindings.specs.Graph.{LosesReader, bindings_in}
+use Rattle.prop_bindings.specs.code.Graph.{LosesReader, bindings_in}
 use Rattle.prop_bindings.proofs.Graphs.{installed-graph}
 use Rattle.prop_bindings.proofs.Replaced.{without-at}
 use Rattle.prop_bindings.proofs.graph.Graph.install.Goals as goal

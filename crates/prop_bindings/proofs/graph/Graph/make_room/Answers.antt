@@ -1,6 +1,6 @@
 use Rattle.std.proofs.Common.{refl, subst}
 use Rattle.prop_bindings.specs.declared.binding.Binding.{Binding}
-use Rattle.prop_bindings.specs.Graph.{AreTouched}
+use Rattle.prop_bindings.specs.code.Graph.{AreTouched}
 use Rattle.prop_bindings.proofs.Graphs.{roomier-graph}
 use Rattle.prop_bindings.proofs.graph.Graph.make_room.Goals as goal
 

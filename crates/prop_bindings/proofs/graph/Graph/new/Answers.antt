@@ -1,5 +1,5 @@
 use Rattle.std.proofs.Common.{ap}
-use Rattle.prop_bindings.specs.Keys.{key_of, same_key}
+use Rattle.prop_bindings.specs.code.Keys.{key_of, same_key}
 use Rattle.std.proofs.Common.{ℕ, List}
 use Rattle.std.specs.Map.{lookup}
 use Rattle.prop_bindings.proofs.Graphs.{empty-graph}

@@ -1,6 +1,6 @@
 use Rattle.std.proofs.Common.{◌∙◌, ap}
 use Rattle.indexmap.specs.IndexMap.{get}
-use Rattle.prop_bindings.specs.Keys.{same_key}
+use Rattle.prop_bindings.specs.code.Keys.{same_key}
 use Rattle.prop_bindings.proofs.graph.Graph.rank.Goals as goal
 
 pub returns-in-Some : goal.returns-in-Some

@@ -1,7 +1,7 @@
 use Rattle.std.proofs.Common.{◌∙◌, ℕ, List, ap}
 use Rattle.std.specs.Prelude.{position}
 use Rattle.indexmap.specs.IndexMap.{keys}
-use Rattle.prop_bindings.specs.Keys.{key_of, same_key}
+use Rattle.prop_bindings.specs.code.Keys.{key_of, same_key}
 use Rattle.std.specs.Option.{is_some}
 use Rattle.std.specs.Map.{lookup}
 use Rattle.prop_bindings.proofs.Keyed.{found-keyed}

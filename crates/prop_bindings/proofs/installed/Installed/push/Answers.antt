@@ -3,7 +3,7 @@ use Rattle.std.specs.Map.{values_of}
 use Rattle.indexmap.specs.IndexMap.{get}
 use Rattle.indexmap.proofs.CallerLemmas.{insert_entry-new}
 use Rattle.prop_bindings.specs.declared.binding.Binding.{Binding}
-use Rattle.prop_bindings.specs.Keys.{key_of, same_key}
+use Rattle.prop_bindings.specs.code.Keys.{key_of, same_key}
 use Rattle.prop_bindings.proofs.Keyed.{Keyed, found-keyed, keyed-push, values-push}
 use Rattle.prop_bindings.proofs.installed.Installed.push.Goals as goal
 

@@ -1,6 +1,6 @@
 use Rattle.std.proofs.Common.{◌∙◌, ℕ, ap}
 use Rattle.std.specs.Map.{lookup}
-use Rattle.prop_bindings.specs.Keys.{same_key}
+use Rattle.prop_bindings.specs.code.Keys.{same_key}
 use Rattle.prop_bindings.proofs.Keyed.{found-keyed}
 use Rattle.prop_bindings.proofs.installed.Installed.reader.Goals as goal
 

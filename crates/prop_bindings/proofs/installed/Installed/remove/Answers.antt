@@ -1,7 +1,7 @@
 use Rattle.std.proofs.Common.{◌∙◌, ℕ, List, ap, sym, subst, arith}
 use Rattle.std.specs.Map.{remove_entry, values_of}
 use Rattle.prop_bindings.specs.declared.binding.Binding.{Binding}
-use Rattle.prop_bindings.specs.Keys.{same_key}
+use Rattle.prop_bindings.specs.code.Keys.{same_key}
 use Rattle.prop_bindings.proofs.Keyed.{Keyed, removed-keyed, removed-values}
 use Rattle.prop_bindings.proofs.installed.Installed.remove.Goals as goal
 

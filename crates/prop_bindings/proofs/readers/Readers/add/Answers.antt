@@ -1,8 +1,8 @@
 use Rattle.std.proofs.Common.{◌∙◌, ℕ, List, sym, subst}
 use Rattle.prop_bindings.specs.declared.place.Place.{Place}
 use Rattle.prop_bindings.specs.Places.{In}
-use Rattle.prop_bindings.specs.Groups.{HasRoomAt, list_of}
-use Rattle.prop_bindings.specs.Keys.{key_of, same_key}
+use Rattle.prop_bindings.specs.code.Groups.{HasRoomAt, list_of}
+use Rattle.prop_bindings.specs.code.Keys.{key_of, same_key}
 use Rattle.prop_bindings.proofs.Keyed.{kept-in, pushed-here, pushed-in}
 use Rattle.prop_bindings.proofs.Places.{is_in-true}
 use Rattle.prop_bindings.proofs.readers.Readers.add.Goals as goal

@@ -3,7 +3,7 @@ use Rattle.prop_bindings.proofs.Ranked.{taken-places}
 use Rattle.prop_bindings.specs.declared.place.Place.{Place}
 use Rattle.prop_bindings.specs.declared.binding.Binding.{Binding}
 use Rattle.prop_bindings.specs.Places.{In}
-use Rattle.prop_bindings.specs.Graph.{readers_at}
+use Rattle.prop_bindings.specs.code.Graph.{readers_at}
 use Rattle.prop_bindings.proofs.Places.{In-cases}
 use Rattle.prop_bindings.proofs.Ranked.{next-taken}
 use Rattle.prop_bindings.proofs.readers.Readers.enlist.Goals as goal

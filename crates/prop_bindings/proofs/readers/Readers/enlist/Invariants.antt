@@ -1,7 +1,7 @@
 use Rattle.std.proofs.Common.{take}
 use Rattle.prop_bindings.specs.declared.place.Place.{Place}
 use Rattle.prop_bindings.specs.Places.{In}
-use Rattle.prop_bindings.specs.Graph.{KeepReaders, readers_at}
+use Rattle.prop_bindings.specs.code.Graph.{KeepReaders, readers_at}
 use Rattle.prop_bindings.proofs.readers.Readers.enlist.Given as goal
 
 abbrev pub invariant-loop-source : goal.invariant-loop-source

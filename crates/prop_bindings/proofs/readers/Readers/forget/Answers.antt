@@ -1,7 +1,7 @@
 use Rattle.std.proofs.Common.{◌∙◌, inl, inr, sym, subst}
 use Rattle.prop_bindings.specs.Places.{In}
-use Rattle.prop_bindings.specs.Groups.{list_of}
-use Rattle.prop_bindings.specs.Keys.{key_of, same_key}
+use Rattle.prop_bindings.specs.code.Groups.{list_of}
+use Rattle.prop_bindings.specs.code.Keys.{key_of, same_key}
 use Rattle.prop_bindings.proofs.Keyed.{forgotten-in, key-places}
 use Rattle.prop_bindings.proofs.readers.Readers.forget.Goals as goal
 

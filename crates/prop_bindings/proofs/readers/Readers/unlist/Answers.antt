@@ -2,7 +2,7 @@ use Rattle.std.proofs.Common.{◌∙◌, inl, inr, sym, subst}
 use Rattle.prop_bindings.specs.declared.place.Place.{Place}
 use Rattle.prop_bindings.specs.declared.binding.Binding.{Binding}
 use Rattle.prop_bindings.specs.Places.{In}
-use Rattle.prop_bindings.specs.Graph.{LosesReader}
+use Rattle.prop_bindings.specs.code.Graph.{LosesReader}
 use Rattle.prop_bindings.proofs.Places.{is_in-false}
 use Rattle.prop_bindings.proofs.readers.Readers.unlist.Goals as goal
 

@@ -1,4 +1,4 @@
-use Rattle.prop_bindings.specs.Graph.{LosesReader}
+use Rattle.prop_bindings.specs.code.Graph.{LosesReader}
 use Rattle.prop_bindings.proofs.readers.Readers.unlist.Given as goal
 
 abbrev pub invariant-loop-source : goal.invariant-loop-source

@@ -1,0 +1,18 @@
+use Rattle.std.proofs.Common.{◌≡◌, ◌+◌, drop}
+use Rattle.prop_bindings.specs.declared.place.Place.{Place}
+use Rattle.prop_bindings.specs.Places.{values_in}
+use Rattle.prop_bindings.specs.Bindings.{binding_at}
+use Rattle.prop_bindings.specs.Changes.{DifferInValues}
+use Rattle.prop_bindings.specs.code.Graph.{bindings_in}
+use Rattle.prop_bindings.specs.code.Orders.{pass}
+use Rattle.prop_bindings.specs.code.Parts.{IsSoundBySome, StaySound, ahead}
+use Rattle.prop_bindings.proofs.evaluation.evaluate_all.Given as goal
+
+abbrev pub invariant-loop-place : goal.invariant-loop-place
+invariant-loop-place l = record {
+  passed : (q : Place) → pass (binding_at (bindings_in l.installed)) (drop l.place-index l.order) (values_in (ahead l.values l.tree)) q ≡ pass (binding_at (bindings_in l.installed)) l.order (values_in (ahead l.initial.values l.tree)) q;
+  objects : DifferInValues (ahead l.initial.values l.tree) (ahead l.values l.tree);
+  counted : l.count ≡ l.initial.count + l.place-index;
+  by : IsSoundBySome (ahead l.values l.tree) (bindings_in l.installed);
+  sound : StaySound (ahead l.initial.values l.tree) (ahead l.values l.tree) (bindings_in l.installed);
+}

@@ -1,0 +1,8 @@
+-- What the contracts of this crate's functions need besides: how bindings are kept, orders of evaluation, and the parts of a
+-- write and a bind.
+pub mod Keys
+pub mod Groups
+pub mod Orders
+pub mod Numbering
+pub mod Graph
+pub mod Parts

@@ -1,0 +1,88 @@
+-- How the crate keeps the installed bindings: by target, with the readers of each property and an order of evaluation.
+-- No contract of a public call speaks of this.
+use Rattle.std.specs.Prelude.{◌≡◌, ℕ, ◌<◌, ◌⊎◌, List, map, Option, None, Some, slice_get, position, eqb, true}
+use Rattle.indexmap.specs.IndexSet.{IndexSet, contains}
+use Rattle.indexmap.specs.IndexMap.{IndexMap, get, keys, values, spare}
+use Rattle.prop_bindings.specs.declared.place.Place.{Place}
+use Rattle.prop_bindings.specs.declared.binding.Binding.{Binding}
+use Rattle.prop_bindings.specs.declared.graph.Graph.{Graph}
+use Rattle.prop_bindings.specs.declared.installed.Installed.{Installed}
+use Rattle.prop_bindings.specs.declared.readers.Readers.{Readers}
+use Rattle.prop_bindings.specs.Places.{In}
+use Rattle.prop_bindings.specs.code.Groups.{list_of}
+use Rattle.prop_bindings.specs.code.Keys.{key_of, same_key}
+use Rattle.prop_bindings.specs.Bindings.{binding_at, AreApart, Reads, touches}
+use Rattle.prop_bindings.specs.code.Orders.{IsOrder}
+
+-- ---- the bindings
+abbrev pub bindings_in : Installed → List Binding
+bindings_in x = values x.by_target
+
+-- each stands under its target
+abbrev pub AreKeyed : Installed → Type 0
+AreKeyed x = keys x.by_target ≡ map (λ (b : Binding). key_of b.target) (bindings_in x)
+
+-- one more fits with no allocation
+abbrev pub HasRoom : Installed → Type 0
+HasRoom x = 0 < spare x.by_target
+
+-- where the binding of a property stands among those that are installed
+abbrev pub position_of : List Binding → Place → Option ℕ
+position_of bs p = position (same_key (key_of p)) (map (λ (b : Binding). key_of b.target) bs)
+
+-- ---- the readers of each property
+abbrev pub readers_at : Readers → Place → List Place
+readers_at x m = list_of same_key x.by_source (key_of m)
+
+-- nothing is lost
+abbrev pub KeepReaders : Readers → Readers → Type 0
+KeepReaders old new = (m q : Place) → In q (readers_at old m) → In q (readers_at new m)
+
+-- .. but this reader of this property
+abbrev pub LosesOnly : Place → Place → Readers → Readers → Type 0
+LosesOnly source reader old new =
+    (m q : Place) → In q (readers_at old m) → In q (readers_at new m) ⊎ ((source ≡ m) × (reader ≡ q))
+
+-- .. and this reader of properties that aren't among these
+abbrev pub LosesReader : List Place → Place → Readers → Readers → Type 0
+LosesReader kept reader old new =
+    (m q : Place) → In q (readers_at old m) → In q (readers_at new m) ⊎ ((reader ≡ q) × (In m kept → ⊥))
+
+-- each property that the binding reads names it
+abbrev pub AreNamed : Readers → Binding → Type 0
+AreNamed x b = (m : Place) → Reads b m → In b.target (readers_at x m)
+
+-- ---- the places in the order of evaluation
+abbrev pub rank_of : {S : Type 0} → IndexMap (ℕ × ℕ) ℕ S → Place → Option ℕ
+rank_of ranks p = get same_key ranks (key_of p)
+
+-- each property of a list, and no other, has a number: one at which it stands there
+pub record AreRanks {S : Type 0} (order : List Place) (ranks : IndexMap (ℕ × ℕ) ℕ S) : Type 0 where
+  pub sound : (p : Place) (i : ℕ) → rank_of ranks p ≡ Some i → slice_get order i ≡ Some p
+  pub complete : (p : Place) → In p order → (i : ℕ) × (rank_of ranks p ≡ Some i)
+
+-- ---- the whole
+abbrev pub bindings_of : Graph → List Binding
+bindings_of g = bindings_in g.installed
+
+pub record IsGraph (g : Graph) : Type 0 where
+  pub keyed : AreKeyed g.installed
+  pub apart : AreApart (bindings_of g)
+  pub order : IsOrder (binding_at (bindings_of g)) g.order.items
+  pub ranks : AreRanks g.order.items g.ranks
+  pub readers : (q m : Place) (b : Binding) → binding_at (bindings_of g) q ≡ Some b → Reads b m → In q (readers_at g.readers m)
+  pub touched : (q : Place) (b : Binding) (o : ℕ) → binding_at (bindings_of g) q ≡ Some b → touches o b ≡ true
+      → contains eqb g.touched o ≡ true
+
+-- the place in the order of evaluation of a property whose binding reads the source
+abbrev pub RankOfReader : Graph → Place → Place → Option ℕ → Type 0
+RankOfReader g q source None = (b : Binding) → binding_at (bindings_of g) q ≡ Some b → Reads b source → ⊥
+RankOfReader g q source (Some i) =
+    (b : Binding) × (binding_at (bindings_of g) q ≡ Some b) × Reads b source × (rank_of g.ranks q ≡ Some i)
+
+-- the objects of a binding are among those that bindings touch
+abbrev pub AreTouched : {S : Type 0} → IndexSet ℕ S → Binding → Type 0
+AreTouched touched b = (o : ℕ) → touches o b ≡ true → contains eqb touched o ≡ true
+
+abbrev pub KeepTouched : {S : Type 0} → IndexSet ℕ S → IndexSet ℕ S → Type 0
+KeepTouched old new = (o : ℕ) → contains eqb old o ≡ true → contains eqb new o ≡ true

@@ -1,0 +1,99 @@
+-- Orders of evaluation, in which sources come before their readers: how the crate computes settled values. No contract
+-- of a public call speaks of them.
+use Rattle.std.specs.Prelude.{◌≡◌, Bool, false, ◌⊎◌, List, [], ◌∷◌, cond, Option, None, Some}
+use Rattle.signatures.specs.declared.value.Value.{Value}
+use Rattle.prop_bindings.specs.declared.place.Place.{Place}
+use Rattle.prop_bindings.specs.declared.binding.Binding.{Binding}
+use Rattle.prop_bindings.specs.Places.{same_place, In, Distinct}
+use Rattle.prop_bindings.specs.Bindings.{Reads, reads_any, value_of, Chain}
+
+-- the binding of a property reads none of these
+abbrev pub Free : (Place → Option Binding) → Place → List Place → Type 0
+Free F p qs = (b : Binding) → F p ≡ Some b → (q : Place) → In q qs → Reads b q → ⊥
+
+-- none reads itself or a later one
+abbrev pub Ordered : (Place → Option Binding) → List Place → Type 0
+Ordered F [] = Unit {0}
+Ordered F (p ∷ ps) = Free F p (p ∷ ps) × Ordered F ps
+
+abbrev pub Covers : (Place → Option Binding) → List Place → Type 0
+Covers F ps = (p : Place) (b : Binding) → F p ≡ Some b → In p ps
+
+-- an order of evaluation for these bindings; it may name properties that are bound no more
+pub record IsOrder (F : Place → Option Binding) (order : List Place) : Type 0 where
+  pub ordered : Ordered F order
+  pub covers : Covers F order
+
+-- the property is bound, and so is each of these
+abbrev pub IsBoundBy : (Place → Option Binding) → Place → Type 0
+IsBoundBy F p = (b : Binding) × (F p ≡ Some b)
+
+abbrev pub AreBound : (Place → Option Binding) → List Place → Type 0
+AreBound F ps = (p : Place) → In p ps → IsBoundBy F p
+
+-- ---- evaluating in an order
+abbrev pub update : (Place → Option Value) → Place → Option Value → Place → Option Value
+update e p v q = cond (same_place p q) v (e q)
+
+abbrev pub given : Option Binding → Place → (Place → Option Value) → Place → Option Value
+given None p e = e
+given (Some b) p e = update e p (value_of b e)
+
+-- a bound property is given its expression's value
+abbrev pub evaluated : (Place → Option Binding) → Place → (Place → Option Value) → Place → Option Value
+evaluated F p e = given (F p) p e
+
+-- .. each in its turn
+abbrev pub pass : (Place → Option Binding) → List Place → (Place → Option Value) → Place → Option Value
+pass F [] e = e
+pass F (p ∷ ps) e = pass F ps (evaluated F p e)
+
+-- ---- what has to be evaluated
+-- what chains lead to from p, each once, a source before its reader
+pub record IsAffected (F : Place → Option Binding) (p : Place) (affected : List Place) : Type 0 where
+  pub ordered : Ordered F affected
+  pub distinct : Distinct affected
+  pub reached : (q : Place) → In q affected → Chain F p q
+  pub closed : (q m : Place) (b : Binding) → F q ≡ Some b → Reads b m → In m (p ∷ affected) → In q affected
+
+-- what has a new binding and all that chains lead to from it, each once, a source before its reader; the others read none
+-- of them and are bound as they were
+pub record IsLater (F G : Place → Option Binding) (t : Place) (later : List Place) : Type 0 where
+  pub ordered : Ordered G later
+  pub distinct : Distinct later
+  pub here : In t later
+  pub reached : (q : Place) → In q later → (t ≡ q) ⊎ Chain G t q
+  pub others : (q : Place) (b : Binding) → G q ≡ Some b → (In q later → ⊥)
+      → (F q ≡ Some b) × ((m : Place) → In m later → Reads b m → ⊥)
+
+-- ---- how both are found: a walk over an order
+-- one more binding, or another one of the same target
+abbrev pub bound : (Place → Option Binding) → Place → Binding → Place → Option Binding
+bound F t b p = cond (same_place t p) (Some b) (F p)
+
+abbrev pub reached_by : Option Binding → List Place → Bool
+reached_by None ps = false
+reached_by (Some b) ps = reads_any b ps
+
+-- the walk has sorted out what chains lead to from t, which stand in `reached`; the others that are bound stand in
+-- `sooner`
+pub record Halved (F G : Place → Option Binding) (t : Place) (order reached sooner rest : List Place) : Type 0 where
+  pub rest_ordered : Ordered F rest
+  pub reached_ordered : Ordered G reached
+  pub sooner_ordered : Ordered G sooner
+  pub reached_rest : (p : Place) → In p reached → Free G p rest
+  pub sooner_rest : (p : Place) → In p sooner → Free G p rest
+  pub sooner_later : (p : Place) → In p sooner → Free G p (t ∷ reached)
+  pub chains : (p : Place) → In p reached → Chain G t p
+  pub total : (p : Place) (b : Binding) → F p ≡ Some b → In p order → (t ≡ p) ⊎ (In p reached ⊎ (In p sooner ⊎ In p rest))
+
+-- G binds what F binds, but for t
+abbrev pub AgreesBut : Place → (Place → Option Binding) → (Place → Option Binding) → Type 0
+AgreesBut t F G = (q : Place) → same_place t q ≡ false → G q ≡ F q
+
+-- the whole walk, whatever t is bound to: t and what chains lead to from it, each once, and the others
+pub record IsWalked (F : Place → Option Binding) (t : Place) (order sooner later : List Place) : Type 0 where
+  pub reached : List Place
+  pub is_later : later ≡ t ∷ reached
+  pub distinct : Distinct later
+  pub halved : (G : Place → Option Binding) → AgreesBut t F G → Halved F G t order reached sooner []

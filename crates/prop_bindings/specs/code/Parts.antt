@@ -1,0 +1,104 @@
+-- The parts of a write and a bind.
+use Rattle.std.specs.Prelude.{◌≡◌, ℕ, List, All, Option, Some, Result, Ok, Err}
+use Rattle.std.specs.Option.{option_map, unwrap_or}
+use Rattle.signatures.specs.declared.value.Value.{Value}
+use Rattle.indexmap.specs.IndexMap.{IndexMap, get}
+use Rattle.meta_model.specs.Loaded.{Loaded}
+use Rattle.object_tree.specs.declared.object.Object.{Object}
+use Rattle.object_tree.specs.Typed.{AreTyped}
+use Rattle.prop_bindings.specs.declared.place.Place.{Place}
+use Rattle.prop_bindings.specs.declared.binding.Binding.{Binding}
+use Rattle.prop_bindings.specs.declared.fault.BindFault.{BindFault}
+use Rattle.prop_bindings.specs.declared.fault.BindFault.TheVariants as bind
+use Rattle.prop_bindings.specs.declared.planned.PlannedBind.{PlannedBind}
+use Rattle.prop_bindings.specs.declared.preparing.Prepared.{Prepared}
+use Rattle.prop_bindings.specs.Places.{values_in}
+use Rattle.prop_bindings.specs.Bindings.{binding_at, replaced, without, value_of, Loop}
+use Rattle.prop_bindings.specs.Calls.{MayBind, IsNotBound, new_binding}
+use Rattle.prop_bindings.specs.Changes.{IsInstalled}
+use Rattle.prop_bindings.specs.Fits.{FitsAt, IsFit, IsInOneLoop, Agree}
+use Rattle.prop_bindings.specs.Plans.{assigned, after}
+use Rattle.prop_bindings.specs.code.Graph.{AreRanks}
+use Rattle.prop_bindings.specs.code.Keys.{key_of, same_key}
+use Rattle.prop_bindings.specs.code.Orders.{IsOrder}
+
+-- ---- values to come
+-- the objects once these properties have their values
+abbrev pub ahead : {S : Type 0} → IndexMap (ℕ × ℕ) Value S → List Object → List Object
+ahead values objects = assigned values.entries objects
+
+-- what a property reads then: the value that it is to have, if it is to have one, or its own
+abbrev pub value_ahead : {S : Type 0} → IndexMap (ℕ × ℕ) Value S → List Object → Place → Option Value
+value_ahead values objects q = option_map (unwrap_or (get same_key values (key_of q))) (values_in objects q)
+
+-- ---- values and types alone
+abbrev pub AreSound : Loaded → List Object → List Binding → Type 0
+AreSound p objects bs = AreTyped p objects × All (IsFit p objects) bs
+
+-- the bindings are sound by some program, and stay so by each by which they were
+abbrev pub IsSoundBySome : List Object → List Binding → Type 0
+IsSoundBySome objects bs = (p : Loaded) × AreSound p objects bs
+
+abbrev pub StaySound : List Object → List Object → List Binding → Type 0
+StaySound old new bs = (p : Loaded) → AreSound p old bs → AreSound p new bs
+
+-- .. and the value is of the type of this property
+abbrev pub IsSoundWith : List Object → List Binding → Place → Value → Type 0
+IsSoundWith objects bs at v = (p : Loaded) × AreSound p objects bs × FitsAt p objects at v
+
+abbrev pub StaySoundWith : List Object → List Object → List Binding → Place → Value → Type 0
+StaySoundWith old new bs at v = (p : Loaded) → AreSound p old bs → FitsAt p old at v → AreSound p new bs
+
+-- ---- what stands before a change and after it
+-- where a property is to be given this value
+abbrev pub AgreesAt : List Object → List Binding → Place → Value → Type 0
+AgreesAt objects bs at v = (p : Loaded) × Agree p objects bs × FitsAt p objects at v
+
+-- .. and once its binding is gone
+abbrev pub StayAgreeingAt : List Object → List Object → List Binding → Place → Value → Type 0
+StayAgreeingAt old new bs at v = (p : Loaded) → Agree p old bs → FitsAt p old at v → Agree p new (without at bs)
+
+-- where a binding is to be installed whose expression has this value
+abbrev pub AgreesWith : List Object → List Binding → Binding → Value → Type 0
+AgreesWith objects bs b v =
+    (p : Loaded) × Agree p objects bs × IsFit p objects b × IsInOneLoop objects b × (value_of b (values_in objects) ≡ Some v)
+
+-- .. and after it
+abbrev pub StayAgreeing : List Object → List Object → List Binding → List Binding → Binding → Type 0
+StayAgreeing old new bs cs b = (p : Loaded) → Agree p old bs → IsFit p old b → IsInOneLoop old b → Agree p new cs
+
+-- ---- a bind
+-- a binding that may be installed if it closes no chain, with its expression's value
+pub record IsPrepared (p : Loaded) (objects : List Object) (number target : ℕ)
+    (sources : List ℕ) (b : Binding) (v : Value) : Type 0 where
+  pub may : MayBind p objects number target sources
+  pub is : b ≡ new_binding may
+  pub fit : IsFit p objects b
+  pub has : value_of b (values_in objects) ≡ Some v
+
+-- whatever is installed already
+abbrev pub Prepares : Loaded → ℕ → ℕ → List ℕ → List Object → Result Prepared BindFault → Type 0
+Prepares p number target sources objects (Ok found) =
+    IsPrepared p objects number target sources found.binding found.value
+Prepares p number target sources objects (Err fault) =
+    (bs : List Binding) → IsNotBound p objects bs number target sources fault
+
+-- why one that may be isn't
+pub data IsNotInstalled (bs : List Binding) (b : Binding) : BindFault → Type 0 where
+  loops : Loop (binding_at (replaced bs b)) → IsNotInstalled bs b bind.BindingLoop
+  short : IsNotInstalled bs b bind.Memory
+
+-- the plan is to install this binding
+pub record InstallsIt (b : Binding) (bs : List Binding) (objects : List Object) (plan : PlannedBind) : Type 0 where
+  pub binding : plan.reader ≡ b
+  pub target : plan.planned.target ≡ plan.reader.target
+  pub installs : IsInstalled bs (replaced bs plan.reader) objects (after plan.planned objects) b plan.planned.changed
+
+abbrev pub Installs : Binding → List Binding → List Object → Result PlannedBind BindFault → Type 0
+Installs b bs objects (Ok plan) = InstallsIt b bs objects plan
+Installs b bs objects (Err fault) = IsNotInstalled bs b fault
+
+-- the order of evaluation that comes with a planned bind is one of the bindings once it is carried out
+pub record MayInstall (bs : List Binding) (plan : PlannedBind) : Type 0 where
+  pub order : IsOrder (binding_at (replaced bs plan.reader)) plan.order.items
+  pub ranks : AreRanks plan.order.items plan.ranks

@@ -1,0 +1,104 @@
+//! Evaluation of bindings in an order, ahead of any change.
+
+ghost use Rattle.std.specs.Prelude.{◌≡◌, ◌+◌, ◌<◌, ◌^◌, length, OnOk};
+ghost use Rattle.expressions.specs.Evaluation.{Evaluates};
+ghost use Rattle.prop_bindings.specs.declared.place.Place.{Place};
+ghost use Rattle.prop_bindings.specs.Places.{values_in};
+ghost use Rattle.prop_bindings.specs.Bindings.{binding_at, value_of};
+ghost use Rattle.prop_bindings.specs.Changes.{DifferInValues};
+ghost use Rattle.prop_bindings.specs.code.Graph.{AreKeyed, bindings_in};
+ghost use Rattle.prop_bindings.specs.code.Orders.{AreBound, IsBoundBy, evaluated, pass};
+ghost use Rattle.prop_bindings.specs.code.Parts.{IsSoundBySome, StaySound, ahead, value_ahead};
+
+use crate::ahead::Ahead;
+use crate::binding::Binding;
+use crate::installed::Installed;
+use crate::place::Place;
+use expressions::{EvalFault, eval};
+use indexmap::IndexMap;
+use object_tree::Tree;
+use signatures::Value;
+use std::alloc::{AllocError, Global};
+
+/// Each of these bound properties is to have its expression's value, in this order. Its error is that memory was refused.
+pub fn evaluate_all(
+    alloc: Global,
+    installed: &Installed,
+    order: &[Place],
+    tree: &Tree,
+    values: &mut IndexMap<(usize, usize), Value>,
+    count: &mut usize,
+) -> Result<(), AllocError>
+    requires keyed { AreKeyed installed.now }
+    requires sound { IsSoundBySome (ahead values.old tree.now) (bindings_in installed.now) }
+    requires bound { AreBound (binding_at (bindings_in installed.now)) order.now }
+    requires few { count.old + length order.now < 2 ^ 64 }
+    ensures values { OnOk result ((q : Place) → values_in (ahead values.new tree.now) q
+        ≡ pass (binding_at (bindings_in installed.now)) order.now
+        (values_in (ahead values.old tree.now)) q) }
+    ensures objects { OnOk result (DifferInValues (ahead values.old tree.now) (ahead values.new tree.now)) }
+    ensures sound { OnOk result (StaySound (ahead values.old tree.now) (ahead values.new tree.now)
+        (bindings_in installed.now)) }
+    ensures counted { OnOk result (count.new ≡ count.old + length order.now) }
+{
+    for place in order {
+        evaluate(alloc, installed, place, tree, values, count)?;
+    }
+    Ok(())
+}
+
+/// A bound property is to have its expression's value. Its error is that memory was refused.
+fn evaluate(
+    alloc: Global,
+    installed: &Installed,
+    place: &Place,
+    tree: &Tree,
+    values: &mut IndexMap<(usize, usize), Value>,
+    count: &mut usize,
+) -> Result<(), AllocError>
+    requires keyed { AreKeyed installed.now }
+    requires sound { IsSoundBySome (ahead values.old tree.now) (bindings_in installed.now) }
+    requires bound { IsBoundBy (binding_at (bindings_in installed.now)) place.now }
+    requires few { count.old + 1 < 2 ^ 64 }
+    ensures values { OnOk result ((q : Place) → values_in (ahead values.new tree.now) q
+        ≡ evaluated (binding_at (bindings_in installed.now)) place.now
+        (values_in (ahead values.old tree.now)) q) }
+    ensures objects { OnOk result (DifferInValues (ahead values.old tree.now) (ahead values.new tree.now)) }
+    ensures sound { OnOk result (StaySound (ahead values.old tree.now) (ahead values.new tree.now)
+        (bindings_in installed.now)) }
+    ensures counted { OnOk result (count.new ≡ count.old + 1) }
+{
+    let Some(reader) = installed.reader(place) else {
+        unreachable!()
+    };
+    match value_of(alloc, reader.binding(), tree, values, count) {
+        Ok(value) => {
+            values.insert(place.key(), value)?;
+            Ok(())
+        }
+        Err(EvalFault::BadType) => unreachable!(),
+        Err(EvalFault::Memory) => Err(AllocError),
+    }
+}
+
+/// The value of a binding's expression over these objects, where these properties are to have these values; `BadType` where
+/// it has none. It is one evaluation more.
+pub fn value_of(
+    alloc: Global,
+    binding: &Binding,
+    objects: &Tree,
+    values: &IndexMap<(usize, usize), Value>,
+    count: &mut usize,
+) -> Result<Value, EvalFault>
+    requires { count.old + 1 < 2 ^ 64 }
+    ensures value { Evaluates (value_of binding.now (value_ahead values.now objects.now)) result }
+    ensures counted { count.new ≡ count.old + 1 }
+{
+    *count += 1;
+    let ahead = Ahead {
+        objects,
+        values,
+        sources: binding.sources.as_slice(),
+    };
+    eval(alloc, binding.formula.expression(), &ahead)
+}

@@ -1,0 +1,83 @@
+//! Writes and binds that are planned, and not carried out yet.
+
+ghost use Rattle.std.specs.Prelude.{◌≡◌};
+ghost use Rattle.std.specs.Option.{option_copied};
+ghost use Rattle.prop_bindings.specs.Plans.{WillBe};
+ghost use Rattle.prop_bindings.specs.code.Parts.{ahead};
+
+use crate::installed::Reader;
+use crate::place::Place;
+use indexmap::IndexMap;
+use object_tree::Tree;
+use signatures::{ObjectId, Value};
+use sqlite_items::Items;
+
+/// What a write or a bind is to change: the values of properties, and which of them then no longer read as they did. It
+/// stands for the objects and bindings for which it was planned, as long as these stay as they are.
+#[derive(Drop)]
+pub struct Planned {
+    /// The property that is written or bound.
+    pub target: Place,
+    /// The values, by the numbers of their properties.
+    pub values: IndexMap<(usize, usize), Value>,
+    /// The properties that will no longer read as they did, in the order in which they are notified.
+    pub changed: Items<Place>,
+    /// How many expressions were evaluated for it.
+    pub evaluated: usize,
+}
+
+impl Planned {
+    /// The property that is written or bound.
+    pub fn target(&self) -> Place
+        ensures { result ≡ self.now.target }
+    {
+        self.target
+    }
+
+    /// The properties that will no longer read as they did, in the order in which they are notified: the one that is
+    /// written or bound, if it changes, then the others in the order in which their bindings were installed.
+    pub fn changed(&self) -> &[Place]
+        ensures { result.now ≡ self.now.changed }
+    {
+        self.changed.as_slice()
+    }
+
+    /// The value that the property will have; `None` where it keeps its own.
+    pub fn value(&self, place: &Place) -> Option<&Value>
+        ensures { WillBe self.now place.now (option_copied result) }
+    {
+        self.values.get(&place.key())
+    }
+}
+
+/// A binding that is to be installed, with the order of evaluation that it needs, and what it is to change.
+#[derive(Drop)]
+pub struct PlannedBind {
+    /// The binding.
+    pub reader: Reader,
+    /// The order of evaluation once it is installed.
+    pub order: Vec<Place>,
+    /// The places of the properties in it.
+    pub ranks: IndexMap<(usize, usize), usize>,
+    /// What it is to change.
+    pub planned: Planned,
+}
+
+impl PlannedBind {
+    /// What it is to change.
+    pub fn planned(&self) -> &Planned
+        ensures { result.now ≡ self.now.planned }
+    {
+        &self.planned
+    }
+}
+
+/// Gives these properties their values. It takes no memory.
+pub fn assign(tree: &mut Tree, values: IndexMap<(usize, usize), Value>)
+    ensures { tree.new ≡ ahead values tree.old }
+{
+    let mut rest = values.into_iter();
+    while let Some((key, value)) = rest.next_back() {
+        tree.set_value(ObjectId::new(key.0), key.1, value);
+    }
+}
