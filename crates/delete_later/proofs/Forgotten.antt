@@ -1,5 +1,5 @@
 -- What leaves a list isn't in it.
-use Rattle.std.proofs.Common.{◌≡◌, ℕ, zero, suc, Bool, true, false, not, List, [], ◌∷◌, filter, map, if◌then◌else◌, refl, ap, sym, ◌∙◌}
+use Rattle.std.proofs.Common.{◌≡◌, ℕ, zero, suc, Bool, true, false, not, List, [], ◌∷◌, filter, map, if◌then◌else◌, refl}
 use Rattle.std.specs.List.{list_any}
 use Rattle.connections.specs.Connected.{touches}
 use Rattle.event_loops.specs.Queues.{Loop, items_at, without_object}

@@ -1,12 +1,11 @@
 -- An object that is scheduled is so from then on.
-use Rattle.std.proofs.Common.{◌≡◌, ℕ, Bool, true, false, List, None, Some, Option, refl, ap, sym, ◌∙◌, if◌then◌else◌}
+use Rattle.std.proofs.Common.{◌≡◌, ℕ, Bool, true, false, List, None, Some, Option, refl, ap, ◌∙◌, if◌then◌else◌}
 use Rattle.std.specs.Prelude.{slice_get}
 use Rattle.std.specs.Option.{option_map, option_and_then}
 use Rattle.object_tree.specs.declared.life.Life.{Life}
 use Rattle.object_tree.specs.declared.object.Object.{Object}
 use Rattle.object_tree.specs.Objects.{life_of, change_life, scheduled, with_life}
 use Rattle.object_tree.proofs.Changing.{get-change_same}
-use Rattle.delete_later.specs.declared.store.Store.{Store}
 use Rattle.delete_later.specs.Scheduling.{deferred_to, scheduled_with, scheduled_in}
 use Rattle.delete_later.specs.Laws.{ScheduledOnce}
 

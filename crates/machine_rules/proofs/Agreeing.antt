@@ -24,11 +24,12 @@ use Rattle.object_tree.proofs.Changing.{life-of-lives}
 use Rattle.prop_bindings.specs.declared.binding.Binding.{Binding}
 use Rattle.prop_bindings.specs.declared.place.Place.{Place}
 use Rattle.prop_bindings.specs.Bindings.{binding_at, without, replaced}
-use Rattle.prop_bindings.specs.Fits.{IsFit, Agree}
+use Rattle.prop_bindings.specs.Fits.{IsFit, IsInOneLoop, Agree}
 use Rattle.prop_bindings.specs.Places.{property_of, same_place}
 use Rattle.prop_bindings.proofs.Apart.{apart-replaced}
 use Rattle.prop_bindings.proofs.Fitting.{all-stay, lives-on}
 use Rattle.prop_bindings.proofs.Replaced.{without-at, push-none}
+use Rattle.prop_bindings.proofs.Homes.{joined-stays, all-joined}
 use Rattle.prop_bindings.proofs.Leaving.{agree-fewer, left_agree}
 use Rattle.prop_bindings.proofs.Places.{same_place-refl}
 use Rattle.machine_state.specs.declared.endpoints.Endpoints.{Endpoints}
@@ -73,6 +74,7 @@ module _ {p : Loaded} {s t : State} (agree : Agree p s.objects s.bindings) (well
       agree-at _ x.settles.gives (record {
         typed = typed;
         fit = all-stay p s.objects x.objects agree.typed typed x.written.objects (without (property_of o q) s.bindings) left.fit;
+        one_loop = all-joined s.objects x.objects x.written.objects (without (property_of o q) s.bindings) left.one_loop;
         apart = left.apart;
         acyclic = left.acyclic;
         settled = x.written.settled;
@@ -104,9 +106,9 @@ module _ {p : Loaded} {s t : State} (agree : Agree p s.objects s.bindings) (well
         plain = plain;
       }
 
-  -- .. and so does a bind to a property of a value type that closes no chain
-  pub installs-agrees : {below : List Activation} {b : Binding} → IsAcyclic t → (x : Installs p s below b t) → IsPlain x.property.kind → Agree p t.objects t.bindings
-  installs-agrees {b = b} acyclic x plain =
+  -- .. and so does a bind, within one event loop, to a property of a value type that closes no chain
+  pub installs-agrees : {below : List Activation} {b : Binding} → IsAcyclic t → (x : Installs p s below b t) → IsPlain x.property.kind → IsInOneLoop s.objects b → Agree p t.objects t.bindings
+  installs-agrees {b = b} acyclic x plain within =
       let keep : Binding → Bool = λ z. not (same_place z.target b.target) in
       let typed : AreTyped p x.objects = subst (λ (v : State). AreTyped p v.objects) x.settles.gives well.values in
       let left : Agree p s.objects (without b.target s.bindings) = agree-fewer p s.objects keep s.bindings agree in
@@ -114,6 +116,7 @@ module _ {p : Loaded} {s t : State} (agree : Agree p s.objects s.bindings) (well
       agree-at _ x.settles.gives (record {
         typed = typed;
         fit = All-push (IsFit p x.objects) (without b.target s.bindings) b stay (bound-fits x typed plain);
+        one_loop = All-push (IsInOneLoop x.objects) (without b.target s.bindings) b (all-joined s.objects x.objects x.differ (without b.target s.bindings) left.one_loop) (joined-stays s.objects x.objects x.differ b within);
         apart = apart-replaced s.bindings b agree.apart;
         acyclic = subst (λ (v : State). IsAcyclic v) x.settles.gives acyclic;
         settled = x.settled;

@@ -61,8 +61,8 @@ module _ (old new : List Object) (differ : DifferInValues old new) where
 
 scheduled-stays : (objects : List Object) (x o : ℕ) → Stays objects (change_life x scheduled objects) o
 scheduled-stays objects x o l is = ⊎_elim
-    (λ (same : o ≡ x). (scheduled l, ap (life_of (change_life x scheduled objects)) same ∙ life-changed x scheduled objects ∙ ap (option_map scheduled) (ap (life_of objects) (sym same) ∙ is), refl, refl))
-    (λ (other : o ≢ x). (l, life-kept x o scheduled objects other ∙ is, refl, refl))
+    (λ (same : o ≡ x). (scheduled l, ap (life_of (change_life x scheduled objects)) same ∙ life-changed x scheduled objects ∙ ap (option_map scheduled) (ap (life_of objects) (sym same) ∙ is), refl, refl, refl))
+    (λ (other : o ≢ x). (l, life-kept x o scheduled objects other ∙ is, refl, refl, refl))
     (cases_eq o x)
 
 -- properties and bindings go on to agree

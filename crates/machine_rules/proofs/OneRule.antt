@@ -22,7 +22,7 @@ use Rattle.machine_state.proofs.Told.{told-once}
 use Rattle.prop_bindings.specs.declared.binding.Binding.{Binding}
 use Rattle.prop_bindings.specs.Places.{property_of}
 use Rattle.prop_bindings.specs.Bindings.{binding_at, without, replaced, Loop}
-use Rattle.prop_bindings.specs.Changes.{IsInstalled}
+use Rattle.prop_bindings.specs.Changes.{IsInstalled, one}
 use Rattle.prop_bindings.specs.Fits.{Agree}
 use Rattle.prop_bindings.proofs.Once.{written_once, installed_once}
 use Rattle.machine_state.specs.Connections.{is_living, next_used}
@@ -81,8 +81,8 @@ settles-one {p} {s} {below = below} {cause} {at} {bindings} {objects} {others} {
 pub writes-one : {p : Loaded} {s t u : State} {below : List Activation} {o q : ℕ} {new : Value} → Agree p s.objects s.bindings → Writes p s below o q new t → Writes p s below o q new u → t ≡ u
 writes-one {p} {s} {o = o} {q = q} {new = new} agree a b =
     let cs : List Binding = without (property_of o q) s.bindings in
-    let one = written_once p s.bindings s.objects (property_of o q) new agree cs cs a.objects b.objects a.changed b.changed a.written b.written in
-    settles-one one.1 one.2 a.settles b.settles
+    let same = written_once p s.bindings s.objects (one (property_of o q) new) agree cs cs a.objects b.objects a.changed b.changed a.written b.written in
+    settles-one same.1 same.2 a.settles b.settles
 
 -- .. and so it is with a binding that is installed, unless it closes a chain
 abbrev installed-is : {p : Loaded} {s t : State} {below : List Activation} {b : Binding} → (¬ Loop (binding_at (replaced s.bindings b))) → (x : Installs p s below b t) → IsInstalled s.bindings (replaced s.bindings b) s.objects x.objects b x.changed
@@ -91,8 +91,8 @@ installed-is acyclic x = record { bindings = refl; acyclic = acyclic; objects = 
 pub installs-one : {p : Loaded} {s t u : State} {below : List Activation} {b : Binding} → Agree p s.objects s.bindings → (¬ Loop (binding_at (replaced s.bindings b))) → Installs p s below b t → Installs p s below b u → t ≡ u
 installs-one {p} {s} {b = b} agree acyclic x y =
     let cs : List Binding = replaced s.bindings b in
-    let one = installed_once p s.bindings s.objects b agree cs cs x.objects y.objects x.changed y.changed (installed-is acyclic x) (installed-is acyclic y) in
-    settles-one one.1 one.2 x.settles y.settles
+    let same = installed_once p s.bindings s.objects b agree cs cs x.objects y.objects x.changed y.changed (installed-is acyclic x) (installed-is acyclic y) in
+    settles-one same.1 same.2 x.settles y.settles
 
 -- the names at two ends
 names-one : {p : Loaded} {objects : List Object} {ends : Endpoints} (a b : AreThere p objects ends) → names_of a ≡ names_of b

@@ -20,9 +20,8 @@ use Rattle.machine_rules.specs.code.Sound.{AgreeIn}
 use Rattle.machine_rules.specs.Good.{has_body, IsWell, Spares, IsGood, TopFits}
 use Rattle.machine_rules.specs.Faults.{DoesNext, WritesNext, WritesIll, WritesDeep, GoesIll, GoesFatal, GoesDeep, Reason}
 use Rattle.machine_rules.specs.code.Going.{GoodRules, done, then, IsStuck}
-use Rattle.machine_state.specs.Worlds.{at, KeepsTheRest, Ticks, GoesTo}
+use Rattle.machine_state.specs.Worlds.{at, Ticks, GoesTo}
 use Rattle.machine_rules.specs.code.Active.{shows}
-use Rattle.machine_rules.specs.Faults.{Leaves}
 use Rattle.machine_rules.specs.code.Reaches.{Reaches, StopsIn, RunsTo}
 use Rattle.machine_rules.proofs.Frames.{high, shows-over}
 use Rattle.machine_state.specs.Faults.{IsFaultOf}
@@ -45,7 +44,7 @@ pub reaches-then : {p : Loaded} {natives : NativeAnswers} {d : ℕ} {h : List (O
 reaches-then x y = record { runs = λ below e. rules-trans (x.runs below e) (y.runs below e) }
 
 pub stops-after : {p : Loaded} {natives : NativeAnswers} {d : ℕ} {h : List (Option ℕ)} {w v u : World} {a b : List Activation} {f : Fault} → Reaches p natives d h w a v b → StopsIn p natives d h v b u f → StopsIn p natives d h w a u f
-stops-after x y = record { stops = λ below e. let q = y.stops below e in (q.0, q.1, q.2, rules-trans (x.runs below e) q.3, q.4) }
+stops-after x y = record { stops = λ below e. let q = y.stops below e in (q.0, rules-trans (x.runs below e) q.1, q.2) }
 
 -- a call that goes on from where another run came
 pub ends-after : {p : Loaded} {natives : NativeAnswers} {d : ℕ} {h : List (Option ℕ)} {w v u : World} {a b c : List Activation} {r : Result (Unit {0}) Fault} → Reaches p natives d h w a v b → RunsTo p natives d h v b u c r → RunsTo p natives d h w a u c r
@@ -84,30 +83,22 @@ reaches-high {p} {natives} {d} {h} {active} {w} {v} {from} {top} {to} over step 
 pub not-idle : (w : World) (a : Activation) (below : List Activation) → ¬ IsIdle (at w (a ∷ below))
 not-idle w a below idle = let none : (a ∷ below) ≡ [] = idle.empty in absurd (cc none)
 
--- the world is as it was
-pub left-same : (w : World) (f : Fault) → Leaves w w f
-left-same w f = (refl, λ other. refl)
-
 -- no rule is left where one is due
 pub stops-steps : {p : Loaded} {natives : NativeAnswers} {d : ℕ} {h : List (Option ℕ)} {w : World} {a : Activation} → w.left ≡ 0 → StopsIn p natives d h w (a ∷ []) w Steps
-stops-steps {w = w} {a = a} none = record { stops = λ below e. (w, a ∷ below, left-same w Steps, done, (none, not-idle w a below)) }
+stops-steps {w = w} {a = a} none = record { stops = λ below e. (a ∷ below, done, (none, not-idle w a below)) }
 
 -- what is going on where a run stops
 module _ {p : Loaded} {natives : NativeAnswers} {d : ℕ} {h : List (Option ℕ)} {w : World} {from : List Activation} (goes_on : (below : List Activation) → ¬ IsIdle (at w (from ++ below))) (some : 0 < w.left) where
   -- memory was refused
   pub stops-memory : StopsIn p natives d h w from w Memory
-  stops-memory = record { stops = λ below e. (w, from ++ below, left-same w Memory, done, (some, goes_on below)) }
-
-  -- .. once objects and bindings had changed
-  pub stops-lost : {v : World} → KeepsTheRest w v → StopsIn p natives d h w from v Memory
-  stops-lost rest = record { stops = λ below e. (w, from ++ below, (rest, λ other. absurd (other refl)), done, (some, goes_on below)) }
+  stops-memory = record { stops = λ below e. (from ++ below, done, (some, goes_on below)) }
 
   -- no rule leads on
   pub stops-stuck : ((below : List Activation) (t : State) → ¬ Rule p natives (at w (from ++ below)) t) → ((below : List Activation) (o q : ℕ) (new : Value) → WritesNext (at w (from ++ below)) o q new → LacksField p w.store.tree o q) → ((below : List Activation) (effects : MetaEffects) → ¬ DoesNext (at w (from ++ below)) (TakeAnswer effects)) → StopsIn p natives d h w from w BadType
   stops-stuck stuck lacks asks = record {
     stops = λ below e.
         let is : IsStuck p natives (at w (from ++ below)) = record { goes_on = goes_on below; stuck = stuck below; lacks = lacks below; asks_none = asks below } in
-        (w, from ++ below, left-same w BadType, done, (some, inl is));
+        (from ++ below, done, (some, inl is));
   }
 
 -- the next rule gives a value that is not of its type
@@ -116,12 +107,12 @@ stops-ill {p} {natives} {w = w} {from = from} some next = record {
   stops = λ below e.
       let q = next below in
       let is : GoesIll p (at w (from ++ below)) (λ t. Rule p natives (at w (from ++ below)) t) = record { t = q.0; follows = q.1; ill = q.2 } in
-      (w, from ++ below, left-same w BadType, done, (some, inr (inr is)));
+      (from ++ below, done, (some, inr (inr is)));
 }
 
 -- .. the next statement writes one
 pub stops-ill-write : {p : Loaded} {natives : NativeAnswers} {d : ℕ} {h : List (Option ℕ)} {w : World} {from : List Activation} → 0 < w.left → ((below : List Activation) → WritesIll p (at w (from ++ below))) → StopsIn p natives d h w from w BadType
-stops-ill-write {w = w} {from = from} some ill = record { stops = λ below e. (w, from ++ below, left-same w BadType, done, (some, inr (inl (ill below)))) }
+stops-ill-write {w = w} {from = from} some ill = record { stops = λ below e. (from ++ below, done, (some, inr (inl (ill below)))) }
 
 -- by the next rule an object dies while a body of it is active
 pub stops-fatal : {p : Loaded} {natives : NativeAnswers} {d : ℕ} {h : List (Option ℕ)} {w : World} {from : List Activation} → 0 < w.left → ((below : List Activation) → shows below ≡ h → (t : State) × Rule p natives (at w (from ++ below)) t × IsWell p (at w (from ++ below)) t × (¬ Spares (at w (from ++ below)) t)) → StopsIn p natives d h w from w InUse
@@ -129,7 +120,7 @@ stops-fatal {p} {natives} {w = w} {from = from} some next = record {
   stops = λ below e.
       let q = next below e in
       let is : GoesFatal p (at w (from ++ below)) (λ t. Rule p natives (at w (from ++ below)) t) = record { t = q.0; follows = q.1; well = q.2; fatal = q.3 } in
-      (w, from ++ below, left-same w InUse, done, (some, is));
+      (from ++ below, done, (some, is));
 }
 
 -- the next rule nests too deep
@@ -138,12 +129,12 @@ stops-deep {p} {natives} {d} {w = w} {from = from} some next = record {
   stops = λ below e.
       let q = next below e in
       let is : GoesDeep p d (at w (from ++ below)) (λ t. Rule p natives (at w (from ++ below)) t) = record { t = q.0; follows = q.1; well = q.2; spared = q.3; acyclic = q.4.acyclic; deep = q.5 } in
-      (w, from ++ below, left-same w TooDeep, done, (some, inr is));
+      (from ++ below, done, (some, inr is));
 }
 
 -- .. the next statement writes, and what that notifies would
 pub stops-deep-write : {p : Loaded} {natives : NativeAnswers} {d : ℕ} {h : List (Option ℕ)} {w : World} {from : List Activation} → 0 < w.left → ((below : List Activation) → shows below ≡ h → WritesDeep p d (at w (from ++ below))) → StopsIn p natives d h w from w TooDeep
-stops-deep-write {w = w} {from = from} some deep = record { stops = λ below e. (w, from ++ below, left-same w TooDeep, done, (some, inl (deep below e))) }
+stops-deep-write {w = w} {from = from} some deep = record { stops = λ below e. (from ++ below, done, (some, inl (deep below e))) }
 
 -- a reason that stays one where more may follow
 pub reason-more : {Stuck Held Closes Shuts : Type 0} {Follows Comes : State → Type 0} {Due Owed : Type 0} (p : Loaded) (d : ℕ) (s : State) (left : ℕ) (f : Fault) → (Stuck → Held) → (Closes → Shuts) → ((t : State) → Follows t → Comes t) → (Due → Owed) → Reason Stuck Closes Follows Due p d s left f → Reason Held Shuts Comes Owed p d s left f
@@ -200,10 +191,6 @@ ends-unchanged {p} {natives} {d} {h} {w} {v} {from} {to} {f} r goes_on some same
     let Family : World → Type 0 = λ u. StopsIn p natives d h w from u f in
     ends-left r (subst Family (sym same.1) (stops-as same.0 (stops-memory goes_on some))) is
 
--- .. to one that left objects and bindings changed
-pub ends-lost : {p : Loaded} {natives : NativeAnswers} {d : ℕ} {h : List (Option ℕ)} {w v : World} {from to : List Activation} {f : Fault} (r : Result (Unit {0}) Fault) → ((below : List Activation) → ¬ IsIdle (at w (from ++ below))) → 0 < w.left → (f ≡ Memory) × KeepsTheRest w v → IsErrAnd r (λ y. y ≡ f) → RunsTo p natives d h w from v to r
-ends-lost r goes_on some lost is = ends-left r (stops-as lost.0 (stops-lost goes_on some lost.1)) is
-
 -- an expression had no value, or memory was refused
 pub stops-faulted : {p : Loaded} {natives : NativeAnswers} {d : ℕ} {h : List (Option ℕ)} {w : World} {a : Activation} {f : Fault} (e : EvalFault) → 0 < w.left → (e ≡ eval.BadType → StopsIn p natives d h w (a ∷ []) w BadType) → IsFaultOf e f → StopsIn p natives d h w (a ∷ []) w f
 stops-faulted eval.BadType some ill is = stops-as is (ill refl)
@@ -221,11 +208,14 @@ reaches-ticked {p} {natives} {d} {h} {w} {v} {a} {b} step low room agree x =
     let Family : World → Type 0 = λ u. Reaches p natives d h w (a ∷ []) u b in
     subst Family (sym x.1) (reaches-low step (λ o gone. gone) low (omega (arith, low, room)) agree refl x.0)
 
+pub stops-ticked : {p : Loaded} {natives : NativeAnswers} {d : ℕ} {h : List (Option ℕ)} {w v : World} {a : Activation} {f : Fault} → Ticks w v (Err f) → StopsIn p natives d h w (a ∷ []) v f
+stops-ticked {p} {natives} {d} {h} {w} {v} {a} {f} x =
+    let Family : World → Type 0 = λ u. StopsIn p natives d h w (a ∷ []) u f in
+    subst Family (sym x.2) (stops-as x.1 (stops-steps x.0))
+
 pub ends-ticked : {p : Loaded} {natives : NativeAnswers} {d : ℕ} {h : List (Option ℕ)} {w v : World} {a : Activation} {b : List Activation} (r : Result (Unit {0}) Fault) → ((below : List Activation) → shows below ≡ h → Rule p natives (at w (a ∷ below)) (at w (b ++ below))) → length b ≤ 1 → length h < d → AgreeIn p w → Ticks w v r → RunsTo p natives d h w (a ∷ []) v b r
 ends-ticked (Ok _) step low room agree x = record { cases = reaches-ticked step low room agree x }
-ends-ticked {p} {natives} {d} {h} {w} {v} {a} {b} (Err f) step low room agree x =
-    let Family : World → Type 0 = λ u. StopsIn p natives d h w (a ∷ []) u f in
-    record { cases = subst Family (sym x.2) (stops-as x.1 (stops-steps x.0)) }
+ends-ticked (Err f) step low room agree x = record { cases = stops-ticked x }
 
 -- .. which writes an entry down, and leaves the stack as high as it was
 pub ends-noted : {p : Loaded} {natives : NativeAnswers} {d : ℕ} {h : List (Option ℕ)} {w v : World} {a b : Activation} (target : World) (r : Result (Unit {0}) Fault) → ((below : List Activation) → shows below ≡ h → Rule p natives (at w (a ∷ below)) (at target (b ∷ below))) → NoneDied w.store.tree target.store.tree → length h < d → AgreeIn p target → target.left ≡ w.left - 1 → 0 < w.left → GoesTo w target v r → RunsTo p natives d h w (a ∷ []) v (b ∷ []) r

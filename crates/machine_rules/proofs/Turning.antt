@@ -27,7 +27,7 @@ use Rattle.machine_rules.specs.code.Going.{done}
 use Rattle.machine_rules.specs.code.Sound.{Waits, IsSoundWorld, AgreeIn}
 use Rattle.machine_rules.proofs.Beginning.{begun_world, begins-there, top-fits}
 use Rattle.machine_rules.proofs.Keeps.{reaches-keeps}
-use Rattle.machine_rules.proofs.Reaching.{left-same, none-spared, reaches-low, reaches-high, reaches-then, stops-after, ends-unchanged}
+use Rattle.machine_rules.proofs.Reaching.{none-spared, reaches-low, reaches-high, reaches-then, stops-after, ends-unchanged}
 use Rattle.machine_rules.proofs.Bodies.{advances-left}
 use Rattle.machine_state.specs.Connections.{is_living}
 use Rattle.machine_rules.proofs.Beginning.{has-life}
@@ -43,7 +43,7 @@ turn-goes-on {turn} w is below idle = let both : Some turn ≡ None = sym is ∙
 
 -- .. and no rule is left
 pub stops-turn : {p : Loaded} {natives : NativeAnswers} {d : ℕ} {w : World} {turn : Turn} → w.turn ≡ Some turn → w.left ≡ 0 → StopsIn p natives d [] w [] w Steps
-stops-turn {w = w} is none = record { stops = λ below e. (w, below, left-same w Steps, done, (none, turn-goes-on w is below)) }
+stops-turn {w = w} is none = record { stops = λ below e. (below, done, (none, turn-goes-on w is below)) }
 
 -- .. or its next call doesn't begin
 pub advances-barred : {p : Loaded} {natives : NativeAnswers} {d : ℕ} {active : List (Option ℕ)} {w : World} {turn : Turn} {f : Fault} (r : Result (Unit {0}) Fault) → w.turn ≡ Some turn → active ≡ [] → 0 < d → 0 < w.left → IsBarred d active f → IsErrAnd r (λ y. y ≡ f) → Advances p natives d [] w [] w [] r

@@ -9,7 +9,7 @@ use Rattle.object_tree.specs.Typed.{ReadsAs}
 use Rattle.prop_bindings.specs.declared.binding.Binding.{Binding}
 use Rattle.prop_bindings.specs.declared.place.Place.{Place}
 use Rattle.prop_bindings.specs.Bindings.{without}
-use Rattle.prop_bindings.specs.Changes.{IsWritten}
+use Rattle.prop_bindings.specs.Changes.{IsWritten, one}
 use Rattle.prop_bindings.specs.Fits.{FitsAt}
 use Rattle.machine_state.specs.declared.fault.Fault.{Fault}
 use Rattle.machine_state.specs.declared.telling.Cause.TheVariants as cause
@@ -37,7 +37,7 @@ writes-there : {p : Loaded} {n : ℕ} {place : Place} {x : Object} {property : M
     Writes p (at w stack) over place.object place.property new (at v (Update (notified p v.store.tree changed) ∷ over))
 writes-there {p} {n} {place} {x} {property} {new} {changed} {v} w stack over f h depth_is =
     let top : List Activation = Update (notified p v.store.tree changed) ∷ over in
-    let With : List Binding → Type 0 = λ cs. IsWritten w.store.bindings cs w.store.tree v.store.tree place new changed in
+    let With : List Binding → Type 0 = λ cs. IsWritten w.store.bindings cs w.store.tree v.store.tree (one place new) changed in
     let Told : ℕ → Type 0 = λ d. AreTold p v.store.tree d cause.Write place changed h.lines in
     let state_of : List Binding → State = λ cs. record (at w stack) { objects = v.store.tree; bindings = cs; stack = top; trace = w.trace ++ h.lines } in
     let settles : Settles p (at w stack) over cause.Write place v.store.tree (without place w.store.bindings) changed (at v top) = record {

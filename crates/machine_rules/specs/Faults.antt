@@ -1,5 +1,5 @@
 -- What comes next where a run stops, and why it stops (docs/machine.md, "Faults").
-use Rattle.std.specs.Prelude.{◌≡◌, ◌≢◌, ℕ, ◌<◌, ◌≤◌, ◌⊎◌, List, ◌∷◌, length, None, Some}
+use Rattle.std.specs.Prelude.{◌≡◌, ℕ, ◌<◌, ◌≤◌, ◌⊎◌, List, ◌∷◌, length, None, Some}
 use Rattle.signatures.specs.declared.value.Value.{Value}
 use Rattle.meta_model.specs.declared.object.MetaProperty.{MetaProperty}
 use Rattle.meta_model.specs.declared.object.Statement.{Statement}
@@ -10,8 +10,6 @@ use Rattle.object_tree.specs.Typed.{ReadsAs}
 use Rattle.machine_state.specs.declared.fault.Fault.{Fault}
 use Rattle.machine_state.specs.declared.fault.Fault.TheVariants.{BadType, TooDeep, BindingLoop, InUse, Steps, Memory, Stopped}
 use Rattle.machine_state.specs.State.{Step, Run, State, Activation, Body}
-use Rattle.machine_state.specs.declared.world.World.{World}
-use Rattle.machine_state.specs.Worlds.{KeepsTheRest}
 use Rattle.machine_rules.specs.Operations.{Operation, Write, operation, operation_of_step}
 use Rattle.machine_rules.specs.There.{IsField}
 use Rattle.machine_rules.specs.Good.{IsWell, Spares, IsAcyclic}
@@ -104,8 +102,3 @@ Reason Stuck Closes Follows Due p depth s left TooDeep = (0 < left) × (WritesDe
 Reason Stuck Closes Follows Due p depth s left Steps = (left ≡ 0) × Due
 Reason Stuck Closes Follows Due p depth s left Memory = (0 < left) × Due
 Reason Stuck Closes Follows Due p depth s left Stopped = ⊥
-
--- what is left where a run stops in the world u: that world; where memory was refused, with other objects and bindings, of
--- which nothing was written down
-abbrev pub Leaves : World → World → Fault → Type 0
-Leaves u v fault = KeepsTheRest u v × (fault ≢ Memory → v ≡ u)

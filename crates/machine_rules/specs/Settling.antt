@@ -1,7 +1,7 @@
 -- What a write and a bind make of a state: all values that follow are settled in the same rule, and then notified
 -- (docs/machine.md, "Rules" and "Bindings"; Qt 6, "The Property System": a notify signal is emitted when the value has
 -- changed; "Qt Bindable Properties").
-use Rattle.std.specs.Prelude.{◌≡◌, ℕ, suc, is_some, List, ◌∷◌, ◌++◌, length, filter, Option, None, slice_get}
+use Rattle.std.specs.Prelude.{◌≡◌, ℕ, suc, is_some, List, [], ◌∷◌, ◌++◌, length, filter, Option, None, slice_get}
 use Rattle.std.specs.Option.{option_and_then}
 use Rattle.signatures.specs.declared.value.Value.{Value}
 use Rattle.meta_model.specs.declared.object.MetaObject.{MetaObject}
@@ -12,7 +12,7 @@ use Rattle.object_tree.specs.Objects.{class_of}
 use Rattle.prop_bindings.specs.declared.binding.Binding.{Binding}
 use Rattle.prop_bindings.specs.declared.place.Place.{Place}
 use Rattle.prop_bindings.specs.Bindings.{binding_at, without, replaced, Settled}
-use Rattle.prop_bindings.specs.Changes.{DifferInValues, AreChanged, in_order, IsWritten}
+use Rattle.prop_bindings.specs.Changes.{DifferInValues, AreChanged, in_order, IsWritten, one}
 use Rattle.prop_bindings.specs.Places.{property_of, values_in}
 use Rattle.machine_state.specs.declared.entry.Entry.{Entry}
 use Rattle.machine_state.specs.declared.telling.Cause.{Cause}
@@ -59,7 +59,7 @@ pub record Writes (p : Loaded) (s : State) (below : List Activation) (o q : ℕ)
   pub is : IsField p s.objects o q object property
   pub objects : List Object
   pub changed : List Place
-  pub written : IsWritten s.bindings (without (property_of o q) s.bindings) s.objects objects (property_of o q) new changed
+  pub written : IsWritten s.bindings (without (property_of o q) s.bindings) s.objects objects (one (property_of o q) new) changed
   pub settles : Settles p s below Write (property_of o q) objects (without (property_of o q) s.bindings) changed t
 
 -- A binding is installed in place of its target's old one, and stands last. Whether it closes a chain of bindings is not
@@ -73,5 +73,5 @@ pub record Installs (p : Loaded) (s : State) (below : List Activation) (b : Bind
   pub differ : DifferInValues s.objects objects
   pub settled : Settled (binding_at (replaced s.bindings b)) (values_in objects)
   pub kept : (q : Place) → binding_at (replaced s.bindings b) q ≡ None → values_in objects q ≡ values_in s.objects q
-  pub changes : AreChanged s.objects objects (in_order b.target s.bindings) changed
+  pub changes : AreChanged s.objects objects (in_order (b.target ∷ []) s.bindings) changed
   pub settles : Settles p s below Bind b.target objects (replaced s.bindings b) changed t

@@ -1,68 +1,99 @@
 -- What a write and the installing of a binding leave of the world.
-use Rattle.std.proofs.Common.{◌≡◌, ℕ, ◌+◌, ◌-◌, List, [], ◌∷◌, ◌++◌, Result, Ok, Err, IsErrAnd, IfErr, ap, sym, ◌∙◌, subst}
+use Rattle.std.proofs.Common.{◌≡◌, ℕ, ◌+◌, ◌-◌, List, [], ◌∷◌, ◌++◌, length, take, Result, Ok, Err, IsErrAnd, refl, ap, sym, ◌∙◌, subst}
 use Rattle.signatures.specs.declared.value.Value.{Value}
 use Rattle.meta_model.specs.Loaded.{Loaded}
+use Rattle.object_tree.specs.declared.object.Object.{Object}
+use Rattle.prop_bindings.specs.declared.binding.Binding.{Binding}
 use Rattle.prop_bindings.specs.declared.fault.BindFault.{BindFault}
 use Rattle.prop_bindings.specs.declared.fault.BindFault.TheVariants as bind
 use Rattle.prop_bindings.specs.declared.place.Place.{Place}
-use Rattle.prop_bindings.specs.Calls.{IsNotBound}
+use Rattle.prop_bindings.specs.declared.planned.Planned.{Planned}
+use Rattle.prop_bindings.specs.declared.planned.PlannedBind.{PlannedBind}
+use Rattle.prop_bindings.specs.Bindings.{without, replaced}
+use Rattle.prop_bindings.specs.Calls.{IsNotBound, new_binding}
+use Rattle.prop_bindings.specs.Changes.{IsWritten, one}
+use Rattle.prop_bindings.specs.Fits.{Agree}
+use Rattle.prop_bindings.specs.Plans.{after, IsPlannedBind}
 use Rattle.machine_state.specs.declared.entry.Entry.{Entry}
 use Rattle.machine_state.specs.declared.entry.Entry.TheVariants.{Accepted}
+use Rattle.machine_state.specs.declared.telling.Cause.TheVariants.{Write, Bind}
 use Rattle.machine_state.specs.declared.world.World.{World}
-use Rattle.machine_state.specs.Worlds.{with_bound, noted, counted, accepting_entries, KeepsTheRest, HasWritten, IsWrittenUntold, HasBound, IsBoundUntold, IsUnbound, BindsIn}
-
--- a rule is carried out, and the lines of what it does are written down
-pub noted-told : (w u : World) (lines trace : List Entry) → KeepsTheRest w u → trace ≡ u.trace ++ lines → record u { trace = trace; left = u.left - 1 } ≡ with_bound (noted w lines) u.store.tree u.store.bindings
-noted-told w u lines trace keeps told =
-    let full : trace ≡ w.trace ++ lines = told ∙ ap (λ (z : World). z.trace ++ lines) keeps in
-    ap (λ (z : World). record z { trace = trace; left = z.left - 1 }) keeps
-    ∙ ap (λ (s : List Entry). record (with_bound w u.store.tree u.store.bindings) { trace = s; left = w.left - 1 }) full
-
--- an event is counted, and so they are
-pub counted-told : (w u x : World) (lines trace : List Entry) → KeepsTheRest w u → trace ≡ u.trace ++ Accepted (u.events + 1) ∷ [] ++ lines → x ≡ counted (record u { trace = trace }) → x ≡ with_bound (accepting_entries w lines) u.store.tree u.store.bindings
-counted-told w u x lines trace keeps told is =
-    let full : trace ≡ w.trace ++ Accepted (w.events + 1) ∷ [] ++ lines = told ∙ ap (λ (z : World). z.trace ++ Accepted (z.events + 1) ∷ [] ++ lines) keeps in
-    is
-    ∙ ap (λ (z : World). counted (record z { trace = trace })) keeps
-    ∙ ap (λ (s : List Entry). counted (record (with_bound w u.store.tree u.store.bindings) { trace = s })) full
+use Rattle.machine_state.specs.Telling.{AreTold}
+use Rattle.machine_state.specs.Worlds.{with_bound, noted, counted, accepting_entries, HasWritten, HasBound, BindsIn}
+use Rattle.machine_state.specs.code.Planned.{WillWrite}
 
 -- ---- a property is written
-pub written-told : (p : Loaded) (depth : ℕ) (at : Place) (value : Value) (w u x : World) (told : List Entry → World) (changed : List Place) (lines : List Entry) → IsWrittenUntold p depth at value w changed lines u → x ≡ with_bound (told lines) u.store.tree u.store.bindings → HasWritten p depth at value w told changed x
-written-told p depth at value w u x told changed lines untold is =
-    subst (HasWritten p depth at value w told changed) (sym is) (record {
-      writes = untold.written.writes;
-      lines = untold.written.lines;
-      are_told = untold.written.are_told;
-      gives = ap (λ (s : List Entry). with_bound (told s) u.store.tree u.store.bindings) (sym untold.are);
-    })
+-- what a write makes of a world whose trace took the lines
+abbrev written_over : Planned → World → World
+written_over plan u = with_bound u (after plan u.store.tree) (without plan.target u.store.bindings)
 
--- ---- a binding is installed
-module _ (p : Loaded) (site target : ℕ) (sources : List ℕ) (w : World) where
-  -- memory was refused
-  unbound-short : (v : World) → KeepsTheRest w v → (fault : BindFault) → fault ≡ bind.Memory → IsUnbound p site target sources w fault v
-  unbound-short v keeps fault is = record {
-    cause = subst (IsNotBound p w.store.tree w.store.bindings site target sources) (sym is) IsNotBound.no_memory;
-    keeps = keeps;
-    unchanged = λ other. absurd (other is);
-  }
+module _ (p : Loaded) (at : Place) (value : Value) (w v : World) (plan : Planned) (will : WillWrite p w.store.tree w.store.bindings at value plan) (lines : List Entry) where
+  pub has-written : (depth : ℕ) (told : List Entry → World) (changed : List Place) → AreTold p (after plan w.store.tree) depth Write plan.target plan.changed lines → changed ≡ plan.changed → v ≡ with_bound (told lines) (after plan w.store.tree) (without plan.target w.store.bindings) → HasWritten p depth at value w told changed v
+  has-written depth told changed are_told same is =
+      let objects : List Object = after plan w.store.tree in
+      let made : World = with_bound (told lines) objects (without plan.target w.store.bindings) in
+      let writes : IsWritten w.store.bindings (without plan.target w.store.bindings) w.store.tree objects (one at value) plan.changed =
+      subst (λ (q : Place). IsWritten w.store.bindings (without q w.store.bindings) w.store.tree objects (one at value) plan.changed) (sym will.target) will.writes in
+      let has : HasWritten p depth at value w told plan.changed made = record {
+        writes = writes;
+        lines = lines;
+        are_told = subst (λ (q : Place). AreTold p objects depth Write q plan.changed lines) will.target are_told;
+        gives = refl;
+      } in
+      subst (λ (xs : List Place). HasWritten p depth at value w told xs v) (sym same) (subst (HasWritten p depth at value w told plan.changed) (sym is) has)
 
-  pub installs-short : {X : Type 0} (v : World) → KeepsTheRest w v → (r : Result X BindFault) → IsErrAnd r (λ fault. fault ≡ bind.Memory) → IfErr r (λ fault. IsUnbound p site target sources w fault v)
-  installs-short v keeps (Ok x) is = tt
-  installs-short v keeps (Err fault) is = unbound-short v keeps fault is
+  pub written-agrees : (told : World) → v ≡ with_bound told (after plan w.store.tree) (without plan.target w.store.bindings) → Agree p v.store.tree v.store.bindings
+  written-agrees told is =
+      subst (λ (z : World). Agree p z.store.tree z.store.bindings) (sym is)
+      (subst (λ (q : Place). Agree p (after plan w.store.tree) (without q w.store.bindings)) (sym will.target) will.agree)
 
-  pub binds-short : (told : List Entry → World) (v : World) → KeepsTheRest w v → (r : Result (List Place) BindFault) → IsErrAnd r (λ fault. fault ≡ bind.Memory) → BindsIn p site target sources w told r v
-  binds-short told v keeps (Ok x) is = absurd is
-  binds-short told v keeps (Err fault) is = unbound-short v keeps fault is
+-- a rule is carried out, and the lines of what it does are written down
+pub noted-over : (w v : World) (plan : Planned) (lines trace : List Entry) → trace ≡ w.trace ++ lines → v ≡ written_over plan (record w { trace = trace; left = w.left - 1 }) → v ≡ with_bound (noted w lines) (after plan w.store.tree) (without plan.target w.store.bindings)
+noted-over w v plan lines trace full is = is ∙ ap (λ (s : List Entry). written_over plan (record w { trace = s; left = w.left - 1 })) full
 
-  pub bound-told : (u x : World) (told : List Entry → World) (changed : List Place) (lines : List Entry) → IsBoundUntold p site target sources w changed lines u → x ≡ with_bound (told lines) u.store.tree u.store.bindings → HasBound p site target sources w told changed x
-  bound-told u x told changed lines untold is =
-      subst (HasBound p site target sources w told changed) (sym is) (record {
-        binds = untold.bound.binds;
-        lines = untold.bound.lines;
-        are_told = untold.bound.are_told;
-        gives = ap (λ (s : List Entry). with_bound (told s) u.store.tree u.store.bindings) (sym untold.are);
-      })
+-- an event is counted, and so they are
+pub counted-over : (w u v : World) (plan : Planned) (lines trace : List Entry) → trace ≡ w.trace ++ Accepted (w.events + 1) ∷ [] ++ lines → u ≡ counted (record w { trace = trace }) → v ≡ written_over plan u → v ≡ with_bound (accepting_entries w lines) (after plan w.store.tree) (without plan.target w.store.bindings)
+counted-over w u v plan lines trace full counts is =
+    is ∙ ap (written_over plan) (counts ∙ ap (λ (s : List Entry). counted (record w { trace = s })) full)
 
--- only the trace was to be changed
-pub keeps-traced : (w u : World) (trace : List Entry) → KeepsTheRest w u → trace ≡ u.trace → KeepsTheRest w (record u { trace = trace })
-keeps-traced w u trace keeps same = ap (λ (s : List Entry). record u { trace = s }) same ∙ keeps
+-- ---- a binding is installed, or memory was refused
+pub binds-short : (p : Loaded) (site target : ℕ) (sources : List ℕ) (w v : World) (told : List Entry → World) → v ≡ w → (r : Result (List Place) BindFault) → IsErrAnd r (λ fault. fault ≡ bind.Memory) → BindsIn p site target sources w told r v
+binds-short p site target sources w v told same (Ok x) is = absurd is
+binds-short p site target sources w v told same (Err fault) is =
+    (subst (IsNotBound p w.store.tree w.store.bindings site target sources) (sym is) IsNotBound.no_memory, same)
+
+-- the trace loses its lines again
+first-kept : (xs ys zs : List Entry) → take (length xs) (xs ++ ys ++ zs) ≡ xs
+first-kept [] ys zs = refl
+first-kept (x ∷ xs) ys zs = ap (λ (front : List Entry). x ∷ front) (first-kept xs ys zs)
+
+pub lines-lost : (w : World) (event lines full trace : List Entry) (told : ℕ) (objects : List Object) (bindings : List Binding) → told ≡ length w.trace → full ≡ w.trace ++ event ++ lines → trace ≡ take told full → bindings ≡ w.store.bindings → objects ≡ w.store.tree → record (with_bound w objects bindings) { trace = trace } ≡ w
+lines-lost w event lines full trace told objects bindings count filled kept bindings_are objects_are =
+    let same : trace ≡ w.trace =
+    kept
+    ∙ ap (λ (n : ℕ). take n full) count
+    ∙ ap (take (length w.trace)) filled
+    ∙ first-kept w.trace event lines in
+    ap (λ (s : List Entry). record (with_bound w objects bindings) { trace = s }) same
+    ∙ ap (λ (os : List Object). with_bound w os bindings) objects_are
+    ∙ ap (λ (bs : List Binding). with_bound w w.store.tree bs) bindings_are
+
+module _ (p : Loaded) (site target : ℕ) (sources : List ℕ) (w v : World) (plan : PlannedBind) (will : IsPlannedBind p site target sources w.store.bindings w.store.tree plan) where
+  pub has-bound : (lines trace : List Entry) (changed : List Place) (objects : List Object) (bindings : List Binding) → AreTold p (after plan.planned w.store.tree) 1 Bind plan.planned.target plan.planned.changed lines → changed ≡ plan.planned.changed → trace ≡ w.trace ++ Accepted (w.events + 1) ∷ [] ++ lines → objects ≡ after plan.planned w.store.tree → bindings ≡ replaced w.store.bindings plan.reader → v ≡ counted (with_bound (record w { trace = trace }) objects bindings) → HasBound p site target sources w (accepting_entries w) changed v
+  has-bound lines trace changed objects bindings are_told same full tree_is bindings_are is =
+      let new : List Object = after plan.planned w.store.tree in
+      let cs : List Binding = replaced w.store.bindings plan.reader in
+      let made : World = with_bound (accepting_entries w lines) new cs in
+      let first : plan.planned.target ≡ (new_binding will.bound.may).target = will.at ∙ ap (λ (b : Binding). b.target) will.binding in
+      let is_made : v ≡ made =
+      is
+      ∙ ap (λ (os : List Object). counted (with_bound (record w { trace = trace }) os bindings)) tree_is
+      ∙ ap (λ (bs : List Binding). counted (with_bound (record w { trace = trace }) new bs)) bindings_are
+      ∙ ap (λ (s : List Entry). counted (with_bound (record w { trace = s }) new cs)) full in
+      let has : HasBound p site target sources w (accepting_entries w) plan.planned.changed made = record {
+        binds = will.bound;
+        lines = lines;
+        are_told = subst (λ (q : Place). AreTold p new 1 Bind q plan.planned.changed lines) first are_told;
+        gives = refl;
+      } in
+      subst (λ (xs : List Place). HasBound p site target sources w (accepting_entries w) xs v) (sym same) (subst (HasBound p site target sources w (accepting_entries w) plan.planned.changed) (sym is_made) has)

@@ -20,8 +20,13 @@ use Rattle.prop_bindings.specs.declared.place.Place.{Place}
 use Rattle.prop_bindings.specs.declared.binding.Binding.{Binding}
 use Rattle.prop_bindings.specs.Places.{values_in}
 use Rattle.prop_bindings.specs.Bindings.{without, replaced}
-use Rattle.prop_bindings.specs.Changes.{valueless, DifferInValues, ReadsAlike, AreChanged, none_changed, one_changed, one_stayed, IsWritten, IsInstalled}
+use Rattle.prop_bindings.specs.Changes.{valueless, DifferInValues, ReadsAlike, AreChanged, none_changed, one_changed, one_stayed, IsWritten, IsInstalled, one}
+use Rattle.prop_bindings.specs.declared.planned.Planned.{Planned}
+use Rattle.prop_bindings.specs.declared.planned.PlannedBind.{PlannedBind}
 use Rattle.prop_bindings.specs.Fits.{IsFit, Agree}
+use Rattle.prop_bindings.specs.Calls.{new_binding}
+use Rattle.prop_bindings.specs.Plans.{after, IsPlannedBind}
+use Rattle.machine_state.specs.code.Planned.{CanBeTold, WillWrite}
 use Rattle.machine_state.specs.Telling.{HasValue, HaveValues}
 
 module _ (p : Loaded) (objects : List Object) where
@@ -77,10 +82,10 @@ module _ (p : Loaded) (objects : List Object) where
         last (x ∷ xs) h = last xs h.1
 
 -- ---- objects that differ in values alone
-abbrev emptied : Life → Life
+abbrev pub emptied : Life → Life
 emptied l = record l { values = [] }
 
-get-map : (f : Object → Object) (xs : List Object) (o : ℕ) → slice_get (map f xs) o ≡ option_map f (slice_get xs o)
+pub get-map : (f : Object → Object) (xs : List Object) (o : ℕ) → slice_get (map f xs) o ≡ option_map f (slice_get xs o)
 get-map f [] o = refl
 get-map f (x ∷ xs) zero = refl
 get-map f (x ∷ xs) (suc o) = get-map f xs o
@@ -119,10 +124,18 @@ module _ (p : Loaded) (old new : List Object) (before : AreTyped p old) (after :
   all-changed-have ps changed (one_changed {p = at} {ps = qs} {changed = more} unlike rest) = (changed-has at unlike, all-changed-have qs more rest)
   all-changed-have ps changed (one_stayed {ps = qs} alike rest) = all-changed-have qs changed rest
 
+  -- what will have a value has one
+  all-have : (places : List Place) → AllByRecursion (HasValue p old) places → AllByRecursion (HasValue p new) places
+  all-have [] h = tt
+  all-have (at ∷ rest) h = (still-has at h.0, all-have rest h.1)
+
+  pub still-have : (first : Place) (changed : List Place) → HaveValues p old first changed → HaveValues p new first changed
+  still-have first changed h = record { of_first = still-has first h.of_first; of_changed = all-have changed h.of_changed }
+
 -- ---- a write and a bind
-pub written-have : (p : Loaded) (bs cs : List Binding) (old new : List Object) (at : Place) (v : Value) (changed : List Place) → AreTyped p old → AreTyped p new → IsWritten bs cs old new at v changed → HaveValues p new at changed
+pub written-have : (p : Loaded) (bs cs : List Binding) (old new : List Object) (at : Place) (v : Value) (changed : List Place) → AreTyped p old → AreTyped p new → IsWritten bs cs old new (one at v) changed → HaveValues p new at changed
 written-have p bs cs old new at v changed before after is = record {
-  of_first = value-has p new after at v is.written;
+  of_first = value-has p new after at v is.written.0;
   of_changed = all-changed-have p old new before after is.objects _ changed is.changes;
 }
 
@@ -131,3 +144,25 @@ installed-have p bs cs old new b changed before agree is = record {
   of_first = bound-has p new agree.typed bs cs b is.bindings agree;
   of_changed = all-changed-have p old new before agree.typed is.objects _ changed is.changes;
 }
+
+-- ---- plans
+pub can-be-told : (p : Loaded) (objects : List Object) (plan : Planned) → AreTyped p objects → AreTyped p (after plan objects) → DifferInValues objects (after plan objects) → HaveValues p (after plan objects) plan.target plan.changed → CanBeTold p objects plan
+can-be-told p objects plan before after_it differ will_have = record {
+  have = still-have p (after plan objects) objects after_it before (sym differ) plan.target plan.changed will_have;
+  will_have = will_have;
+  differ = differ;
+}
+
+pub written-ahead : (p : Loaded) (objects : List Object) (bs : List Binding) (at : Place) (v : Value) (plan : Planned) → Agree p objects bs → WillWrite p objects bs at v plan → CanBeTold p objects plan
+written-ahead p objects bs at v plan agree will =
+    can-be-told p objects plan agree.typed will.agree.typed will.writes.objects
+    (subst (λ (q : Place). HaveValues p (after plan objects) q plan.changed) (sym will.target)
+    (written-have p bs (without at bs) objects (after plan objects) at v plan.changed agree.typed will.agree.typed will.writes))
+
+pub bound-ahead : (p : Loaded) (number target : ℕ) (sources : List ℕ) (objects : List Object) (bs : List Binding) (plan : PlannedBind) → Agree p objects bs → IsPlannedBind p number target sources bs objects plan → Agree p (after plan.planned objects) (replaced bs plan.reader) → CanBeTold p objects plan.planned
+bound-ahead p number target sources objects bs plan agree is will =
+    let b : Binding = new_binding is.bound.may in
+    let same : plan.planned.target ≡ b.target = is.at ∙ ap (λ (x : Binding). x.target) is.binding in
+    can-be-told p objects plan.planned agree.typed will.typed is.bound.installs.objects
+    (subst (λ (q : Place). HaveValues p (after plan.planned objects) q plan.planned.changed) (sym same)
+    (installed-have p bs (replaced bs plan.reader) objects (after plan.planned objects) b plan.planned.changed agree.typed will is.bound.installs))

@@ -3,4 +3,5 @@ pub mod Passing
 pub mod Deferring
 pub mod Changed
 pub mod Told
+pub mod Ahead
 pub mod Bound

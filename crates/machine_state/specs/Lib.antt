@@ -8,6 +8,7 @@ pub mod Connections
 pub mod Accepting
 pub mod Worlds
 pub mod Lists
+pub mod code
 pub use Rattle.object_tree.specs.Adopting
 pub use Rattle.object_tree.specs.Creating
 pub use Rattle.object_tree.specs.Objects as ObjectTreeObjects

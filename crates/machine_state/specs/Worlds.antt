@@ -1,5 +1,5 @@
 -- What the world's functions do, and what a world says of the machine's state (docs/machine.md, "The state").
-use Rattle.std.specs.Prelude.{◌≡◌, ◌≢◌, ℕ, Bool, false, ◌+◌, ◌-◌, ◌<◌, List, [], ◌++◌, Option, None, Some, Result, Ok, Err}
+use Rattle.std.specs.Prelude.{◌≡◌, ℕ, Bool, false, ◌+◌, ◌-◌, ◌<◌, List, [], ◌++◌, Option, None, Some, Result, Ok, Err}
 use Rattle.std.specs.List.{find}
 use Rattle.signatures.specs.declared.value.Value.{Value}
 use Rattle.texts.specs.declared.connection.ConnectionType.{ConnectionType}
@@ -14,10 +14,9 @@ use Rattle.object_tree.specs.declared.object.Object.{Object}
 use Rattle.object_tree.specs.Objects.{life_of, change_life, blocked}
 use Rattle.prop_bindings.specs.declared.binding.Binding.{Binding}
 use Rattle.prop_bindings.specs.declared.fault.BindFault.{BindFault}
-use Rattle.prop_bindings.specs.declared.fault.BindFault.TheVariants as bind
 use Rattle.prop_bindings.specs.declared.place.Place.{Place}
 use Rattle.prop_bindings.specs.Calls.{IsBound, IsNotBound, new_binding}
-use Rattle.prop_bindings.specs.Changes.{IsWritten}
+use Rattle.prop_bindings.specs.Changes.{IsWritten, one}
 use Rattle.delete_later.specs.declared.store.Store.{Store}
 use Rattle.delete_later.specs.Ending.{died_in, ended_in}
 use Rattle.delete_later.specs.Scheduling.{empty, scheduled_in}
@@ -133,28 +132,19 @@ abbrev pub ending : World → ℕ → World
 ending w o = record (ticked w) { store = ended_in o w.store }
 
 -- ---- properties that change
--- nothing differs but objects and bindings
-abbrev pub KeepsTheRest : World → World → Type 0
-KeepsTheRest w v = v ≡ with_bound w v.store.tree v.store.bindings
 
 -- A property was written, and this is written down, which leads to the world `told lines` but for objects and bindings.
 pub record HasWritten (p : Loaded) (depth : ℕ) (at : Place) (value : Value) (w : World) (told : List Entry → World)
     (changed : List Place) (v : World) : Type 0 where
-  pub writes : IsWritten w.store.bindings v.store.bindings w.store.tree v.store.tree at value changed
+  pub writes : IsWritten w.store.bindings v.store.bindings w.store.tree v.store.tree (one at value) changed
   pub lines : List Entry
   pub are_told : AreTold p v.store.tree depth Write at changed lines
   pub gives : v ≡ with_bound (told lines) v.store.tree v.store.bindings
 
--- .. and these lines are to be written down of it, but none of them stands yet
-pub record IsWrittenUntold (p : Loaded) (depth : ℕ) (at : Place) (value : Value) (w : World) (changed : List Place)
-    (lines : List Entry) (v : World) : Type 0 where
-  pub written : HasWritten p depth at value w (λ _. w) changed v
-  pub are : written.lines ≡ lines
-
--- .. or memory was refused; then nothing is written down, and nothing changed but objects and bindings
+-- .. or memory was refused, and nothing changed
 abbrev pub WritesIn : Loaded → ℕ → Place → Value → World → (List Entry → World) → Result (List Place) Fault → World → Type 0
 WritesIn p depth at value w told (Ok changed) v = HasWritten p depth at value w told changed v
-WritesIn p depth at value w told (Err fault) v = (fault ≡ Memory) × KeepsTheRest w v
+WritesIn p depth at value w told (Err fault) v = (fault ≡ Memory) × (v ≡ w)
 
 -- the binding of a site was installed, and this is written down
 pub record HasBound (p : Loaded) (site target : ℕ) (sources : List ℕ) (w : World) (told : List Entry → World)
@@ -164,23 +154,11 @@ pub record HasBound (p : Loaded) (site target : ℕ) (sources : List ℕ) (w : W
   pub are_told : AreTold p v.store.tree 1 Bind (new_binding binds.may).target changed lines
   pub gives : v ≡ with_bound (told lines) v.store.tree v.store.bindings
 
--- .. and these lines are to be written down of it, but none of them stands yet
-pub record IsBoundUntold (p : Loaded) (site target : ℕ) (sources : List ℕ) (w : World) (changed : List Place)
-    (lines : List Entry) (v : World) : Type 0 where
-  pub bound : HasBound p site target sources w (λ _. w) changed v
-  pub are : bound.lines ≡ lines
-
--- why it wasn't installed: then nothing changed; where memory was refused, nothing but objects and bindings
-pub record IsUnbound (p : Loaded) (site target : ℕ) (sources : List ℕ) (w : World) (fault : BindFault) (v : World)
-    : Type 0 where
-  pub cause : IsNotBound p w.store.tree w.store.bindings site target sources fault
-  pub keeps : KeepsTheRest w v
-  pub unchanged : fault ≢ bind.Memory → v ≡ w
-
--- the binding of a site was installed, or it wasn't
+-- .. or it wasn't, and nothing changed
 abbrev pub BindsIn : Loaded → ℕ → ℕ → List ℕ → World → (List Entry → World) → Result (List Place) BindFault → World → Type 0
 BindsIn p site target sources w told (Ok changed) v = HasBound p site target sources w told changed v
-BindsIn p site target sources w told (Err fault) v = IsUnbound p site target sources w fault v
+BindsIn p site target sources w told (Err fault) v =
+    IsNotBound p w.store.tree w.store.bindings site target sources fault × (v ≡ w)
 
 -- ---- the limit of rules
 -- a rule that writes nothing down was carried out, or none was left

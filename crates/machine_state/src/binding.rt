@@ -1,11 +1,14 @@
-//! Writes and binds, and what changes with them. Once the values have changed, want of memory for the lines leaves them so:
-//! the machine stops then, and its trace ends with the rule before.
+//! Writes and binds, and what changes with them. A change is planned, the lines that tell of it are made, and the trace takes
+//! them, before anything else changes: where memory is refused for one of these, the world is as it was.
 
 ghost use Rattle.std.specs.Prelude.{◌≡◌, ◌<◌, ◌^◌, IfOk, IfErr};
+ghost use Rattle.prop_bindings.specs.Bindings.{without};
 ghost use Rattle.prop_bindings.specs.Fits.{Agree, FitsAt};
+ghost use Rattle.prop_bindings.specs.Plans.{after};
 ghost use Rattle.machine_state.specs.declared.fault.Fault.TheVariants.{Memory};
-ghost use Rattle.machine_state.specs.Telling.{HaveValues, AreTold};
-ghost use Rattle.machine_state.specs.Worlds.{noted, accepting_entries, KeepsTheRest, WritesIn, BindsIn, IsWrittenUntold, IsBoundUntold, IsUnbound};
+ghost use Rattle.machine_state.specs.Telling.{AreTold};
+ghost use Rattle.machine_state.specs.Worlds.{noted, accepting_entries, with_bound, WritesIn, BindsIn};
+ghost use Rattle.machine_state.specs.code.Planned.{CanBeTold, WillWrite};
 
 use crate::entry::Entry;
 use crate::fault::Fault;
@@ -13,23 +16,15 @@ use crate::telling::{Cause, Telling};
 use crate::world::World;
 use delete_later::Store;
 use meta_objects::Meta;
-use prop_bindings::{BindFault, Place, WriteFault};
+use prop_bindings::{BindFault, Place, Planned, WriteFault};
 use signatures::{ObjectId, Value};
 use sqlite_items::Items;
 use std::alloc::AllocError;
 
-/// Properties that changed, and what is to be written down of them.
-#[derive(Drop)]
-struct Change {
-    changed: Items<Place>,
-    lines: Vec<Entry>,
-}
-
 impl World {
     /// A rule that writes a property of a living object, which ends its binding; what follows from it changes with it, and
     /// all this is written down at this depth. It answers the properties that no longer read as they did: this one, if it
-    /// changed, then the others in the order in which their bindings were installed. Where memory is refused nothing is
-    /// written down, and nothing changes but values and bindings.
+    /// changed, then the others in the order in which their bindings were installed. Without memory nothing changes.
     pub fn write(
         &mut self,
         meta: &Meta,
@@ -44,10 +39,11 @@ impl World {
             result self.new }
         ensures agree { Agree meta.now self.new.store.tree self.new.store.bindings }
     {
-        let Change { changed, lines } = self.set(meta, depth, place, value)?;
+        let planned = self.plan_write(meta, place, value)?;
+        let lines = self.lines(meta, depth, Cause::Write, &planned)?;
         self.trace.append_all(lines)?;
         self.left -= 1;
-        Ok(changed)
+        Ok(self.carry_out(planned))
     }
 
     /// Writes a property of a living object for an accepted event, as `write` does, over the empty stack.
@@ -65,17 +61,18 @@ impl World {
             result self.new }
         ensures agree { Agree meta.now self.new.store.tree self.new.store.bindings }
     {
-        let Change { changed, lines } = self.set(meta, 1, place, value)?;
+        let planned = self.plan_write(meta, place, value)?;
+        let lines = self.lines(meta, 1, Cause::Write, &planned)?;
         self.trace.accept_all(self.events + 1, lines)?;
         self.count_event();
-        Ok(changed)
+        Ok(self.carry_out(planned))
     }
 
     /// Installs the binding of a site for living objects for an accepted event, in place of the target's old one; what
     /// follows from it changes with it, and all this is written down. It answers the properties that no longer read as
     /// they did: the target, if it changed, then the others in the order in which their bindings were installed. Refused,
-    /// where the first of these holds, with `BadSource`, `OtherLoop`, `BadType` and `BindingLoop`; then nothing changes.
-    /// Where memory is refused nothing is written down, and nothing changes but values and bindings.
+    /// where the first of these holds, with `BadSource`, `OtherLoop`, `BadType` and `BindingLoop`, and without memory with
+    /// `Memory`; then nothing changes.
     pub fn accept_bind(
         &mut self,
         meta: &Meta,
@@ -90,85 +87,70 @@ impl World {
             (accepting_entries self.old) result self.new }
         ensures agree { Agree meta.now self.new.store.tree self.new.store.bindings }
     {
-        let Change { changed, lines } = self.install(meta, site, target, sources)?;
-        self.trace.accept_all(self.events + 1, lines)?;
-        self.count_event();
-        Ok(changed)
+        let store = &self.store;
+        let planned = store
+            .bindings
+            .plan_bind(meta, &store.tree, site, target, sources)?;
+        let lines = self.lines(meta, 1, Cause::Bind, planned.planned())?;
+        let (told, event) = (self.trace.len(), self.events + 1);
+        self.trace.accept_all(event, lines)?;
+        let Store { tree, bindings, .. } = &mut self.store;
+        match bindings.carry_out_bind(tree, planned) {
+            Ok(changed) => {
+                self.count_event();
+                Ok(changed)
+            }
+            Err(_) => {
+                self.trace.keep_first(told);
+                Err(BindFault::Memory)
+            }
+        }
     }
 
-    /// Writes a property of a living object, and gives what is to be written down. Where memory is refused, nothing
-    /// changes but values and bindings.
-    fn set(
-        &mut self,
-        meta: &Meta,
-        depth: usize,
-        place: &Place,
-        value: Value,
-    ) -> Result<Change, Fault>
-        requires agree { Agree meta.now self.old.store.tree self.old.store.bindings }
-        requires fits { FitsAt meta.now self.old.store.tree place.now value }
-        ensures ok { IfOk result (λ change. IsWrittenUntold meta.now depth place.now value self.old
-            change.changed change.lines.items self.new) }
-        ensures err { IfErr result (λ fault. (fault ≡ Memory) × KeepsTheRest self.old self.new) }
-        ensures agree { Agree meta.now self.new.store.tree self.new.store.bindings }
+    /// Plans a write of a property of a living object; `Memory` only where a growth was refused.
+    fn plan_write(&self, meta: &Meta, place: &Place, value: Value) -> Result<Planned, Fault>
+        requires agree { Agree meta.now self.now.store.tree self.now.store.bindings }
+        requires fits { FitsAt meta.now self.now.store.tree place.now value }
+        ensures ok { IfOk result (WillWrite meta.now self.now.store.tree self.now.store.bindings
+            place.now value) }
+        ensures err { IfErr result (λ fault. fault ≡ Memory) }
     {
-        let Store { tree, bindings, .. } = &mut self.store;
-        let changed = match bindings.write(meta, tree, place, value) {
-            Ok(changed) => changed,
+        let store = &self.store;
+        match store.bindings.plan_write(meta, &store.tree, place, value) {
+            Ok(planned) => Ok(planned),
+            Err(WriteFault::Memory) => Err(Fault::Memory),
             Err(WriteFault::BadType) => unreachable!(),
-            Err(WriteFault::Memory) => return Err(Fault::Memory),
-        };
-        let lines = self.lines(meta, depth, Cause::Write, place, &changed)?;
-        Ok(Change { changed, lines })
+        }
     }
 
-    /// Installs the binding of a site, and gives what is to be written down. Where memory is refused, nothing changes but
-    /// values and bindings.
-    fn install(
-        &mut self,
-        meta: &Meta,
-        site: usize,
-        target: ObjectId,
-        sources: &[ObjectId],
-    ) -> Result<Change, BindFault>
-        requires agree { Agree meta.now self.old.store.tree self.old.store.bindings }
-        ensures ok { IfOk result (λ change. IsBoundUntold meta.now site target sources.now self.old
-            change.changed change.lines.items self.new) }
-        ensures err { IfErr result (λ fault. IsUnbound meta.now site target sources.now self.old
-            fault self.new) }
-        ensures agree { Agree meta.now self.new.store.tree self.new.store.bindings }
-    {
-        let Store { tree, bindings, .. } = &mut self.store;
-        let changed = bindings.bind(meta, tree, site, target, sources)?;
-        let Some(declared) = meta.site_at(site) else {
-            unreachable!()
-        };
-        let place = Place {
-            object: target,
-            property: declared.property,
-        };
-        let lines = self.lines(meta, 1, Cause::Bind, &place, &changed)?;
-        Ok(Change { changed, lines })
-    }
-
-    /// What is to be written down of a property that is written or bound, and of those that changed with it.
+    /// What is to be written down of a change that is planned.
     fn lines(
         &self,
         meta: &Meta,
         depth: usize,
         cause: Cause,
-        first: &Place,
-        changed: &Items<Place>,
+        planned: &Planned,
     ) -> Result<Vec<Entry>, AllocError>
-        requires there { HaveValues meta.now self.now.store.tree first.now changed.now }
-        ensures { IfOk result (λ lines.
-            AreTold meta.now self.now.store.tree depth cause first.now changed.now lines.items) }
+        requires can { CanBeTold meta.now self.now.store.tree planned.now }
+        ensures { IfOk result (λ lines. AreTold meta.now (after planned.now self.now.store.tree)
+            depth cause planned.now.target planned.now.changed lines.items) }
     {
         let telling = Telling {
             meta,
             tree: &self.store.tree,
+            planned,
             depth,
         };
-        telling.change(self.trace.allocator(), cause, first, changed.as_slice())
+        telling.change(self.trace.allocator(), cause)
+    }
+
+    /// Carries out a planned write, which takes no memory, and answers the properties that no longer read as they did.
+    fn carry_out(&mut self, planned: Planned) -> Items<Place>
+        ensures changed { result ≡ planned.changed }
+        ensures world { self.new ≡ with_bound self.old (after planned self.old.store.tree)
+            (without planned.target self.old.store.bindings) }
+    {
+        let Store { tree, bindings, .. } = &mut self.store;
+        bindings.carry_out(tree, planned)
     }
 }

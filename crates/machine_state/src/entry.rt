@@ -1,6 +1,6 @@
 //! What a run writes down.
 
-ghost use Rattle.std.specs.Prelude.{◌≡◌, [], ◌∷◌, ◌++◌, ◌+◌, ◌<◌, ◌≤◌, ◌^◌, OnOk, OnErr, length, vec_len, vec_capacity};
+ghost use Rattle.std.specs.Prelude.{◌≡◌, [], ◌∷◌, ◌++◌, ◌+◌, ◌<◌, ◌≤◌, ◌^◌, OnOk, OnErr, length, take, vec_len, vec_capacity};
 ghost use Rattle.machine_state.specs.Lists.{LosesLast};
 ghost use Rattle.machine_state.specs.declared.entry.Entry.TheVariants.{Accepted};
 
@@ -228,6 +228,20 @@ impl Trace {
         self.entries.push_reserved(Entry::Accepted(event));
         push_list(&mut self.entries, entries);
         Ok(())
+    }
+
+    /// How many entries there are.
+    pub fn len(&self) -> usize
+        ensures { result ≡ length self.now }
+    {
+        self.entries.len()
+    }
+
+    /// Takes all entries after these first ones off again.
+    pub fn keep_first(&mut self, count: usize)
+        ensures { self.new ≡ take count self.old }
+    {
+        self.entries.truncate(count);
     }
 
     /// The allocator from which the trace takes its memory.

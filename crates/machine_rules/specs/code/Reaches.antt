@@ -43,7 +43,7 @@ use Rattle.machine_state.specs.declared.entry.Shown.TheVariants as show
 use Rattle.machine_rules.specs.Destroying.{deleting, Dies, Schedules}
 use Rattle.machine_rules.specs.There.{IsMember, NoneDied}
 use Rattle.machine_rules.specs.code.Active.{shows}
-use Rattle.machine_rules.specs.Faults.{DoesNext, WritesNext, Leaves}
+use Rattle.machine_rules.specs.Faults.{DoesNext, WritesNext}
 use Rattle.machine_rules.specs.code.Going.{GoodRules, RulesStop}
 use Rattle.machine_state.specs.Worlds.{at, having_used, posting, taking, ending, GoesTo}
 
@@ -70,13 +70,13 @@ pub record Reaches (p : Loaded) (natives : NativeAnswers) (depth : ℕ) (shown :
       (below : List Activation) → shows below ≡ shown →
       GoodRules p natives depth (at w (from ++ below)) w.left (at v (to ++ below)) v.left
 
--- over any stack that shows this, the machine comes to a state where it stops
+-- over any stack that shows this, the machine goes by rules to this world, where it stops
 pub record StopsIn (p : Loaded) (natives : NativeAnswers) (depth : ℕ) (shown : List (Option ℕ))
     (w : World) (from : List Activation) (v : World) (fault : Fault) : Type 0 where
   pub stops :
       (below : List Activation) → shows below ≡ shown →
-      (u : World) × (stack : List Activation) × Leaves u v fault ×
-      GoodRules p natives depth (at w (from ++ below)) w.left (at u stack) u.left × RulesStop p natives depth (at u stack) u.left fault
+      (stack : List Activation) ×
+      GoodRules p natives depth (at w (from ++ below)) w.left (at v stack) v.left × RulesStop p natives depth (at v stack) v.left fault
 
 -- a call went from one top of the stack to another, or stopped on the way
 pub record RunsTo (p : Loaded) (natives : NativeAnswers) (depth : ℕ) (shown : List (Option ℕ))

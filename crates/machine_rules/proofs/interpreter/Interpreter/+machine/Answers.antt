@@ -2,7 +2,7 @@ use Rattle.std.proofs.Common.{map, ◌≡◌, ◌∙◌, ℕ, false, List, [], �
 use Rattle.std.proofs.lemmas.Grind.{common_steps}
 use Rattle.signatures.specs.declared.value.Value.{Value}
 use Rattle.machine_state.specs.declared.world.World.{World}
-use Rattle.machine_rules.proofs.Reaching.{not-idle, reaches-same, reaches-then, stops-after, stops-as, ends-after, ends-lifted, ends-left, ends-undue, ends-short, ends-unchanged, ends-lost, ends-faulted, ends-ticked, ok-err, ok-map}
+use Rattle.machine_rules.proofs.Reaching.{not-idle, reaches-same, reaches-then, stops-after, stops-as, ends-after, ends-lifted, ends-left, ends-undue, ends-short, ends-unchanged, ends-faulted, ends-ticked, stops-ticked, ok-err, ok-map}
 use Rattle.machine_state.specs.Connections.{is_living}
 use Rattle.machine_state.specs.State.{Run, Act}
 use Rattle.std.specs.Option.{option_map}
@@ -240,7 +240,7 @@ pub write-write-requires-clause-fits : goal.write-write-requires-clause-fits
 write-write-requires-clause-fits g t c = may-fits c.in_ok-may_write.ensures.ok
 
 pub write-returns-in_err-changed : goal.write-returns-in_err-changed
-write-returns-in_err-changed g t c = record { ends = λ from to shown over sets. ends-lost _ sets.goes_on c.requires.left c.in_err-changed.ensures.value c.from_residual-in_err-changed.ensures.1 }
+write-returns-in_err-changed g t c = record { ends = λ from to shown over sets. ends-unchanged _ sets.goes_on c.requires.left c.in_err-changed.ensures.value c.from_residual-in_err-changed.ensures.1 }
 
 pub write-run_update-requires : goal.write-run_update-requires
 write-run_update-requires g t c = λ κs lives.
@@ -472,6 +472,9 @@ run_deletion-loop-world-preserved g t c =
     let went = reaches-next now c.loop-world.torn.items some c.next_to_end.result next lives c.pop.new.self.items c.requires.room c.loop-world.invariant.sound.is.agree c.in-None.is shorter c.in_ok-tick-in-None.ensures in
     let came = reaches-then c.loop-world.invariant.reaches went in
     record { reaches = came; fewer = (reaches-keeps came).fewer; sound = reaches-sound (tt, tt) c.loop-world.invariant.sound went }
+
+pub run_deletion-returns-in_err-tick-in-None : goal.run_deletion-returns-in_err-tick-in-None
+run_deletion-returns-in_err-tick-in-None g t c = record { ends = ends-left _ (stops-after c.loop-world.invariant.reaches (stops-ticked c.in_err-tick-in-None.ensures)) c.from_residual-in_err-tick-in-None.ensures.1 }
 
 pub run_deletion-returns : goal.run_deletion-returns
 run_deletion-returns g t c =

@@ -1,22 +1,18 @@
-use Rattle.std.proofs.Common.{ℕ, List, sym, ap, ◌∙◌}
+use Rattle.std.proofs.Common.{ℕ, List, ap, ◌∙◌}
 use Rattle.machine_state.specs.declared.entry.Entry.TheVariants.{At}
 use Rattle.machine_state.specs.Telling.{entry_kind_of}
+use Rattle.prop_bindings.specs.Plans.{after}
+use Rattle.machine_state.proofs.Ahead.{told-ahead}
 use Rattle.machine_state.proofs.telling.Telling.line.Goals as goal
 
 pub returns : goal.returns
-returns c = record {
-  has = record {
-    object = c.in-Some.object.now;
-    life = c.in-Some.life.now;
-    lives = c.in-Some.ensures.value;
-    property = c.in-Some-Some.property.now;
-    is_property = record { class = c.in-Some-object.class.now; is_class = record { is = sym c.in-Some-object.ensures.value }; is = sym c.in-Some-Some.ensures.value };
-    value = c.in-Some-Some.value.now;
-    is_value = sym c.in-Some-Some.ensures';
-  };
-  is = ap (At c.args.self.now.depth) (
-      c.entry_kind-what.ensures
-      ∙ ap (λ (name : List ℕ). entry_kind_of c.args.cause name c.in_ok-copy-2.field-0 c.in_ok-value.value) c.in_ok-copy.ensures
-      ∙ ap (λ (name : List ℕ). entry_kind_of c.args.cause c.in-Some.object.now.name name c.in_ok-value.value) c.in_ok-copy-2.ensures
-      ∙ ap (entry_kind_of c.args.cause c.in-Some.object.now.name c.in-Some-Some.property.now.name) c.in_ok-value.ensures);
-}
+returns c =
+    let self = c.args.self.now in
+    let object = c.in-Some.object.now in
+    let property = c.in-Some-Some.property.now in
+    told-ahead self.tree.now (after self.planned.now self.tree.now) c.requires.differ self.meta.now self.depth c.args.cause c.args.place.now object c.in-Some.life.now c.in-Some-object.class.now property c.in-Some-Some.value.now _ c.requires.will_have c.in-Some.ensures.value c.in-Some-object.ensures.value c.in-Some-Some.ensures.value c.in-Some-Some.ensures'
+    (ap (At self.depth) (
+    c.entry_kind-what.ensures
+    ∙ ap (λ (name : List ℕ). entry_kind_of c.args.cause name c.in_ok-copy-2.field-0 c.in_ok-value.value) c.in_ok-copy.ensures
+    ∙ ap (λ (name : List ℕ). entry_kind_of c.args.cause object.name name c.in_ok-value.value) c.in_ok-copy-2.ensures
+    ∙ ap (entry_kind_of c.args.cause object.name property.name) c.in_ok-value.ensures))

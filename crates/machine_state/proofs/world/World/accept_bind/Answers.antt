@@ -1,18 +1,45 @@
+use Rattle.std.proofs.Common.{List, refl, ap, sym, subst}
+use Rattle.prop_bindings.specs.declared.planned.Planned.{Planned}
+use Rattle.prop_bindings.specs.Plans.{after}
+use Rattle.machine_state.specs.declared.telling.Cause.TheVariants.{Bind}
+use Rattle.prop_bindings.specs.Calls.{IsNotBound}
+use Rattle.machine_state.specs.declared.entry.Entry.{Entry}
+use Rattle.machine_state.specs.Telling.{AreTold}
 use Rattle.machine_state.specs.Worlds.{accepting_entries}
-use Rattle.machine_state.proofs.Bound.{binds-short, bound-told, counted-told, keeps-traced}
+use Rattle.machine_state.specs.code.Planned.{CanBeTold}
+use Rattle.machine_state.proofs.Bound.{has-bound, binds-short, lines-lost}
+use Rattle.machine_state.proofs.Changed.{bound-ahead}
 use Rattle.machine_state.proofs.world.World.accept_bind.Goals as goal
+
+pub lines-requires : goal.lines-requires
+lines-requires c =
+    let store = c.args.self.now.store in
+    let can = bound-ahead c.args.meta.now c.args.site c.args.target c.args.sources.now store.tree store.bindings c.in_ok-planned.planned c.requires.agree c.in_ok-planned.ensures.value c.in_ok-planned.ensures.agree in
+    record { can = subst (CanBeTold c.args.meta.now store.tree) (sym c.planned.ensures) can }
+
+pub returns-in-Ok-clause-value : goal.returns-in-Ok-clause-value
+returns-in-Ok-clause-value c =
+    let w = c.args.self.now in
+    let lines = c.in_ok-lines.lines.items in
+    let Told : Planned → Type 0 = λ plan. AreTold c.args.meta.now (after plan w.store.tree) 1 Bind plan.target plan.changed lines in
+    has-bound c.args.meta.now c.args.site c.args.target c.args.sources.now w c.count_event.new.self c.in_ok-planned.planned c.in_ok-planned.ensures.value lines c.accept_all.new.self c.in-Ok.changed c.carry_out_bind.new.tree c.carry_out_bind.new.self
+    (subst Told c.planned.ensures c.in_ok-lines.ensures)
+    c.in-Ok.ensures.value c.in_ok-accept_all.ensures.ok c.in-Ok.ensures.objects c.in-Ok.ensures.installed c.count_event.ensures
+
+pub returns-in_err-lines-clause-value : goal.returns-in_err-lines-clause-value
+returns-in_err-lines-clause-value c =
+    let w = c.args.self.now in
+    binds-short c.args.meta.now c.args.site c.args.target c.args.sources.now w w (accepting_entries w) refl c.from_residual-in_err-lines.result c.from_residual-in_err-lines.ensures.1
 
 pub returns-in_err-accept_all-clause-value : goal.returns-in_err-accept_all-clause-value
 returns-in_err-accept_all-clause-value c =
-    let u = c.install.new.self in
-    binds-short c.args.meta.now c.args.site c.args.target c.args.sources.now c.args.self.now (accepting_entries c.args.self.now) (record u { trace = c.accept_all.new.self })
-    (keeps-traced c.args.self.now u c.accept_all.new.self c.in_ok-changed.ensures.ok.bound.gives c.in_err-accept_all.ensures.err)
+    let w = c.args.self.now in
+    binds-short c.args.meta.now c.args.site c.args.target c.args.sources.now w _ (accepting_entries w)
+    (ap (λ (s : List Entry). record w { trace = s }) c.in_err-accept_all.ensures.err)
     c.from_residual-in_err-accept_all.result c.from_residual-in_err-accept_all.ensures.1
 
-pub returns-clause-value : goal.returns-clause-value
-returns-clause-value c =
-    let w = c.args.self.now in
-    let u = c.install.new.self in
-    let lines = c.in_ok-changed.field-0.lines.items in
-    bound-told c.args.meta.now c.args.site c.args.target c.args.sources.now w u c.count_event.new.self (accepting_entries w) c.in_ok-changed.field-0.changed lines c.in_ok-changed.ensures.ok
-    (counted-told w u c.count_event.new.self lines c.accept_all.new.self c.in_ok-changed.ensures.ok.bound.gives c.in_ok-accept_all.ensures.ok c.count_event.ensures)
+pub returns-in-Err-clause-value : goal.returns-in-Err-clause-value
+returns-in-Err-clause-value c = (
+  IsNotBound.no_memory,
+  lines-lost c.args.self.now _ c.in_ok-lines.lines.items c.accept_all.new.self c.keep_first.new.self c.len-told.result c.carry_out_bind.new.tree c.carry_out_bind.new.self c.len-told.ensures c.in_ok-accept_all.ensures.ok c.keep_first.ensures c.in-Err.ensures.err.0 c.in-Err.ensures.err.1,
+)

@@ -1,11 +1,25 @@
 use Rattle.machine_state.specs.Worlds.{accepting_entries}
-use Rattle.machine_state.proofs.Bound.{written-told, counted-told}
+use Rattle.machine_state.proofs.Bound.{has-written, written-agrees, counted-over}
+use Rattle.machine_state.proofs.Changed.{written-ahead}
 use Rattle.machine_state.proofs.world.World.accept_write.Goals as goal
+
+pub lines-requires : goal.lines-requires
+lines-requires c =
+    let store = c.args.self.now.store in
+    record { can = written-ahead c.args.meta.now store.tree store.bindings c.args.place.now c.args.value c.in_ok-planned.planned c.requires.agree c.in_ok-planned.ensures.ok }
 
 pub returns-clause-value : goal.returns-clause-value
 returns-clause-value c =
     let w = c.args.self.now in
-    let u = c.set.new.self in
-    let lines = c.in_ok-changed.field-0.lines.items in
-    written-told c.args.meta.now 1 c.args.place.now c.args.value w u c.count_event.new.self (accepting_entries w) c.in_ok-changed.field-0.changed lines c.in_ok-changed.ensures.ok
-    (counted-told w u c.count_event.new.self lines c.accept_all.new.self c.in_ok-changed.ensures.ok.written.gives c.in_ok-accept_all.ensures.ok c.count_event.ensures)
+    let plan = c.in_ok-planned.planned in
+    let lines = c.in_ok-lines.lines.items in
+    has-written c.args.meta.now c.args.place.now c.args.value w c.carry_out.new.self plan c.in_ok-planned.ensures.ok lines 1 (accepting_entries w) c.carry_out.result c.in_ok-lines.ensures c.carry_out.ensures.changed
+    (counted-over w c.count_event.new.self c.carry_out.new.self plan lines c.accept_all.new.self c.in_ok-accept_all.ensures.ok c.count_event.ensures c.carry_out.ensures.world)
+
+pub returns-clause-agree : goal.returns-clause-agree
+returns-clause-agree c =
+    let w = c.args.self.now in
+    let plan = c.in_ok-planned.planned in
+    let lines = c.in_ok-lines.lines.items in
+    written-agrees c.args.meta.now c.args.place.now c.args.value w c.carry_out.new.self plan c.in_ok-planned.ensures.ok lines (accepting_entries w lines)
+    (counted-over w c.count_event.new.self c.carry_out.new.self plan lines c.accept_all.new.self c.in_ok-accept_all.ensures.ok c.count_event.ensures c.carry_out.ensures.world)
