@@ -58,11 +58,10 @@ use Rattle.machine_events.specs.declared.events.invoke.Invocation.{Invocation}
 use Rattle.machine_events.specs.declared.events.invoke.Invocation.TheVariants.{Emit as EmitIt, Call as CallIt}
 use Rattle.machine_state.specs.declared.fault.Answer.{Answer}
 use Rattle.machine_events.specs.Takes.{judged, Takes as Taking, accepts, refuses}
-use Rattle.machine_events.specs.events.Block.{block}
-use Rattle.machine_events.specs.events.Invoke.{invoke}
+use Rattle.machine_events.specs.Events.{block, invoke}
 use Rattle.machine_events.proofs.Standing.{Invariant}
-use Rattle.checked_runs.specs.code.Invariant.{Level, BodyStands, Stacked, Holds}
-use Rattle.checked_runs.specs.code.Promised.{StepIsPromised, AllIsPromised}
+use Rattle.checked_runs.proofs.Invariant.{Level, BodyStands, Stacked, Holds}
+use Rattle.checked_runs.proofs.Promised.{StepIsPromised, AllIsPromised}
 use Rattle.checked_runs.proofs.Giving.{does-give, answer-promised}
 use Rattle.checked_runs.proofs.Given.{given-is, living-is, living-object}
 use Rattle.checked_runs.proofs.Leading.{does-led}

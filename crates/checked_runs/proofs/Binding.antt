@@ -39,7 +39,7 @@ use Rattle.machine_rules.specs.There.{IsField}
 use Rattle.machine_rules.proofs.Fields.{old-there, stored-reads}
 use Rattle.machine_rules.proofs.Keeps.{lives-of-class}
 use Rattle.machine_events.specs.Causes.{BindsNext}
-use Rattle.machine_events.specs.events.Bind.{may_bind}
+use Rattle.machine_events.specs.Events.{may_bind}
 use Rattle.machine_events.proofs.Inherited.{property-below}
 use Rattle.checked_runs.proofs.Given.{given-is}
 

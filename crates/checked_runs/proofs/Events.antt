@@ -48,12 +48,9 @@ use Rattle.machine_events.specs.declared.events.invoke.Invocation.{Invocation}
 use Rattle.machine_events.specs.declared.events.invoke.Invocation.TheVariants.{Emit as EmitIt, Call as CallIt}
 use Rattle.machine_state.specs.declared.fault.Answer.{Answer}
 use Rattle.machine_events.specs.Takes.{judged, Takes, accepts, refuses}
-use Rattle.machine_events.specs.events.Bind.{may_bind}
-use Rattle.machine_events.specs.events.Block.{block}
-use Rattle.machine_events.specs.events.Ends.{find_ends}
-use Rattle.machine_events.specs.events.Invoke.{invoke}
-use Rattle.machine_events.specs.events.Named.{IsLiving}
-use Rattle.checked_runs.specs.code.Invariant.{Stacked, AreClasses, AreOwned, IsOwned, IsWired, IsOf, IsSited, IsCovered, Holds}
+use Rattle.machine_events.specs.Events.{may_bind, block, find_ends, invoke}
+use Rattle.machine_events.specs.code.Judgement.{IsLiving}
+use Rattle.checked_runs.proofs.Invariant.{Stacked, AreClasses, AreOwned, IsOwned, IsWired, IsOf, IsSited, IsCovered, Holds}
 use Rattle.checked_runs.proofs.Nodes.{named-node, property-node, end-node}
 use Rattle.checked_runs.proofs.Ladder.{level-at}
 use Rattle.checked_runs.proofs.Given.{given-is, living-is, living-object, adopted-by, length-moved}

@@ -23,7 +23,7 @@ use Rattle.certificate_lang.specs.declared.certificate.Certificate.{Certificate}
 use Rattle.rank_check.specs.Valid.{IsLineOf, Destroys, IsValid}
 use Rattle.machine_rules.proofs.Lists.{all-weaken, all-filtered}
 use Rattle.machine_rules.specs.Settling.{notified, signal_at}
-use Rattle.checked_runs.specs.code.Invariant.{IsFollower, IsSited}
+use Rattle.checked_runs.proofs.Invariant.{IsFollower, IsSited}
 use Rattle.checked_runs.proofs.Ladder.{line-unique}
 use Rattle.checked_runs.proofs.Sites.{unchanged}
 

@@ -8,7 +8,8 @@ use Rattle.object_tree.specs.Family.{parent_of, joined_by, leaves, put_under, mo
 use Rattle.object_tree.specs.Objects.{Lives, change, with_life}
 use Rattle.object_tree.proofs.Changing.{length-change, lives-of-life}
 use Rattle.machine_rules.specs.Judgement.{Numbered, Gives, found, gives, goes_on}
-use Rattle.machine_events.specs.events.Named.{IsLiving, living}
+use Rattle.machine_events.specs.Events.{living}
+use Rattle.machine_events.specs.code.Judgement.{IsLiving}
 use Rattle.checked_runs.proofs.Worlds.{length-left}
 
 -- what is given is what was to be given

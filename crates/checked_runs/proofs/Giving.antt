@@ -53,8 +53,8 @@ use Rattle.machine_rules.proofs.Inherited.{method-below, property-below}
 use Rattle.machine_rules.proofs.Keeps.{lives-of-class, class-of-lives}
 use Rattle.machine_rules.proofs.Promised.{declared-at, promised}
 use Rattle.machine_events.proofs.TypedPaths.{Reaches, to_null, to_object}
-use Rattle.checked_runs.specs.code.Invariant.{BodyStands, IsStepOf, runs}
-use Rattle.checked_runs.specs.code.Promised.{SetsWithin, EmitsWithin, IsWithin, IsPromised, StepIsPromised}
+use Rattle.checked_runs.proofs.Invariant.{BodyStands, IsStepOf, runs}
+use Rattle.checked_runs.proofs.Promised.{SetsWithin, EmitsWithin, IsWithin, IsPromised, StepIsPromised}
 use Rattle.checked_runs.proofs.Lacking.{paths-typed, reached, body-typed}
 use Rattle.checked_runs.proofs.Leading.{occurs-sound}
 use Rattle.checked_runs.proofs.Nodes.{body-named}

@@ -7,7 +7,7 @@ use Rattle.meta_model.specs.Loaded.{Loaded}
 use Rattle.meta_model.specs.Sound.{IsSound}
 use Rattle.prop_bindings.specs.declared.place.Place.{Place}
 use Rattle.prop_bindings.specs.Bindings.{binding_at, without, replaced, Chain, direct, further}
-use Rattle.prop_bindings.specs.Fits.{IsFit, Agree}
+use Rattle.prop_bindings.specs.Fits.{IsFit, IsInOneLoop, Agree}
 use Rattle.effect_scan.specs.declared.node.Node.{Node}
 use Rattle.effect_scan.specs.declared.node.Member.TheVariants.{Property}
 use Rattle.effect_scan.specs.Nodes.{node}
@@ -27,7 +27,7 @@ use Rattle.machine_events.specs.Runs.{Run as ARun, done, goes, takes, Each, Good
 use Rattle.machine_events.specs.Takes.{Takes, accepts, refuses}
 use Rattle.machine_events.proofs.Standing.{Invariant}
 use Rattle.machine_events.proofs.Preservation.{after-rule, after-event}
-use Rattle.checked_runs.specs.code.Invariant.{BodyStands, Level, Stacked, IsSited, Holds}
+use Rattle.checked_runs.proofs.Invariant.{BodyStands, Level, Stacked, IsSited, Holds}
 use Rattle.checked_runs.proofs.Ladder.{falls-to, climbs, no-deeper}
 use Rattle.checked_runs.proofs.Leading.{does-led}
 use Rattle.checked_runs.proofs.Rules.{rule-held, bound-by}
@@ -45,7 +45,7 @@ use Rattle.typing.specs.Typed.{IsTypedWork}
 use Rattle.object_tree.specs.declared.object.Object.{Object}
 use Rattle.object_tree.specs.Typed.{AreTyped}
 use Rattle.machine_rules.specs.Operations.{operation}
-use Rattle.checked_runs.specs.code.Invariant.{IsStepOf, runs}
+use Rattle.checked_runs.proofs.Invariant.{IsStepOf, runs}
 use Rattle.checked_runs.proofs.Leading.{occurs-sound}
 
 -- ---- the start
@@ -58,6 +58,7 @@ agree-none : (p : Loaded) → Agree p [] []
 agree-none p = record {
   typed = λ o x l is. absurd (cc is.is);
   fit = All-from_recursion (IsFit p []) [] tt;
+  one_loop = All-from_recursion (IsInOneLoop []) [] tt;
   apart = tt;
   acyclic = λ loop. no-chain loop.1;
   settled = λ q b is. absurd (cc is);

@@ -13,7 +13,7 @@ use Rattle.certificate_lang.specs.declared.certificate.Line.{Line}
 use Rattle.certificate_lang.specs.declared.certificate.Certificate.{Certificate}
 use Rattle.rank_check.specs.Valid.{IsLineOf, IsValid}
 use Rattle.machine_state.specs.State.{Activation}
-use Rattle.checked_runs.specs.code.Invariant.{Falls, IsNoHigher, Level, FallsTo, Stacked}
+use Rattle.checked_runs.proofs.Invariant.{Falls, IsNoHigher, Level, FallsTo, Stacked}
 
 pub higher-none : {p : Loaded} {a b c : Line} → IsNoHigher p a b → Falls p b c → Falls p a c
 higher-none {c = c} up f = record { rank = omega (arith, up.rank, f.rank); set = λ d none. f.set d (up.set d none) }

@@ -45,7 +45,7 @@ use Rattle.machine_rules.specs.Paths.{path_value, steps_value, root_value, value
 use Rattle.machine_rules.proofs.Fields.{life-unique}
 use Rattle.machine_rules.proofs.Keeps.{lives-of-class}
 use Rattle.machine_events.proofs.TypedPaths.{Reaches, to_null, to_object, path-reaches}
-use Rattle.checked_runs.specs.code.Invariant.{BodyStands, IsStepOf, runs, asks, acts}
+use Rattle.checked_runs.proofs.Invariant.{BodyStands, IsStepOf, runs, asks, acts}
 use Rattle.checked_runs.proofs.Nodes.{body-named, late-named}
 
 -- ---- the objects that paths lead to

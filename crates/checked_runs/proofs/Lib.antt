@@ -1,3 +1,5 @@
+pub mod Invariant
+pub mod Promised
 pub mod Nodes
 pub mod Ladder
 pub mod Sites

@@ -71,7 +71,7 @@ use Rattle.machine_rules.proofs.Inherited.{method-below}
 use Rattle.machine_rules.proofs.Keeps.{class-of-lives}
 use Rattle.machine_rules.proofs.Lists.{all-filtered, all-snoc}
 use Rattle.machine_rules.proofs.Waiting.{first-waits}
-use Rattle.checked_runs.specs.code.Invariant.{Level, FallsTo, IsStepOf, runs, asks, acts, BodyStands, EmitStands, IsFollower, IsTorn, DestroyStands, Stacked, IsOwned, IsWired, IsSited, IsCovered, Holds}
+use Rattle.checked_runs.proofs.Invariant.{Level, FallsTo, IsStepOf, runs, asks, acts, BodyStands, EmitStands, IsFollower, IsTorn, DestroyStands, Stacked, IsOwned, IsWired, IsSited, IsCovered, Holds}
 use Rattle.checked_runs.proofs.Nodes.{named-node, end-node, body-named, late-named, named-again}
 use Rattle.checked_runs.proofs.Ladder.{higher-none, level-at, falls-to, line-from}
 use Rattle.checked_runs.proofs.Worlds.{Leaves, classes-left, differ-leaves, scheduled-leaves, died-leaves, SparedIn, stacked-still}
@@ -177,14 +177,14 @@ module _ {p : Loaded} {certificate : Certificate} (valid : IsValid p certificate
       DifferInValues s.objects objects → AllByRecursion (IsSited p classes) bindings → Settled (binding_at bindings) (values_in objects) →
       ((q : Place) (b : Binding) → ¬ (place ≡ q) → binding_at bindings q ≡ Some b → binding_at s.bindings q ≡ Some b) →
       ((q : Place) → ¬ (place ≡ q) → binding_at bindings q ≡ None → values_in objects q ≡ values_in s.objects q) →
-      AreChanged s.objects objects (in_order place s.bindings) changed →
+      AreChanged s.objects objects (in_order (place ∷ []) s.bindings) changed →
       Settles p s below cause place objects bindings changed t → Held t
   settles-held {s} {t} below levels r place class objects bindings changed covered agree st falls is at differ sited settled same kept changes settles =
       let left : Leaves p classes s.objects objects = differ-leaves s.objects objects differ in
       let line_is = subst (λ (z : Node). IsLineOf p certificate z r.line) at r.is in
       let targets = known-targets (without place s.bindings) (all-filtered (IsSited p classes) _ s.bindings covered.sited) in
       let notifies = followers valid sound classes (binding_at s.bindings) (binding_at bindings) (λ q b e. bound-by (IsSited p classes) bindings sited q b e) s.objects objects differ place class is r.line line_is agree.settled settled same kept
-      (in_order place s.bindings) changed ((class, is), targets) changes in
+      (in_order (place ∷ []) s.bindings) changed ((class, is), targets) changes in
       let Family : State → Type 0 = λ v. Held v in
       subst Family (sym settles.gives) (record {
         covered = record { known = classes-left left covered.known; owned = left.children covered.owned; wired = covered.wired; sited = sited };
@@ -196,7 +196,7 @@ module _ {p : Loaded} {certificate : Certificate} (valid : IsValid p certificate
   writes-held {s} below levels r o q class new covered agree st falls is at w =
       let place : Place = property_of o q in
       settles-held below levels r place class w.objects (without place s.bindings) w.changed covered agree st falls is at w.written.objects (all-filtered (IsSited p classes) _ s.bindings covered.sited) w.written.settled
-      (λ z b other e. without-fewer place s.bindings z b e) (λ z other none. w.written.kept z none other) w.written.changes w.settles
+      (λ z b other e. without-fewer place s.bindings z b e) (λ z other none. w.written.kept z none (λ here. elim here [ inl same ↦ other same | inr never ↦ never ])) w.written.changes w.settles
 
   -- ---- an object dies
 

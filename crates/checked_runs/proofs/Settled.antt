@@ -20,13 +20,14 @@ use Rattle.prop_bindings.specs.declared.binding.Binding.{Binding}
 use Rattle.prop_bindings.specs.declared.place.Place.{Place}
 use Rattle.prop_bindings.specs.Bindings.{place_of, read_by, Reads, value_of, binding_at, AreApart, without, replaced, Settled, Loop}
 use Rattle.prop_bindings.specs.Changes.{DifferInValues}
-use Rattle.prop_bindings.specs.Fits.{IsFit, Agree}
-use Rattle.prop_bindings.specs.Orders.{Free, Ordered, IsOrder}
+use Rattle.prop_bindings.specs.Fits.{IsFit, IsInOneLoop, Agree}
+use Rattle.prop_bindings.specs.code.Orders.{Free, Ordered, IsOrder}
 use Rattle.prop_bindings.specs.Places.{property_of, same_place, is_in, In, values_in}
 use Rattle.prop_bindings.proofs.Acyclic.{order-of}
 use Rattle.prop_bindings.proofs.Alike.{sort_of, BothAlike, values-alike, reads-sort, plain-has}
 use Rattle.prop_bindings.proofs.Apart.{apart-replaced}
 use Rattle.prop_bindings.proofs.Fitting.{all-stay, lives-on}
+use Rattle.prop_bindings.proofs.Homes.{all-joined}
 use Rattle.prop_bindings.proofs.Leaving.{agree-fewer}
 use Rattle.prop_bindings.proofs.Naming.{value-agree}
 use Rattle.prop_bindings.proofs.Places.{decide_place, decide_in, is_in-true, is_in-false, same_place-refl}
@@ -161,7 +162,7 @@ target-of {p} {old} q b fit at = subst (λ (r : Place). Target p old r b) at (re
 })
 
 module _ {p : Loaded} (old new : List Object) (typed : AreTyped p old) (differ : DifferInValues old new)
-    (bs : List Binding) (fit : All (IsFit p old) bs) (apart : AreApart bs) (acyclic : ¬ Loop (binding_at bs)) (settled : Settled (binding_at bs) (values_in new))
+    (bs : List Binding) (fit : All (IsFit p old) bs) (joined : All (IsInOneLoop old) bs) (apart : AreApart bs) (acyclic : ¬ Loop (binding_at bs)) (settled : Settled (binding_at bs) (values_in new))
     (unbound : (q : Place) → binding_at bs q ≡ None → HasOwn p old new q) where
   bound-target : (q : Place) (b : Binding) → binding_at bs q ≡ Some b → Target p old q b
   bound-target q b is = let f = bound-has (IsFit p old) bs fit q b is in target-of q b f.0 f.1
@@ -211,6 +212,7 @@ module _ {p : Loaded} (old new : List Object) (typed : AreTyped p old) (differ :
   settled-agree = record {
     typed = settled-typed;
     fit = all-stay p old new typed settled-typed differ bs fit;
+    one_loop = all-joined old new differ bs joined;
     apart = apart;
     acyclic = acyclic;
     settled = settled;
@@ -225,8 +227,8 @@ agree-at {p} u e before = let Family : State → Type 0 = λ v. Agree p v.object
 -- what the write leaves unbound keeps its value, but for the property that is written
 written-own : {p : Loaded} {s t : State} {below : List Activation} {o q : ℕ} {v : Value} (w : Writes p s below o q v t) → ReadsAs p s.objects v (w.property).kind → (r : Place) → binding_at (without (property_of o q) s.bindings) r ≡ None → HasOwn p s.objects w.objects r
 written-own {p} {s} {o = o} {q = q} {v = v} w fits r none = elim (decide_place (property_of o q) r) [
-  | inl e ↦ subst (λ (z : Place). HasOwn p s.objects w.objects z) e (gets w.is (w.written).written fits)
-  | inr f ↦ keeps ((w.written).kept r none (λ e. false≢true (sym f ∙ subst (λ (z : Place). same_place (property_of o q) z ≡ true) e (same_place-refl (property_of o q)))))
+  | inl e ↦ subst (λ (z : Place). HasOwn p s.objects w.objects z) e (gets w.is (w.written).written.0 fits)
+  | inr f ↦ keeps ((w.written).kept r none (λ here. elim here [ inl e ↦ false≢true (sym f ∙ subst (λ (z : Place). same_place (property_of o q) z ≡ true) e (same_place-refl (property_of o q))) | inr never ↦ never ]))
 ]
 
 -- a value of the property's type is written
@@ -235,11 +237,11 @@ writes-agree {p} {s} {o = o} {q = q} agree w fits =
     let at : Place = property_of o q in
     let left : Agree p s.objects (without at s.bindings) = agree-fewer p s.objects (λ (b : Binding). not (same_place b.target at)) s.bindings agree in
     agree-at _ (w.settles).gives
-    (settled-agree s.objects w.objects left.typed (w.written).objects (without at s.bindings) left.fit left.apart left.acyclic (w.written).settled (written-own w fits))
+    (settled-agree s.objects w.objects left.typed (w.written).objects (without at s.bindings) left.fit left.one_loop left.apart left.acyclic (w.written).settled (written-own w fits))
 
 -- a binding is installed that fits and closes no chain
-pub installs-agree : {p : Loaded} {s t : State} {below : List Activation} {b : Binding} → Agree p s.objects s.bindings → IsFit p s.objects b → (¬ Loop (binding_at (replaced s.bindings b))) → Installs p s below b t → Agree p t.objects t.bindings
-installs-agree {p} {s} {b = b} agree fit acyclic x =
+pub installs-agree : {p : Loaded} {s t : State} {below : List Activation} {b : Binding} → Agree p s.objects s.bindings → IsFit p s.objects b → (¬ Loop (binding_at (replaced s.bindings b))) → IsInOneLoop s.objects b → Installs p s below b t → Agree p t.objects t.bindings
+installs-agree {p} {s} {b = b} agree fit acyclic within x =
     let left : Agree p s.objects (without b.target s.bindings) = agree-fewer p s.objects (λ (z : Binding). not (same_place z.target b.target)) s.bindings agree in
     agree-at _ (x.settles).gives
-    (settled-agree s.objects x.objects agree.typed x.differ (replaced s.bindings b) (All-push (IsFit p s.objects) (without b.target s.bindings) b left.fit fit) (apart-replaced s.bindings b agree.apart) acyclic x.settled (λ q none. keeps (x.kept q none)))
+    (settled-agree s.objects x.objects agree.typed x.differ (replaced s.bindings b) (All-push (IsFit p s.objects) (without b.target s.bindings) b left.fit fit) (All-push (IsInOneLoop s.objects) (without b.target s.bindings) b left.one_loop within) (apart-replaced s.bindings b agree.apart) acyclic x.settled (λ q none. keeps (x.kept q none)))

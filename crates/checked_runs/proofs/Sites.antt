@@ -28,7 +28,7 @@ use Rattle.effect_scan.specs.Nodes.{node}
 use Rattle.certificate_lang.specs.declared.certificate.Line.{Line}
 use Rattle.certificate_lang.specs.declared.certificate.Certificate.{Certificate}
 use Rattle.rank_check.specs.Valid.{IsLineOf, IsValid}
-use Rattle.checked_runs.specs.code.Invariant.{IsOf, IsSited}
+use Rattle.checked_runs.proofs.Invariant.{IsOf, IsSited}
 use Rattle.checked_runs.proofs.Nodes.{found-in}
 use Rattle.effect_scan.proofs.Standing.{join_nodes}
 use Rattle.checked_runs.proofs.Ladder.{line-from, line-unique, level-at}

@@ -24,8 +24,8 @@ use Rattle.machine_events.specs.Takes.{Takes as Taking}
 use Rattle.machine_events.proofs.Preservation.{after-rule, after-event}
 use Rattle.machine_events.proofs.Standing.{Invariant}
 use Rattle.checked_runs.specs.Claims.{IsFaultless}
-use Rattle.checked_runs.specs.code.Invariant.{Level, Stacked, Holds}
-use Rattle.checked_runs.specs.code.Promised.{AllIsPromised}
+use Rattle.checked_runs.proofs.Invariant.{Level, Stacked, Holds}
+use Rattle.checked_runs.proofs.Promised.{AllIsPromised}
 use Rattle.checked_runs.proofs.Arguments.{rule-pushes, takes-pushes}
 use Rattle.checked_runs.proofs.Events.{takes-held}
 use Rattle.checked_runs.proofs.Giving.{does-give}

@@ -1,8 +1,7 @@
 -- Whatever step a run takes, each property has a value of its type, and values agree with bindings: a rule keeps this if
 -- what it writes is of the property's type, and each event keeps it.
-use Rattle.std.proofs.Common.{◌≡◌, ℕ, zero, suc, Bool, true, false, List, [], ◌∷◌, ◌++◌, length, take, Result, Ok, Err, Option, Some, None, slice_get, refl, sym, ap, ◌∙◌, subst}
+use Rattle.std.proofs.Common.{◌≡◌, ℕ, suc, Bool, true, false, List, [], ◌∷◌, ◌++◌, length, take, Result, Ok, Err, Option, Some, None, slice_get, refl, sym, subst}
 use Rattle.std.specs.List.{AllByRecursion, find}
-use Rattle.std.specs.Option.{option_map, option_and_then}
 use Rattle.std.proofs.lemmas.List.Elements.{All-from_recursion}
 use Rattle.signatures.specs.declared.value.Value.{Value}
 use Rattle.signatures.specs.declared.value.Value.TheVariants as variant
@@ -33,17 +32,17 @@ use Rattle.object_tree.specs.Family.{moved}
 use Rattle.object_tree.specs.Objects.{life_of, class_with, change_life, blocked}
 use Rattle.object_tree.specs.Seen.{seen}
 use Rattle.object_tree.specs.Typed.{ReadsAs}
-use Rattle.object_tree.proofs.Changing.{lives-of-life}
-use Rattle.object_tree.proofs.TypedObjects.{Shape, life_shape, shape_in, shape-change, shape-moved, typed-change, typed-moved, typed-created}
+use Rattle.object_tree.proofs.TypedObjects.{typed-change, typed-moved, typed-created}
 use Rattle.prop_bindings.specs.declared.binding.Binding.{Binding}
 use Rattle.prop_bindings.specs.declared.place.Place.{Place}
 use Rattle.prop_bindings.specs.Bindings.{binding_at, without, replaced, Loop as Closed}
 use Rattle.prop_bindings.specs.Fits.{Agree}
-use Rattle.prop_bindings.proofs.Leaving.{Stays, agree-living, left_agree}
+use Rattle.prop_bindings.proofs.Leaving.{agree-living, left_agree}
 use Rattle.effect_scan.specs.declared.node.Member.TheVariants.{Property}
 use Rattle.effect_scan.specs.Nodes.{node}
 use Rattle.certificate_lang.specs.declared.certificate.Certificate.{Certificate}
 use Rattle.rank_check.specs.Valid.{IsValid}
+use Rattle.delete_later.proofs.Agreeing.{live-change, live-moved, live-created}
 use Rattle.machine_state.specs.declared.endpoints.Endpoints.{Endpoints}
 use Rattle.machine_state.specs.declared.refusal.Refusal.{Refusal}
 use Rattle.machine_state.specs.declared.turn.Turn.{Turn}
@@ -66,9 +65,9 @@ use Rattle.machine_events.specs.declared.events.invoke.Invocation.{Invocation}
 use Rattle.machine_events.specs.declared.events.invoke.Invocation.TheVariants.{Emit as EmitIt, Call as CallIt}
 use Rattle.machine_state.specs.declared.fault.Answer.{Answer}
 use Rattle.machine_events.specs.Takes.{judged, Takes, accepts, refuses}
-use Rattle.machine_events.specs.events.Block.{block}
-use Rattle.machine_events.specs.events.Invoke.{invoke}
-use Rattle.checked_runs.specs.code.Invariant.{IsSited, IsCovered}
+use Rattle.machine_events.specs.Events.{block, invoke}
+use Rattle.machine_events.proofs.Settling.{bound-within}
+use Rattle.checked_runs.proofs.Invariant.{IsSited, IsCovered}
 use Rattle.checked_runs.proofs.Binding.{may-fit}
 use Rattle.checked_runs.proofs.Events.{HoldsSome, binding-sited}
 use Rattle.checked_runs.proofs.Given.{given-is, living-is, living-object, adopted-by}
@@ -183,30 +182,6 @@ module _ {p : Loaded} (s t : State) (agree : Agree p s.objects s.bindings) where
 pub rule-agrees : {p : Loaded} (natives : NativeAnswers) (s t : State) → Agree p s.objects s.bindings → WritesFit p s → Rule p natives s t → Agree p t.objects t.bindings
 rule-agrees natives s t agree fit rule = stack-agrees s t agree natives s.stack refl fit rule
 
--- ---- objects that change in no value
-
--- an object that shows the same lives on with its values
-stays-shown : (old new : List Object) (o : ℕ) → shape_in (slice_get new o) ≡ shape_in (slice_get old o) → Stays old new o
-stays-shown old new o same l is =
-    let x = lives-of-life old o l is in
-    by_object (slice_get new o) refl (same ∙ ap shape_in (x.1).is ∙ ap (λ (there : Option Life). Some (option_map life_shape there)) (x.1).lives)
-  where
-    by_life : (y : Object) (there : Option Life) → y.life ≡ there → slice_get new o ≡ Some y → Some (option_map life_shape there) ≡ Some (Some (life_shape l)) → (m : Life) × (life_of new o ≡ Some m) × (m.class ≡ l.class) × (m.values ≡ l.values)
-    by_life y None lives at e = absurd (cc e)
-    by_life y (Some m) lives at e =
-        let shown : life_shape m ≡ life_shape l = cc e in
-        (m, ap (λ (there : Option Object). option_and_then (λ (z : Object). z.life) there) at ∙ lives, ap (λ (z : Shape). z.class) shown, ap (λ (z : Shape). z.values) shown)
-
-    by_object : (there : Option Object) → slice_get new o ≡ there → shape_in there ≡ Some (Some (life_shape l)) → (m : Life) × (life_of new o ≡ Some m) × (m.class ≡ l.class) × (m.values ≡ l.values)
-    by_object None at e = absurd (cc e)
-    by_object (Some y) at e = by_life y y.life refl at e
-
--- the living live on where one more comes
-life-more : (xs : List Object) (z : Object) (o : ℕ) (l : Life) → life_of xs o ≡ Some l → life_of (xs ++ z ∷ []) o ≡ Some l
-life-more [] z o l e = absurd (cc e)
-life-more (x ∷ xs) z zero l e = e
-life-more (x ∷ xs) z (suc o) l e = life-more xs z o l e
-
 -- ---- a new object
 
 -- what holds no object reads as it is
@@ -241,7 +216,7 @@ module _ {p : Loaded} {certificate : Certificate} (valid : IsValid p certificate
   blocked-agrees name on (goes_on o lives given) =
       agree-at _ (given-is given) (agree-living p s.objects (change_life o.number (blocked on) s.objects) s.bindings
       (typed-change p o.number (blocked on) s.objects (λ l. refl) agree.typed)
-      (λ k. stays-shown s.objects (change_life o.number (blocked on) s.objects) k (shape-change o.number (blocked on) s.objects (λ l. refl) k)) agree)
+      (live-change o.number (blocked on) s.objects (λ l. refl)) agree)
 
   -- an object more
   created-agrees : (name : List ℕ) (c home : ℕ) (class : MetaObject) → IsClass p c class → Agree p (s.objects ++ fresh name c home (initial_values class) ∷ []) s.bindings
@@ -249,12 +224,12 @@ module _ {p : Loaded} {certificate : Certificate} (valid : IsValid p certificate
       let z : Object = fresh name c home (initial_values class) in
       agree-living p s.objects (s.objects ++ z ∷ []) s.bindings
       (typed-created p s.objects name c home class is (begins-well valid sound s.objects c class is) agree.typed)
-      (λ o l lives. (l, life-more s.objects z o l lives, refl, refl)) agree
+      (live-created s.objects z) agree
 
   moved-agrees : (a c : ℕ) → Agree p (moved a c s.objects) s.bindings
   moved-agrees a c =
       agree-living p s.objects (moved a c s.objects) s.bindings (typed-moved p a c s.objects agree.typed)
-      (λ k. stays-shown s.objects (moved a c s.objects) k (shape-moved a c s.objects k)) agree
+      (live-moved a c s.objects) agree
 
   -- a bind that may be closes no chain
   bind-closes-none : (classes : ℕ → Option ℕ) → IsCovered p classes s.objects s.connected.connections s.bindings → (b : Binding) → IsSited p classes b → ¬ Closed (binding_at (replaced s.bindings b))
@@ -278,7 +253,7 @@ module _ {p : Loaded} {certificate : Certificate} (valid : IsValid p certificate
       writes-agree {s = accepted s} agree w (subst (λ (k : MetaProperty). ReadsAs p s.objects v k.kind) one fits)
   event-agrees t (Bind site target sources) held idle (goes_on b may (becomes x)) =
       let sited = binding-sited valid sound s idle held.0 (held.1).covered agree site target sources b may in
-      installs-agree {s = accepted s} agree (may-fit valid sound s agree site target sources b may) (bind-closes-none held.0 (held.1).covered b sited) x
+      installs-agree {s = accepted s} agree (may-fit valid sound s agree site target sources b may) (bind-closes-none held.0 (held.1).covered b sited) (bound-within s site target sources may) x
   event-agrees t (EmitEvent name signal inputs) held idle x = invoked-agrees t EmitIt name signal inputs x
   event-agrees t (CallEvent name slot inputs) held idle x = invoked-agrees t CallIt name slot inputs x
   event-agrees t (Block name) held idle x = blocked-agrees name true x

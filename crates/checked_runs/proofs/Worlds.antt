@@ -23,7 +23,7 @@ use Rattle.machine_rules.specs.code.Keeps.{StayThere}
 use Rattle.machine_rules.specs.There.{IsDead}
 use Rattle.machine_rules.proofs.Dying.{lives-not-dead}
 use Rattle.machine_rules.proofs.Keeps.{lives-of-class, values-stay}
-use Rattle.checked_runs.specs.code.Invariant.{Level, BodyStands, Stands, Stacked, AreClasses, AreOwned, IsOwned}
+use Rattle.checked_runs.proofs.Invariant.{Level, BodyStands, Stands, Stacked, AreClasses, AreOwned, IsOwned}
 
 -- ---- what a change of objects leaves
 

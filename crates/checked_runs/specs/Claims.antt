@@ -9,14 +9,14 @@ use Rattle.native_slots.specs.Promises.{Takes, Promises}
 use Rattle.object_tree.specs.Typed.{AreTyped}
 use Rattle.machine_state.specs.declared.fault.Answer.{Answer}
 use Rattle.machine_state.specs.declared.fault.Fault.{Fault}
-use Rattle.machine_state.specs.declared.fault.Fault.TheVariants.{TooDeep, InUse, BindingLoop, Steps, Memory}
+use Rattle.machine_state.specs.declared.fault.Fault.TheVariants.{Steps, Memory}
 use Rattle.machine_state.specs.State.{State}
 use Rattle.machine_state.specs.Worlds.{at, untouched}
 use Rattle.machine_rules.specs.Good.{HasArguments, Spares, IsAcyclic, AreSettled}
 use Rattle.machine_rules.specs.Faults.{LacksValue}
 use Rattle.machine_rules.specs.Natives.{NativeAnswers}
 use Rattle.machine_rules.specs.code.Going.{IsStuck}
-use Rattle.machine_events.specs.Causes.{Cause}
+use Rattle.machine_events.specs.Causes.{StopsFor}
 use Rattle.machine_events.specs.Runs.{Run, Each, GoodRun, Follows}
 
 -- ---- every step of every run
@@ -27,7 +27,7 @@ pub record IsTypedStep (p : Loaded) (s t : State) : Type 0 where
   pub has_values : ¬ LacksValue s
   pub values : AreTyped p t.objects
 
--- what the certificate's bound is the depth of
+-- the claims, of a step of a run that may nest so deep
 pub record IsFaultless (p : Loaded) (depth : ℕ) (s t : State) : Type 0 where
   -- what was pushed, so every call that is delivered, has the arguments that its method declares
   pub arguments : HasArguments p s t
@@ -77,40 +77,25 @@ pub data IsLimit : Fault → Type 0 where
 abbrev pub StopsAtLimits : Takes → NativeAnswers → Type 0
 StopsAtLimits accepts natives =
     (p : Loaded) (certificate : Certificate) (s : State) (left rules : ℕ) (next : List Event) (fault : Fault) →
-    IsReached accepts natives p certificate s left → Cause p natives certificate.bound s rules next fault → IsLimit fault
+    IsReached accepts natives p certificate s left → StopsFor p natives certificate.bound s rules next fault → IsLimit fault
 
 -- ---- whatever natives answer, if they keep what the program declares of them or not
 
--- A run without a bad moment that may nest as deep as the bound, whatever events it has taken, never stops for this reason,
--- whatever events come next.
-abbrev pub NeverStops : Fault → NativeAnswers → Type 0
-NeverStops fault natives =
-    (p : Loaded) (certificate : Certificate) (s : State) (steps left : ℕ) (taken next : List Event) (answers : List Answer) →
-    IsSound p → IsValid p certificate → GoodRun p natives certificate.bound (at (untouched steps) []) steps taken answers s left →
-    ¬ Cause p natives certificate.bound s left next fault
-
--- activations never nest deeper than the certificate's bound
-abbrev pub NeverTooDeep : NativeAnswers → Type 0
-NeverTooDeep natives = NeverStops TooDeep natives
-
--- no object dies while a body of it is active
-abbrev pub NeverInUse : NativeAnswers → Type 0
-NeverInUse natives = NeverStops InUse natives
-
--- no chain of bindings closes
-abbrev pub NeverLoops : NativeAnswers → Type 0
-NeverLoops natives = NeverStops BindingLoop natives
-
--- no expression lacks a value, no condition a truth value
-abbrev pub NeverLacksValue : NativeAnswers → Type 0
-NeverLacksValue natives =
+-- in a run without a bad moment that may nest as deep as the bound, whatever events it has taken, no state is so
+abbrev pub Never : NativeAnswers → (Loaded → Certificate → State → ℕ → Type 0) → Type 0
+Never natives Is =
     (p : Loaded) (certificate : Certificate) (s : State) (steps left : ℕ) (taken : List Event) (answers : List Answer) →
     IsSound p → IsValid p certificate → GoodRun p natives certificate.bound (at (untouched steps) []) steps taken answers s left →
-    ¬ LacksValue s
+    ¬ Is p certificate s left
+
+-- .. that it stops there for this fault, whatever events come next: nothing is too deep, in use, or a chain that closes
+abbrev pub NeverStops : Fault → NativeAnswers → Type 0
+NeverStops fault natives = (next : List Event) → Never natives (λ p certificate s left. StopsFor p natives certificate.bound s left next fault)
+
+-- .. an expression lacks a value, or a condition a truth value
+abbrev pub NeverLacksValue : NativeAnswers → Type 0
+NeverLacksValue natives = Never natives (λ p certificate s left. LacksValue s)
 
 -- .. so what goes on is never without a next rule. What a native is to answer is not asked.
 abbrev pub NeverStuck : NativeAnswers → Type 0
-NeverStuck natives =
-    (p : Loaded) (certificate : Certificate) (s : State) (steps left : ℕ) (taken : List Event) (answers : List Answer) →
-    IsSound p → IsValid p certificate → GoodRun p natives certificate.bound (at (untouched steps) []) steps taken answers s left →
-    ¬ IsStuck p natives s
+NeverStuck natives = Never natives (λ p certificate s left. IsStuck p natives s)

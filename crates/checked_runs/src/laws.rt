@@ -1,22 +1,23 @@
 //! What holds of every program that loads and has a valid certificate, for every list of events.
 
-ghost use Rattle.checked_runs.specs.Claims.{EachIsFaultless, EachRunIsFaultless, NeverInUse, NeverLoops, NeverLacksValue, NeverStuck, NeverTooDeep, StopsAtLimits};
+ghost use Rattle.machine_state.specs.declared.fault.Fault.TheVariants.{BindingLoop, InUse, TooDeep};
+ghost use Rattle.checked_runs.specs.Claims.{EachIsFaultless, EachRunIsFaultless, NeverLacksValue, NeverStops, NeverStuck, StopsAtLimits};
 
 use native_slots::Answering;
 
 /// Activations never nest deeper than the certificate's bound, whatever these natives answer: no run stops with `TooDeep`.
 pub fn never_too_deep<N: Answering>(_natives: &N)
-    ensures { NeverTooDeep (N.gives _natives.now) }
+    ensures { NeverStops TooDeep (N.gives _natives.now) }
 {}
 
 /// No object dies while a body of it is active: no run stops with `InUse`.
 pub fn never_in_use<N: Answering>(_natives: &N)
-    ensures { NeverInUse (N.gives _natives.now) }
+    ensures { NeverStops InUse (N.gives _natives.now) }
 {}
 
 /// No chain of bindings leads from a property back to itself: no run stops with `BindingLoop`.
 pub fn never_loops<N: Answering>(_natives: &N)
-    ensures { NeverLoops (N.gives _natives.now) }
+    ensures { NeverStops BindingLoop (N.gives _natives.now) }
 {}
 
 /// No expression lacks a value, and no condition a truth value.

@@ -9,7 +9,7 @@ use Rattle.script_lang.specs.declared.event.Input.{Input}
 use Rattle.meta_model.specs.Loaded.{Loaded}
 use Rattle.meta_model.specs.Sound.{IsSound}
 use Rattle.prop_bindings.specs.Bindings.{binding_at, Settled, Chain, direct, further}
-use Rattle.prop_bindings.specs.Fits.{IsFit, Agree}
+use Rattle.prop_bindings.specs.Fits.{IsFit, IsInOneLoop, Agree}
 use Rattle.prop_bindings.specs.Places.{values_in}
 use Rattle.prop_bindings.specs.declared.place.Place.{Place}
 use Rattle.machine_state.specs.declared.fault.Answer.{Answer}
@@ -32,8 +32,7 @@ use Rattle.machine_events.specs.Laws.{AlwaysSettled}
 use Rattle.machine_events.specs.Runs.{Run, done, goes, takes, Each, GoodRun}
 use Rattle.machine_events.specs.Takes.{judged, Takes, accepts, refuses}
 use Rattle.machine_events.specs.code.Taking.{WorldInvariant, Took}
-use Rattle.machine_events.specs.events.Block.{block}
-use Rattle.machine_events.specs.events.Invoke.{invoke}
+use Rattle.machine_events.specs.Events.{block, invoke}
 use Rattle.machine_events.proofs.Preservation.{runs-invariant}
 use Rattle.machine_events.proofs.Settling.{takes-agree}
 use Rattle.machine_events.proofs.Standing.{Invariant}
@@ -147,6 +146,7 @@ agree-none : (p : Loaded) → Agree p [] []
 agree-none p = record {
   typed = λ o x l is. absurd (cc is.is);
   fit = All-from_recursion (IsFit p []) [] tt;
+  one_loop = All-from_recursion (IsInOneLoop []) [] tt;
   apart = tt;
   acyclic = λ loop. no-chain loop.1;
   settled = λ q b is. absurd (cc is);

@@ -14,8 +14,8 @@ use Rattle.machine_rules.proofs.OneRule.{rule-one}
 use Rattle.prop_bindings.specs.Fits.{Agree}
 use Rattle.machine_rules.specs.Good.{IsGood}
 use Rattle.native_slots.specs.declared.action.Action.{Action}
-use Rattle.machine_events.specs.Laws.{OneRun, OneRunOfAnswers, OneFront}
-use Rattle.machine_events.specs.Runs.{Run, done, goes, takes, Each, EachRule, GoodRun, RunsWhole}
+use Rattle.machine_events.specs.Laws.{OneRun, OneRunOfAnswers, OneFront, OneFrontOfAnswers, IsFront}
+use Rattle.machine_events.specs.Runs.{Run, done, goes, takes, Each, EachRule, GoodRun, RunsWhole, RunsFront}
 use Rattle.machine_events.specs.Takes.{Takes, accepts, refuses}
 use Rattle.machine_events.proofs.Keeping.{runs-pay}
 use Rattle.machine_events.proofs.OneTaking.{one_taking}
@@ -103,12 +103,17 @@ each-own done = tt
 each-own (goes x rest) = (x, each-own rest)
 each-own (takes x rest) = each-own rest
 
-pub one_front : (natives : NativeAnswers) → OneFront natives
-one_front natives once p depth s n events t u j k sound agree a b =
-    elim (fronts (by-natives p natives) a.rest b.rest (natives-once p natives once) sound agree (sym a.split ∙ b.split) a.runs.run b.runs.run a.runs.good b.runs.good (each-own a.runs.run) (each-own b.runs.run)) [
+-- one of two runs of fronts is a front of the other
+front-one : {p : Loaded} {natives : NativeAnswers} {d : ℕ} {s t u : State} {n j k : ℕ} {es : List Event} (Once : ℕ → State → State → Type 0) → IsOnce p Once → IsSound p → Agree p s.objects s.bindings → (a : RunsFront p natives d s n es t j) (b : RunsFront p natives d s n es u k) → EachRule Once a.runs.run → EachRule Once b.runs.run → IsFront a b ⊎ IsFront b a
+front-one Once once sound agree a b of also =
+    elim (fronts Once a.rest b.rest once sound agree (sym a.split ∙ b.split) a.runs.run b.runs.run a.runs.good b.runs.good of also) [
       | inl leads ↦ inl (record { more = leads.more; taken = leads.taken; said = leads.added; answers = leads.answers; runs = leads.runs; grows = (runs-pay leads.runs.run).grows })
       | inr leads ↦ inr (record { more = leads.more; taken = leads.taken; said = leads.added; answers = leads.answers; runs = leads.runs; grows = (runs-pay leads.runs.run).grows })
     ]
+
+pub one_front : (natives : NativeAnswers) → OneFront natives
+one_front natives once p depth s n events t u j k sound agree a b =
+    front-one (by-natives p natives) (natives-once p natives once) sound agree a b (each-own a.runs.run) (each-own b.runs.run)
 
 -- ---- whole runs
 
@@ -147,8 +152,15 @@ only said class sig arguments reads actions = actions ≡ said
 only-once : (said : List Action) → AnswersOnce (only said)
 only-once said class sig arguments reads a b x y = x ∙ sym y
 
+-- .. are asked for just one
+abbrev by-answers : Loaded → (ℕ → List Action) → ℕ → State → State → Type 0
+by-answers p said left s t = Rule p (only (said left)) s t
+
+answers-once : (p : Loaded) (said : ℕ → List Action) → IsOnce p (by-answers p said)
+answers-once p said left s t u agree x y = rule-one p (only (said left)) (only-once (said left)) s t u agree x y
+
 pub one_run_of_answers : (natives : NativeAnswers) → OneRunOfAnswers natives
-one_run_of_answers natives said p depth s n events x y t u j k sound agree a b of also =
-    let Once : ℕ → State → State → Type 0 = λ left v w. Rule p (only (said left)) v w in
-    let once : IsOnce p Once = λ left v w z first f g. rule-one p (only (said left)) (only-once (said left)) v w z first f g in
-    whole-one Once once sound agree a b of also
+one_run_of_answers natives said p depth s n events x y t u j k sound agree a b of also = whole-one (by-answers p said) (answers-once p said) sound agree a b of also
+
+pub one_front_of_answers : (natives : NativeAnswers) → OneFrontOfAnswers natives
+one_front_of_answers natives said p depth s n events t u j k sound agree a b of also = front-one (by-answers p said) (answers-once p said) sound agree a b of also

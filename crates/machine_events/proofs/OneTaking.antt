@@ -31,20 +31,8 @@ use Rattle.machine_rules.specs.Settling.{Installs}
 use Rattle.machine_rules.specs.Good.{IsAcyclic}
 use Rattle.machine_events.specs.Laws.{IsAcyclicIn, OneJudgement, OneTaking}
 use Rattle.machine_events.specs.Takes.{judged, Takes, accepts, refuses}
-use Rattle.machine_events.specs.events.Adopt.{adopt, Adopts}
-use Rattle.machine_events.specs.events.Assign.{assign}
-use Rattle.machine_events.specs.events.Bind.{IsSiteOf, may_bind, bind}
-use Rattle.machine_events.specs.events.Block.{block}
-use Rattle.machine_events.specs.events.Delete.{delete}
-use Rattle.machine_events.specs.events.Later.{later}
-use Rattle.machine_events.specs.events.Connect.{connect}
-use Rattle.machine_events.specs.events.Disconnect.{disconnect}
-use Rattle.machine_events.specs.events.Ends.{find_ends, IsMethodOf}
-use Rattle.machine_events.specs.events.AddLoop.{add_loop}
-use Rattle.machine_events.specs.events.Turn.{turn}
+use Rattle.machine_events.specs.Events.{adopt, Adopts, assign, IsSiteOf, may_bind, bind, block, delete, later, connect, disconnect, find_ends, IsMethodOf, add_loop, turn, create, IsClassOf, IsHome, invoke}
 use Rattle.event_loops.specs.Queues.{Loop, IsNamed}
-use Rattle.machine_events.specs.events.Create.{create, IsClassOf, IsHome}
-use Rattle.machine_events.specs.events.Invoke.{invoke}
 use Rattle.machine_rules.proofs.OneAnswer.{one-find, one-check, one-gives, one-becomes, one-then, numbered-is}
 use Rattle.machine_rules.proofs.OneRule.{may-connect-one}
 use Rattle.machine_events.proofs.OneAnswer.{one-living, one-all-living, one-value, one-values, one-method, one-property, one-adopted}

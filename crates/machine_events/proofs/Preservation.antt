@@ -63,13 +63,11 @@ use Rattle.machine_events.specs.declared.events.invoke.Invocation.{Invocation}
 use Rattle.machine_events.specs.declared.events.invoke.Invocation.TheVariants.{Emit as EmitIt, Call as CallIt}
 use Rattle.machine_rules.specs.Judgement.{found as finds, holds as so, becomes, gives as just, goes_on}
 use Rattle.machine_events.specs.Takes.{judged, Takes, accepts, refuses}
-use Rattle.machine_events.specs.events.Block.{block}
+use Rattle.machine_events.specs.Events.{block, find_ends, invoke}
 use Rattle.machine_rules.specs.declared.ends.FoundEnds.{FoundEnds}
-use Rattle.machine_events.specs.events.Ends.{find_ends}
 use Rattle.machine_state.specs.Connections.{joins_these}
 use Rattle.machine_state.proofs.Due.{all-removed}
 use Rattle.machine_events.proofs.Judged.{given-is}
-use Rattle.machine_events.specs.events.Invoke.{invoke}
 use Rattle.machine_events.proofs.Judging.Naming.{living-is, living-object}
 use Rattle.machine_rules.specs.Good.{has_body, ArgumentsFit, TopFits, IsWell, Spares, IsGood}
 use Rattle.machine_rules.proofs.Agreeing.{rule-agrees}

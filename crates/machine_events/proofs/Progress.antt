@@ -1,5 +1,5 @@
 -- What goes on in a run lacks a next rule only for want of a value.
-use Rattle.std.proofs.Common.{◌≡◌, ◌⊎◌, inl, inr, ◌∙◌, ℕ, true, false, List, [], ◌∷◌, Option, Some, None, Result, Ok, Err, refl, subst, Bool, cond, length, take, ap}
+use Rattle.std.proofs.Common.{◌≡◌, inl, inr, ◌∙◌, ℕ, true, false, List, [], ◌∷◌, Option, Some, None, Result, Ok, Err, refl, subst, Bool, cond, length, take, ap}
 use Rattle.std.specs.List.{AllByRecursion}
 use Rattle.signatures.specs.declared.value.Value.{Value}
 use Rattle.script_lang.specs.declared.event.Event.{Event}
@@ -17,6 +17,7 @@ use Rattle.machine_rules.proofs.Linking.{kept-there}
 use Rattle.meta_model.specs.Sound.{IsSound}
 use Rattle.connections.specs.declared.connection.Connection.{Connection}
 use Rattle.machine_state.specs.declared.fault.Fault.{Fault}
+use Rattle.machine_state.specs.declared.fault.Fault.TheVariants.{BadType, TooDeep, BindingLoop, InUse, Steps, Memory, Stopped}
 use Rattle.object_tree.specs.declared.object.Object.{Object}
 use Rattle.machine_state.specs.State.{Step, Run, Ask, Act, State, Activation, Body, Emit, Update, Destroy}
 use Rattle.machine_rules.specs.Rules.{RuleAt, StepRule, Does, EmitRule, UpdateRule, Connects, Disconnects, TurnRule, Serves, Delivers, Arrives, with_used, BeginsIf, NotifiesIf}
@@ -40,9 +41,8 @@ use Rattle.machine_state.specs.Turns.{running, reaches_at_once}
 use Rattle.machine_state.specs.Connections.{is_living, next_used}
 use Rattle.machine_rules.specs.Faults.{DoesNext, LacksValue}
 use Rattle.machine_rules.specs.code.Going.{IsStuck}
-use Rattle.machine_rules.proofs.Reaching.{reason-more}
 use Rattle.machine_events.specs.code.Taking.{RunStops}
-use Rattle.machine_events.specs.Causes.{BindsIll, Cause}
+use Rattle.machine_events.specs.Causes.{StopsFor, spent, short, brings, lacks_value, writes_ill, binds_ill, goes_ill, goes_fatal, binds_loop, writes_deep, goes_deep}
 use Rattle.machine_rules.specs.There.{IsField, LacksField}
 use Rattle.machine_rules.specs.code.Writing.{MayNotify}
 use Rattle.machine_rules.proofs.Beginning.{next-delivered}
@@ -227,9 +227,26 @@ module _ {p : Loaded} {s : State} (sound : IsSound p) (up : Invariant p s) where
   pub stuck-lacks : {natives : NativeAnswers} → IsStuck p natives s → LacksValue s
   stuck-lacks x = stack-lacks s.stack refl x up.stands up.emitted x.stuck
 
-  pub cause-of : (natives : NativeAnswers) (d left : ℕ) (es : List Event) (f : Fault) → RunStops p natives d s left es f → Cause p natives d s left es f
-  cause-of natives d left es f r = reason-more p d s left f held (λ closes. closes) (λ t follows. follows) (λ due. due) r
-    where
-      held : IsStuck p natives s ⊎ BindsIll p s es → LacksValue s ⊎ BindsIll p s es
-      held (inl stuck) = inl (stuck-lacks stuck)
-      held (inr ill) = inr ill
+  -- why the code stops is why the run does
+  pub cause-of : (natives : NativeAnswers) (d left : ℕ) (es : List Event) (f : Fault) → RunStops p natives d s left es f → StopsFor p natives d s left es f
+  cause-of natives d left es BadType r =
+      elim r.1 [
+        | inl none ↦ elim none [
+          | inl stuck ↦ brings r.0 (lacks_value (stuck-lacks stuck))
+          | inr ill ↦ brings r.0 (binds_ill ill)
+        ]
+        | inr wrong ↦ elim wrong [
+          | inl write ↦ brings r.0 (writes_ill write)
+          | inr goes ↦ brings r.0 (goes_ill goes)
+        ]
+      ]
+  cause-of natives d left es TooDeep r =
+      elim r.1 [
+        | inl write ↦ brings r.0 (writes_deep write)
+        | inr goes ↦ brings r.0 (goes_deep goes)
+      ]
+  cause-of natives d left es BindingLoop r = brings r.0 (binds_loop r.1)
+  cause-of natives d left es InUse r = brings r.0 (goes_fatal r.1)
+  cause-of natives d left es Steps r = spent r.0 r.1
+  cause-of natives d left es Memory r = short r.0 r.1
+  cause-of natives d left es Stopped r = absurd r

@@ -1,5 +1,5 @@
 -- What an event pushes: a method that begins, or what follows a write.
-use Rattle.std.proofs.Common.{◌≡◌, ℕ, ◌-◌, ◌<◌, Result, Ok, Err, MatchResult, inl, inr, subst, arith, List, [], ◌∷◌, ◌++◌, None, refl, sym, ap, ◌∙◌}
+use Rattle.std.proofs.Common.{◌≡◌, ℕ, ◌-◌, ◌<◌, Result, Ok, MatchResult, inl, inr, subst, arith, List, [], ◌∷◌, ◌++◌, None, refl, sym, ap, ◌∙◌}
 use Rattle.std.specs.Result.{IsErrAnd}
 use Rattle.signatures.specs.declared.value.Value.{Value}
 use Rattle.script_lang.specs.declared.event.Event.{Event}
@@ -12,13 +12,11 @@ use Rattle.machine_state.specs.declared.entry.Entry.{Entry}
 use Rattle.machine_state.specs.declared.fault.Answer.{Answer}
 use Rattle.machine_state.specs.declared.fault.Answer.TheVariants.{Done}
 use Rattle.machine_state.specs.declared.fault.Fault.{Fault}
-use Rattle.machine_state.specs.declared.fault.Fault.TheVariants.{Memory}
 use Rattle.machine_state.specs.declared.world.World.{World}
 use Rattle.machine_state.specs.Objects.{all_shown}
 use Rattle.machine_state.specs.State.{Activation, Update}
 use Rattle.machine_state.specs.Accepting.{accepted}
-use Rattle.machine_state.specs.Worlds.{at, accepting_entries, accepting_turn, with_bound, HasWritten, HasBound, KeepsTheRest}
-use Rattle.machine_events.specs.Runs.{is_next}
+use Rattle.machine_state.specs.Worlds.{at, accepting_entries, accepting_turn, with_bound, HasWritten, HasBound}
 use Rattle.machine_events.specs.Takes.{judged, accepts}
 use Rattle.machine_rules.specs.Natives.{NativeAnswers}
 use Rattle.machine_rules.specs.code.Reaches.{RunsTo, begin_entry, top_of, IsActivated, IsBarred}
@@ -26,7 +24,7 @@ use Rattle.prop_bindings.specs.declared.binding.Binding.{Binding}
 use Rattle.prop_bindings.specs.declared.place.Place.{Place}
 use Rattle.prop_bindings.specs.Bindings.{binding_at, Settled}
 use Rattle.prop_bindings.specs.Calls.{new_binding}
-use Rattle.prop_bindings.specs.Changes.{DifferInValues, IsWritten}
+use Rattle.prop_bindings.specs.Changes.{DifferInValues, IsWritten, one}
 use Rattle.prop_bindings.specs.Fits.{Agree, FitsAt}
 use Rattle.prop_bindings.specs.Places.{values_in}
 use Rattle.machine_rules.specs.Good.{ArgumentsFit, TopFits}
@@ -37,7 +35,7 @@ use Rattle.machine_rules.proofs.Soundness.{sound-settled}
 use Rattle.machine_rules.specs.code.Sound.{IsSoundWorld}
 use Rattle.machine_events.specs.code.Taking.{AsksFor, WritesTo, Took, Halted}
 use Rattle.machine_events.proofs.Judging.Assigning.{field-of}
-use Rattle.machine_events.proofs.Taken.{idle, none-yet, Ready, good-pushed, took-run, took-unchanged}
+use Rattle.machine_events.proofs.Taken.{idle, Ready, good-pushed, took-run, took-unchanged}
 
 begun-here : (w : World) (o : ℕ) (x : Object) (m : ℕ) (method : MetaMethod) (values : List Value) (work : Work) →
     at (accepting_entries w (begin_entry 1 x m method.sig.name (all_shown w.store.tree values) work ∷ [])) (top_of o m values w.store.connections.last work ∷ []) ≡ begun (accepted (at w [])) [] o x m method values work
@@ -75,7 +73,7 @@ told-so w v lines stack same gives =
 
 pub judged-written : {p : Loaded} {v : World} {value : Value} {place : Place} {changed : List Place} (w : World) (e : Event) → WritesTo p w place.object place.property value e → FitsAt p w.store.tree place value → HasWritten p 1 place value w (accepting_entries w) changed v → judged p (at w []) e (Ok (at v (updates p v changed)))
 judged-written {p} {v} {value} {place} {changed} w e writes fits has =
-    let Family : List Binding → Type 0 = λ cs. IsWritten w.store.bindings cs w.store.tree v.store.tree place value changed in
+    let Family : List Binding → Type 0 = λ cs. IsWritten w.store.bindings cs w.store.tree v.store.tree (one place value) changed in
     writes.effect (at v (updates p v changed)) (record {
       object = fits.object;
       property = fits.property;
@@ -133,13 +131,6 @@ changed-run {w = w} {v = v} lines changed e agree room some judged is ends =
     let less : v.left ≡ w.left - 1 = ap (λ (z : World). z.left) is in
     let none : v.turn ≡ None = ap (λ (z : World). z.turn) is ∙ some.no_turn in
     took-run e (accepts (idle w some.no_turn) judged) (good-pushed w v agree tt (omega (arith, room))) some.some less none ends
-
--- memory is refused as values have changed, and nothing is written down
-pub changed-short : {p : Loaded} {natives : NativeAnswers} {d : ℕ} {w v : World} {f : Fault} (e : Event) (r : Result Answer Fault) → Ready w → (f ≡ Memory) × KeepsTheRest w v → IsErrAnd r (λ y. y ≡ f) → Took p natives d w e v r
-changed-short e (Ok a) some why is = absurd is
-changed-short {p} {natives} {d} {w} {v} e (Err y) some why is =
-    let Named : Fault → Type 0 = λ g. Halted p natives d w e v g in
-    record { cases = subst Named (sym (is ∙ why.0)) (record { u = w; leaves = (why.1, λ other. absurd (other refl)); stack = []; front = record { taken = []; rest = e ∷ []; split = refl; answers = []; runs = none-yet }; reason = (some.some, is_next (idle w some.no_turn)) }) }
 
 -- ---- what stays sound meanwhile
 

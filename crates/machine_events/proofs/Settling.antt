@@ -9,7 +9,7 @@ use Rattle.object_tree.specs.Creating.{fresh, initial_values}
 use Rattle.object_tree.specs.Typed.{AreTyped}
 use Rattle.prop_bindings.specs.declared.binding.Binding.{Binding}
 use Rattle.prop_bindings.specs.Calls.{binding_of}
-use Rattle.prop_bindings.specs.Fits.{Agree}
+use Rattle.prop_bindings.specs.Fits.{Agree, IsInOneLoop}
 use Rattle.delete_later.proofs.Agreeing.{agree-on, live-created}
 use Rattle.script_lang.specs.declared.event.Event.{Event}
 use Rattle.script_lang.specs.declared.event.Event.TheVariants.{Loop, Turn, New, Adopt, Connect, Disconnect, Set, Bind, Emit, Call, Block, Unblock, Delete, Later}
@@ -28,9 +28,7 @@ use Rattle.machine_events.specs.declared.events.invoke.Invocation.{Invocation}
 use Rattle.machine_events.specs.declared.events.invoke.Invocation.TheVariants.{Emit as EmitIt, Call as CallIt}
 use Rattle.machine_events.specs.Laws.{TakingSettles}
 use Rattle.machine_events.specs.Takes.{judged, Takes, accepts, refuses}
-use Rattle.machine_events.specs.events.Bind.{may_bind}
-use Rattle.machine_events.specs.events.Block.{block}
-use Rattle.machine_events.specs.events.Invoke.{invoke}
+use Rattle.machine_events.specs.Events.{may_bind, block, invoke}
 use Rattle.machine_events.proofs.Inherited.{property-below}
 use Rattle.machine_events.proofs.Judged.{given-is}
 use Rattle.machine_events.proofs.Judging.Adopting.{agree-adopted}
@@ -48,6 +46,11 @@ bound-plain {p} {b = b} s site target sources sound (goes_on n (finds is) (goes_
     let There : Binding → Type 0 = λ z. IsField p s.objects z.target.object z.target.property own.0 plain.property in
     let one_is : plain.property ≡ x.property = field-property (subst There (sym same) field) x.is in
     subst (λ (k : MetaProperty). IsPlain k.kind) one_is plain.plain
+
+-- .. and its objects live in one event loop
+pub bound-within : {p : Loaded} {b : Binding} (s : State) (site target : List ℕ) (sources : List (List ℕ)) → may_bind p s site target sources (Ok b) → IsInOneLoop s.objects b
+bound-within s site target sources (goes_on n is (goes_on _ many (goes_on o lives (goes_on xs all (goes_on _ covers (goes_on _ (so within) given)))))) =
+    subst (IsInOneLoop s.objects) (sym (given-is given)) within
 
 module _ {p : Loaded} {s t : State} (sound : IsSound p) (agree : Agree p s.objects s.bindings) (well : IsWell p s t) where
   -- it is a state in which they do
@@ -78,7 +81,7 @@ module _ {p : Loaded} {s t : State} (sound : IsSound p) (agree : Agree p s.objec
   judged-agrees (Set name property i) acyclic (goes_on o lives (goes_on q asked (goes_on v given (goes_on _ fits (becomes x))))) =
       writes-agrees {s = accepted s} agree accepted-well x
   judged-agrees (Bind site target sources) acyclic (goes_on b may (becomes x)) =
-      installs-agrees {s = accepted s} agree accepted-well acyclic x (bound-plain s site target sources sound may x)
+      installs-agrees {s = accepted s} agree accepted-well acyclic x (bound-plain s site target sources sound may x) (bound-within s site target sources may)
   judged-agrees (Emit name signal inputs) acyclic x = invoked-agrees EmitIt name signal inputs x
   judged-agrees (Call name slot inputs) acyclic x = invoked-agrees CallIt name slot inputs x
   judged-agrees (Block name) acyclic x = blocked-agrees name true x

@@ -14,7 +14,6 @@ use Rattle.machine_state.specs.Refusals.{refusal_number}
 use Rattle.machine_state.specs.State.{State, Activation, IsIdle}
 use Rattle.machine_state.specs.Worlds.{at, after, Rejects}
 use Rattle.machine_rules.specs.Natives.{NativeAnswers}
-use Rattle.machine_rules.specs.Faults.{Leaves}
 use Rattle.machine_rules.specs.code.Reaches.{RunsTo}
 use Rattle.prop_bindings.specs.Fits.{Agree}
 use Rattle.machine_rules.specs.Good.{IsGood, TopFits}
@@ -65,17 +64,13 @@ pub record Ready (w : World) : Type 0 where
 pub ready : {w : World} → 0 < w.left → w.turn ≡ None → Ready w
 ready some none = record { some = some; no_turn = none }
 
--- nothing else is left than the world in which the run stopped
-pub leaves-same : (w : World) (f : Fault) → Leaves w w f
-leaves-same w f = (refl, λ other. refl)
-
 -- memory was refused before anything changed
 pub halted-short : {p : Loaded} {natives : NativeAnswers} {d : ℕ} {w : World} (e : Event) → Ready w → Halted p natives d w e w Memory
-halted-short {w = w} e some = record { u = w; leaves = leaves-same w Memory; stack = []; front = record { taken = []; rest = e ∷ []; split = refl; answers = []; runs = none-yet }; reason = (some.some, is_next (idle w some.no_turn)) }
+halted-short {w = w} e some = record { stack = []; front = record { taken = []; rest = e ∷ []; split = refl; answers = []; runs = none-yet }; reason = (some.some, is_next (idle w some.no_turn)) }
 
 -- no rule is left for the event
 pub halted-spent : {p : Loaded} {natives : NativeAnswers} {d : ℕ} {w : World} (e : Event) → w.left ≡ 0 → w.turn ≡ None → Halted p natives d w e w Steps
-halted-spent {w = w} e none no_turn = record { u = w; leaves = leaves-same w Steps; stack = []; front = record { taken = []; rest = e ∷ []; split = refl; answers = []; runs = none-yet }; reason = (none, is_next (idle w no_turn)) }
+halted-spent {w = w} e none no_turn = record { stack = []; front = record { taken = []; rest = e ∷ []; split = refl; answers = []; runs = none-yet }; reason = (none, is_next (idle w no_turn)) }
 
 pub took-unchanged : {p : Loaded} {natives : NativeAnswers} {d : ℕ} {w v : World} {f : Fault} (e : Event) (r : Result Answer Fault) → Ready w → (f ≡ Memory) × (v ≡ w) → IsErrAnd r (λ y. y ≡ f) → Took p natives d w e v r
 took-unchanged e (Ok a) some same is = absurd is
@@ -136,11 +131,11 @@ pub took-run : {p : Loaded} {natives : NativeAnswers} {d : ℕ} {w m v : World} 
 took-run {v = v} {r = Ok _} e x good some less none ends = record { cases = (record { runs = runs-taken e x good some less (ends.cases.runs [] refl); ends = idle v ((rules-kept (ends.cases.runs [] refl)).no_turn none) }, tt) }
 took-run {p = p} {natives = natives} {d = d} {v = v} {r = Err f} e x good some less none ends =
     let q = ends.cases.stops [] refl in
-    record { u = q.0; leaves = q.2; stack = q.1; front = record { taken = e ∷ []; rest = []; split = refl; answers = answer.Done ∷ []; runs = runs-taken e x good some less q.3 }; reason = reason-of p natives d (at q.0 q.1) q.0.left [] f q.4 }
+    record { stack = q.0; front = record { taken = e ∷ []; rest = []; split = refl; answers = answer.Done ∷ []; runs = runs-taken e x good some less q.1 }; reason = reason-of p natives d (at v q.0) v.left [] f q.2 }
 
 -- a turn runs to its end, or stops on the way
 pub took-turn : {p : Loaded} {natives : NativeAnswers} {d : ℕ} {w m v : World} {r : Result (Unit {0}) Fault} (e : Event) → Takes p e answer.Done (at w []) (at m []) → IsGood p d (at w []) (at m []) → 0 < w.left → m.left ≡ w.left - 1 → RunsTo p natives d [] m [] v [] r → OnOk r (v.turn ≡ None) → MatchResult r (λ _. Took p natives d w e v (Ok answer.Done)) (λ f. Halted p natives d w e v f)
 took-turn {v = v} {r = Ok _} e x good some less ends over = record { cases = (record { runs = runs-taken e x good some less (ends.cases.runs [] refl); ends = idle v over }, tt) }
 took-turn {p = p} {natives = natives} {d = d} {v = v} {r = Err f} e x good some less ends over =
     let q = ends.cases.stops [] refl in
-    record { u = q.0; leaves = q.2; stack = q.1; front = record { taken = e ∷ []; rest = []; split = refl; answers = answer.Done ∷ []; runs = runs-taken e x good some less q.3 }; reason = reason-of p natives d (at q.0 q.1) q.0.left [] f q.4 }
+    record { stack = q.0; front = record { taken = e ∷ []; rest = []; split = refl; answers = answer.Done ∷ []; runs = runs-taken e x good some less q.1 }; reason = reason-of p natives d (at v q.0) v.left [] f q.2 }

@@ -1,5 +1,5 @@
 -- Why a machine stops (docs/machine.md, "Faults").
-use Rattle.std.specs.Prelude.{◌≡◌, ℕ, ◌⊎◌, List, ◌∷◌, Ok}
+use Rattle.std.specs.Prelude.{◌≡◌, ℕ, ◌<◌, List, ◌∷◌, Ok}
 use Rattle.script_lang.specs.declared.event.Event.{Event}
 use Rattle.script_lang.specs.declared.event.Event.TheVariants.{Bind}
 use Rattle.meta_model.specs.Loaded.{Loaded}
@@ -7,11 +7,12 @@ use Rattle.prop_bindings.specs.declared.binding.Binding.{Binding}
 use Rattle.prop_bindings.specs.Bindings.{binding_at, replaced, Loop}
 use Rattle.prop_bindings.specs.Fits.{IsFit}
 use Rattle.machine_state.specs.declared.fault.Fault.{Fault}
+use Rattle.machine_state.specs.declared.fault.Fault.TheVariants.{BadType, TooDeep, BindingLoop, InUse, Steps, Memory}
 use Rattle.machine_state.specs.State.{State, IsIdle}
 use Rattle.machine_rules.specs.Natives.{NativeAnswers}
-use Rattle.machine_rules.specs.Faults.{LacksValue, Reason}
+use Rattle.machine_rules.specs.Faults.{LacksValue, WritesIll, WritesDeep, GoesIll, GoesFatal, GoesDeep}
 use Rattle.machine_events.specs.Runs.{Follows, IsDue}
-use Rattle.machine_events.specs.events.Bind.{may_bind}
+use Rattle.machine_events.specs.Events.{may_bind}
 
 -- the next event asks that this binding be installed, which its judgement lets
 pub record BindsNext (p : Loaded) (s : State) (events : List Event) (b : Binding) : Type 0 where
@@ -37,9 +38,26 @@ pub record BindsLoop (p : Loaded) (s : State) (events : List Event) : Type 0 whe
   pub fit : IsFit p s.objects binding
   pub closes : Loop (binding_at (replaced s.bindings binding))
 
--- Why a machine stops in a state, with these events left: 60 where the next statement lacks a value, or a value would be of
--- a wrong type; of several reasons the first of 60, 63, 62 and 61; 64 where no rule is left and one is due.
-abbrev pub Cause : Loaded → NativeAnswers → ℕ → State → ℕ → List Event → Fault → Type 0
-Cause p natives depth s left events fault =
-    Reason (LacksValue s ⊎ BindsIll p s events) (BindsLoop p s events) (λ t. Follows p natives s t events) (IsDue s events)
-    p depth s left fault
+-- What comes next brings this fault's bad moment: the statement or the event that is next, or the state that follows. Of
+-- several faults it is the first of 60, 63, 62 and 61: at each of these it is said that those before it are not the case.
+pub data Brings (p : Loaded) (natives : NativeAnswers) (depth : ℕ) (s : State) (events : List Event) : Fault → Type 0 where
+  -- 60: a value is missing ..
+  lacks_value : LacksValue s → Brings p natives depth s events BadType
+  -- .. or is not of the type of the property or of the parameter that it is given to
+  writes_ill : WritesIll p s → Brings p natives depth s events BadType
+  binds_ill : BindsIll p s events → Brings p natives depth s events BadType
+  goes_ill : GoesIll p s (λ t. Follows p natives s t events) → Brings p natives depth s events BadType
+  -- 63: an object dies while a body of it is active
+  goes_fatal : GoesFatal p s (λ t. Follows p natives s t events) → Brings p natives depth s events InUse
+  -- 62: a chain of bindings closes
+  binds_loop : BindsLoop p s events → Brings p natives depth s events BindingLoop
+  -- 61: activations nest deeper than the depth
+  writes_deep : WritesDeep p depth s → Brings p natives depth s events TooDeep
+  goes_deep : GoesDeep p depth s (λ t. Follows p natives s t events) → Brings p natives depth s events TooDeep
+
+-- why a run stops in a state, with so many rules left and these events: 64 exactly where no rule is left and one is due
+pub data StopsFor (p : Loaded) (natives : NativeAnswers) (depth : ℕ) (s : State) (left : ℕ) (events : List Event) : Fault → Type 0 where
+  spent : left ≡ 0 → IsDue s events → StopsFor p natives depth s left events Steps
+  -- memory was refused
+  short : 0 < left → IsDue s events → StopsFor p natives depth s left events Memory
+  brings : {fault : Fault} → 0 < left → Brings p natives depth s events fault → StopsFor p natives depth s left events fault

@@ -79,6 +79,15 @@ OneFront natives =
     IsSound p → Agree p s.objects s.bindings →
     (a : RunsFront p natives depth s n events t j) (b : RunsFront p natives depth s n events u k) → IsFront a b ⊎ IsFront b a
 
+-- .. whatever natives may answer, if they answered alike in both: so what a run wrote that stopped, be it for want of memory,
+-- is a front of what each longer run with the same answers writes
+abbrev pub OneFrontOfAnswers : NativeAnswers → Type 0
+OneFrontOfAnswers natives =
+    (said : ℕ → List Action) (p : Loaded) (depth : ℕ) (s : State) (n : ℕ) (events : List Event) (t u : State) (j k : ℕ) →
+    IsSound p → Agree p s.objects s.bindings →
+    (a : RunsFront p natives depth s n events t j) (b : RunsFront p natives depth s n events u k) →
+    AnswersAre said a.runs.run → AnswersAre said b.runs.run → IsFront a b ⊎ IsFront b a
+
 -- ---- settled values
 
 -- what follows by an event that gives no value of a wrong type and closes no chain of bindings keeps properties and

@@ -1,4 +1,4 @@
-pub mod events
+pub mod Events
 pub mod Takes
 pub mod Runs
 pub mod Causes

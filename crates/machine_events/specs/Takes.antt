@@ -12,18 +12,7 @@ use Rattle.machine_state.specs.State.{State, IsIdle}
 use Rattle.machine_state.specs.Worlds.{at, after}
 use Rattle.machine_state.specs.declared.world.World.{World}
 use Rattle.machine_events.specs.declared.events.invoke.Invocation.TheVariants.{Emit, Call}
-use Rattle.machine_events.specs.events.AddLoop.{add_loop}
-use Rattle.machine_events.specs.events.Turn.{turn}
-use Rattle.machine_events.specs.events.Create.{create}
-use Rattle.machine_events.specs.events.Adopt.{adopt}
-use Rattle.machine_events.specs.events.Connect.{connect}
-use Rattle.machine_events.specs.events.Disconnect.{disconnect}
-use Rattle.machine_events.specs.events.Assign.{assign}
-use Rattle.machine_events.specs.events.Bind.{bind}
-use Rattle.machine_events.specs.events.Invoke.{invoke}
-use Rattle.machine_events.specs.events.Block.{block}
-use Rattle.machine_events.specs.events.Delete.{delete}
-use Rattle.machine_events.specs.events.Later.{later}
+use Rattle.machine_events.specs.Events.{add_loop, turn, create, adopt, connect, disconnect, assign, bind, invoke, block, delete, later}
 
 -- what becomes of an event: a state, or a refusal
 abbrev pub judged : Loaded → State → Event → Result State Refusal → Type 0

@@ -1,6 +1,6 @@
 //! What holds of every program.
 
-ghost use Rattle.machine_events.specs.Laws.{AlwaysSettled, OneFront, OneJudgement, OneRun, OneRunOfAnswers, OneTaking, TakingSettles};
+ghost use Rattle.machine_events.specs.Laws.{AlwaysSettled, OneFront, OneFrontOfAnswers, OneJudgement, OneRun, OneRunOfAnswers, OneTaking, TakingSettles};
 
 use native_slots::Answering;
 
@@ -32,6 +32,13 @@ pub fn one_run_of_answers<N: Answering>(_natives: &N)
 /// ends, and its trace begins with the other's: a run that a fault stops has taken the way of every other one.
 pub fn one_front<N: Answering>(_natives: &N)
     ensures { OneFront (N.gives _natives.now) }
+{}
+
+/// Whatever these natives may answer, of two runs of fronts of one list of events in which they answered alike one goes on
+/// where the other ends, and its trace begins with the other's: so what a machine wrote that stopped, for want of memory or
+/// another fault, is a front of what each longer run with these answers writes.
+pub fn one_front_of_answers<N: Answering>(_natives: &N)
+    ensures { OneFrontOfAnswers (N.gives _natives.now) }
 {}
 
 /// The taking of an event that gives no value of a wrong type and closes no chain of bindings keeps properties and bindings

@@ -9,7 +9,7 @@ mod taking;
 pub use events::Invocation;
 pub use judgement::NotAccepted;
 pub use laws::{
-    always_settled, one_front, one_judgement, one_run, one_run_of_answers, one_taking,
-    taking_settles,
+    always_settled, one_front, one_front_of_answers, one_judgement, one_run, one_run_of_answers,
+    one_taking, taking_settles,
 };
 pub use taking::take_event;

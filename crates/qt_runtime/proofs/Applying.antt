@@ -6,14 +6,11 @@ use Rattle.meta_model.specs.Loaded.{Loaded}
 use Rattle.machine_state.specs.declared.fault.Fault.{Fault}
 use Rattle.machine_state.specs.State.{State}
 use Rattle.machine_rules.specs.Natives.{NativeAnswers}
-use Rattle.machine_rules.proofs.Reaching.{reason-more}
 use Rattle.prop_bindings.specs.declared.binding.Binding.{Binding}
-use Rattle.machine_rules.specs.Faults.{LacksValue}
 use Rattle.machine_state.specs.declared.fault.Answer.{Answer}
 use Rattle.machine_events.specs.Runs.{done, Follows, by_rule, by_event, IsDue, goes_on, is_next}
-use Rattle.machine_events.specs.Causes.{BindsNext, BindsIll, Cause}
+use Rattle.machine_events.specs.Causes.{BindsNext, Brings, StopsFor, spent, short, brings, lacks_value, writes_ill, binds_ill, goes_ill, goes_fatal, binds_loop, writes_deep, goes_deep}
 use Rattle.qt_runtime.specs.Seen.{Seen, Completes, Halts, Stays, RunsAll}
-use Rattle.machine_state.specs.Worlds.{at}
 use Rattle.machine_events.proofs.Running.{runs-trans}
 
 pub completes-none : {N : Type 0} {gives : N → NativeAnswers} {a : Seen N} → a.stopped ≡ false → a.world.turn ≡ None → Completes gives a [] [] a
@@ -33,8 +30,6 @@ halts-after {N} {gives} {a} {b} {c} {f} {es} {fs} {xs} x y =
     record {
       went = x.went;
       same = z.same;
-      world = z.world;
-      leaves = z.leaves;
       stack = z.stack;
       front = record {
         taken = es ++ z.front.taken;
@@ -59,20 +54,27 @@ follows-more more (by_event x) = by_event x
 next-more : {p : Loaded} {s : State} {es : List Event} {b : Binding} (more : List Event) → BindsNext p s es b → BindsNext p s (es ++ more) b
 next-more more x = record { idle = x.idle; site = x.site; target = x.target; sources = x.sources; rest = x.rest ++ more; is_next = ap (λ (l : List Event). l ++ more) x.is_next; may = x.may }
 
-cause-more : (p : Loaded) (natives : NativeAnswers) (d left : ℕ) (s : State) (es more : List Event) (f : Fault) → Cause p natives d s left es f → Cause p natives d s left (es ++ more) f
-cause-more p natives d left s es more f r = reason-more p d s left f held (λ loop. record { binding = loop.binding; next = next-more more loop.next; fit = loop.fit; closes = loop.closes }) (λ t follows. follows-more more follows) (λ due. due-more more due) r
-  where
-    held : LacksValue s ⊎ BindsIll p s es → LacksValue s ⊎ BindsIll p s (es ++ more)
-    held (inl lacking) = inl lacking
-    held (inr ill) = inr (record { binding = ill.binding; next = next-more more ill.next; ill = ill.ill })
+-- .. and what comes next brings the same fault
+brings-more : {p : Loaded} {natives : NativeAnswers} {d : ℕ} {s : State} {es : List Event} {f : Fault} (more : List Event) → Brings p natives d s es f → Brings p natives d s (es ++ more) f
+brings-more more (lacks_value x) = lacks_value x
+brings-more more (writes_ill x) = writes_ill x
+brings-more more (binds_ill x) = binds_ill (record { binding = x.binding; next = next-more more x.next; ill = x.ill })
+brings-more more (goes_ill x) = goes_ill (record { t = x.t; follows = follows-more more x.follows; ill = x.ill })
+brings-more more (goes_fatal x) = goes_fatal (record { t = x.t; follows = follows-more more x.follows; well = x.well; fatal = x.fatal })
+brings-more more (binds_loop x) = binds_loop (record { binding = x.binding; next = next-more more x.next; fit = x.fit; closes = x.closes })
+brings-more more (writes_deep x) = writes_deep x
+brings-more more (goes_deep x) = goes_deep (record { t = x.t; follows = follows-more more x.follows; well = x.well; spared = x.spared; acyclic = x.acyclic; deep = x.deep })
+
+stops-more : {p : Loaded} {natives : NativeAnswers} {d : ℕ} {s : State} {left : ℕ} {es : List Event} {f : Fault} (more : List Event) → StopsFor p natives d s left es f → StopsFor p natives d s left (es ++ more) f
+stops-more more (spent none due) = spent none (due-more more due)
+stops-more more (short some due) = short some (due-more more due)
+stops-more more (brings some x) = brings some (brings-more more x)
 
 -- a run that stopped takes no further event
 pub halts-more : {N : Type 0} {gives : N → NativeAnswers} {a c : Seen N} {f : Fault} {es : List Event} (more : List Event) → Halts gives a es f c → Halts gives a (es ++ more) f c
 halts-more {N} {gives} {a} {c} {f} {es} more x = record {
   went = x.went;
   same = x.same;
-  world = x.world;
-  leaves = x.leaves;
   stack = x.stack;
   front = record {
     taken = x.front.taken;
@@ -81,7 +83,7 @@ halts-more {N} {gives} {a} {c} {f} {es} more x = record {
     answers = x.front.answers;
     runs = x.front.runs;
   };
-  cause = cause-more a.program (gives a.natives) a.depth x.world.left (at x.world x.stack) x.front.rest more f x.cause;
+  cause = stops-more more x.cause;
 }
 
 -- where a run completed the machine has not stopped

@@ -15,7 +15,7 @@ use Rattle.machine_state.specs.Worlds.{at}
 use Rattle.machine_state.specs.State.{State}
 use Rattle.machine_rules.specs.Good.{HasArguments, Spares, IsAcyclic, AreSettled}
 use Rattle.machine_rules.specs.Natives.{NativeAnswers}
-use Rattle.machine_events.specs.Causes.{Cause}
+use Rattle.machine_events.specs.Causes.{StopsFor}
 use Rattle.machine_events.specs.Runs.{done}
 use Rattle.machine_events.proofs.Running.{run-trans, each-weaker}
 use Rattle.checked_runs.specs.Claims.{IsTypedStep, IsFaultless, IsLimit, IsReached}
@@ -76,12 +76,12 @@ module _ {N : Type 0} (takes : N → Takes) (gives : N → NativeAnswers) where
       record { sound = sound; valid = checked.valid; promises = kept; steps = come.steps; taken = come.taken; answers = come.answers; run = come.run }
 
   halts-limit : {a b : Seen N} {es : List Event} {f : Fault} → IsSound a.program → AreKept takes gives a → Halts gives a es f b → IsChecked gives a → IsLimit f
-  halts-limit {a} {f = f} sound kept x checked =
+  halts-limit {a} {b} {f = f} sound kept x checked =
       let come = checked.came x.went in
       let natives = gives a.natives in
-      let stop = at x.world x.stack in
-      let StopsAt : ℕ → Type 0 = λ d. Cause a.program natives d stop x.world.left x.front.rest f in
-      let reached : IsReached (takes a.natives) natives a.program checked.certificate stop x.world.left = record {
+      let stop = at b.world x.stack in
+      let StopsAt : ℕ → Type 0 = λ d. StopsFor a.program natives d stop b.world.left x.front.rest f in
+      let reached : IsReached (takes a.natives) natives a.program checked.certificate stop b.world.left = record {
         sound = sound;
         valid = checked.valid;
         promises = kept;
@@ -90,7 +90,7 @@ module _ {N : Type 0} (takes : N → Takes) (gives : N → NativeAnswers) where
         answers = come.answers ++ x.front.answers;
         run = run-trans come.run x.front.runs.run;
       } in
-      only_limits x.world.left x.front.rest f reached (subst StopsAt checked.bound x.cause)
+      only_limits b.world.left x.front.rest f reached (subst StopsAt checked.bound x.cause)
 
   stops-checked : {a b : Seen N} {es : List Event} {f : Fault} → IsSound a.program → AreKept takes gives a → Halts gives a es f b ⊎ Stays a f b → IsChecked gives a → IsChecked gives b × StopsAtLimit a f
   stops-checked sound kept (inl halts) checked = (halts-checked gives halts checked, inl (halts-limit sound kept halts checked))

@@ -61,21 +61,18 @@ module _ {N : Type 0} (gives : N → NativeAnswers) (natives : N) {p : Loaded} {
       inl (record {
         went = goes;
         same = ap (λ (b : Bool). seen p natives depth v b) is;
-        world = halted.u;
-        leaves = halted.leaves;
         stack = halted.stack;
         front = halted.front;
-        cause = cause-of sound up (gives natives) depth halted.u.left halted.front.rest f halted.reason;
+        cause = cause-of sound up (gives natives) depth v.left halted.front.rest f halted.reason;
       })
 
   -- it stops for want of rules exactly where none is left
   pub applied-spent : {stopped : Bool} (r : Result Answer Fault) → Took p (gives natives) depth w e v r → stopped ≡ is_err r → (r ≡ Err Steps) ↔ ((stopped ≡ true) × (v.left ≡ 0))
   applied-spent (Ok a) took is = (λ same. absurd (cc same), λ both. let no : true ≡ false = sym both.0 ∙ is in absurd (cc no))
   applied-spent (Err f) took is =
-      let halted = took.cases in
-      let left_is : v.left ≡ halted.u.left = ap (λ (z : World). z.left) halted.leaves.0 in (
+      let halted = took.cases in (
         λ same.
             let f_is : f ≡ Steps = cc same in
-            (is, left_is ∙ spent-left p (gives natives) depth (at halted.u halted.stack) halted.u.left halted.front.rest f f_is halted.reason),
-        λ both. ap (λ (g : Fault). Err g) (spent-fault p (gives natives) depth (at halted.u halted.stack) halted.u.left halted.front.rest f (sym left_is ∙ both.1) halted.reason),
+            (is, spent-left p (gives natives) depth (at v halted.stack) v.left halted.front.rest f f_is halted.reason),
+        λ both. ap (λ (g : Fault). Err g) (spent-fault p (gives natives) depth (at v halted.stack) v.left halted.front.rest f both.1 halted.reason),
       )

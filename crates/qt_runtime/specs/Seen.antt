@@ -14,9 +14,8 @@ use Rattle.machine_state.specs.Worlds.{at, untouched}
 use Rattle.native_slots.specs.Promises.{Promises, Takes}
 use Rattle.machine_rules.specs.Good.{AreSettled}
 use Rattle.machine_rules.specs.Natives.{NativeAnswers}
-use Rattle.machine_rules.specs.Faults.{Leaves}
 use Rattle.machine_events.specs.Runs.{RunsWhole, RunsFront}
-use Rattle.machine_events.specs.Causes.{Cause}
+use Rattle.machine_events.specs.Causes.{StopsFor}
 use Rattle.machine_events.specs.Takes.{judged, IsRefusedAs}
 
 pub record Seen (N : Type 0) : Type 0 where
@@ -44,17 +43,16 @@ pub record Completes {N : Type 0} (gives : N → NativeAnswers) (before : Seen N
       RunsWhole before.program (gives before.natives) before.depth (at before.world []) before.world.left events answers
       (at after.world []) after.world.left
 
--- The machine took a front of these events by a run without a bad moment, and stopped on the way, in this world. That is what
--- is left of it; but where memory was refused for the lines of a change, values have changed that nothing tells of.
+-- The machine took a front of these events by a run without a bad moment, and stopped on the way: stores and trace are those
+-- of the run's last state, and what comes next, or memory, is the cause.
 pub record Halts {N : Type 0} (gives : N → NativeAnswers) (before : Seen N) (events : List Event) (f : Fault) (after : Seen N) : Type 0 where
   pub went : before.stopped ≡ false
   pub same : after ≡ record before { world = after.world; stopped = true }
-  pub world : World
-  pub leaves : Leaves world after.world f
   pub stack : List Activation
   pub front :
-      RunsFront before.program (gives before.natives) before.depth (at before.world []) before.world.left events (at world stack) world.left
-  pub cause : Cause before.program (gives before.natives) before.depth (at world stack) world.left front.rest f
+      RunsFront before.program (gives before.natives) before.depth (at before.world []) before.world.left events
+      (at after.world stack) after.world.left
+  pub cause : StopsFor before.program (gives before.natives) before.depth (at after.world stack) after.world.left front.rest f
 
 -- a machine that has stopped does nothing more
 pub record Stays {N : Type 0} (before : Seen N) (f : Fault) (after : Seen N) : Type 0 where

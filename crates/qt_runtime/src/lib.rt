@@ -5,8 +5,8 @@ mod machine;
 
 pub use machine::Machine;
 pub use machine_events::{
-    always_settled, one_front, one_judgement, one_run, one_run_of_answers, one_taking,
-    taking_settles,
+    always_settled, one_front, one_front_of_answers, one_judgement, one_run, one_run_of_answers,
+    one_taking, taking_settles,
 };
 pub use machine_state::{Answer, Entry, EntryKind, Fault, Shown, ShownAction};
 pub use meta_objects::{Meta, MetaFault};

@@ -1,9 +1,7 @@
 ghost use Rattle.std.specs.Prelude.{◌≡◌, ◌↔◌, ◌<◌, ◌≤◌, ◌^◌, ◌∷◌, [], length, Err, IfOk, IfErr, true, false, None};
 ghost use Rattle.machine_state.specs.declared.fault.Fault.TheVariants.{Steps};
 ghost use Rattle.native_slots.specs.Promises.{Promises};
-ghost use Rattle.machine_rules.specs.Good.{HasArguments, Spares, IsAcyclic, AreSettled};
-ghost use Rattle.checked_runs.specs.Claims.{IsTypedStep};
-ghost use Rattle.qt_runtime.specs.Checked.{Claims, IsChecked, InEachRun, StopsAtLimit};
+ghost use Rattle.qt_runtime.specs.Checked.{Claims, IsChecked, StopsAtLimit};
 ghost use Rattle.qt_runtime.specs.Seen.{AreKept, Completes, RefusesExactly, IsSettled, Stops, RunsAll, begun};
 
 use machine_events::take_event;
@@ -108,13 +106,14 @@ impl<N: Answering + Drop> Machine<N> {
     /// `BadType` where the next statement lacks a value that it needs, or the next rule would give a value of a wrong
     /// type; `InUse` where by it an object would die while a body of it is active; `BindingLoop` where a chain of
     /// bindings would lead from a property back to itself; `TooDeep` where it would nest activations deeper than the
-    /// depth; `Steps` where a rule is due and none is left; `Memory` where a growth of memory was refused. The trace then
-    /// ends with the last whole rule. On a machine that has stopped the answer is `Stopped`, and nothing changes.
+    /// depth; `Steps` where a rule is due and none is left; `Memory` where a growth of memory was refused. The machine
+    /// then stands, stores and trace, where the last whole rule left it, and from then on the answer is `Stopped`, and
+    /// nothing changes.
     ///
     /// A machine of a checked program stays one, and stops with `Steps` or `Memory` alone. In each of its runs every call
-    /// that is delivered has the arguments that its method declares, no binding depends on itself, no object dies while a
-    /// body of its own is active, activations nest no deeper than the depth, every value is of its type, and all values
-    /// are settled.
+    /// that is delivered has the arguments that its method declares (`arguments` of `Claims`), no binding depends on itself
+    /// (`acyclic`), no object dies while a body of its own is active (`spared`), activations nest no deeper than the depth
+    /// (`shallow`), every value is of its type (`typed`), and all values are settled (`settled`).
     pub fn apply(&mut self, event: &Event) -> Result<Answer, Fault>
         requires { AreKept N.takes N.gives self.old }
         ensures taken { IfOk result
@@ -127,18 +126,7 @@ impl<N: Answering + Drop> Machine<N> {
         ensures kept { AreKept N.takes N.gives self.new }
         ensures checked { IsChecked N.gives self.old
             → IsChecked N.gives self.new × IfErr result (StopsAtLimit self.old) }
-        ensures arguments { IsChecked N.gives self.old
-            → InEachRun N.gives self.old (HasArguments self.old.program) }
-        ensures acyclic { IsChecked N.gives self.old
-            → InEachRun N.gives self.old (λ s t. IsAcyclic t) }
-        ensures spared { IsChecked N.gives self.old
-            → InEachRun N.gives self.old Spares }
-        ensures shallow { IsChecked N.gives self.old
-            → InEachRun N.gives self.old (λ s t. length t.stack ≤ self.old.depth) }
-        ensures typed { IsChecked N.gives self.old
-            → InEachRun N.gives self.old (IsTypedStep self.old.program) }
-        ensures settled { IsChecked N.gives self.old
-            → InEachRun N.gives self.old (λ s t. AreSettled t) }
+        ensures claims { IsChecked N.gives self.old → Claims N.gives self.old }
     {
         // The contract of `classes` says that the numbers in bodies are those of members.
         let _ = self.interpreter.meta.classes();
@@ -158,18 +146,7 @@ impl<N: Answering + Drop> Machine<N> {
         ensures kept { AreKept N.takes N.gives self.new }
         ensures checked { IsChecked N.gives self.old
             → IsChecked N.gives self.new × IfErr result (StopsAtLimit self.old) }
-        ensures arguments { IsChecked N.gives self.old
-            → InEachRun N.gives self.old (HasArguments self.old.program) }
-        ensures acyclic { IsChecked N.gives self.old
-            → InEachRun N.gives self.old (λ s t. IsAcyclic t) }
-        ensures spared { IsChecked N.gives self.old
-            → InEachRun N.gives self.old Spares }
-        ensures shallow { IsChecked N.gives self.old
-            → InEachRun N.gives self.old (λ s t. length t.stack ≤ self.old.depth) }
-        ensures typed { IsChecked N.gives self.old
-            → InEachRun N.gives self.old (IsTypedStep self.old.program) }
-        ensures settled { IsChecked N.gives self.old
-            → InEachRun N.gives self.old (λ s t. AreSettled t) }
+        ensures claims { IsChecked N.gives self.old → Claims N.gives self.old }
     {
         if self.is_stopped() {
             return Err(Fault::Stopped);

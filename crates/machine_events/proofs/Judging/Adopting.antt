@@ -17,11 +17,10 @@ use Rattle.prop_bindings.specs.Fits.{Agree}
 use Rattle.delete_later.proofs.Agreeing.{agree-on, live-moved}
 use Rattle.machine_rules.specs.Natives.{NativeAnswers}
 use Rattle.machine_rules.specs.Judgement.{Numbered, holds, fails, becomes, goes_on, ends}
-use Rattle.machine_events.specs.code.Judgement.{IsNotAccepted}
+use Rattle.machine_events.specs.code.Judgement.{IsNotAccepted, IsLiving}
 use Rattle.machine_events.specs.declared.judgement.NotAccepted.{NotAccepted}
 use Rattle.machine_events.specs.code.Taking.{Halted, adoption_reason}
-use Rattle.machine_events.specs.events.Adopt.{adopt}
-use Rattle.machine_events.specs.events.Named.{IsLiving, living}
+use Rattle.machine_events.specs.Events.{adopt, living}
 use Rattle.object_tree.proofs.TypedObjects.{typed-moved}
 use Rattle.machine_events.proofs.Changes.{adopted-by}
 use Rattle.machine_events.proofs.Judged.{then-ends, then-on}

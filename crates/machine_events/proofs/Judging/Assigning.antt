@@ -16,11 +16,9 @@ use Rattle.machine_state.specs.Worlds.{at}
 use Rattle.machine_rules.specs.There.{IsField}
 use Rattle.machine_events.specs.declared.judgement.NotAccepted.{NotAccepted}
 use Rattle.machine_rules.specs.Judgement.{Numbered, found, missing, holds, fails, becomes, goes_on, ends}
-use Rattle.machine_events.specs.code.Judgement.{IsNotAccepted}
+use Rattle.machine_events.specs.code.Judgement.{IsNotAccepted, IsLiving}
 use Rattle.machine_events.specs.code.Taking.{WritesTo}
-use Rattle.machine_events.specs.events.Assign.{assign, IsPropertyOf}
-use Rattle.machine_events.specs.events.Named.{IsLiving}
-use Rattle.machine_events.specs.events.Values.{value}
+use Rattle.machine_events.specs.Events.{assign, IsPropertyOf, value}
 use Rattle.machine_events.proofs.Judged.{then-ends, then-on}
 use Rattle.machine_events.proofs.Judging.Naming.{living-ok}
 

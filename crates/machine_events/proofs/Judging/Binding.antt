@@ -1,34 +1,32 @@
 -- `bind`.
-use Rattle.std.proofs.Common.{◌≡◌, ◌≢◌, ℕ, List, [], ◌∷◌, length, Some, Result, Ok, Err, MatchResult, inl, inr, refl, sym, ◌∙◌, subst, slice_get}
+use Rattle.std.proofs.Common.{◌≡◌, ℕ, List, [], ◌∷◌, length, Some, Result, Ok, Err, MatchResult, inl, inr, refl, sym, ◌∙◌, subst, slice_get}
 use Rattle.meta_model.specs.declared.site.MetaSite.{MetaSite}
 use Rattle.meta_model.specs.Loaded.{Loaded}
 use Rattle.meta_model.specs.Sites.{IsSiteNamed}
 use Rattle.object_tree.specs.declared.life.Life.{Life}
 use Rattle.prop_bindings.specs.declared.binding.Binding.{Binding}
 use Rattle.prop_bindings.specs.declared.fault.BindFault.{BindFault}
-use Rattle.prop_bindings.specs.declared.fault.BindFault.TheVariants as bind_fault
-use Rattle.prop_bindings.specs.Calls.{CoversBinding, InOneLoop, IsNotBound, MayBind, binding_of, new_binding, bad_source, other_loop, bad_type, closes, no_memory}
+use Rattle.prop_bindings.specs.Fits.{InOneLoop}
+use Rattle.prop_bindings.specs.Calls.{CoversBinding, IsNotBound, MayBind, binding_of, new_binding, bad_source, other_loop, bad_type, closes, no_memory}
 use Rattle.script_lang.specs.declared.event.Event.{Event}
 use Rattle.script_lang.specs.declared.event.Event.TheVariants.{Bind}
 use Rattle.machine_state.specs.declared.fault.Fault.{Fault}
-use Rattle.machine_state.specs.declared.fault.Fault.TheVariants.{Memory}
 use Rattle.machine_state.specs.declared.refusal.Refusal.{Refusal}
 use Rattle.machine_state.specs.declared.refusal.Refusal.TheVariants.{BadSource, OtherLoop}
 use Rattle.machine_state.specs.declared.world.World.{World}
 use Rattle.machine_state.specs.Accepting.{accepted}
 use Rattle.machine_state.specs.State.{State}
-use Rattle.machine_state.specs.Worlds.{at, KeepsTheRest}
+use Rattle.machine_state.specs.Worlds.{at}
 use Rattle.machine_rules.specs.Natives.{NativeAnswers}
 use Rattle.machine_rules.specs.Judgement.{Numbered, numbered, Check, Gives, ◌>>=◌, found, missing, holds, fails, gives, becomes, goes_on, ends}
 use Rattle.machine_rules.specs.Settling.{Installs}
 use Rattle.machine_events.specs.declared.judgement.NotAccepted.{NotAccepted}
-use Rattle.machine_events.specs.code.Judgement.{IsNotAccepted}
+use Rattle.machine_events.specs.code.Judgement.{IsNotAccepted, IsLiving}
 use Rattle.machine_events.specs.Causes.{BindsNext}
 use Rattle.machine_events.specs.Runs.{is_next}
 use Rattle.machine_events.specs.Takes.{judged}
 use Rattle.machine_events.specs.code.Taking.{AsksToBind, Halted, binding_reason, RunStops}
-use Rattle.machine_events.specs.events.Bind.{IsSiteOf, may_bind}
-use Rattle.machine_events.specs.events.Named.{IsLiving, living, all_living}
+use Rattle.machine_events.specs.Events.{IsSiteOf, may_bind, living, all_living}
 use Rattle.machine_events.proofs.Judged.{then-ends, then-on}
 use Rattle.machine_events.proofs.Judging.Naming.{living-ok}
 use Rattle.machine_events.proofs.Taken.{idle, no_natives, none-yet, Ready}
@@ -99,31 +97,27 @@ module _ {p : Loaded} {w : World} {name target : List ℕ} {sources : List (List
   pub judged-bound : (t : State) (may : MayBind p w.store.tree number o objects) → Installs p (accepted (at w [])) [] (new_binding may) t → judged p (at w []) event (Ok t)
   judged-bound t may installs = goes_on (new_binding may) (may-ok may) (becomes installs)
 
-  module _ {v : World} (rest : KeepsTheRest w v) where
-    -- nothing changed, or memory was refused for what changes
-    halted-before : {natives : NativeAnswers} {d : ℕ} {f : Fault} → (f ≢ Memory → v ≡ w) → RunStops p natives d (at w []) w.left (event ∷ []) f → Halted p natives d w event v f
-    halted-before same reason = record { u = w; leaves = (rest, same); stack = []; front = record { taken = []; rest = event ∷ []; split = refl; answers = []; runs = none-yet }; reason = reason }
+  -- nothing has changed
+  halted-before : {natives : NativeAnswers} {d : ℕ} {f : Fault} → RunStops p natives d (at w []) w.left (event ∷ []) f → Halted p natives d w event w f
+  halted-before reason = record { stack = []; front = record { taken = []; rest = event ∷ []; split = refl; answers = []; runs = none-yet }; reason = reason }
 
-    -- why no binding is installed
-    pub not-bound : (natives : NativeAnswers) (d : ℕ) {f : BindFault} → Ready w → (f ≢ bind_fault.Memory → v ≡ w) → IsNotBound p w.store.tree w.store.bindings number o objects f →
-        MatchResult (binding_reason f) (λ k. judged p (at w []) event (Err k) × (v ≡ w)) (λ g. Halted p natives d w event v g)
-    not-bound natives d some same (bad_source none) =
-        let judges : may_bind p (at w []) name target sources (Err BadSource) = on-found asks.site asks.is.is (ends (fails (λ covers. none (record { site = asks.site; is = asks.is.is; covers = covers })))) in
-        (ends judges, same (λ e. absurd (cc e)))
-    not-bound natives d some same (other_loop sited apart) =
-        (ends (on-found sited.site sited.is (goes_on tt (holds sited.covers) (ends (fails apart)))), same (λ e. absurd (cc e)))
-    not-bound natives d some same (bad_type may ill) =
-        halted-before (λ _. same (λ e. absurd (cc e))) (some.some, inl (inr (record { binding = new_binding may; next = next-bind some (may-ok may); ill = ill })))
-    not-bound natives d some same (closes may fit loop) =
-        halted-before (λ _. same (λ e. absurd (cc e))) (some.some, record { binding = new_binding may; next = next-bind some (may-ok may); fit = fit; closes = loop })
-    not-bound natives d some same no_memory = halted-before (λ other. absurd (other refl)) (some.some, is_next (idle w some.no_turn))
+  -- why no binding is installed
+  pub not-bound : (natives : NativeAnswers) (d : ℕ) {f : BindFault} → Ready w → IsNotBound p w.store.tree w.store.bindings number o objects f →
+      MatchResult (binding_reason f) (λ k. judged p (at w []) event (Err k)) (λ g. Halted p natives d w event w g)
+  not-bound natives d some (bad_source none) =
+      let judges : may_bind p (at w []) name target sources (Err BadSource) = on-found asks.site asks.is.is (ends (fails (λ covers. none (record { site = asks.site; is = asks.is.is; covers = covers })))) in
+      ends judges
+  not-bound natives d some (other_loop sited apart) = ends (on-found sited.site sited.is (goes_on tt (holds sited.covers) (ends (fails apart))))
+  not-bound natives d some (bad_type may ill) = halted-before (some.some, inl (inr (record { binding = new_binding may; next = next-bind some (may-ok may); ill = ill })))
+  not-bound natives d some (closes may fit loop) = halted-before (some.some, record { binding = new_binding may; next = next-bind some (may-ok may); fit = fit; closes = loop })
+  not-bound natives d some no_memory = halted-before (some.some, is_next (idle w some.no_turn))
 
-    pub binding-stops : {natives : NativeAnswers} (d : ℕ) {f : BindFault} {g : Fault} → Ready w → (f ≢ bind_fault.Memory → v ≡ w) → IsNotBound p w.store.tree w.store.bindings number o objects f → Err g ≡ binding_reason f → Halted p natives d w event v g
-    binding-stops {natives = natives} d some same is e =
-        let Decides : Result Refusal Fault → Type 0 = λ r. MatchResult r (λ k. judged p (at w []) event (Err k) × (v ≡ w)) (λ h. Halted p natives d w event v h) in
-        subst Decides (sym e) (not-bound natives d some same is)
+  pub binding-stops : {natives : NativeAnswers} (d : ℕ) {f : BindFault} {g : Fault} → Ready w → IsNotBound p w.store.tree w.store.bindings number o objects f → Err g ≡ binding_reason f → Halted p natives d w event w g
+  binding-stops {natives = natives} d some is e =
+      let Decides : Result Refusal Fault → Type 0 = λ r. MatchResult r (λ k. judged p (at w []) event (Err k)) (λ h. Halted p natives d w event w h) in
+      subst Decides (sym e) (not-bound natives d some is)
 
-    pub binding-refuses : {f : BindFault} {k : Refusal} → Ready w → (f ≢ bind_fault.Memory → v ≡ w) → IsNotBound p w.store.tree w.store.bindings number o objects f → Ok k ≡ binding_reason f → judged p (at w []) event (Err k) × (v ≡ w)
-    binding-refuses some same is e =
-        let Decides : Result Refusal Fault → Type 0 = λ r. MatchResult r (λ k. judged p (at w []) event (Err k) × (v ≡ w)) (λ h. Halted p no_natives 0 w event v h) in
-        subst Decides (sym e) (not-bound no_natives 0 some same is)
+  pub binding-refuses : {f : BindFault} {k : Refusal} → Ready w → IsNotBound p w.store.tree w.store.bindings number o objects f → Ok k ≡ binding_reason f → judged p (at w []) event (Err k)
+  binding-refuses some is e =
+      let Decides : Result Refusal Fault → Type 0 = λ r. MatchResult r (λ k. judged p (at w []) event (Err k)) (λ h. Halted p no_natives 0 w event w h) in
+      subst Decides (sym e) (not-bound no_natives 0 some is)

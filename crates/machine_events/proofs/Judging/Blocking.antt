@@ -14,11 +14,10 @@ use Rattle.prop_bindings.specs.Fits.{Agree}
 use Rattle.delete_later.proofs.Agreeing.{agree-on, live-change}
 use Rattle.machine_events.specs.declared.judgement.NotAccepted.{NotAccepted}
 use Rattle.machine_rules.specs.Judgement.{Numbered, gives, goes_on, ends}
-use Rattle.machine_events.specs.code.Judgement.{IsNotAccepted, refused, short}
+use Rattle.machine_events.specs.code.Judgement.{IsNotAccepted, refused, short, IsLiving}
 use Rattle.machine_events.specs.Takes.{judged}
 use Rattle.machine_events.specs.code.Taking.{blocking}
-use Rattle.machine_events.specs.events.Block.{block}
-use Rattle.machine_events.specs.events.Named.{IsLiving, living}
+use Rattle.machine_events.specs.Events.{block, living}
 use Rattle.object_tree.proofs.TypedObjects.{typed-change}
 use Rattle.machine_events.proofs.Judging.Naming.{living-ok}
 

@@ -9,8 +9,8 @@ use Rattle.machine_state.specs.State.{State}
 use Rattle.machine_state.specs.Worlds.{without_connections}
 use Rattle.machine_rules.specs.declared.ends.FoundEnds.{FoundEnds}
 use Rattle.machine_rules.specs.Judgement.{holds, fails, gives, goes_on, ends}
-use Rattle.machine_events.specs.events.Disconnect.{disconnect}
-use Rattle.machine_events.specs.events.Ends.{FindsEnds}
+use Rattle.machine_events.specs.Events.{disconnect}
+use Rattle.machine_events.specs.code.Judgement.{FindsEnds}
 
 module _ (p : Loaded) (s : State) (e : Named (List ℕ)) (f : FoundEnds) (finds : FindsEnds p s.objects e f) where
   pub no-connection : (¬ IsTrue (are_joined f.ends s.connected)) → disconnect p s e (Err NoConnection)

@@ -26,8 +26,8 @@ use Rattle.machine_rules.specs.Judgement.{NothingIs, found, missing, holds, fail
 use Rattle.machine_events.specs.Runs.{by_event}
 use Rattle.machine_events.specs.Takes.{accepts}
 use Rattle.machine_events.specs.code.Taking.{Halted, creation_reason}
-use Rattle.machine_events.specs.events.Create.{create, IsClassOf, IsHome}
-use Rattle.machine_events.proofs.Taken.{idle, no_natives, none-yet, Ready, halted-short, leaves-same}
+use Rattle.machine_events.specs.Events.{create, IsClassOf, IsHome}
+use Rattle.machine_events.proofs.Taken.{idle, no_natives, none-yet, Ready, halted-short}
 
 -- the class of a name
 class-of : {p : Loaded} {name : List ℕ} {number : ℕ} {kind : MetaObject} → IsClassNamed p name number → IsClass p number kind → IsClassOf p name (record { number = number; it = kind })
@@ -60,8 +60,6 @@ module _ (p : Loaded) (w : World) (name class : List ℕ) (loop : Option (List �
       let not_well : IsWell p (at w []) after → ⊥ = λ well.
       ill (typed-fresh p w.store.tree name number home kind is (well.values (length w.store.tree) (made name home number kind) (begun number home (initial_values kind)) (record { is = get-last w.store.tree (made name home number kind); lives = refl }))) in
       record {
-        u = w;
-        leaves = leaves-same w BadType;
         stack = [];
         front = record { taken = []; rest = New name class loop ∷ []; split = refl; answers = []; runs = none-yet };
         reason = (some.some, inr (inr (record { t = after; follows = by_event (accepts (idle w some.no_turn) (creates free named is room)); ill = not_well })));

@@ -26,10 +26,10 @@ use Rattle.machine_rules.specs.Judgement.{Numbered, becomes, gives, goes_on}
 use Rattle.machine_rules.specs.code.Reaches.{RunsTo}
 use Rattle.machine_rules.specs.code.Sound.{IsSoundWorld}
 use Rattle.machine_events.specs.declared.judgement.NotAccepted.{NotAccepted}
-use Rattle.machine_events.specs.code.Judgement.{IsNotAccepted}
+use Rattle.machine_events.specs.code.Judgement.{IsNotAccepted, IsLiving}
 use Rattle.machine_events.specs.Takes.{judged, accepts}
 use Rattle.machine_events.specs.code.Taking.{Took, Halted}
-use Rattle.machine_events.specs.events.Named.{IsLiving, living}
+use Rattle.machine_events.specs.Events.{living}
 use Rattle.machine_events.proofs.Judged.{then-ends}
 use Rattle.machine_events.proofs.Judging.Naming.{living-ok}
 use Rattle.machine_events.proofs.Taken.{idle, Ready, good-pushed, took-run, took-quiet}

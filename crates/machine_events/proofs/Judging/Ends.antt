@@ -12,8 +12,8 @@ use Rattle.machine_state.specs.declared.refusal.Refusal.TheVariants.{NoMember}
 use Rattle.machine_rules.proofs.Fields.{method-unique}
 use Rattle.machine_rules.specs.Judgement.{Numbered, found, missing, gives, goes_on, ends}
 use Rattle.machine_rules.specs.Connecting.{named_signal}
-use Rattle.machine_events.specs.events.Ends.{FindsEnds, find_ends, IsSignalOf}
-use Rattle.machine_events.specs.events.Named.{IsLiving}
+use Rattle.machine_events.specs.Events.{find_ends, IsSignalOf}
+use Rattle.machine_events.specs.code.Judgement.{FindsEnds, IsLiving}
 use Rattle.machine_events.proofs.Judging.Naming.{living-ok}
 
 -- a look-up's only answer isn't a signal, so none is

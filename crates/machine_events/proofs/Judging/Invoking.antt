@@ -17,12 +17,10 @@ use Rattle.machine_events.specs.declared.events.invoke.Invocation.{Invocation}
 use Rattle.machine_events.specs.declared.events.invoke.Invocation.TheVariants.{Emit, Call}
 use Rattle.machine_events.specs.declared.judgement.NotAccepted.{NotAccepted}
 use Rattle.machine_rules.specs.Judgement.{Numbered, found, missing, holds, fails, becomes, goes_on, ends}
-use Rattle.machine_events.specs.code.Judgement.{IsNotAccepted, refused, short}
+use Rattle.machine_events.specs.code.Judgement.{IsNotAccepted, refused, short, IsLiving}
 use Rattle.machine_events.specs.Takes.{judged}
 use Rattle.machine_events.specs.code.Taking.{AsksFor, invoking}
-use Rattle.machine_events.specs.events.Invoke.{invoke, May, IsAskedOf}
-use Rattle.machine_events.specs.events.Named.{IsLiving}
-use Rattle.machine_events.specs.events.Values.{values}
+use Rattle.machine_events.specs.Events.{invoke, May, IsAskedOf, values}
 use Rattle.machine_events.proofs.Judged.{then-ends, then-on}
 use Rattle.machine_events.proofs.Judging.Naming.{living-ok}
 

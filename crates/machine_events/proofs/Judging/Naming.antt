@@ -7,8 +7,8 @@ use Rattle.object_tree.proofs.Changing.{lives-of-life}
 use Rattle.machine_state.specs.declared.refusal.Refusal.TheVariants.{NoObject, Dead}
 use Rattle.machine_rules.specs.Judgement.{Numbered, found, missing, gives, goes_on, ends}
 use Rattle.machine_events.specs.declared.judgement.NotAccepted.{NotAccepted}
-use Rattle.machine_events.specs.code.Judgement.{IsNotAccepted}
-use Rattle.machine_events.specs.events.Named.{IsLiving, living, all_living}
+use Rattle.machine_events.specs.code.Judgement.{IsNotAccepted, IsLiving}
+use Rattle.machine_events.specs.Events.{living, all_living}
 use Rattle.machine_events.proofs.Judged.{then-ends, then-on}
 
 pub living-ok : {objects : List Object} {name : List ℕ} (o : Numbered Life) → IsLiving objects name o → living objects name (Ok o)

@@ -6,7 +6,7 @@ use Rattle.object_tree.specs.declared.object.Object.{Object}
 use Rattle.machine_events.specs.declared.judgement.NotAccepted.{NotAccepted}
 use Rattle.machine_rules.specs.Judgement.{gives, goes_on}
 use Rattle.machine_events.specs.code.Judgement.{IsNotAccepted}
-use Rattle.machine_events.specs.events.Values.{value, values}
+use Rattle.machine_events.specs.Events.{value, values}
 use Rattle.machine_events.proofs.Judged.{then-ends, then-on}
 
 -- one more value

@@ -31,7 +31,6 @@ use Rattle.machine_rules.specs.Faults.{Reason}
 use Rattle.machine_rules.specs.Judgement.{numbered}
 use Rattle.machine_rules.specs.Natives.{NativeAnswers}
 use Rattle.machine_rules.specs.code.Going.{IsStuck}
-use Rattle.machine_rules.specs.Faults.{Leaves}
 use Rattle.machine_rules.specs.Rules.{Begins}
 use Rattle.machine_rules.specs.Settling.{Writes}
 use Rattle.machine_rules.specs.code.Sound.{IsSoundWorld}
@@ -42,10 +41,8 @@ use Rattle.machine_events.specs.declared.judgement.NotAccepted.TheVariants as re
 use Rattle.machine_events.specs.Causes.{BindsIll, BindsLoop}
 use Rattle.machine_events.specs.Runs.{RunsWhole, RunsFront, Follows, IsDue}
 use Rattle.machine_events.specs.Takes.{judged, IsRefusedAs}
-use Rattle.machine_events.specs.events.Bind.{IsSiteOf}
-use Rattle.machine_events.specs.events.Connect.{connect}
-use Rattle.machine_events.specs.events.Disconnect.{disconnect}
-use Rattle.machine_events.specs.events.Named.{IsLiving, all_living}
+use Rattle.machine_events.specs.Events.{IsSiteOf, connect, disconnect, all_living}
+use Rattle.machine_events.specs.code.Judgement.{IsLiving}
 
 -- what every machine's world keeps: the program is sound, its parts fit together, and no count is near its limit
 pub record WorldInvariant (p : Loaded) (w : World) : Type 0 where
@@ -58,13 +55,11 @@ RunStops p natives depth s left events fault =
     Reason (IsStuck p natives s ⊎ BindsIll p s events) (BindsLoop p s events) (λ t. Follows p natives s t events) (IsDue s events)
     p depth s left fault
 
--- the machine stopped before or after it took the event, in the world u, and v is left of it
+-- the machine stopped before or after it took the event
 pub record Halted (p : Loaded) (natives : NativeAnswers) (depth : ℕ) (w : World) (e : Event) (v : World) (f : Fault) : Type 0 where
-  pub u : World
-  pub leaves : Leaves u v f
   pub stack : List Activation
-  pub front : RunsFront p natives depth (at w []) w.left (e ∷ []) (at u stack) u.left
-  pub reason : RunStops p natives depth (at u stack) u.left front.rest f
+  pub front : RunsFront p natives depth (at w []) w.left (e ∷ []) (at v stack) v.left
+  pub reason : RunStops p natives depth (at v stack) v.left front.rest f
 
 abbrev pub SaysWhy : Loaded → World → Event → World → Answer → Type 0
 SaysWhy p w e v answer.Done = Unit {0}

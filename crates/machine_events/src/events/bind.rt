@@ -6,7 +6,7 @@ ghost use Rattle.machine_state.specs.Worlds.{at};
 ghost use Rattle.native_slots.specs.Promises.{Promises};
 ghost use Rattle.machine_events.specs.code.Judgement.{IsNotAccepted};
 ghost use Rattle.machine_events.specs.code.Taking.{WorldInvariant, Answers, AsksToBind, binding_reason};
-ghost use Rattle.machine_events.specs.events.Bind.{may_bind};
+ghost use Rattle.machine_events.specs.Events.{may_bind};
 
 use crate::events::named::{find_all_living, find_living};
 use crate::judgement::{NotAccepted, refuse};

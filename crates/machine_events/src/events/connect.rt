@@ -5,7 +5,7 @@ ghost use Rattle.script_lang.specs.declared.event.Event.TheVariants.{Connect};
 ghost use Rattle.machine_state.specs.Worlds.{at};
 ghost use Rattle.machine_events.specs.code.Judgement.{IsNotAccepted};
 ghost use Rattle.machine_events.specs.code.Taking.{WorldInvariant, Answers, ConnectsThese};
-ghost use Rattle.machine_events.specs.events.Connect.{connect};
+ghost use Rattle.machine_events.specs.Events.{connect};
 
 use crate::events::ends::find_ends;
 use crate::judgement::{NotAccepted, refuse};

@@ -6,7 +6,7 @@ ghost use Rattle.machine_events.specs.code.Taking.{WorldInvariant, Answers};
 ghost use Rattle.machine_state.specs.Worlds.{at};
 ghost use Rattle.machine_rules.specs.Judgement.{NothingIs};
 ghost use Rattle.machine_events.specs.code.Taking.{creation_reason};
-ghost use Rattle.machine_events.specs.events.Create.{create, IsHome};
+ghost use Rattle.machine_events.specs.Events.{create, IsHome};
 
 use machine_rules::Interpreter;
 use machine_state::{Answer, Fault, MAIN, Refusal, World};

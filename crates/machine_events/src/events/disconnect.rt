@@ -6,7 +6,7 @@ ghost use Rattle.machine_state.specs.Connections.{are_joined};
 ghost use Rattle.machine_state.specs.Worlds.{at};
 ghost use Rattle.machine_events.specs.code.Judgement.{IsNotAccepted};
 ghost use Rattle.machine_events.specs.code.Taking.{WorldInvariant, Answers, DisconnectsThese};
-ghost use Rattle.machine_events.specs.events.Disconnect.{disconnect};
+ghost use Rattle.machine_events.specs.Events.{disconnect};
 
 use crate::events::ends::find_ends;
 use crate::judgement::{NotAccepted, refuse};

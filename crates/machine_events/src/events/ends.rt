@@ -3,8 +3,8 @@
 ghost use Rattle.std.specs.Prelude.{◌≡◌, ◌↔◌, IfOk, IfErr, IsTrue, MatchOption};
 ghost use Rattle.meta_model.specs.declared.object.Work.TheVariants.{Signal};
 ghost use Rattle.machine_rules.specs.Judgement.{NothingIs};
-ghost use Rattle.machine_events.specs.code.Judgement.{IsNotAccepted};
-ghost use Rattle.machine_events.specs.events.Ends.{FindsEnds, find_ends, IsSignalOf, IsSignalNumber};
+ghost use Rattle.machine_events.specs.code.Judgement.{IsNotAccepted, FindsEnds, IsSignalNumber};
+ghost use Rattle.machine_events.specs.Events.{find_ends, IsSignalOf};
 
 use crate::events::named::find_living;
 use crate::judgement::NotAccepted;

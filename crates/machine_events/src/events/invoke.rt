@@ -8,7 +8,7 @@ ghost use Rattle.machine_rules.specs.Judgement.{NothingIs, numbered};
 ghost use Rattle.native_slots.specs.Promises.{Promises};
 ghost use Rattle.machine_events.specs.code.Judgement.{IsNotAccepted};
 ghost use Rattle.machine_events.specs.code.Taking.{WorldInvariant, Answers, AsksFor, invoking};
-ghost use Rattle.machine_events.specs.events.Invoke.{invoke, May, IsAskedOf};
+ghost use Rattle.machine_events.specs.Events.{invoke, May, IsAskedOf};
 ghost use Rattle.script_lang.specs.declared.event.Event.{Event as AnEvent};
 
 use crate::events::ends::is_signal;

@@ -2,8 +2,8 @@
 
 ghost use Rattle.std.specs.Prelude.{Ok, IfOk, IfErr};
 ghost use Rattle.machine_rules.specs.Judgement.{numbered};
-ghost use Rattle.machine_events.specs.code.Judgement.{IsNotAccepted};
-ghost use Rattle.machine_events.specs.events.Named.{living, all_living, IsLiving};
+ghost use Rattle.machine_events.specs.code.Judgement.{IsNotAccepted, IsLiving};
+ghost use Rattle.machine_events.specs.Events.{living, all_living};
 
 use crate::judgement::NotAccepted;
 use machine_state::{Refusal, World};

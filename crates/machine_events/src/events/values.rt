@@ -2,7 +2,7 @@
 
 ghost use Rattle.std.specs.Prelude.{Ok, IfOk, IfErr};
 ghost use Rattle.machine_events.specs.code.Judgement.{IsNotAccepted};
-ghost use Rattle.machine_events.specs.events.Values.{value, values};
+ghost use Rattle.machine_events.specs.Events.{value, values};
 
 use crate::events::named::find_living;
 use crate::judgement::NotAccepted;

@@ -1,7 +1,7 @@
 use Rattle.std.proofs.Common.{[]}
 use Rattle.machine_state.specs.Worlds.{at}
 use Rattle.machine_events.specs.code.Judgement.{refused}
-use Rattle.machine_events.specs.events.Assign.{assign}
+use Rattle.machine_events.specs.Events.{assign}
 use Rattle.machine_events.proofs.Judged.{then-ends, err-is}
 use Rattle.machine_events.proofs.Judging.Assigning.{no-property, no-value, bad-value, writes-to}
 use Rattle.machine_events.proofs.events.assign.judge.Goals as goal

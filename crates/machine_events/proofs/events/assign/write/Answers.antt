@@ -1,10 +1,10 @@
 use Rattle.std.proofs.Common.{Ok, Err}
-use Rattle.machine_events.proofs.Pushed.{judged-written, changed-run, changed-short, sound-changed}
-use Rattle.machine_events.proofs.Taken.{took-stopped, ready}
+use Rattle.machine_events.proofs.Pushed.{judged-written, changed-run, sound-changed}
+use Rattle.machine_events.proofs.Taken.{took-stopped, took-unchanged, ready}
 use Rattle.machine_events.proofs.events.assign.write.Goals as goal
 
 pub returns-in_err-changed : goal.returns-in_err-changed
-returns-in_err-changed g c = λ e writes. changed-short e _ (ready c.requires.left c.requires.idle) c.in_err-changed.ensures.value c.from_residual.ensures.1
+returns-in_err-changed g c = λ e writes. took-unchanged e _ (ready c.requires.left c.requires.idle) c.in_err-changed.ensures.value c.from_residual.ensures.1
 
 pub run_update-requires-clause-sound : goal.run_update-requires-clause-sound
 run_update-requires-clause-sound g c =

@@ -1,7 +1,7 @@
 use Rattle.std.proofs.Common.{Ok, Err}
 use Rattle.machine_events.proofs.Judging.Binding.{judged-bound, binding-stops, binding-refuses}
 use Rattle.machine_events.proofs.Pushed.{installed, changed-run, sound-changed}
-use Rattle.machine_events.proofs.Taken.{ready, took-refused-from, took-stopped}
+use Rattle.machine_events.proofs.Taken.{ready, took-refused-from, took-halted, took-stopped}
 use Rattle.machine_events.proofs.events.bind.install.Goals as goal
 
 pub run_update-requires-clause-sound : goal.run_update-requires-clause-sound
@@ -26,10 +26,10 @@ returns-in_ok-run_update-in-Ok g c = λ site target sources asks.
 pub returns-in_err-refusal-in-Err : goal.returns-in_err-refusal-in-Err
 returns-in_err-refusal-in-Err g c = λ site target sources asks.
     let un = rw c.as_slice-sources.ensures at c.in-Err.ensures.value in
-    took-stopped _ _ (binding-stops asks un.keeps c.args.interpreter.now.depth (ready c.requires.left c.requires.idle) un.unchanged un.cause c.in_err-refusal-in-Err.ensures) c.from_residual-in_err-refusal-in-Err.ensures.1
+    took-halted _ _ (binding-stops asks c.args.interpreter.now.depth (ready c.requires.left c.requires.idle) un.0 c.in_err-refusal-in-Err.ensures) un.1 c.from_residual-in_err-refusal-in-Err.ensures.1
 
 pub returns-in_ok-refusal-in-Err : goal.returns-in_ok-refusal-in-Err
 returns-in_ok-refusal-in-Err g c = λ site target sources asks.
     let un = rw c.as_slice-sources.ensures at c.in-Err.ensures.value in
-    let judged = binding-refuses asks un.keeps (ready c.requires.left c.requires.idle) un.unchanged un.cause c.in_ok-refusal-in-Err.ensures in
-    took-refused-from c.in_ok-refusal-in-Err.refusal _ c.refuse.result c.requires.keeps.sound.is.agree judged.0 (ready c.requires.left c.requires.idle) judged.1 c.refuse.ensures
+    let judged = binding-refuses asks (ready c.requires.left c.requires.idle) un.0 c.in_ok-refusal-in-Err.ensures in
+    took-refused-from c.in_ok-refusal-in-Err.refusal _ c.refuse.result c.requires.keeps.sound.is.agree judged (ready c.requires.left c.requires.idle) un.1 c.refuse.ensures

@@ -2,7 +2,7 @@ use Rattle.std.proofs.Common.{◌≡◌, ◌∙◌, [], None, Some, sym, arith}
 use Rattle.machine_rules.specs.Judgement.{numbered}
 use Rattle.machine_state.specs.Worlds.{at}
 use Rattle.machine_events.specs.code.Judgement.{refused}
-use Rattle.machine_events.specs.events.Bind.{may_bind}
+use Rattle.machine_events.specs.Events.{may_bind}
 use Rattle.machine_events.proofs.Judged.{err-is}
 use Rattle.machine_events.proofs.Judging.Binding.{no-site, other-number, no-target, no-sources, site-found}
 use Rattle.machine_events.proofs.events.bind.judge.Goals as goal

@@ -2,7 +2,7 @@ use Rattle.std.proofs.Common.{[]}
 use Rattle.machine_state.specs.Worlds.{at}
 use Rattle.machine_rules.specs.Judgement.{gives, goes_on, ends}
 use Rattle.machine_events.specs.code.Judgement.{refused}
-use Rattle.machine_events.specs.events.Connect.{connect}
+use Rattle.machine_events.specs.Events.{connect}
 use Rattle.machine_events.proofs.Judged.{then-ends, err-is}
 use Rattle.machine_events.proofs.events.connect.judge.Goals as goal
 

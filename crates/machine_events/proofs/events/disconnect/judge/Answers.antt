@@ -1,7 +1,7 @@
 use Rattle.std.proofs.Common.{[], sym, ◌∙◌}
 use Rattle.machine_state.specs.Worlds.{at}
 use Rattle.machine_events.specs.code.Judgement.{refused}
-use Rattle.machine_events.specs.events.Disconnect.{disconnect}
+use Rattle.machine_events.specs.Events.{disconnect}
 use Rattle.machine_events.proofs.Judged.{then-ends, err-is}
 use Rattle.machine_events.proofs.Judging.Connecting.{no-connection, disconnects}
 use Rattle.machine_events.proofs.events.disconnect.judge.Goals as goal

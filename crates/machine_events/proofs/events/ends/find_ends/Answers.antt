@@ -1,5 +1,5 @@
 use Rattle.machine_events.specs.code.Judgement.{refused}
-use Rattle.machine_events.specs.events.Ends.{find_ends}
+use Rattle.machine_events.specs.Events.{find_ends}
 use Rattle.machine_events.proofs.Judged.{then-ends, then-on, err-is}
 use Rattle.machine_events.proofs.Judging.Ends.{no-signal, no-method, finds-ends}
 use Rattle.machine_events.proofs.Judging.Naming.{living-ok}

@@ -1,7 +1,7 @@
 use Rattle.std.proofs.Common.{[]}
 use Rattle.machine_state.specs.Worlds.{at}
 use Rattle.machine_events.specs.code.Judgement.{refused}
-use Rattle.machine_events.specs.events.Invoke.{invoke}
+use Rattle.machine_events.specs.Events.{invoke}
 use Rattle.machine_events.proofs.Judged.{then-ends, err-is}
 use Rattle.machine_events.proofs.Judging.Invoking.{no-method, no-values, bad-values, asks-for}
 use Rattle.machine_events.proofs.events.invoke.judge.Goals as goal

@@ -3,7 +3,7 @@ use Rattle.std.proofs.lemmas.List.{take_more, drop_more}
 use Rattle.object_tree.specs.declared.life.Life.{Life}
 use Rattle.machine_rules.specs.Judgement.{Numbered, gives}
 use Rattle.machine_events.specs.code.Judgement.{IsNotAccepted}
-use Rattle.machine_events.specs.events.Named.{all_living}
+use Rattle.machine_events.specs.Events.{all_living}
 use Rattle.machine_events.proofs.Judged.{err-is, short-is}
 use Rattle.machine_events.proofs.Judging.Naming.{living-ok, living-snoc, living-end}
 use Rattle.machine_events.proofs.events.named.find_all_living.Goals as goal

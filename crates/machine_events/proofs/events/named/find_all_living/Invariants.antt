@@ -1,5 +1,5 @@
 use Rattle.std.proofs.Common.{Ok, take}
-use Rattle.machine_events.specs.events.Named.{all_living}
+use Rattle.machine_events.specs.Events.{all_living}
 use Rattle.machine_events.proofs.events.named.find_all_living.Given as goal
 
 -- the objects of the names so far

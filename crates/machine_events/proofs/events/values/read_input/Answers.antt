@@ -1,6 +1,6 @@
 use Rattle.script_lang.specs.declared.event.Input.TheVariants as input
 use Rattle.machine_rules.specs.Judgement.{gives, goes_on}
-use Rattle.machine_events.specs.events.Values.{value}
+use Rattle.machine_events.specs.Events.{value}
 use Rattle.machine_events.proofs.Judged.{then-ends, err-is, short-is}
 use Rattle.machine_events.proofs.Judging.Naming.{living-ok}
 use Rattle.machine_events.proofs.events.values.read_input.Goals as goal

@@ -4,7 +4,7 @@ use Rattle.script_lang.specs.declared.event.Input.{Input}
 use Rattle.signatures.specs.declared.value.Value.{Value}
 use Rattle.machine_rules.specs.Judgement.{gives}
 use Rattle.machine_events.specs.code.Judgement.{IsNotAccepted}
-use Rattle.machine_events.specs.events.Values.{values}
+use Rattle.machine_events.specs.Events.{values}
 use Rattle.machine_events.proofs.Judged.{err-is, short-is}
 use Rattle.machine_events.proofs.Judging.Reading.{values-snoc, values-end}
 use Rattle.machine_events.proofs.events.values.read_inputs.Goals as goal

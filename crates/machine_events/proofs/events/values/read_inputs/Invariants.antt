@@ -1,5 +1,5 @@
 use Rattle.std.proofs.Common.{Ok, take}
-use Rattle.machine_events.specs.events.Values.{values}
+use Rattle.machine_events.specs.Events.{values}
 use Rattle.machine_events.proofs.events.values.read_inputs.Given as goal
 
 -- the values of the inputs so far

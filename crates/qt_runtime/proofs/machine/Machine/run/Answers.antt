@@ -30,38 +30,8 @@ returns-in_err-_answer-clause-checked g c checked =
 pub returns-clause-checked : goal.returns-clause-checked
 returns-clause-checked g c checked = (c.loop-event.invariant.checked checked, tt)
 
-pub returns-in_err-_answer-clause-arguments : goal.returns-in_err-_answer-clause-arguments
-returns-in_err-_answer-clause-arguments g c = λ checked. (c.is_stopped.ensures.claims c.requires checked).arguments
+pub returns-in_err-_answer-clause-claims : goal.returns-in_err-_answer-clause-claims
+returns-in_err-_answer-clause-claims g c = c.is_stopped.ensures.claims c.requires
 
-pub returns-clause-arguments : goal.returns-clause-arguments
-returns-clause-arguments g c = λ checked. (c.is_stopped.ensures.claims c.requires checked).arguments
-
-pub returns-in_err-_answer-clause-acyclic : goal.returns-in_err-_answer-clause-acyclic
-returns-in_err-_answer-clause-acyclic g c = λ checked. (c.is_stopped.ensures.claims c.requires checked).acyclic
-
-pub returns-clause-acyclic : goal.returns-clause-acyclic
-returns-clause-acyclic g c = λ checked. (c.is_stopped.ensures.claims c.requires checked).acyclic
-
-pub returns-in_err-_answer-clause-spared : goal.returns-in_err-_answer-clause-spared
-returns-in_err-_answer-clause-spared g c = λ checked. (c.is_stopped.ensures.claims c.requires checked).spared
-
-pub returns-clause-spared : goal.returns-clause-spared
-returns-clause-spared g c = λ checked. (c.is_stopped.ensures.claims c.requires checked).spared
-
-pub returns-in_err-_answer-clause-shallow : goal.returns-in_err-_answer-clause-shallow
-returns-in_err-_answer-clause-shallow g c = λ checked. (c.is_stopped.ensures.claims c.requires checked).shallow
-
-pub returns-clause-shallow : goal.returns-clause-shallow
-returns-clause-shallow g c = λ checked. (c.is_stopped.ensures.claims c.requires checked).shallow
-
-pub returns-in_err-_answer-clause-typed : goal.returns-in_err-_answer-clause-typed
-returns-in_err-_answer-clause-typed g c = λ checked. (c.is_stopped.ensures.claims c.requires checked).typed
-
-pub returns-clause-typed : goal.returns-clause-typed
-returns-clause-typed g c = λ checked. (c.is_stopped.ensures.claims c.requires checked).typed
-
-pub returns-in_err-_answer-clause-settled : goal.returns-in_err-_answer-clause-settled
-returns-in_err-_answer-clause-settled g c = λ checked. (c.is_stopped.ensures.claims c.requires checked).settled
-
-pub returns-clause-settled : goal.returns-clause-settled
-returns-clause-settled g c = λ checked. (c.is_stopped.ensures.claims c.requires checked).settled
+pub returns-clause-claims : goal.returns-clause-claims
+returns-clause-claims g c = c.is_stopped.ensures.claims c.requires

@@ -1,0 +1,131 @@
+#!/usr/bin/env python3
+"""Lists what a reader of the headline has to read: the definitions in specs/ to which the clauses of a function lead, part by
+part and page by page, with the number of lines that they take, and the sum.
+Usage: reading_list.py [--names] [ROOT [FILE FUNCTION]]
+(default: the current folder, qt_runtime/src/machine.rt, run; --names prints the definitions of each page too)
+
+A definition is followed by its words, as the `use` lines of its page say where they stand. A comment above a definition or
+in it counts with it; `use` lines, headings and blank lines don't. What the headline doesn't say of a run is named and not followed: the premises
+(what a certificate has to fulfil, what natives promise), and why a machine stops whose program has no certificate; the
+sentence on the claims says that a checked one stops at a limit alone. Types of the code
+(`specs.declared`) and words of the standard library are met by their names. The script fails where a definition leads to
+specs/code, which a reader needn't know."""
+import os, re, sys
+
+BESIDE = ['IsChecked', 'AreKept', 'StopsFor']
+PARTS = [('the claims, and runs', r'qt_runtime|checked_runs|machine_events/specs/Runs|machine_rules/specs/Good'),
+         ('why a run stops', r'machine_events/specs/Causes|machine_rules/specs/Faults'),
+         ('events', r'machine_events'), ('rules', r'machine_rules'), ('the state', r'machine_state'),
+         ('objects, connections, event loops, bindings', r'object_tree|connections|event_loops|prop_bindings|delete_later'),
+         ('values, expressions, classes', r'')]
+WORD = re.compile(r'[^\s(){},;.\[\]]+')
+HEAD = re.compile(r'^(?:\s*(?:pub )?(?:unfoldable |abbrev |data |record )+(?:pub )?|pub )(\S+)')
+CASE = re.compile(r'^\s+([^\s:]+) :(?: |$)')
+
+class Page:
+    """One file of specs/: its definitions by name, and what its `use` lines name."""
+    def __init__(self, path):
+        self.path, self.items, self.names, self.modules = path, {}, {}, {}
+
+    def read(self):
+        item, comment = None, []
+        for line in open(self.path):
+            text = line.rstrip('\n')
+            if text.startswith(('use ', 'pub use ')): self.use(text)
+            elif not text.strip() or text.lstrip().startswith('-- ----'): item, comment = None, []
+            elif text.lstrip().startswith('--'):
+                if item and text.startswith(' '): item.lines.append(text)
+                else: item, comment = None, comment + [text]
+            elif text.startswith(('infix', 'module', 'mutual')): comment = []
+            else:
+                head, case = HEAD.match(text), CASE.match(text)
+                if head:
+                    item = self.items.setdefault(head[1], Item(self, head[1]))
+                    item.lines += comment
+                    comment = []
+                if item: item.lines.append(text)
+                if item and case and not head: self.items.setdefault(case[1], item)
+        return self
+
+    def use(self, text):
+        text = re.sub(r'^(?:pub |ghost )?use ', '', text).rstrip(';')
+        listed = re.match(r'(\S+)\.\{(.*)\}$', text)
+        if listed:
+            for part in listed[2].split(','):
+                name, _, other = part.strip().partition(' as ')
+                self.names[other or name] = (listed[1], name)
+        else:
+            module, _, other = text.partition(' as ')
+            self.modules[other or module.split('.')[-1]] = module
+
+class Item:
+    """A definition: its lines, with the comment above it."""
+    def __init__(self, page, name): self.page, self.name, self.lines = page, name, []
+    def text(self): return '\n'.join(line for line in self.lines if not line.lstrip().startswith('--'))
+
+class Reading:
+    """What has to be read, in the order in which it is met."""
+    def __init__(self, root): self.root, self.pages, self.items, self.types, self.code = root, {}, [], set(), set()
+
+    def page(self, module):
+        parts = module.split('.')
+        path = f'{self.root}/crates/{parts[1]}/' + '/'.join(parts[2:]) + '.antt'
+        if parts[0] != 'Rattle' or parts[1] == 'std' or not os.path.exists(path): return None
+        if path not in self.pages: self.pages[path] = Page(path).read()
+        return self.pages[path]
+
+    def follow(self, page, text):
+        for word in BESIDE: text = re.sub(rf'(?<![\w.]){word}(?!\w)', '', text)
+        words = set(WORD.findall(text))
+        for name, (module, item) in page.names.items():
+            if name.replace('◌', '') in words: self.meet(module, item)
+        for other, module in page.modules.items():
+            for word in re.findall(rf'(?<![\w.]){re.escape(other)}\.(\w+)', text): self.meet(module, word)
+        for name, item in page.items.items():
+            if name.replace('◌', '') in words: self.need(item)
+
+    def meet(self, module, name):
+        if '.declared.' in module: return self.types.add(re.sub(r'\.The[A-Z]\w+', '', module).split('.')[-1])
+        page = self.page(module)
+        if page and name in page.items: self.need(page.items[name])
+
+    def need(self, item):
+        if item in self.items: return
+        if '/specs/code/' in item.page.path: self.code.add(f'{item.page.path}: {item.name}')
+        self.items.append(item)
+        self.follow(item.page, item.text())
+
+def contract_of(path, function):
+    """The clauses of a function in a file of code, and the page that its `use` lines make."""
+    page, kept, inside = Page(path), [], False
+    for line in open(path):
+        if line.startswith('ghost use '): page.use(line.strip())
+        if re.match(rf'\s*pub fn {function}\b', line): inside = True
+        elif inside and re.match(r'\s*\{\s*$', line): break
+        elif inside: kept.append(line)
+    return page, ''.join(kept)
+
+def main():
+    words = [word for word in sys.argv[1:] if word != '--names']
+    root = words[0] if words else '.'
+    file, function = words[1:3] if len(words) > 2 else ('qt_runtime/src/machine.rt', 'run')
+    reading = Reading(root)
+    reading.follow(*contract_of(f'{root}/crates/{file}', function))
+    pages, total = {}, 0
+    for item in reading.items: pages.setdefault(item.page.path[len(root) + 8:], []).append(item)
+    for part, pattern in PARTS:
+        here = [path for path in pages if re.match(pattern, path)]
+        count = sum(len(item.lines) for path in here for item in pages[path])
+        total += count
+        if here: print(f'{count:5}  {part}')
+        for path in here:
+            items = pages.pop(path)
+            print(f'         {sum(len(item.lines) for item in items):4}  {path}')
+            if '--names' in sys.argv: print('               ' + ', '.join(item.name for item in items))
+    print(f'{total:5}  lines in all')
+    print('named and not followed:', ', '.join(BESIDE))
+    print('types of the code:', ', '.join(sorted(reading.types)))
+    if reading.code: print('in specs/code:', ', '.join(sorted(code[len(root) + 8:] for code in reading.code)))
+    sys.exit(bool(reading.code))
+
+main()

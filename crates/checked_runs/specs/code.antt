@@ -1,3 +1,0 @@
--- What a run of a checked program keeps, from which the claims follow.
-pub mod Invariant
-pub mod Promised
