@@ -1,3 +1,4 @@
+pub mod Distinct
 pub mod Searching
 pub mod Driving
 pub mod Turning

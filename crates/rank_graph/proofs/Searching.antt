@@ -6,14 +6,15 @@ use Rattle.std.proofs.lemmas.List.{get_or-set_same, get_or-set_other, take_more,
 use Rattle.std.proofs.lemmas.List.Elements.{Contains-push, Contains-push_cases, Contains-append_left, Contains-get_or}
 use Rattle.rank_graph.specs.Bits.{has}
 use Rattle.effect_scan.specs.Rows.{row, Edge}
-use Rattle.rank_graph.specs.Graphs.{InRange, Leads, IsCycle}
+use Rattle.rank_graph.specs.Graphs.{InRange, Leads, IsCycle, AreDistinct}
 use Rattle.rank_graph.specs.Entries.{owns}
-use Rattle.rank_graph.specs.Searching.{state_of, Joins, room, Finished, NoneOpen, OnPath, Visiting, Held, Searching, Grows, Visited, Since, left, left_below, Climbs}
+use Rattle.rank_graph.specs.Searching.{state_of, Joins, room, Finished, NoneOpen, OnPath, AreOnce, Visiting, Held, Searching, Grows, Visited, Since, left, left_below, Climbs}
 use Rattle.rank_graph.specs.declared.bits.Bits.{Bits}
 use Rattle.rank_graph.specs.declared.path.Entry.{Entry}
 use Rattle.rank_graph.specs.declared.path.State.{State}
 use Rattle.rank_graph.specs.declared.path.State.TheVariants.{New, Open, Done}
 use Rattle.rank_graph.specs.declared.path.Visit.{Visit}
+use Rattle.rank_graph.proofs.Distinct.{cons_cases}
 
 -- ---- the state of a node after a write
 pub state-set_same : (states : List State) (a : ℕ) (s : State) → a < length states → state_of (set states a s) a ≡ s
@@ -407,3 +408,49 @@ pub climbed : (rows : List (List ℕ)) (target current top : ℕ) (nodes all : L
 climbed rows target current top nodes all same turned edge x =
     let first : all ≡ current ∷ x.0 = turned ∙ x.1 in
     subst (λ (l : List ℕ). IsCycle rows l) (sym first) (leads_push rows current x.0 top current x.2 (subst (λ (y : ℕ). Edge rows top y) (sym same) edge))
+
+-- ---- each node is on the path once
+pub held_once : (rows : List (List ℕ)) (own : List Bits) (states : List State) (child : ℕ) (path : List Visit) → Held rows own states child path → ¬ OnPath child path → AreOnce child path
+held_once rows own states child [] h off = tt
+held_once rows own states child (v ∷ vs) h off = (off, held_once rows own states v.node vs h.1 h.0.once)
+
+once_top : (child : ℕ) (path : List Visit) → AreOnce child path → ¬ OnPath child path
+once_top child [] h on = on
+once_top child (v ∷ vs) h on = h.0 on
+
+-- of the nodes so far, the last one first, none stands twice, and none is on the path that is left
+pub record AreSoFar (current : ℕ) (path : List Visit) (nodes : List ℕ) : Type 0 where
+  pub once : AreOnce current path
+  pub distinct : AreDistinct (reverse nodes)
+  pub apart : (a : ℕ) → Contains (reverse nodes) a → ¬ OnPath a path
+
+pub one_reversed : (top : ℕ) (none nodes : List ℕ) → none ≡ [] → nodes ≡ none ++ top ∷ [] → reverse nodes ≡ top ∷ []
+one_reversed top none nodes begun pushed = ap reverse pushed ∙ ap (λ (l : List ℕ). reverse (l ++ top ∷ [])) begun
+
+pub top_alone : (top : ℕ) (path : List Visit) (none nodes : List ℕ) → none ≡ [] → nodes ≡ none ++ top ∷ [] → AreOnce top path → AreSoFar top path nodes
+top_alone top path none nodes begun pushed once =
+    let alone = one_reversed top none nodes begun pushed in
+    record {
+      once = once;
+      distinct = subst AreDistinct (sym alone) (λ held. omega (arith, held.1), tt);
+      apart = λ a held on.
+          elim (cons_cases top [] a (subst (λ (l : List ℕ). Contains l a) alone held)) [
+            | inl e ↦ once_top top path once (subst (λ (x : ℕ). OnPath x path) (sym e) on)
+            | inr none ↦ omega (arith, none.1)
+          ];
+    }
+
+pub once_step : (current : ℕ) (path after : List Visit) (v : Visit) (nodes more : List ℕ) → path ≡ v ∷ after → more ≡ nodes ++ v.node ∷ [] → AreSoFar current path nodes → AreSoFar v.node after more
+once_step current path after v nodes more popped pushed x =
+    let turned : reverse more ≡ v.node ∷ reverse nodes = ap reverse pushed ∙ reverse-append nodes (v.node ∷ []) in
+    let once : AreOnce current (v ∷ after) = subst (AreOnce current) popped x.once in
+    let apart : (a : ℕ) → Contains (reverse nodes) a → ¬ OnPath a (v ∷ after) = subst (λ (p : List Visit). (a : ℕ) → Contains (reverse nodes) a → ¬ OnPath a p) popped x.apart in
+    record {
+      once = once.1;
+      distinct = subst AreDistinct (sym turned) (λ held. apart v.node held (inl refl), x.distinct);
+      apart = λ a held on.
+          elim (cons_cases v.node (reverse nodes) a (subst (λ (l : List ℕ). Contains l a) turned held)) [
+            | inl e ↦ once_top v.node after once.1 (subst (λ (y : ℕ). OnPath y after) (sym e) on)
+            | inr old ↦ apart a old (inr on)
+          ];
+    }

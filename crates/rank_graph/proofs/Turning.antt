@@ -3,7 +3,8 @@ use Rattle.std.proofs.Common.{◌≡◌, ℕ, ◌-◌, ◌<◌, ◌≤◌, inl, 
 use Rattle.std.specs.List.{Contains}
 use Rattle.std.proofs.lemmas.List.{append-nil, append_assoc, take-append-drop, get_or_append_left, get_or-drop, length-drop, get_or_default, take_rest}
 use Rattle.std.proofs.lemmas.List.Elements.{Contains-append_left, Contains-append_right, Contains-append_cases}
-use Rattle.rank_graph.specs.Graphs.{Leads, IsCycle, BeginsLeast}
+use Rattle.rank_graph.specs.Graphs.{Leads, IsCycle, AreDistinct, BeginsLeast}
+use Rattle.rank_graph.proofs.Distinct.{swapped}
 
 pub leads_split : (rows : List (List ℕ)) (a : ℕ) (xs : List ℕ) (b : ℕ) (ys : List ℕ) (c : ℕ) → Leads rows a (xs ++ b ∷ ys) c → Leads rows a (xs ++ b ∷ []) b × Leads rows b ys c
 leads_split rows a [] b ys c l = ((l.0, refl), l.1)
@@ -25,6 +26,11 @@ pub turned_at : (rows : List (List ℕ)) (nodes all : List ℕ) (p : ℕ) → al
 turned_at rows nodes all p e h =
     let split : IsCycle rows (take p nodes ++ drop p nodes) = subst (IsCycle rows) (sym (take-append-drop p nodes)) h in
     subst (IsCycle rows) (sym e) (turned rows (take p nodes) (drop p nodes) split)
+
+pub once_at : (nodes all : List ℕ) (p : ℕ) → all ≡ drop p nodes ++ take p nodes → AreDistinct nodes → AreDistinct all
+once_at nodes all p e h =
+    let split : AreDistinct (take p nodes ++ drop p nodes) = subst AreDistinct (sym (take-append-drop p nodes)) h in
+    subst AreDistinct (sym e) (swapped (take p nodes) (drop p nodes) split)
 
 pub begins_least : (nodes all : List ℕ) (p : ℕ) → all ≡ drop p nodes ++ take p nodes → p < length nodes → ((k : ℕ) → k < length nodes → get_or nodes p 0 ≤ get_or nodes k 0) → BeginsLeast all
 begins_least nodes all p e inside least = λ b has.

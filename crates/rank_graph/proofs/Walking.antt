@@ -1,5 +1,5 @@
 -- Walks along edges.
-use Rattle.std.proofs.Common.{◌≡◌, ℕ, suc, ◌-◌, ◌≤◌, ◌<◌, eqb, Bool, true, false, List, [], ◌∷◌, ◌++◌, get_or, slice_get, unwrap_or, Option, None, Some, sym, ap, ◌∙◌, subst, arith}
+use Rattle.std.proofs.Common.{◌≡◌, ℕ, suc, ◌-◌, ◌≤◌, ◌<◌, eqb, Bool, true, false, inl, inr, List, [], ◌∷◌, ◌++◌, get_or, slice_get, unwrap_or, Option, None, Some, refl, sym, ap, ◌∙◌, subst, arith}
 use Rattle.std.specs.List.{Contains, list_any}
 use Rattle.std.proofs.lemmas.Bool.{eqb-true, eq-eqb, false≢true}
 use Rattle.std.proofs.lemmas.List.Folds.{list_any_at, Any-from_list_any}
@@ -7,8 +7,9 @@ use Rattle.std.proofs.lemmas.Option.{get_or_from_slice_get, unwrap_or-slice_get}
 use Rattle.effect_scan.specs.Rows.{row, Edge}
 use Rattle.rank_graph.specs.declared.path.Entry.{Entry}
 use Rattle.rank_graph.specs.declared.solution.Solution.{Solution}
-use Rattle.rank_graph.specs.Graphs.{Chain, Leads}
+use Rattle.rank_graph.specs.Graphs.{Chain, Leads, AreDistinct}
 use Rattle.rank_graph.specs.Solutions.{AreRanks, AreClasses, entries_of}
+use Rattle.rank_graph.proofs.Distinct.{cons_cases}
 use Rattle.rank_graph.proofs.Searching.{leads_push}
 
 -- ---- what a solution tells of a node
@@ -50,6 +51,25 @@ walk_step rows from at b r nodes more e has pushed w =
 -- ranks fall along edges
 pub rank_falls : (rows : List (List ℕ)) (rank : ℕ → ℕ) (a b : ℕ) (r : List ℕ) → AreRanks rows rank → r ≡ row rows a → Contains r b → rank b < rank a
 rank_falls rows rank a b r ranks e has = let h : suc (rank b) ≤ rank a = ranks.longest a (suc (rank b)) (b, edge_of rows a b r e has, ranks.chains b) in omega arith
+
+-- so they are lower behind a walk's first node
+low_behind : (rows : List (List ℕ)) (rank : ℕ → ℕ) → AreRanks rows rank → (a : ℕ) (ws : List ℕ) (b : ℕ) → Leads rows a ws b → (c : ℕ) → Contains ws c → rank c < rank a
+low_behind rows rank ranks a [] b l c held = omega (arith, held.1)
+low_behind rows rank ranks a (w ∷ ws) b l c held =
+    let low = rank_falls rows rank a w (row rows a) ranks refl l.0 in
+    elim (cons_cases w ws c held) [
+      | inl e ↦ subst (λ (x : ℕ). rank x < rank a) e low
+      | inr behind ↦ let lower = low_behind rows rank ranks w ws b l.1 c behind in omega arith
+    ]
+
+-- and it comes to no node twice
+walk_once : (rows : List (List ℕ)) (rank : ℕ → ℕ) → AreRanks rows rank → (a : ℕ) (ws : List ℕ) (b : ℕ) → Leads rows a ws b → AreDistinct (a ∷ ws)
+walk_once rows rank ranks a [] b l = (λ held. omega (arith, held.1), tt)
+walk_once rows rank ranks a (w ∷ ws) b l =
+    (λ held. let low = low_behind rows rank ranks a (w ∷ ws) b l a held in omega arith, walk_once rows rank ranks w ws b l.1)
+
+pub walked_once : (rows : List (List ℕ)) (rank : ℕ → ℕ) (from at : ℕ) (nodes : List ℕ) → AreRanks rows rank → Walked rows from at nodes → AreDistinct nodes
+walked_once rows rank from at nodes ranks w = subst AreDistinct (sym w.1) (walk_once rows rank ranks from w.0 at w.2)
 
 -- from a node without the class some edge leads on
 pub leads_on : (rows own : List (List ℕ)) (leads : ℕ → ℕ → Bool) (a c : ℕ) → AreClasses rows own leads → (along : List ℕ) (to : ℕ) → Leads rows a along to → Edge own to c → (Edge own a c → ⊥) → ((b : ℕ) → Edge rows a b → leads b c ≡ false) → ⊥

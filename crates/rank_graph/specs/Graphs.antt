@@ -23,26 +23,35 @@ abbrev pub IsCycle : List (List ℕ) → List ℕ → Type 0
 IsCycle rows [] = ⊥
 IsCycle rows (a ∷ xs) = Leads rows a (xs ++ a ∷ []) a
 
+-- nothing stands twice in the list
+abbrev pub AreDistinct : {X : Type 0} → List X → Type 0
+AreDistinct [] = Unit {0}
+AreDistinct (x ∷ xs) = ¬ Contains xs x × AreDistinct xs
+
 -- the first node is the least
 abbrev pub BeginsLeast : List ℕ → Type 0
 BeginsLeast nodes = (b : ℕ) → Contains nodes b → slice_index_or nodes 0 0 ≤ b
 
--- a cycle, told from its least node on
-abbrev pub IsToldCycle : List (List ℕ) → List ℕ → Type 0
-IsToldCycle rows nodes = IsCycle rows nodes × BeginsLeast nodes
+-- a cycle that comes to each of its nodes once, told from the least of them on
+pub record IsToldCycle (rows : List (List ℕ)) (nodes : List ℕ) : Type 0 where
+  pub cycle : IsCycle rows nodes
+  pub once : AreDistinct nodes
+  pub least : BeginsLeast nodes
 
--- edges lead from the node along these nodes, itself the first, to one whose own classes have class c
+-- edges lead from the node along these nodes, itself the first and none of them twice, to one whose own classes have class c
 pub record IsPathTo (rows own : List (List ℕ)) (c from : ℕ) (nodes : List ℕ) : Type 0 where
   pub after : List ℕ
   pub to : ℕ
   pub nodes_are : nodes ≡ from ∷ after
   pub leads : Leads rows from after to
+  pub once : AreDistinct nodes
   pub has : Edge own to c
 
--- n edges lead from the node along these nodes, itself the first
+-- n edges lead from the node along these nodes, itself the first and none of them twice
 pub record IsChainFrom (rows : List (List ℕ)) (n from : ℕ) (nodes : List ℕ) : Type 0 where
   pub after : List ℕ
   pub to : ℕ
   pub nodes_are : nodes ≡ from ∷ after
   pub leads : Leads rows from after to
+  pub once : AreDistinct nodes
   pub count : length after ≡ n

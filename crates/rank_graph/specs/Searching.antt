@@ -41,6 +41,11 @@ abbrev pub OnPath : ℕ → List Visit → Type 0
 OnPath a [] = ⊥
 OnPath a (v ∷ vs) = (a ≡ v.node) ⊎ OnPath a vs
 
+-- the node isn't on the path, and each node of the path is there once
+abbrev pub AreOnce : ℕ → List Visit → Type 0
+AreOnce child [] = Unit {0}
+AreOnce child (v ∷ vs) = ¬ OnPath child (v ∷ vs) × AreOnce v.node vs
+
 -- a node some of whose edges were followed
 pub record Visiting (rows : List (List ℕ)) (own : List Bits) (states : List State) (v : Visit) : Type 0 where
   pub joins : Joins own states v.node (take v.next (row rows v.node)) v.entry

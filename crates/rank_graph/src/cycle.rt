@@ -2,22 +2,23 @@
 
 ghost use Rattle.std.specs.Prelude.{◌≡◌, ℕ, ◌<◌, ◌≤◌, ◌⊎◌, List, length, slice_index, IfOk};
 ghost use Rattle.effect_scan.specs.Rows.{Edge};
-ghost use Rattle.rank_graph.specs.Graphs.{IsCycle, IsToldCycle, BeginsLeast};
-ghost use Rattle.rank_graph.specs.Searching.{OnPath, Climbs};
+ghost use Rattle.rank_graph.specs.Graphs.{IsCycle, AreDistinct, IsToldCycle, BeginsLeast};
+ghost use Rattle.rank_graph.specs.Searching.{OnPath, AreOnce, Climbs};
 
 use crate::path::Path;
 use sqlite_items::Items;
 use std::alloc::{AllocError, Global};
 
-/// The nodes of the path from the target up to the top, from whose last one an edge leads to the target: told from the least
-/// of them on.
+/// The nodes of the path from the target up to the top, from whose last one an edge leads to the target: each of them once, and
+/// told from the least of them on.
 pub fn back_to(
     alloc: Global,
     mut path: Path,
     top: usize,
     target: usize,
 ) -> Result<Items<usize>, AllocError>
-    requires { (target ≡ top) ⊎ OnPath target path }
+    requires target { (target ≡ top) ⊎ OnPath target path }
+    requires once { AreOnce top path }
     ensures { IfOk result (λ nodes. (rows : List (List ℕ)) →
         Climbs rows top path → Edge rows top target → IsToldCycle rows nodes) }
 {
@@ -43,6 +44,7 @@ fn from_least(alloc: Global, nodes: &[usize]) -> Result<Vec<usize>, AllocError>
     requires { 0 < length nodes.now }
     ensures cycle { IfOk result (λ turned. (rows : List (List ℕ)) →
         IsCycle rows nodes.now → IsCycle rows turned.items) }
+    ensures once { IfOk result (λ turned. AreDistinct nodes.now → AreDistinct turned.items) }
     ensures least { IfOk result (λ turned. BeginsLeast turned.items) }
 {
     let place = least_place(nodes);

@@ -8,7 +8,7 @@ use thiserror::Error;
 #[derive(Debug, Drop, Error)]
 pub enum Unranked {
     /// These nodes, by number, are a cycle: an edge leads from each to the next and from the last to the first, which is the
-    /// least of them.
+    /// least of them, and none of them stands twice.
     #[error("there is a cycle")]
     Cycle(Items<usize>),
     /// A growth of memory was refused.

@@ -10,8 +10,8 @@ use effect_scan::row_at;
 use sqlite_items::Items;
 use std::alloc::{AllocError, Global};
 
-/// A path along edges from the node to one that has the class itself: each node has the classes of its row of `own`. Its error
-/// is that memory was refused.
+/// A path along edges from the node to one that has the class itself: each node has the classes of its row of `own`. None of
+/// its nodes stands twice. Its error is that memory was refused.
 pub fn path_to(
     alloc: Global,
     rows: &[Items<usize>],
@@ -54,7 +54,8 @@ fn next_leading(nodes: &[usize], solution: &Solution, class: usize) -> Option<us
     None
 }
 
-/// A chain from the node of this many edges, of which there is one. Its error is that memory was refused.
+/// A chain from the node of this many edges, of which there is one: none of its nodes stands twice. Its error is that memory
+/// was refused.
 pub fn chain_from(
     alloc: Global,
     rows: &[Items<usize>],

@@ -12,7 +12,7 @@ use Rattle.typing.specs.declared.spot.Spot.TheVariants as spot
 use Rattle.typing.specs.Typed.{FindsUntyped}
 use Rattle.rank_check.specs.Valid.{IsLineOf, Destroys, HasBody, IsValid}
 use Rattle.rank_check.proofs.Elements.{place_of}
-use Rattle.rank_make.specs.Walks.{Leads, IsWalk, IsCycleFrom, IsToldCycle, IsDestroyPath, IsHighChain}
+use Rattle.rank_make.specs.Walks.{Leads, IsWalk, ComesBack, IsToldCycle, LeadsToDestruction, IsDestroyPath, IsHighChain}
 use Rattle.rank_make.specs.Makes.{NoneIsValid}
 
 module _ (p : Loaded) (join : EdgesJoinNodes p) where
@@ -53,7 +53,7 @@ module _ (p : Loaded) (join : EdgesJoinNodes p) where
         let line = valid.each_node z ((join x z leads.0).1) in
         valid.sets.passed_on x z a line.0 d leads.0 h line.1 (walk_carries z zs y line.0 b d leads.1 line.1 g destroys)
 
-    cycle_invalid : (x : Node) (nodes : List Node) → IsCycleFrom p x nodes → ⊥
+    cycle_invalid : (x : Node) (nodes : List Node) → ComesBack p x nodes → ⊥
     cycle_invalid x nodes cycle =
         let walk = cycle.walk in
         let count = ap (λ (ns : List Node). length ns) walk.nodes_are in
@@ -65,7 +65,7 @@ module _ (p : Loaded) (join : EdgesJoinNodes p) where
         let low = end.2 in
         omega arith
 
-    path_invalid : (nodes : List Node) → IsDestroyPath p nodes → ⊥
+    path_invalid : (nodes : List Node) → LeadsToDestruction p nodes → ⊥
     path_invalid nodes path =
         let walk = path.walk in
         let some = path_some path.from walk.after path.to walk.leads path.body path.destruction in
@@ -88,10 +88,10 @@ module _ (p : Loaded) (join : EdgesJoinNodes p) where
         omega arith
 
   pub cycle_bars : (nodes : List Node) → IsToldCycle p nodes → NoneIsValid p
-  cycle_bars nodes told certificate valid = cycle_invalid certificate valid told.first nodes told.cycle
+  cycle_bars nodes told certificate valid = cycle_invalid certificate valid told.first nodes told.cycle.comes_back
 
   pub path_bars : (nodes : List Node) → IsDestroyPath p nodes → NoneIsValid p
-  path_bars nodes path certificate valid = path_invalid certificate valid nodes path
+  path_bars nodes path certificate valid = path_invalid certificate valid nodes path.leads
 
   pub chain_bars : (nodes : List Node) → IsHighChain p nodes → NoneIsValid p
   chain_bars nodes chain certificate valid = chain_invalid certificate valid nodes chain
@@ -110,10 +110,11 @@ module _ (p : Loaded) (join : EdgesJoinNodes p) where
       walk_nodes x walk.after y walk.leads (begins_at_node x walk.after y walk.leads some) at.0 z (subst (λ (ns : List Node). slice_get ns at.0 ≡ Some z) walk.nodes_are at.1)
 
   pub cycle_nodes : (nodes : List Node) → IsToldCycle p nodes → (z : Node) → Contains nodes z → IsNode p z
-  cycle_nodes nodes told = named_nodes told.first told.first nodes told.cycle.walk told.cycle.some
+  cycle_nodes nodes told = named_nodes told.first told.first nodes told.cycle.comes_back.walk told.cycle.comes_back.some
 
   pub path_nodes : (nodes : List Node) → IsDestroyPath p nodes → (z : Node) → Contains nodes z → IsNode p z
-  path_nodes nodes path =
+  path_nodes nodes told =
+      let path = told.leads in
       let walk = path.walk in
       let count = ap (λ (ns : List Node). length ns) walk.nodes_are in
       let some = path_some path.from walk.after path.to walk.leads path.body path.destruction in

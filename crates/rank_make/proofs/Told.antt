@@ -1,5 +1,5 @@
 -- Walks as they are told, from their numbers.
-use Rattle.std.proofs.Common.{◌≡◌, inl, inr, ℕ, zero, suc, ◌<◌, ◌≤◌, List, [], ◌∷◌, ◌++◌, length, get_or, slice_get, Some, refl, sym, ap, ◌∙◌, subst, arith}
+use Rattle.std.proofs.Common.{◌≡◌, inl, inr, ℕ, zero, suc, ◌<◌, ◌≤◌, List, [], ◌∷◌, ◌++◌, length, get_or, slice_get, drop, Some, refl, sym, ap, ◌∙◌, subst, arith}
 use Rattle.std.specs.List.{Contains, AllZip}
 use Rattle.std.proofs.lemmas.List.{length-append}
 use Rattle.std.proofs.lemmas.List.Elements.{Contains-push_cases}
@@ -16,7 +16,8 @@ use Rattle.effect_scan.proofs.Relating.{zip_length}
 use Rattle.rank_check.specs.Valid.{HasBody, most_bound}
 use Rattle.rank_check.proofs.Conditions.{edges_inside}
 use Rattle.rank_check.proofs.Elements.{some_inside, place_of, element_at}
-use Rattle.rank_graph.specs.Graphs.{Leads as LeadsByNumber, IsCycle as IsCycleByNumber, IsToldCycle as IsToldByNumber, IsPathTo, IsChainFrom}
+use Rattle.rank_graph.specs.Graphs.{Leads as LeadsByNumber, IsCycle as IsCycleByNumber, IsToldCycle as IsToldByNumber, IsPathTo, IsChainFrom, AreDistinct}
+use Rattle.rank_graph.proofs.Distinct.{swapped}
 use Rattle.rank_make.specs.Walks.{IsWalk, IsToldCycle, IsDestroyPath, IsHighChain}
 use Rattle.rank_make.specs.Solved.{own_rows}
 use Rattle.rank_make.proofs.Placed.{one_number, one_at}
@@ -59,6 +60,29 @@ module _ (p : Loaded) (scan : Scanned) (is : IsScan p scan) where
           let walk = lift p scan is a ws b x rest leads at h.1 in
           (walk.0, walk.1, record { after = rest; nodes_are = ap (λ (n : Node). n ∷ rest) same; leads = walk.2 })
 
+  -- numbers that are distinct are those of distinct nodes
+  once_told : (numbers : List ℕ) (zs : List Node) → AreAt (nodes_of p) numbers zs → AreDistinct numbers → AreDistinct zs
+  once_told [] [] zip h = tt
+  once_told [] (z ∷ zs) zip h = absurd zip
+  once_told (n ∷ ns) [] zip h = absurd zip
+  once_told (n ∷ ns) (z ∷ zs) zip h = (
+    λ held.
+        let place = place_of zs z held in
+        let pair = zip_right (λ m y. IsAt (nodes_of p) y m) ns zs zip.1 place.0 z place.1 in
+        let same : pair.0 ≡ n = one_number p z pair.0 n pair.2 zip.0 in
+        h.0 (subst (λ (m : ℕ). Contains ns m) same (element_at ns place.0 pair.0 pair.1)),
+    once_told ns zs zip.1 h.1,
+  )
+
+  walk_once : (numbers shown : List ℕ) (zs : List Node) → shown ≡ numbers → AreAt scan.nodes shown zs → AreDistinct numbers → AreDistinct zs
+  walk_once numbers shown zs show zip h =
+      once_told numbers zs (subst (λ (l : List ℕ). AreAt (nodes_of p) l zs) show (subst (λ (ns : List Node). AreAt ns shown zs) is.nodes zip)) h
+
+  -- .. behind the first one
+  behind_once : (a : ℕ) (ws : List ℕ) (zs : List Node) → AreAt scan.nodes (a ∷ ws) zs → AreDistinct ws → AreDistinct (drop 1 zs)
+  behind_once a ws [] zip h = absurd zip
+  behind_once a ws (z ∷ zs) zip h = walk_once ws ws zs refl zip.1 h
+
   -- ---- a path to a destruction
   pub path_inside : (rows own : List (List ℕ)) (from c : ℕ) (numbers shown : List ℕ) (x : Node) → rows ≡ scan.rows → IsAt (nodes_of p) x from → IsPathTo rows own c from numbers → shown ≡ numbers → (n : ℕ) → Contains shown n → n < length scan.nodes
   path_inside rows own from c numbers shown x same at path show n held =
@@ -77,12 +101,15 @@ module _ (p : Loaded) (scan : Scanned) (is : IsScan p scan) where
       let end = own_is p scan is path.to x.class has in
       let node : end.0 ≡ walk.0 = one_at p end.0 walk.0 path.to end.1 walk.1 in
       record {
-        from = x;
-        to = walk.0;
-        walk = walk.2;
-        body = body;
-        destruction = sym (ap (λ (y : Node). y.member) node) ∙ end.2;
-        holds = subst (λ (y : Node). Closure p y.class x.class) node end.3;
+        leads = record {
+          from = x;
+          to = walk.0;
+          walk = walk.2;
+          body = body;
+          destruction = sym (ap (λ (y : Node). y.member) node) ∙ end.2;
+          holds = subst (λ (y : Node). Closure p y.class x.class) node end.3;
+        };
+        once = walk_once numbers shown zs show zip path.once;
       }
 
   -- ---- a chain
@@ -101,7 +128,7 @@ module _ (p : Loaded) (scan : Scanned) (is : IsScan p scan) where
       let both = zip_length (λ n y. IsAt scan.nodes y n) numbers zs at in
       let whole = ap (λ (l : List ℕ). length l) chain.nodes_are in
       let edges = chain.count in
-      record { from = x.0; to = walk.0; walk = walk.2; count = omega arith }
+      record { from = x.0; to = walk.0; walk = walk.2; once = walk_once numbers shown zs show zip chain.once; count = omega arith }
 
   -- ---- a cycle
   -- what is told ends with the first number
@@ -115,25 +142,28 @@ module _ (p : Loaded) (scan : Scanned) (is : IsScan p scan) where
   cycle_low a (x ∷ xs) cycle = let low = edge_inside scan.rows a x cycle.0 in let count = is.edges.count in let nodes = count_is in omega arith
 
   pub cycle_inside : (numbers closed shown : List ℕ) → IsToldByNumber scan.rows numbers → closed ≡ numbers ++ get_or numbers 0 0 ∷ [] → shown ≡ closed → (n : ℕ) → Contains shown n → n < length scan.nodes
-  cycle_inside [] closed shown cycle e show n held = absurd cycle.0
-  cycle_inside (a ∷ xs) closed shown cycle e show n held =
-      all_inside a (xs ++ a ∷ []) a closed e cycle.0 (cycle_low a xs cycle.0) n (subst (λ (l : List ℕ). Contains l n) show held)
+  cycle_inside [] closed shown told e show n held = absurd told.cycle
+  cycle_inside (a ∷ xs) closed shown told e show n held =
+      all_inside a (xs ++ a ∷ []) a closed e told.cycle (cycle_low a xs told.cycle) n (subst (λ (l : List ℕ). Contains l n) show held)
 
   pub cycle_told : (numbers closed shown : List ℕ) (zs : List Node) → IsToldByNumber scan.rows numbers → closed ≡ numbers ++ get_or numbers 0 0 ∷ [] → shown ≡ closed → AreAt scan.nodes shown zs → IsToldCycle p zs
-  cycle_told [] closed shown zs cycle e show zip = absurd cycle.0
-  cycle_told (a ∷ xs) closed shown zs cycle e show zip =
-      let low = cycle_low a xs cycle.0 in
+  cycle_told [] closed shown zs told e show zip = absurd told.cycle
+  cycle_told (a ∷ xs) closed shown zs told e show zip =
+      let low = cycle_low a xs told.cycle in
       let count = count_is in
       let inside : a < length (nodes_of p) = omega arith in
       let x = some_inside (nodes_of p) a inside in
       let at = subst (λ (l : List ℕ). AreAt scan.nodes l zs) (show ∙ e) zip in
-      let walk = walk_told a (xs ++ a ∷ []) a (a ∷ (xs ++ a ∷ [])) zs x.0 refl cycle.0 at x.1 in
+      let walk = walk_told a (xs ++ a ∷ []) a (a ∷ (xs ++ a ∷ [])) zs x.0 refl told.cycle at x.1 in
       let same : walk.0 ≡ x.0 = one_at p walk.0 x.0 a walk.1 x.1 in
       let both = zip_length (λ n y. IsAt scan.nodes y n) (a ∷ (xs ++ a ∷ [])) zs at in
       let more = length-append xs (a ∷ []) in
       record {
         first = x.0;
-        cycle = record { walk = subst (λ (y : Node). IsWalk p x.0 y zs) same walk.2; some = omega arith };
+        cycle = record {
+          comes_back = record { walk = subst (λ (y : Node). IsWalk p x.0 y zs) same walk.2; some = omega arith };
+          once = behind_once a (xs ++ a ∷ []) zs at (swapped (a ∷ []) xs told.once);
+        };
         earliest = λ y n m held at_x at_y.
             let place = place_of zs y held in
             let pair = zip_right (λ n z. IsAt scan.nodes z n) (a ∷ (xs ++ a ∷ [])) zs at place.0 y place.1 in
@@ -147,6 +177,6 @@ module _ (p : Loaded) (scan : Scanned) (is : IsScan p scan) where
       begins : (w : ℕ) → Contains ((a ∷ xs) ++ a ∷ []) w → a ≤ w
       begins w held =
           elim (Contains-push_cases (a ∷ xs) a w held) [
-            | inl old ↦ cycle.1 w old
+            | inl old ↦ told.least w old
             | inr e ↦ omega (arith, e)
           ]

@@ -1,6 +1,7 @@
 use Rattle.std.proofs.Common.{◌≡◌, ◌⊎◌, List, ℕ, ◌<◌, length, reverse, ◌∷◌}
 use Rattle.rank_graph.specs.Graphs.{Leads}
 use Rattle.rank_graph.specs.Searching.{OnPath, Climbs}
+use Rattle.rank_graph.proofs.Searching.{AreSoFar}
 use Rattle.rank_graph.proofs.cycle.back_to.Given as goal
 
 abbrev pub invariant-loop-current : goal.invariant-loop-current
@@ -8,6 +9,7 @@ invariant-loop-current l =
     ((l.target ≡ l.current) ⊎ OnPath l.target l.path)
     × ((rows : List (List ℕ)) → Climbs rows l.top l.initial.path → Climbs rows l.current l.path × ((ws : List ℕ) × (reverse l.nodes.items ≡ l.current ∷ ws) × Leads rows l.current ws l.top))
     × (0 < length l.nodes.items)
+    × AreSoFar l.current l.path l.nodes.items
 
 abbrev pub decreases-loop-current : goal.decreases-loop-current
 decreases-loop-current l = length l.path

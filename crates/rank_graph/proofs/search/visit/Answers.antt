@@ -3,7 +3,7 @@ use Rattle.std.proofs.lemmas.Option.{slice_get-get_or}
 use Rattle.std.specs.List.{Contains}
 use Rattle.std.proofs.lemmas.List.Elements.{Contains-get_or}
 use Rattle.rank_graph.specs.Searching.{state_of}
-use Rattle.rank_graph.proofs.Searching.{begins, target_inside, over_step, into_step, out_step, ends, into_smaller, out_smaller, held_climbs}
+use Rattle.rank_graph.proofs.Searching.{begins, target_inside, over_step, into_step, out_step, ends, into_smaller, out_smaller, held_climbs, held_once}
 use Rattle.rank_graph.proofs.search.visit.Goals as goal
 
 pub search-init : goal.search-init
@@ -77,6 +77,9 @@ search-preserved c = out_step _ _ _ _ _ _ _ _ _ _ c.search.invariant c.requires.
 pub returns-in-None : goal.returns-in-None
 returns-in-None c = record { ok = ends _ _ _ _ _ _ _ _ c.search.invariant c.requires.states c.row_at-row.ensures (omega (arith, c.if-at-row.false)) c.in-None.ensures.0; err = tt }
 
-pub back_to-requires : goal.back_to-requires
+pub back_to-requires-clause-target : goal.back_to-requires-clause-target
 unfolding state_of
-back_to-requires c = c.search.invariant.0.only _ c.in-Open.is
+back_to-requires-clause-target c = c.search.invariant.0.only _ c.in-Open.is
+
+pub back_to-requires-clause-once : goal.back_to-requires-clause-once
+back_to-requires-clause-once c = held_once _ _ _ _ _ c.search.invariant.0.held c.search.invariant.0.once

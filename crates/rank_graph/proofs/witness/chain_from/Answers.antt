@@ -1,6 +1,6 @@
 use Rattle.std.proofs.Common.{ℕ, ◌+◌, ◌∙◌, ap, length, arith}
 use Rattle.std.proofs.lemmas.List.{length_push}
-use Rattle.rank_graph.proofs.Walking.{walk_step, no_next}
+use Rattle.rank_graph.proofs.Walking.{walk_step, no_next, walked_once}
 use Rattle.rank_graph.proofs.witness.chain_from.Goals as goal
 
 pub unreachable-requires : goal.unreachable-requires
@@ -16,3 +16,17 @@ loop-edge-preserved c =
       ap length c.in_ok-push-in-Some.ensures.ok ∙ length_push _ _ ∙ ap (λ (n : ℕ). n + 1) c.loop-edge.invariant.1,
       omega (arith, c.loop-edge-test.true, c.rank-rank.ensures, found.1),
     )
+
+pub returns : goal.returns
+returns c =
+    let walk = c.loop-edge.invariant.0 in
+    let count = ap length walk.1 in
+    let long = c.loop-edge.invariant.1 in
+    record {
+      after = walk.0;
+      to = c.loop-edge.at;
+      nodes_are = walk.1;
+      leads = walk.2;
+      once = walked_once _ _ _ _ _ c.requires.ranks walk;
+      count = omega (arith, c.loop-edge-test.false, c.loop-edge.auto);
+    }

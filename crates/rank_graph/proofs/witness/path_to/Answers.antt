@@ -1,4 +1,5 @@
-use Rattle.rank_graph.proofs.Walking.{walk_step, rank_falls, not_at_end}
+use Rattle.std.proofs.Common.{sym}
+use Rattle.rank_graph.proofs.Walking.{walk_step, rank_falls, not_at_end, walked_once, edge_of, has_any}
 use Rattle.rank_graph.proofs.witness.path_to.Goals as goal
 
 pub loop-class-smaller : goal.loop-class-smaller
@@ -11,3 +12,15 @@ loop-class-preserved c =
 pub unreachable-requires : goal.unreachable-requires
 unreachable-requires c =
     not_at_end _ _ _ _ _ _ _ c.requires.classes c.loop-class.invariant.1 c.row_at.ensures c.loop-class-test.ensures.value c.row_at-in-loop-class.ensures c.in-None.ensures
+
+pub returns : goal.returns
+returns c =
+    let walk = c.loop-class.invariant.0 in
+    record {
+      after = walk.0;
+      to = c.loop-class.at;
+      nodes_are = walk.1;
+      leads = walk.2;
+      once = walked_once _ _ _ _ _ c.requires.ranks walk;
+      has = edge_of _ _ _ _ c.row_at.ensures (has_any _ _ (sym c.loop-class-test.ensures.value));
+    }
