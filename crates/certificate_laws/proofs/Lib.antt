@@ -1,0 +1,5 @@
+pub mod Increasing
+pub mod Least
+pub mod Makings
+pub mod Verdicts
+pub mod Writable

@@ -1,0 +1,4 @@
+pub mod Pieces
+pub mod Signatures
+pub mod Lines
+pub mod Nodes

@@ -1,0 +1,45 @@
+-- The names of a program's classes and members (docs/language.md, "Names").
+use Rattle.std.specs.Prelude.{ℕ, List, Ok}
+use Rattle.std.specs.List.{AllByRecursion}
+use Rattle.signatures.specs.Laws.{IsNormalSig}
+use Rattle.signatures.specs.Signatures.{IsFreeName}
+use Rattle.texts.specs.declared.program.Property.{Property}
+use Rattle.texts.specs.declared.program.Signal.{Signal}
+use Rattle.texts.specs.declared.program.Slot.{Slot}
+use Rattle.texts.specs.declared.program.Class.{Class}
+use Rattle.texts.specs.declared.program.Program.{Program}
+use Rattle.class_lang.specs.Reads.{ReadsProgram}
+use Rattle.meta_model.specs.declared.object.MetaMethod.{MetaMethod}
+use Rattle.meta_model.specs.declared.object.MetaProperty.{MetaProperty}
+use Rattle.meta_model.specs.declared.object.MetaObject.{MetaObject}
+use Rattle.meta_model.specs.Loaded.{Loaded}
+use Rattle.meta_model.specs.Outlines.{sig_of, kinds_of}
+use Rattle.meta_objects.specs.Builds.{Builds}
+
+-- ---- what is declared
+-- the class and its properties have names that aren't reserved, and the signatures of its methods are in normal form
+pub record IsNamedClass (class : Class) : Type 0 where
+  pub named : IsFreeName class.name
+  pub properties : AllByRecursion (λ (p : Property). IsFreeName p.name) class.properties
+  pub signals : AllByRecursion (λ (s : Signal). IsNormalSig (sig_of s.name (kinds_of s.parameters))) class.signals
+  pub slots : AllByRecursion (λ (s : Slot). IsNormalSig (sig_of s.name (kinds_of s.parameters))) class.slots
+
+abbrev pub IsNamedProgram : Program → Type 0
+IsNamedProgram program = AllByRecursion IsNamedClass program.classes
+
+-- ---- what is loaded
+-- .. with inherited members
+pub record IsNamedObject (class : MetaObject) : Type 0 where
+  pub named : IsFreeName class.name
+  pub methods : AllByRecursion (λ (m : MetaMethod). IsNormalSig m.sig) class.methods
+  pub properties : AllByRecursion (λ (q : MetaProperty). IsFreeName q.name) class.properties
+
+abbrev pub IsNamedLoaded : Loaded → Type 0
+IsNamedLoaded p = AllByRecursion IsNamedObject p.classes
+
+-- ---- laws
+abbrev pub ReadProgramsAreNamed : Type 0
+ReadProgramsAreNamed = (text : List ℕ) (program : Program) → ReadsProgram text (Ok program) → IsNamedProgram program
+
+abbrev pub LoadedProgramsAreNamed : Type 0
+LoadedProgramsAreNamed = (program : Program) (loaded : Loaded) → IsNamedProgram program → Builds program (Ok loaded) → IsNamedLoaded loaded
