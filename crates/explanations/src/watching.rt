@@ -9,12 +9,14 @@ use std::io::Read;
 /// The most bytes of an input that are remembered.
 const MOST_KEPT: usize = 8388608;
 
-/// A reader that remembers the bytes that were read, as long as they are at most 8 MiB and there is memory for them.
+/// A reader that remembers the bytes that were read, as long as they are at most 8 MiB and there is memory for them, and
+/// why the last read failed.
 #[derive(Drop)]
 pub struct KeptReader<R: Read + Drop> {
     inner: R,
     kept: Vec<u8>,
     is_whole: bool,
+    fault: Option<io::Error>,
     ghost within: { length kept.items ≤ 8388608 },
 }
 
@@ -28,6 +30,7 @@ impl<R: Read + Drop> KeptReader<R> {
             inner,
             kept: Vec::new(alloc),
             is_whole: true,
+            fault: None,
         }
     }
 
@@ -41,6 +44,13 @@ impl<R: Read + Drop> KeptReader<R> {
         } else {
             None
         }
+    }
+
+    /// Why the last read failed; `None` where it gave bytes, or the end.
+    pub fn fault(&self) -> Option<io::Error>
+        ensures { result ≡ self.now.fault }
+    {
+        self.fault
     }
 
     /// Remembers these bytes too, or nothing from here on.
@@ -64,7 +74,9 @@ impl<R: Read + Drop> Read for KeptReader<R> {
     ghost remaining = { λ s. R.remaining s.inner };
 
     fn read(&mut self, buf: &mut [u8]) -> io::Result<usize> {
-        let count = self.inner.read(buf)?;
+        let ended = self.inner.read(buf);
+        self.fault = ended.err();
+        let count = ended?;
         self.keep(&buf[..count]);
         Ok(count)
     }

@@ -3,11 +3,13 @@
 #![tactic(auto)]
 
 use doubler::{class, doubled, effects, twice};
-use explained_commands::{EXPLAIN, KeptReader, TracedWriter, explained_command, is_asked};
+use explained_commands::{
+    EXPLAIN, KeptReader, TracedWriter, WriteFault, explained_command, is_asked, tell_fault,
+};
 use native_slots::{NativeSlot, Natives};
 use signatures::Value;
 use std::alloc::{AllocError, Global};
-use std::io::ErrorKind;
+use std::io::{ErrorKind, Write};
 use std::process::ExitCode;
 use std::{env, io};
 
@@ -62,7 +64,7 @@ fn answer(rt: &HostRuntime, words: &[&str]) -> Result<ExitCode, AllocError> {
     let mut reader = KeptReader::new(alloc, rt.reader());
     let mut writer = TracedWriter::new(alloc, io::writer(rt));
     let mut errors = rt.stderr();
-    match explained_command(
+    let ended = explained_command(
         alloc,
         words,
         &mut reader,
@@ -70,9 +72,26 @@ fn answer(rt: &HostRuntime, words: &[&str]) -> Result<ExitCode, AllocError> {
         &mut writer,
         &mut errors,
         env::var(rt, EXPLAIN).is_ok_and(|value| is_asked(value.as_str())),
-    ) {
-        Ok(status) => Ok(ExitCode::from(status)),
-        Err(_) => Ok(ExitCode::FAILURE),
+    );
+    Ok(flushed(ended, &mut writer, &mut errors))
+}
+
+/// The process's exit status: the command's, once all that it wrote has left the process too. Where that fails, the
+/// reason goes to `errors`.
+fn flushed<W: Write, E: Write>(
+    ended: Result<u8, WriteFault>,
+    writer: &mut W,
+    errors: &mut E,
+) -> ExitCode {
+    let Ok(status) = ended else {
+        return ExitCode::FAILURE;
+    };
+    match writer.flush() {
+        Ok(()) => ExitCode::from(status),
+        Err(reason) => {
+            tell_fault(errors, WriteFault::Failed(reason));
+            ExitCode::FAILURE
+        }
     }
 }
 

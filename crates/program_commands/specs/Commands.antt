@@ -1,15 +1,15 @@
 -- What the commands on programs and certificates write, and their exit status (docs/commands.md). A definition says which
 -- bytes and which status belong together. Want of memory may come at any time; that it comes only where a growth of memory
 -- was refused is not stated here.
-use Rattle.std.specs.Prelude.{ℕ, List, Option, Ok, Err}
-use Rattle.std.specs.Io.KnownBytes.{Appends}
+use Rattle.std.specs.Prelude.{ℕ, List, Option, Result, Ok, Err}
 use Rattle.certificate_lang.specs.declared.certificate.Certificate.{Certificate}
 use Rattle.meta_model.specs.Loaded.{Loaded}
 use Rattle.rank_make.specs.Makes.{Makes}
 use Rattle.rank_make.specs.declared.why.Why.{Why}
 use Rattle.program_commands.specs.declared.refusal.Refusal.{Refusal}
-use Rattle.trace_lines.specs.CertificateLines.{certificate_text}
+use Rattle.certificate_texts.specs.Texts.{certificate_text}
 use Rattle.trace_lines.specs.MetaLines.{meta_text}
+use Rattle.trace_lines.specs.Sent.{TakesWith}
 use Rattle.program_commands.specs.Reasons.{reason_line, reason_status}
 use Rattle.program_commands.specs.Refusals.{memory_line, yes_line, refusal_line, refusal_status}
 use Rattle.program_commands.specs.Loading.{Loads, IsRefused, AreInvalid, AreValid}
@@ -35,8 +35,16 @@ pub data MetaWrites (program : List ℕ) : List ℕ → ℕ → Type 0 where
   wrote : (loaded : Loaded) → Loads program loaded → MetaWrites program (meta_text loaded) 0
   memory : MetaWrites program memory_line 1
 
--- Bytes that belong to the status were added to what the writer held.
-pub record Answers (Writes : List ℕ → ℕ → Type 0) (before after : Option (List ℕ)) (status : ℕ) : Type 0 where
+-- A writer took bytes that belong to an exit status: all of them where that is the answer, and the first ones where a write
+-- failed.
+pub record Answers {E : Type 0} (Writes : List ℕ → ℕ → Type 0) (before after : Option (List ℕ)) (result : Result ℕ E) : Type 0 where
   pub bytes : List ℕ
-  pub appended : Appends before after bytes
-  pub meaning : Writes bytes status
+  pub expected : ℕ
+  pub meaning : Writes bytes expected
+  pub takes : TakesWith before after bytes expected result
+
+-- ---- laws
+
+-- what `certify` writes of a program with status 0, `check` says yes to, byte for byte
+abbrev pub CertifiedIsAgreed : Type 0
+CertifiedIsAgreed = (program written : List ℕ) → CertifyWrites program written 0 → CheckWrites program written yes_line 0

@@ -7,6 +7,6 @@ pub use Rattle.meta_model.specs.FaultNumbers as MetaModelFaultNumbers
 pub use Rattle.native_slots.specs.FaultNumbers as NativeSlotsFaultNumbers
 pub use Rattle.certificate_lang.specs.Reads as CertificateLangReads
 pub use Rattle.rank_check.specs.Checks
-pub use Rattle.trace_lines.specs.CertificateLines
+pub use Rattle.certificate_texts.specs.Texts as CertificateTexts
 pub use Rattle.trace_lines.specs.MetaLines
 pub use Rattle.trace_lines.specs.Sent

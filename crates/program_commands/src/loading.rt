@@ -1,9 +1,9 @@
 //! From the texts of programs and certificates to what they say, or why they are refused.
 
-ghost use Rattle.std.specs.Prelude.{IfOk, MatchResult};
+ghost use Rattle.std.specs.Prelude.{MatchResult};
 ghost use Rattle.program_commands.specs.Loading.{Loads, IsRefused, AreCertified, AreUncertified};
 ghost use Rattle.program_commands.specs.Refusals.{refusal_line, refusal_status};
-ghost use Rattle.trace_lines.specs.Sent.{SendsWith};
+ghost use Rattle.trace_lines.specs.Sent.{TakesWith};
 
 use crate::refusal::Refusal;
 use certificate_lang::{Certificate, read_certificate};
@@ -39,12 +39,10 @@ pub fn load_certified(
 
 /// Writes a refusal's line.
 pub fn refuse<W: Write>(alloc: Global, refusal: &Refusal, w: &mut W) -> Result<u8, WriteFault>
-    ensures { IfOk result (λ status.
-        SendsWith (W.contents w.old) (W.contents w.new)
-        (refusal_line refusal.now) (refusal_status refusal.now) status) }
+    ensures { TakesWith (W.contents w.old) (W.contents w.new)
+        (refusal_line refusal.now) (refusal_status refusal.now) result }
 {
-    let mut output = Output::new(alloc);
-    refusal.put(&mut output, w)?;
-    output.finish(w)?;
-    Ok(refusal.status())
+    let mut output = Output::new(alloc, w);
+    refusal.put(&mut output);
+    output.finish(refusal.status())
 }

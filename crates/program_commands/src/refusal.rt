@@ -1,5 +1,5 @@
-ghost use Rattle.std.specs.Prelude.{◌≡◌, OnOk};
-ghost use Rattle.trace_lines.specs.Sent.{Adds};
+ghost use Rattle.std.specs.Prelude.{◌≡◌};
+ghost use Rattle.trace_lines.specs.Sent.{Puts};
 ghost use Rattle.program_commands.specs.Refusals.{numbered, refusal_line, refusal_status};
 
 use certificate_lang::CertificateFault;
@@ -10,7 +10,7 @@ use rank_check::No;
 use script_lang::ScriptFault;
 use std::io::Write;
 use thiserror::Error;
-use trace_lines::{Output, WriteFault};
+use trace_lines::Output;
 
 /// Why a program isn't checked or run, with its certificate, its script and its natives.
 #[derive(Debug, Drop, Error)]
@@ -50,17 +50,15 @@ impl Refusal {
     }
 
     /// Adds its line to an output.
-    pub fn put<W: Write>(&self, output: &mut Output, w: &mut W) -> Result<(), WriteFault>
-        ensures { OnOk result (Adds (W.contents w.old) output.old (W.contents w.new) output.new
-            (refusal_line self.now)) }
+    pub fn put<W: Write>(&self, output: &mut Output<'_, W>)
+        ensures { Puts W.contents output.old output.new (refusal_line self.now) }
     {
         match self {
-            Refusal::Numbered(number) => output.numbered(w, b"refused ", *number)?,
-            Refusal::BadLine(line) => output.numbered(w, b"refused 16 line ", *line)?,
-            Refusal::Denied(number) => output.numbered(w, b"no ", *number)?,
-            Refusal::Memory => output.put(w, b"memory\n")?,
+            Refusal::Numbered(number) => output.numbered(b"refused ", *number),
+            Refusal::BadLine(line) => output.numbered(b"refused 16 line ", *line),
+            Refusal::Denied(number) => output.numbered(b"no ", *number),
+            Refusal::Memory => output.put(b"memory\n"),
         }
-        Ok(())
     }
 
     /// The refusal of this number, where want of memory has none.

@@ -1,6 +1,6 @@
-pub mod CertificateLines
 pub mod Lines
 pub mod MetaLines
 pub mod NodeLines
 pub mod Sent
 pub use Rattle.signatures.specs.Spelling
+pub use Rattle.certificate_texts.specs.Texts as CertificateTexts

@@ -1,20 +1,42 @@
--- What goes to a writer that keeps some bytes back.
-use Rattle.std.specs.Prelude.{◌≡◌, ℕ, List, Option}
-use Rattle.std.specs.Io.KnownBytes.{Appends, append_known}
+-- What goes to a writer by way of an output, which keeps bytes back until they are worth a write.
+use Rattle.std.specs.Prelude.{◌≡◌, ℕ, List, [], ◌++◌, Vec, Option, None, Result, IfOk, OnOk, IfNone, IsNone, IsSome}
+use Rattle.std.specs.Io.KnownBytes.{Appends}
+use Rattle.std.specs.declared.alloc.Global.{Global}
+use Rattle.trace_lines.specs.declared.output.Output.{Output}
 
--- what the writer holds, where that is known, and then the bytes that are kept back
-abbrev pub behind : Option (List ℕ) → List ℕ → Option (List ℕ)
-behind held pending = append_known held pending
+-- What a writer took of these bytes by this answer: at `Ok` all of them, and else the first ones.
+pub record Takes {A E : Type 0} (before after : Option (List ℕ)) (bytes : List ℕ) (result : Result A E) : Type 0 where
+  pub taken : List ℕ
+  pub left : List ℕ
+  pub appended : Appends before after taken
+  pub whole : taken ++ left ≡ bytes
+  pub all : OnOk result (left ≡ [])
 
--- what is known of the output grows by these bytes
-pub record Sends (before after : Option (List ℕ)) (bytes : List ℕ) : Type 0 where
-  pub appended : Appends before after bytes
+-- .. and the answer is this exit status, where there is one
+pub record TakesWith {E : Type 0} (before after : Option (List ℕ)) (bytes : List ℕ) (expected : ℕ) (result : Result ℕ E) : Type 0 where
+  pub takes : Takes before after bytes result
+  pub status : IfOk result (λ status. status ≡ expected)
 
--- What is known of the output, which is what the writer holds and then the bytes that are kept back, grows by these bytes.
-abbrev pub Adds : Option (List ℕ) → List ℕ → Option (List ℕ) → List ℕ → List ℕ → Type 0
-Adds held pending then_held then_pending bytes = Sends (behind held pending) (behind then_held then_pending) bytes
+-- an output into which nothing is put yet
+pub record IsBegun {W : Type 0} (writer : W) (output : Output W (Vec ℕ Global)) : Type 0 where
+  pub same : output.writer.now ≡ writer
+  pub empty : output.pending.items ≡ []
+  pub unfailed : output.fault ≡ None
 
--- as `Sends`, and the exit status is the expected one
-pub record SendsWith (before after : Option (List ℕ)) (bytes : List ℕ) (expected status : ℕ) : Type 0 where
-  pub sends : Sends before after bytes
-  pub is : status ≡ expected
+module _ {W : Type 0} (contents : W → Option (List ℕ)) where
+  -- These bytes are put into an output: of what it kept back, and then these, its writer took the first ones. While no
+  -- write failed it keeps back the rest; after one that did, its writer takes nothing.
+  pub record Puts (before after : Output W (Vec ℕ Global)) (bytes : List ℕ) : Type 0 where
+    pub same_writer : after.writer.ghost_name ≡ before.writer.ghost_name
+    pub taken : List ℕ
+    pub left : List ℕ
+    pub appended : Appends (contents before.writer.now) (contents after.writer.now) taken
+    pub whole : taken ++ left ≡ before.pending.items ++ bytes
+    pub kept : IfNone after.fault (after.pending.items ≡ left)
+    pub stopped : IsSome before.fault → (taken ≡ []) × IsSome after.fault
+
+  -- All that an output kept back is written, with this exit status for an answer, or a write has failed.
+  pub record Ends {E : Type 0} (before after : Output W (Vec ℕ Global)) (expected : ℕ) (result : Result ℕ E) : Type 0 where
+    pub puts : Puts before after []
+    pub all : OnOk result (IsNone after.fault × (after.pending.items ≡ []))
+    pub status : IfOk result (λ status. status ≡ expected)

@@ -1,94 +1,77 @@
 //! The text of certificates.
 
-ghost use Rattle.std.specs.Prelude.{◌++◌, codes, OnOk};
+ghost use Rattle.std.specs.Prelude.{◌++◌, codes};
 ghost use Rattle.std.specs.List.{flat_map};
 ghost use Rattle.signatures.specs.Spelling.{text_of_sig};
-ghost use Rattle.trace_lines.specs.CertificateLines.{node_text, destroyed_text, node_line, certificate_text};
+ghost use Rattle.certificate_texts.specs.Texts.{node_text, destroyed_text, node_line, certificate_text};
 ghost use Rattle.trace_lines.specs.Lines.{member_text};
-ghost use Rattle.trace_lines.specs.Sent.{Adds};
+ghost use Rattle.trace_lines.specs.Sent.{Puts};
 
-use crate::fault::WriteFault;
 use crate::output::Output;
 use certificate_lang::{Certificate, Line, MemberName, NodeName};
 use signatures::{Name, Sig};
 use std::io::Write;
 
-impl Output {
+impl<W: Write> Output<'_, W> {
     /// Adds a certificate's lines.
-    pub fn certificate<W: Write>(
-        &mut self,
-        w: &mut W,
-        certificate: &Certificate,
-    ) -> Result<(), WriteFault>
-        ensures { OnOk result (Adds (W.contents w.old) self.old (W.contents w.new) self.new
-            (certificate_text certificate.now)) }
+    pub fn certificate(&mut self, certificate: &Certificate)
+        ensures { Puts W.contents self.old self.new (certificate_text certificate.now) }
     {
-        self.put(w, b"certificate 1\n")?;
-        self.numbered(w, b"bound ", certificate.bound)?;
-        self.node_lines(w, certificate.lines.as_slice())?;
-        Ok(())
+        self.put(b"certificate 1\n");
+        self.numbered(b"bound ", certificate.bound);
+        self.node_lines(certificate.lines.as_slice());
     }
 
     /// Adds the lines of nodes.
-    fn node_lines<W: Write>(&mut self, w: &mut W, lines: &[Line]) -> Result<(), WriteFault>
-        ensures { OnOk result (Adds (W.contents w.old) self.old (W.contents w.new) self.new
-            (flat_map node_line lines.now)) }
+    fn node_lines(&mut self, lines: &[Line])
+        ensures { Puts W.contents self.old self.new (flat_map node_line lines.now) }
     {
         for line in lines {
-            self.node_line(w, line)?;
+            self.node_line(line);
         }
-        Ok(())
     }
 
     /// Adds the line of a node.
-    fn node_line<W: Write>(&mut self, w: &mut W, line: &Line) -> Result<(), WriteFault>
-        ensures { OnOk result (Adds (W.contents w.old) self.old (W.contents w.new) self.new
-            (node_line line.now)) }
+    fn node_line(&mut self, line: &Line)
+        ensures { Puts W.contents self.old self.new (node_line line.now) }
     {
-        self.node(w, &line.node)?;
-        self.put(w, b" ")?;
-        self.number(w, line.rank)?;
-        self.destroyed(w, line.destroys.as_slice())?;
-        self.put(w, b"\n")?;
-        Ok(())
+        self.node(&line.node);
+        self.put(b" ");
+        self.number(line.rank);
+        self.destroyed(line.destroys.as_slice());
+        self.put(b"\n");
     }
 
     /// Adds a node.
-    pub fn node<W: Write>(&mut self, w: &mut W, node: &NodeName) -> Result<(), WriteFault>
-        ensures { OnOk result (Adds (W.contents w.old) self.old (W.contents w.new) self.new
-            (node_text node.now)) }
+    pub fn node(&mut self, node: &NodeName)
+        ensures { Puts W.contents self.old self.new (node_text node.now) }
     {
         match &node.member {
-            MemberName::Method(sig) => self.method_of(w, &node.class, sig)?,
-            MemberName::Property(name) => self.member(w, &node.class, name)?,
+            MemberName::Method(sig) => self.method_of(&node.class, sig),
+            MemberName::Property(name) => self.member(&node.class, name),
             MemberName::Destruction => {
-                self.put(w, b"~")?;
-                self.put(w, node.class.bytes())?;
+                self.put(b"~");
+                self.name(&node.class);
             }
         }
-        Ok(())
     }
 
     /// Adds `C.m(types)`.
-    fn method_of<W: Write>(&mut self, w: &mut W, class: &Name, sig: &Sig) -> Result<(), WriteFault>
-        ensures { OnOk result (Adds (W.contents w.old) self.old (W.contents w.new) self.new
-            (member_text class.now (text_of_sig sig.now))) }
+    fn method_of(&mut self, class: &Name, sig: &Sig)
+        ensures { Puts W.contents self.old self.new (member_text class.now (text_of_sig sig.now)) }
     {
-        self.put(w, class.bytes())?;
-        self.put(w, b".")?;
-        self.sig(w, sig)?;
-        Ok(())
+        self.name(class);
+        self.put(b".");
+        self.sig(sig);
     }
 
     /// Adds classes, a blank in front of each.
-    fn destroyed<W: Write>(&mut self, w: &mut W, classes: &[Name]) -> Result<(), WriteFault>
-        ensures { OnOk result (Adds (W.contents w.old) self.old (W.contents w.new) self.new
-            (flat_map destroyed_text classes.now)) }
+    fn destroyed(&mut self, classes: &[Name])
+        ensures { Puts W.contents self.old self.new (flat_map destroyed_text classes.now) }
     {
         for class in classes {
-            self.put(w, b" ")?;
-            self.put(w, class.bytes())?;
+            self.put(b" ");
+            self.name(class);
         }
-        Ok(())
     }
 }

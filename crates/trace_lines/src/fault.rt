@@ -2,10 +2,10 @@ use std::io;
 use thiserror::Error;
 
 /// Why a command has no exit status.
-#[derive(Debug, Drop, Error)]
+#[derive(Clone, Copy, Debug, Error)]
 pub enum WriteFault {
-    /// The writer answered an error or took no byte. What it holds then ends anywhere in the output, and nothing was
-    /// written after that.
+    /// The writer answered this error, or took no byte, which has the kind `WriteZero`. What it took by then are the
+    /// first bytes of the output, and nothing was written after that.
     #[error("the output can't be written")]
     Failed(#[from] io::Error),
 }

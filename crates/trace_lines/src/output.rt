@@ -1,71 +1,140 @@
-ghost use Rattle.std.specs.Prelude.{◌≡◌, [], OnOk};
-ghost use Rattle.trace_lines.specs.Sent.{Adds, Sends, behind};
+ghost use Rattle.std.specs.Prelude.{◌≡◌, [], None};
+ghost use Rattle.std.specs.Io.{WritesAtMost};
+ghost use Rattle.std.specs.Io.KnownBytes.{WriteAppends};
+ghost use Rattle.trace_lines.specs.Sent.{Puts, Ends, IsBegun, Takes};
 
 use crate::fault::WriteFault;
 use std::alloc::Global;
-use std::io::Write;
-use std::marker::Model;
+use std::io;
+use std::io::{ErrorKind, Write};
 
 /// So many bytes are worth a write.
-const CHUNK: usize = 8192;
+const CHUNK: usize = 65536;
 
-/// Bytes on their way to a writer, which are kept until they are worth a write. Without memory for them they are
-/// written at once.
-#[derive(Drop)]
-pub struct Output {
-    pending: Vec<u8>,
+/// What is put into it goes to a writer in this order, and is kept back until it is worth a write. Without memory for it
+/// it is written at once. Where a write fails nothing is written after that, and `finish` answers the fault.
+pub struct Output<'w, W, B = Vec<u8>> {
+    writer: &'w mut W,
+    pending: B,
+    fault: Option<WriteFault>,
 }
 
-impl Model for Output {
-    ghost use Rattle.std.specs.Prelude.{List, ℕ};
-
-    ghost Value = { List ℕ };
-
-    ghost view = { λ output. output.pending.items };
+impl<W, B: Drop> Drop for Output<'_, W, B> {
+    /// Writes nothing: what wasn't finished is lost.
+    fn drop(self)
+        ensures { self.exit.0.now ≡ self.entry.writer.now }
+    {
+        let Output {
+            writer: _,
+            pending: _,
+            fault: _,
+        } = self;
+    }
 }
 
-impl Output {
-    /// Nothing is pending.
-    pub fn new(alloc: Global) -> Output
-        ensures { result ≡ [] }
+impl<'w, W: Write> Output<'w, W> {
+    /// Nothing is put into it.
+    pub fn new(alloc: Global, writer: &'w mut W) -> Output<'w, W>
+        ensures same_writer { result.writer.ghost_name ≡ writer.entry.ghost_name }
+        ensures begun { IsBegun writer.old result }
     {
         Output {
+            writer,
             pending: Vec::new(alloc),
+            fault: None,
         }
     }
 
     /// Adds bytes to the output.
-    pub fn put<W: Write>(&mut self, w: &mut W, bytes: &[u8]) -> Result<(), WriteFault>
-        ensures { OnOk result (Adds (W.contents w.old) self.old (W.contents w.new) self.new
-            bytes.now) }
+    #[inline]
+    pub fn put(&mut self, bytes: &[u8])
+        ensures { Puts W.contents self.old self.new bytes.now }
     {
-        if bytes.len() < CHUNK && self.pending.extend_from_slice(bytes).is_ok() {
-            if self.pending.len() >= CHUNK {
-                self.send(w)?;
-            }
-        } else {
-            self.send(w)?;
-            w.write_all(bytes)?;
+        if self.fault.is_some() {
+            return;
         }
-        Ok(())
+        if bytes.len() >= CHUNK {
+            self.pass_on(bytes);
+            return;
+        }
+        match self.pending.extend_from_slice(bytes) {
+            Ok(()) => {
+                if self.pending.len() >= CHUNK {
+                    self.send();
+                }
+            }
+            Err(_) => self.pass_on(bytes),
+        }
+    }
+
+    /// Writes what is still pending. The answer is this exit status; or else why a write failed, at the first one that did.
+    pub fn finish(&mut self, status: u8) -> Result<u8, WriteFault>
+        ensures { Ends W.contents self.old self.new status result }
+    {
+        self.send();
+        match self.fault {
+            None => Ok(status),
+            Some(fault) => Err(fault),
+        }
+    }
+
+    /// Writes all that is pending, and then these bytes.
+    #[inline(never)]
+    fn pass_on(&mut self, bytes: &[u8])
+        ensures { Puts W.contents self.old self.new bytes.now }
+    {
+        self.send();
+        self.write(bytes);
     }
 
     /// Writes all that is pending.
-    pub fn finish<W: Write>(mut self, w: &mut W) -> Result<(), WriteFault>
-        ensures { OnOk result (Sends (behind (W.contents w.old) self) (W.contents w.new) []) }
+    #[inline(never)]
+    fn send(&mut self)
+        ensures puts { Puts W.contents self.old self.new [] }
+        ensures empty { self.new.pending.items ≡ [] }
     {
-        self.send(w)?;
-        w.flush()?;
-        Ok(())
+        if self.fault.is_none() {
+            self.fault = write_out(self.writer, self.pending.as_slice()).err();
+        }
+        self.pending.clear();
     }
 
-    fn send<W: Write>(&mut self, w: &mut W) -> Result<(), WriteFault>
-        ensures sent { OnOk result
-            (Sends (behind (W.contents w.old) self.old) (W.contents w.new) []) }
-        ensures empty { OnOk result (self.new ≡ []) }
+    /// Writes these bytes, where nothing is pending.
+    fn write(&mut self, bytes: &[u8])
+        requires { self.old.pending.items ≡ [] }
+        ensures { Puts W.contents self.old self.new bytes.now }
     {
-        w.write_all(self.pending.as_slice())?;
-        self.pending.clear();
-        Ok(())
+        if self.fault.is_none() {
+            self.fault = write_out(self.writer, bytes).err();
+        }
+    }
+}
+
+/// Writes bytes, as many at a time as the writer takes. The error is that a write answered one or took no byte; those
+/// that were taken by then are the first ones, and none is written after that.
+pub fn write_out<W: Write>(writer: &mut W, bytes: &[u8]) -> Result<(), WriteFault>
+    ensures { Takes (W.contents writer.old) (W.contents writer.new) bytes.now result }
+{
+    let mut left = bytes;
+    for _ in 0..u64::MAX {
+        if left.is_empty() {
+            return Ok(());
+        }
+        let taken = write_some(writer, left)?;
+        left = &left[taken..];
+    }
+    Err(WriteFault::Failed(io::Error::from(ErrorKind::Interrupted)))
+}
+
+/// Writes the first of these bytes, and answers how many, which is 0 only where a signal interrupted the write.
+fn write_some<W: Write>(writer: &mut W, bytes: &[u8]) -> Result<usize, WriteFault>
+    ensures bound { WritesAtMost result bytes.now }
+    ensures bytes { WriteAppends (W.contents writer.old) (W.contents writer.new) result bytes.now }
+{
+    match writer.write(bytes) {
+        Ok(0) => Err(WriteFault::Failed(io::Error::from(ErrorKind::WriteZero))),
+        Ok(taken) => Ok(taken),
+        Err(error) if error.kind() == ErrorKind::Interrupted => Ok(0),
+        Err(error) => Err(WriteFault::Failed(error)),
     }
 }

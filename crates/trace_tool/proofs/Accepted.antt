@@ -1,5 +1,5 @@
 -- Where `run` accepts, it refuses nothing but for want of memory, and runs what it accepts.
-use Rattle.std.proofs.Common.{◌≡◌, ◌≢◌, ℕ, inl, inr, List, Option, Some, None, Result, Ok, Err, refl, sym, ap, ◌∙◌, subst}
+use Rattle.std.proofs.Common.{◌≡◌, ℕ, inl, inr, List, Some, None, Result, Ok, Err, refl, sym, ap, ◌∙◌, subst}
 use Rattle.certificate_lang.specs.Reads.{ReadsCertificate, number_of as certificate_number}
 use Rattle.certificate_lang.specs.declared.certificate.Certificate.{Certificate}
 use Rattle.certificate_lang.specs.declared.fault.CertificateFault.{CertificateFault}
@@ -31,7 +31,6 @@ use Rattle.script_lang.proofs.OneAnswer.{one_list, one_result}
 use Rattle.texts.specs.declared.program.Program.{Program}
 use Rattle.machine_rules.specs.Natives.{NativeAnswers}
 use Rattle.trace_tool.specs.Accepted.{AcceptedWrites, runs, short}
-use Rattle.program_commands.specs.Commands.{Answers}
 use Rattle.program_commands.specs.Loading.{Loads, IsRefused, AreUncertified, text, load, uncertified_program, uncertified}
 use Rattle.trace_tool.specs.Commands.{Accepts, AreUnchecked, MayNotRun, CheckedRunWrites, run_text, run_status, unchecked_texts, unchecked_script, unchecked, not_checked, not_fit, refused, ran, memory}
 use Rattle.program_commands.specs.Refusals.{numbered, denied, of_script, refusal_line, refusal_status}
@@ -140,6 +139,3 @@ module _ {heads : List NativeHead} {program certificate script : List ℕ} {load
         let Of : Loaded → Certificate → List Event → Type 0 = λ l c es. AcceptedWrites gives natives l c es steps (run_text after.world.trace ended) (run_status ended) in
         subst (λ (l : Loaded). Of l read events) program_is (subst (λ (c : Certificate). Of other c events) certificate_is (subst (λ (es : List Event). Of other another es) script_is (runs ended after went ends claims)))
     accepted-writes memory = short
-
-    pub accepted-answers : {before after : Option (List ℕ)} {status : ℕ} → Answers (CheckedRunWrites gives heads natives program certificate script steps) before after status → Answers (AcceptedWrites gives natives loaded read events steps) before after status
-    accepted-answers a = record { bytes = a.bytes; appended = a.appended; meaning = accepted-writes a.meaning }

@@ -1,5 +1,5 @@
 -- What a run and a command line answer.
-use Rattle.std.proofs.Common.{◌≡◌, ℕ, ◌≤◌, inl, inr, true, false, List, [], ◌∷◌, length, Option, Result, Ok, Err, sym, ap, ◌∙◌, subst, arith}
+use Rattle.std.proofs.Common.{◌≡◌, ℕ, ◌≤◌, inl, inr, true, false, List, [], ◌∷◌, length, Result, Ok, Err, sym, ap, ◌∙◌, subst, arith}
 use Rattle.std.specs.Prelude.{IfErr}
 use Rattle.certificate_lang.specs.declared.certificate.Certificate.{Certificate}
 use Rattle.meta_model.specs.Loaded.{Loaded}
@@ -9,12 +9,10 @@ use Rattle.native_slots.specs.FaultNumbers.{number_of}
 use Rattle.native_slots.specs.Fitting.{Fit}
 use Rattle.script_lang.specs.declared.event.Event.{Event}
 use Rattle.machine_rules.specs.Natives.{NativeAnswers}
-use Rattle.machine_rules.specs.Good.{HasArguments, Spares, IsAcyclic, AreSettled}
-use Rattle.checked_runs.specs.Claims.{IsTypedStep}
-use Rattle.qt_runtime.specs.Checked.{Claims, InEachRun, StopsAtLimit}
+use Rattle.qt_runtime.specs.Checked.{Claims, StopsAtLimit}
 use Rattle.qt_runtime.specs.Seen.{Seen, begun}
 use Rattle.machine_state.specs.declared.fault.Fault.{Fault}
-use Rattle.program_commands.specs.Commands.{Answers, MetaWrites, CertifyWrites, CheckWrites}
+use Rattle.program_commands.specs.Commands.{MetaWrites, CertifyWrites, CheckWrites}
 use Rattle.trace_tool.specs.Commands.{EndsAtLimit, AreNotRunnable, AreRead, AreChecked, MayNotRun, CommandWrites, InputWrites, CheckedRunWrites, RunWrites, of_closures, not_fit, other_texts, does, read, unread, memory}
 use Rattle.trace_tool.specs.Cut.{AreTexts}
 use Rattle.program_commands.specs.Refusals.{memory_line, usage_line}
@@ -51,19 +49,13 @@ ends_at_limit {N} {before = before} (Err fault) is stops =
     ]
 
 -- the claims on a machine that is known
-pub claims_of : {N : Type 0} {gives : N → NativeAnswers} {before machine : Seen N} → before ≡ machine → InEachRun gives before (HasArguments before.program) → InEachRun gives before (λ s t. IsAcyclic t) → InEachRun gives before Spares → InEachRun gives before (λ s t. length t.stack ≤ before.depth) →
-    InEachRun gives before (IsTypedStep before.program) → InEachRun gives before (λ s t. AreSettled t) → Claims gives machine
-claims_of {N} {gives} {before} is arguments acyclic spared shallow typed settled =
-    let claims : Claims gives before = record { arguments = arguments; acyclic = acyclic; spared = spared; shallow = shallow; typed = typed; settled = settled } in
-    subst (λ (m : Seen N). Claims gives m) is claims
+pub claims_of : {N : Type 0} {gives : N → NativeAnswers} {before machine : Seen N} → before ≡ machine → Claims gives before → Claims gives machine
+claims_of {N} {gives} is claims = subst (λ (m : Seen N). Claims gives m) is claims
 
-pub read_done : {N : Type 0} {gives : N → NativeAnswers} {heads : List NativeHead} {natives : N} {words : List (List ℕ)} {found : Result (List ℕ) InputFault} {command : Command} {input : List ℕ} {before after : Option (List ℕ)} {status : ℕ} →
-    IsCommand words command → found ≡ Ok input → Answers (InputWrites gives heads natives command input) before after status → Answers (CommandWrites gives heads natives words found) before after status
-read_done {N} {gives} {heads} {natives} {words} {found} {command} {input} {before} {after} {status} said is a = record {
-  bytes = a.bytes;
-  appended = a.appended;
-  meaning = subst (λ r. CommandWrites gives heads natives words r a.bytes status) (sym is) (read command input a.bytes status said a.meaning);
-}
+pub read_done : {N : Type 0} {gives : N → NativeAnswers} {heads : List NativeHead} {natives : N} {words : List (List ℕ)} {found : Result (List ℕ) InputFault} {command : Command} {input bytes : List ℕ} {status : ℕ} →
+    IsCommand words command → found ≡ Ok input → InputWrites gives heads natives command input bytes status → CommandWrites gives heads natives words found bytes status
+read_done {N} {gives} {heads} {natives} {words} {found} {command} {input} {bytes} {status} said is w =
+    subst (λ r. CommandWrites gives heads natives words r bytes status) (sym is) (read command input bytes status said w)
 
 pub unread_done : {N : Type 0} {gives : N → NativeAnswers} {heads : List NativeHead} {natives : N} {words : List (List ℕ)} {found : Result (List ℕ) InputFault} (command : Command) →
     IsCommand words command → found ≡ Err Unread → CommandWrites gives heads natives words found [] 1

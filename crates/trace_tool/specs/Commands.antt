@@ -178,8 +178,8 @@ Reads left (Ok input) = IfSome left (λ all. input ≡ take 67108865 all)
 Reads left (Err fault) = Unit {0}
 
 -- A command line is answered for what was read.
-pub record AnswersCommand {N : Type 0} (gives : N → NativeAnswers) (heads : List NativeHead) (natives : N) (words : List (List ℕ))
-    (left before after : Option (List ℕ)) (status : ℕ) : Type 0 where
+pub record AnswersCommand {N E : Type 0} (gives : N → NativeAnswers) (heads : List NativeHead) (natives : N) (words : List (List ℕ))
+    (left before after : Option (List ℕ)) (result : Result ℕ E) : Type 0 where
   pub input : Result (List ℕ) InputFault
   pub reads : Reads left input
-  pub answers : Answers (CommandWrites gives heads natives words input) before after status
+  pub answers : Answers (CommandWrites gives heads natives words input) before after result

@@ -1,8 +1,8 @@
-ghost use Rattle.std.specs.Prelude.{◌≡◌, map, IfOk};
+ghost use Rattle.std.specs.Prelude.{◌≡◌, map};
 ghost use Rattle.program_commands.specs.Commands.{Answers};
 ghost use Rattle.trace_tool.specs.Commands.{AnswersCommand, CommandWrites, InputWrites, read_of};
 ghost use Rattle.program_commands.specs.Refusals.{usage_line};
-ghost use Rattle.trace_lines.specs.Sent.{SendsWith};
+ghost use Rattle.trace_lines.specs.Sent.{TakesWith};
 ghost use Rattle.trace_tool.specs.Words.{IsCommand, IsWithinLimits};
 ghost use Rattle.trace_tool.specs.declared.words.Command.{Command as ACommand};
 
@@ -14,7 +14,7 @@ use native_slots::{Answering, Natives};
 use program_commands::{Refusal, UNDONE, certify, check, meta, refuse};
 use std::alloc::Global;
 use std::io::{Read, Write};
-use trace_lines::WriteFault;
+use trace_lines::{Output, WriteFault};
 
 /// Does what a command line's words say, on the bytes that the reader has left, and answers the exit status: reads them,
 /// no more than a byte past the largest input, and leaves the rest to [`respond`]. For words that are no command nothing
@@ -28,9 +28,8 @@ pub fn command<R: Read, W: Write>(
 ) -> Result<u8, WriteFault>
     ensures answers { let said = map (λ word. word.now) words.now in
         let heads = map (λ slot. slot.head) natives.slots.items in
-        IfOk result (λ status.
         AnswersCommand ⟦<Natives as Answering>⟧.gives heads natives said (R.remaining reader.old)
-        (W.contents w.old) (W.contents w.new) status) }
+        (W.contents w.old) (W.contents w.new) result }
     ensures unread { let said = map (λ word. word.now) words.now in
         ((c : ACommand) → IsCommand said c → ⊥) → reader.new ≡ reader.old }
 {
@@ -57,7 +56,8 @@ pub fn command<R: Read, W: Write>(
 /// Other words, another number of texts and an input of more than 67,108,864 bytes write `usage`. After a read that
 /// failed nothing is written, and `memory` where there was none for the input. All of these end with 1.
 ///
-/// There is a `WriteFault` only where the writer failed; nothing is written after that.
+/// There is a `WriteFault` only where a write failed: what was taken by then is the beginning of what is written, and
+/// nothing is written after that.
 pub fn respond<W: Write>(
     alloc: Global,
     words: &[&str],
@@ -68,10 +68,10 @@ pub fn respond<W: Write>(
     ensures { let given = map (λ word. word.now) words.now in
         let heads = map (λ slot. slot.head) natives.slots.items in
         let Writes = CommandWrites ⟦<Natives as Answering>⟧.gives heads natives given (read_of input.entry) in
-        IfOk result (λ status. Answers Writes (W.contents w.old) (W.contents w.new) status) }
+        Answers Writes (W.contents w.old) (W.contents w.new) result }
 {
     let Some(command) = Command::of(words) else {
-        return refuse_usage(w);
+        return refuse_usage(alloc, w);
     };
     match input {
         Ok(bytes) => perform(alloc, command, bytes, natives, w),
@@ -91,29 +91,29 @@ fn perform<W: Write>(
     requires limits { IsWithinLimits command }
     ensures { let heads = map (λ slot. slot.head) natives.slots.items in
         let Writes = InputWrites ⟦<Natives as Answering>⟧.gives heads natives command input.now in
-        IfOk result (λ status. Answers Writes (W.contents w.old) (W.contents w.new) status) }
+        Answers Writes (W.contents w.old) (W.contents w.new) result }
 {
     if input.len() > LARGEST_INPUT {
-        return refuse_usage(w);
+        return refuse_usage(alloc, w);
     }
     match command {
         Command::Meta => match one_text(input) {
             Some(program) => meta(alloc, program, w),
-            None => refuse_usage(w),
+            None => refuse_usage(alloc, w),
         },
         Command::Certify => match one_text(input) {
             Some(program) => certify(alloc, program, w),
-            None => refuse_usage(w),
+            None => refuse_usage(alloc, w),
         },
         Command::Check => match two_texts(input) {
             Some((program, certificate)) => check(alloc, program, certificate, w),
-            None => refuse_usage(w),
+            None => refuse_usage(alloc, w),
         },
         Command::Run(steps) => match three_texts(input) {
             Some((program, certificate, script)) => {
                 run(alloc, program, certificate, script, natives, steps, w)
             }
-            None => refuse_usage(w),
+            None => refuse_usage(alloc, w),
         },
         Command::RunUnchecked(options) => match two_texts(input) {
             Some((program, script)) => run_unchecked(
@@ -125,17 +125,16 @@ fn perform<W: Write>(
                 options.steps,
                 w,
             ),
-            None => refuse_usage(w),
+            None => refuse_usage(alloc, w),
         },
     }
 }
 
 /// Writes that the command line or its input isn't one that the program takes.
-fn refuse_usage<W: Write>(w: &mut W) -> Result<u8, WriteFault>
-    ensures { IfOk result (λ status.
-        SendsWith (W.contents w.old) (W.contents w.new) usage_line 1 status) }
+fn refuse_usage<W: Write>(alloc: Global, w: &mut W) -> Result<u8, WriteFault>
+    ensures { TakesWith (W.contents w.old) (W.contents w.new) usage_line 1 result }
 {
-    w.write_all(b"usage\n")?;
-    w.flush()?;
-    Ok(UNDONE)
+    let mut output = Output::new(alloc, w);
+    output.put(b"usage\n");
+    output.finish(UNDONE)
 }

@@ -1,4 +1,4 @@
-ghost use Rattle.std.specs.Prelude.{◌<◌, ◌≤◌, ◌^◌, List, map, IfOk, MatchResult};
+ghost use Rattle.std.specs.Prelude.{◌<◌, ◌≤◌, ◌^◌, List, map, MatchResult};
 ghost use Rattle.meta_model.specs.Loaded.{Loaded};
 ghost use Rattle.certificate_lang.specs.declared.certificate.Certificate.{Certificate};
 ghost use Rattle.script_lang.specs.declared.event.Event.{Event as AnEvent};
@@ -6,7 +6,7 @@ ghost use Rattle.program_commands.specs.Commands.{Answers};
 ghost use Rattle.trace_tool.specs.Accepted.{AcceptedWrites};
 ghost use Rattle.trace_tool.specs.Commands.{AreRead, AreRefused, AreChecked, AreUnchecked};
 ghost use Rattle.trace_tool.specs.Commands.{RunWrites, CheckedRunWrites, Accepts, run_text, run_status};
-ghost use Rattle.trace_lines.specs.Sent.{SendsWith};
+ghost use Rattle.trace_lines.specs.Sent.{TakesWith};
 
 use native_slots::{Answering, Natives};
 use program_commands::{Refusal, load_certified, load_program, refuse};
@@ -17,6 +17,8 @@ use std::alloc::Global;
 use std::io::Write;
 use trace_lines::{Output, WriteFault};
 
+/// The exit status after a whole run.
+const WHOLE: u8 = 0;
 /// The exit status after a fault.
 const FAULT: u8 = 4;
 
@@ -26,7 +28,8 @@ const FAULT: u8 = 4;
 /// The answer is the exit status: 0 after a whole run, 4 after a fault, 3 where the certificate isn't valid, 2 where a
 /// text or a native is refused, 1 for want of memory outside the run.
 /// Where it accepts, as `Accepts` says, the run's text is written, or `memory`, and nothing is refused.
-/// There is a `WriteFault` only where the writer failed; nothing is written after that.
+/// There is a `WriteFault` only where a write failed: what was taken by then is the beginning of what is written, and
+/// nothing is written after that.
 pub fn run<W: Write>(
     alloc: Global,
     program: &[u8],
@@ -39,12 +42,12 @@ pub fn run<W: Write>(
     requires steps { (1 ≤ steps) × (steps < 2 ^ 63) }
     ensures written { let heads = map (λ slot. slot.head) natives.slots.items in
         let Writes = CheckedRunWrites ⟦<Natives as Answering>⟧.gives heads natives program.now certificate.now script.now steps in
-        IfOk result (λ status. Answers Writes (W.contents w.old) (W.contents w.new) status) }
+        Answers Writes (W.contents w.old) (W.contents w.new) result }
     ensures accepted { let heads = map (λ slot. slot.head) natives.slots.items in
         (loaded : Loaded) (read : Certificate) (events : List AnEvent) →
         Accepts heads program.now certificate.now script.now loaded read events →
         let Writes = AcceptedWrites ⟦<Natives as Answering>⟧.gives natives loaded read events steps in
-        IfOk result (λ status. Answers Writes (W.contents w.old) (W.contents w.new) status) }
+        Answers Writes (W.contents w.old) (W.contents w.new) result }
 {
     let (checked, events) = match load_checked(alloc, program, certificate, script) {
         Ok(loaded) => loaded,
@@ -82,7 +85,8 @@ fn load_checked(
 /// At most `depth` activations nest (1 to 256), and at most `steps` rules are used (1 to 2^63 - 1). The answer is the
 /// exit status: 0 after a whole run, 4 after a fault, 2 where a text or a native is refused, 1 for want of memory outside
 /// the run.
-/// There is a `WriteFault` only where the writer failed; nothing is written after that.
+/// There is a `WriteFault` only where a write failed: what was taken by then is the beginning of what is written, and
+/// nothing is written after that.
 pub fn run_unchecked<W: Write>(
     alloc: Global,
     program: &[u8],
@@ -96,7 +100,7 @@ pub fn run_unchecked<W: Write>(
     requires steps { (1 ≤ steps) × (steps < 2 ^ 63) }
     ensures { let heads = map (λ slot. slot.head) natives.slots.items in
         let Writes = RunWrites ⟦<Natives as Answering>⟧.gives heads natives program.now script.now depth steps in
-        IfOk result (λ status. Answers Writes (W.contents w.old) (W.contents w.new) status) }
+        Answers Writes (W.contents w.old) (W.contents w.new) result }
 {
     let (meta, events) = match load(alloc, program, script) {
         Ok(loaded) => loaded,
@@ -130,19 +134,16 @@ fn report<W: Write>(
     ended: Result<(), Fault>,
     w: &mut W,
 ) -> Result<u8, WriteFault>
-    ensures { IfOk result (λ status.
-        SendsWith (W.contents w.old) (W.contents w.new)
-        (run_text trace.now ended) (run_status ended) status) }
+    ensures { TakesWith (W.contents w.old) (W.contents w.new)
+        (run_text trace.now ended) (run_status ended) result }
 {
-    let mut output = Output::new(alloc);
-    output.entries(w, trace)?;
-    let status = match ended {
-        Ok(()) => 0,
+    let mut output = Output::new(alloc, w);
+    output.entries(trace);
+    match ended {
+        Ok(()) => output.finish(WHOLE),
         Err(fault) => {
-            output.numbered(w, b"fault ", fault.number())?;
-            FAULT
+            output.numbered(b"fault ", fault.number());
+            output.finish(FAULT)
         }
-    };
-    output.finish(w)?;
-    Ok(status)
+    }
 }
