@@ -7,7 +7,7 @@ use Rattle.object_tree.specs.Typed.{AreTyped}
 use Rattle.prop_bindings.specs.declared.binding.Binding.{Binding}
 use Rattle.prop_bindings.specs.declared.place.Place.{Place}
 use Rattle.prop_bindings.specs.Bindings.{binding_at, Chain, direct, further}
-use Rattle.prop_bindings.specs.Fits.{IsFit, Agree}
+use Rattle.prop_bindings.specs.Fits.{IsFit, IsInOneLoop, Agree}
 
 no-chain : {a c : Place} → ¬ Chain (binding_at []) a c
 no-chain (direct b is reads) = absurd (cc is)
@@ -20,6 +20,7 @@ pub agree-unbound : (p : Loaded) (objects : List Object) (bs : List Binding) →
 agree-unbound p objects bs none typed = let A : List Binding → Type 0 = Agree p objects in subst A (sym none) record {
   typed = typed;
   fit = All-from_recursion (IsFit p objects) [] tt;
+  one_loop = All-from_recursion (IsInOneLoop objects) [] tt;
   apart = tt;
   acyclic = λ loop. no-chain loop.1;
   settled = λ q b is. absurd (cc is);

@@ -22,8 +22,33 @@ const HEATING: usize = 1;
 /// The place of `switched(bool)` among the signals that it emits.
 const SWITCHED: usize = 0;
 
+/// A native as a program declares it.
+#[derive(Drop)]
+pub struct DeclaredNative {
+    /// The class that declares it.
+    pub class: Name,
+    /// Its signature there.
+    pub sig: Sig,
+    /// What it takes, and what it may read and do.
+    pub effects: Effects,
+}
+
+/// The thermostat's native.
+pub fn declared(alloc: Global) -> Result<DeclaredNative, AllocError>
+    ensures { IfOk result (λ declared. declared.effects ≡ thermostat_effects) }
+{
+    let class = Name::new(alloc, b"Thermostat")?;
+    let sig = measured(alloc)?;
+    let effects = effects(alloc)?;
+    Ok(DeclaredNative {
+        class,
+        sig,
+        effects,
+    })
+}
+
 /// The native's signature: `measured(int)`.
-pub fn measured(alloc: Global) -> Result<Sig, AllocError> {
+fn measured(alloc: Global) -> Result<Sig, AllocError> {
     let name = Name::new(alloc, b"measured")?;
     let int = Name::new(alloc, b"int")?;
     let mut types = Items::new(alloc);
@@ -33,7 +58,7 @@ pub fn measured(alloc: Global) -> Result<Sig, AllocError> {
 
 /// What the program declares of it: it takes an `int`, reads `wanted` and `heating`, emits `switched(bool)`, and sets
 /// `room` and `heating`.
-pub fn effects(alloc: Global) -> Result<Effects, AllocError>
+fn effects(alloc: Global) -> Result<Effects, AllocError>
     ensures { IfOk result (λ effects. effects ≡ thermostat_effects) }
 {
     let mut parameters = Items::new(alloc);

@@ -1,5 +1,5 @@
 use Rattle.qt_runtime.specs.Seen.{AreKept}
-use Rattle.worked_examples_calls.proofs.tests.machine.answers.Given as goal
+use Rattle.worked_examples_calls.proofs.machines.take_each.Given as goal
 
 -- the natives are kept
 abbrev pub invariant-loop-event : goal.invariant-loop-event

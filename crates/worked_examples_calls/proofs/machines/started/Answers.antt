@@ -1,4 +1,4 @@
-use Rattle.worked_examples_calls.proofs.tests.machine.started.Goals as goal
+use Rattle.worked_examples_calls.proofs.machines.started.Goals as goal
 
 -- closures that fit keep what the program expects of them
 pub returns : goal.returns

@@ -1,5 +1,5 @@
 use Rattle.worked_examples_calls.proofs.Unbound.{none-typed}
-use Rattle.worked_examples_calls.proofs.tests.counts.stocked.Goals as goal
+use Rattle.worked_examples_calls.proofs.following.stocked.Goals as goal
 
 -- each creation keeps the values typed
 pub returns : goal.returns

@@ -1,0 +1,32 @@
+//! What only direct calls show: a native of one's own, a machine event by event, readers and writers that fail, what binds
+//! and writes evaluate, and inputs that are too large for a file. What has to be written was worked out by hand from the
+//! documents.
+#![tactic(auto)]
+
+mod command_line;
+mod following;
+mod loading;
+mod machines;
+mod runs;
+mod scheduling;
+mod sizes;
+mod streams;
+mod task;
+mod thermostat;
+
+use anyhow::Result;
+use following::tell_following;
+use machines::tell_machines;
+use runs::tell_runs;
+use scheduling::tell_scheduling;
+use sizes::tell_sizes;
+use streams::tell_streams;
+
+fn main(rt: HostRuntime) -> Result<()> {
+    tell_runs(&rt)?;
+    tell_machines(&rt)?;
+    tell_following(&rt)?;
+    tell_scheduling(&rt)?;
+    tell_streams(&rt)?;
+    tell_sizes(&rt)
+}
