@@ -1,0 +1,46 @@
+#!/usr/bin/env python3
+"""The merge gate: `rt ci`, and then what is tried on the programs that it built, tests/memory and tests/hostile. The last line
+is `N passed, M failed` over all three. Where `rt ci` fails nothing is tried, and the last line has its numbers."""
+import os
+import re
+import subprocess
+import sys
+
+ROOT = os.path.dirname(os.path.dirname(os.path.abspath(__file__)))
+DRIVERS = ["tests/memory/sweep.py", "tests/hostile/attack.py"]
+NUMBERS = re.compile(r"(\d+) passed, (\d+) failed")
+
+
+def run(words):
+    """Runs a command, with its output passed on as it comes: its exit status, and what it says passed and failed. What says
+    no number, or says that nothing failed and ends with another status than 0, failed once."""
+    print(f"gate: {' '.join(words)}", flush=True)
+    passed = failed = 0
+    try:
+        child = subprocess.Popen(words, cwd=ROOT, stdout=subprocess.PIPE, stdin=subprocess.DEVNULL)
+    except OSError as fault:
+        print(f"gate: {words[0]} doesn't start: {fault.strerror}")
+        return 1, 0, 1
+    for line in child.stdout:
+        sys.stdout.buffer.write(line)
+        sys.stdout.buffer.flush()
+        numbers = NUMBERS.match(line.decode(errors="replace"))
+        if numbers:
+            passed, failed = int(numbers[1]), int(numbers[2])
+    status = child.wait()
+    is_whole = passed + failed > 0 and (status == 0) == (failed == 0)
+    return status, passed, failed if is_whole else failed + 1
+
+
+def main():
+    status, passed, failed = run(["rt", "ci"])
+    if not failed:
+        for driver in DRIVERS:
+            _, more_passed, more_failed = run([sys.executable, driver])
+            passed, failed = passed + more_passed, failed + more_failed
+    print(f"{passed} passed, {failed} failed", flush=True)
+    sys.exit(status or failed > 0)
+
+
+if __name__ == "__main__":
+    main()

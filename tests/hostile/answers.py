@@ -1,0 +1,162 @@
+"""Which answers may come for words and an input, by docs/commands.md: what is written, and the exit status."""
+import os
+import re
+import sys
+
+sys.path.insert(0, os.path.dirname(os.path.dirname(os.path.abspath(__file__))))
+import built
+import case_files
+import grammar
+
+LARGEST_INPUT = 67108864
+NAME = rb"[A-Za-z_][A-Za-z0-9_]*"
+TYPE = rb"(?:const )?" + NAME + rb"\*?"
+METHOD = NAME + rb"\((?:" + TYPE + rb"(?:," + TYPE + rb")*)?\)"
+VALUE = rb'(?:-?[0-9]+|"[ !#-~]*"|' + NAME + rb")"
+ARGUMENTS = rb"\((?:" + VALUE + rb"(?:," + VALUE + rb")*)?\)"
+MEMBER = NAME + rb"\." + NAME
+NODE = rb"(?:" + NAME + rb"\.(?:" + METHOD + rb"|" + NAME + rb")|~" + NAME + rb")"
+ACTION = rb"(?:set " + NAME + rb" " + VALUE + rb"|emit " + NAME + ARGUMENTS + rb")"
+ENDS = NAME + rb" " + METHOD + rb" " + NAME + rb" " + METHOD
+
+
+def lines(*forms):
+    return re.compile(rb"(?:(?:" + rb"|".join(forms) + rb")\n)*")
+
+
+CLASSES = lines(
+    rb"class " + NAME + rb"(?: : " + NAME + rb")? [0-9]+ [0-9]+",
+    rb"[0-9]+ (?:signal|slot|native) " + METHOD,
+    rb"property " + NAME + rb" " + TYPE + rb"(?: notify " + METHOD + rb")?",
+)
+CERTIFICATE = re.compile(rb"certificate 1\nbound [0-9]+\n(?:" + NODE + rb" [0-9]+(?: " + NAME + rb")*\n)+")
+NODES = NODE + rb"(?: " + NODE + rb")+"
+NO_CERTIFICATE = re.compile(
+    rb"no (?:wire [0-9]+|type (?:" + NODE + rb"|binding " + NAME + rb")|(?:cycle|destroy|high) " + NODES + rb")\n"
+)
+ENTRIES = lines(
+    rb"event [0-9]+(?: refused (?:3[0-7]|38|39|4[0-6]))?",
+    rb"[0-9]+ emit " + MEMBER + ARGUMENTS + rb"(?: blocked)?",
+    rb"[0-9]+ call " + MEMBER + ARGUMENTS,
+    rb"[0-9]+ native(?: " + ACTION + rb"(?:, " + ACTION + rb")*)?",
+    rb"[0-9]+ post " + NAME + rb" (?:" + MEMBER + ARGUMENTS + rb"|~" + NAME + rb")",
+    rb"[0-9]+ dead " + NAME,
+    rb"[0-9]+ (?:set|bind|follow) " + MEMBER + rb" " + VALUE,
+    rb"[0-9]+ connect " + ENDS + rb" (?:auto|direct|queued)(?: unique)?(?: single)?",
+    rb"[0-9]+ disconnect " + ENDS,
+    rb"[0-9]+ refused (?:38|39|40|41)",
+    rb"[0-9]+ null",
+)
+REFUSED = re.compile(rb"refused (?:[2-7]|1[0-578]|77|16 line [0-9]+)\n")
+LOADING = re.compile(rb"refused 1[0-5]\n")
+FITTING = re.compile(rb"refused 1[78]\n")
+NOT_VALID = re.compile(rb"no 7[0-6]\n")
+# The faults of a run without a certificate, and of one with: memory is ample here, so it isn't among them.
+FAULTS, CHECKED_FAULTS = re.compile(rb"fault 6[0-4]\n"), re.compile(rb"fault 64\n")
+MOST_DEPTH, MOST_STEPS = 256, 9223372036854775807
+
+
+def is_number(word, most):
+    return re.fullmatch("[0-9]+", word) is not None and 1 <= grammar.number_of(word.encode()) <= most
+
+
+def is_command(words):
+    """Whether the words are a command line."""
+    if words[:1] != ["run"]:
+        return words in (["meta"], ["certify"], ["check"])
+    options = words[1:]
+    if options[:1] == ["--unchecked"]:
+        if len(options) < 2 or not is_number(options[1], MOST_DEPTH):
+            return False
+        options = options[2:]
+    return not options or (len(options) == 2 and options[0] == "--steps" and is_number(options[1], MOST_STEPS))
+
+
+class Wanted:
+    """What may be answered. `why_not` says what is wrong with an answer, or None. Where `judges` is false the texts' form
+    isn't judged, which takes long for large ones."""
+
+    def __init__(self, words, text, judges=True):
+        self.words, self.names, self.judges = words, case_files.texts_of(words), judges
+        self.parts = built.texts(text) if is_command(words) and len(text) <= LARGEST_INPUT else []
+        self.is_usage = not self.names or len(self.parts) != len(self.names)
+
+    def why_not(self, answer):
+        if answer.status is None:
+            return "it hangs"
+        if answer.status < 0:
+            return f"signal {-answer.status} ends it"
+        if self.is_usage:
+            return None if (answer.output, answer.status) == (b"usage\n", 1) else "wanted is `usage`"
+        if answer.status == 1:
+            return "its texts are as many as wanted, nothing fails, and memory is ample"
+        return self.why_not_refused(answer) if answer.status == 2 else self.why_not_taken(answer)
+
+    def refusal(self):
+        """What a text's form has refused: the program's at once, and the others' where the program loads."""
+        if not self.judges:
+            return None, False
+        given = dict(zip(self.names, self.parts))
+        number = grammar.program_refusal(given["program"])
+        if number:
+            return b"refused %d\n" % number, True
+        if "certificate" in given and not grammar.is_certificate(given["certificate"]):
+            return b"refused 77\n", False
+        return (grammar.script_refusal(given["script"]) if "script" in given else None), False
+
+    def why_not_refused(self, answer):
+        refusal, is_first = self.refusal()
+        loads = is_first or not LOADING.fullmatch(answer.output)
+        if refusal and loads:
+            return None if answer.output == refusal else f"wanted is {refusal}"
+        fits = self.words[0] == "run" and b"native" in self.parts[0] and FITTING.fullmatch(answer.output)
+        form = REFUSED.fullmatch(answer.output) if not self.judges else not loads or fits
+        return None if form else "no text's form is refused"
+
+    def why_not_taken(self, answer):
+        refusal, _ = self.refusal()
+        if refusal:
+            return f"wanted is {refusal}"
+        return getattr(self, f"why_not_{self.words[0]}")(answer)
+
+    def why_not_meta(self, answer):
+        return None if answer.status == 0 and CLASSES.fullmatch(answer.output) else "these are no classes"
+
+    def why_not_certify(self, answer):
+        form = {0: CERTIFICATE, 3: NO_CERTIFICATE}.get(answer.status)
+        holds = form and form.fullmatch(answer.output)
+        return None if holds else "this is no certificate, and no reason that there is none"
+
+    def why_not_check(self, answer):
+        is_valid = (answer.output, answer.status) == (b"yes\n", 0)
+        holds = is_valid or (answer.status == 3 and NOT_VALID.fullmatch(answer.output))
+        return None if holds else "this is neither `yes` nor `no k`"
+
+    def why_not_run(self, answer):
+        is_checked = self.words[1:2] != ["--unchecked"]
+        if is_checked and answer.status == 3:
+            return None if NOT_VALID.fullmatch(answer.output) else "this is no `no k`"
+        trace, fault = answer.output, b""
+        if answer.status == 4:
+            front, _, last = trace[:-1].rpartition(b"\n")
+            trace, fault = front + b"\n" if front else b"", last + b"\n"
+            if not (CHECKED_FAULTS if is_checked else FAULTS).fullmatch(fault):
+                return "this is no fault of such a run"
+        if answer.status not in (0, 4) or not ENTRIES.fullmatch(trace):
+            return "this is no trace"
+        return self.why_not_trace(trace, answer.status == 0)
+
+    def why_not_trace(self, trace, is_whole):
+        """Events are numbered, all of them where the run is whole, and activations nest step by step up to the depth."""
+        events = [int(it) for it in re.findall(rb"^event ([0-9]+)", trace, re.M)]
+        count = sum(bool(grammar.tokens(line)) for line in self.parts[-1].split(b"\n"))
+        if events != list(range(1, len(events) + 1)) or (len(events) != count if is_whole else len(events) > count):
+            return "the events aren't those of the script"
+        depths = [int(it) for it in re.findall(rb"^([0-9]+) ", trace, re.M)]
+        return None if max(depths, default=0) <= self.depth() else "activations nest too deep"
+
+    def depth(self):
+        if self.words[1:2] == ["--unchecked"]:
+            return grammar.number_of(self.words[2].encode())
+        found = re.search(rb"^[ \t\r]*bound\s+0*([0-9]+)", self.parts[1], re.M)
+        return grammar.number_of(found[1]) if found else MOST_DEPTH

@@ -1,0 +1,187 @@
+#!/usr/bin/env python3
+"""Refuses requests for memory: the programs that `rt ci` built are run on worked examples so that the nth request for memory
+fails, for n = 1, 2, .. until none does. What is wanted of each run:
+
+- the ample output, where the program did without that memory;
+- or a front of the ample run's trace that ends with a whole rule's lines, and then `fault 65`, with status 4;
+- or whole lines at the front of the ample output, and then `memory`, with status 1: there was none outside the run.
+
+Never a crash, a hang, another status, a refusal that the ample run doesn't have, or a standard error that says another
+thing. Past the last request the output is the ample one, which is what the example's or case's file has.
+
+Of the examples, and of the first cases of each topic of `runs` and `commands`, each request is refused, up to 1,500 of a run,
+and of the others 400 that are spread over them. Of each other run of the case files 30 are refused and, where it runs a
+script, each from the last request down to the first that is made outside the machine.
+
+Usage: tests/memory/sweep.py [--all-after] [PROGRAM..]   (default: both builds of crates/gammonfig)
+--all-after refuses not the nth request alone but all from it on. The last line is `N passed, M failed`."""
+import os
+import re
+import subprocess
+import sys
+import tempfile
+
+sys.dont_write_bytecode = True
+sys.path.insert(0, os.path.dirname(os.path.dirname(os.path.abspath(__file__))))
+import built
+import case_files
+
+EVERY, SPREAD = 1500, 400
+# How many of a topic's cases are as examples: its first ones, which are the plain ones.
+WHOLE_CASES = {"runs": 4, "commands": 2}
+OF_CASE, MOST_OF_CASE = 30, 400
+# What an event of the script writes in its own rule, behind its own line.
+PUSHES = {b"emit": rb"1 emit ", b"call": rb"1 call ", b"set": rb"1 set ", b"bind": rb"1 bind ", b"later": rb"0 post "}
+# The answers that are wanted.
+AMPLE, FAULT, LINES, MEMORY = "the ample output", "whole rules, then `fault 65`", "whole lines, then `memory`", "`memory`"
+
+
+class Row:
+    """Words with an input, the output and status of the ample run, and whether each of its requests is refused."""
+
+    def __init__(self, name, words, text, output, status, is_whole=True, environment=None):
+        self.name, self.words, self.text = name, words, text
+        self.environment, self.is_whole = environment or {}, is_whole
+        self.ample = built.Answer(status, output, b"", b"", 0)
+
+    def fronts(self):
+        """What may stand in front of `fault 65`."""
+        if self.words[:1] != ["run"] or self.ample.status not in (0, 4):
+            return set()
+        lines = self.ample.output.splitlines(keepends=True)
+        return set(rule_ends(lines[:-1] if self.ample.status == 4 else lines, built.texts(self.text)[-1]))
+
+
+def rule_ends(trace, script):
+    """What a run has written at the end of each rule, from its trace's lines. A rule's lines are appended together: an event
+    with what it begins, a write or a bind with what follows it, a death with the emission of `destroyed`."""
+    verbs = event_verbs(script)
+    written, push, last = b"", None, b""
+    for line in trace:
+        goes_on = re.match(rb"\d+ follow ", line) or (push and re.match(push, line)) or (
+            re.match(rb"\d+ dead ", last) and re.match(rb"\d+ emit \w+\.destroyed\(null\)", line)
+        )
+        if not goes_on:
+            yield written
+        event = re.fullmatch(rb"event (\d+)\n", line)
+        push = PUSHES.get(verbs[int(event[1]) - 1]) if event else None
+        written, last = written + line, line
+    yield written
+
+
+def event_verbs(script):
+    """The first word of each event of a script."""
+    lines = (line.split(b"//")[0].split() for line in script.split(b"\n"))
+    return [words[0] for words in lines if words]
+
+
+class Refusals:
+    """Tries rows, each with a program."""
+
+    def __init__(self, library, more):
+        self.library, self.more = library, more
+        self.bench, self.program, self.row, self.fronts, self.requests = None, None, None, set(), 0
+
+    def __call__(self, item, count):
+        self.program, self.row = item
+        self.bench = self.bench or built.Bench()
+        self.fronts = self.row.fronts()
+        answer, self.requests, _ = self.refused("0")
+        is_ample = self.requests is not None and answer == self.row.ample
+        if not count.check(is_ample, lambda: f"{self.row.name}, nothing refused, by {self.program}: {answer}"):
+            return
+        for number in self.numbers():
+            self.one(number, count)
+        if self.fronts and not self.row.is_whole:
+            self.in_machine(count)
+
+    def numbers(self):
+        """The numbers of the requests that are refused, and one past the last."""
+        every = min(EVERY, self.requests) if self.row.is_whole else 0
+        rest = self.requests - every
+        spread = min(SPREAD if self.row.is_whole else OF_CASE, rest)
+        return [*range(1, every + 1), *(every + it * rest // spread for it in range(1, spread + 1)), self.requests + 1]
+
+    def in_machine(self, count):
+        """Refuses the last request, and each one before it, until the machine has not begun."""
+        for number in range(self.requests, max(0, self.requests - MOST_OF_CASE), -1):
+            if self.one(number, count) in (MEMORY, None):
+                break
+
+    def one(self, number, count):
+        """Refuses one request, and gives the kind of the answer, or None if that isn't wanted."""
+        answer, _, refusals = self.refused(f"{number}{self.more}")
+        kind = self.kind_of(answer)
+        meets = number <= self.requests
+        as_told = refusals is not None and (refusals > 0 if meets else refusals == 0 and kind == AMPLE)
+        holds = count.check(
+            kind is not None and as_told and not answer.contradicts_itself(),
+            lambda: f"{self.row.name}, request {number} of {self.requests} refused, by {self.program}: {answer}",
+        )
+        count.note((kind if meets else "nothing refused") if holds else "none that is wanted")
+        return kind if holds else None
+
+    def refused(self, number):
+        """A run in which this request is refused, and how many requests were made and refused (None: it isn't told, as the
+        run came to no end)."""
+        environment = {**self.row.environment, "LD_PRELOAD": self.library, "REFUSED": number}
+        answer = self.bench.run(self.program, self.row.words, self.row.text, environment)
+        told = re.fullmatch(rb"(\d+) (\d+)\n", answer.told)
+        return (answer, int(told[1]), int(told[2])) if told else (answer, None, None)
+
+    def kind_of(self, answer):
+        """Which of the answers that are wanted it is, or None."""
+        if answer == self.row.ample:
+            return AMPLE
+        if not answer.output.endswith(b"\n"):
+            return None
+        *front, last = answer.output.splitlines(keepends=True)
+        front = b"".join(front)
+        if (last, answer.status) == (b"fault 65\n", 4) and front in self.fronts:
+            return FAULT
+        if (last, answer.status) == (b"memory\n", 1) and self.row.ample.output.startswith(front):
+            return LINES if front else MEMORY
+        return None
+
+
+def example_rows():
+    """The examples, the other commands on the programs of those that have a certificate, and what is refused."""
+    for name, words, text, output, status in built.examples():
+        yield Row(f"{name}: {' '.join(words)}", words, text, output, status)
+        if words == ["run"]:
+            program, certificate, _ = built.texts(text)
+            yield Row(f"{name}: certify", ["certify"], program, certificate, 0)
+            yield Row(f"{name}: check", ["check"], program + b"%%\n" + certificate, b"yes\n", 0)
+    yield Row("a base that isn't there: meta", ["meta"], b"class A { } class B : C { }", b"refused 11\n", 2)
+    yield Row("no command", ["go"], b"", b"usage\n", 1)
+
+
+def rows(program):
+    """The rows, those of examples and then those that run scripts first. The program gives certificates."""
+    bench = built.Bench()
+    yield from example_rows()
+    runs = case_files.runs(lambda text: bench.run(program, ["certify"], text).output)
+    for run in sorted(runs, key=lambda run: run.words[:1] != ["run"]):
+        is_whole = run.place < WHOLE_CASES.get(run.topic.split("/")[0], 0)
+        yield Row(run.name, run.words, run.text, run.output, run.status, is_whole, run.environment)
+
+
+def main():
+    given = sys.argv[1:]
+    more = "+" if "--all-after" in given else ""
+    programs = built.builds([it for it in given if it != "--all-after"])
+    with tempfile.TemporaryDirectory() as room:
+        library = f"{room}/refuse.so"
+        source = os.path.join(os.path.dirname(os.path.abspath(__file__)), "refuse.c")
+        words = [os.environ.get("CC") or "cc", "-O2", "-shared", "-fPIC", "-o", library, source, "-ldl"]
+        try:
+            compiled = subprocess.run(words).returncode == 0
+        except OSError as fault:
+            sys.exit(f"the sweep needs a C compiler, and `{words[0]}` doesn't start: {fault.strerror}")
+        if not compiled:
+            sys.exit(f"`{words[0]}` doesn't compile tests/memory/refuse.c")
+        built.spread(Refusals(library, more), [(program, row) for row in rows(programs[0]) for program in programs]).end()
+
+
+if __name__ == "__main__":
+    main()
