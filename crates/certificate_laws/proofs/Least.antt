@@ -12,8 +12,7 @@ use Rattle.meta_model.specs.Sound.{IsSound}
 use Rattle.meta_model.proofs.OneAnswer.{one_class}
 use Rattle.meta_model.proofs.Zips.{zip_left, zip_right}
 use Rattle.meta_objects.specs.Builds.{Builds}
-use Rattle.meta_objects.proofs.Unique.{one_loading}
-use Rattle.meta_objects.proofs.Whole.{sound}
+use Rattle.meta_objects.proofs.FoundClasses.{one_loading, form_sound}
 use Rattle.class_lang.proofs.OneAnswer.{one_program_text}
 use Rattle.effect_scan.specs.declared.node.Node.{Node}
 use Rattle.effect_scan.specs.declared.node.Member.{Member}
@@ -144,12 +143,9 @@ pub one_least : OneLeast
 one_least p is a b h g = same p is a b h g
 
 -- ---- one certificate for a text
-loaded_sound : (program : Program) (p : Loaded) → Builds program (Ok p) → IsSound p
-loaded_sound program p builds = sound program builds.outlines builds.outlined builds.clean p builds.looked_up
-
 pub one_made : OneMade
 one_made source a b h g =
     let program : h.program ≡ g.program = one_program_text source h.program g.program h.reads.text g.reads.text in
     let builds : Builds g.program (Ok h.loaded) = subst (λ (x : Program). Builds x (Ok h.loaded)) program h.builds in
     let loaded : h.loaded ≡ g.loaded = one_loading g.program h.loaded g.loaded builds g.builds in
-    one_least g.loaded (loaded_sound g.program g.loaded g.builds) a b (subst (λ (p : Loaded). IsLeastValid p a) loaded h.makes) g.makes
+    one_least g.loaded (form_sound g.program g.loaded g.builds) a b (subst (λ (p : Loaded). IsLeastValid p a) loaded h.makes) g.makes

@@ -22,7 +22,7 @@ use Rattle.meta_model.specs.Sites.{IsReferenceIn}
 use Rattle.meta_model.specs.Sound.{IsPlain, IsPlainProperty, IsPlainSignal, AreOnce, AreSoundEffects}
 use Rattle.meta_model.specs.Twice.{StandsTwice}
 use Rattle.meta_objects.specs.declared.body_resolution.work.ResolvedWork.{ResolvedWork}
-use Rattle.meta_objects.specs.Loading.{work_of, IsObject}
+use Rattle.meta_objects.specs.code.Loading.{work_of, IsObject}
 use Rattle.meta_objects.specs.Natives.{HasPropertyIn, HasSignalIn, AreEffects, IsEmitted, AreLoadedEffects}
 use Rattle.meta_model.proofs.Once.{none_at}
 use Rattle.meta_model.proofs.Searches.{same_first}

@@ -24,7 +24,7 @@ use Rattle.meta_model.specs.Outlines.{IsOutlineNamed}
 use Rattle.meta_model.specs.Sites.{IsPropertyIn, IsSourceProperty, paths_in, literals_in, ReadsReference, UsesReference, by_target, by_source}
 use Rattle.meta_model.specs.Sound.{IsPlain, IsPlainProperty, IsSoundSource, IsSoundSite}
 use Rattle.meta_objects.specs.declared.body_resolution.work.ResolvedWork.{ResolvedWork}
-use Rattle.meta_objects.specs.Loading.{IsObject}
+use Rattle.meta_objects.specs.code.Loading.{IsObject}
 use Rattle.meta_objects.specs.Sites.{IsFormula, literal_is, path_is, unary_is, binary_is, IsSite, IsLoadedSource, IsLoadedFormula, literal_loads, path_loads, unary_loads, binary_loads, IsLoadedSite}
 use Rattle.meta_model.proofs.PathsIn.{paths_of, literals_of}
 use Rattle.meta_model.proofs.Searches.{same_first}

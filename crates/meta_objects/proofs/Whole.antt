@@ -44,7 +44,9 @@ use Rattle.meta_model.specs.Natives.{RepeatsEffectIn, TouchesReference, HasRefer
 use Rattle.meta_objects.specs.declared.body_resolution.work.ResolvedWork.{ResolvedWork}
 use Rattle.meta_objects.specs.declared.body_resolution.work.ResolvedWork.TheVariants as resolved
 use Rattle.meta_objects.specs.Bodies.{scope_of, IsWork, IsSlotWork, AreWorks}
-use Rattle.meta_objects.specs.Loading.{work_at, found_work, work_of, initial_of, IsMethodOf, IsNotify, IsPropertyOf, IsObject, IsWire, IsOwns, HasUses, IsLoaded}
+use Rattle.meta_objects.specs.LackedNames.{IsWire, IsOwns}
+use Rattle.meta_objects.specs.Classes.{initial_of}
+use Rattle.meta_objects.specs.code.Loading.{work_at, found_work, work_of, IsMethodOf, IsNotify, IsPropertyOf, IsObject, HasUses, IsLoaded}
 use Rattle.meta_objects.specs.Builds.{HasOutlines, IsClean, IsLoadedForm}
 use Rattle.meta_objects.specs.Sites.{IsSite, IsLoadedSite}
 use Rattle.meta_objects.specs.LoadedBodies.{site}
@@ -86,14 +88,14 @@ one_kind o (U ∷ []) (k ∷ l ∷ ks) h T kind read e = absurd h.1
 one_kind o (U ∷ V ∷ Us) (k ∷ ks) h T kind read e = absurd (cc)
 
 -- the first in a front is the first
-first_in_front : {X : Type 0} (P : X → Type 0) (xs ys : List X) (m : ℕ) → StandsFirst P xs m → StandsFirst P (xs ++ ys) m
+pub first_in_front : {X : Type 0} (P : X → Type 0) (xs ys : List X) (m : ℕ) → StandsFirst P xs m → StandsFirst P (xs ++ ys) m
 first_in_front P xs ys m h = record {
   at = record { item = h.at.item; is = get_front xs ys m h.at.item h.at.is; has = h.at.has };
   first = λ k below at. h.first k below (in_front P xs ys m k below (slice_get_within xs m h.at.item h.at.is) at);
 }
 
 -- `objectNameChanged(QString)` stands at its number alone
-name_changed_first : StandsFirst (IsSignalOf name_changed) qobject.methods 2
+pub name_changed_first : StandsFirst (IsSignalOf name_changed) qobject.methods 2
 name_changed_first = record { at = record { item = heading name_changed sort.Signal; is = refl; has = (refl, refl) }; first = before }
   where
     front_points : List QType → Bool
@@ -647,4 +649,4 @@ module _ (program : Program) (o : List Outline) (outlined : HasOutlines program 
 pub loaded_form : (program : Program) (o : List Outline) (works : List (List ResolvedWork)) (p : Loaded) → HasOutlines program o → IsClean program o → HasUses program o works p.wires p.owns p.sites → AllZip (IsObject o works) o p.classes → IsLoadedForm program p
 loaded_form program o works p outlined clean uses objects =
     let loaded : IsLoaded program o p = record { works = works; uses = uses; objects = objects } in
-    record { declared = as_declared program o outlined clean p loaded; outlines = o; outlined = outlined; clean = clean; looked_up = loaded }
+    record { outlines = o; outlined = outlined; clean = clean; declared = as_declared program o outlined clean p loaded }

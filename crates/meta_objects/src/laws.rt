@@ -1,6 +1,12 @@
 //! What holds of every program.
 
-ghost use Rattle.meta_objects.specs.Builds.{OneLoading, OneAnswer, LoadedAsDeclared};
+ghost use Rattle.meta_objects.specs.Builds.{OneAsDeclared, OneLoading, OneAnswer, LoadedAsDeclared};
+
+/// Where no class and no member of a program stands twice, and its bases are there, one loaded program at most is as it is
+/// declared: what a loaded program is to be leaves nothing open.
+pub fn one_as_declared()
+    ensures { OneAsDeclared }
+{}
 
 /// A program has at most one loaded form.
 pub fn one_loading()

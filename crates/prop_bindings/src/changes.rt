@@ -4,7 +4,7 @@ ghost use Rattle.std.specs.Prelude.{◌≡◌, ◌↔◌, ◌+◌, ◌<◌, ◌^
 ghost use Rattle.std.specs.Option.{option_map};
 ghost use Rattle.object_tree.specs.Seen.{seen};
 ghost use Rattle.prop_bindings.specs.declared.place.Place.{Place};
-ghost use Rattle.prop_bindings.specs.Places.{In, values_in};
+ghost use Rattle.prop_bindings.specs.Places.{Distinct, In, values_in};
 ghost use Rattle.prop_bindings.specs.Bindings.{AreApart, binding_at};
 ghost use Rattle.prop_bindings.specs.Changes.{in_order, DifferInValues, AreChanged};
 ghost use Rattle.prop_bindings.specs.Plans.{after};
@@ -16,7 +16,7 @@ ghost use Rattle.prop_bindings.specs.code.Parts.{IsSoundWith, StaySoundWith, ahe
 use crate::ahead::value_ahead;
 use crate::evaluation::evaluate_all;
 use crate::installed::Installed;
-use crate::numbering::{Numbered, put_in};
+use crate::numbering::Numbered;
 use crate::place::Place;
 use crate::planned::Planned;
 use indexmap::IndexMap;
@@ -41,6 +41,7 @@ pub fn plan(
     requires apart { AreApart (bindings_in installed.now) }
     requires sound { IsSoundWith tree.now (bindings_in installed.now) place.now value }
     requires bound { AreBound (binding_at (bindings_in installed.now)) followers.now }
+    requires distinct { Distinct followers.now }
     requires others { In place.now followers.now → ⊥ }
     requires few { before + length followers.now < 2 ^ 64 }
     ensures target { IfOk result (λ plan. plan.target ≡ place.now) }
@@ -77,6 +78,7 @@ fn sorted(
 ) -> Result<Vec<Place>, AllocError>
     requires keyed { AreKeyed installed.now }
     requires bound { AreBound (binding_at (bindings_in installed.now)) others.now }
+    requires distinct { Distinct others.now }
     ensures { IfOk result (λ places. AreInOrder (position_of (bindings_in installed.now)) place.now
         others.now places.items) }
 {
@@ -89,7 +91,7 @@ fn sorted(
     Ok(places)
 }
 
-/// Properties that are bound, in the order in which their bindings were installed.
+/// Different properties that are bound, in the order in which their bindings were installed.
 fn by_position(
     alloc: Global,
     installed: &Installed,
@@ -97,6 +99,7 @@ fn by_position(
 ) -> Result<Vec<Numbered>, AllocError>
     requires keyed { AreKeyed installed.now }
     requires bound { AreBound (binding_at (bindings_in installed.now)) places.now }
+    requires distinct { Distinct places.now }
     ensures numbered { IfOk result (λ found.
         IsNumbering (position_of (bindings_in installed.now)) found.items) }
     ensures same { IfOk result (λ found.
@@ -108,8 +111,9 @@ fn by_position(
             unreachable!()
         };
         let place = *place;
-        put_in(&mut found, Numbered { number, place })?;
+        found.push(Numbered { number, place })?;
     }
+    found.sort_by_key(|each| each.number)?;
     Ok(found)
 }
 

@@ -2,7 +2,7 @@
 
 ghost use Rattle.texts.specs.declared.syntax.Stmt.TheVariants.{Set, Emit, Call};
 ghost use Rattle.meta_objects.specs.Bodies.{IsStatementOf, AreStatements};
-ghost use Rattle.meta_objects.specs.Resolving.{scope, Resolves};
+ghost use Rattle.meta_objects.specs.code.Resolving.{scope, Resolves};
 
 use crate::body_resolution::path::Target;
 use crate::body_resolution::scope::Scope;

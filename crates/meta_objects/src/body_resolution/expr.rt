@@ -2,7 +2,7 @@
 
 ghost use Rattle.std.specs.Prelude.{◌≡◌};
 ghost use Rattle.meta_objects.specs.Bodies.{IsExpr, AreExprs};
-ghost use Rattle.meta_objects.specs.Resolving.{scope, Resolves};
+ghost use Rattle.meta_objects.specs.code.Resolving.{scope, Resolves};
 
 use crate::body_resolution::path::Led;
 use crate::body_resolution::scope::Scope;

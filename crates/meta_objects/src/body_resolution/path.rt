@@ -2,8 +2,8 @@
 
 ghost use Rattle.std.specs.Prelude.{◌≡◌};
 ghost use Rattle.meta_objects.specs.Bodies.{IsReferencePath};
-ghost use Rattle.meta_objects.specs.Resolving.{scope, Resolves, ResolvesPath, ResolvesFrom, ResolvesObject};
-ghost use Rattle.meta_objects.specs.Resolving.{FindsClass, FindsMember};
+ghost use Rattle.meta_objects.specs.code.Resolving.{scope, Resolves, ResolvesPath, ResolvesFrom, ResolvesObject};
+ghost use Rattle.meta_objects.specs.code.Resolving.{FindsClass, FindsMember};
 
 use crate::body_resolution::scope::Scope;
 use meta_model::{

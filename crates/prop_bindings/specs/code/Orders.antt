@@ -66,7 +66,7 @@ pub record IsLater (F G : Place → Option Binding) (t : Place) (later : List Pl
   pub others : (q : Place) (b : Binding) → G q ≡ Some b → (In q later → ⊥)
       → (F q ≡ Some b) × ((m : Place) → In m later → Reads b m → ⊥)
 
--- ---- how both are found: a walk over an order
+-- ---- where one more binding goes: a walk over an order
 -- one more binding, or another one of the same target
 abbrev pub bound : (Place → Option Binding) → Place → Binding → Place → Option Binding
 bound F t b p = cond (same_place t p) (Some b) (F p)
@@ -86,14 +86,3 @@ pub record Halved (F G : Place → Option Binding) (t : Place) (order reached so
   pub sooner_later : (p : Place) → In p sooner → Free G p (t ∷ reached)
   pub chains : (p : Place) → In p reached → Chain G t p
   pub total : (p : Place) (b : Binding) → F p ≡ Some b → In p order → (t ≡ p) ⊎ (In p reached ⊎ (In p sooner ⊎ In p rest))
-
--- G binds what F binds, but for t
-abbrev pub AgreesBut : Place → (Place → Option Binding) → (Place → Option Binding) → Type 0
-AgreesBut t F G = (q : Place) → same_place t q ≡ false → G q ≡ F q
-
--- the whole walk, whatever t is bound to: t and what chains lead to from it, each once, and the others
-pub record IsWalked (F : Place → Option Binding) (t : Place) (order sooner later : List Place) : Type 0 where
-  pub reached : List Place
-  pub is_later : later ≡ t ∷ reached
-  pub distinct : Distinct later
-  pub halved : (G : Place → Option Binding) → AgreesBut t F G → Halved F G t order reached sooner []

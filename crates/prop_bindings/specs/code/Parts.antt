@@ -18,9 +18,8 @@ use Rattle.prop_bindings.specs.Calls.{MayBind, IsNotBound, new_binding}
 use Rattle.prop_bindings.specs.Changes.{IsInstalled}
 use Rattle.prop_bindings.specs.Fits.{FitsAt, IsFit, IsInOneLoop, Agree}
 use Rattle.prop_bindings.specs.Plans.{assigned, after}
-use Rattle.prop_bindings.specs.code.Graph.{AreRanks}
 use Rattle.prop_bindings.specs.code.Keys.{key_of, same_key}
-use Rattle.prop_bindings.specs.code.Orders.{IsOrder}
+use Rattle.prop_bindings.specs.code.Orders.{IsLater}
 
 -- ---- values to come
 -- the objects once these properties have their values
@@ -98,7 +97,6 @@ abbrev pub Installs : Binding → List Binding → List Object → Result Planne
 Installs b bs objects (Ok plan) = InstallsIt b bs objects plan
 Installs b bs objects (Err fault) = IsNotInstalled bs b fault
 
--- the order of evaluation that comes with a planned bind is one of the bindings once it is carried out
+-- what a planned bind moves in the order of evaluation is its target and what chains lead to from it
 pub record MayInstall (bs : List Binding) (plan : PlannedBind) : Type 0 where
-  pub order : IsOrder (binding_at (replaced bs plan.reader)) plan.order.items
-  pub ranks : AreRanks plan.order.items plan.ranks
+  pub later : IsLater (binding_at bs) (binding_at (replaced bs plan.reader)) plan.reader.target plan.moved.items

@@ -2,8 +2,7 @@ use Rattle.std.proofs.Common.{◌∙◌, arith}
 use Rattle.prop_bindings.specs.Bindings.{binding_at}
 use Rattle.prop_bindings.specs.code.Graph.{bindings_in}
 use Rattle.prop_bindings.proofs.Passes.{pass-step}
-use Rattle.prop_bindings.proofs.Ranked.{in-at}
-use Rattle.prop_bindings.proofs.Walking.{next-is}
+use Rattle.prop_bindings.proofs.Ranked.{in-at, next-is}
 use Rattle.prop_bindings.proofs.evaluation.evaluate_all.Goals as goal
 
 pub evaluate-requires-clause-bound : goal.evaluate-requires-clause-bound

@@ -5,16 +5,19 @@ use Rattle.prop_bindings.proofs.Graphs.{roomier-graph}
 use Rattle.prop_bindings.proofs.graph.Graph.make_room.Goals as goal
 
 pub returns-in_err-reserve-clause-graph : goal.returns-in_err-reserve-clause-graph
-returns-in_err-reserve-clause-graph c = roomier-graph c.args.self.now _ c.requires (c.reserve.ensures.keyed c.requires.keyed) c.reserve.ensures.same refl refl (λ o t. t) (λ m q i. i)
+returns-in_err-reserve-clause-graph c = roomier-graph c.args.self.now _ c.requires (c.reserve.ensures.keyed c.requires.keyed) c.reserve.ensures.same refl (λ q. refl) (λ o t. t) (λ m q i. i)
+
+pub returns-in_err-reserve-2-clause-graph : goal.returns-in_err-reserve-2-clause-graph
+returns-in_err-reserve-2-clause-graph c = roomier-graph c.args.self.now _ c.requires (c.reserve.ensures.keyed c.requires.keyed) c.reserve.ensures.same c.reserve-2.ensures.next c.reserve-2.ensures.same (λ o t. t) (λ m q i. i)
 
 pub returns-in_err-enlist-clause-graph : goal.returns-in_err-enlist-clause-graph
-returns-in_err-enlist-clause-graph c = roomier-graph c.args.self.now _ c.requires (c.reserve.ensures.keyed c.requires.keyed) c.reserve.ensures.same refl refl (λ o t. t) c.enlist.ensures.kept
+returns-in_err-enlist-clause-graph c = roomier-graph c.args.self.now _ c.requires (c.reserve.ensures.keyed c.requires.keyed) c.reserve.ensures.same c.reserve-2.ensures.next c.reserve-2.ensures.same (λ o t. t) c.enlist.ensures.kept
 
 pub returns-clause-graph : goal.returns-clause-graph
-returns-clause-graph c = roomier-graph c.args.self.now _ c.requires (c.reserve.ensures.keyed c.requires.keyed) c.reserve.ensures.same refl refl c.touch.ensures.kept c.enlist.ensures.kept
+returns-clause-graph c = roomier-graph c.args.self.now _ c.requires (c.reserve.ensures.keyed c.requires.keyed) c.reserve.ensures.same c.reserve-2.ensures.next c.reserve-2.ensures.same c.touch.ensures.kept c.enlist.ensures.kept
 
 pub returns-in_err-touch-clause-graph : goal.returns-in_err-touch-clause-graph
-returns-in_err-touch-clause-graph c = roomier-graph c.args.self.now _ c.requires (c.reserve.ensures.keyed c.requires.keyed) c.reserve.ensures.same refl refl c.touch.ensures.kept c.enlist.ensures.kept
+returns-in_err-touch-clause-graph c = roomier-graph c.args.self.now _ c.requires (c.reserve.ensures.keyed c.requires.keyed) c.reserve.ensures.same c.reserve-2.ensures.next c.reserve-2.ensures.same c.touch.ensures.kept c.enlist.ensures.kept
 
 pub returns-clause-touched : goal.returns-clause-touched
 returns-clause-touched c = subst (λ (b : Binding). AreTouched c.touch.new.touched b) c.binding.ensures c.in_ok-touch.ensures.touched
