@@ -5,7 +5,8 @@ use Rattle.slot_lang.specs.Expressions.{Expression, tree_of_expression}
 use Rattle.slot_lang.specs.Grammar.{spell_value}
 use Rattle.slot_lang.proofs.Unique.{one_value}
 use Rattle.texts.specs.Lists.{spell_listed}
-use Rattle.texts.specs.Reading.{Found, EndsAnywhere, spell_name}
+use Rattle.texts.specs.code.Reading.{Found, EndsAnywhere}
+use Rattle.texts.specs.Reading.{spell_name}
 use Rattle.texts.specs.declared.program.Formal.{Formal}
 use Rattle.texts.specs.declared.symbol.Symbol.TheVariants.{Dot}
 use Rattle.texts.specs.declared.syntax.Binary.{Binary}

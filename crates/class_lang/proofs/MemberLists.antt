@@ -1,12 +1,13 @@
 -- The members of a class, one after another.
 use Rattle.std.proofs.Common.{◌≡◌, List, [], ◌∷◌, ℕ, Option, refl, ◌∙◌, ap, append_assoc, map}
 use Rattle.std.proofs.lemmas.List.{append-nil}
-use Rattle.texts.specs.Cursor.{NotAt}
-use Rattle.texts.specs.Reading.{EndsAnywhere, Found}
+use Rattle.texts.specs.code.Cursor.{NotAt}
+use Rattle.texts.specs.code.Reading.{EndsAnywhere, Found}
 use Rattle.texts.specs.declared.symbol.Symbol.TheVariants.{CloseBrace}
 use Rattle.texts.specs.declared.token.Token.{Token}
 use Rattle.texts.specs.declared.token.Token.TheVariants as token
-use Rattle.class_lang.specs.Members.{MemberReading, a_property, a_signal, a_slot, a_native, spell_member, tree_of_member, with_members}
+use Rattle.class_lang.specs.Members.{MemberReading, a_property, a_signal, a_slot, a_native, spell_member, tree_of_member}
+use Rattle.class_lang.specs.code.Members.{with_members}
 use Rattle.class_lang.specs.Declarations.{spell_members, class_of}
 use Rattle.class_lang.specs.declared.members.Member.{Member}
 use Rattle.class_lang.specs.declared.members.Member.TheVariants as member

@@ -3,8 +3,10 @@ use Rattle.std.proofs.Common.{◌≡◌, ◌∙◌, ℕ, List, [], ◌∷◌, sy
 use Rattle.std.proofs.lemmas.List.{map-id}
 use Rattle.signatures.specs.declared.sig.Sig.{Sig}
 use Rattle.signatures.specs.declared.word.Word.TheVariants as word
-use Rattle.texts.specs.Lists.{EndsAfter, spell_listed}
-use Rattle.texts.specs.Reading.{Found, EndsAnywhere, spell_name}
+use Rattle.texts.specs.code.Lists.{EndsAfter}
+use Rattle.texts.specs.Lists.{spell_listed}
+use Rattle.texts.specs.code.Reading.{Found, EndsAnywhere}
+use Rattle.texts.specs.Reading.{spell_name}
 use Rattle.texts.specs.Signatures.{SigReading, tree_of_sig}
 use Rattle.texts.specs.declared.program.EffectNames.{EffectNames}
 use Rattle.texts.specs.declared.program.Parameter.{Parameter}

@@ -5,21 +5,26 @@ use Rattle.signatures.specs.declared.qtype.QType.{QType}
 use Rattle.signatures.specs.declared.sig.Sig.{Sig}
 use Rattle.texts.specs.declared.syntax.Literal.{Literal}
 use Rattle.signatures.specs.declared.word.Word.TheVariants as word
-use Rattle.texts.specs.Cursor.{Eats, NotAt, NotAtWord}
+use Rattle.texts.specs.code.Cursor.{Eats, NotAt, NotAtWord}
 use Rattle.slot_lang.specs.Grammar.{spell_block, tree_of_block}
 use Rattle.texts.specs.Lists.{spell_listed}
 use Rattle.texts.specs.Literals.{tree_of_literal}
-use Rattle.texts.specs.Reading.{EndsAnywhere, Found, spell_name}
-use Rattle.texts.specs.Signatures.{spell_type, tree_of_type, EndsType, SigReading, spell_sig, tree_of_sig, spell_kind}
+use Rattle.texts.specs.code.Reading.{EndsAnywhere, Found}
+use Rattle.texts.specs.Reading.{spell_name}
+use Rattle.texts.specs.Signatures.{spell_type, tree_of_type, SigReading, spell_sig, tree_of_sig, spell_kind}
+use Rattle.texts.specs.code.Signatures.{EndsType}
 use Rattle.texts.specs.declared.symbol.Symbol.TheVariants.{Semicolon, Colon, Assign, OpenBrace, Arrow}
 use Rattle.texts.specs.declared.syntax.Stmt.{Stmt}
 use Rattle.texts.specs.declared.token.Token.{Token}
 use Rattle.texts.specs.declared.token.Token.TheVariants as token
-use Rattle.texts.specs.Optional.{spell_optional, EndsWithout, spell_optional_name, EndsWithoutName}
-use Rattle.class_lang.specs.Parameters.{SignalParameter, signal_parameter, spell_signal_parameter, tree_of_signal_parameter, SlotParameter, slot_parameter, spell_slot_parameter, tree_of_slot_parameter, EndsSignalParameter}
+use Rattle.texts.specs.Optional.{spell_optional, spell_optional_name}
+use Rattle.texts.specs.code.Optional.{EndsWithout, EndsWithoutName}
+use Rattle.class_lang.specs.Parameters.{SignalParameter, signal_parameter, spell_signal_parameter, tree_of_signal_parameter, SlotParameter, slot_parameter, spell_slot_parameter, tree_of_slot_parameter}
+use Rattle.class_lang.specs.code.Members.{EndsSignalParameter}
 use Rattle.class_lang.specs.Natives.{NativeReading, spell_native, tree_of_native}
 use Rattle.class_lang.specs.Members.{spell_initial, spell_notify, PropertyReading, property, spell_property, tree_of_property, SignalReading, signal, spell_signal, tree_of_signal, SlotReading, slot, spell_slot, tree_of_slot, MemberReading, a_property, a_signal, a_slot, a_native, spell_member, tree_of_member}
-use Rattle.class_lang.specs.Declarations.{Ending, bare, semicolon, spell_ending, spell_members, spell_base, ClassReading, class, spell_class, tree_of_class, class_of, EndReading, end, spell_end, tree_of_end, WireReading, wire, spell_wire, tree_of_wire, OwnsReading, owns, spell_owns, tree_of_owns, DeclarationReading, a_class, a_wire, an_owns, a_site, spell_declaration, tree_of_declaration, EndsDeclaration}
+use Rattle.class_lang.specs.Declarations.{Ending, bare, semicolon, spell_ending, spell_members, spell_base, ClassReading, class, spell_class, tree_of_class, class_of, EndReading, end, spell_end, tree_of_end, WireReading, wire, spell_wire, tree_of_wire, OwnsReading, owns, spell_owns, tree_of_owns, DeclarationReading, a_class, a_wire, an_owns, a_site, spell_declaration, tree_of_declaration}
+use Rattle.class_lang.specs.code.Declarations.{EndsDeclaration}
 use Rattle.class_lang.specs.Sites.{SiteReading, spell_site, tree_of_site}
 use Rattle.class_lang.specs.declared.declarations.Declaration.TheVariants as declaration
 use Rattle.class_lang.specs.declared.members.Member.TheVariants as member

@@ -10,7 +10,8 @@ use Rattle.texts.specs.declared.lexer.LexFault.TheVariants as lex
 use Rattle.texts.specs.declared.token.Token.{Token}
 use Rattle.class_lang.specs.Declarations.{IsProgram}
 use Rattle.class_lang.specs.Limits.{HasFewParameters, IsWithinLimits}
-use Rattle.class_lang.specs.Reads.{fault_of_cutting, fault_of_parsing, IsShortText, IsProgramText, HasTooManyParameters, IsLargeProgram, IsLongText, ReadsProgram}
+use Rattle.class_lang.specs.code.Faults.{fault_of_cutting, fault_of_parsing}
+use Rattle.class_lang.specs.Reads.{IsShortText, IsProgramText, HasTooManyParameters, IsLargeProgram, IsLongText, ReadsProgram}
 use Rattle.texts.specs.declared.program.Program.{Program}
 
 -- what a test that fails tests for doesn't hold

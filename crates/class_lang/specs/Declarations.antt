@@ -7,15 +7,13 @@
 --   wire        = end "->" end kind ";"
 --   end         = Name sig
 --   owns        = Name Name ";"
-use Rattle.std.specs.Prelude.{ℕ, ◌≡◌, List, [], ◌∷◌, ◌++◌, map, Option, Result}
+use Rattle.std.specs.Prelude.{ℕ, ◌≡◌, List, [], ◌∷◌, map, Option}
 use Rattle.signatures.specs.declared.kind.Kind.{Kind}
 use Rattle.signatures.specs.declared.sig.Sig.{Sig}
-use Rattle.texts.specs.Cursor.{NotAt}
 use Rattle.texts.specs.Lists.{spell_each}
-use Rattle.texts.specs.Reading.{Reads, EndsAnywhere, IsAtEnd, spell_name}
+use Rattle.texts.specs.Reading.{spell_name}
 use Rattle.texts.specs.Signatures.{SigReading, spell_sig, tree_of_sig, spell_kind}
 use Rattle.texts.specs.declared.symbol.Symbol.TheVariants.{Semicolon, Colon, OpenBrace, CloseBrace, Arrow}
-use Rattle.texts.specs.declared.fault.ParseFault.{ParseFault}
 use Rattle.texts.specs.declared.token.Token.{Token}
 use Rattle.texts.specs.declared.token.Token.TheVariants as token
 use Rattle.signatures.specs.declared.word.Word.TheVariants as word
@@ -121,10 +119,6 @@ tree_of_declaration (a_wire w) = declaration.Wire (tree_of_wire w)
 tree_of_declaration (an_owns o) = declaration.Owns (tree_of_owns o)
 tree_of_declaration (a_site s) = declaration.Site (tree_of_site s)
 
--- no semicolon comes next, with which a class would go on
-abbrev pub EndsDeclaration : List Token → Type 0
-EndsDeclaration after = NotAt Semicolon after
-
 -- ---- the declarations of each sort, in their order
 
 abbrev pub classes_in : List Declaration → List Class
@@ -155,15 +149,6 @@ sites_in (declaration.Wire w ∷ declarations) = sites_in declarations
 sites_in (declaration.Owns o ∷ declarations) = sites_in declarations
 sites_in (declaration.Site s ∷ declarations) = s ∷ sites_in declarations
 
--- the program, with these declarations after its own
-abbrev pub with_declarations : Program → List Declaration → Program
-with_declarations program declarations = record {
-  classes = program.classes ++ classes_in declarations;
-  wires = program.wires ++ wires_in declarations;
-  owns = program.owns ++ owns_in declarations;
-  sites = program.sites ++ sites_in declarations;
-}
-
 abbrev pub tree_of_program : List DeclarationReading → Program
 tree_of_program declarations = record {
   classes = classes_in (map tree_of_declaration declarations);
@@ -172,17 +157,7 @@ tree_of_program declarations = record {
   sites = sites_in (map tree_of_declaration declarations);
 }
 
--- ---- what the readers answer
-
--- .. for the members of a class with this name and base
-abbrev pub ReadsMembers : List ℕ → Option (List ℕ) → List Token → Result Class ParseFault → List Token → Type 0
-ReadsMembers name base before result after = Reads spell_members (class_of name base) EndsAnywhere before result after
-
-abbrev pub ReadsDeclaration : List Token → Result Declaration ParseFault → List Token → Type 0
-ReadsDeclaration before result after = Reads spell_declaration tree_of_declaration EndsDeclaration before result after
-
-abbrev pub ReadsDeclarations : List Token → Result Program ParseFault → List Token → Type 0
-ReadsDeclarations before result after = Reads (spell_each spell_declaration) tree_of_program IsAtEnd before result after
+-- ---- programs
 
 -- the tokens are this program
 pub record IsProgram (tokens : List Token) (program : Program) : Type 0 where

@@ -12,10 +12,6 @@ use Rattle.texts.specs.declared.program.Wire.{Wire}
 use Rattle.texts.specs.declared.program.Site.{Site}
 use Rattle.texts.specs.declared.program.Program.{Program}
 
--- bytes of a text
-abbrev pub most_bytes : ℕ
-most_bytes = 1048576
-
 -- classes of a program
 abbrev pub most_classes : ℕ
 most_classes = 64

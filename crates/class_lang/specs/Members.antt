@@ -5,17 +5,12 @@
 --   property = type Name ["=" literal] ["notify" sig] ";"
 --   signal   = Name "(" [signal_parameter {"," signal_parameter}] ")" ";"
 --   slot     = Name "(" [slot_parameter {"," slot_parameter}] ")" block
-use Rattle.std.specs.Prelude.{ℕ, List, [], ◌∷◌, ◌++◌, map, Option, option_map, Result}
+use Rattle.std.specs.Prelude.{ℕ, List, [], ◌∷◌, map, Option, option_map}
 use Rattle.slot_lang.specs.Grammar.{Body, spell_block, tree_of_block}
-use Rattle.texts.specs.Cursor.{NotAt, NotAtWord}
 use Rattle.texts.specs.Lists.{spell_listed}
 use Rattle.texts.specs.Literals.{LiteralReading, spell_literal, tree_of_literal}
-use Rattle.texts.specs.Reading.{Reads, EndsAnywhere}
 use Rattle.texts.specs.Signatures.{TypeReading, spell_type, tree_of_type, SigReading, spell_sig, tree_of_sig}
 use Rattle.texts.specs.declared.symbol.Symbol.TheVariants.{Semicolon, Assign}
-use Rattle.signatures.specs.declared.sig.Sig.{Sig}
-use Rattle.texts.specs.declared.fault.ParseFault.{ParseFault}
-use Rattle.texts.specs.declared.syntax.Literal.{Literal}
 use Rattle.texts.specs.declared.token.Token.{Token}
 use Rattle.texts.specs.declared.token.Token.TheVariants as token
 use Rattle.signatures.specs.declared.word.Word.TheVariants as word
@@ -28,7 +23,6 @@ use Rattle.texts.specs.declared.program.Property.{Property}
 use Rattle.texts.specs.declared.program.Signal.{Signal}
 use Rattle.texts.specs.declared.program.Slot.{Slot}
 use Rattle.texts.specs.declared.program.SlotWork.TheVariants as work
-use Rattle.texts.specs.declared.program.Class.{Class}
 
 -- ["=" literal]
 abbrev pub spell_initial : Option LiteralReading → List Token → List Token
@@ -92,17 +86,6 @@ tree_of_member (a_signal s) = member.Signal (tree_of_signal s)
 tree_of_member (a_slot s) = member.Slot (tree_of_slot s)
 tree_of_member (a_native n) = member.Slot (tree_of_native n)
 
--- ---- what the readers answer
-
-abbrev pub ReadsInitial : List Token → Result (Option Literal) ParseFault → List Token → Type 0
-ReadsInitial before result after = Reads spell_initial (option_map tree_of_literal) (NotAt Assign) before result after
-
-abbrev pub ReadsNotify : List Token → Result (Option Sig) ParseFault → List Token → Type 0
-ReadsNotify before result after = Reads spell_notify (option_map tree_of_sig) (NotAtWord word.Notify) before result after
-
-abbrev pub ReadsProperty : List Token → Result Property ParseFault → List Token → Type 0
-ReadsProperty before result after = Reads spell_property tree_of_property EndsAnywhere before result after
-
 -- ---- the members of each sort, in their order; slots and natives are one sort
 
 abbrev pub properties_in : List Member → List Property
@@ -122,13 +105,3 @@ slots_in [] = []
 slots_in (member.Property p ∷ members) = slots_in members
 slots_in (member.Signal s ∷ members) = slots_in members
 slots_in (member.Slot s ∷ members) = s ∷ slots_in members
-
--- the class, with these members after its own
-abbrev pub with_members : Class → List Member → Class
-with_members class members = record {
-  name = class.name;
-  base = class.base;
-  properties = class.properties ++ properties_in members;
-  signals = class.signals ++ signals_in members;
-  slots = class.slots ++ slots_in members;
-}

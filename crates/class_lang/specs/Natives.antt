@@ -3,13 +3,12 @@
 --
 --   native  = Name "(" [signal_parameter {"," signal_parameter}] ")" effects
 --   effects = ["reads" Name {"," Name}] ["emits" sig {"," sig}] ["sets" Name {"," Name}] ";"
-use Rattle.std.specs.Prelude.{ℕ, List, ◌∷◌, map, Result}
+use Rattle.std.specs.Prelude.{ℕ, List, ◌∷◌, map}
 use Rattle.signatures.specs.declared.word.Word.TheVariants as word
 use Rattle.texts.specs.Lists.{spell_listed, spell_after}
-use Rattle.texts.specs.Reading.{Reads, EndsAnywhere, spell_name}
+use Rattle.texts.specs.Reading.{spell_name}
 use Rattle.texts.specs.Signatures.{SigReading, spell_sig, tree_of_sig}
 use Rattle.texts.specs.declared.symbol.Symbol.TheVariants.{Semicolon}
-use Rattle.texts.specs.declared.fault.ParseFault.{ParseFault}
 use Rattle.texts.specs.declared.token.Token.{Token}
 use Rattle.texts.specs.declared.token.Token.TheVariants as token
 use Rattle.texts.specs.declared.program.EffectNames.{EffectNames}
@@ -49,11 +48,3 @@ spell_native (native name parameters given) after =
 abbrev pub tree_of_native : NativeReading → Slot
 tree_of_native (native name parameters given) =
     record { name = name; parameters = map tree_of_signal_parameter parameters; work = work.Native (tree_of_effects given) }
-
--- ---- what the readers answer
-
-abbrev pub ReadsEffects : List Token → Result EffectNames ParseFault → List Token → Type 0
-ReadsEffects before result after = Reads spell_effects tree_of_effects EndsAnywhere before result after
-
-abbrev pub ReadsNative : List Token → Result Slot ParseFault → List Token → Type 0
-ReadsNative before result after = Reads spell_native tree_of_native EndsAnywhere before result after

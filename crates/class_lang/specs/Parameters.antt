@@ -3,13 +3,11 @@
 --
 --   signal_parameter = type [Name]
 --   slot_parameter   = type Name
-use Rattle.std.specs.Prelude.{ℕ, List, ◌∷◌, Option, Some, Result}
-use Rattle.texts.specs.Reading.{Reads, EndsAnywhere}
-use Rattle.texts.specs.Signatures.{TypeReading, spell_type, tree_of_type, EndsType}
-use Rattle.texts.specs.declared.fault.ParseFault.{ParseFault}
+use Rattle.std.specs.Prelude.{ℕ, List, ◌∷◌, Option, Some}
+use Rattle.texts.specs.Signatures.{TypeReading, spell_type, tree_of_type}
 use Rattle.texts.specs.declared.token.Token.{Token}
 use Rattle.texts.specs.declared.token.Token.TheVariants as token
-use Rattle.texts.specs.Optional.{spell_optional_name, EndsWithoutName}
+use Rattle.texts.specs.Optional.{spell_optional_name}
 use Rattle.texts.specs.declared.program.Parameter.{Parameter}
 
 pub data SignalParameter : Type 0 where
@@ -21,11 +19,6 @@ spell_signal_parameter (signal_parameter kind name) after = spell_type kind (spe
 abbrev pub tree_of_signal_parameter : SignalParameter → Parameter
 tree_of_signal_parameter (signal_parameter kind name) = record { kind = tree_of_type kind; name = name }
 
--- nothing comes next with which its type or its name would go on
-pub record EndsSignalParameter (after : List Token) : Type 0 where
-  pub no_type : EndsType after
-  pub no_name : EndsWithoutName after
-
 pub data SlotParameter : Type 0 where
   slot_parameter : TypeReading → (name : List ℕ) → SlotParameter
 
@@ -34,11 +27,3 @@ spell_slot_parameter (slot_parameter kind name) after = spell_type kind (token.N
 
 abbrev pub tree_of_slot_parameter : SlotParameter → Parameter
 tree_of_slot_parameter (slot_parameter kind name) = record { kind = tree_of_type kind; name = Some name }
-
--- ---- what the readers answer
-
-abbrev pub ReadsSignalParameter : List Token → Result Parameter ParseFault → List Token → Type 0
-ReadsSignalParameter before result after = Reads spell_signal_parameter tree_of_signal_parameter EndsSignalParameter before result after
-
-abbrev pub ReadsSlotParameter : List Token → Result Parameter ParseFault → List Token → Type 0
-ReadsSlotParameter before result after = Reads spell_slot_parameter tree_of_slot_parameter EndsAnywhere before result after

@@ -1,15 +1,12 @@
 -- What the reader answers for a text (docs/language.md, "Programs" and "Limits").
 use Rattle.std.specs.Prelude.{ℕ, ◌≡◌, ◌<◌, ◌≤◌, ◌⊎◌, List, length, Result, Ok, Err, Option, Some, None}
+use Rattle.texts.specs.Limits.{most_bytes}
 use Rattle.texts.specs.Nesting.{IsTooDeep}
 use Rattle.texts.specs.Pieces.{AreTokens, IsUncut}
 use Rattle.texts.specs.Signatures.{HasPlainReference}
-use Rattle.texts.specs.declared.fault.ParseFault.{ParseFault}
-use Rattle.texts.specs.declared.fault.ParseFault.TheVariants as parse
-use Rattle.texts.specs.declared.lexer.LexFault.{LexFault}
-use Rattle.texts.specs.declared.lexer.LexFault.TheVariants as lex
 use Rattle.texts.specs.declared.token.Token.{Token}
 use Rattle.class_lang.specs.Declarations.{IsProgram}
-use Rattle.class_lang.specs.Limits.{most_bytes, HasFewParameters, IsWithinLimits}
+use Rattle.class_lang.specs.Limits.{HasFewParameters, IsWithinLimits}
 use Rattle.class_lang.specs.declared.fault.TextFault.{TextFault}
 use Rattle.class_lang.specs.declared.fault.TextFault.TheVariants.{TooLarge, BadByte, TooDeepText, Syntax, BadType, TooMany, Memory}
 use Rattle.texts.specs.declared.program.Program.{Program}
@@ -23,15 +20,6 @@ number_of Syntax = Some 5
 number_of BadType = Some 2
 number_of TooMany = Some 3
 number_of Memory = None
-
--- a fault of cutting, and one of reading the tokens, as a fault of the text
-abbrev pub fault_of_cutting : LexFault → TextFault
-fault_of_cutting lex.BadByte = BadByte
-fault_of_cutting lex.Memory = Memory
-
-abbrev pub fault_of_parsing : ParseFault → TextFault
-fault_of_parsing parse.Syntax = Syntax
-fault_of_parsing parse.Memory = Memory
 
 abbrev pub IsShortText : List ℕ → Type 0
 IsShortText bytes = length bytes ≤ most_bytes

@@ -4,15 +4,13 @@
 --   binding = Name Name "." Name "(" [formal {"," formal}] ")" "=" bexpr ";"
 --   formal  = Name Name
 --   bexpr   = expr, in which no null stands, and each path of which is Name "." Name
-use Rattle.std.specs.Prelude.{ℕ, ◌≡◌, ◌&&◌, Bool, true, false, List, [], ◌∷◌, map, Result}
+use Rattle.std.specs.Prelude.{ℕ, ◌≡◌, ◌&&◌, Bool, true, false, List, [], ◌∷◌, map}
 use Rattle.signatures.specs.declared.value.Value.{Value}
 use Rattle.signatures.specs.declared.value.Value.TheVariants as value
 use Rattle.slot_lang.specs.Expressions.{Expression, tree_of_expression}
 use Rattle.slot_lang.specs.Grammar.{spell_value}
 use Rattle.texts.specs.Lists.{spell_listed}
-use Rattle.texts.specs.Reading.{Reads, EndsAnywhere}
 use Rattle.texts.specs.declared.symbol.Symbol.TheVariants.{Dot}
-use Rattle.texts.specs.declared.fault.ParseFault.{ParseFault}
 use Rattle.texts.specs.declared.syntax.Expr.{Expr}
 use Rattle.texts.specs.declared.syntax.Expr.TheOpen as layer
 use Rattle.texts.specs.declared.syntax.Expr.TheFolds.{fold-Expr}
@@ -80,10 +78,3 @@ tree_of_site (site name class property formals e fits) = record {
   formals = map tree_of_formal formals;
   expression = tree_of_expression e;
 }
-
--- ---- what the readers answer
-abbrev pub ReadsFormal : List Token → Result Formal ParseFault → List Token → Type 0
-ReadsFormal before result after = Reads spell_formal tree_of_formal EndsAnywhere before result after
-
-abbrev pub ReadsSite : List Token → Result Site ParseFault → List Token → Type 0
-ReadsSite before result after = Reads spell_site tree_of_site EndsAnywhere before result after

@@ -1,10 +1,11 @@
 //! The declarations of a program.
 
 ghost use Rattle.std.specs.Prelude.{◌≡◌, ◌<◌, ◌≤◌, [], ◌∷◌, length, OnOk};
-ghost use Rattle.texts.specs.Cursor.{NotAt};
-ghost use Rattle.texts.specs.Reading.{Reads, EndsAnywhere};
+ghost use Rattle.texts.specs.code.Cursor.{NotAt};
+ghost use Rattle.texts.specs.code.Reading.{Reads, EndsAnywhere};
 ghost use Rattle.texts.specs.declared.symbol.Symbol.TheVariants.{Colon};
-ghost use Rattle.class_lang.specs.Declarations.{ReadsMembers, ReadsDeclaration, ReadsDeclarations, spell_class, tree_of_class, spell_base, spell_end, tree_of_end, spell_wire, tree_of_wire, spell_owns, tree_of_owns, with_declarations, EndsDeclaration};
+ghost use Rattle.class_lang.specs.code.Declarations.{ReadsMembers, ReadsDeclaration, ReadsDeclarations, with_declarations, EndsDeclaration};
+ghost use Rattle.class_lang.specs.Declarations.{spell_class, tree_of_class, spell_base, spell_end, tree_of_end, spell_wire, tree_of_wire, spell_owns, tree_of_owns};
 
 use crate::members::{add_member, next_member};
 use crate::sites::site;

@@ -32,7 +32,7 @@ pub enum TextFault {
 
 impl From<LexFault> for TextFault {
     ghost use Rattle.std.specs.Prelude.{◌≡◌};
-    ghost use Rattle.class_lang.specs.Reads.{fault_of_cutting};
+    ghost use Rattle.class_lang.specs.code.Faults.{fault_of_cutting};
 
     ghost from_gives = { λ fault made. made ≡ fault_of_cutting fault };
 
@@ -46,7 +46,7 @@ impl From<LexFault> for TextFault {
 
 impl From<ParseFault> for TextFault {
     ghost use Rattle.std.specs.Prelude.{◌≡◌};
-    ghost use Rattle.class_lang.specs.Reads.{fault_of_parsing};
+    ghost use Rattle.class_lang.specs.code.Faults.{fault_of_parsing};
 
     ghost from_gives = { λ fault made. made ≡ fault_of_parsing fault };
 

@@ -8,8 +8,6 @@ use signatures::MOST_PARAMETERS;
 use slot_lang::body_has_few_parameters;
 use texts::{Class, Program, Property, Slot, SlotWork, Wire, has_few_types};
 
-/// Bytes of a text.
-pub const MOST_BYTES: usize = 1_048_576;
 /// Classes of a program.
 const MOST_CLASSES: usize = 64;
 /// Signals, slots and natives of a class, counted together.

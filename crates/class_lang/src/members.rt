@@ -1,8 +1,9 @@
 //! The members of a class.
 
 ghost use Rattle.std.specs.Prelude.{◌≡◌, ◌<◌, ◌≤◌, [], ◌∷◌, length, OnOk};
-ghost use Rattle.texts.specs.Reading.{Reads, EndsAnywhere};
-ghost use Rattle.class_lang.specs.Members.{ReadsInitial, ReadsNotify, ReadsProperty, spell_signal, tree_of_signal, spell_slot, tree_of_slot, spell_member, tree_of_member, with_members};
+ghost use Rattle.texts.specs.code.Reading.{Reads, EndsAnywhere};
+ghost use Rattle.class_lang.specs.code.Members.{ReadsInitial, ReadsNotify, ReadsProperty, with_members};
+ghost use Rattle.class_lang.specs.Members.{spell_signal, tree_of_signal, spell_slot, tree_of_slot, spell_member, tree_of_member};
 
 use crate::natives::native;
 use crate::parameters::{SignalParameterPart, SlotParameterPart};

@@ -1,9 +1,10 @@
 //! Natives: slots whose work is done by a closure of the host.
 
 ghost use Rattle.std.specs.Prelude.{◌<◌, ℕ, List, length, OnOk};
-ghost use Rattle.texts.specs.Reading.{EndsAnywhere, spell_name};
+ghost use Rattle.texts.specs.code.Reading.{EndsAnywhere};
+ghost use Rattle.texts.specs.Reading.{spell_name};
 ghost use Rattle.texts.specs.Signatures.{SigReading, spell_sig, tree_of_sig};
-ghost use Rattle.class_lang.specs.Natives.{ReadsEffects, ReadsNative};
+ghost use Rattle.class_lang.specs.code.Members.{ReadsEffects, ReadsNative};
 
 use crate::parameters::SignalParameterPart;
 use signatures::{Name, Sig};

@@ -1,8 +1,9 @@
 //! The parameters of signals, slots and natives.
 
 ghost use Rattle.std.specs.Prelude.{◌<◌, length, OnOk};
-ghost use Rattle.texts.specs.Reading.{EndsAnywhere};
-ghost use Rattle.class_lang.specs.Parameters.{ReadsSignalParameter, ReadsSlotParameter, SignalParameter, spell_signal_parameter, tree_of_signal_parameter, EndsSignalParameter, SlotParameter, spell_slot_parameter, tree_of_slot_parameter};
+ghost use Rattle.texts.specs.code.Reading.{EndsAnywhere};
+ghost use Rattle.class_lang.specs.code.Members.{ReadsSignalParameter, ReadsSlotParameter, EndsSignalParameter};
+ghost use Rattle.class_lang.specs.Parameters.{SignalParameter, spell_signal_parameter, tree_of_signal_parameter, SlotParameter, spell_slot_parameter, tree_of_slot_parameter};
 
 use texts::{Cursor, Parameter, ParseFault, Part};
 

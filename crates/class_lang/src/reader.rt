@@ -8,9 +8,9 @@ ghost use Rattle.class_lang.specs.Reads.{ReadsProgram, IsNoProgram, HasOneReadin
 
 use crate::declarations::program;
 use crate::fault::TextFault;
-use crate::limits::{MOST_BYTES, has_few_parameters, is_within_limits};
+use crate::limits::{has_few_parameters, is_within_limits};
 use std::alloc::Global;
-use texts::{Cursor, ParseFault, Program, Token, has_plain_reference, nesting, tokens};
+use texts::{Cursor, MOST_BYTES, ParseFault, Program, Token, has_plain_reference, nesting, tokens};
 
 /// Reads a program from its text: at most 1,048,576 bytes, in time that grows as the text does.
 ///

@@ -1,8 +1,9 @@
 //! Bindings.
 
 ghost use Rattle.std.specs.Prelude.{◌≡◌, ◌<◌, length, OnOk};
-ghost use Rattle.texts.specs.Reading.{EndsAnywhere};
-ghost use Rattle.class_lang.specs.Sites.{FormalReading, spell_formal, tree_of_formal, ReadsFormal, ReadsSite, is_bexpr, is_of_formal, is_no_null};
+ghost use Rattle.texts.specs.code.Reading.{EndsAnywhere};
+ghost use Rattle.class_lang.specs.Sites.{FormalReading, spell_formal, tree_of_formal, is_bexpr, is_of_formal, is_no_null};
+ghost use Rattle.class_lang.specs.code.Declarations.{ReadsFormal, ReadsSite};
 
 use signatures::Value;
 use slot_lang::value;

@@ -4,6 +4,7 @@ use Rattle.std.specs.Cmp.Lexicographic.{pointwise}
 use Rattle.std.specs.Option.{option_eq, option_map}
 use Rattle.std.specs.Ordering.{int_eq}
 use Rattle.std.specs.Int.{saturate_signed, w32}
+use Rattle.signatures.specs.Text.{longest_text}
 use Rattle.signatures.specs.declared.value.Value.{Value}
 use Rattle.signatures.specs.declared.value.Value.TheVariants.{Int, Bool as Truth, Text, Ref}
 use Rattle.texts.specs.declared.syntax.Unary.{Unary}
@@ -44,10 +45,10 @@ abbrev pub on_truths : (Bool → Bool → Bool) → Value → Value → Option V
 on_truths f (Truth a) (Truth b) = Some (Truth (f a b))
 on_truths f v w = None
 
--- texts are joined, and the first 255 bytes kept
+-- texts are joined, and as many bytes of the front kept as a text may have
 abbrev pub plus : Value → Value → Option Value
 plus (Int a) (Int b) = number (a +ℤ b)
-plus (Text a) (Text b) = Some (Text (take 255 (a ++ b)))
+plus (Text a) (Text b) = Some (Text (take longest_text (a ++ b)))
 plus v w = None
 
 abbrev pub binary : Binary → Value → Value → Option Value

@@ -3,13 +3,14 @@
 ghost use Rattle.std.specs.Prelude.{◌≡◌, ◌++◌, take, neg_ℤ, IfOk};
 ghost use Rattle.std.specs.Option.{option_map};
 ghost use Rattle.std.specs.Int.{saturate_signed, w32};
+ghost use Rattle.signatures.specs.Text.{longest_text};
 ghost use Rattle.signatures.specs.declared.value.Value.{Value as AValue};
 ghost use Rattle.signatures.specs.declared.value.Value.TheVariants as value;
 ghost use Rattle.expressions.specs.Operators.{unary, binary, AnswersTexts};
 ghost use Rattle.expressions.specs.Evaluation.{Evaluates};
 
 use crate::evaluation::EvalFault;
-use signatures::{MOST_BYTES, ObjectId, Text, Value};
+use signatures::{LONGEST_TEXT, ObjectId, Text, Value};
 use std::alloc::{AllocError, Global};
 use texts::{Binary, Unary};
 
@@ -33,12 +34,12 @@ pub fn apply_unary(operator: Unary, operand: &Value) -> Option<Value>
 
 /// The texts joined, of which the first 255 bytes are kept.
 pub fn join(alloc: Global, left: &Text, right: &Text) -> Result<Text, AllocError>
-    ensures { IfOk result (λ text. text ≡ take 255 (left.now ++ right.now)) }
+    ensures { IfOk result (λ text. text ≡ take longest_text (left.now ++ right.now)) }
 {
     let mut bytes = Vec::new(alloc);
     bytes.extend_from_slice(left.bytes())?;
     bytes.extend_from_slice(right.bytes())?;
-    bytes.truncate(MOST_BYTES);
+    bytes.truncate(LONGEST_TEXT);
     let Some(text) = Text::of(alloc, bytes.as_slice())? else {
         unreachable!();
     };

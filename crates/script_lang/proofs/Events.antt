@@ -1,10 +1,13 @@
 -- Reading events from their parts.
 use Rattle.std.proofs.Common.{ℕ, ◌≡◌, Option, None as no_separator, Result, Ok, Err, List, ◌∷◌, map, refl, sym, ◌∙◌, ap, subst}
-use Rattle.texts.specs.Connections.{spell_connection_type, EndsConnectionType, ReadsConnectionType}
+use Rattle.texts.specs.Connections.{spell_connection_type}
+use Rattle.texts.specs.code.Connections.{EndsConnectionType, ReadsConnectionType}
 use Rattle.texts.specs.Lists.{spell_each, spell_listed}
 use Rattle.texts.specs.Literals.{spell_literal, tree_of_literal}
-use Rattle.texts.specs.Optional.{spell_optional_name, EndsWithoutName}
-use Rattle.texts.specs.Reading.{Found, EndsAnywhere, IsAtEnd, spell_name}
+use Rattle.texts.specs.Optional.{spell_optional_name}
+use Rattle.texts.specs.code.Optional.{EndsWithoutName}
+use Rattle.texts.specs.code.Reading.{Found, EndsAnywhere, IsAtEnd}
+use Rattle.texts.specs.Reading.{spell_name}
 use Rattle.texts.specs.declared.connection.ConnectionType.{ConnectionType}
 use Rattle.texts.specs.declared.connection.Endpoints.{Endpoints}
 use Rattle.texts.specs.declared.fault.ParseFault.{ParseFault}
@@ -18,7 +21,8 @@ use Rattle.script_lang.specs.declared.event.Event.TheVariants as tree
 use Rattle.script_lang.specs.declared.event.Input.{Input}
 use Rattle.script_lang.specs.declared.event.Input.TheVariants as input
 use Rattle.script_lang.specs.declared.verb.Verb.{Verb}
-use Rattle.script_lang.specs.Grammar.{InputReading, literal, named, spell_input, tree_of_input, spell_verb, Member, spell_member, spell_invocation, tree_of_invocation, spell_new, tree_of_new, spell_adopt, tree_of_adopt, spell_name_ends, tree_of_name_ends, spell_connect, tree_of_connect, spell_assignment, tree_of_assignment, spell_bind, tree_of_bind, Follow, spell_follow, Reading, spell_event, ReadsFollow, ReadsEvent}
+use Rattle.script_lang.specs.Grammar.{InputReading, literal, named, spell_input, tree_of_input, spell_verb, Member, spell_member, spell_invocation, spell_new, tree_of_new, spell_adopt, tree_of_adopt, spell_name_ends, tree_of_name_ends, spell_connect, tree_of_connect, spell_assignment, tree_of_assignment, spell_bind, tree_of_bind, Follow, spell_follow, Reading, spell_event}
+use Rattle.script_lang.specs.code.Grammar.{tree_of_invocation, ReadsFollow, ReadsEvent}
 use Rattle.script_lang.proofs.OneTree.{literal_unnamed, no_name_at_end, how_at_end, one_verb}
 
 -- the same reading of a whole line, whose tree stands in another one

@@ -2,7 +2,8 @@
 use Rattle.std.proofs.Common.{◌≡◌, ℕ, List, [], ◌∷◌, ◌++◌, refl, sym, ◌∙◌, ap, append_assoc}
 use Rattle.std.proofs.lemmas.List.{append-nil}
 use Rattle.texts.specs.Lists.{spell_each}
-use Rattle.texts.specs.Reading.{Found, EndsAnywhere, IsAtEnd, spell_name}
+use Rattle.texts.specs.code.Reading.{Found, EndsAnywhere, IsAtEnd}
+use Rattle.texts.specs.Reading.{spell_name}
 use Rattle.texts.specs.declared.token.Token.{Token}
 use Rattle.texts.proofs.Underway.{None, Underway}
 

@@ -1,14 +1,17 @@
 -- No two readings with the same tokens stand for different events.
 use Rattle.std.proofs.Common.{◌≡◌, ℕ, true, false, List, [], ◌∷◌, map, Option, Some, None, cond, nat_eq, sum, refl, sym, ◌∙◌, ap, subst}
 use Rattle.signatures.specs.Words.{word_spelling}
-use Rattle.texts.specs.Connections.{spell_connection_type, EndsConnectionType}
+use Rattle.texts.specs.Connections.{spell_connection_type}
+use Rattle.texts.specs.code.Connections.{EndsConnectionType}
 use Rattle.texts.specs.Literals.{UnsignedReading, plain, truth, quoted, null, token_of_unsigned, LiteralReading, unsigned, negative, spell_literal}
-use Rattle.texts.specs.Optional.{EndsWithoutName}
-use Rattle.texts.specs.Reading.{EndsAnywhere, IsAtEnd, spell_name}
+use Rattle.texts.specs.code.Optional.{EndsWithoutName}
+use Rattle.texts.specs.code.Reading.{EndsAnywhere, IsAtEnd}
+use Rattle.texts.specs.Reading.{spell_name}
 use Rattle.texts.specs.declared.symbol.Symbol.TheVariants.{Close}
 use Rattle.texts.specs.declared.token.Token.{Token}
 use Rattle.texts.specs.declared.token.Token.TheVariants as token
-use Rattle.texts.specs.Lists.{IsPart, spell_each}
+use Rattle.texts.specs.code.Lists.{IsPart}
+use Rattle.texts.specs.Lists.{spell_each}
 use Rattle.texts.proofs.Both.{one_tree_of_both}
 use Rattle.texts.proofs.Connections.{one_tree_of_ends, one_tree_of_connection_type}
 use Rattle.texts.proofs.OneTree.{HasOneTree, one_tree_of_listed, one_tree_of_literal, one_tree_of_optional_name}
@@ -16,7 +19,8 @@ use Rattle.script_lang.specs.declared.event.Event.TheVariants as tree
 use Rattle.script_lang.specs.declared.event.Input.TheVariants as input
 use Rattle.script_lang.specs.declared.verb.Verb.{Verb}
 use Rattle.script_lang.specs.declared.verb.Verb.TheVariants as verb
-use Rattle.script_lang.specs.Grammar.{InputReading, literal, named, spell_input, tree_of_input, verb_token, spell_invocation, tree_of_invocation, spell_new, tree_of_new, spell_name_ends, tree_of_name_ends, spell_connect, tree_of_connect, tree_of_disconnect, spell_assignment, tree_of_assignment, spell_bind, tree_of_bind, Follow, spell_follow, tree_of_follow, Reading, spell_event, tree_of_event}
+use Rattle.script_lang.specs.Grammar.{InputReading, literal, named, spell_input, tree_of_input, verb_token, spell_invocation, spell_new, tree_of_new, spell_name_ends, tree_of_name_ends, spell_connect, tree_of_connect, tree_of_disconnect, spell_assignment, tree_of_assignment, spell_bind, tree_of_bind, Follow, spell_follow, tree_of_follow, Reading, spell_event, tree_of_event}
+use Rattle.script_lang.specs.code.Grammar.{tree_of_invocation}
 
 -- ---- values
 

@@ -2,8 +2,9 @@
 use Rattle.std.proofs.Common.{◌≡◌, ℕ, ◌≤◌, ◌+◌, List, [], ◌∷◌, ◌++◌, length, refl, sym, ◌∙◌, ap, Option, Some, None, Bool, true, false, IsTrue, ◌↔◌, All, arith}
 use Rattle.std.proofs.lemmas.List.{append-nil, length-append}
 use Rattle.texts.proofs.Cut.{same_tokens}
+use Rattle.texts.specs.Limits.{most_bytes}
 use Rattle.texts.specs.Pieces.{AreTokens}
-use Rattle.texts.specs.Reading.{Found, IsAtEnd}
+use Rattle.texts.specs.code.Reading.{Found, IsAtEnd}
 use Rattle.texts.specs.Signatures.{HasFewTypes, HasPlainReference}
 use Rattle.texts.specs.declared.fault.ParseFault.{ParseFault}
 use Rattle.texts.specs.declared.fault.ParseFault.TheVariants as parse
@@ -14,7 +15,8 @@ use Rattle.script_lang.specs.declared.fault.LineFault.TheVariants.{NoEvent}
 use Rattle.script_lang.specs.declared.event.Event.{Event}
 use Rattle.script_lang.specs.Grammar.{Reading, signatures_in, spell_event, tree_of_event}
 use Rattle.texts.specs.Lines.{IsFrontLine, AreFrontLines}
-use Rattle.script_lang.specs.Reads.{fault_of_cutting, fault_of_parsing, IsEmptyLine, IsEventLine, Holds, before, AreEvents, most_bytes, IsScript, IsBadLine}
+use Rattle.script_lang.specs.code.Lines.{fault_of_cutting, fault_of_parsing}
+use Rattle.script_lang.specs.Reads.{IsEmptyLine, IsEventLine, Holds, before, AreEvents, IsScript, IsBadLine}
 use Rattle.texts.proofs.FrontLines.{one_more_line}
 use Rattle.script_lang.proofs.OneTree.{one_event}
 

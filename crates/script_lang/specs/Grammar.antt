@@ -20,18 +20,17 @@
 --   value = literal | Name
 --
 -- `connect`, `disconnect`, `set`, `emit`, `call`, `delete` and `later` are reserved words; the other verbs are names.
-use Rattle.std.specs.Prelude.{ℕ, ◌≡◌, ◌≢◌, List, [], ◌∷◌, map, codes, Option, Some, None, Result, All}
+use Rattle.std.specs.Prelude.{ℕ, ◌≡◌, List, [], ◌∷◌, map, codes, Option, None, All}
 use Rattle.signatures.specs.declared.sig.Sig.{Sig}
 use Rattle.signatures.specs.declared.word.Word.TheVariants as word
 use Rattle.texts.specs.Connections.{BothEnds, spell_ends, tree_of_ends, spell_connection_type, signatures_at}
 use Rattle.texts.specs.Lists.{spell_each, spell_listed}
 use Rattle.texts.specs.Literals.{LiteralReading, spell_literal, tree_of_literal}
 use Rattle.texts.specs.Optional.{spell_optional_name}
-use Rattle.texts.specs.Reading.{Reads, IsAtEnd, spell_name}
+use Rattle.texts.specs.Reading.{spell_name}
 use Rattle.texts.specs.Signatures.{HasFewTypes, HasPlainReference}
 use Rattle.texts.specs.declared.connection.ConnectionType.{ConnectionType}
 use Rattle.texts.specs.declared.connection.Endpoints.{Endpoints}
-use Rattle.texts.specs.declared.fault.ParseFault.{ParseFault}
 use Rattle.texts.specs.declared.symbol.Symbol.TheVariants.{Dot}
 use Rattle.texts.specs.declared.token.Token.{Token}
 use Rattle.texts.specs.declared.token.Token.TheVariants as token
@@ -76,11 +75,6 @@ verb_token verb.Unblock = token.Name (codes "unblock")
 verb_token verb.Delete = token.Word word.Delete
 verb_token verb.Later = token.Word word.Later
 
--- the verb that the token is, if it is one
-abbrev pub IsVerbOf : Token → Option Verb → Type 0
-IsVerbOf t (Some verb) = t ≡ verb_token verb
-IsVerbOf t None = (verb : Verb) → t ≢ verb_token verb
-
 abbrev pub spell_verb : Verb → List Token → List Token
 spell_verb v after = verb_token v ∷ after
 
@@ -98,9 +92,6 @@ pub record Invocation : Type 0 where
 
 abbrev pub spell_invocation : Invocation → List Token → List Token
 spell_invocation i after = spell_member i.member (spell_listed spell_input i.arguments after)
-
-abbrev pub tree_of_invocation : Invocation → List ℕ × List ℕ × List Input
-tree_of_invocation i = (i.member.0, i.member.1, map tree_of_input i.arguments)
 
 -- ---- what follows the verb of an event
 
@@ -294,14 +285,3 @@ pub record IsEvent (tokens : List Token) (event : Event) : Type 0 where
   pub few_types : All HasFewTypes (signatures_in event)
   -- signatures have a normal form
   pub normal : ¬ HasPlainReference tokens
-
--- ---- what the readers answer, for all tokens of a line
-
-abbrev pub ReadsNames : List Token → Result (List (List ℕ)) ParseFault → List Token → Type 0
-ReadsNames before result after = Reads (spell_each spell_name) (λ names. names) IsAtEnd before result after
-
-abbrev pub ReadsFollow : Verb → List Token → Result Event ParseFault → List Token → Type 0
-ReadsFollow v before result after = Reads (spell_follow v) (tree_of_follow v) IsAtEnd before result after
-
-abbrev pub ReadsEvent : List Token → Result Event ParseFault → List Token → Type 0
-ReadsEvent before result after = Reads spell_event tree_of_event IsAtEnd before result after

@@ -1,17 +1,12 @@
 -- What the reader answers for a text (docs/language.md, "Scripts").
 use Rattle.std.specs.Prelude.{ℕ, ◌≡◌, ◌≢◌, ◌+◌, ◌≤◌, ◌<◌, List, [], ◌∷◌, length, Option, Some, None, Result, Ok, Err}
 use Rattle.texts.specs.Pieces.{AreTokens}
-use Rattle.texts.specs.declared.fault.ParseFault.{ParseFault}
-use Rattle.texts.specs.declared.fault.ParseFault.TheVariants as parse
-use Rattle.texts.specs.declared.lexer.LexFault.{LexFault}
-use Rattle.texts.specs.declared.lexer.LexFault.TheVariants as lex
 use Rattle.texts.specs.declared.token.Token.{Token}
 use Rattle.script_lang.specs.Grammar.{IsEvent}
+use Rattle.texts.specs.Limits.{most_bytes}
 use Rattle.texts.specs.Lines.{IsFrontLine, AreFrontLines, AreLines}
 use Rattle.script_lang.specs.declared.event.Event.{Event}
-use Rattle.script_lang.specs.declared.fault.LineFault.{LineFault}
 use Rattle.script_lang.specs.declared.fault.LineFault.TheVariants as line
-use Rattle.script_lang.specs.declared.fault.LineFault.TheVariants.{NoEvent}
 use Rattle.script_lang.specs.declared.fault.ScriptFault.{ScriptFault}
 use Rattle.script_lang.specs.declared.fault.ScriptFault.TheVariants.{TooLarge, BadLine, Memory}
 
@@ -30,20 +25,6 @@ abbrev pub Holds : List ℕ → Option Event → Type 0
 Holds line None = IsEmptyLine line
 Holds line (Some event) = IsEventLine line event
 
--- a fault of cutting a line, and one of reading its tokens, as the line's
-abbrev pub fault_of_cutting : LexFault → LineFault
-fault_of_cutting lex.BadByte = NoEvent
-fault_of_cutting lex.Memory = line.Memory
-
-abbrev pub fault_of_parsing : ParseFault → LineFault
-fault_of_parsing parse.Syntax = NoEvent
-fault_of_parsing parse.Memory = line.Memory
-
--- what the reader answers for a line
-abbrev pub ReadsLine : List ℕ → Result (Option Event) LineFault → Type 0
-ReadsLine line (Ok found) = Holds line found
-ReadsLine line (Err fault) = fault ≡ NoEvent → (found : Option Event) → Holds line found → ⊥
-
 abbrev pub before : Option Event → List Event → List Event
 before None events = events
 before (Some event) events = event ∷ events
@@ -53,10 +34,6 @@ abbrev pub AreEvents : List (List ℕ) → List Event → Type 0
 AreEvents [] events = events ≡ []
 AreEvents (line ∷ lines) events =
     (found : Option Event) × (later : List Event) × Holds line found × AreEvents lines later × (events ≡ before found later)
-
--- the most bytes that a script has
-abbrev pub most_bytes : ℕ
-most_bytes = 1048576
 
 -- the text is a script with these events
 pub record IsScript (text : List ℕ) (events : List Event) : Type 0 where

@@ -42,7 +42,7 @@ pub enum LineFault {
 
 impl From<LexFault> for LineFault {
     ghost use Rattle.std.specs.Prelude.{◌≡◌};
-    ghost use Rattle.script_lang.specs.Reads.{fault_of_cutting};
+    ghost use Rattle.script_lang.specs.code.Lines.{fault_of_cutting};
 
     ghost from_gives = { λ fault made. made ≡ fault_of_cutting fault };
 
@@ -56,7 +56,7 @@ impl From<LexFault> for LineFault {
 
 impl From<ParseFault> for LineFault {
     ghost use Rattle.std.specs.Prelude.{◌≡◌};
-    ghost use Rattle.script_lang.specs.Reads.{fault_of_parsing};
+    ghost use Rattle.script_lang.specs.code.Lines.{fault_of_parsing};
 
     ghost from_gives = { λ fault made. made ≡ fault_of_parsing fault };
 

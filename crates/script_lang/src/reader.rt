@@ -1,7 +1,8 @@
 //! Reads a script, line by line.
 
 ghost use Rattle.std.specs.Prelude.{ℕ, List};
-ghost use Rattle.script_lang.specs.Reads.{ReadsScript, ReadsLine, HasOneContent, HasOneScript, HasOneAnswer};
+ghost use Rattle.script_lang.specs.Reads.{ReadsScript, HasOneContent, HasOneScript, HasOneAnswer};
+ghost use Rattle.script_lang.specs.code.Lines.{ReadsLine};
 
 use crate::event::Event;
 use crate::fault::{LineFault, ScriptFault};
@@ -9,10 +10,7 @@ use crate::limits::event_has_few_types;
 use crate::syntax::event;
 use sqlite_items::Items;
 use std::alloc::Global;
-use texts::{Cursor, has_plain_reference, split_line, tokens};
-
-/// The most bytes of a script.
-const MOST_BYTES: usize = 1_048_576;
+use texts::{Cursor, MOST_BYTES, has_plain_reference, split_line, tokens};
 
 /// Reads the events of a script, in their order.
 ///

@@ -1,9 +1,11 @@
 //! The grammar of events, one function a rule.
 
 ghost use Rattle.std.specs.Prelude.{ℕ, List, ◌<◌, length, OnOk};
-ghost use Rattle.script_lang.specs.Grammar.{InputReading, spell_input, tree_of_input, spell_verb, spell_member, spell_invocation, tree_of_invocation, ReadsNames, ReadsFollow, ReadsEvent};
+ghost use Rattle.script_lang.specs.Grammar.{InputReading, spell_input, tree_of_input, spell_verb, spell_member, spell_invocation};
+ghost use Rattle.script_lang.specs.code.Grammar.{tree_of_invocation, ReadsNames, ReadsFollow, ReadsEvent};
 ghost use Rattle.script_lang.specs.declared.verb.Verb.TheVariants.{Loop, Turn, New, Adopt, Connect, Disconnect, Set, Emit, Call, Bind, Block, Unblock, Delete, Later};
-ghost use Rattle.texts.specs.Reading.{Reads, EndsAnywhere, spell_name};
+ghost use Rattle.texts.specs.code.Reading.{Reads, EndsAnywhere};
+ghost use Rattle.texts.specs.Reading.{spell_name};
 
 use crate::event::{Event, Input};
 use crate::verb::Verb;

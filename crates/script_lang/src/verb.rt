@@ -1,6 +1,6 @@
 //! What events begin with.
 
-ghost use Rattle.script_lang.specs.Grammar.{IsVerbOf};
+ghost use Rattle.script_lang.specs.code.Grammar.{IsVerbOf};
 ghost use Rattle.texts.specs.declared.token.Token.TheVariants as token;
 
 use signatures::{Name, Word};

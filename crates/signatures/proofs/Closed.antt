@@ -3,7 +3,8 @@ use Rattle.std.proofs.Common.{◌≡◌, ◌↔◌, true, false, List, [], ◌�
 use Rattle.std.specs.Prelude.{not, IsTrue, is_some, Option, Some, None, Bool}
 use Rattle.std.specs.List.{AllByRecursion}
 use Rattle.signatures.specs.Signatures.{IsPart, IsClosed}
-use Rattle.signatures.specs.Tokens.{Token, mark, TakesNext}
+use Rattle.signatures.specs.Tokens.{Token, mark}
+use Rattle.signatures.specs.code.Scanning.{TakesNext}
 use Rattle.signatures.specs.declared.scanner.Mark.TheVariants.{Close}
 use Rattle.signatures.specs.declared.scanner.Scanned.{Scanned}
 

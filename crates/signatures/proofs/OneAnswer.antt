@@ -1,6 +1,6 @@
 -- A text has one normal form, and one answer.
 use Rattle.std.proofs.Common.{◌≡◌, ◌⊎◌, ℕ, List, [], ◌∷◌, Result, Ok, Err, refl, sym, ap, arith, inl, inr}
-use Rattle.signatures.specs.Reading.{const_word}
+use Rattle.signatures.specs.code.Reading.{const_word}
 use Rattle.signatures.specs.Signatures.{spell_ending, spell_named, spell_type, spell_others, spell_list, TypeReading, IsClosed, IsFramed, IsTyped, Normal, HasTooMany, Normalises}
 use Rattle.signatures.specs.Tokens.{Token, word, mark}
 use Rattle.signatures.specs.declared.fault.SigFault.{SigFault}

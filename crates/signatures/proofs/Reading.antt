@@ -3,7 +3,7 @@ use Rattle.std.proofs.Common.{◌≡◌, ℕ, Bool, true, false, List, [], ◌�
 use Rattle.std.proofs.lemmas.List.{append-nil}
 use Rattle.std.specs.Prelude.{Err}
 use Rattle.std.specs.List.{AllByRecursion, AllZip}
-use Rattle.signatures.specs.Reading.{NotAt, Eats, const_word, separator, NamedAt, NoNamedAt, TypeAt, ReadsType, ReadsTypes}
+use Rattle.signatures.specs.code.Reading.{NotAt, Eats, const_word, separator, NamedAt, NoNamedAt, TypeAt, ReadsType, ReadsTypes}
 use Rattle.signatures.specs.Signatures.{spell_ending, spell_named, spell_type, spell_others, spell_list, TypeReading, IsFreeName, IsTypeOf, AreTypes, IsPart, IsClosed, IsTyped, Normalises}
 use Rattle.signatures.specs.Tokens.{Token, word, mark, tokens_of}
 use Rattle.signatures.specs.declared.fault.SigFault.{SigFault}

@@ -9,7 +9,8 @@ use Rattle.signatures.specs.Name.{IsName, is_name_byte}
 use Rattle.signatures.specs.Normal.{normal_of}
 use Rattle.signatures.specs.Signatures.{spell_type, spell_others, spell_list, TypeReading, IsFreeName, IsTypeOf, Normal}
 use Rattle.signatures.specs.Spelling.{const_text, star_text, text_of_type, text_of_others, text_of_types, text_of_sig}
-use Rattle.signatures.specs.Tokens.{word, mark, tokens_of, EndsWord}
+use Rattle.signatures.specs.Tokens.{word, mark, tokens_of}
+use Rattle.signatures.specs.code.Scanning.{EndsWord}
 use Rattle.signatures.specs.declared.normal.ConstPlace.{ConstPlace}
 use Rattle.signatures.specs.declared.normal.ConstPlace.TheVariants.{Nowhere, Before, After}
 use Rattle.signatures.specs.declared.normal.TypeEnding.{TypeEnding}

@@ -3,7 +3,8 @@ use Rattle.std.proofs.Common.{◌≡◌, ℕ, zero, suc, ◌<◌, ◌≤◌, Boo
 use Rattle.std.proofs.lemmas.List.{append-nil}
 use Rattle.std.specs.List.{AllByRecursion}
 use Rattle.signatures.specs.Name.{is_name_byte}
-use Rattle.signatures.specs.Tokens.{Token, word, mark, is_blank, mark_of, ended, tokens_from, tokens_of, StopsBy, EndsWord, IsRunBy}
+use Rattle.signatures.specs.Tokens.{Token, word, mark, is_blank, mark_of, ended, tokens_from, tokens_of, StopsBy, IsRunBy}
+use Rattle.signatures.specs.code.Scanning.{EndsWord}
 
 -- ---- runs
 

@@ -3,7 +3,7 @@ use Rattle.std.proofs.Common.{◌≡◌, ℕ, Bool, true, false, List, [], ◌�
 use Rattle.std.specs.Prelude.{codes}
 use Rattle.std.specs.List.{AllZip}
 use Rattle.signatures.specs.Normal.{normal_of}
-use Rattle.signatures.specs.Reading.{NotAt, const_word, separator}
+use Rattle.signatures.specs.code.Reading.{NotAt, const_word, separator}
 use Rattle.signatures.specs.Signatures.{spell_ending, spell_named, spell_type, spell_others, spell_list, TypeReading, IsFreeName, IsTypeOf, AreTypes, IsTyped}
 use Rattle.signatures.specs.Tokens.{Token, word, mark}
 use Rattle.signatures.specs.declared.normal.ConstPlace.{ConstPlace}

@@ -6,6 +6,6 @@ pub mod Values
 pub mod Normal
 pub mod Tokens
 pub mod Signatures
-pub mod Reading
 pub mod Spelling
 pub mod Laws
+pub mod code

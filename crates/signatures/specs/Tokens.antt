@@ -1,11 +1,9 @@
 -- The words and marks of a signature's text (docs/language.md, "Signatures").
-use Rattle.std.specs.Prelude.{ℕ, Bool, ◌≡◌, true, false, ◌||◌, nat_eq, List, [], ◌∷◌, ◌++◌, if◌then◌else◌, Option, Some, None}
+use Rattle.std.specs.Prelude.{ℕ, Bool, ◌≡◌, true, false, ◌||◌, nat_eq, List, [], ◌∷◌, ◌++◌, if◌then◌else◌}
 use Rattle.std.specs.List.{AllByRecursion}
 use Rattle.signatures.specs.Name.{is_name_byte}
 use Rattle.signatures.specs.declared.scanner.Mark.{Mark}
 use Rattle.signatures.specs.declared.scanner.Mark.TheVariants.{Open, Close, Comma, Ampersand, Star, Other}
-use Rattle.signatures.specs.declared.scanner.Scanned.{Scanned}
-use Rattle.signatures.specs.declared.scanner.Scanned.TheVariants as scanned
 
 pub data Token : Type 0 where
   word : List ℕ → Token
@@ -40,16 +38,6 @@ tokens_from so_far (b ∷ bs) =
 abbrev pub tokens_of : List ℕ → List Token
 tokens_of = tokens_from []
 
--- what was scanned, as a token
-abbrev pub token_of : Scanned → Token
-token_of (scanned.Word letters) = word letters.now
-token_of (scanned.Mark m) = mark m
-
--- the next word or mark is taken, or none is left
-abbrev pub TakesNext : List Token → Option Scanned → List Token → Type 0
-TakesNext before None after = (before ≡ []) × (after ≡ [])
-TakesNext before (Some next) after = before ≡ token_of next ∷ after
-
 -- a run of bytes that pass the test doesn't go on there
 abbrev pub StopsBy : (ℕ → Bool) → List ℕ → Type 0
 StopsBy test [] = Unit {0}
@@ -60,7 +48,3 @@ pub record IsRunBy (test : ℕ → Bool) (bytes taken rest : List ℕ) : Type 0 
   pub split : bytes ≡ taken ++ rest
   pub each : AllByRecursion (λ b. test b ≡ true) taken
   pub stops : StopsBy test rest
-
--- no word goes on there
-abbrev pub EndsWord : List ℕ → Type 0
-EndsWord rest = StopsBy is_name_byte rest

@@ -27,6 +27,6 @@ pub use qtype::{QType, types_are_same, types_begin_with};
 pub use reader::{MOST_PARAMETERS, normalise, one_normal_form, texts_are_normal};
 pub use scanner::is_blank;
 pub use sig::{Sig, fits, fits_in_order};
-pub use text::{MOST_BYTES, Text, is_text, is_text_byte};
+pub use text::{LONGEST_TEXT, Text, is_text, is_text_byte};
 pub use value::Value;
 pub use word::Word;

@@ -2,7 +2,7 @@
 
 ghost use Rattle.std.specs.Prelude.{◌<◌, length, OnOk, IsTrue, ◌↔◌};
 ghost use Rattle.signatures.specs.Laws.{AtMostEight, NormalFormsAreNormal, OneAnswer, OneNormalForm, TextsAreNormal};
-ghost use Rattle.signatures.specs.Reading.{const_word, Eats, TakesName, TakesSeparator, TakesNamed, EndingAt, ReadsType, ReadsTypes};
+ghost use Rattle.signatures.specs.code.Reading.{const_word, Eats, TakesName, TakesSeparator, TakesNamed, EndingAt, ReadsType, ReadsTypes};
 ghost use Rattle.signatures.specs.Signatures.{IsClosed, Normalises};
 ghost use Rattle.signatures.specs.Tokens.{mark as mark_token};
 

@@ -3,7 +3,8 @@
 ghost use Rattle.std.specs.Prelude.{◌≡◌, ◌↔◌, IsTrue};
 ghost use Rattle.signatures.specs.Name.{is_name_byte};
 ghost use Rattle.signatures.specs.Signatures.{IsPart};
-ghost use Rattle.signatures.specs.Tokens.{is_blank, mark as mark_token, mark_of, token_of, tokens_of, IsRunBy, TakesNext};
+ghost use Rattle.signatures.specs.Tokens.{is_blank, mark as mark_token, mark_of, tokens_of, IsRunBy};
+ghost use Rattle.signatures.specs.code.Scanning.{token_of, TakesNext};
 
 use crate::name::is_name_byte;
 use std::marker::Model;

@@ -5,8 +5,8 @@ use std::alloc::{AllocError, Global};
 use std::marker::Model;
 use std::rc::RcSlice;
 
-/// The most bytes that a text has.
-pub const MOST_BYTES: usize = 255;
+/// How many bytes a text has at most.
+pub const LONGEST_TEXT: usize = 255;
 
 /// A text: at most 255 bytes, each from 32 to 126 and none of them 34, the quote. Copies share its bytes.
 pub struct Text {
@@ -81,7 +81,7 @@ impl Text {
 pub fn is_text(bytes: &[u8]) -> bool
     ensures { IsTrue result ↔ IsText bytes.now }
 {
-    bytes.len() <= MOST_BYTES && bytes.iter().all(|byte| is_text_byte(*byte))
+    bytes.len() <= LONGEST_TEXT && bytes.iter().all(|byte| is_text_byte(*byte))
 }
 
 /// Whether a text may have the byte: 32 to 126, and not 34.

@@ -1,8 +1,9 @@
 -- Rules of the form `part {operator part}`, one set of lemmas for all of them.
 use Rattle.std.proofs.Common.{◌≡◌, ◌∙◌, ◌⊎◌, List, ◌∷◌, inl, inr, sym, ap}
-use Rattle.slot_lang.specs.Expressions.{EndsChain}
-use Rattle.slot_lang.specs.Precedence.{symbol_of, precedence_of, Operator, NoOperator}
-use Rattle.texts.specs.Reading.{Found}
+use Rattle.slot_lang.specs.code.Expressions.{EndsChain}
+use Rattle.slot_lang.specs.Precedence.{symbol_of, precedence_of, Operator}
+use Rattle.slot_lang.specs.code.Precedence.{NoOperator}
+use Rattle.texts.specs.code.Reading.{Found}
 use Rattle.slot_lang.specs.declared.precedence.Precedence.{Precedence}
 use Rattle.texts.specs.declared.syntax.Binary.{Binary}
 use Rattle.texts.specs.declared.syntax.Expr.{Expr}

@@ -1,11 +1,13 @@
 -- Factors.
 use Rattle.std.proofs.Common.{◌≡◌, ◌∙◌, ℕ, List, [], ◌∷◌, Result, Ok, Err, MatchResult, true, false, refl, sym, ap}
 use Rattle.signatures.specs.declared.word.Word.TheVariants as word
-use Rattle.texts.specs.Cursor.{NotAt, NotAtWord}
-use Rattle.slot_lang.specs.Expressions.{Expression, Factor, prefixed, literal, path, grouped, spell_expression, spell_factor, spell_group, spell_names, spell_root, tree_of_expression, tree_of_factor, EndsExpression, EndsFactor}
-use Rattle.texts.specs.Literals.{UnsignedReading, plain, truth, quoted, null, token_of_unsigned, IsUnsigned, literal_value}
+use Rattle.texts.specs.code.Cursor.{NotAt, NotAtWord}
+use Rattle.slot_lang.specs.Expressions.{Expression, Factor, prefixed, literal, path, grouped, spell_expression, spell_factor, spell_group, spell_names, spell_root, tree_of_expression, tree_of_factor}
+use Rattle.slot_lang.specs.code.Expressions.{EndsExpression, EndsFactor}
+use Rattle.texts.specs.Literals.{UnsignedReading, plain, truth, quoted, null, token_of_unsigned, literal_value}
+use Rattle.texts.specs.code.Literals.{IsUnsigned}
 use Rattle.slot_lang.specs.Precedence.{prefix_symbol_of}
-use Rattle.texts.specs.Reading.{EndsAnywhere, Found, Reads}
+use Rattle.texts.specs.code.Reading.{EndsAnywhere, Found, Reads}
 use Rattle.texts.specs.declared.fault.ParseFault.{ParseFault}
 use Rattle.texts.specs.declared.fault.ParseFault.TheVariants.{Syntax}
 use Rattle.texts.specs.declared.symbol.Symbol.{Symbol}

@@ -1,9 +1,11 @@
 -- The rules of expressions between operands.
 use Rattle.std.proofs.Common.{◌≡◌, ◌∙◌, ◌⊎◌, ℕ, List, ◌∷◌, inl, inr, refl, sym}
-use Rattle.slot_lang.specs.Expressions.{Expression, expression, Conjunctions, no_conjunction, or_else, Conjunction, conjunction, Comparisons, no_comparison, and_also, Comparison, alone, compared, Sum, sum, Terms, no_term, signed, Term, term, Factors, no_factor, times, Factor, spell_expression, spell_conjunctions, spell_conjunction, spell_comparisons, spell_comparison, spell_sum, spell_terms, spell_term, spell_factors, spell_factor, tree_of_expression, tree_of_conjunctions, tree_of_conjunction, tree_of_comparisons, tree_of_comparison, tree_of_sum, tree_of_terms, tree_of_term, tree_of_factors, tree_of_factor, EndsFactor, EndsTerm, EndsSum, EndsComparison, EndsConjunction}
-use Rattle.slot_lang.specs.Levels.{precedence_at, spell_at, tree_at, spell_operand, tree_of_operand, EndsOperand}
-use Rattle.slot_lang.specs.Precedence.{symbol_of, precedence_of, Operator, NoOperator}
-use Rattle.texts.specs.Reading.{Found}
+use Rattle.slot_lang.specs.Expressions.{Expression, expression, Conjunctions, no_conjunction, or_else, Conjunction, conjunction, Comparisons, no_comparison, and_also, Comparison, alone, compared, Sum, sum, Terms, no_term, signed, Term, term, Factors, no_factor, times, Factor, spell_expression, spell_conjunctions, spell_conjunction, spell_comparisons, spell_comparison, spell_sum, spell_terms, spell_term, spell_factors, spell_factor, tree_of_expression, tree_of_conjunctions, tree_of_conjunction, tree_of_comparisons, tree_of_comparison, tree_of_sum, tree_of_terms, tree_of_term, tree_of_factors, tree_of_factor}
+use Rattle.slot_lang.specs.code.Expressions.{EndsFactor, EndsTerm, EndsSum, EndsComparison, EndsConjunction}
+use Rattle.slot_lang.specs.code.Levels.{precedence_at, spell_at, tree_at, spell_operand, tree_of_operand, EndsOperand}
+use Rattle.slot_lang.specs.Precedence.{symbol_of, precedence_of, Operator}
+use Rattle.slot_lang.specs.code.Precedence.{NoOperator}
+use Rattle.texts.specs.code.Reading.{Found}
 use Rattle.slot_lang.specs.declared.precedence.Level.{Level}
 use Rattle.slot_lang.specs.declared.precedence.Level.TheVariants as level
 use Rattle.slot_lang.specs.declared.precedence.Precedence.TheVariants as precedence

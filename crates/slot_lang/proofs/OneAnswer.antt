@@ -2,7 +2,8 @@
 use Rattle.std.proofs.Common.{◌≡◌, ◌⊎◌, List, Result, Ok, Err, All, IsTrue, false, ◌↔◌, refl, ap, inl, inr}
 use Rattle.slot_lang.specs.Bodies.{signatures_in}
 use Rattle.slot_lang.specs.Grammar.{IsBody}
-use Rattle.slot_lang.specs.Reads.{fault_of_parsing, HasTooManyParameters, IsNormalBody, ReadsBody}
+use Rattle.slot_lang.specs.code.Faults.{fault_of_parsing}
+use Rattle.slot_lang.specs.Reads.{HasTooManyParameters, IsNormalBody, ReadsBody}
 use Rattle.slot_lang.specs.declared.fault.BodyFault.{BodyFault}
 use Rattle.slot_lang.specs.declared.fault.BodyFault.TheVariants.{Syntax, BadType, TooMany, Memory}
 use Rattle.texts.specs.Signatures.{HasFewTypes}

@@ -1,8 +1,9 @@
 -- No two readings of an expression with the same tokens stand for different trees.
 use Rattle.std.proofs.Common.{◌≡◌, ◌∙◌, ℕ, List, [], ◌∷◌, refl, sym, ap}
 use Rattle.texts.specs.Literals.{literal_value}
-use Rattle.texts.specs.Cursor.{NotAt}
-use Rattle.slot_lang.specs.Expressions.{Expression, expression, Conjunctions, no_conjunction, or_else, Conjunction, conjunction, Comparisons, no_comparison, and_also, Comparison, alone, compared, Sum, sum, Terms, no_term, signed, Term, term, Factors, no_factor, times, Factor, prefixed, literal, path, grouped, spell_root, spell_names, spell_path, spell_expression, spell_conjunctions, spell_conjunction, spell_comparisons, spell_comparison, spell_sum, spell_terms, spell_term, spell_factors, spell_factor, spell_group, tree_of_expression, tree_of_conjunctions, tree_of_conjunction, tree_of_comparisons, tree_of_comparison, tree_of_sum, tree_of_terms, tree_of_term, tree_of_factors, tree_of_factor, EndsFactor, EndsTerm, EndsSum, EndsComparison, EndsConjunction, EndsExpression, IsExpr}
+use Rattle.texts.specs.code.Cursor.{NotAt}
+use Rattle.slot_lang.specs.Expressions.{Expression, expression, Conjunctions, no_conjunction, or_else, Conjunction, conjunction, Comparisons, no_comparison, and_also, Comparison, alone, compared, Sum, sum, Terms, no_term, signed, Term, term, Factors, no_factor, times, Factor, prefixed, literal, path, grouped, spell_root, spell_names, spell_path, spell_expression, spell_conjunctions, spell_conjunction, spell_comparisons, spell_comparison, spell_sum, spell_terms, spell_term, spell_factors, spell_factor, spell_group, tree_of_expression, tree_of_conjunctions, tree_of_conjunction, tree_of_comparisons, tree_of_comparison, tree_of_sum, tree_of_terms, tree_of_term, tree_of_factors, tree_of_factor, IsExpr}
+use Rattle.slot_lang.specs.code.Expressions.{EndsFactor, EndsTerm, EndsSum, EndsComparison, EndsConjunction, EndsExpression}
 use Rattle.slot_lang.specs.Precedence.{symbol_of, prefix_symbol_of}
 use Rattle.texts.specs.declared.symbol.Symbol.TheVariants.{Dot, Open, Close}
 use Rattle.texts.specs.declared.syntax.Expr.{Expr}

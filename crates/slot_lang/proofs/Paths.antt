@@ -2,10 +2,12 @@
 use Rattle.std.proofs.Common.{◌≡◌, ◌∙◌, ℕ, List, [], ◌∷◌, ◌++◌, refl, sym, ap, append_assoc}
 use Rattle.std.proofs.lemmas.List.{append-nil}
 use Rattle.signatures.specs.declared.word.Word.TheVariants as word
-use Rattle.texts.specs.Cursor.{NotAt, NotAtWord}
-use Rattle.slot_lang.specs.Expressions.{spell_root, spell_names, spell_path, EndsFactor}
+use Rattle.texts.specs.code.Cursor.{NotAt, NotAtWord}
+use Rattle.slot_lang.specs.Expressions.{spell_root, spell_names, spell_path}
+use Rattle.slot_lang.specs.code.Expressions.{EndsFactor}
 use Rattle.slot_lang.specs.Grammar.{Target, spell_target}
-use Rattle.texts.specs.Reading.{EndsAnywhere, Found, spell_name}
+use Rattle.texts.specs.code.Reading.{EndsAnywhere, Found}
+use Rattle.texts.specs.Reading.{spell_name}
 use Rattle.texts.specs.declared.symbol.Symbol.{Symbol}
 use Rattle.texts.specs.declared.symbol.Symbol.TheVariants.{Dot}
 use Rattle.texts.specs.declared.syntax.Path.{Path}

@@ -1,8 +1,9 @@
 -- Operators by their symbols.
 use Rattle.std.proofs.Common.{◌≡◌, ◌∙◌, List, [], ◌∷◌, Option, Some, None, refl, ap}
-use Rattle.texts.specs.Cursor.{NotAt}
-use Rattle.slot_lang.specs.Expressions.{EndsTerm, EndsSum, EndsComparison, EndsConjunction, EndsExpression}
-use Rattle.slot_lang.specs.Precedence.{symbol_of, precedence_of, NoOperator}
+use Rattle.texts.specs.code.Cursor.{NotAt}
+use Rattle.slot_lang.specs.code.Expressions.{EndsTerm, EndsSum, EndsComparison, EndsConjunction, EndsExpression}
+use Rattle.slot_lang.specs.Precedence.{symbol_of, precedence_of}
+use Rattle.slot_lang.specs.code.Precedence.{NoOperator}
 use Rattle.slot_lang.specs.declared.precedence.Precedence.{Precedence}
 use Rattle.slot_lang.specs.declared.precedence.Precedence.TheVariants as precedence
 use Rattle.texts.specs.declared.symbol.Symbol.{Symbol}

@@ -1,9 +1,11 @@
 -- No two readings of a block with the same tokens stand for different trees.
 use Rattle.std.proofs.Common.{◌≡◌, ◌∙◌, ℕ, List, [], ◌∷◌, ◌++◌, map, Some, refl, sym, ap}
-use Rattle.slot_lang.specs.Expressions.{Expression, spell_expression, spell_path, tree_of_expression, EndsFactor}
-use Rattle.slot_lang.specs.Grammar.{Target, spell_target, spell_value, spell_arguments, Assignment, spell_assignment, tree_of_assignment, Emission, spell_emission, tree_of_emission, Call, spell_call, tree_of_call, spell_condition, spell_path_ends, tree_of_path_ends, spell_how, spell_connection, tree_of_connection, spell_disconnection, tree_of_disconnection, spell_object, Body, no_more, more, Statement, set, emit, call, choice, connect, disconnect, delete, later, Else, no_else, else_block, spell_statements, spell_statement, spell_else, spell_block, tree_of_block, tree_of_statement, tree_of_else, EndsStatement, IsBody}
-use Rattle.texts.specs.Connections.{EndsAtSig, EndsConnectionType}
-use Rattle.texts.specs.Reading.{EndsAnywhere}
+use Rattle.slot_lang.specs.Expressions.{Expression, spell_expression, spell_path, tree_of_expression}
+use Rattle.slot_lang.specs.code.Expressions.{EndsFactor}
+use Rattle.slot_lang.specs.Grammar.{Target, spell_target, spell_value, spell_arguments, Assignment, spell_assignment, tree_of_assignment, Emission, spell_emission, tree_of_emission, Call, spell_call, tree_of_call, spell_condition, spell_path_ends, tree_of_path_ends, spell_how, spell_connection, tree_of_connection, spell_disconnection, tree_of_disconnection, spell_object, Body, no_more, more, Statement, set, emit, call, choice, connect, disconnect, delete, later, Else, no_else, else_block, spell_statements, spell_statement, spell_else, spell_block, tree_of_block, tree_of_statement, tree_of_else, IsBody}
+use Rattle.slot_lang.specs.code.Grammar.{EndsStatement}
+use Rattle.texts.specs.code.Connections.{EndsAtSig, EndsConnectionType}
+use Rattle.texts.specs.code.Reading.{EndsAnywhere}
 use Rattle.texts.specs.declared.symbol.Symbol.TheVariants.{Comma, Semicolon, CloseBrace}
 use Rattle.texts.specs.declared.syntax.Path.{Path}
 use Rattle.texts.specs.declared.syntax.Stmt.{Stmt}

@@ -8,16 +8,11 @@
 --   term   = factor {"*" factor}
 --   factor = ("!" | "-") factor | unsigned | path | "(" expr ")"
 --   path   = ("this" | Name) {"." Name}
-use Rattle.std.specs.Prelude.{ℕ, ◌≡◌, List, [], ◌∷◌, Result, MatchResult}
+use Rattle.std.specs.Prelude.{ℕ, ◌≡◌, List, [], ◌∷◌}
 use Rattle.signatures.specs.declared.word.Word.TheVariants as word
-use Rattle.texts.specs.Cursor.{NotAt}
-use Rattle.texts.specs.Reading.{Reads}
 use Rattle.texts.specs.Literals.{UnsignedReading, token_of_unsigned, tree_of_unsigned, literal_value}
-use Rattle.slot_lang.specs.Precedence.{symbol_of, prefix_symbol_of, Operator, NoOperator}
-use Rattle.slot_lang.specs.declared.precedence.Precedence.{Precedence}
+use Rattle.slot_lang.specs.Precedence.{symbol_of, prefix_symbol_of, Operator}
 use Rattle.slot_lang.specs.declared.precedence.Precedence.TheVariants as precedence
-use Rattle.texts.specs.declared.fault.ParseFault.{ParseFault}
-use Rattle.texts.specs.declared.fault.ParseFault.TheVariants.{Syntax}
 use Rattle.texts.specs.declared.symbol.Symbol.TheVariants.{Dot, Open, Close}
 use Rattle.texts.specs.declared.syntax.Expr.{Expr}
 use Rattle.texts.specs.declared.syntax.Expr.TheVariants as tree
@@ -169,30 +164,7 @@ abbrev mutual
   tree_of_factor (path p) = tree.Path p
   tree_of_factor (grouped e) = tree_of_expression e
 
--- ---- what can't follow a part that ends there, since the part would go on
-
-abbrev pub EndsFactor : List Token → Type 0
-EndsFactor after = NotAt Dot after
-
--- no operator of this precedence follows, and nothing that may not follow the rule's part
-pub record EndsChain (p : Precedence) (EndsPart : List Token → Type 0) (after : List Token) : Type 0 where
-  pub here : NoOperator p after
-  pub part : EndsPart after
-
-abbrev pub EndsTerm : List Token → Type 0
-EndsTerm after = EndsChain precedence.Term EndsFactor after
-
-abbrev pub EndsSum : List Token → Type 0
-EndsSum after = EndsChain precedence.Sum EndsTerm after
-
-abbrev pub EndsComparison : List Token → Type 0
-EndsComparison after = EndsChain precedence.Comparison EndsSum after
-
-abbrev pub EndsConjunction : List Token → Type 0
-EndsConjunction after = EndsChain precedence.And EndsComparison after
-
-abbrev pub EndsExpression : List Token → Type 0
-EndsExpression after = EndsChain precedence.Or EndsConjunction after
+-- ---- expressions
 
 -- the tokens are this expression
 pub record IsExpr (tokens : List Token) (e : Expr Path) : Type 0 where
@@ -203,29 +175,3 @@ pub record IsExpr (tokens : List Token) (e : Expr Path) : Type 0 where
 -- tokens are an expression in at most one way
 abbrev pub OneExpression : Type 0
 OneExpression = (tokens : List Token) (a b : Expr Path) → IsExpr tokens a → IsExpr tokens b → a ≡ b
-
--- ---- what the readers answer
-
-abbrev pub Answer : Type 0
-Answer = Result (Expr Path) ParseFault
-
-abbrev pub ReadsExpression : List Token → Answer → List Token → Type 0
-ReadsExpression before result after = Reads spell_expression tree_of_expression EndsExpression before result after
-
-abbrev pub ReadsComparison : List Token → Answer → List Token → Type 0
-ReadsComparison before result after = Reads spell_comparison tree_of_comparison EndsComparison before result after
-
--- what follows an operator in front
-abbrev pub ReadsPrefixed : Unary → List Token → Answer → List Token → Type 0
-ReadsPrefixed operator before result after =
-    Reads spell_factor (λ f. tree.Unary operator (tree_of_factor f)) EndsFactor before result after
-
--- what follows the root of a path
-abbrev pub ReadsPathFrom : Root → List Token → Answer → List Token → Type 0
-ReadsPathFrom r before result after =
-    Reads spell_names (λ names. tree.Path (record { root = r; properties = names })) EndsFactor before result after
-
--- the tree itself, where `)` comes next, and a fault of syntax where it doesn't
-abbrev pub Closes : Expr Path → List Token → Answer → List Token → Type 0
-Closes inner before result after =
-    MatchResult result (λ e. (e ≡ inner) × (before ≡ token.Symbol Close ∷ after)) (λ e. (e ≡ Syntax) × NotAt Close before)

@@ -12,17 +12,13 @@
 --         | "later" path ";"
 --   ends  = path "," sig "," path "," sig
 --   how   = kind ["," "unique"] ["," "single"]
-use Rattle.std.specs.Prelude.{ℕ, ◌≡◌, List, [], ◌∷◌, map, Some, Result}
+use Rattle.std.specs.Prelude.{ℕ, ◌≡◌, List, [], ◌∷◌, map, Some}
 use Rattle.signatures.specs.declared.word.Word.TheVariants as word
 use Rattle.texts.specs.Connections.{BothEnds, spell_ends, tree_of_ends, spell_connection_type}
-use Rattle.texts.specs.Cursor.{NotAtWord}
 use Rattle.slot_lang.specs.Expressions.{Expression, spell_expression, spell_group, spell_path, tree_of_expression}
 use Rattle.texts.specs.Lists.{spell_listed}
-use Rattle.texts.specs.Reading.{Reads, EndsAnywhere}
 use Rattle.texts.specs.declared.connection.ConnectionType.{ConnectionType}
 use Rattle.texts.specs.declared.connection.Endpoints.{Endpoints}
-use Rattle.texts.specs.declared.fault.ParseFault.{ParseFault}
-use Rattle.texts.specs.declared.syntax.Expr.{Expr}
 use Rattle.texts.specs.declared.symbol.Symbol.TheVariants.{Dot, Comma, Assign, Semicolon, Open, OpenBrace, CloseBrace}
 use Rattle.texts.specs.declared.syntax.Path.{Path}
 use Rattle.texts.specs.declared.syntax.Stmt.{Stmt}
@@ -168,13 +164,6 @@ abbrev mutual
 abbrev pub spell_block : Body → List Token → List Token
 spell_block body after = token.Symbol OpenBrace ∷ spell_statements body (token.Symbol CloseBrace ∷ after)
 
--- what follows "if"
-abbrev pub Choice : Type 0
-Choice = Expression × Body × Else
-
-abbrev pub spell_choice : Choice → List Token → List Token
-spell_choice c after = spell_condition c.0 (spell_block c.1 (spell_else c.2 after))
-
 abbrev mutual
   pub tree_of_block : Body → List Stmt
   tree_of_block no_more = []
@@ -195,13 +184,6 @@ abbrev mutual
   tree_of_else no_else = []
   tree_of_else (else_block body) = tree_of_block body
 
-abbrev pub tree_of_choice : Choice → Stmt
-tree_of_choice c = stmt.If (tree_of_expression c.0) (tree_of_block c.1) (tree_of_else c.2)
-
--- what can't follow a statement
-abbrev pub EndsStatement : List Token → Type 0
-EndsStatement after = NotAtWord word.Else after
-
 -- the tokens are a block with these statements
 pub record IsBody (tokens : List Token) (body : List Stmt) : Type 0 where
   pub reading : Body
@@ -215,32 +197,3 @@ IsNoBody tokens = (body : List Stmt) → IsBody tokens body → ⊥
 -- tokens are a slot's body in at most one way
 abbrev pub OneBody : Type 0
 OneBody = (tokens : List Token) (a b : List Stmt) → IsBody tokens a → IsBody tokens b → a ≡ b
-
--- ---- what the readers answer
-
-abbrev pub ReadsAssignment : List Token → Result Stmt ParseFault → List Token → Type 0
-ReadsAssignment before result after = Reads spell_assignment tree_of_assignment EndsAnywhere before result after
-
-abbrev pub ReadsStatement : List Token → Result Stmt ParseFault → List Token → Type 0
-ReadsStatement before result after = Reads spell_statement tree_of_statement EndsStatement before result after
-
-abbrev pub ReadsEmission : List Token → Result Stmt ParseFault → List Token → Type 0
-ReadsEmission before result after = Reads spell_emission tree_of_emission EndsAnywhere before result after
-
-abbrev pub ReadsCondition : List Token → Result (Expr Path) ParseFault → List Token → Type 0
-ReadsCondition before result after = Reads spell_condition tree_of_expression EndsAnywhere before result after
-
-abbrev pub ReadsArguments : List Token → Result (List (Expr Path)) ParseFault → List Token → Type 0
-ReadsArguments before result after = Reads spell_arguments (map tree_of_expression) EndsAnywhere before result after
-
-abbrev pub ReadsConnection : List Token → Result Stmt ParseFault → List Token → Type 0
-ReadsConnection before result after = Reads spell_connection tree_of_connection EndsAnywhere before result after
-
-abbrev pub ReadsDisconnection : List Token → Result Stmt ParseFault → List Token → Type 0
-ReadsDisconnection before result after = Reads spell_disconnection tree_of_disconnection EndsAnywhere before result after
-
-abbrev pub ReadsDeletion : List Token → Result Stmt ParseFault → List Token → Type 0
-ReadsDeletion before result after = Reads spell_object tree_of_deletion EndsAnywhere before result after
-
-abbrev pub ReadsLaterDeletion : List Token → Result Stmt ParseFault → List Token → Type 0
-ReadsLaterDeletion before result after = Reads spell_object tree_of_later_deletion EndsAnywhere before result after

@@ -1,6 +1,5 @@
 -- Operators: how they are spelled, and how tight they bind (docs/language.md, "Expressions").
-use Rattle.std.specs.Prelude.{◌≡◌, List, ◌∷◌, Option, MatchOption}
-use Rattle.texts.specs.Cursor.{NotAt}
+use Rattle.std.specs.Prelude.{◌≡◌}
 use Rattle.slot_lang.specs.declared.precedence.Precedence.{Precedence}
 use Rattle.slot_lang.specs.declared.precedence.Precedence.TheVariants as precedence
 use Rattle.texts.specs.declared.symbol.Symbol.{Symbol}
@@ -9,8 +8,6 @@ use Rattle.texts.specs.declared.syntax.Binary.{Binary}
 use Rattle.texts.specs.declared.syntax.Binary.TheVariants as binary
 use Rattle.texts.specs.declared.syntax.Unary.{Unary}
 use Rattle.texts.specs.declared.syntax.Unary.TheVariants as unary
-use Rattle.texts.specs.declared.token.Token.{Token}
-use Rattle.texts.specs.declared.token.Token.TheVariants as token
 
 abbrev pub symbol_of : Binary → Symbol
 symbol_of binary.Add = symbol.Plus
@@ -46,23 +43,3 @@ prefix_symbol_of unary.Minus = symbol.Minus
 pub record Operator (p : Precedence) : Type 0 where
   pub binary : Binary
   pub binds : precedence_of binary ≡ p
-
--- no such operator comes next
-abbrev pub NoOperator : Precedence → List Token → Type 0
-NoOperator p tokens = (o : Operator p) → NotAt (symbol_of o.binary) tokens
-
--- ---- what the readers answer
-
--- the operator that is spelled so
-abbrev pub IsOperatorOf : Symbol → Option Binary → Type 0
-IsOperatorOf s result = MatchOption result ((b : Binary) → s ≡ symbol_of b → ⊥) (λ b. s ≡ symbol_of b)
-
--- the operator that comes next
-abbrev pub IsNextOperator : List Token → Option Binary → Type 0
-IsNextOperator tokens result =
-    MatchOption result ((b : Binary) → NotAt (symbol_of b) tokens) (λ b. (rest : List Token) × (tokens ≡ token.Symbol (symbol_of b) ∷ rest))
-
--- the operator that binds so tight, if one comes next, is taken
-abbrev pub TakesOperator : Precedence → List Token → Option Binary → List Token → Type 0
-TakesOperator p before result after =
-    MatchOption result ((after ≡ before) × NoOperator p before) (λ b. (precedence_of b ≡ p) × (before ≡ token.Symbol (symbol_of b) ∷ after))

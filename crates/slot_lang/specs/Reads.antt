@@ -5,8 +5,6 @@ use Rattle.slot_lang.specs.Grammar.{IsBody, IsNoBody}
 use Rattle.slot_lang.specs.declared.fault.BodyFault.{BodyFault}
 use Rattle.slot_lang.specs.declared.fault.BodyFault.TheVariants.{Syntax, BadType, TooMany, Memory}
 use Rattle.texts.specs.Signatures.{HasFewTypes, HasPlainReference}
-use Rattle.texts.specs.declared.fault.ParseFault.{ParseFault}
-use Rattle.texts.specs.declared.fault.ParseFault.TheVariants as parse
 use Rattle.texts.specs.declared.syntax.Stmt.{Stmt}
 use Rattle.texts.specs.declared.token.Token.{Token}
 
@@ -16,11 +14,6 @@ number_of Syntax = Some 5
 number_of BadType = Some 2
 number_of TooMany = Some 3
 number_of Memory = None
-
--- a fault of reading tokens, as a fault of the body
-abbrev pub fault_of_parsing : ParseFault → BodyFault
-fault_of_parsing parse.Syntax = Syntax
-fault_of_parsing parse.Memory = Memory
 
 -- they are a body with a reference somewhere that isn't const
 pub record HasBadType (tokens : List Token) : Type 0 where

@@ -2,9 +2,10 @@
 
 ghost use Rattle.std.specs.Prelude.{◌≡◌, ◌<◌, ◌≤◌, length, IfOk, OnOk, Err};
 ghost use Rattle.slot_lang.specs.Expressions.{tree_of_expression};
-ghost use Rattle.slot_lang.specs.Grammar.{IsBody, IsNoBody, OneBody, ReadsStatement, ReadsAssignment, ReadsEmission, ReadsCondition, ReadsArguments, spell_value, spell_call, tree_of_call, spell_choice, tree_of_choice, spell_else, tree_of_else, spell_block, tree_of_block, EndsStatement};
+ghost use Rattle.slot_lang.specs.Grammar.{IsBody, IsNoBody, OneBody, spell_value, spell_call, tree_of_call, spell_else, tree_of_else, spell_block, tree_of_block};
+ghost use Rattle.slot_lang.specs.code.Grammar.{ReadsStatement, ReadsAssignment, ReadsEmission, ReadsCondition, ReadsArguments, spell_choice, tree_of_choice, EndsStatement};
 ghost use Rattle.slot_lang.specs.Reads.{ReadsBody, OneAnswer};
-ghost use Rattle.texts.specs.Reading.{Reads, EndsAnywhere};
+ghost use Rattle.texts.specs.code.Reading.{Reads, EndsAnywhere};
 ghost use Rattle.texts.specs.declared.fault.ParseFault.TheVariants.{Syntax};
 
 use crate::connection::{connection, disconnection};

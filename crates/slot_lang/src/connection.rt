@@ -1,8 +1,9 @@
 //! The statements that connect and disconnect.
 
 ghost use Rattle.std.specs.Prelude.{◌<◌, length, OnOk};
-ghost use Rattle.slot_lang.specs.Grammar.{ReadsConnection, ReadsDisconnection, spell_how};
-ghost use Rattle.texts.specs.Reading.{Reads, EndsAnywhere};
+ghost use Rattle.slot_lang.specs.code.Grammar.{ReadsConnection, ReadsDisconnection};
+ghost use Rattle.slot_lang.specs.Grammar.{spell_how};
+ghost use Rattle.texts.specs.code.Reading.{Reads, EndsAnywhere};
 
 use crate::path::PathPart;
 use texts::{ConnectionType, Cursor, ParseFault, Stmt, Symbol, both_ends};

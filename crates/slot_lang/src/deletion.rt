@@ -1,8 +1,9 @@
 //! The statements that destroy objects.
 
 ghost use Rattle.std.specs.Prelude.{◌<◌, length, OnOk};
-ghost use Rattle.slot_lang.specs.Grammar.{ReadsDeletion, ReadsLaterDeletion, spell_object};
-ghost use Rattle.texts.specs.Reading.{Reads, EndsAnywhere};
+ghost use Rattle.slot_lang.specs.code.Grammar.{ReadsDeletion, ReadsLaterDeletion};
+ghost use Rattle.slot_lang.specs.Grammar.{spell_object};
+ghost use Rattle.texts.specs.code.Reading.{Reads, EndsAnywhere};
 
 use crate::path::path;
 use texts::{Cursor, ParseFault, Path, Stmt, Symbol};

@@ -1,9 +1,10 @@
 //! Expressions, one function a rule.
 
 ghost use Rattle.std.specs.Prelude.{◌≡◌, ◌<◌, ◌≤◌, length, IfOk, OnOk, Err};
-ghost use Rattle.slot_lang.specs.Expressions.{Expression, IsExpr, OneExpression, spell_expression, tree_of_expression, spell_factor, tree_of_factor, spell_group, EndsExpression, EndsFactor, ReadsExpression, ReadsComparison, ReadsPrefixed, ReadsPathFrom, Closes};
-ghost use Rattle.slot_lang.specs.Levels.{ReadsChain, ReadsOperand};
-ghost use Rattle.texts.specs.Reading.{Reads, EndsAnywhere};
+ghost use Rattle.slot_lang.specs.Expressions.{Expression, IsExpr, OneExpression, spell_expression, tree_of_expression, spell_factor, tree_of_factor, spell_group};
+ghost use Rattle.slot_lang.specs.code.Expressions.{EndsExpression, EndsFactor, ReadsExpression, ReadsComparison, ReadsPrefixed, ReadsPathFrom, Closes};
+ghost use Rattle.slot_lang.specs.code.Levels.{ReadsChain, ReadsOperand};
+ghost use Rattle.texts.specs.code.Reading.{Reads, EndsAnywhere};
 ghost use Rattle.texts.specs.declared.fault.ParseFault.TheVariants.{Syntax};
 ghost use Rattle.texts.specs.declared.syntax.Expr.{Expr};
 ghost use Rattle.texts.specs.declared.syntax.Expr.TheVariants as tree;

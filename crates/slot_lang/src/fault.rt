@@ -25,7 +25,7 @@ pub enum BodyFault {
 
 impl From<ParseFault> for BodyFault {
     ghost use Rattle.std.specs.Prelude.{◌≡◌};
-    ghost use Rattle.slot_lang.specs.Reads.{fault_of_parsing};
+    ghost use Rattle.slot_lang.specs.code.Faults.{fault_of_parsing};
 
     ghost from_gives = { λ fault made. made ≡ fault_of_parsing fault };
 

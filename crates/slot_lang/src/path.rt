@@ -1,9 +1,10 @@
 //! Paths.
 
 ghost use Rattle.std.specs.Prelude.{◌≡◌, ◌<◌, ◌≤◌, length, OnOk};
-ghost use Rattle.slot_lang.specs.Expressions.{spell_root, spell_names, spell_path, EndsFactor};
+ghost use Rattle.slot_lang.specs.Expressions.{spell_root, spell_names, spell_path};
+ghost use Rattle.slot_lang.specs.code.Expressions.{EndsFactor};
 ghost use Rattle.slot_lang.specs.Grammar.{spell_target};
-ghost use Rattle.texts.specs.Reading.{Reads, EndsAnywhere};
+ghost use Rattle.texts.specs.code.Reading.{Reads, EndsAnywhere};
 ghost use Rattle.texts.specs.declared.syntax.Path.{Path};
 
 use signatures::{Name, Word};

@@ -1,8 +1,9 @@
 //! Operators between operands: how they are spelled, and how tight they bind.
 
 ghost use Rattle.std.specs.Prelude.{◌≡◌, ◌<◌, length, OnSome};
-ghost use Rattle.slot_lang.specs.Levels.{precedence_at};
-ghost use Rattle.slot_lang.specs.Precedence.{symbol_of, precedence_of, IsOperatorOf, IsNextOperator, TakesOperator};
+ghost use Rattle.slot_lang.specs.code.Levels.{precedence_at};
+ghost use Rattle.slot_lang.specs.Precedence.{symbol_of, precedence_of};
+ghost use Rattle.slot_lang.specs.code.Precedence.{IsOperatorOf, IsNextOperator, TakesOperator};
 
 use texts::{Binary, Cursor, Symbol, Token};
 

@@ -2,7 +2,8 @@
 use Rattle.std.proofs.Common.{ℕ, ◌≡◌, ◌<◌, ◌≤◌, List, [], ◌∷◌, ◌++◌, length, map, All, Some, None, refl, sym, subst, arith, rules}
 use Rattle.std.proofs.lemmas.List.{map-append}
 use Rattle.std.proofs.lemmas.List.Elements.{All-append}
-use Rattle.texts.specs.Pieces.{Piece, IsFront, Cuts}
+use Rattle.texts.specs.Pieces.{Piece, IsFront}
+use Rattle.texts.specs.code.Splitting.{Cuts}
 use Rattle.texts.proofs.Cut.{CutSoFar, cut_token, cut_blank, cut_done}
 use Rattle.texts.specs.declared.token.Token.{Token}
 use Rattle.text_flaws.specs.declared.scan.Mark.{Mark}

@@ -1,6 +1,7 @@
 -- Tokens with the places at which they begin (docs/language.md, "Tokens").
 use Rattle.std.specs.Prelude.{ℕ, ◌≡◌, ◌≢◌, ◌+◌, ◌<◌, List, [], ◌∷◌, length, map, All}
-use Rattle.texts.specs.Pieces.{Piece, IsFront, HasNoFront, AreTokens}
+use Rattle.texts.specs.Pieces.{Piece, IsFront, AreTokens}
+use Rattle.texts.specs.code.Splitting.{HasNoFront}
 use Rattle.text_flaws.specs.declared.scan.Mark.{Mark}
 use Rattle.text_flaws.specs.declared.scan.ScanFault.{ScanFault}
 use Rattle.text_flaws.specs.declared.scan.ScanFault.TheVariants.{BadByte, Memory}

@@ -1,6 +1,6 @@
 -- One rule after another: the first may end where the second begins.
 use Rattle.std.proofs.Common.{◌∙◌, List, ap}
-use Rattle.texts.specs.Reading.{Found}
+use Rattle.texts.specs.code.Reading.{Found}
 use Rattle.texts.specs.declared.token.Token.{Token}
 use Rattle.texts.proofs.OneTree.{HasOneTree}
 

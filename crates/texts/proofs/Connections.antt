@@ -4,8 +4,9 @@ use Rattle.signatures.specs.declared.kind.Kind.{Kind}
 use Rattle.signatures.specs.declared.sig.Sig.{Sig}
 use Rattle.signatures.specs.declared.word.Word.{Word}
 use Rattle.signatures.specs.declared.word.Word.TheVariants.{Unique, Single}
-use Rattle.texts.specs.Connections.{spell_separator, spell_end, tree_of_end, spell_ends, tree_of_ends, endpoints_of, EndsAtSig, spell_flag, spell_connection_type, EndsConnectionType, NotAtFlag}
-use Rattle.texts.specs.Reading.{EndsAnywhere, Found}
+use Rattle.texts.specs.Connections.{spell_separator, spell_end, tree_of_end, spell_ends, tree_of_ends, endpoints_of, spell_flag, spell_connection_type}
+use Rattle.texts.specs.code.Connections.{EndsAtSig, EndsConnectionType, NotAtFlag}
+use Rattle.texts.specs.code.Reading.{EndsAnywhere, Found}
 use Rattle.texts.specs.Signatures.{spell_sig, tree_of_sig}
 use Rattle.texts.specs.declared.connection.ConnectionType.{ConnectionType}
 use Rattle.texts.specs.declared.symbol.Symbol.{Symbol}

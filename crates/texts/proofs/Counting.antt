@@ -3,7 +3,8 @@ use Rattle.std.proofs.Common.{◌≡◌, ◌∙◌, ◌<◌, ◌≤◌, ◌⊎�
 use Rattle.std.specs.List.{All}
 use Rattle.std.proofs.lemmas.List.Elements.{All-cons, All-head, All-tail, All-nil}
 use Rattle.texts.specs.declared.token.Token.{Token}
-use Rattle.texts.specs.Nesting.{StandTogether, open_after, open_after_all, IsParted, StandsTooLong, IsTooDeep}
+use Rattle.texts.specs.code.Nesting.{StandTogether}
+use Rattle.texts.specs.Nesting.{open_after, open_after_all, IsParted, StandsTooLong, IsTooDeep}
 
 -- after some front of the tokens, with so many open before them, more than 32 are open
 pub record OpensFrom (n : ℕ) (tokens : List Token) : Type 0 where

@@ -5,7 +5,8 @@ use Rattle.std.proofs.lemmas.Bool.{eqb-true}
 use Rattle.texts.specs.declared.token.Token.{Token}
 use Rattle.texts.proofs.Only.{one_front, one_list}
 use Rattle.texts.proofs.Fronts.{no_front_at_end, empty}
-use Rattle.texts.specs.Pieces.{Piece, IsFront, IsCut, tokens_of, before, Cuts, AreTokens}
+use Rattle.texts.specs.Pieces.{Piece, IsFront, IsCut, tokens_of, before, AreTokens}
+use Rattle.texts.specs.code.Splitting.{Cuts}
 
 -- with the pieces of what is left, those found are the tokens of the whole, and each cut of the whole cuts what is left
 pub record CutSoFar (whole : List ℕ) (found : List Token) (left : List ℕ) : Type 0 where

@@ -14,6 +14,7 @@ pub mod Only
 pub mod Cut
 pub mod Counting
 pub mod FrontLines
+pub mod Partings
 pub mod NormalTypes
 pub mod SignatureTexts
 pub mod SignatureCuts

@@ -2,13 +2,14 @@
 use Rattle.std.proofs.Common.{◌≡◌, List, [], ◌∷◌, ◌++◌, refl, sym, ◌∙◌, ap, append_assoc, map, Result, Ok, Err}
 use Rattle.std.proofs.lemmas.List.{append-nil}
 use Rattle.signatures.specs.declared.word.Word.{Word}
-use Rattle.texts.specs.Cursor.{NotAt, NotAtWord}
-use Rattle.texts.specs.Reading.{EndsAnywhere, Found}
+use Rattle.texts.specs.code.Cursor.{NotAt, NotAtWord}
+use Rattle.texts.specs.code.Reading.{EndsAnywhere, Found}
 use Rattle.texts.specs.declared.fault.ParseFault.{ParseFault}
 use Rattle.texts.specs.declared.symbol.Symbol.TheVariants.{Open, Close, Comma}
 use Rattle.texts.specs.declared.token.Token.{Token}
 use Rattle.texts.specs.declared.token.Token.TheVariants as token
-use Rattle.texts.specs.Lists.{IsPart, EndsAtComma, EndsParts, EndsAfter, spell_further, spell_parts, trees_of_parts, spell_after, spell_others, spell_listed, ReadsParts, ReadsAfter}
+use Rattle.texts.specs.code.Lists.{IsPart, EndsAtComma, EndsParts, EndsAfter, ReadsParts, ReadsAfter}
+use Rattle.texts.specs.Lists.{spell_further, spell_parts, trees_of_parts, spell_after, spell_others, spell_listed}
 use Rattle.texts.proofs.Underway.{None, Underway}
 
 -- found so far, from the first part at `before` on

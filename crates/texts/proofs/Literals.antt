@@ -5,10 +5,11 @@ use Rattle.texts.specs.declared.syntax.Literal.{Literal}
 use Rattle.texts.specs.declared.syntax.Literal.TheVariants as literal
 use Rattle.signatures.specs.declared.word.Word.{Word}
 use Rattle.signatures.specs.declared.word.Word.TheVariants as word
-use Rattle.texts.specs.Cursor.{NotAt}
-use Rattle.texts.specs.Literals.{greatest, deepest, UnsignedReading, plain, truth, quoted, null, token_of_unsigned, LiteralReading, unsigned, negative, spell_literal, tree_of_literal, IsUnsigned}
+use Rattle.texts.specs.code.Cursor.{NotAt}
+use Rattle.texts.specs.Literals.{greatest, deepest, UnsignedReading, plain, truth, quoted, null, token_of_unsigned, LiteralReading, unsigned, negative, spell_literal, tree_of_literal}
+use Rattle.texts.specs.code.Literals.{IsUnsigned}
 use Rattle.texts.specs.Numerals.{value_of, spell_numeral}
-use Rattle.texts.specs.Reading.{EndsAnywhere, Found}
+use Rattle.texts.specs.code.Reading.{EndsAnywhere, Found}
 use Rattle.texts.specs.declared.symbol.Symbol.{Symbol}
 use Rattle.texts.specs.declared.symbol.Symbol.TheVariants.{Minus}
 use Rattle.texts.specs.declared.token.Token.{Token}

@@ -6,12 +6,15 @@ use Rattle.signatures.specs.declared.normal.ConstPlace.TheVariants.{Nowhere, Bef
 use Rattle.signatures.specs.declared.normal.TypeEnding.{TypeEnding}
 use Rattle.signatures.specs.declared.normal.TypeEnding.TheVariants.{Bare, Reference, Pointer}
 use Rattle.texts.specs.declared.syntax.Literal.TheVariants as literal
-use Rattle.texts.specs.Lists.{IsPart, EndsAtComma, EndsParts, EndsAfter, spell_further, spell_parts, trees_of_parts, spell_after, spell_others, spell_listed}
+use Rattle.texts.specs.code.Lists.{IsPart, EndsAtComma, EndsParts, EndsAfter}
+use Rattle.texts.specs.Lists.{spell_further, spell_parts, trees_of_parts, spell_after, spell_others, spell_listed}
 use Rattle.texts.specs.Literals.{UnsignedReading, plain, truth, quoted, null, token_of_unsigned, tree_of_unsigned, unsigned, negative, spell_literal, tree_of_literal}
 use Rattle.texts.specs.Numerals.{value_of}
-use Rattle.texts.specs.Optional.{spell_optional_name, EndsWithoutName}
-use Rattle.texts.specs.Reading.{EndsAnywhere}
-use Rattle.texts.specs.Signatures.{spelled_type, spell_ending, Named, spell_place, EndsNamed, spell_type, tree_of_type, EndsType, sig, spell_sig, tree_of_sig, spell_kind}
+use Rattle.texts.specs.Optional.{spell_optional_name}
+use Rattle.texts.specs.code.Optional.{EndsWithoutName}
+use Rattle.texts.specs.code.Reading.{EndsAnywhere}
+use Rattle.texts.specs.Signatures.{spelled_type, spell_ending, spell_type, tree_of_type, sig, spell_sig, tree_of_sig, spell_kind}
+use Rattle.texts.specs.code.Signatures.{Named, spell_place, EndsNamed, EndsType}
 use Rattle.texts.specs.declared.symbol.Symbol.TheVariants.{Close, Minus}
 use Rattle.signatures.specs.declared.word.Word.{Word}
 use Rattle.texts.specs.declared.token.Token.{Token}

@@ -19,13 +19,13 @@ use Rattle.signatures.specs.declared.scanner.Mark.{Mark}
 use Rattle.signatures.specs.declared.scanner.Mark.TheVariants as mark
 use Rattle.signatures.specs.declared.word.Word.TheVariants as reserved_word
 use Rattle.texts.specs.Bytes.{IsRun}
-use Rattle.texts.specs.Cursor.{NotAt}
+use Rattle.texts.specs.code.Cursor.{NotAt}
 use Rattle.texts.specs.Lists.{spell_others, spell_listed}
 use Rattle.texts.specs.Pieces.{AreTokens, Piece, IsFront, StartsWithLetter, token_of, before}
 use Rattle.texts.specs.Pieces as piece
 use Rattle.texts.specs.Signatures.{TypeReading, spelled_type, spell_ending, spell_named, spell_type, sig, spell_sig}
 use Rattle.texts.specs.SignatureTexts.{IsNormalFormOf, NormalFormsAreInTokens}
-use Rattle.texts.specs.Splitting.{NoneBegins}
+use Rattle.texts.specs.code.Splitting.{NoneBegins}
 use Rattle.texts.specs.Symbols.{spelling}
 use Rattle.texts.specs.declared.bytes.Run.TheVariants as run
 use Rattle.texts.specs.declared.symbol.Symbol.{Symbol}

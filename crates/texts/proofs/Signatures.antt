@@ -8,10 +8,13 @@ use Rattle.signatures.specs.declared.normal.TypeEnding.{TypeEnding}
 use Rattle.signatures.specs.declared.normal.TypeEnding.TheVariants.{Bare, Reference, Pointer}
 use Rattle.signatures.specs.declared.qtype.QType.{QType}
 use Rattle.signatures.specs.declared.word.Word.TheVariants as word
-use Rattle.texts.specs.Cursor.{NotAtWord}
-use Rattle.texts.specs.Lists.{IsPart, spell_listed}
-use Rattle.texts.specs.Reading.{EndsAnywhere, Found, spell_name}
-use Rattle.texts.specs.Signatures.{TypeReading, spelled_type, spell_ending, Named, spell_place, EndsNamed, IsEnding, spell_type, tree_of_type, EndsType, SigReading, sig, spell_sig, tree_of_sig, spell_kind}
+use Rattle.texts.specs.code.Cursor.{NotAtWord}
+use Rattle.texts.specs.code.Lists.{IsPart}
+use Rattle.texts.specs.Lists.{spell_listed}
+use Rattle.texts.specs.code.Reading.{EndsAnywhere, Found}
+use Rattle.texts.specs.Reading.{spell_name}
+use Rattle.texts.specs.Signatures.{TypeReading, spelled_type, spell_ending, spell_type, tree_of_type, SigReading, sig, spell_sig, tree_of_sig, spell_kind}
+use Rattle.texts.specs.code.Signatures.{Named, spell_place, EndsNamed, IsEnding, EndsType}
 use Rattle.texts.specs.declared.symbol.Symbol.TheVariants.{Close}
 use Rattle.texts.specs.declared.token.Token.{Token}
 use Rattle.texts.specs.declared.token.Token.TheVariants as token

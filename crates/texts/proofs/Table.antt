@@ -1,6 +1,6 @@
 -- The two tables have every symbol.
 use Rattle.std.proofs.Common.{◌≡◌, ℕ, ◌≤◌, List, ◌++◌, length, lit≤, arith}
-use Rattle.texts.specs.Splitting.{NoneBegins}
+use Rattle.texts.specs.code.Splitting.{NoneBegins}
 use Rattle.texts.specs.Symbols.{spelling, Begins, IsSymbolAt}
 use Rattle.texts.specs.declared.symbol.Symbol.{Symbol}
 use Rattle.texts.specs.declared.symbol.Symbol.TheVariants as s

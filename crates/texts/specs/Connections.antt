@@ -7,15 +7,13 @@
 --
 -- In a body an object is a path, and the separator a comma. In a script it is a name, and there is no separator. `spell`
 -- gives the tokens of an object's reading, and what follows them; `tree` the tree that it stands for.
-use Rattle.std.specs.Prelude.{◌≡◌, Bool, true, false, List, [], ◌∷◌, Option, Some, None, Result, Ok, Err}
+use Rattle.std.specs.Prelude.{Bool, true, false, List, [], ◌∷◌, Option, Some, None}
 use Rattle.signatures.specs.declared.sig.Sig.{Sig}
 use Rattle.signatures.specs.declared.word.Word.{Word}
 use Rattle.signatures.specs.declared.word.Word.TheVariants.{Unique, Single}
-use Rattle.texts.specs.Reading.{Reads, EndsAnywhere}
 use Rattle.texts.specs.Signatures.{SigReading, spell_sig, tree_of_sig, spell_kind}
 use Rattle.texts.specs.declared.connection.ConnectionType.{ConnectionType}
 use Rattle.texts.specs.declared.connection.Endpoints.{Endpoints}
-use Rattle.texts.specs.declared.fault.ParseFault.{ParseFault}
 use Rattle.texts.specs.declared.symbol.Symbol.{Symbol}
 use Rattle.texts.specs.declared.token.Token.{Token}
 use Rattle.texts.specs.declared.token.Token.TheVariants as token
@@ -49,10 +47,6 @@ endpoints_of from to = record { sender = from.0; signal = from.1; receiver = to.
 abbrev pub tree_of_ends : {R O : Type 0} → (R → O) → BothEnds R → Endpoints O
 tree_of_ends tree ends = endpoints_of (tree_of_end tree ends.0) (tree_of_end tree ends.1)
 
--- an object may end in front of a separator and a signature
-abbrev pub EndsAtSig : (List Token → Type 0) → Option Symbol → Type 0
-EndsAtSig Ends separator = (sig : SigReading) (rest : List Token) → Ends (spell_separator separator (spell_sig sig rest))
-
 -- the signatures at the two ends
 abbrev pub signatures_at : {O : Type 0} → Endpoints O → List Sig
 signatures_at ends = ends.signal ∷ ends.method ∷ []
@@ -67,33 +61,3 @@ spell_flag separator word false after = after
 abbrev pub spell_connection_type : Option Symbol → ConnectionType → List Token → List Token
 spell_connection_type separator how after =
     spell_kind how.kind (spell_flag separator Unique how.unique (spell_flag separator Single how.single after))
-
--- the separator and the word aren't what comes next
-abbrev pub NotAtFlag : Option Symbol → Word → List Token → Type 0
-NotAtFlag separator word after = (rest : List Token) → after ≡ spell_flag separator word true rest → ⊥
-
--- nothing comes next with which a connection's type would go on
-pub record EndsConnectionType (separator : Option Symbol) (after : List Token) : Type 0 where
-  pub not_unique : NotAtFlag separator Unique after
-  pub not_single : NotAtFlag separator Single after
-
--- ---- what the readers answer
-
--- the separator is taken, if there is one; an error only where it doesn't come next
-abbrev pub TakesSeparator : {A : Type 0} → Option Symbol → List Token → Result A ParseFault → List Token → Type 0
-TakesSeparator separator before (Ok _) after = before ≡ spell_separator separator after
-TakesSeparator separator before (Err fault) after = (rest : List Token) → before ≡ spell_separator separator rest → ⊥
-
--- the separator and the word are taken where they come next, and nothing where they don't
-abbrev pub EatsFlag : Option Symbol → Word → List Token → Bool → List Token → Type 0
-EatsFlag separator word before true after = before ≡ spell_flag separator word true after
-EatsFlag separator word before false after = (after ≡ before) × NotAtFlag separator word before
-
-abbrev pub ReadsEnd : {R O : Type 0} → (R → List Token → List Token) → (R → O) → Option Symbol → List Token → Result (O × Sig) ParseFault → List Token → Type 0
-ReadsEnd spell tree separator before result after = Reads (spell_end spell separator) (tree_of_end tree) EndsAnywhere before result after
-
-abbrev pub ReadsEnds : {R O : Type 0} → (R → List Token → List Token) → (R → O) → Option Symbol → List Token → Result (Endpoints O) ParseFault → List Token → Type 0
-ReadsEnds spell tree separator before result after = Reads (spell_ends spell separator) (tree_of_ends tree) EndsAnywhere before result after
-
-abbrev pub ReadsConnectionType : Option Symbol → List Token → Result ConnectionType ParseFault → List Token → Type 0
-ReadsConnectionType separator before result after = Reads (spell_connection_type separator) (λ how. how) (EndsConnectionType separator) before result after

@@ -1,10 +1,9 @@
+pub mod Limits
 pub mod Bytes
 pub mod Symbols
 pub mod Pieces
 pub mod Nesting
 pub mod Lines
-pub mod Splitting
-pub mod Cursor
 pub mod Reading
 pub mod Lists
 pub mod Optional
@@ -14,4 +13,5 @@ pub mod Signatures
 pub mod SignatureTexts
 pub mod Connections
 pub mod Trees
+pub mod code
 pub use Rattle.signatures.specs.Name

@@ -16,3 +16,22 @@ AreFrontLines text (line ∷ lines) rest = (after : List ℕ) × IsFrontLine tex
 -- the text consists of these lines
 abbrev pub AreLines : List ℕ → List (List ℕ) → Type 0
 AreLines text lines = AreFrontLines text lines []
+
+-- none of the lines is this one
+abbrev pub AreOthers : List ℕ → List (List ℕ) → Type 0
+AreOthers line lines = AllByRecursion (λ other. other ≢ line) lines
+
+-- The text is `front`, this line and `rest`. The front consists of lines, with their newlines, and none of them is this one.
+pub record IsPartedAt (line text front rest : List ℕ) : Type 0 where
+  pub lines : List (List ℕ)
+  pub from_line : List ℕ
+  pub joined : text ≡ front ++ from_line
+  pub lead : AreFrontLines text lines from_line
+  pub others : AreOthers line lines
+  pub here : IsFrontLine from_line line rest
+
+-- no line of the text is this one
+pub record LacksLine (line text : List ℕ) : Type 0 where
+  pub lines : List (List ℕ)
+  pub cut : AreLines text lines
+  pub others : AreOthers line lines

@@ -1,9 +1,6 @@
 -- Lists of parts in a grammar. `spell` gives the tokens of a part's reading, and what follows them.
-use Rattle.std.specs.Prelude.{◌≡◌, List, [], ◌∷◌, map, Result}
+use Rattle.std.specs.Prelude.{List, [], ◌∷◌, map}
 use Rattle.signatures.specs.declared.word.Word.{Word}
-use Rattle.texts.specs.Cursor.{NotAt, NotAtWord}
-use Rattle.texts.specs.Reading.{Reads, EndsAnywhere}
-use Rattle.texts.specs.declared.fault.ParseFault.{ParseFault}
 use Rattle.texts.specs.declared.symbol.Symbol.TheVariants.{Open, Close, Comma}
 use Rattle.texts.specs.declared.token.Token.{Token}
 use Rattle.texts.specs.declared.token.Token.TheVariants as token
@@ -38,35 +35,3 @@ spell_others spell rs after = spell_further spell rs (token.Symbol Close ∷ aft
 abbrev pub spell_listed : {R : Type 0} → (R → List Token → List Token) → List R → List Token → List Token
 spell_listed spell [] after = token.Symbol Open ∷ token.Symbol Close ∷ after
 spell_listed spell (r ∷ rs) after = token.Symbol Open ∷ spell r (spell_others spell rs after)
-
--- the trees of the parts, whatever follows the list
-abbrev pub ReadsList : {R A : Type 0} → (R → List Token → List Token) → (R → A) → List Token → Result (List A) ParseFault → List Token → Type 0
-ReadsList spell tree before result after = Reads (spell_listed spell) (map tree) EndsAnywhere before result after
-
--- a part may end here, and no comma comes next
-pub record EndsParts (Ends : List Token → Type 0) (after : List Token) : Type 0 where
-  pub part : Ends after
-  pub no_comma : NotAt Comma after
-
--- nor does the word
-pub record EndsAfter (word : Word) (Ends : List Token → Type 0) (after : List Token) : Type 0 where
-  pub parts : EndsParts Ends after
-  pub no_word : NotAtWord word after
-
--- the trees of the parts, of which there is one at least
-abbrev pub ReadsParts : {R A : Type 0} → (R → List Token → List Token) → (R → A) → (List Token → Type 0) → List Token → Result (List A) ParseFault → List Token → Type 0
-ReadsParts spell tree Ends before result after = Reads (spell_parts spell) (trees_of_parts tree) (EndsParts Ends) before result after
-
--- the trees of the parts behind the word, and none without it
-abbrev pub ReadsAfter : {R A : Type 0} → Word → (R → List Token → List Token) → (R → A) → (List Token → Type 0) → List Token → Result (List A) ParseFault → List Token → Type 0
-ReadsAfter word spell tree Ends before result after = Reads (spell_after word spell) (map tree) (EndsAfter word Ends) before result after
-
--- a part may end at a comma
-abbrev pub EndsAtComma : (List Token → Type 0) → Type 0
-EndsAtComma Ends = (rest : List Token) → Ends (token.Symbol Comma ∷ rest)
-
--- a part may end at a comma and at the closing parenthesis, and doesn't begin with that
-pub record IsPart {R : Type 0} (spell : R → List Token → List Token) (Ends : List Token → Type 0) : Type 0 where
-  pub at_comma : EndsAtComma Ends
-  pub at_close : (rest : List Token) → Ends (token.Symbol Close ∷ rest)
-  pub unclosed : (r : R) (rest after : List Token) → spell r rest ≡ token.Symbol Close ∷ after → ⊥

@@ -4,14 +4,12 @@
 --   unsigned = number | "true" | "false" | text | "null"
 --
 -- A number lies between -2147483648 and 2147483647, and a text has at most 255 bytes.
-use Rattle.std.specs.Prelude.{ℕ, ◌≡◌, Bool, true, false, List, ◌∷◌, None, pos, ◌-ℤ◌, Result, Ok, Err}
+use Rattle.std.specs.Prelude.{ℕ, Bool, true, false, List, ◌∷◌, None, pos, ◌-ℤ◌}
 use Rattle.signatures.specs.Text.{IsText}
 use Rattle.signatures.specs.declared.value.Value.{Value}
 use Rattle.signatures.specs.declared.value.Value.TheVariants as value
 use Rattle.signatures.specs.declared.word.Word.TheVariants as word
 use Rattle.texts.specs.Numerals.{Numeral, spell_numeral, value_of}
-use Rattle.texts.specs.declared.fault.ParseFault.{ParseFault}
-use Rattle.texts.specs.declared.fault.ParseFault.TheVariants.{Syntax}
 use Rattle.texts.specs.declared.symbol.Symbol.TheVariants.{Minus}
 use Rattle.texts.specs.declared.syntax.Literal.{Literal}
 use Rattle.texts.specs.declared.syntax.Literal.TheVariants as literal
@@ -68,14 +66,3 @@ literal_value (literal.Int n) = value.Int n
 literal_value (literal.Bool b) = value.Bool b
 literal_value (literal.Text bytes) = value.Text bytes
 literal_value literal.Null = value.Ref None
-
--- the token is this unsigned literal
-pub record IsUnsigned (t : Token) (l : Literal) : Type 0 where
-  pub reading : UnsignedReading
-  pub is : t ≡ token_of_unsigned reading
-  pub tree : tree_of_unsigned reading ≡ l
-
--- the literal that the token is, or a fault of syntax only where it is none
-abbrev pub ReadsUnsigned : Token → Result Literal ParseFault → Type 0
-ReadsUnsigned t (Ok l) = IsUnsigned t l
-ReadsUnsigned t (Err fault) = fault ≡ Syntax → (reading : UnsignedReading) → t ≡ token_of_unsigned reading → ⊥

@@ -4,6 +4,14 @@ use Rattle.texts.specs.declared.symbol.Symbol.TheVariants as s
 use Rattle.texts.specs.declared.token.Token.{Token}
 use Rattle.texts.specs.declared.token.Token.TheVariants as token
 
+-- of `(` and `{`, how many are open at once
+abbrev pub most_open : ℕ
+most_open = 32
+
+-- how many tokens stand together without one that parts tokens
+abbrev pub most_together : ℕ
+most_together = 200
+
 -- how many of `(` and `{` are open after a token, if so many were before it; a closing one takes one off, not below none
 abbrev pub open_after : ℕ → Token → ℕ
 open_after n (token.Symbol s.Open) = n + 1
@@ -21,24 +29,20 @@ open_after_all n (t ∷ ts) = open_after_all (open_after n t) ts
 abbrev pub IsParted : Token → Type 0
 IsParted t = (t ≡ token.Symbol s.Semicolon) ⊎ (t ≡ token.Symbol s.OpenBrace) ⊎ (t ≡ token.Symbol s.CloseBrace)
 
--- how many tokens stand together at the token's end, if so many did before it
-abbrev pub StandTogether : ℕ → Token → ℕ → Type 0
-StandTogether before t after = (IsParted t × (after ≡ 0)) ⊎ (¬ IsParted t × (after ≡ before + 1))
-
--- after some front more than 32 are open
+-- after some front too many are open
 pub record OpensTooMany (tokens : List Token) : Type 0 where
   pub front : List Token
   pub rest : List Token
   pub split : tokens ≡ front ++ rest
-  pub many : 32 < open_after_all 0 front
+  pub many : most_open < open_after_all 0 front
 
--- more than 200 tokens stand together, none of which parts tokens
+-- too many tokens stand together, none of which parts tokens
 pub record StandsTooLong (tokens : List Token) : Type 0 where
   pub before : List Token
   pub together : List Token
   pub rest : List Token
   pub split : tokens ≡ before ++ together ++ rest
-  pub long : 200 < length together
+  pub long : most_together < length together
   pub unparted : All (λ t. ¬ IsParted t) together
 
 abbrev pub IsTooDeep : List Token → Type 0

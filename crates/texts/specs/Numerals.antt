@@ -1,7 +1,6 @@
 -- Numbers by their digits (docs/language.md, "Tokens").
-use Rattle.std.specs.Prelude.{ℕ, ◌≡◌, ◌+◌, ◌-◌, ◌*◌, ◌≤◌, ◌<◌, List, [], ◌∷◌, Result, Ok, Err}
-use Rattle.texts.specs.Reading.{Reads, EndsAnywhere}
-use Rattle.texts.specs.declared.fault.ParseFault.{ParseFault}
+use Rattle.std.specs.Prelude.{ℕ, ◌≡◌, ◌≢◌, ◌+◌, ◌-◌, ◌*◌, ◌≤◌, true, All, List, [], ◌∷◌}
+use Rattle.signatures.specs.Name.{is_digit}
 use Rattle.texts.specs.declared.token.Token.{Token}
 use Rattle.texts.specs.declared.token.Token.TheVariants as token
 
@@ -13,10 +12,11 @@ value_from n (d ∷ ds) = value_from (n * 10 + (d - 48)) ds
 abbrev pub value_of : List ℕ → ℕ
 value_of digits = value_from 0 digits
 
--- the number that the digits write, or a fault where it is more than `most`
-abbrev pub ValueUpTo : ℕ → List ℕ → Result ℕ ParseFault → Type 0
-ValueUpTo most digits (Ok n) = (n ≡ value_of digits) × (n ≤ most)
-ValueUpTo most digits (Err _) = most < value_of digits
+-- The word writes the number in decimal digits, of which there is one at least. Leading zeros are allowed, a sign isn't.
+pub record IsNumeral (word : List ℕ) (n : ℕ) : Type 0 where
+  pub some : word ≢ []
+  pub digits : All (λ d. is_digit d ≡ true) word
+  pub value : n ≡ value_of word
 
 -- a number that is at most so much, with its digits
 pub record Numeral (most : ℕ) : Type 0 where
@@ -25,7 +25,3 @@ pub record Numeral (most : ℕ) : Type 0 where
 
 abbrev pub spell_numeral : (most : ℕ) → Numeral most → List Token → List Token
 spell_numeral most n after = token.Number n.digits ∷ after
-
--- the number that comes next, if it is at most so much, whatever follows it
-abbrev pub ReadsNumeral : ℕ → List Token → Result ℕ ParseFault → List Token → Type 0
-ReadsNumeral most before result after = Reads (spell_numeral most) (λ n. value_of n.digits) EndsAnywhere before result after

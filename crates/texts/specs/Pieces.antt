@@ -1,6 +1,6 @@
 -- The pieces that a text is cut into: blanks, comments and tokens, each the longest at its place
 -- (docs/language.md, "Tokens").
-use Rattle.std.specs.Prelude.{ℕ, ◌≡◌, true, List, [], ◌∷◌, Option, Some, None, ◌⊎◌}
+use Rattle.std.specs.Prelude.{ℕ, ◌≡◌, true, List, [], ◌∷◌, Option, Some, None}
 use Rattle.texts.specs.declared.bytes.Run.TheVariants as run
 use Rattle.texts.specs.declared.symbol.Symbol.{Symbol}
 use Rattle.texts.specs.declared.token.Token.{Token}
@@ -71,10 +71,6 @@ abbrev pub tokens_of : List Piece → List Token
 tokens_of [] = []
 tokens_of (piece ∷ pieces) = before (token_of piece) (tokens_of pieces)
 
--- the token is the reserved word with these letters, or the name where there is none
-abbrev pub IsWordOrName : Token → List ℕ → Type 0
-IsWordOrName t letters = ((word : Word) × (t ≡ token.Word word) × (letters ≡ word_spelling word)) ⊎ ((t ≡ token.Name letters) × IsFree letters)
-
 -- the bytes are cut into these tokens
 pub record AreTokens (bytes : List ℕ) (tokens : List Token) : Type 0 where
   pub pieces : List Piece
@@ -88,13 +84,3 @@ IsUncut bytes = (tokens : List Token) → AreTokens bytes tokens → ⊥
 -- a text is cut in at most one way
 abbrev pub OneCut : Type 0
 OneCut = (bytes : List ℕ) → (s t : List Token) → AreTokens bytes s → AreTokens bytes t → s ≡ t
-
--- a piece at the front, and its token
-pub record Cuts (bytes : List ℕ) (found : Option Token) (rest : List ℕ) : Type 0 where
-  pub piece : Piece
-  pub front : IsFront piece bytes rest
-  pub token_is : token_of piece ≡ found
-
--- no piece stands at the front
-abbrev pub HasNoFront : List ℕ → Type 0
-HasNoFront bytes = (piece : Piece) → (rest : List ℕ) → IsFront piece bytes rest → ⊥

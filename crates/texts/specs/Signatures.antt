@@ -17,7 +17,6 @@ use Rattle.signatures.specs.declared.normal.TypeEnding.TheVariants.{Bare, Refere
 use Rattle.signatures.specs.declared.qtype.QType.{QType}
 use Rattle.signatures.specs.declared.sig.Sig.{Sig}
 use Rattle.signatures.specs.declared.word.Word.TheVariants as word
-use Rattle.texts.specs.Cursor.{NotAt, NotAtWord}
 use Rattle.texts.specs.Lists.{spell_listed}
 use Rattle.texts.specs.declared.symbol.Symbol.TheVariants.{Ampersand, Star}
 use Rattle.texts.specs.declared.token.Token.{Token}
@@ -36,22 +35,6 @@ spell_named Nowhere name after = token.Name name ∷ after
 spell_named Before name after = token.Word word.Const ∷ token.Name name ∷ after
 spell_named After name after = token.Name name ∷ token.Word word.Const ∷ after
 
--- a name, and where `const` stands
-abbrev pub Named : Type 0
-Named = ConstPlace × List ℕ
-
-abbrev pub spell_place : Named → List Token → List Token
-spell_place named after = spell_named named.0 named.1 after
-
--- no `const` comes next, which may stand behind the name
-abbrev pub EndsNamed : List Token → Type 0
-EndsNamed after = NotAtWord word.Const after
-
--- what comes next of an ending, as much as there is
-pub record IsEnding (ending : TypeEnding) (before after : List Token) : Type 0 where
-  pub spelled : before ≡ spell_ending ending after
-  pub bare : ending ≡ Bare → NotAt Ampersand before × NotAt Star before
-
 abbrev pub spell_type : TypeReading → List Token → List Token
 spell_type (spelled_type place name ending) after = spell_named place name (spell_ending ending after)
 
@@ -63,12 +46,6 @@ or_value name None = value_type name
 -- the normal form; of `T &`, which has none, the type T: whoever reads types has to refuse it (HasPlainReference)
 abbrev pub tree_of_type : TypeReading → QType
 tree_of_type (spelled_type place name ending) = or_value name (normal_of name place ending)
-
--- nothing comes next with which a type would go on
-pub record EndsType (after : List Token) : Type 0 where
-  pub no_const : NotAtWord word.Const after
-  pub no_reference : NotAt Ampersand after
-  pub no_pointer : NotAt Star after
 
 pub data SigReading : Type 0 where
   sig : (name : List ℕ) → List TypeReading → SigReading
@@ -87,14 +64,6 @@ spell_kind Queued after = token.Word word.Queued ∷ after
 -- a signature may have at most 8 types (docs/language.md, "Limits")
 abbrev pub HasFewTypes : Sig → Type 0
 HasFewTypes s = length s.types ≤ most_parameters
-
--- `&` comes next
-abbrev pub BeginsWithAmpersand : List Token → Type 0
-BeginsWithAmpersand tokens = (after : List Token) × (tokens ≡ token.Symbol Ampersand ∷ after)
-
--- a name and `&` come next
-abbrev pub BeginsWithReference : List Token → Type 0
-BeginsWithReference tokens = (name : List ℕ) × (after : List Token) × (tokens ≡ token.Name name ∷ token.Symbol Ampersand ∷ after)
 
 -- Somewhere among the tokens stands a reference that isn't const: a name, in front of it no `const`, behind it `&`. In
 -- the grammars of programs, scripts and signatures `&` stands nowhere but at the end of a type.

@@ -1,5 +1,5 @@
 -- How symbols are spelled, and the longest symbol at the front of a text.
-use Rattle.std.specs.Prelude.{ℕ, ◌≡◌, ◌≤◌, List, [], ◌∷◌, ◌++◌, length, ◌⊎◌, codes}
+use Rattle.std.specs.Prelude.{ℕ, ◌≡◌, ◌≤◌, List, ◌++◌, length, codes}
 use Rattle.texts.specs.declared.symbol.Symbol.{Symbol}
 use Rattle.texts.specs.declared.symbol.Symbol.TheVariants as s
 
@@ -32,10 +32,6 @@ spelling s.Tilde = codes "~"
 -- the front stands at the front of the bytes
 abbrev pub Begins : List ℕ → List ℕ → Type 0
 Begins front bytes = (rest : List ℕ) × (bytes ≡ front ++ rest)
-
-abbrev pub IsIn : Symbol → List Symbol → Type 0
-IsIn symbol [] = ⊥
-IsIn symbol (x ∷ xs) = (symbol ≡ x) ⊎ IsIn symbol xs
 
 -- the symbol is the longest one at the front of the bytes
 pub record IsSymbolAt (symbol : Symbol) (bytes rest : List ℕ) : Type 0 where

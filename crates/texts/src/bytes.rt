@@ -1,7 +1,8 @@
 //! What a byte may begin, and runs of bytes.
 
 ghost use Rattle.std.specs.Prelude.{◌≡◌, ◌≤◌, ◌+◌, length};
-ghost use Rattle.texts.specs.Bytes.{class_of, belongs, IsRun};
+ghost use Rattle.texts.specs.code.Bytes.{class_of};
+ghost use Rattle.texts.specs.Bytes.{belongs, IsRun};
 
 use signatures::{is_blank, is_digit, is_letter, is_name_byte};
 

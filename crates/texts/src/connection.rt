@@ -1,7 +1,8 @@
 //! Connections, as bodies and scripts name them.
 
 ghost use Rattle.std.specs.Prelude.{◌<◌, ◌≤◌, ◌↔◌, length, IsTrue, All, OnOk};
-ghost use Rattle.texts.specs.Connections.{EndsAtSig, TakesSeparator, EatsFlag, ReadsEnd, ReadsEnds, ReadsConnectionType, signatures_at};
+ghost use Rattle.texts.specs.code.Connections.{EndsAtSig, TakesSeparator, EatsFlag, ReadsEnd, ReadsEnds, ReadsConnectionType};
+ghost use Rattle.texts.specs.Connections.{signatures_at};
 ghost use Rattle.texts.specs.Signatures.{HasFewTypes};
 
 use crate::cursor::Cursor;

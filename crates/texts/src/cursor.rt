@@ -2,9 +2,10 @@
 
 ghost use Rattle.std.specs.Prelude.{◌≡◌, ◌↔◌, ◌<◌, ◌≤◌, [], length, IsTrue, OnOk};
 ghost use Rattle.std.specs.Bool.{OnTrue};
-ghost use Rattle.texts.specs.Cursor.{TakesNext, Eats, Expects};
-ghost use Rattle.texts.specs.Optional.{ReadsOptionalName};
-ghost use Rattle.texts.specs.Reading.{Reads, EndsAnywhere, spell_name, spell_word};
+ghost use Rattle.texts.specs.code.Cursor.{TakesNext, Eats, Expects};
+ghost use Rattle.texts.specs.code.Optional.{ReadsOptionalName};
+ghost use Rattle.texts.specs.code.Reading.{Reads, EndsAnywhere};
+ghost use Rattle.texts.specs.Reading.{spell_name, spell_word};
 ghost use Rattle.texts.specs.declared.token.Token.TheVariants as token;
 
 use crate::fault::ParseFault;

@@ -1,7 +1,8 @@
 //! How deep a text nests.
 
 ghost use Rattle.std.specs.Prelude.{◌≡◌, ◌≤◌, ◌↔◌, IsTrue};
-ghost use Rattle.texts.specs.Nesting.{IsParted, IsTooDeep, StandTogether, open_after};
+ghost use Rattle.texts.specs.Nesting.{IsParted, IsTooDeep, most_open, most_together, open_after};
+ghost use Rattle.texts.specs.code.Nesting.{StandTogether};
 
 use crate::symbol::Symbol;
 use crate::token::Token;
@@ -31,7 +32,7 @@ pub fn nesting(tokens: &[Token]) -> bool
 
 /// How many are open after the token, if so many were before it.
 fn open_after(before: u32, token: &Token) -> u32
-    requires { before ≤ 32 }
+    requires { before ≤ most_open }
     ensures { result ≡ open_after before token.now }
 {
     match token {
@@ -48,7 +49,7 @@ fn open_after(before: u32, token: &Token) -> u32
 
 /// How many tokens stand together at the token's end, if so many did before it.
 fn together_after(before: u32, token: &Token) -> u32
-    requires { before ≤ 200 }
+    requires { before ≤ most_together }
     ensures { StandTogether before token.now result }
 {
     if is_parting(token) { 0 } else { before + 1 }

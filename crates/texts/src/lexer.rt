@@ -1,8 +1,9 @@
 //! Cuts a text into tokens.
 
 ghost use Rattle.std.specs.Prelude.{◌≡◌, ◌<◌, length, Err, IfOk};
-ghost use Rattle.texts.specs.Pieces.{IsWordOrName, AreTokens, IsUncut, OneCut};
-ghost use Rattle.texts.specs.Splitting.{SplitsPiece, SplitsComment, SplitsText};
+ghost use Rattle.texts.specs.code.Splitting.{IsWordOrName};
+ghost use Rattle.texts.specs.Pieces.{AreTokens, IsUncut, OneCut};
+ghost use Rattle.texts.specs.code.Splitting.{SplitsPiece, SplitsComment, SplitsText};
 ghost use Rattle.signatures.specs.Name.{IsName};
 ghost use Rattle.texts.specs.declared.lexer.LexFault.TheVariants.{BadByte};
 

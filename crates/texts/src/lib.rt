@@ -7,9 +7,11 @@ mod cursor;
 mod depth;
 mod fault;
 mod lexer;
+mod limits;
 mod lines;
 mod lists;
 mod literal;
+mod numeral;
 mod program;
 mod signature;
 mod symbol;
@@ -21,9 +23,11 @@ pub use cursor::Cursor;
 pub use depth::nesting;
 pub use fault::ParseFault;
 pub use lexer::{LexFault, one_cut, split_piece, tokens};
-pub use lines::split_line;
+pub use limits::{MOST_BYTES, MOST_DEPTH};
+pub use lines::{split_at_line, split_line};
 pub use lists::{Part, list, list_after};
-pub use literal::unsigned_literal;
+pub use literal::{GREATEST, unsigned_literal};
+pub use numeral::number;
 pub use program::{
     Class, EffectNames, Formal, Owns, Parameter, Program, Property, Signal, Site, Slot, SlotWork,
     Wire,

@@ -2,7 +2,7 @@
 
 ghost use Rattle.std.specs.Prelude.{◌≡◌, ◌<◌, nat_eq, length, IfSome};
 ghost use Rattle.std.specs.List.{position};
-ghost use Rattle.texts.specs.Splitting.{SplitsLine};
+ghost use Rattle.texts.specs.code.Splitting.{SplitsLine, SplitsAtLine};
 
 /// What ends a line.
 const NEWLINE: u8 = 10;
@@ -19,6 +19,22 @@ pub fn split_line(text: &[u8]) -> Option<(&[u8], &[u8])>
         Some(at) => Some((&text[..at], &text[at + 1..])),
         None => Some((text, &text[text.len()..])),
     }
+}
+
+/// What stands in front of the first line that is `line`, whole lines, and what follows it; `None` where no line of the text
+/// is that one.
+pub fn split_at_line<'a>(text: &'a [u8], line: &[u8]) -> Option<(&'a [u8], &'a [u8])>
+    ensures { SplitsAtLine line.now text.now result }
+{
+    let mut left = text;
+    while let Some((found, rest)) = split_line(left) {
+        if found == line {
+            let (front, _) = text.split_at(text.len() - left.len());
+            return Some((front, rest));
+        }
+        left = rest;
+    }
+    None
 }
 
 /// Where the first newline stands.

@@ -1,8 +1,8 @@
 //! Lists, in parentheses or behind a word.
 
 ghost use Rattle.std.specs.Prelude.{◌<◌, ◌≤◌, List, length, OnOk};
-ghost use Rattle.texts.specs.Lists.{EndsAtComma, IsPart, ReadsParts, ReadsList, ReadsAfter};
-ghost use Rattle.texts.specs.Reading.{Reads};
+ghost use Rattle.texts.specs.code.Lists.{EndsAtComma, IsPart, ReadsParts, ReadsList, ReadsAfter};
+ghost use Rattle.texts.specs.code.Reading.{Reads};
 ghost use Rattle.texts.specs.declared.token.Token.{Token};
 
 use crate::cursor::Cursor;

@@ -1,12 +1,14 @@
-//! Numbers and literals.
+//! Literals, and the numbers in them.
 
 ghost use Rattle.std.specs.Prelude.{◌≡◌, ◌<◌, ◌≤◌, ◌-ℤ◌, pos, length, IfOk, OnOk};
-ghost use Rattle.texts.specs.Literals.{ReadsUnsigned, deepest, spell_literal, tree_of_literal};
-ghost use Rattle.texts.specs.Numerals.{ValueUpTo, ReadsNumeral};
-ghost use Rattle.texts.specs.Reading.{Reads, EndsAnywhere};
+ghost use Rattle.texts.specs.code.Literals.{ReadsUnsigned};
+ghost use Rattle.texts.specs.Literals.{deepest, spell_literal, tree_of_literal};
+ghost use Rattle.texts.specs.code.Numerals.{ValueUpTo, ReadsNumeral};
+ghost use Rattle.texts.specs.code.Reading.{Reads, EndsAnywhere};
 
 use crate::cursor::Cursor;
 use crate::fault::ParseFault;
+use crate::numeral::value_of;
 use crate::symbol::Symbol;
 use crate::syntax::Literal;
 use crate::token::Token;
@@ -14,25 +16,10 @@ use signatures::{Text, Word};
 use std::alloc::Global;
 
 /// The greatest number that stands without a sign.
-const GREATEST: u32 = 2147483647;
+pub const GREATEST: u32 = 2147483647;
 
 /// The greatest number that stands after a `-`.
 const DEEPEST: u32 = 2147483648;
-
-/// The number that the digits write, if it is at most so much.
-pub fn value_of(digits: &[u8], most: u32) -> Result<u32, ParseFault>
-    ensures { ValueUpTo most digits.now result }
-{
-    let mut value = 0u32;
-    for digit in digits {
-        let next = u64::from(value) * 10 + u64::from(digit.saturating_sub(b'0'));
-        if next > u64::from(most) {
-            return Err(ParseFault::Syntax);
-        }
-        value = next as u32;
-    }
-    Ok(value)
-}
 
 /// The literal that the token is by itself: a number of at most 2147483647, `true`, `false`, a text of at
 /// most 255 bytes or `null`.
@@ -40,10 +27,10 @@ pub fn unsigned_literal(alloc: Global, token: &Token) -> Result<Literal, ParseFa
     ensures { ReadsUnsigned token.now result }
 {
     match token {
-        Token::Number(digits) => {
-            let value = value_of(digits.as_slice(), GREATEST)?;
-            Ok(Literal::Int(value as i32))
-        }
+        Token::Number(digits) => match value_of(digits.as_slice(), u64::from(GREATEST)) {
+            Some(value) => Ok(Literal::Int(value as i32)),
+            None => Err(ParseFault::Syntax),
+        },
         Token::Text(bytes) => match Text::of(alloc, bytes.as_slice())? {
             Some(text) => Ok(Literal::Text(text)),
             None => Err(ParseFault::Syntax),
@@ -76,10 +63,10 @@ impl<'a> Cursor<'a> {
         ensures shorter { OnOk result (length self.new < length self.old) }
     {
         match self.next()? {
-            Token::Number(digits) => {
-                let value = value_of(digits.as_slice(), most)?;
-                Ok(value)
-            }
+            Token::Number(digits) => match value_of(digits.as_slice(), u64::from(most)) {
+                Some(value) => Ok(value as u32),
+                None => Err(ParseFault::Syntax),
+            },
             _ => Err(ParseFault::Syntax),
         }
     }

@@ -1,8 +1,9 @@
 //! Types, signatures and the kinds of connections.
 
 ghost use Rattle.std.specs.Prelude.{◌≡◌, ◌<◌, ◌≤◌, List, length, IsTrue, ◌↔◌, OnOk};
-ghost use Rattle.texts.specs.Reading.{Reads, EndsAnywhere};
-ghost use Rattle.texts.specs.Signatures.{TypeReading, spelled_type, spell_place, EndsNamed, IsEnding, spell_type, tree_of_type, EndsType, spell_sig, tree_of_sig, spell_kind, HasFewTypes, BeginsWithAmpersand, BeginsWithReference, HasPlainReference, TypesAreNormal, OthersAreRefused};
+ghost use Rattle.texts.specs.code.Reading.{Reads, EndsAnywhere};
+ghost use Rattle.texts.specs.Signatures.{TypeReading, spelled_type, spell_type, tree_of_type, spell_sig, tree_of_sig, spell_kind, HasFewTypes, HasPlainReference, TypesAreNormal, OthersAreRefused};
+ghost use Rattle.texts.specs.code.Signatures.{spell_place, EndsNamed, IsEnding, EndsType, BeginsWithAmpersand, BeginsWithReference};
 ghost use Rattle.texts.specs.SignatureTexts.{TokensGiveNormalForms, NormalFormsAreInTokens};
 ghost use Rattle.signatures.specs.declared.word.Word.TheVariants as word;
 ghost use Rattle.texts.specs.declared.token.Token.{Token};

@@ -1,7 +1,7 @@
 //! Symbols and their spellings.
 
 ghost use Rattle.std.specs.Prelude.{◌≡◌};
-ghost use Rattle.texts.specs.Splitting.{SplitsThis, SplitsOneOf, SplitsSymbol};
+ghost use Rattle.texts.specs.code.Splitting.{SplitsThis, SplitsOneOf, SplitsSymbol};
 ghost use Rattle.texts.specs.Symbols.{spelling};
 
 /// A token that is neither a word nor a literal.

@@ -1,7 +1,8 @@
 use Rattle.std.proofs.Common.{map}
 use Rattle.slot_lang.specs.Expressions.{tree_of_expression}
 use Rattle.slot_lang.specs.Grammar.{spell_arguments}
-use Rattle.texts.specs.Reading.{EndsAnywhere, spell_name}
+use Rattle.texts.specs.code.Reading.{EndsAnywhere}
+use Rattle.texts.specs.Reading.{spell_name}
 use Rattle.texts.specs.declared.syntax.Stmt.TheVariants as stmt
 use Rattle.texts.proofs.Both.{both_found}
 use Rattle.slot_lang.proofs.body.emission.Goals as goal

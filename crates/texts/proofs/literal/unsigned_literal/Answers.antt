@@ -1,18 +1,19 @@
-use Rattle.std.proofs.Common.{◌≡◌, to_z, w32, pos, true, false, arith, refl}
+use Rattle.std.proofs.Common.{◌≡◌, ◌≤◌, to_z, w32, pos, true, false, arith, refl}
 use Rattle.std.proofs.lemmas.Int.{ints}
 use Rattle.texts.specs.Literals.{truth}
 use Rattle.texts.proofs.Literals.{is_number, is_quoted}
 use Rattle.texts.proofs.literal.unsigned_literal.Goals as goal
 
-pub returns-in_ok-value-in-Number : goal.returns-in_ok-value-in-Number
-returns-in_ok-value-in-Number c =
-    let value = c.in_ok-value-in-Number.ensures in
-    let same : to_z w32 c.in_ok-value-in-Number.value ≡ pos c.in_ok-value-in-Number.value = omega (arith, ints) in
-    rw same (is_number c.args.token.now c.as_slice.result.now c.in_ok-value-in-Number.value (rw c.as_slice.ensures c.in-Number.is) value.0 value.1)
-
 pub returns-in-Some : goal.returns-in-Some
 returns-in-Some c =
-    let text = rw c.in-Some.is at c.in_ok-text-in-Text.ensures in
+    let value = rw c.in-Some.is at c.value_of.ensures in
+    let fits : c.in-Some.value ≤ 2147483647 = omega (arith, value.1, c.from.ensures) in
+    let same : to_z w32 c.in-Some.value ≡ pos c.in-Some.value = omega (arith, ints) in
+    rw same (is_number c.args.token.now c.as_slice.result.now c.in-Some.value (rw c.as_slice.ensures c.in-Number.is) value.0 fits)
+
+pub returns-in-Some-2 : goal.returns-in-Some-2
+returns-in-Some-2 c =
+    let text = rw c.in-Some-2.is at c.in_ok-text-in-Text.ensures in
     rw text.0 (is_quoted c.args.token.now c.as_slice-in-Text.result.now (rw c.as_slice-in-Text.ensures c.in-Text.is) text.1)
 
 pub returns-in-True : goal.returns-in-True

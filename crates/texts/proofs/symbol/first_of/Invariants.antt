@@ -1,6 +1,7 @@
 use Rattle.std.proofs.Common.{length}
 use Rattle.std.specs.List.{AllByRecursion}
-use Rattle.texts.specs.Symbols.{spelling, Begins, IsIn}
+use Rattle.texts.specs.Symbols.{spelling, Begins}
+use Rattle.texts.specs.code.Splitting.{IsIn}
 use Rattle.texts.specs.declared.symbol.Symbol.{Symbol}
 use Rattle.texts.proofs.symbol.first_of.Given as goal
 

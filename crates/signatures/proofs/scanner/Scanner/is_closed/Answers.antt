@@ -1,6 +1,6 @@
 use Rattle.std.proofs.Common.{refl}
 use Rattle.signatures.specs.Signatures.{IsPart}
-use Rattle.signatures.specs.Tokens.{token_of}
+use Rattle.signatures.specs.code.Scanning.{token_of}
 use Rattle.signatures.proofs.Closed.{closed_part, closed_end, closed_last}
 use Rattle.signatures.proofs.scanner.Scanner.is_closed.Goals as goal
 

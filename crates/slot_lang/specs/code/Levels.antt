@@ -1,12 +1,13 @@
 -- The rules of expressions whose operators group to the left, by their level (docs/language.md, "Expressions"): an
 -- operand, and operators of one precedence with an operand behind each.
 use Rattle.std.specs.Prelude.{List}
-use Rattle.slot_lang.specs.Expressions.{Answer, Expression, Conjunction, Comparison, Sum, Term, Factor, spell_expression, spell_conjunction, spell_comparison, spell_sum, spell_term, spell_factor, tree_of_expression, tree_of_conjunction, tree_of_comparison, tree_of_sum, tree_of_term, tree_of_factor, EndsChain, EndsConjunction, EndsComparison, EndsTerm, EndsFactor}
+use Rattle.slot_lang.specs.code.Expressions.{Answer, EndsChain, EndsConjunction, EndsComparison, EndsTerm, EndsFactor}
+use Rattle.slot_lang.specs.Expressions.{Expression, Conjunction, Comparison, Sum, Term, Factor, spell_expression, spell_conjunction, spell_comparison, spell_sum, spell_term, spell_factor, tree_of_expression, tree_of_conjunction, tree_of_comparison, tree_of_sum, tree_of_term, tree_of_factor}
 use Rattle.slot_lang.specs.declared.precedence.Level.{Level}
 use Rattle.slot_lang.specs.declared.precedence.Level.TheVariants as level
 use Rattle.slot_lang.specs.declared.precedence.Precedence.{Precedence}
 use Rattle.slot_lang.specs.declared.precedence.Precedence.TheVariants as precedence
-use Rattle.texts.specs.Reading.{Reads}
+use Rattle.texts.specs.code.Reading.{Reads}
 use Rattle.texts.specs.declared.syntax.Expr.{Expr}
 use Rattle.texts.specs.declared.syntax.Path.{Path}
 use Rattle.texts.specs.declared.token.Token.{Token}

@@ -1,24 +1,46 @@
 -- What each step of cutting a text splits off at its front, and the fault where nothing stands there.
 use Rattle.std.specs.Borrow.{Bor}
-use Rattle.std.specs.Prelude.{ℕ, ◌≡◌, ◌++◌, List, [], Option, Some, None, Result, Ok, Err}
+use Rattle.std.specs.Prelude.{ℕ, ◌≡◌, ◌++◌, List, [], Option, Some, None, Result, Ok, Err, ◌∷◌, ◌⊎◌}
 use Rattle.std.specs.List.{AllByRecursion}
-use Rattle.texts.specs.Lines.{IsFrontLine}
-use Rattle.texts.specs.Pieces.{IsComment, IsQuoted, Cuts, HasNoFront}
-use Rattle.texts.specs.Symbols.{spelling, Begins, IsIn, IsSymbolAt}
+use Rattle.texts.specs.Lines.{IsFrontLine, IsPartedAt, LacksLine}
+use Rattle.texts.specs.Pieces.{IsComment, IsQuoted, Piece, IsFront, token_of}
+use Rattle.texts.specs.Symbols.{spelling, Begins, IsSymbolAt}
 use Rattle.texts.specs.declared.lexer.LexFault.{LexFault}
 use Rattle.texts.specs.declared.lexer.LexFault.TheVariants.{BadByte}
 use Rattle.texts.specs.declared.symbol.Symbol.{Symbol}
 use Rattle.texts.specs.declared.token.Token.{Token}
+use Rattle.texts.specs.declared.token.Token.TheVariants as token
+use Rattle.signatures.specs.declared.word.Word.{Word}
+use Rattle.signatures.specs.Words.{word_spelling, IsFree}
 
 -- a line, or none where no text is left
 abbrev pub SplitsLine : List ℕ → Option (Bor (List ℕ) × Bor (List ℕ)) → Type 0
 SplitsLine text None = text ≡ []
 SplitsLine text (Some parts) = IsFrontLine text parts.0.now parts.1.now
 
+-- what stands in front of the first line that is this one, and what follows it, or none where no line is
+abbrev pub SplitsAtLine : List ℕ → List ℕ → Option (Bor (List ℕ) × Bor (List ℕ)) → Type 0
+SplitsAtLine line text None = LacksLine line text
+SplitsAtLine line text (Some parts) = IsPartedAt line text parts.0.now parts.1.now
+
+-- a piece at the front, and its token
+pub record Cuts (bytes : List ℕ) (found : Option Token) (rest : List ℕ) : Type 0 where
+  pub piece : Piece
+  pub front : IsFront piece bytes rest
+  pub token_is : token_of piece ≡ found
+
+-- no piece stands at the front
+abbrev pub HasNoFront : List ℕ → Type 0
+HasNoFront bytes = (piece : Piece) → (rest : List ℕ) → IsFront piece bytes rest → ⊥
+
 -- a piece, by its token; a bad byte only where there is none
 abbrev pub SplitsPiece : List ℕ → Result (Option Token × Bor (List ℕ)) LexFault → Type 0
 SplitsPiece bytes (Ok parts) = Cuts bytes parts.0 parts.1.now
 SplitsPiece bytes (Err fault) = fault ≡ BadByte → HasNoFront bytes
+
+-- the token is the reserved word with these letters, or the name where there is none
+abbrev pub IsWordOrName : Token → List ℕ → Type 0
+IsWordOrName t letters = ((word : Word) × (t ≡ token.Word word) × (letters ≡ word_spelling word)) ⊎ ((t ≡ token.Name letters) × IsFree letters)
 
 -- after a slash, what follows the comment
 abbrev pub SplitsComment : List ℕ → Result (Bor (List ℕ)) LexFault → Type 0
@@ -38,6 +60,11 @@ SplitsThis symbol bytes (Some rest) = bytes ≡ spelling symbol ++ rest.now
 -- none of these symbols stands at the front
 abbrev pub NoneBegins : List Symbol → List ℕ → Type 0
 NoneBegins symbols bytes = AllByRecursion (λ s. ¬ Begins (spelling s) bytes) symbols
+
+-- the symbol is one of these
+abbrev pub IsIn : Symbol → List Symbol → Type 0
+IsIn symbol [] = ⊥
+IsIn symbol (x ∷ xs) = (symbol ≡ x) ⊎ IsIn symbol xs
 
 -- one of these symbols, and what follows it
 abbrev pub SplitsOneOf : List Symbol → List ℕ → Option (Symbol × Bor (List ℕ)) → Type 0

@@ -1,6 +1,6 @@
 use Rattle.std.proofs.Common.{◌≡◌, ◌≤◌, drop}
 use Rattle.texts.specs.Numerals.{value_from, value_of}
-use Rattle.texts.proofs.literal.value_of.Given as goal
+use Rattle.texts.proofs.numeral.value_of.Given as goal
 
 abbrev pub invariant-loop-digit : goal.invariant-loop-digit
 invariant-loop-digit l = record {

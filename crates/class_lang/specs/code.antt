@@ -1,0 +1,4 @@
+-- What the contracts of this crate's functions need besides: what its readers do, step by step.
+pub mod Members
+pub mod Declarations
+pub mod Faults

@@ -1,0 +1,59 @@
+-- What the readers of members do, where a parameter may end, and what a class with some members more is.
+use Rattle.std.specs.Prelude.{List, Option, Result, ◌++◌, option_map}
+use Rattle.texts.specs.code.Reading.{Reads, EndsAnywhere}
+use Rattle.texts.specs.code.Signatures.{EndsType}
+use Rattle.texts.specs.Signatures.{tree_of_sig}
+use Rattle.texts.specs.declared.fault.ParseFault.{ParseFault}
+use Rattle.texts.specs.declared.token.Token.{Token}
+use Rattle.texts.specs.code.Optional.{EndsWithoutName}
+use Rattle.texts.specs.declared.program.Parameter.{Parameter}
+use Rattle.class_lang.specs.Parameters.{spell_signal_parameter, tree_of_signal_parameter, spell_slot_parameter, tree_of_slot_parameter}
+use Rattle.signatures.specs.declared.word.Word.TheVariants as word
+use Rattle.texts.specs.declared.program.EffectNames.{EffectNames}
+use Rattle.texts.specs.declared.program.Slot.{Slot}
+use Rattle.class_lang.specs.Natives.{spell_effects, tree_of_effects, spell_native, tree_of_native}
+use Rattle.texts.specs.code.Cursor.{NotAt, NotAtWord}
+use Rattle.texts.specs.Literals.{tree_of_literal}
+use Rattle.texts.specs.declared.symbol.Symbol.TheVariants.{Assign}
+use Rattle.signatures.specs.declared.sig.Sig.{Sig}
+use Rattle.texts.specs.declared.syntax.Literal.{Literal}
+use Rattle.class_lang.specs.declared.members.Member.{Member}
+use Rattle.texts.specs.declared.program.Property.{Property}
+use Rattle.texts.specs.declared.program.Class.{Class}
+use Rattle.class_lang.specs.Members.{spell_initial, spell_notify, spell_property, tree_of_property, properties_in, signals_in, slots_in}
+
+-- nothing comes next with which its type or its name would go on
+pub record EndsSignalParameter (after : List Token) : Type 0 where
+  pub no_type : EndsType after
+  pub no_name : EndsWithoutName after
+
+abbrev pub ReadsSignalParameter : List Token → Result Parameter ParseFault → List Token → Type 0
+ReadsSignalParameter before result after = Reads spell_signal_parameter tree_of_signal_parameter EndsSignalParameter before result after
+
+abbrev pub ReadsSlotParameter : List Token → Result Parameter ParseFault → List Token → Type 0
+ReadsSlotParameter before result after = Reads spell_slot_parameter tree_of_slot_parameter EndsAnywhere before result after
+
+abbrev pub ReadsEffects : List Token → Result EffectNames ParseFault → List Token → Type 0
+ReadsEffects before result after = Reads spell_effects tree_of_effects EndsAnywhere before result after
+
+abbrev pub ReadsNative : List Token → Result Slot ParseFault → List Token → Type 0
+ReadsNative before result after = Reads spell_native tree_of_native EndsAnywhere before result after
+
+abbrev pub ReadsInitial : List Token → Result (Option Literal) ParseFault → List Token → Type 0
+ReadsInitial before result after = Reads spell_initial (option_map tree_of_literal) (NotAt Assign) before result after
+
+abbrev pub ReadsNotify : List Token → Result (Option Sig) ParseFault → List Token → Type 0
+ReadsNotify before result after = Reads spell_notify (option_map tree_of_sig) (NotAtWord word.Notify) before result after
+
+abbrev pub ReadsProperty : List Token → Result Property ParseFault → List Token → Type 0
+ReadsProperty before result after = Reads spell_property tree_of_property EndsAnywhere before result after
+
+-- the class, with these members after its own
+abbrev pub with_members : Class → List Member → Class
+with_members class members = record {
+  name = class.name;
+  base = class.base;
+  properties = class.properties ++ properties_in members;
+  signals = class.signals ++ signals_in members;
+  slots = class.slots ++ slots_in members;
+}

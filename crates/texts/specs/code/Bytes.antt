@@ -1,0 +1,19 @@
+-- What a piece of text that begins with a byte may be.
+use Rattle.std.specs.Prelude.{ℕ, Bool, true, false, nat_eq}
+use Rattle.signatures.specs.Name.{is_letter, is_digit}
+use Rattle.signatures.specs.Tokens.{is_blank}
+use Rattle.texts.specs.declared.bytes.Class.{Class}
+use Rattle.texts.specs.declared.bytes.Class.TheVariants.{Blank, Slash, Letter, Digit, Quote, Other}
+
+-- the first that holds
+abbrev pub class_by : (blank slash letter digit quote : Bool) → Class
+class_by true slash letter digit quote = Blank
+class_by false true letter digit quote = Slash
+class_by false false true digit quote = Letter
+class_by false false false true quote = Digit
+class_by false false false false true = Quote
+class_by false false false false false = Other
+
+-- what a piece of text that begins with the byte is: `/` is 47, and `"` is 34
+abbrev pub class_of : ℕ → Class
+class_of b = class_by (is_blank b) (nat_eq b 47) (is_letter b) (is_digit b) (nat_eq b 34)
