@@ -1,5 +1,5 @@
 -- Lists of which some element has a property.
-use Rattle.std.proofs.Common.{◌≡◌, ℕ, zero, suc, ◌<◌, Bool, true, false, List, [], ◌∷◌, ◌++◌, length, get_or, Any, IsTrue, MatchBool, ◌↔◌, ◌⊎◌, inl, inr, refl, sym, ◌∙◌, subst, arith}
+use Rattle.std.proofs.Common.{◌≡◌, ℕ, zero, suc, ◌<◌, Bool, true, false, List, [], ◌∷◌, ◌++◌, length, get_or, Any, IsTrue, MatchBool, ◌↔◌, ◌⊎◌, inl, inr, refl, sym, subst, arith}
 use Rattle.std.specs.List.{HoldsAt, AllWithin}
 use Rattle.std.proofs.lemmas.Option.{none-some, same_Some}
 use Rattle.meta_model.specs.Places.{StandsAt}

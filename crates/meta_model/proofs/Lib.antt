@@ -8,6 +8,7 @@ pub mod Firsts
 pub mod ReadTypes
 pub mod Once
 pub mod OutlineSteps
+pub mod Fronts
 pub mod Outlined
 pub mod Roots
 pub mod Indexing

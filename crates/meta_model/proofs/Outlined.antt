@@ -1,5 +1,5 @@
 -- What each class of an outlined program is: `QObject`, or a declared class with its base's members and its own.
-use Rattle.std.proofs.Common.{◌≡◌, ◌≢◌, ℕ, zero, suc, ◌+◌, ◌<◌, ◌≤◌, List, [], ◌∷◌, ◌++◌, map, length, slice_get, Some, ◌⊎◌, inl, inr, refl, sym, ap, ◌∙◌, subst, arith, length-append}
+use Rattle.std.proofs.Common.{◌≡◌, ◌≢◌, ℕ, zero, suc, ◌+◌, ◌<◌, ◌≤◌, List, [], ◌∷◌, ◌++◌, map, length, slice_get, Some, ◌⊎◌, inl, inr, refl, sym, ap, ◌∙◌, subst, arith}
 use Rattle.std.specs.Prelude.{codes}
 use Rattle.std.proofs.lemmas.Option.{slice_get_within, none-some, same_Some}
 use Rattle.texts.specs.declared.program.Signal.{Signal}
@@ -9,9 +9,10 @@ use Rattle.texts.specs.declared.program.Program.{Program}
 use Rattle.meta_model.specs.declared.outline.Heading.{Heading}
 use Rattle.meta_model.specs.declared.outline.Outline.{Outline}
 use Rattle.meta_model.specs.declared.outline.Sort.TheVariants as sort
-use Rattle.meta_model.specs.Outlines.{kinds_of, sig_of, base_name, signal_heading, slot_headings, own_methods, qobject, AreOutlines, Outlines}
+use Rattle.meta_model.specs.Outlines.{kinds_of, sig_of, base_name, signal_heading, slot_headings, own_methods, qobject, Outlines}
 use Rattle.meta_model.specs.Conditions.{DuplicateClass, IsTaken}
-use Rattle.meta_model.proofs.Zips.{get_front, any_of}
+use Rattle.meta_model.proofs.Fronts.{get_take, inside}
+use Rattle.meta_model.proofs.Zips.{any_of}
 use Rattle.meta_model.proofs.Once.{once, get_split_at}
 
 -- class c is declared
@@ -26,51 +27,6 @@ pub record Declared (classes : List Class) (all : List Outline) (c : ℕ) (o : O
   pub is_base : slice_get all base_number ≡ Some base
   pub base_named : base.name ≡ base_name class.base
   pub shape : o ≡ record { name = class.name; base = Some base_number; methods = base.methods ++ own_methods i class; properties = base.properties ++ class.properties }
-
--- the outlines so far are the first ones
-extends : (cs : List Class) (done : List Outline) (i : ℕ) (all : List Outline) → AreOutlines done i cs all → (b : ℕ) (x : Outline) → slice_get done b ≡ Some x → slice_get all b ≡ Some x
-extends [] done i all h b x e = subst (λ xs. slice_get xs b ≡ Some x) (sym h) e
-extends (class ∷ cs) done i all h b x e = extends cs (done ++ h.0 ∷ []) (suc i) all h.2 b x (get_front done (h.0 ∷ []) b x e)
-
-last_of : (o u : Outline) (j : ℕ) → slice_get (o ∷ []) j ≡ Some u → (j ≡ 0) × (o ≡ u)
-last_of o u zero e = (refl, same_Some _ _ e)
-last_of o u (suc j) e = absurd (none-some u e)
-
-described : (classes cs : List Class) (done : List Outline) (i : ℕ) (all : List Outline) → AreOutlines done i cs all → length done ≡ suc i → ((k : ℕ) (x : Class) → slice_get cs k ≡ Some x → slice_get classes (i + k) ≡ Some x) → (c : ℕ) (o : Outline) → slice_get all c ≡ Some o → (slice_get done c ≡ Some o) ⊎ Declared classes all c o
-described classes [] done i all h count at c o e = inl (subst (λ xs. slice_get xs c ≡ Some o) h e)
-described classes (class ∷ cs) done i all h count at c o e =
-    let counted : length (done ++ h.0 ∷ []) ≡ suc (suc i) = omega (arith, length-append done (h.0 ∷ [])) in
-    let shifted : (k : ℕ) (x : Class) → slice_get cs k ≡ Some x → slice_get classes (suc i + k) ≡ Some x = λ k x f. subst (λ n. slice_get classes n ≡ Some x) (omega arith) (at (suc k) x f) in
-    elim (described classes cs (done ++ h.0 ∷ []) (suc i) all h.2 counted shifted c o e) [
-      | inr d ↦ inr d
-      | inl f ↦ elim (get_split_at done (h.0 ∷ []) c o f) [
-        | inl g ↦ inl g
-        | inr r ↦
-            let last = last_of h.0 o r.0 r.2 in
-            let place : c ≡ suc i = omega (arith, r.1, last.0) in
-            let here : slice_get classes i ≡ Some class = subst (λ n. slice_get classes n ≡ Some class) (omega arith) (at 0 class refl) in
-            let inside : h.1.number < length done = slice_get_within done h.1.number h.1.based.at.item h.1.based.at.is in
-            inr (record {
-              i = i;
-              number = place;
-              class = class;
-              is = here;
-              base_number = h.1.number;
-              smaller = omega (arith, place, inside);
-              base = h.1.based.at.item;
-              is_base = extends (class ∷ cs) done i all h h.1.number h.1.based.at.item h.1.based.at.is;
-              base_named = h.1.based.at.has;
-              shape = sym last.1 ∙ h.1.is;
-            })
-      ]
-    ]
-
--- as many as there are classes, and those that are done
-outline_count : (cs : List Class) (done : List Outline) (i : ℕ) (all : List Outline) → AreOutlines done i cs all → length all ≡ length done + length cs
-outline_count [] done i all h = let e : length all ≡ length done = ap length h in omega (arith, e)
-outline_count (class ∷ cs) done i all h =
-    let rest : length all ≡ length (done ++ h.0 ∷ []) + length cs = outline_count cs (done ++ h.0 ∷ []) (suc i) all h.2 in
-    omega (arith, rest, length-append done (h.0 ∷ []))
 
 -- ---- own methods
 abbrev heading_by : ℕ → Slot → ℕ → Heading
@@ -131,11 +87,24 @@ pub record HasSlot (classes : List Class) (all : List Outline) (c i j m : ℕ) (
 
 module _ (classes : List Class) (all : List Outline) (are : Outlines classes all) where
   pub outline_of : (c : ℕ) (o : Outline) → slice_get all c ≡ Some o → ((c ≡ 0) × (o ≡ qobject)) ⊎ Declared classes all c o
-  outline_of c o e =
-      elim (described classes classes (qobject ∷ []) 0 all are refl (λ k x f. subst (λ n. slice_get classes n ≡ Some x) (omega arith) f) c o e) [
-        | inr d ↦ inr d
-        | inl f ↦ let last = last_of qobject o c f in inl (last.0, sym last.1)
-      ]
+  outline_of zero o e = inl (refl, sym (same_Some _ _ (sym are.root ∙ e)))
+  outline_of (suc i) o e =
+      let within : suc i < length all = slice_get_within all (suc i) o e in
+      let class = inside classes i (omega (arith, within, are.counted)) in
+      let has = are.classes i class.0 class.1 in
+      let base = get_take (suc i) all has.outlined.number has.outlined.based.at.item has.outlined.based.at.is in
+      inr (record {
+        i = i;
+        number = refl;
+        class = class.0;
+        is = class.1;
+        base_number = has.outlined.number;
+        smaller = base.1;
+        base = has.outlined.based.at.item;
+        is_base = base.0;
+        base_named = has.outlined.based.at.has;
+        shape = sym (same_Some _ _ (sym has.is ∙ e)) ∙ has.outlined.is;
+      })
 
   own_slot : (c : ℕ) (o : Outline) → slice_get all c ≡ Some o → (d : Declared classes all c o) (k : ℕ) (h : Heading) → slice_get (own_methods d.i d.class) k ≡ Some h → (i j m : ℕ) → h.sort ≡ sort.Slot i j → m ≡ length d.base.methods + k → m < length o.methods → HasSlot classes all c i j m h
   own_slot c o e d k h at i j m is after within =
@@ -200,11 +169,11 @@ module _ (classes : List Class) (all : List Outline) (are : Outlines classes all
       ]
 
   pub outlines_count : length all ≡ suc (length classes)
-  outlines_count = let e : length all ≡ length (qobject ∷ []) + length classes = outline_count classes (qobject ∷ []) 0 all are in omega (arith, e)
+  outlines_count = are.counted
 
   -- `QObject` is the first class, and every class is below it
   pub root_at : slice_get all 0 ≡ Some qobject
-  root_at = extends classes (qobject ∷ []) 0 all are 0 qobject refl
+  root_at = are.root
 
   pub reaches_root : (n c : ℕ) → c < n → (o : Outline) → slice_get all c ≡ Some o → Reaches all c 0
   reaches_root zero c below o e = absurd (omega arith)

@@ -1,5 +1,5 @@
 -- The properties that a binding site names: there is one at most.
-use Rattle.std.proofs.Common.{◌≡◌, ℕ, Bool, false, List, [], ◌∷◌, length, get_or, IsTrue, ◌↔◌, ◌⊎◌, inl, inr, Any, arith, refl, sym, ap, ◌∙◌, subst}
+use Rattle.std.proofs.Common.{◌≡◌, ℕ, Bool, false, List, [], ◌∷◌, length, get_or, IsTrue, ◌↔◌, ◌⊎◌, inl, inr, Any, arith, sym, ap, ◌∙◌, subst}
 use Rattle.texts.specs.declared.syntax.Path.{Path}
 use Rattle.texts.specs.declared.syntax.Root.TheVariants as root
 use Rattle.texts.specs.declared.program.Formal.{Formal}

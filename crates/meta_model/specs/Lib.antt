@@ -18,5 +18,6 @@ pub mod Conditions
 pub mod Indexed
 pub mod FaultNumbers
 pub mod PartAnswers
+pub mod code
 pub use Rattle.signatures.specs.Name
 pub use Rattle.signatures.specs.Types

@@ -54,19 +54,28 @@ pub record IsPropertyNamed (p : Loaded) (c : ℕ) (name : List ℕ) (q : ℕ) : 
   pub is : slice_get class.properties q ≡ Some property
   pub named : property.name ≡ name
 
--- the base of class c, which only `QObject` lacks
+-- the number of the base of class c; only `QObject` has none
 abbrev pub base_of : Loaded → ℕ → Option ℕ
 base_of p c = option_and_then (λ (class : MetaObject). class.base) (slice_get p.classes c)
+
+-- the base of this class
+abbrev pub base_class : Loaded → MetaObject → Option MetaObject
+base_class p class = option_and_then (slice_get p.classes) class.base
 
 -- the first class, which is one of the program, is the second or below it
 pub data Below (p : Loaded) : ℕ → ℕ → Type 0 where
   same : {c : ℕ} {class : MetaObject} → IsClass p c class → Below p c c
   under : {c b d : ℕ} → base_of p c ≡ Some b → Below p b d → Below p c d
 
--- how many methods a class has, inherited ones too; a number of no class has none
+-- how many methods a class has, inherited ones too; what is no class has none
 abbrev pub methods_in : Option MetaObject → ℕ
 methods_in None = 0
 methods_in (Some class) = length class.methods
+
+-- .. and how many properties
+abbrev pub properties_in : Option MetaObject → ℕ
+properties_in None = 0
+properties_in (Some class) = length class.properties
 
 abbrev pub method_count : Loaded → ℕ → ℕ
 method_count p c = methods_in (slice_get p.classes c)

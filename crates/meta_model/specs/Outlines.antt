@@ -1,9 +1,10 @@
 -- The members that classes have, by name, inherited ones too (Qt 6, "The Meta-Object System" and "Using the Meta-Object
 -- Compiler"; docs/machine.md, "Meta-objects").
 use Rattle.std.specs.Borrow.{Bor}
-use Rattle.std.specs.Prelude.{◌≡◌, ℕ, suc, true, false, List, [], ◌∷◌, ◌++◌, map, Option, None, Some, Result, codes}
+use Rattle.std.specs.Prelude.{◌≡◌, ℕ, suc, false, List, [], ◌∷◌, ◌++◌, map, length, take, Option, None, Some, slice_get, Result, codes}
 use Rattle.signatures.specs.declared.qtype.QType.{QType}
 use Rattle.signatures.specs.declared.sig.Sig.{Sig}
+use Rattle.signatures.specs.Normal.{pointer_type}
 use Rattle.signatures.specs.Types.{value_type}
 use Rattle.texts.specs.declared.program.Parameter.{Parameter}
 use Rattle.texts.specs.declared.program.Property.{Property}
@@ -19,9 +20,6 @@ use Rattle.meta_model.specs.declared.fault.MetaFault.TheVariants as fault
 use Rattle.meta_model.specs.PartAnswers.{Loads}
 use Rattle.meta_model.specs.Places.{StandsFirst, NoneStands, IsFirst}
 
-abbrev pub reference_to : List ℕ → QType
-reference_to class = record { name = class; constant = false; pointer = true }
-
 -- a signature, by its parts
 abbrev pub sig_of : List ℕ → List QType → Sig
 sig_of name types = record { name = name; types = types }
@@ -31,7 +29,7 @@ heading sig s = record { sig = sig; sort = s }
 
 -- ---- QObject
 abbrev pub destroyed : Sig
-destroyed = sig_of (codes "destroyed") (reference_to (codes "QObject") ∷ [])
+destroyed = sig_of (codes "destroyed") (pointer_type (codes "QObject") false ∷ [])
 
 abbrev pub destroyed_alone : Sig
 destroyed_alone = sig_of (codes "destroyed") []
@@ -98,15 +96,17 @@ abbrev pub OutlinesClass : List Outline → ℕ → Class → Result Outline Met
 OutlinesClass done i class result =
     Loads fault.NoBase (NoneStands (IsBase class.base) done) (IsOutline done i class) result
 
--- the classes from class i on are outlined in their order
-abbrev pub AreOutlines : List Outline → ℕ → List Class → List Outline → Type 0
-AreOutlines done i [] all = all ≡ done
-AreOutlines done i (class ∷ classes) all =
-    (outline : Outline) × IsOutline done i class outline × AreOutlines (done ++ outline ∷ []) (suc i) classes all
+-- .. as it stands among all, over those before it
+pub record HasOutline (all : List Outline) (i : ℕ) (class : Class) : Type 0 where
+  pub outline : Outline
+  pub is : slice_get all (suc i) ≡ Some outline
+  pub outlined : IsOutline (take (suc i) all) i class outline
 
--- all classes, of which `QObject` is the first
-abbrev pub Outlines : List Class → List Outline → Type 0
-Outlines classes all = AreOutlines (qobject ∷ []) 0 classes all
+-- `QObject`, then the declared classes in their order
+pub record Outlines (declared : List Class) (all : List Outline) : Type 0 where
+  pub root : slice_get all 0 ≡ Some qobject
+  pub counted : length all ≡ suc (length declared)
+  pub classes : (i : ℕ) (class : Class) → slice_get declared i ≡ Some class → HasOutline all i class
 
 -- ---- what is found in outlines, by name
 abbrev pub IsOutlineNamed : List Outline → List ℕ → ℕ → Type 0

@@ -1,11 +1,9 @@
 -- What every loaded program keeps: class 0 is `QObject`, which is above all others; numbers are those of members, and no
 -- two members are alike; a body, and a native's effects, speak of objects of the class that declares them; literals hold no
 -- object (docs/machine.md, "Loading").
-use Rattle.std.specs.Prelude.{◌≡◌, ◌≢◌, All, ℕ, ◌<◌, ◌⊎◌, Bool, true, false, List, [], ◌∷◌, ◌++◌, length, None, Some, slice_get, codes}
+use Rattle.std.specs.Prelude.{◌≡◌, ◌≢◌, All, ℕ, ◌<◌, ◌⊎◌, Bool, false, List, [], ◌∷◌, ◌++◌, length, None, Some, slice_get}
 use Rattle.std.specs.List.{AllZip}
-use Rattle.signatures.specs.declared.qtype.QType.{QType}
 use Rattle.signatures.specs.declared.value.Value.{Value}
-use Rattle.signatures.specs.Types.{value_type}
 use Rattle.texts.specs.declared.syntax.Unary.{Unary}
 use Rattle.texts.specs.declared.syntax.Binary.{Binary}
 use Rattle.texts.specs.declared.syntax.Expr.{Expr}
@@ -34,19 +32,12 @@ use Rattle.meta_model.specs.declared.site.SourceProperty.{SourceProperty}
 use Rattle.meta_model.specs.declared.site.MetaSite.{MetaSite}
 use Rattle.meta_model.specs.Loaded.{Loaded}
 use Rattle.meta_model.specs.declared.qobject.TheConstants.{QOBJECT, OBJECT_NAME_CHANGED}
-use Rattle.meta_model.specs.Members.{IsClass, IsClassNamed, IsMethod, IsProperty, Below, Declares, IsIn}
+use Rattle.meta_model.specs.Members.{IsClass, IsMethod, IsProperty, Below, Declares, IsIn}
+pub use Rattle.meta_model.specs.Kinds.{IsKind}
 use Rattle.meta_model.specs.Literals.{HoldsNoObject}
 use Rattle.meta_model.specs.Root.{root_class, BeginsAsRoot}
 use Rattle.meta_model.specs.Sites.{paths_in, literals_in}
 use Rattle.meta_model.specs.Twice.{StandsTwice}
-
--- ---- types
--- a declared type, its class replaced by its number
-abbrev pub IsKind : Loaded → QType → ValueType → Type 0
-IsKind p T type.Int = T ≡ value_type (codes "int")
-IsKind p T type.Bool = T ≡ value_type (codes "bool")
-IsKind p T type.Text = T ≡ value_type (codes "QString")
-IsKind p T (type.Reference c constant) = (T.pointer ≡ true) × (T.constant ≡ constant) × IsClassNamed p T.name c
 
 -- ---- paths, where `this` is declared to be of class `me`, and a body's parameters have `kinds`
 pub data HasRoot (me : ℕ) (kinds : List ValueType) : MetaRoot → ValueType → Type 0 where

@@ -2,7 +2,8 @@
 
 ghost use Rattle.std.specs.Prelude.{◌≡◌, ◌↔◌, ℕ, List, IsTrue, IfOk, Any};
 ghost use Rattle.std.specs.List.{AllZip};
-ghost use Rattle.meta_model.specs.Kinds.{IsKindIn, LacksType, IsReadAs};
+ghost use Rattle.meta_model.specs.Kinds.{IsKindIn, LacksType};
+ghost use Rattle.meta_model.specs.code.ReadTypes.{IsReadAs};
 ghost use Rattle.meta_model.specs.Conditions.{LacksPropertyType, LacksParameterType, LacksTypes, LacksAnyType};
 ghost use Rattle.meta_model.specs.Conditions.{MisusesReference, NoType};
 ghost use Rattle.meta_model.specs.LookUps.{LooksUp};

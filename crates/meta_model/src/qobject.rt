@@ -1,9 +1,10 @@
 //! The class `QObject`, the base of all others.
 
-ghost use Rattle.std.specs.Prelude.{◌≡◌, [], ◌∷◌, IfOk, codes};
+ghost use Rattle.std.specs.Prelude.{◌≡◌, false, [], ◌∷◌, IfOk, codes};
 ghost use Rattle.signatures.specs.Name.{IsName};
+ghost use Rattle.signatures.specs.Normal.{pointer_type};
 ghost use Rattle.signatures.specs.Types.{value_type};
-ghost use Rattle.meta_model.specs.Outlines.{qobject, sig_of, heading, reference_to, name_changed, object_name};
+ghost use Rattle.meta_model.specs.Outlines.{qobject, sig_of, heading, name_changed, object_name};
 ghost use Rattle.meta_model.specs.Root.{delete_later_body};
 ghost use Rattle.meta_model.specs.declared.outline.Sort.TheVariants.{Signal};
 
@@ -110,7 +111,7 @@ fn sig_of_one(alloc: Global, name: &[u8], kind: QType) -> Result<Sig, AllocError
 
 /// The type `C*` of references to objects of this class.
 pub fn reference_to(class: &Name) -> Result<QType, AllocError>
-    ensures { IfOk result (λ kind. kind ≡ reference_to class.now) }
+    ensures { IfOk result (λ kind. kind ≡ pointer_type class.now false) }
 {
     let name = class.copy()?;
     Ok(QType {

@@ -13,7 +13,7 @@ use Rattle.meta_model.specs.declared.outline.Heading.{Heading}
 use Rattle.meta_model.specs.declared.outline.Outline.{Outline}
 use Rattle.meta_model.specs.declared.outline.Sort.TheVariants as sort
 use Rattle.meta_model.specs.Places.{StandsAt, StandsFirst, Found}
-use Rattle.meta_objects.specs.Bodies.{Scope, AreExprs, IsObjectPath, IsCallOf, IsEmit, IsCall, IsStatement, emit_is, call_is, IsStatementOf}
+use Rattle.meta_objects.specs.code.Bodies.{Scope, AreExprs, IsObjectPath, IsCallOf, IsEmit, IsCall, IsStatement, emit_is, call_is, IsStatementOf}
 use Rattle.meta_model.proofs.Firsts.{found_item, same_in}
 use Rattle.meta_objects.proofs.Bodies.{same_object}
 use Rattle.meta_objects.proofs.BodyPieces.{by_parts, parts_of}

@@ -16,7 +16,7 @@ use Rattle.meta_model.specs.declared.qobject.TheConstants.{OBJECT_NAME_CHANGED}
 use Rattle.meta_model.specs.Places.{StandsFirst, NoneStands, StandsAt}
 use Rattle.meta_model.specs.Conditions.{IsSignalOf}
 use Rattle.meta_model.specs.Ends.{IsSigned}
-use Rattle.meta_objects.specs.Bodies.{Scope, IsObjectPath, AreEnds, IsStatement, connect_is, disconnect_is, IsStatementOf}
+use Rattle.meta_objects.specs.code.Bodies.{Scope, IsObjectPath, AreEnds, IsStatement, connect_is, disconnect_is, IsStatementOf}
 use Rattle.meta_model.proofs.Firsts.{same_in}
 use Rattle.meta_objects.proofs.Bodies.{same_object}
 use Rattle.meta_objects.proofs.BodyPieces.{by_parts, parts_of}

@@ -33,9 +33,9 @@ use Rattle.meta_model.specs.declared.object.Statement.TheOpen as statement
 use Rattle.meta_model.specs.declared.object.Statement.TheViews.{out-Statement}
 use Rattle.meta_model.specs.declared.outline.Outline.{Outline}
 use Rattle.meta_model.specs.Places.{StandsAt, StandsFirst, Found}
-use Rattle.meta_model.specs.Kinds.{IsReadAs}
+use Rattle.meta_model.specs.code.ReadTypes.{IsReadAs}
 use Rattle.meta_model.specs.Literals.{literal}
-use Rattle.meta_objects.specs.Bodies.{Scope, IsRoot, this_root, parameter_root, PointsTo, PointsToThis, HasMember, AreSteps, IsPath, IsExpr, literal_is, path_is, unary_is, binary_is, AreExprs, IsObjectPath, IsPropertyOfName, IsSet, IsStatement, set_is, if_is, AreStatements, none_are, next_is, IsStatementOf, LacksInBody}
+use Rattle.meta_objects.specs.code.Bodies.{Scope, IsRoot, this_root, parameter_root, PointsTo, PointsToThis, HasMember, AreSteps, IsPath, IsExpr, literal_is, path_is, unary_is, binary_is, AreExprs, IsObjectPath, IsPropertyOfName, IsSet, IsStatement, set_is, if_is, AreStatements, none_are, next_is, IsStatementOf, LacksInBody}
 use Rattle.meta_model.proofs.OutlineSteps.{drop_at, drop_end}
 use Rattle.meta_model.proofs.Firsts.{first_item, same_in}
 use Rattle.meta_objects.proofs.Bodies.{part, same_member, same_root, same_path, same_object}

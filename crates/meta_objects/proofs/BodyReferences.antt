@@ -9,7 +9,7 @@ use Rattle.meta_model.specs.declared.object.Statement.{Statement}
 use Rattle.meta_model.specs.declared.object.Statement.TheVariants as statement_by
 use Rattle.meta_model.specs.declared.object.Statement.TheOpen as statement
 use Rattle.meta_model.specs.declared.object.Statement.TheViews.{out-Statement}
-use Rattle.meta_objects.specs.Bodies.{Scope, IsPath, IsReferencePath, IsStatement, delete_is, later_is, IsStatementOf}
+use Rattle.meta_objects.specs.code.Bodies.{Scope, IsPath, IsReferencePath, IsStatement, delete_is, later_is, IsStatementOf}
 use Rattle.meta_objects.proofs.Bodies.{same_path}
 use Rattle.meta_objects.proofs.BodyPieces.{by_parts, parts_of}
 

@@ -17,3 +17,6 @@ pub mod SitePieces
 pub mod OneSite
 pub mod Sited
 pub mod Natives
+pub mod FoundBodies
+pub mod FoundParts
+pub mod FoundClasses

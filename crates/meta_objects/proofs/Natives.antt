@@ -13,7 +13,7 @@ use Rattle.meta_model.specs.declared.object.MetaObject.{MetaObject}
 use Rattle.meta_model.specs.declared.object.MetaProperty.{MetaProperty}
 use Rattle.meta_model.specs.declared.object.ValueType.{ValueType}
 use Rattle.meta_model.specs.declared.outline.Outline.{Outline}
-use Rattle.meta_model.specs.Kinds.{IsReadAs}
+use Rattle.meta_model.specs.code.ReadTypes.{IsReadAs}
 use Rattle.meta_model.specs.Loaded.{Loaded}
 use Rattle.meta_model.specs.Members.{IsPropertyNamed}
 use Rattle.meta_model.specs.Natives.{RepeatsEffect, IsPointer, TakesReference, AffectsReference}
@@ -22,8 +22,9 @@ use Rattle.meta_model.specs.Sites.{IsReferenceIn}
 use Rattle.meta_model.specs.Sound.{IsPlain, IsPlainProperty, IsPlainSignal, AreOnce, AreSoundEffects}
 use Rattle.meta_model.specs.Twice.{StandsTwice}
 use Rattle.meta_objects.specs.declared.body_resolution.work.ResolvedWork.{ResolvedWork}
-use Rattle.meta_objects.specs.Loading.{work_of, IsObject}
-use Rattle.meta_objects.specs.Natives.{HasPropertyIn, HasSignalIn, AreEffects, IsEmitted, AreLoadedEffects}
+use Rattle.meta_objects.specs.code.Loading.{work_of, IsObject}
+use Rattle.meta_objects.specs.code.Natives.{HasPropertyIn, HasSignalIn, AreEffects}
+use Rattle.meta_objects.specs.LoadedNatives.{IsEmitted, AreLoadedEffects}
 use Rattle.meta_model.proofs.Once.{none_at}
 use Rattle.meta_model.proofs.Searches.{same_first}
 use Rattle.meta_model.proofs.Zips.{any_of, place_of_any, zip_right, zip_also}

@@ -13,7 +13,7 @@ use Rattle.meta_model.specs.declared.outline.Outline.{Outline}
 use Rattle.meta_model.specs.Literals.{literal}
 use Rattle.meta_model.specs.Outlines.{IsOutlineNamed}
 use Rattle.meta_model.specs.Sites.{IsSourceProperty}
-use Rattle.meta_objects.specs.Sites.{IsFormula, literal_is, path_is, unary_is, binary_is, IsSite}
+use Rattle.meta_objects.specs.code.Sites.{IsFormula, literal_is, path_is, unary_is, binary_is, IsSite}
 use Rattle.meta_model.proofs.Searches.{same_first}
 use Rattle.meta_model.proofs.SiteProperties.{one_property_in, one_source}
 

@@ -8,9 +8,10 @@ use Rattle.meta_model.specs.declared.fault.MetaFault.TheVariants as fault
 use Rattle.meta_model.specs.declared.outline.Outline.{Outline}
 use Rattle.meta_model.specs.Loaded.{Loaded}
 use Rattle.meta_model.specs.Conditions.{DuplicateClass, NoBase, DuplicateMember, BadNotify, NoType}
-use Rattle.meta_objects.specs.Loading.{LacksMember}
+use Rattle.meta_objects.specs.LackedNames.{LacksMember}
 use Rattle.meta_objects.specs.Builds.{HasOutlines, Builds, OneAnswer}
-use Rattle.meta_objects.proofs.Unique.{same_all, one_loading}
+use Rattle.meta_objects.proofs.Unique.{same_all}
+use Rattle.meta_objects.proofs.FoundClasses.{one_loading}
 
 abbrev place_of : Result Loaded MetaFault → ℕ
 place_of (Err fault.DuplicateClass) = 0

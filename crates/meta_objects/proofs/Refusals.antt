@@ -1,5 +1,5 @@
 -- What refuses a program, and what a program that isn't refused has.
-use Rattle.std.proofs.Common.{◌≡◌, List, [], ◌∷◌, Result, Ok, Err, IsErr, IsErrAnd, Any, ◌⊎◌, inl, inr, sym, subst}
+use Rattle.std.proofs.Common.{◌≡◌, List, Result, Ok, Err, IsErr, IsErrAnd, Any, ◌⊎◌, inl, inr, sym, subst}
 use Rattle.texts.specs.declared.program.Program.{Program}
 use Rattle.meta_model.specs.declared.fault.MetaFault.{MetaFault}
 use Rattle.meta_model.specs.declared.fault.MetaFault.TheVariants as fault
@@ -8,20 +8,24 @@ use Rattle.meta_model.specs.declared.object.MetaOwns.{MetaOwns}
 use Rattle.meta_model.specs.declared.site.MetaSite.{MetaSite}
 use Rattle.meta_model.specs.declared.outline.Outline.{Outline}
 use Rattle.meta_model.specs.Loaded.{Loaded}
-use Rattle.meta_model.specs.Outlines.{Outlines, qobject}
+use Rattle.meta_model.specs.Outlines.{Outlines}
 use Rattle.meta_model.specs.Conditions.{DuplicateClass, NoBase, HasTwoMembers, RepeatsDeclared, DuplicateMember}
 use Rattle.meta_model.specs.Indexed.{AreIndexed}
 use Rattle.meta_objects.specs.declared.body_resolution.work.ResolvedWork.{ResolvedWork}
-use Rattle.meta_objects.specs.Bodies.{IsSlotWork, AreWorks, LacksInSlot, LacksInClass}
-use Rattle.meta_objects.specs.Sites.{IsSite, LacksInSite}
-use Rattle.meta_objects.specs.Loading.{IsWire, LacksEnd, IsOwns, LacksClass, LacksMember, HasUses}
+use Rattle.meta_objects.specs.code.Bodies.{IsSlotWork, AreWorks}
+use Rattle.meta_objects.specs.LackedNames.{LacksInSlot, LacksInClass}
+use Rattle.meta_objects.specs.code.Sites.{IsSite}
+use Rattle.meta_objects.specs.LackedNames.{LacksInSite}
+use Rattle.meta_objects.specs.code.Wires.{IsWire, IsOwns}
+use Rattle.meta_objects.specs.LackedNames.{LacksEnd, LacksClass, LacksMember}
+use Rattle.meta_objects.specs.code.Loading.{HasUses}
 use Rattle.meta_model.specs.PartAnswers.{Loads}
 use Rattle.meta_objects.specs.Builds.{HasOutlines, Builds}
 use Rattle.meta_model.proofs.Zips.{none_of_zip}
 use Rattle.meta_model.proofs.OutlineSteps.{none_lack}
 
 pub outlined : (program : Program) (o : List Outline) → (¬ DuplicateClass program) → Outlines program.classes o → HasOutlines program o
-outlined program o distinct are = record { distinct = distinct; based = none_lack program.classes (qobject ∷ []) 0 o are; are = are }
+outlined program o distinct are = record { distinct = distinct; based = none_lack program.classes o are; are = are }
 
 -- what is resolved lacks no member
 pub nothing_lacks : (program : Program) (o : List Outline) (works : List (List ResolvedWork)) (wires : List MetaWire) (owns : List MetaOwns) (sites : List MetaSite) → HasUses program o works wires owns sites → ¬ LacksMember program o

@@ -16,7 +16,8 @@ use Rattle.meta_model.specs.declared.outline.Outline.{Outline}
 use Rattle.meta_model.specs.Literals.{literal}
 use Rattle.meta_model.specs.Outlines.{IsOutlineNamed}
 use Rattle.meta_model.specs.Sites.{IsSourceProperty}
-use Rattle.meta_objects.specs.Sites.{IsFormula, literal_is, path_is, unary_is, binary_is, LacksInSite}
+use Rattle.meta_objects.specs.code.Sites.{IsFormula, literal_is, path_is, unary_is, binary_is}
+use Rattle.meta_objects.specs.LackedNames.{LacksInSite}
 use Rattle.meta_model.proofs.Zips.{none_of_zip}
 
 module _ (outlines : List Outline) (site : Site) where

@@ -1,6 +1,7 @@
--- A program has at most one loaded form.
-use Rattle.std.proofs.Common.{◌≡◌, ℕ, suc, List, [], ◌∷◌, ◌++◌, Option, Some, None, refl, sym, ap, ◌∙◌, subst}
+-- Names are looked up in one way.
+use Rattle.std.proofs.Common.{◌≡◌, ℕ, zero, suc, ◌≤◌, List, [], ◌∷◌, ◌++◌, take, length, Option, Some, None, refl, sym, ap, ◌∙◌, subst, arith}
 use Rattle.std.specs.List.{AllZip}
+use Rattle.std.proofs.lemmas.List.{take_all}
 use Rattle.signatures.specs.declared.qtype.QType.{QType}
 use Rattle.signatures.specs.declared.sig.Sig.{Sig}
 use Rattle.signatures.specs.declared.kind.Kind.{Kind}
@@ -27,18 +28,20 @@ use Rattle.meta_model.specs.declared.outline.Heading.{Heading}
 use Rattle.meta_model.specs.declared.outline.Outline.{Outline}
 use Rattle.meta_model.specs.Loaded.{Loaded}
 use Rattle.meta_model.specs.Places.{IsPlace}
-use Rattle.meta_model.specs.Outlines.{IsOutline, AreOutlines, Outlines, base_name, own_methods, qobject}
-use Rattle.meta_model.specs.Kinds.{IsReadAs}
+use Rattle.meta_model.specs.Outlines.{IsOutline, Outlines, base_name, own_methods, qobject}
+use Rattle.meta_model.specs.code.ReadTypes.{IsReadAs}
 use Rattle.meta_model.specs.Conditions.{IsSignalOf}
 use Rattle.meta_objects.specs.declared.body_resolution.work.ResolvedWork.{ResolvedWork}
 use Rattle.meta_objects.specs.declared.body_resolution.work.ResolvedWork.TheVariants as loads
-use Rattle.meta_objects.specs.Natives.{HasPropertyIn, HasSignalIn, AreEffects}
-use Rattle.meta_objects.specs.Bodies.{scope_of, IsWork, IsSlotWork, AreWorks, AllWorks}
-use Rattle.meta_objects.specs.Loading.{IsMethodOf, IsNotify, IsPropertyOf, IsObject, IsWire, IsOwns, IsLoaded, initial_of}
-use Rattle.meta_objects.specs.Sites.{IsSite}
-use Rattle.meta_objects.specs.Builds.{OneLoading}
+use Rattle.meta_objects.specs.code.Natives.{HasPropertyIn, HasSignalIn, AreEffects}
+use Rattle.meta_objects.specs.code.Bodies.{scope_of, IsWork, IsSlotWork, AreWorks, AllWorks}
+use Rattle.meta_objects.specs.code.Wires.{IsWire, IsOwns}
+use Rattle.meta_objects.specs.LoadedProgram.{initial_of}
+use Rattle.meta_objects.specs.code.Loading.{IsMethodOf, IsNotify, IsPropertyOf, IsObject, IsLoaded}
+use Rattle.meta_objects.specs.code.Sites.{IsSite}
 use Rattle.meta_model.proofs.Searches.{same_first}
 use Rattle.meta_model.proofs.Firsts.{first_item}
+use Rattle.meta_model.proofs.Fronts.{inside, next_take}
 use Rattle.meta_model.proofs.SiteProperties.{one_property_in}
 use Rattle.meta_objects.proofs.Ends.{one_end}
 use Rattle.meta_objects.proofs.Bodies.{same_statements}
@@ -57,11 +60,26 @@ same_outline done i class o u h k =
     ∙ ap (λ x. outline_by i class k.number x) (first_item (λ (o : Outline). o.name ≡ base_name class.base) done h.number k.number h.based k.based)
     ∙ sym k.is
 
-same_outlines : (classes : List Class) (done : List Outline) (i : ℕ) (all more : List Outline) → AreOutlines done i classes all → AreOutlines done i classes more → all ≡ more
-same_outlines [] done i all more h k = h ∙ sym k
-same_outlines (class ∷ classes) done i all more h k =
-    same_outlines classes (done ++ h.0 ∷ []) (suc i) all more h.2
-    (subst (λ o. AreOutlines (done ++ o ∷ []) (suc i) classes more) (sym (same_outline done i class h.0 k.0 h.1 k.1)) k.2)
+-- two lists of a program's outlines begin alike
+same_front : (classes : List Class) (all more : List Outline) → Outlines classes all → Outlines classes more → (n : ℕ) → n ≤ length classes → take (suc n) all ≡ take (suc n) more
+same_front classes all more h k zero less = next_take all 0 qobject h.root ∙ sym (next_take more 0 qobject k.root)
+same_front classes all more h k (suc n) less =
+    let before : take (suc n) all ≡ take (suc n) more = same_front classes all more h k n (omega (arith, less)) in
+    let class = inside classes n (omega (arith, less)) in
+    let a = h.classes n class.0 class.1 in
+    let b = k.classes n class.0 class.1 in
+    let same : a.outline ≡ b.outline =
+    same_outline (take (suc n) all) n class.0 a.outline b.outline a.outlined (subst (λ done. IsOutline done n class.0 b.outline) (sym before) b.outlined) in
+    next_take all (suc n) a.outline a.is
+    ∙ ap (λ done. done ++ a.outline ∷ []) before
+    ∙ ap (λ o. take (suc n) more ++ o ∷ []) same
+    ∙ sym (next_take more (suc n) b.outline b.is)
+
+same_outlines : (classes : List Class) (all more : List Outline) → Outlines classes all → Outlines classes more → all ≡ more
+same_outlines classes all more h k =
+    sym (take_all (suc (length classes)) all (omega (arith, h.counted)))
+    ∙ same_front classes all more h k (length classes) (omega arith)
+    ∙ take_all (suc (length classes)) more (omega (arith, k.counted))
 
 -- ---- records by their fields
 abbrev method_of : Sig → List ValueType → Work → MetaMethod
@@ -162,7 +180,7 @@ module _ (outlines : List Outline) where
       ap (λ x. owns_of x v.child) (same_first _ outlines v.parent w.parent a.parent b.parent)
       ∙ ap (λ x. owns_of w.parent x) (same_first _ outlines v.child w.child a.child b.child)
 
-  same_loaded : (program : Program) (a b : Loaded) → IsLoaded program outlines a → IsLoaded program outlines b → a ≡ b
+  pub same_loaded : (program : Program) (a b : Loaded) → IsLoaded program outlines a → IsLoaded program outlines b → a ≡ b
   same_loaded program a b h k =
       let works = same_works program.classes h.works k.works h.uses.are_works k.uses.are_works in
       let classes =
@@ -174,9 +192,4 @@ module _ (outlines : List Outline) where
       ∙ ap (λ x. loaded_of b.classes b.wires b.owns x) (same_zip (IsSite outlines) program.sites a.sites b.sites (same_site outlines) h.uses.sited k.uses.sited)
 
 pub same_all : (program : Program) (all more : List Outline) → Outlines program.classes all → Outlines program.classes more → all ≡ more
-same_all program all more h k = same_outlines program.classes (qobject ∷ []) 0 all more h k
-
-pub one_loading : OneLoading
-one_loading program a b h k =
-    let outlines = same_outlines program.classes (qobject ∷ []) 0 h.outlines k.outlines h.outlined.are k.outlined.are in
-    same_loaded h.outlines program a b h.looked_up (subst (λ o. IsLoaded program o b) (sym outlines) k.looked_up)
+same_all program all more h k = same_outlines program.classes all more h k

@@ -38,18 +38,22 @@ use Rattle.meta_model.specs.Literals.{HoldsNoObject}
 use Rattle.meta_model.specs.Sites.{UsesReference}
 use Rattle.meta_model.specs.Root.{root_methods, root_class, BeginsAsRoot}
 use Rattle.meta_model.specs.Outlines.{IsOutlineNamed, kinds_of, signal_heading, slot_headings, own_methods, heading, destroyed, destroyed_alone, name_changed, qobject}
-use Rattle.meta_model.specs.Kinds.{LacksType, IsReadAs}
+use Rattle.meta_model.specs.Kinds.{LacksType}
+use Rattle.meta_model.specs.code.ReadTypes.{IsReadAs}
 use Rattle.meta_model.specs.Conditions.{AreOneCall, HasTwoMembers, RepeatsName, RepeatsInSlot, RepeatsInMethod, IsSignalOf, LacksNotifier, LacksTypes}
 use Rattle.meta_model.specs.Natives.{RepeatsEffectIn, TouchesReference, HasReferenceNative}
 use Rattle.meta_objects.specs.declared.body_resolution.work.ResolvedWork.{ResolvedWork}
 use Rattle.meta_objects.specs.declared.body_resolution.work.ResolvedWork.TheVariants as resolved
-use Rattle.meta_objects.specs.Bodies.{scope_of, IsWork, IsSlotWork, AreWorks}
-use Rattle.meta_objects.specs.Loading.{work_at, found_work, work_of, initial_of, IsMethodOf, IsNotify, IsPropertyOf, IsObject, IsWire, IsOwns, HasUses, IsLoaded}
+use Rattle.meta_objects.specs.code.Bodies.{scope_of, IsWork, IsSlotWork, AreWorks}
+use Rattle.meta_objects.specs.code.Wires.{IsWire, IsOwns}
+use Rattle.meta_objects.specs.LoadedProgram.{initial_of}
+use Rattle.meta_objects.specs.code.Loading.{work_at, found_work, work_of, IsMethodOf, IsNotify, IsPropertyOf, IsObject, HasUses, IsLoaded}
 use Rattle.meta_objects.specs.Builds.{HasOutlines, IsClean, IsLoadedForm}
-use Rattle.meta_objects.specs.Sites.{IsSite, IsLoadedSite}
+use Rattle.meta_objects.specs.code.Sites.{IsSite}
+use Rattle.meta_objects.specs.LoadedSites.{IsLoadedSite}
 use Rattle.meta_objects.specs.LoadedBodies.{site}
 use Rattle.meta_objects.specs.LoadedEnds.{Connects}
-use Rattle.meta_objects.specs.Classes.{IsLoadedSignal, IsLoadedWork, IsLoadedSlot, HasNotifier, IsLoadedProperty, IsLoadedClass, HasLoadedClass, IsLoadedWire, IsLoadedOwns, IsLoadedProgram}
+use Rattle.meta_objects.specs.LoadedProgram.{IsLoadedSignal, IsLoadedWork, IsLoadedSlot, HasNotifier, IsLoadedProperty, IsLoadedClass, HasLoadedClass, IsLoadedWire, IsLoadedOwns, IsLoadedProgram}
 use Rattle.meta_model.proofs.Zips.{zip_left, zip_right, zip_split, zip_also, zip_both, same_zip_by, get_front, get_back}
 use Rattle.meta_model.proofs.Searches.{place_in}
 use Rattle.meta_model.proofs.Once.{once, none_at, get_split_at}
@@ -86,14 +90,14 @@ one_kind o (U ∷ []) (k ∷ l ∷ ks) h T kind read e = absurd h.1
 one_kind o (U ∷ V ∷ Us) (k ∷ ks) h T kind read e = absurd (cc)
 
 -- the first in a front is the first
-first_in_front : {X : Type 0} (P : X → Type 0) (xs ys : List X) (m : ℕ) → StandsFirst P xs m → StandsFirst P (xs ++ ys) m
+pub first_in_front : {X : Type 0} (P : X → Type 0) (xs ys : List X) (m : ℕ) → StandsFirst P xs m → StandsFirst P (xs ++ ys) m
 first_in_front P xs ys m h = record {
   at = record { item = h.at.item; is = get_front xs ys m h.at.item h.at.is; has = h.at.has };
   first = λ k below at. h.first k below (in_front P xs ys m k below (slice_get_within xs m h.at.item h.at.is) at);
 }
 
 -- `objectNameChanged(QString)` stands at its number alone
-name_changed_first : StandsFirst (IsSignalOf name_changed) qobject.methods 2
+pub name_changed_first : StandsFirst (IsSignalOf name_changed) qobject.methods 2
 name_changed_first = record { at = record { item = heading name_changed sort.Signal; is = refl; has = (refl, refl) }; first = before }
   where
     front_points : List QType → Bool
@@ -647,4 +651,4 @@ module _ (program : Program) (o : List Outline) (outlined : HasOutlines program 
 pub loaded_form : (program : Program) (o : List Outline) (works : List (List ResolvedWork)) (p : Loaded) → HasOutlines program o → IsClean program o → HasUses program o works p.wires p.owns p.sites → AllZip (IsObject o works) o p.classes → IsLoadedForm program p
 loaded_form program o works p outlined clean uses objects =
     let loaded : IsLoaded program o p = record { works = works; uses = uses; objects = objects } in
-    record { declared = as_declared program o outlined clean p loaded; outlines = o; outlined = outlined; clean = clean; looked_up = loaded }
+    record { outlines = o; outlined = outlined; clean = clean; declared = as_declared program o outlined clean p loaded }

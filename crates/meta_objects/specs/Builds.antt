@@ -7,8 +7,8 @@ use Rattle.meta_model.specs.declared.outline.Outline.{Outline}
 use Rattle.meta_model.specs.Loaded.{Loaded}
 use Rattle.meta_model.specs.Outlines.{Outlines}
 use Rattle.meta_model.specs.Conditions.{DuplicateClass, NoBase, DuplicateMember, BadNotify, NoType}
-use Rattle.meta_objects.specs.Loading.{LacksMember, IsLoaded}
-use Rattle.meta_objects.specs.Classes.{IsLoadedProgram}
+use Rattle.meta_objects.specs.LackedNames.{LacksMember}
+use Rattle.meta_objects.specs.LoadedProgram.{IsLoadedProgram}
 
 -- class names and bases are as they are to be, so that the classes have these members
 pub record HasOutlines (program : Program) (outlines : List Outline) : Type 0 where
@@ -23,14 +23,12 @@ pub record IsClean (program : Program) (outlines : List Outline) : Type 0 where
   pub notifiers : ¬ BadNotify outlines
   pub types : ¬ NoType program outlines
 
--- What is loaded of a program that no condition refuses: first what it is; then how the names in it were looked up, in the
--- outlines of its classes, of which there is one way (`OneLoading`).
+-- what is loaded of a program that no condition refuses: the program as declared, of which there is one (`OneAsDeclared`)
 pub record IsLoadedForm (program : Program) (loaded : Loaded) : Type 0 where
-  pub declared : IsLoadedProgram program loaded
   pub outlines : List Outline
   pub outlined : HasOutlines program outlines
   pub clean : IsClean program outlines
-  pub looked_up : IsLoaded program outlines loaded
+  pub declared : IsLoadedProgram program loaded
 
 -- the first condition that holds, over the whole program, refuses it; where none holds, the program is loaded
 abbrev pub Builds : Program → Result Loaded MetaFault → Type 0
@@ -46,9 +44,11 @@ Builds program (Err fault.NoType) =
     (o : List Outline) × HasOutlines program o × (¬ DuplicateMember program o) × (¬ LacksMember program o) × (¬ BadNotify o) × NoType program o
 Builds program (Err fault.Memory) = Unit {0}
 
--- what is loaded is the program as declared
-abbrev pub LoadedAsDeclared : Type 0
-LoadedAsDeclared = (program : Program) (p : Loaded) → Builds program (Ok p) → IsLoadedProgram program p
+-- where no class and no member stands twice and bases are there, a program is loaded as declared in one way at most
+abbrev pub OneAsDeclared : Type 0
+OneAsDeclared =
+    (program : Program) (outlines : List Outline) → HasOutlines program outlines → (¬ DuplicateMember program outlines)
+    → (p q : Loaded) → IsLoadedProgram program p → IsLoadedProgram program q → p ≡ q
 
 -- a program is loaded in one way at most
 abbrev pub OneLoading : Type 0

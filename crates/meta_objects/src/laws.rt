@@ -1,6 +1,12 @@
 //! What holds of every program.
 
-ghost use Rattle.meta_objects.specs.Builds.{OneLoading, OneAnswer, LoadedAsDeclared};
+ghost use Rattle.meta_objects.specs.Builds.{OneAsDeclared, OneLoading, OneAnswer};
+
+/// Where no class and no member of a program stands twice, and its bases are there, at most one loaded program is the program
+/// as declared: what is said of a loaded program leaves nothing open.
+pub fn one_as_declared()
+    ensures { OneAsDeclared }
+{}
 
 /// A program has at most one loaded form.
 pub fn one_loading()
@@ -10,10 +16,4 @@ pub fn one_loading()
 /// A program has one answer, want of memory aside: one refusal, or one loaded form.
 pub fn one_answer()
     ensures { OneAnswer }
-{}
-
-/// What is loaded is the program as declared: each class has its base's members, then its own signals, slots and
-/// properties in their order, their types and notify signals resolved; wires and owns go by number.
-pub fn loaded_as_declared()
-    ensures { LoadedAsDeclared }
 {}

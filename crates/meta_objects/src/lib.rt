@@ -12,7 +12,7 @@ mod resolve_site;
 mod resolve_uses;
 mod resolve_wire;
 
-pub use laws::{loaded_as_declared, one_answer, one_loading};
+pub use laws::{one_answer, one_as_declared, one_loading};
 pub use meta::{Meta, Wired};
 pub use meta_model::{
     Formula, MetaEffects, MetaEndpoints, MetaFault, MetaMethod, MetaObject, MetaOwns, MetaPath,

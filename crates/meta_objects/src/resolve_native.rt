@@ -2,8 +2,8 @@
 
 ghost use Rattle.std.specs.Prelude.{◌≡◌};
 ghost use Rattle.meta_model.specs.LookUps.{LooksUp};
-ghost use Rattle.meta_objects.specs.Natives.{AreEffects, HasPropertyIn, HasSignalIn};
-ghost use Rattle.meta_objects.specs.Resolving.{Resolves, ResolvesEach};
+ghost use Rattle.meta_objects.specs.code.Natives.{AreEffects, HasPropertyIn, HasSignalIn};
+ghost use Rattle.meta_objects.specs.code.Resolving.{Resolves, ResolvesEach};
 
 use crate::resolve_wire::signal_end;
 use meta_model::{IndexedOutline, MetaEffects, MetaFault, OBJECT_NAME_CHANGED, property_in};

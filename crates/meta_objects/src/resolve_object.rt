@@ -1,9 +1,10 @@
 //! Classes whose members are resolved.
 
 ghost use Rattle.std.specs.Prelude.{◌≡◌, ℕ, [], IfOk, option_copied};
-ghost use Rattle.meta_objects.specs.Loading.{IsMethodOf, AreMethodsOf, work_of, work_at, found_work};
-ghost use Rattle.meta_objects.specs.Loading.{IsNotify, IsPropertyOf, ArePropertiesOf, initial_of};
-ghost use Rattle.meta_objects.specs.Loading.{IsObject, AreObjects};
+ghost use Rattle.meta_objects.specs.code.Loading.{IsMethodOf, AreMethodsOf, work_of, work_at, found_work};
+ghost use Rattle.meta_objects.specs.LoadedProgram.{initial_of};
+ghost use Rattle.meta_objects.specs.code.Loading.{IsNotify, IsPropertyOf, ArePropertiesOf};
+ghost use Rattle.meta_objects.specs.code.Loading.{IsObject, AreObjects};
 
 use crate::body_resolution::ResolvedWork;
 use meta_model::{

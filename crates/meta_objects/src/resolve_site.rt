@@ -1,8 +1,8 @@
 //! Binding sites whose names are replaced by numbers.
 
 ghost use Rattle.std.specs.Prelude.{◌≡◌};
-ghost use Rattle.meta_objects.specs.Resolving.{Resolves, ResolvesEach};
-ghost use Rattle.meta_objects.specs.Sites.{IsFormalOf, IsFormula, IsSite};
+ghost use Rattle.meta_objects.specs.code.Resolving.{Resolves, ResolvesEach};
+ghost use Rattle.meta_objects.specs.code.Sites.{IsFormalOf, IsFormula, IsSite};
 
 use crate::literals::literal_of;
 use meta_model::{

@@ -1,6 +1,6 @@
 //! The parts of a program that use names of classes and members.
 
-ghost use Rattle.meta_objects.specs.Resolving.{ResolvesUses};
+ghost use Rattle.meta_objects.specs.code.Resolving.{ResolvesUses};
 
 use crate::body_resolution::{ResolvedWork, resolve_works};
 use crate::resolve_site::resolve_sites;

@@ -4,8 +4,8 @@ ghost use Rattle.std.specs.Prelude.{◌≡◌};
 ghost use Rattle.meta_model.specs.Conditions.{IsSignalOf};
 ghost use Rattle.meta_model.specs.Ends.{IsSigned};
 ghost use Rattle.meta_model.specs.LookUps.{LooksUp};
-ghost use Rattle.meta_objects.specs.Loading.{IsWire, IsOwns};
-ghost use Rattle.meta_objects.specs.Resolving.{FindsEnd, ResolvesEach};
+ghost use Rattle.meta_objects.specs.code.Wires.{IsWire, IsOwns};
+ghost use Rattle.meta_objects.specs.code.Resolving.{FindsEnd, ResolvesEach};
 
 use meta_model::{
     IndexedOutline, MetaFault, MetaOwns, MetaWire, OBJECT_NAME_CHANGED, find, place_of,

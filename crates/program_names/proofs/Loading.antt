@@ -21,7 +21,7 @@ use Rattle.meta_model.specs.Loaded.{Loaded}
 use Rattle.meta_model.specs.Members.{IsClass}
 use Rattle.meta_model.specs.Outlines.{sig_of, kinds_of}
 use Rattle.meta_model.specs.Root.{root_class}
-use Rattle.meta_objects.specs.Classes.{IsLoadedSignal, IsLoadedSlot, IsLoadedProperty, IsLoadedClass, IsLoadedProgram}
+use Rattle.meta_objects.specs.LoadedProgram.{IsLoadedSignal, IsLoadedSlot, IsLoadedProperty, IsLoadedClass, IsLoadedProgram}
 use Rattle.program_names.specs.Names.{IsNamedClass, IsNamedProgram, IsNamedObject, LoadedProgramsAreNamed}
 
 -- ---- lists

@@ -1,8 +1,8 @@
 //! The statements of bodies, whose names are resolved.
 
 ghost use Rattle.texts.specs.declared.syntax.Stmt.TheVariants.{Set, Emit, Call};
-ghost use Rattle.meta_objects.specs.Bodies.{IsStatementOf, AreStatements};
-ghost use Rattle.meta_objects.specs.Resolving.{scope, Resolves};
+ghost use Rattle.meta_objects.specs.code.Bodies.{IsStatementOf, AreStatements};
+ghost use Rattle.meta_objects.specs.code.Resolving.{scope, Resolves};
 
 use crate::body_resolution::path::Target;
 use crate::body_resolution::scope::Scope;

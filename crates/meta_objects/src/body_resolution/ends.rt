@@ -1,7 +1,7 @@
 //! The ends of connections, as bodies name them.
 
-ghost use Rattle.meta_objects.specs.Bodies.{AreEnds};
-ghost use Rattle.meta_objects.specs.Resolving.{scope, Resolves};
+ghost use Rattle.meta_objects.specs.code.Bodies.{AreEnds};
+ghost use Rattle.meta_objects.specs.code.Resolving.{scope, Resolves};
 
 use crate::body_resolution::path::Target;
 use crate::body_resolution::scope::Scope;

@@ -1,8 +1,8 @@
 //! Expressions whose names are resolved.
 
 ghost use Rattle.std.specs.Prelude.{◌≡◌};
-ghost use Rattle.meta_objects.specs.Bodies.{IsExpr, AreExprs};
-ghost use Rattle.meta_objects.specs.Resolving.{scope, Resolves};
+ghost use Rattle.meta_objects.specs.code.Bodies.{IsExpr, AreExprs};
+ghost use Rattle.meta_objects.specs.code.Resolving.{scope, Resolves};
 
 use crate::body_resolution::path::Led;
 use crate::body_resolution::scope::Scope;

@@ -1,9 +1,9 @@
 //! Paths whose names are resolved.
 
 ghost use Rattle.std.specs.Prelude.{◌≡◌};
-ghost use Rattle.meta_objects.specs.Bodies.{IsReferencePath};
-ghost use Rattle.meta_objects.specs.Resolving.{scope, Resolves, ResolvesPath, ResolvesFrom, ResolvesObject};
-ghost use Rattle.meta_objects.specs.Resolving.{FindsClass, FindsMember};
+ghost use Rattle.meta_objects.specs.code.Bodies.{IsReferencePath};
+ghost use Rattle.meta_objects.specs.code.Resolving.{scope, Resolves, ResolvesPath, ResolvesFrom, ResolvesObject};
+ghost use Rattle.meta_objects.specs.code.Resolving.{FindsClass, FindsMember};
 
 use crate::body_resolution::scope::Scope;
 use meta_model::{

@@ -1,8 +1,8 @@
 //! What slots and natives do, the names in it resolved.
 
 ghost use Rattle.std.specs.Prelude.{◌≡◌};
-ghost use Rattle.meta_objects.specs.Bodies.{AreStatements, IsSlotWork, scope_of};
-ghost use Rattle.meta_objects.specs.Resolving.{Resolves, ResolvesEach, ResolvesWorks};
+ghost use Rattle.meta_objects.specs.code.Bodies.{AreStatements, IsSlotWork, scope_of};
+ghost use Rattle.meta_objects.specs.code.Resolving.{Resolves, ResolvesEach, ResolvesWorks};
 
 use crate::body_resolution::scope::Scope;
 use crate::resolve_native::resolve_effects;

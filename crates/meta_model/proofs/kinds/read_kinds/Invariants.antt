@@ -1,6 +1,6 @@
 use Rattle.std.proofs.Common.{take}
 use Rattle.std.specs.List.{AllZip}
-use Rattle.meta_model.specs.Kinds.{IsReadAs}
+use Rattle.meta_model.specs.code.ReadTypes.{IsReadAs}
 use Rattle.meta_model.proofs.kinds.read_kinds.Given as goal
 
 abbrev pub invariant-loop-one : goal.invariant-loop-one

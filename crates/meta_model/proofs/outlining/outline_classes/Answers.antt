@@ -1,19 +1,19 @@
-use Rattle.std.proofs.Common.{ℕ, refl, subst, ◌∷◌, [], ◌≡◌, map}
+use Rattle.std.proofs.Common.{ℕ, refl, sym, subst, ◌∷◌, [], ◌≡◌, map}
 use Rattle.std.specs.Prelude.{codes}
-use Rattle.std.proofs.lemmas.Option.{slice_get_read}
+use Rattle.std.proofs.lemmas.Option.{slice_get_read, none-some}
 use Rattle.meta_model.specs.declared.outline.Outline.{Outline}
 use Rattle.meta_model.specs.Conditions.{LacksBase}
-use Rattle.meta_model.specs.Outlines.{AreOutlines, qobject, IsOutline, base_name}
+use Rattle.meta_model.specs.Outlines.{Outlines, qobject, IsOutline, base_name}
 use Rattle.meta_model.specs.Places.{StandsAt}
 use Rattle.meta_model.specs.declared.fault.MetaFault.TheVariants as fault
-use Rattle.meta_model.proofs.OutlineSteps.{step_left, step_lacks, none_lacks, at_end, failed}
+use Rattle.meta_model.proofs.OutlineSteps.{step_outlined, step_lacks, none_lacks, at_end, failed}
 use Rattle.meta_model.proofs.outlining.outline_classes.Goals as goal
 
 pub loop-number-init : goal.loop-number-init
 loop-number-init c =
     let e : c.add.new.outlines.items ≡ qobject ∷ [] = cc (c.in_ok-add.ensures, c.in_ok-first.ensures, c.new-outlines.ensures.items) in
     record {
-      left = λ all h. subst (λ os. AreOutlines os 0 c.args.classes.now all) e h;
+      so_far = subst (λ os. Outlines [] os) (sym e) (record { root = refl; counted = refl; classes = λ i x f. absurd (none-some x f) });
       lacks = λ h. subst (λ os. LacksBase (map (λ (o : Outline). o.name) os) c.args.classes.now) e h;
     }
 
@@ -22,7 +22,7 @@ loop-number-preserved c =
     let at = slice_get_read _ _ _ _ refl c.loop-number-test.true c.index-classes-number.is in
     let is = rw c.as_slice.ensures.value at c.in_ok-outline.ensures in
     record {
-      left = step_left _ (LacksBase (codes "QObject" ∷ []) c.args.classes.now) _ _ _ _ _ at is c.in_ok-add-2.ensures c.loop-number.invariant.left;
+      so_far = step_outlined _ _ _ _ _ _ at is c.in_ok-add-2.ensures c.loop-number.invariant.so_far;
       lacks = step_lacks _ _ _ _ _ _ _ at is c.in_ok-add-2.ensures c.loop-number.invariant.lacks;
     }
 
@@ -33,4 +33,4 @@ returns-in_err-outline c =
     (λ none. none_lacks c.args.classes.now (LacksBase (codes "QObject" ∷ []) c.args.classes.now) c.loop-number.outlines.items c.loop-number.number c.index-classes-number.result at c.loop-number.invariant.lacks (rw c.as_slice.ensures.value at none)) _ c.from_residual-in_err-outline.ensures.0 c.from_residual-in_err-outline.ensures.1
 
 pub returns : goal.returns
-returns c = at_end _ _ _ c.loop-number-test.false c.loop-number.invariant.left
+returns c = at_end _ _ _ c.loop-number-test.false c.loop-number.invariant.so_far

@@ -1,4 +1,4 @@
-use Rattle.std.proofs.Common.{refl, sym, ap, ◌∙◌}
+use Rattle.std.proofs.Common.{refl, ap, ◌∙◌}
 use Rattle.texts.specs.declared.program.Property.{Property}
 use Rattle.meta_model.proofs.SiteProperties.{one_property_in}
 use Rattle.meta_model.proofs.site_properties.is_reference_in.Goals as goal

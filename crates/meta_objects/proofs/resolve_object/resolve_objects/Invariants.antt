@@ -1,6 +1,6 @@
 use Rattle.std.proofs.Common.{take}
 use Rattle.std.specs.List.{AllZip}
-use Rattle.meta_objects.specs.Loading.{IsObject}
+use Rattle.meta_objects.specs.code.Loading.{IsObject}
 use Rattle.meta_objects.proofs.resolve_object.resolve_objects.Given as goal
 
 abbrev pub invariant-loop-outline : goal.invariant-loop-outline

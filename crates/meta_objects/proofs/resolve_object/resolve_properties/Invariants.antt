@@ -1,6 +1,6 @@
 use Rattle.std.proofs.Common.{take}
 use Rattle.std.specs.List.{AllZip}
-use Rattle.meta_objects.specs.Loading.{IsPropertyOf}
+use Rattle.meta_objects.specs.code.Loading.{IsPropertyOf}
 use Rattle.meta_objects.proofs.resolve_object.resolve_properties.Given as goal
 
 abbrev pub invariant-loop-declared : goal.invariant-loop-declared

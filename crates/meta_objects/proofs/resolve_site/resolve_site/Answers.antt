@@ -3,7 +3,8 @@ use Rattle.std.specs.List.{AllZip}
 use Rattle.texts.specs.declared.program.Formal.{Formal}
 use Rattle.meta_model.specs.declared.fault.MetaFault.TheVariants as fault
 use Rattle.meta_model.specs.Outlines.{IsOutlineNamed}
-use Rattle.meta_objects.specs.Sites.{IsSite, LacksInSite}
+use Rattle.meta_objects.specs.code.Sites.{IsSite}
+use Rattle.meta_objects.specs.LackedNames.{LacksInSite}
 use Rattle.meta_model.proofs.OutlineSteps.{failed}
 use Rattle.meta_objects.proofs.SitePieces.{no_formals}
 use Rattle.meta_objects.proofs.resolve_site.resolve_site.Goals as goal

@@ -1,7 +1,8 @@
 use Rattle.std.proofs.Common.{Any, sym, rules}
 use Rattle.std.specs.List.{AllZip}
 use Rattle.meta_model.specs.declared.fault.MetaFault.TheVariants as fault
-use Rattle.meta_objects.specs.Sites.{IsSite, LacksInSite}
+use Rattle.meta_objects.specs.code.Sites.{IsSite}
+use Rattle.meta_objects.specs.LackedNames.{LacksInSite}
 use Rattle.meta_model.proofs.OutlineSteps.{failed}
 use Rattle.meta_model.proofs.Zips.{zip_push}
 use Rattle.meta_objects.proofs.resolve_site.resolve_sites.Goals as goal

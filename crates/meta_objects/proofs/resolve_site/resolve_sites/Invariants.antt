@@ -1,6 +1,6 @@
 use Rattle.std.proofs.Common.{take}
 use Rattle.std.specs.List.{AllZip}
-use Rattle.meta_objects.specs.Sites.{IsSite}
+use Rattle.meta_objects.specs.code.Sites.{IsSite}
 use Rattle.meta_objects.proofs.resolve_site.resolve_sites.Given as goal
 
 abbrev pub invariant-loop-site : goal.invariant-loop-site

@@ -1,9 +1,10 @@
 use Rattle.std.proofs.Common.{inl, inr}
 use Rattle.meta_objects.specs.declared.resolve_uses.Uses.{Uses}
 use Rattle.std.specs.List.{AllZip}
-use Rattle.meta_objects.specs.Bodies.{AllWorks}
-use Rattle.meta_objects.specs.Loading.{IsWire, IsOwns, HasUses}
-use Rattle.meta_objects.specs.Sites.{IsSite}
+use Rattle.meta_objects.specs.code.Bodies.{AllWorks}
+use Rattle.meta_objects.specs.code.Wires.{IsWire, IsOwns}
+use Rattle.meta_objects.specs.code.Loading.{HasUses}
+use Rattle.meta_objects.specs.code.Sites.{IsSite}
 use Rattle.meta_model.proofs.OutlineSteps.{failed}
 use Rattle.meta_objects.proofs.resolve_uses.resolve_uses.Goals as goal
 

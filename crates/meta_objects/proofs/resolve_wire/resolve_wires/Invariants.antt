@@ -1,6 +1,6 @@
 use Rattle.std.proofs.Common.{take}
 use Rattle.std.specs.List.{AllZip}
-use Rattle.meta_objects.specs.Loading.{IsWire}
+use Rattle.meta_objects.specs.code.Wires.{IsWire}
 use Rattle.meta_objects.proofs.resolve_wire.resolve_wires.Given as goal
 
 abbrev pub invariant-loop-wire : goal.invariant-loop-wire

@@ -1,6 +1,6 @@
 use Rattle.std.proofs.Common.{take}
 use Rattle.std.specs.List.{AllZip}
-use Rattle.meta_objects.specs.Bodies.{IsSlotWork}
+use Rattle.meta_objects.specs.code.Bodies.{IsSlotWork}
 use Rattle.meta_objects.proofs.body_resolution.work.resolve_class_works.Given as goal
 
 abbrev pub invariant-loop-slot : goal.invariant-loop-slot

@@ -1,6 +1,6 @@
 use Rattle.std.proofs.Common.{inr}
 use Rattle.meta_model.specs.Indexed.{AreIndexed}
-use Rattle.meta_objects.specs.Loading.{HasUses}
+use Rattle.meta_objects.specs.code.Loading.{HasUses}
 use Rattle.meta_objects.specs.Builds.{IsClean}
 use Rattle.meta_objects.specs.declared.resolve_uses.Uses.{Uses}
 use Rattle.meta_model.proofs.Choices.{fails}

@@ -4,8 +4,8 @@ use Rattle.meta_model.specs.declared.object.MetaEndpoints.{MetaEndpoints}
 use Rattle.meta_model.specs.declared.object.MetaPath.{MetaPath}
 use Rattle.meta_model.specs.declared.object.Statement.{Statement}
 use Rattle.meta_model.specs.declared.fault.MetaFault.TheVariants as fault
-use Rattle.meta_objects.specs.Bodies.{AreEnds, IsReferencePath, IsStatementOf, AreStatements, LacksInBody}
-use Rattle.meta_objects.specs.Resolving.{scope}
+use Rattle.meta_objects.specs.code.Bodies.{AreEnds, IsReferencePath, IsStatementOf, AreStatements, LacksInBody}
+use Rattle.meta_objects.specs.code.Resolving.{scope}
 use Rattle.meta_model.proofs.OutlineSteps.{failed}
 use Rattle.meta_objects.proofs.BodyPieces.{block_left, block_only, block_stuck, block_end, if_piece, no_other}
 use Rattle.meta_objects.proofs.BodyEnds.{no_connect, connect_piece, no_disconnect, disconnect_piece}

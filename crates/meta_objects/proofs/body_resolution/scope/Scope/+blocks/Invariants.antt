@@ -1,7 +1,7 @@
 use Rattle.std.proofs.Common.{List, ◌++◌, drop}
 use Rattle.meta_model.specs.declared.object.Statement.{Statement}
-use Rattle.meta_objects.specs.Bodies.{AreStatements}
-use Rattle.meta_objects.specs.Resolving.{scope}
+use Rattle.meta_objects.specs.code.Bodies.{AreStatements}
+use Rattle.meta_objects.specs.code.Resolving.{scope}
 use Rattle.meta_objects.proofs.body_resolution.scope.Scope.+blocks.Given as goal
 
 -- what is left decides

@@ -1,8 +1,8 @@
 use Rattle.std.proofs.Common.{List, ◌++◌, drop}
 use Rattle.texts.specs.declared.syntax.Expr.{Expr}
 use Rattle.meta_model.specs.declared.object.MetaPath.{MetaPath}
-use Rattle.meta_objects.specs.Bodies.{AreExprs}
-use Rattle.meta_objects.specs.Resolving.{scope}
+use Rattle.meta_objects.specs.code.Bodies.{AreExprs}
+use Rattle.meta_objects.specs.code.Resolving.{scope}
 use Rattle.meta_objects.proofs.body_resolution.scope.Scope.resolve_exprs.Given as goal
 
 -- what is left decides

@@ -1,7 +1,7 @@
 use Rattle.std.proofs.Common.{List, ◌++◌, drop}
 use Rattle.signatures.specs.declared.qtype.QType.{QType}
 use Rattle.meta_model.specs.declared.object.Step.{Step}
-use Rattle.meta_objects.specs.Bodies.{AreSteps}
+use Rattle.meta_objects.specs.code.Bodies.{AreSteps}
 use Rattle.meta_objects.proofs.body_resolution.scope.Scope.resolve_from.Given as goal
 
 -- what is left decides

@@ -5,8 +5,8 @@ use Rattle.meta_model.specs.declared.outline.Outline.{Outline}
 use Rattle.meta_model.specs.declared.fault.MetaFault.TheVariants as fault
 use Rattle.meta_objects.specs.declared.body_resolution.path.Led.{Led}
 use Rattle.meta_objects.specs.declared.body_resolution.path.Target.{Target}
-use Rattle.meta_objects.specs.Bodies.{IsPath, IsObjectPath}
-use Rattle.meta_objects.specs.Resolving.{scope}
+use Rattle.meta_objects.specs.code.Bodies.{IsPath, IsObjectPath}
+use Rattle.meta_objects.specs.code.Resolving.{scope}
 use Rattle.meta_model.proofs.OutlineSteps.{failed}
 use Rattle.meta_objects.proofs.BodyPieces.{no_object_path, no_object_class, an_object}
 use Rattle.meta_objects.proofs.body_resolution.scope.Scope.resolve_object.Goals as goal

@@ -1,6 +1,6 @@
 use Rattle.std.proofs.Common.{inr, refl}
-use Rattle.meta_objects.specs.Bodies.{this_root}
-use Rattle.meta_objects.specs.Resolving.{scope}
+use Rattle.meta_objects.specs.code.Bodies.{this_root}
+use Rattle.meta_objects.specs.code.Resolving.{scope}
 use Rattle.meta_objects.proofs.BodyPieces.{from_root, a_parameter, no_parameter}
 use Rattle.meta_objects.proofs.body_resolution.scope.Scope.resolve_path.Goals as goal
 

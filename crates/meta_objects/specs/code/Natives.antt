@@ -1,21 +1,16 @@
--- A native's effects: how their names are looked up, and what is loaded, by the numbers of members of the class that declares
--- the native (docs/language.md, "Names"; docs/machine.md, "Loading").
-use Rattle.std.specs.Prelude.{◌≡◌, ℕ, ◌<◌, List}
+-- How the names of a native's effects are looked up, in the outlines of classes (docs/language.md, "Names").
+use Rattle.std.specs.Prelude.{ℕ, ◌<◌, List}
 use Rattle.std.specs.List.{AllZip}
 use Rattle.signatures.specs.declared.sig.Sig.{Sig}
 use Rattle.texts.specs.declared.program.EffectNames.{EffectNames}
 use Rattle.texts.specs.declared.program.Property.{Property}
 use Rattle.meta_model.specs.declared.effects.MetaEffects.{MetaEffects}
-use Rattle.meta_model.specs.declared.object.Work.TheVariants.{Signal}
 use Rattle.meta_model.specs.declared.outline.Outline.{Outline}
 use Rattle.meta_model.specs.declared.qobject.TheConstants.{OBJECT_NAME_CHANGED}
 use Rattle.meta_model.specs.Conditions.{IsSignalOf}
 use Rattle.meta_model.specs.Ends.{IsEnd}
-use Rattle.meta_model.specs.Loaded.{Loaded}
-use Rattle.meta_model.specs.Members.{HasSig, IsPropertyNamed}
 use Rattle.meta_model.specs.Sites.{IsPropertyIn}
 
--- ---- how names are looked up, in the classes' outlines
 -- property q of the class of this name, inherited or its own, has this name
 pub record HasPropertyIn (outlines : List Outline) (class name : List ℕ) (q : ℕ) : Type 0 where
   pub number : ℕ
@@ -33,15 +28,3 @@ pub record AreEffects (outlines : List Outline) (class : List ℕ) (names : Effe
   pub reads : AllZip (HasPropertyIn outlines class) names.reads effects.reads
   pub emits : AllZip (HasSignalIn outlines class) names.emits effects.emits
   pub sets : AllZip (HasPropertyIn outlines class) names.sets effects.sets
-
--- ---- what is loaded, in the program's own classes
--- method m of class c is the signal of this signature, which isn't one of those that the runtime emits
-pub record IsEmitted (p : Loaded) (c : ℕ) (sig : Sig) (m : ℕ) : Type 0 where
-  pub signal : HasSig p c sig m
-  pub signals : signal.method.work ≡ Signal
-  pub emitted : OBJECT_NAME_CHANGED < m
-
-pub record AreLoadedEffects (p : Loaded) (c : ℕ) (names : EffectNames) (effects : MetaEffects) : Type 0 where
-  pub reads : AllZip (IsPropertyNamed p c) names.reads effects.reads
-  pub emits : AllZip (IsEmitted p c) names.emits effects.emits
-  pub sets : AllZip (IsPropertyNamed p c) names.sets effects.sets

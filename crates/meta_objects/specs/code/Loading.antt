@@ -1,17 +1,11 @@
--- How a program and its meta-objects correspond: names are replaced by numbers, which are places in lists
--- (docs/machine.md, "Loading").
-use Rattle.std.specs.Prelude.{◌≡◌, ℕ, ◌<◌, ◌⊎◌, List, [], Option, None, Some, slice_get, Any}
+-- The meta-objects that are made of outlines, part by part, before it is known that types are there: one that isn't is read
+-- as `int`, and the program is refused in the end.
+use Rattle.std.specs.Prelude.{◌≡◌, ℕ, List, [], Option, None, Some, slice_get}
 use Rattle.std.specs.List.{AllZip}
 use Rattle.std.specs.Option.{option_and_then}
 use Rattle.signatures.specs.declared.sig.Sig.{Sig}
-use Rattle.signatures.specs.declared.value.Value.{Value}
-use Rattle.texts.specs.Literals.{literal_value}
-use Rattle.texts.specs.declared.syntax.Literal.{Literal}
 use Rattle.texts.specs.declared.program.Property.{Property}
-use Rattle.texts.specs.declared.program.Wire.{Wire}
-use Rattle.texts.specs.declared.program.Owns.{Owns}
 use Rattle.texts.specs.declared.program.Program.{Program}
-use Rattle.meta_model.specs.declared.object.ValueType.{ValueType}
 use Rattle.meta_model.specs.declared.object.Work.{Work}
 use Rattle.meta_model.specs.declared.object.Work.TheVariants as work
 use Rattle.meta_model.specs.declared.object.MetaMethod.{MetaMethod}
@@ -25,18 +19,16 @@ use Rattle.meta_model.specs.declared.outline.Heading.{Heading}
 use Rattle.meta_model.specs.declared.outline.Outline.{Outline}
 use Rattle.meta_model.specs.Loaded.{Loaded}
 use Rattle.meta_model.specs.Places.{IsPlace}
-use Rattle.meta_model.specs.Outlines.{IsOutlineNamed}
-use Rattle.meta_model.specs.declared.qobject.TheConstants.{OBJECT_NAME_CHANGED}
 use Rattle.meta_model.specs.Root.{delete_later_body}
-use Rattle.meta_model.specs.Kinds.{IsReadAs}
-use Rattle.meta_model.specs.Values.{default}
+use Rattle.meta_model.specs.code.ReadTypes.{IsReadAs}
 use Rattle.meta_model.specs.Conditions.{IsSignalOf}
-use Rattle.meta_model.specs.Ends.{IsSigned, IsEnd}
 use Rattle.meta_model.specs.declared.site.MetaSite.{MetaSite}
 use Rattle.meta_objects.specs.declared.body_resolution.work.ResolvedWork.{ResolvedWork}
 use Rattle.meta_objects.specs.declared.body_resolution.work.ResolvedWork.TheVariants as resolved
-use Rattle.meta_objects.specs.Bodies.{AllWorks, LacksInClass}
-use Rattle.meta_objects.specs.Sites.{IsSite, LacksInSite}
+use Rattle.meta_objects.specs.code.Sites.{IsSite}
+use Rattle.meta_objects.specs.code.Bodies.{AllWorks}
+use Rattle.meta_objects.specs.LoadedProgram.{initial_of}
+use Rattle.meta_objects.specs.code.Wires.{IsWire, IsOwns}
 
 -- ---- methods
 -- what slot or native j of class i does
@@ -62,11 +54,6 @@ abbrev pub AreMethodsOf : List Outline → List (List ResolvedWork) → List Hea
 AreMethodsOf outlines works headings methods = AllZip (IsMethodOf outlines works) headings methods
 
 -- ---- properties
--- what a property is at first: its literal, or else the default of its type
-abbrev pub initial_of : Option Literal → ValueType → Value
-initial_of None kind = default kind
-initial_of (Some l) kind = literal_value l
-
 -- the number of the notify signal, if one is given and is there
 abbrev pub IsNotify : Outline → Option Sig → Option ℕ → Type 0
 IsNotify outline None number = number ≡ None
@@ -92,31 +79,7 @@ pub record IsObject (outlines : List Outline) (works : List (List ResolvedWork))
 abbrev pub AreObjects : List Outline → List (List ResolvedWork) → List MetaObject → Type 0
 AreObjects outlines works objects = AllZip (IsObject outlines works) outlines objects
 
--- ---- wires and owns
--- a wire leads from a signal to a slot or a signal, which isn't one that the runtime emits
-pub record IsWire (outlines : List Outline) (wire : Wire) (loaded : MetaWire) : Type 0 where
-  pub from : IsEnd (IsSignalOf wire.signal) outlines wire.sender loaded.sender loaded.signal
-  pub to : IsEnd (IsSigned wire.method) outlines wire.receiver loaded.receiver loaded.method
-  pub called : OBJECT_NAME_CHANGED < loaded.method
-  pub same_kind : loaded.kind ≡ wire.kind
-
-pub record IsOwns (outlines : List Outline) (owns : Owns) (loaded : MetaOwns) : Type 0 where
-  pub parent : IsOutlineNamed outlines owns.parent loaded.parent
-  pub child : IsOutlineNamed outlines owns.child loaded.child
-
-abbrev pub LacksEnd : List Outline → Wire → Type 0
-LacksEnd outlines wire = (loaded : MetaWire) → ¬ IsWire outlines wire loaded
-
-abbrev pub LacksClass : List Outline → Owns → Type 0
-LacksClass outlines owns = (loaded : MetaOwns) → ¬ IsOwns outlines owns loaded
-
 -- ---- the program
--- a name that is used in a body, a native, a wire, an owns or a binding isn't there
-abbrev pub LacksMember : Program → List Outline → Type 0
-LacksMember program outlines =
-    Any (LacksInClass outlines) program.classes ⊎ Any (LacksEnd outlines) program.wires ⊎ Any (LacksClass outlines) program.owns
-    ⊎ Any (LacksInSite outlines) program.sites
-
 -- what the slots and natives of the program do, its wires, its owns and its binding sites, in its order
 pub record HasUses (program : Program) (outlines : List Outline) (works : List (List ResolvedWork)) (wires : List MetaWire) (owns : List MetaOwns) (sites : List MetaSite) : Type 0 where
   pub are_works : AllWorks outlines program.classes works

@@ -22,8 +22,10 @@ use Rattle.meta_objects.specs.declared.body_resolution.path.Target.{Target}
 use Rattle.meta_objects.specs.declared.body_resolution.scope.Scope.{Scope as ScopeGiven}
 use Rattle.meta_objects.specs.declared.body_resolution.work.ResolvedWork.{ResolvedWork}
 use Rattle.meta_objects.specs.declared.resolve_uses.Uses.{Uses}
-use Rattle.meta_objects.specs.Bodies.{Scope, PointsTo, PointsToThis, HasMember, AreSteps, IsPath, IsObjectPath, AllWorks, LacksInClass}
-use Rattle.meta_objects.specs.Loading.{LacksMember, HasUses}
+use Rattle.meta_objects.specs.code.Bodies.{Scope, PointsTo, PointsToThis, HasMember, AreSteps, IsPath, IsObjectPath, AllWorks}
+use Rattle.meta_objects.specs.LackedNames.{LacksInClass}
+use Rattle.meta_objects.specs.LackedNames.{LacksMember}
+use Rattle.meta_objects.specs.code.Loading.{HasUses}
 
 -- what the names in a body mean there
 abbrev pub scope : ScopeGiven → Scope

@@ -1,8 +1,9 @@
 -- How the names in slot bodies and natives are resolved: where a part has no resolved form, one of its names isn't there
 -- (docs/language.md, "Names").
-use Rattle.std.specs.Prelude.{◌≡◌, ◌≢◌, ℕ, ◌<◌, true, List, [], ◌∷◌, length, Some, Any}
+use Rattle.std.specs.Prelude.{◌≡◌, ◌≢◌, ℕ, ◌<◌, true, false, List, [], ◌∷◌, length, Some}
 use Rattle.std.specs.List.{AllZip}
 use Rattle.signatures.specs.declared.qtype.QType.{QType}
+use Rattle.signatures.specs.Normal.{pointer_type}
 use Rattle.signatures.specs.declared.value.Value.{Value}
 use Rattle.texts.specs.declared.syntax.Unary.{Unary}
 use Rattle.texts.specs.declared.syntax.Binary.{Binary}
@@ -35,15 +36,15 @@ use Rattle.meta_model.specs.declared.outline.Outline.{Outline}
 use Rattle.meta_model.specs.declared.outline.Sort.TheVariants as sort
 use Rattle.meta_model.specs.Places.{StandsFirst}
 pub use Rattle.meta_model.specs.Indexed.{IsCallOf, IsPropertyOfName}
-use Rattle.meta_model.specs.Outlines.{IsOutlineNamed, reference_to}
+use Rattle.meta_model.specs.Outlines.{IsOutlineNamed}
 use Rattle.meta_model.specs.declared.qobject.TheConstants.{OBJECT_NAME_CHANGED}
 use Rattle.meta_model.specs.Literals.{literal}
-use Rattle.meta_model.specs.Kinds.{IsReadAs}
+use Rattle.meta_model.specs.code.ReadTypes.{IsReadAs}
 use Rattle.meta_model.specs.Conditions.{IsSignalOf}
 use Rattle.meta_model.specs.Ends.{IsSigned}
 use Rattle.meta_objects.specs.declared.body_resolution.work.ResolvedWork.{ResolvedWork}
 use Rattle.meta_objects.specs.declared.body_resolution.work.ResolvedWork.TheVariants as loads
-use Rattle.meta_objects.specs.Natives.{AreEffects}
+use Rattle.meta_objects.specs.code.Natives.{AreEffects}
 
 -- where a body stands: the classes, the name of its own, and its slot's parameters
 pub record Scope : Type 0 where
@@ -54,7 +55,7 @@ pub record Scope : Type 0 where
 -- ---- paths
 -- `this` has the declaring class as a pointer, a parameter its declared type
 pub data IsRoot (s : Scope) : Root → MetaRoot → QType → Type 0 where
-  this_root : IsRoot s root.This resolved.This (reference_to s.me)
+  this_root : IsRoot s root.This resolved.This (pointer_type s.me false)
   parameter_root : {name : List ℕ} {k : ℕ}
       → (at : StandsFirst (λ (p : Parameter). p.name ≡ Some name) s.parameters k)
       → IsRoot s (root.Name name) (resolved.Parameter k) at.at.item.kind
@@ -220,10 +221,3 @@ AreWorks outlines class works = AllZip (IsSlotWork outlines class) class.slots w
 
 abbrev pub AllWorks : List Outline → List Class → List (List ResolvedWork) → Type 0
 AllWorks outlines classes works = AllZip (AreWorks outlines) classes works
-
--- a name in the slot or native isn't there
-abbrev pub LacksInSlot : List Outline → Class → Slot → Type 0
-LacksInSlot outlines class slot = (work : ResolvedWork) → ¬ IsSlotWork outlines class slot work
-
-abbrev pub LacksInClass : List Outline → Class → Type 0
-LacksInClass outlines class = Any (LacksInSlot outlines class) class.slots

@@ -1,0 +1,32 @@
+-- The fronts of lists, by their places.
+use Rattle.std.proofs.Common.{◌≡◌, ℕ, zero, suc, ◌<◌, List, [], ◌∷◌, ◌++◌, take, length, slice_get, Some, refl, ap, arith}
+use Rattle.std.proofs.lemmas.Option.{none-some, same_Some}
+
+module _ {A : Type 0} where
+  -- what stands in a front stands there in the list
+  pub get_take : (n : ℕ) (xs : List A) (k : ℕ) (x : A) → slice_get (take n xs) k ≡ Some x → (slice_get xs k ≡ Some x) × (k < n)
+  get_take zero xs k x e = absurd (none-some x e)
+  get_take (suc n) [] k x e = absurd (none-some x e)
+  get_take (suc n) (y ∷ xs) zero x e = (e, omega arith)
+  get_take (suc n) (y ∷ xs) (suc k) x e = let r = get_take n xs k x e in (r.0, omega (arith, r.1))
+
+  -- a front and the next element
+  pub next_take : (xs : List A) (n : ℕ) (x : A) → slice_get xs n ≡ Some x → take (suc n) xs ≡ take n xs ++ x ∷ []
+  next_take [] n x e = absurd (none-some x e)
+  next_take (y ∷ xs) zero x e = ap (λ z. z ∷ []) (same_Some _ _ e)
+  next_take (y ∷ xs) (suc n) x e = ap (λ zs. y ∷ zs) (next_take xs n x e)
+
+  -- each place before the end has an element
+  pub inside : (xs : List A) (k : ℕ) → k < length xs → (x : A) × (slice_get xs k ≡ Some x)
+  inside [] k h = absurd (omega (arith, h))
+  inside (x ∷ xs) zero h = (x, refl)
+  inside (x ∷ xs) (suc k) h = inside xs k (omega (arith, h))
+
+  -- the last element of a list
+  pub last_at : (xs : List A) (x : A) → slice_get (xs ++ x ∷ []) (length xs) ≡ Some x
+  last_at [] x = refl
+  last_at (y ∷ xs) x = last_at xs x
+
+  pub last_of : (x y : A) (j : ℕ) → slice_get (x ∷ []) j ≡ Some y → (j ≡ 0) × (x ≡ y)
+  last_of x y zero e = (refl, same_Some _ _ e)
+  last_of x y (suc j) e = absurd (none-some y e)

@@ -1,0 +1,11 @@
+-- What a declared type is read as while names are resolved.
+use Rattle.std.specs.Prelude.{◌≡◌, ◌⊎◌, List}
+use Rattle.signatures.specs.declared.qtype.QType.{QType}
+use Rattle.meta_model.specs.declared.object.ValueType.{ValueType}
+use Rattle.meta_model.specs.declared.object.ValueType.TheVariants.{Int}
+use Rattle.meta_model.specs.declared.outline.Outline.{Outline}
+use Rattle.meta_model.specs.Kinds.{IsKindIn, LacksType}
+
+-- what it stands for; where there is no such type, `int`, and the program doesn't load in the end
+abbrev pub IsReadAs : List Outline → QType → ValueType → Type 0
+IsReadAs outlines T kind = IsKindIn outlines T kind ⊎ (LacksType outlines T × (kind ≡ Int))

@@ -1,0 +1,5 @@
+use Rattle.meta_objects.proofs.FoundClasses as found
+use Rattle.meta_objects.proofs.laws.one_as_declared.Goals as goal
+
+pub returns : goal.returns
+returns c = found.one_as_declared
