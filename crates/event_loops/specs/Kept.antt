@@ -21,7 +21,7 @@ pub record Within {A S : Type 0} (last : ℕ) (queues : IndexMap (List ℕ) (Vec
 abbrev pub StayWithin : {A S : Type 0} → IndexMap (List ℕ) (VecDeque Posted A) S → Marks → IndexMap (List ℕ) (VecDeque Posted A) S → Marks → Type 0
 StayWithin queues marks queues' marks' = (last : ℕ) → Within last queues marks → Within last queues' marks'
 
--- the items that wait are numbered as they were posted, and nothing has a number that wasn't given
+-- the items that wait are numbered, and nothing has a number that wasn't given
 pub record Kept {A S : Type 0} (queues : IndexMap (List ℕ) (VecDeque Posted A) S) (marks : Marks) (posted : ℕ) : Type 0 where
   pub numbered : IsNumbered (record { loops = seen queues marks; posted = posted })
   pub within : Within posted queues marks

@@ -2,7 +2,7 @@ ghost use Rattle.std.specs.Prelude.{◌≡◌, ◌↔◌, ◌+◌, ◌-◌, ◌^
 ghost use Rattle.std.specs.List.{find};
 ghost use Rattle.std.specs.Option.{option_copied};
 ghost use Rattle.event_loops.specs.Queues.{start, name_at, items_at, HasName, IsNamed, IsTaken, is_before, posted_to, taken_before, dropped, with_loop};
-ghost use Rattle.event_loops.specs.Numbers.{AreDistinct, AreGiven, AreInOrder};
+ghost use Rattle.event_loops.specs.Numbers.{AreDistinct, AreGiven};
 ghost use Rattle.event_loops.specs.declared.fault.AddFault.TheVariants.{Exists};
 ghost use Rattle.event_loops.specs.declared.fault.PostFault.TheVariants.{NoLoop};
 
@@ -120,13 +120,6 @@ impl Loops {
     pub fn numbers_differ(&self)
         ensures distinct { AreDistinct self.now.loops }
         ensures given { AreGiven self.now.loops self.now.posted }
-    {
-        let _posted = self.posted;
-    }
-
-    /// The numbers rise along the items of each loop.
-    pub fn numbers_rise(&self)
-        ensures { AreInOrder self.now.loops }
     {
         let _posted = self.posted;
     }
