@@ -6,12 +6,12 @@ use Rattle.connections.specs.declared.connection.Connection.{Connection}
 use Rattle.connections.specs.declared.cell.Cell.{Cell}
 use Rattle.connections.specs.declared.place.Place.{Place}
 use Rattle.connections.specs.declared.groups.Lists.{Lists}
-use Rattle.connections.specs.Connected.{is_of, touches}
+use Rattle.connections.specs.Connected.{is_of, joins, touches}
 use Rattle.connections.specs.Cells.{counted}
 use Rattle.connections.specs.Groups.{list_of}
-use Rattle.connections.specs.Rooms.{Adds, place_of, IsKept}
+use Rattle.connections.specs.Rooms.{Adds, ends_of, place_of, IsKept}
 use Rattle.connections.specs.Places.{live, shown, Indexes}
-use Rattle.connections.specs.Lists.{same_pair, all_of, of_signal, of_object, any_connection, shown_in, Leads, Tied}
+use Rattle.connections.specs.Lists.{same_pair, Ends, same_ends, all_of, of_signal, of_ends, of_object, any_connection, shown_in, Leads, Tied}
 use Rattle.connections.proofs.Indexed.{Indexes-pushed, Indexes-added, live-pushed, live-same}
 use Rattle.connections.proofs.Counts.{Marked-kept}
 
@@ -27,13 +27,15 @@ module _ (old new : Slab Cell) (lists lists' : Lists) (last key : ℕ) (c : Conn
   pub Leads-put : Adds old new key c → last < c.number
       → all_of lists' ≡ all_of lists ++ place_of c key ∷ []
       → ((q : ℕ × ℕ) → list_of same_pair lists'.by_signal q ≡ cond (same_pair (c.sender, c.signal) q) (list_of same_pair lists.by_signal q ++ place_of c key ∷ []) (list_of same_pair lists.by_signal q))
+      → ((q : Ends) → list_of same_ends lists'.by_ends q ≡ cond (same_ends (ends_of c) q) (list_of same_ends lists.by_ends q ++ place_of c key ∷ []) (list_of same_ends lists.by_ends q))
       → ((q : ℕ) → list_of eqb lists'.by_object q ≡ cond (touches q c) (list_of eqb lists.by_object q ++ place_of c key ∷ []) (list_of eqb lists.by_object q))
       → Leads old lists last → Leads new lists' c.number
-  Leads-put a above e s o l =
+  Leads-put a above e s j o l =
       let whole : shown_in new lists' ≡ shown_in old lists ++ c ∷ [] = shown-put a above e l in
       record {
         all = rw (whole, e) (Indexes-pushed old new key c (shown_in old lists) last any_connection (all_of lists) a above refl l.all);
         by_signal = λ sender signal. rw (whole, s (sender, signal)) (Indexes-put old new key c (shown_in old lists) last (is_of sender signal) (of_signal lists sender signal) _ refl a above (l.by_signal sender signal));
+        by_ends = λ sender signal receiver method. rw (whole, j (sender, signal, receiver, method)) (Indexes-put old new key c (shown_in old lists) last (joins sender signal receiver method) (of_ends lists sender signal receiver method) _ refl a above (l.by_ends sender signal receiver method));
         by_object = λ object. rw (whole, o object) (Indexes-put old new key c (shown_in old lists) last (touches object) (of_object lists object) _ refl a above (l.by_object object));
       }
 
@@ -53,6 +55,7 @@ module _ (old new : Slab Cell) (lists lists' : Lists) (marked marked' : Vec ℕ)
     leads = record {
       all = Indexes-kept any_connection (all_of lists) (all_of lists') k k.in_lists.all t.leads.all;
       by_signal = λ s g. Indexes-kept (is_of s g) (of_signal lists s g) _ k (k.in_lists.by_signal s g) (t.leads.by_signal s g);
+      by_ends = λ s g r m. Indexes-kept (joins s g r m) (of_ends lists s g r m) _ k (k.in_lists.by_ends s g r m) (t.leads.by_ends s g r m);
       by_object = λ o. Indexes-kept (touches o) (of_object lists o) _ k (k.in_lists.by_object o) (t.leads.by_object o);
     };
     marks = Marked-kept old new marked marked' k.in_cells k.in_marked k.many_marked k.room t.marks;

@@ -1,7 +1,7 @@
 -- What a removal does to all lists at once.
 use Rattle.std.proofs.Common.{◌≡◌, ℕ, Bool, true, false, List, [], ◌∷◌, option_map, refl, arith, ◌&&◌, nat_lt, ap, sym, ◌∙◌, filter}
 use Rattle.std.specs.List.{Contains, find, list_any}
-use Rattle.std.proofs.lemmas.Bool.{and_parts, eqb-true, false≢true}
+use Rattle.std.proofs.lemmas.Bool.{eqb-true}
 use Rattle.slab.specs.Slab.{Slab, get}
 use Rattle.connections.specs.declared.connection.Connection.{Connection}
 use Rattle.connections.specs.declared.cell.Cell.{Cell}
@@ -20,6 +20,7 @@ Leads-retired old new lists last removal e l =
     record {
       all = rw whole (Indexes-retired old new removal (shown_in old lists) last any_connection _ e l.all);
       by_signal = λ s g. rw whole (Indexes-retired old new removal (shown_in old lists) last (is_of s g) _ e (l.by_signal s g));
+      by_ends = λ s g r m. rw whole (Indexes-retired old new removal (shown_in old lists) last (joins s g r m) _ e (l.by_ends s g r m));
       by_object = λ o. rw whole (Indexes-retired old new removal (shown_in old lists) last (touches o) _ e (l.by_object o));
     }
 
@@ -39,28 +40,16 @@ find-of_signal cells lists last s g number l =
     ap (find (λ (c : Connection). nat_lt number c.number)) (l.by_signal s g).exact
     ∙ sym (find_both (is_of s g) (λ c. nat_lt number c.number) (shown_in cells lists))
 
--- what passes a test that another implies is found in what passes the other
-pub any_within : (p q : Connection → Bool) → ((c : Connection) → q c ≡ true → p c ≡ true) → (cs : List Connection) → list_any q (filter p cs) ≡ list_any q cs
-any_within p q h [] = refl
-any_within p q h (c ∷ cs) = by_tests (p c) (q c) refl refl (any_within p q h cs)
+-- what passes a test is found in what passes it
+pub any_filtered : (p : Connection → Bool) (cs : List Connection) → list_any p (filter p cs) ≡ list_any p cs
+any_filtered p [] = refl
+any_filtered p (c ∷ cs) = by_test (p c) refl (any_filtered p cs)
   where
-    by_tests : (a b : Bool) → p c ≡ a → q c ≡ b → list_any q (filter p cs) ≡ list_any q cs → list_any q (filter p (c ∷ cs)) ≡ list_any q (c ∷ cs)
-    by_tests true b e f i = grind (arith, i)
-    by_tests false true e f i = absurd (false≢true (sym e ∙ h c f))
-    by_tests false false e f i = grind (arith, i)
-
-pub joins_is_of : (s g r m : ℕ) (c : Connection) → joins s g r m c ≡ true → is_of s g c ≡ true
-joins_is_of s g r m c h = (and_parts _ _ (and_parts _ _ h).0).0
-
--- places that lead to all that pass a test lead to all that pass a narrower one
-pub Covers-narrower : (cells : Slab Cell) (p q : Connection → Bool) (places : List Place) → ((c : Connection) → q c ≡ true → p c ≡ true) → Covers cells p places → Covers cells q places
-Covers-narrower cells p q places h v = record { place = λ k cell at alive passes. v.place k cell at alive (h cell.connection passes) }
+    by_test : (a : Bool) → p c ≡ a → list_any p (filter p cs) ≡ list_any p cs → list_any p (filter p (c ∷ cs)) ≡ list_any p (c ∷ cs)
+    by_test true e i = grind (arith, i)
+    by_test false e i = grind (arith, i)
 
 module _ (cells : Slab Cell) (lists : Lists) (last : ℕ) where
-  -- a sender and signal's places lead to what joins them to a receiver and method
-  pub Covers-between : (s g r m : ℕ) → Leads cells lists last → Covers cells (joins s g r m) (of_signal lists s g)
-  Covers-between s g r m l = Covers-narrower cells (is_of s g) (joins s g r m) _ (λ c h. joins_is_of s g r m c h) (l.by_signal s g).covers
-
   -- the place of a number, where places of that number are found, leads to the connection of that number
   pub Covers-numbered : (number : ℕ) (places : List Place) → ((p : Place) → Contains (all_of lists) p → p.number ≡ number → Contains places p) → Leads cells lists last → Covers cells (is_numbered number) places
   Covers-numbered number places h l = record {

@@ -5,13 +5,13 @@ use Rattle.connections.specs.declared.connection.Connection.{Connection}
 use Rattle.connections.specs.declared.cell.Cell.{Cell}
 use Rattle.connections.specs.declared.place.Place.{Place}
 use Rattle.connections.specs.declared.groups.Lists.{Lists}
-use Rattle.connections.specs.Connected.{is_of, touches}
+use Rattle.connections.specs.Connected.{is_of, joins, touches}
 use Rattle.connections.specs.Cells.{swept}
 use Rattle.connections.specs.Places.{shown, live, Indexes, is_held, Tidies}
-use Rattle.connections.specs.Lists.{same_pair, all_of, any_connection, shown_in, Leads, TidiesLists}
+use Rattle.connections.specs.Lists.{same_pair, Ends, same_ends, all_of, any_connection, shown_in, Leads, TidiesLists}
 use Rattle.std.proofs.lemmas.Bool.{cases_lt, eq-eqb}
 use Rattle.connections.proofs.Indexed.{live-same}
-use Rattle.connections.proofs.Keys.{at_pair, at_number}
+use Rattle.connections.proofs.Keys.{at_pair, at_ends, at_number}
 use Rattle.connections.proofs.Stale.{live-held, Indexes-held}
 
 pub shown-swept : (number : ℕ) (x : Option Cell) → shown number (swept x) ≡ shown number x
@@ -71,6 +71,7 @@ module _ (old new : Slab Cell) (key : ℕ) where
       record {
         all = rw whole (Indexes-tidied new (shown_in old lists) last any_connection _ _ t.all (Indexes-swept (shown_in old lists) last any_connection _ e l.all));
         by_signal = λ s g. rw whole (Indexes-tidied new (shown_in old lists) last (is_of s g) _ _ (t.by_signal s g) (Indexes-swept (shown_in old lists) last (is_of s g) _ e (l.by_signal s g)));
+        by_ends = λ s g r m. rw whole (Indexes-tidied new (shown_in old lists) last (joins s g r m) _ _ (t.by_ends s g r m) (Indexes-swept (shown_in old lists) last (joins s g r m) _ e (l.by_ends s g r m)));
         by_object = λ o. rw whole (Indexes-tidied new (shown_in old lists) last (touches o) _ _ (t.by_object o) (Indexes-swept (shown_in old lists) last (touches o) _ e (l.by_object o)));
       }
 
@@ -95,6 +96,9 @@ Tidies-again cells a b c s t = ⊎_elim
 -- what is tidied under a key that is the same is tidied under the key
 pub Tidies-pair : (cells : Slab Cell) (f : ℕ × ℕ → List Place) (new : List Place) (p q : ℕ × ℕ) → Tidies cells (cond (same_pair p q) (f p) (f q)) new → Tidies cells (f q) new
 Tidies-pair cells f new p q t = let P : List Place → Type 0 = λ old. Tidies cells old new in subst P (at_pair f p q) t
+
+pub Tidies-ends : (cells : Slab Cell) (f : Ends → List Place) (new : List Place) (p q : Ends) → Tidies cells (cond (same_ends p q) (f p) (f q)) new → Tidies cells (f q) new
+Tidies-ends cells f new p q t = let P : List Place → Type 0 = λ old. Tidies cells old new in subst P (at_ends f p q) t
 
 pub Tidies-number : (cells : Slab Cell) (f : ℕ → List Place) (new : List Place) (p q : ℕ) → Tidies cells (cond (eqb p q) (f p) (f q)) new → Tidies cells (f q) new
 Tidies-number cells f new p q t = let P : List Place → Type 0 = λ old. Tidies cells old new in subst P (at_number f p q) t

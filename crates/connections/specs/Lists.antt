@@ -6,7 +6,7 @@ use Rattle.connections.specs.declared.connection.Connection.{Connection}
 use Rattle.connections.specs.declared.cell.Cell.{Cell}
 use Rattle.connections.specs.declared.place.Place.{Place}
 use Rattle.connections.specs.declared.groups.Lists.{Lists}
-use Rattle.connections.specs.Connected.{is_of, touches}
+use Rattle.connections.specs.Connected.{is_of, joins, touches}
 use Rattle.connections.specs.Cells.{Marked, Covers, counted}
 use Rattle.connections.specs.Places.{live, Indexes, Tidies}
 use Rattle.connections.specs.Groups.{list_of}
@@ -14,11 +14,21 @@ use Rattle.connections.specs.Groups.{list_of}
 abbrev pub same_pair : ℕ × ℕ → ℕ × ℕ → Bool
 same_pair a b = eqb a.0 b.0 && eqb a.1 b.1
 
+-- the ends of a connection: sender, signal, receiver and method
+abbrev pub Ends : Type 0
+Ends = ℕ × ℕ × ℕ × ℕ
+
+abbrev pub same_ends : Ends → Ends → Bool
+same_ends a b = ((eqb a.0 b.0 && eqb a.1 b.1) && eqb a.2 b.2) && eqb a.3 b.3
+
 abbrev pub all_of : Lists → List Place
 all_of lists = lists.all.items.items
 
 abbrev pub of_signal : Lists → ℕ → ℕ → List Place
 of_signal lists sender signal = list_of same_pair lists.by_signal (sender, signal)
+
+abbrev pub of_ends : Lists → ℕ → ℕ → ℕ → ℕ → List Place
+of_ends lists sender signal receiver method = list_of same_ends lists.by_ends (sender, signal, receiver, method)
 
 abbrev pub of_object : Lists → ℕ → List Place
 of_object lists object = list_of eqb lists.by_object object
@@ -30,6 +40,7 @@ any_connection c = true
 pub record IsEmpty (lists : Lists) : Type 0 where
   pub all : all_of lists ≡ []
   pub by_signal : (sender signal : ℕ) → of_signal lists sender signal ≡ []
+  pub by_ends : (sender signal receiver method : ℕ) → of_ends lists sender signal receiver method ≡ []
   pub by_object : (object : ℕ) → of_object lists object ≡ []
 
 -- the connections that are there
@@ -40,6 +51,7 @@ shown_in cells lists = live cells (all_of lists)
 pub record Leads (cells : Slab Cell) (lists : Lists) (last : ℕ) : Type 0 where
   pub all : Indexes cells (shown_in cells lists) last any_connection (all_of lists)
   pub by_signal : (sender signal : ℕ) → Indexes cells (shown_in cells lists) last (is_of sender signal) (of_signal lists sender signal)
+  pub by_ends : (sender signal receiver method : ℕ) → Indexes cells (shown_in cells lists) last (joins sender signal receiver method) (of_ends lists sender signal receiver method)
   pub by_object : (object : ℕ) → Indexes cells (shown_in cells lists) last (touches object) (of_object lists object)
 
 -- what was led to so still is, and shows the same connections
@@ -63,4 +75,5 @@ pub record Tied (cells : Slab Cell) (lists : Lists) (marked : Vec ℕ) (last : �
 pub record TidiesLists (cells : Slab Cell) (old new : Lists) : Type 0 where
   pub all : Tidies cells (all_of old) (all_of new)
   pub by_signal : (sender signal : ℕ) → Tidies cells (of_signal old sender signal) (of_signal new sender signal)
+  pub by_ends : (sender signal receiver method : ℕ) → Tidies cells (of_ends old sender signal receiver method) (of_ends new sender signal receiver method)
   pub by_object : (object : ℕ) → Tidies cells (of_object old object) (of_object new object)

@@ -6,11 +6,11 @@ ghost use Rattle.slab.specs.Slab.{slab_len};
 ghost use Rattle.connections.specs.Connected.{touches};
 ghost use Rattle.connections.specs.Groups.{list_of};
 ghost use Rattle.connections.specs.Lists.{same_pair, all_of};
-ghost use Rattle.connections.specs.Rooms.{Rooms, IsKept, Adds, place_of, PushesBySignal, PushesByObject};
+ghost use Rattle.connections.specs.Rooms.{Rooms, IsKept, Adds, place_of, PushesBySignal, PushesByEnds, PushesByObject};
 
 use crate::cell::Cell;
 use crate::connection::Connection;
-use crate::groups::{Lists, make_room, push_place};
+use crate::groups::{Lists, ends_of, make_room, push_place};
 use crate::place::Place;
 use slab::Slab;
 use std::alloc::{AllocError, Global};
@@ -31,6 +31,7 @@ pub fn make_rooms(
     marked.reserve(cells.capacity())?;
     lists.all.reserve()?;
     make_room(alloc, &mut lists.by_signal, (c.sender.number(), c.signal))?;
+    make_room(alloc, &mut lists.by_ends, ends_of(c))?;
     make_room(alloc, &mut lists.by_object, c.sender.number())?;
     make_room(alloc, &mut lists.by_object, c.receiver.number())?;
     Ok(())
@@ -43,6 +44,7 @@ pub fn put(cells: &mut Slab<Cell>, lists: &mut Lists, c: Connection) -> usize
     ensures len { slab_len cells.new ≡ slab_len cells.old + 1 }
     ensures all { all_of lists.new ≡ all_of lists.old ++ place_of c result ∷ [] }
     ensures signals { PushesBySignal lists.old lists.new c (place_of c result) }
+    ensures ends { PushesByEnds lists.old lists.new c (place_of c result) }
     ensures objects { PushesByObject lists.old lists.new c (place_of c result) }
 {
     let key = cells.insert_reserved(Cell {
@@ -55,6 +57,7 @@ pub fn put(cells: &mut Slab<Cell>, lists: &mut Lists, c: Connection) -> usize
     };
     lists.all.push(place);
     push_place(&mut lists.by_signal, (c.sender.number(), c.signal), place);
+    push_place(&mut lists.by_ends, ends_of(&c), place);
     push_place(&mut lists.by_object, c.sender.number(), place);
     if c.receiver != c.sender {
         push_place(&mut lists.by_object, c.receiver.number(), place);

@@ -19,10 +19,11 @@ use std::marker::Model;
 
 /// The connections that were made and not removed, in the order in which they were made, and the last number given.
 ///
-/// They stand in cells, to which lists lead: one of all, one for each sender and signal, one for each object. So an
-/// emission costs what is connected to its signal, and not what is connected in all. A connection that is removed is
-/// marked and its cell stays until the next [`Connections::sweep`], since emissions below may stand on it: whoever uses
-/// the connections sweeps where none goes on. Only `new`, which takes no memory yet, and `connect` ever take memory.
+/// They stand in cells, to which lists lead: one of all, one for each sender and signal, one for each signal and method
+/// that are joined, one for each object. So an emission costs what is connected to its signal, and a disconnect what it
+/// breaks, and not what is connected in all. A connection that is removed is marked and its cell stays until the next
+/// [`Connections::sweep`], since emissions below may stand on it: whoever uses the connections sweeps where none goes on.
+/// Only `new`, which takes no memory yet, and `connect` ever take memory.
 pub struct Connections {
     alloc: Global,
     cells: Slab<Cell>,
@@ -130,7 +131,7 @@ impl Connections {
     ) -> bool
         ensures { result ≡ are_connected sender signal receiver method self.now.connected }
     {
-        let places = self.lists.of_signal(sender, signal);
+        let places = self.lists.of_ends(sender, signal, receiver, method);
         let same = Removal::Between(sender, signal, receiver, method);
         lead_to_any(&self.cells, places, &same)
     }

@@ -1,12 +1,14 @@
-//! Lists of places by key: one for each sender and signal, one for each object.
+//! Lists of places by key: one for each sender and signal, one for each pair of ends, one for each object.
 
 ghost use Rattle.std.specs.Prelude.{◌≡◌, ◌∷◌, [], ◌++◌, ◌<◌, false, if◌then◌else◌, OnOk, IsSomeAnd};
 ghost use Rattle.std.specs.Vec.{vec_len};
 ghost use Rattle.connections.specs.Groups.{list_of, HasRoom, Keeps, Pushes, KeepsRoom, KeepsOtherRoom, TidiesGroup, SameGroups, HasPlaces};
-ghost use Rattle.connections.specs.Lists.{of_signal, of_object, IsEmpty};
+ghost use Rattle.connections.specs.Lists.{of_signal, of_ends, of_object, IsEmpty};
 ghost use Rattle.connections.specs.Places.{Tidies};
+ghost use Rattle.connections.specs.Rooms.{ends_of};
 
 use crate::cell::Cell;
+use crate::connection::Connection;
 use crate::place::{Place, Places};
 use indexmap::IndexMap;
 use signatures::ObjectId;
@@ -14,11 +16,13 @@ use slab::Slab;
 use std::alloc::{AllocError, Global};
 use std::hash::Hash;
 
-/// The places of all connections, those of each sender and signal, and those of each object.
+/// The places of all connections, those of each sender and signal, those of each signal and method that are joined, and
+/// those of each object.
 #[derive(Drop)]
 pub struct Lists {
     pub all: Places,
     pub by_signal: IndexMap<(usize, usize), Places>,
+    pub by_ends: IndexMap<(usize, usize, usize, usize), Places>,
     pub by_object: IndexMap<usize, Places>,
 }
 
@@ -30,6 +34,7 @@ impl Lists {
         Lists {
             all: Places::new(alloc),
             by_signal: IndexMap::new(alloc),
+            by_ends: IndexMap::new(alloc),
             by_object: IndexMap::new(alloc),
         }
     }
@@ -41,12 +46,33 @@ impl Lists {
         places_of(&self.by_signal, (sender.number(), signal))
     }
 
+    /// The places of the connections from this signal of the sender to this method of the receiver.
+    pub fn of_ends(
+        &self,
+        sender: ObjectId,
+        signal: usize,
+        receiver: ObjectId,
+        method: usize,
+    ) -> &[Place]
+        ensures { result.now ≡ of_ends self.now sender signal receiver method }
+    {
+        let ends = (sender.number(), signal, receiver.number(), method);
+        places_of(&self.by_ends, ends)
+    }
+
     /// The places of the connections from and to an object.
     pub fn of_object(&self, object: ObjectId) -> &[Place]
         ensures { result.now ≡ of_object self.now object }
     {
         places_of(&self.by_object, object.number())
     }
+}
+
+/// What a connection joins: sender, signal, receiver and method.
+pub fn ends_of(c: &Connection) -> (usize, usize, usize, usize)
+    ensures { result ≡ ends_of c.now }
+{
+    (c.sender.number(), c.signal, c.receiver.number(), c.method)
 }
 
 /// The places under a key.

@@ -59,7 +59,9 @@ fn places_for<'a>(lists: &'a Lists, removal: &Removal) -> &'a [Place]
     ensures { LeadTo lists.now (fits removal.now) result.now }
 {
     match removal {
-        Removal::Between(sender, signal, _, _) => lists.of_signal(*sender, *signal),
+        Removal::Between(sender, signal, receiver, method) => {
+            lists.of_ends(*sender, *signal, *receiver, *method)
+        }
         Removal::Touching(object) => lists.of_object(*object),
         Removal::Numbered(number) => place_of_number(&lists.all.items, *number),
     }

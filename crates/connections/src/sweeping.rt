@@ -10,7 +10,7 @@ ghost use Rattle.connections.specs.Lists.{StayLed, StayShown, TidiesLists};
 
 use crate::cell::Cell;
 use crate::connection::Connection;
-use crate::groups::{Lists, forget_place};
+use crate::groups::{Lists, ends_of, forget_place};
 use slab::Slab;
 
 /// Empties each cell whose connection was removed.
@@ -74,6 +74,7 @@ fn forget(cells: &Slab<Cell>, lists: &mut Lists, c: &Connection)
 {
     lists.all.forget(cells);
     forget_place(&mut lists.by_signal, (c.sender.number(), c.signal), cells);
+    forget_place(&mut lists.by_ends, ends_of(c), cells);
     forget_place(&mut lists.by_object, c.sender.number(), cells);
     if c.receiver != c.sender {
         forget_place(&mut lists.by_object, c.receiver.number(), cells);
