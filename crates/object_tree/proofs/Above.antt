@@ -5,7 +5,7 @@ use Rattle.std.specs.Prelude.{slice_get}
 use Rattle.std.specs.Option.{option_and_then}
 use Rattle.object_tree.specs.declared.life.Life.{Life}
 use Rattle.object_tree.specs.declared.object.Object.{Object}
-use Rattle.object_tree.specs.Family.{parent_of, IsChild, Above, itself, over_parent}
+use Rattle.object_tree.specs.Family.{parent_of, IsChild, IsChildless, Above, itself, over_parent}
 
 -- what shows of the parent in an object, and in a life
 abbrev pub parent_in : Option Object → Option ℕ
@@ -42,6 +42,17 @@ above-parent objects a o parent found other so_far =
 pub here-above : {Before : Type 0} (objects : List Object) (a o : ℕ) → o ≡ a → Before ↔ Above objects a o → IsTrue true ↔ Before
 here-above objects a o same so_far =
     (λ t. so_far.1 (subst (λ (q : ℕ). Above objects a q) (sym same) itself), λ b. refl)
+
+-- who has no children is above nobody else
+pub above-childless : (objects : List Object) (a o : ℕ) → IsChildless objects a → Above objects a o → a ≡ o
+above-childless objects a o none itself = refl
+above-childless objects a o none (over_parent {parent = p} child above) =
+    let same : p ≡ a = sym (above-childless objects a p none above) in
+    absurd (none o (subst (λ (q : ℕ). IsChild objects q o) same child))
+
+pub same-above : {r : Bool} (objects : List Object) (a o : ℕ) → IsChildless objects a → r ≡ eqb a o → IsTrue r ↔ Above objects a o
+same-above objects a o none is =
+    (λ t. subst (λ (q : ℕ). Above objects a q) (eqb-true a o (sym is ∙ t)) itself, λ above. is ∙ eq-eqb a o (above-childless objects a o none above))
 
 -- ---- tests
 

@@ -12,7 +12,7 @@ use meta_objects::Meta;
 use signatures::ObjectId;
 
 /// Whether the first object is the second or one of its ancestors, which are counted up to the first dead one.
-pub fn is_above(objects: &Objects, above: ObjectId, object: ObjectId) -> bool
+fn is_above(objects: &Objects, above: ObjectId, object: ObjectId) -> bool
     requires { Forest objects.now }
     ensures { IsTrue result ↔ Above objects.now above object }
 {
@@ -24,6 +24,18 @@ pub fn is_above(objects: &Objects, above: ObjectId, object: ObjectId) -> bool
         }
     }
     true
+}
+
+/// Whether the child is the parent or one of its ancestors. One that has no children is above nobody else, so that nothing
+/// is walked for it.
+fn closes_cycle(objects: &Objects, parent: ObjectId, child: ObjectId) -> bool
+    requires { Forest objects.now }
+    ensures { IsTrue result ↔ Above objects.now child parent }
+{
+    match objects.first_child(child) {
+        None => child == parent,
+        Some(_) => is_above(objects, child, parent),
+    }
 }
 
 /// Whether a living object may become the parent of another, `owner` and `owned` being their lives, or why not.
@@ -41,7 +53,7 @@ pub fn may_adopt(
     if !meta.owns(owner.class, owned.class) {
         return Err(AdoptFault::NotOwned);
     }
-    if is_above(objects, child, parent) {
+    if closes_cycle(objects, parent, child) {
         return Err(AdoptFault::Cycle);
     }
     if owner.home != owned.home {
