@@ -5,10 +5,10 @@ use Rattle.prop_bindings.specs.declared.place.Place.{Place}
 use Rattle.prop_bindings.specs.declared.binding.Binding.{Binding}
 use Rattle.prop_bindings.specs.Bindings.{binding_at, AreApart, reads_any, Chain, direct, further, Loop}
 use Rattle.prop_bindings.specs.Laws.{AcyclicDetermine}
-use Rattle.prop_bindings.specs.code.Orders.{IsOrder, bound, reached_by, Halved}
+use Rattle.prop_bindings.specs.code.Orders.{IsOrder, bound}
 use Rattle.prop_bindings.proofs.Places.{decide_place}
 use Rattle.prop_bindings.proofs.Passes.{determines}
-use Rattle.prop_bindings.proofs.Walks.{halved-none, halved-skip, halved-reached, halved-sooner, halved-loop, halved-ordered, halved-covers, bound-same, bound-other}
+use Rattle.prop_bindings.proofs.Walks.{Halved, reached_by, halved-none, halved-skip, halved-reached, halved-sooner, halved-loop, halved-ordered, halved-covers, bound-same, bound-other}
 
 -- a whole walk
 record Halves (F : Place → Option Binding) (t : Place) (b : Binding) (order : List Place) : Type 0 where

@@ -1,5 +1,5 @@
--- What the calls answer, from what a walk found and what was settled after it.
-use Rattle.std.proofs.Common.{◌≡◌, ◌-◌, true, false, List, [], ◌∷◌, ◌++◌, length, take, drop, inl, Some, refl, ap, sym, ◌∙◌, subst}
+-- What the calls answer, from what was found to follow and what was settled after it.
+use Rattle.std.proofs.Common.{◌≡◌, ◌-◌, true, false, List, [], ◌∷◌, length, take, drop, inl, Some, refl, ap, sym, ◌∙◌, subst}
 use Rattle.std.proofs.lemmas.List.{take_rest}
 use Rattle.std.proofs.lemmas.List.Elements.{All-filter, All-push}
 use Rattle.std.proofs.lemmas.Option.{same_Some}
@@ -8,18 +8,17 @@ use Rattle.meta_model.specs.Loaded.{Loaded}
 use Rattle.object_tree.specs.declared.object.Object.{Object}
 use Rattle.prop_bindings.specs.declared.place.Place.{Place}
 use Rattle.prop_bindings.specs.declared.binding.Binding.{Binding}
-use Rattle.prop_bindings.specs.Places.{values_in, Distinct}
+use Rattle.prop_bindings.specs.Places.{values_in}
 use Rattle.prop_bindings.specs.Bindings.{binding_at, without, replaced, reads_any, value_of, Settled, Loop}
 use Rattle.prop_bindings.specs.Changes.{in_order, DifferInValues, AreChanged, none_changed, one_stayed, IsWritten, IsInstalled, one}
 use Rattle.prop_bindings.specs.Fits.{FitsAt, IsFit, IsInOneLoop, Agree}
 use Rattle.prop_bindings.specs.code.Parts.{AreSound}
-use Rattle.prop_bindings.specs.code.Orders.{IsOrder, update, pass, bound, Halved, IsAffected, IsLater, IsWalked}
+use Rattle.prop_bindings.specs.code.Orders.{update, pass, bound, IsAffected, IsLater}
 use Rattle.prop_bindings.proofs.Apart.{apart-fewer, apart-replaced, acyclic-fewer}
 use Rattle.prop_bindings.proofs.Fitting.{fit-stays}
 use Rattle.prop_bindings.proofs.Homes.{joined-stays, all-joined}
 use Rattle.prop_bindings.proofs.Replaced.{without-fewer}
-use Rattle.prop_bindings.proofs.Settling.{written-value, written-settled, written-kept, closes-loop, installed-order, installed-acyclic, installed-settled, installed-kept, later-is}
-use Rattle.prop_bindings.proofs.Walks.{bound-other}
+use Rattle.prop_bindings.proofs.Settling.{written-value, written-settled, written-kept, closes-loop, installed-later, installed-acyclic, installed-settled, installed-kept, later-is}
 
 -- all but the first
 pub tail-is : (lent later reached : List Place) (at : Place) → lent ≡ later → later ≡ at ∷ reached → take (length lent - 1) (drop 1 lent) ≡ reached
@@ -82,45 +81,36 @@ module _ (bs : List Binding) (objects : List Object) (at : Place) (v : Value) (b
   }
 
 -- ---- a bind
-module _ (bs : List Binding) (b : Binding) (order sooner later : List Place) (o : IsOrder (binding_at bs) order)
-    (walked : IsWalked (binding_at bs) b.target order sooner later) where
-  both : Halved (binding_at bs) (bound (binding_at bs) b.target b) b.target order walked.reached sooner []
-  both = walked.halved (bound (binding_at bs) b.target b) (bound-other (binding_at bs) b.target b)
+module _ (bs : List Binding) (b : Binding) (reached later : List Place) (affected : IsAffected (binding_at (without b.target bs)) b.target reached)
+    (all : later ≡ b.target ∷ reached) where
+  pub install_loops : reads_any b later ≡ true → Loop (binding_at (replaced bs b))
+  install_loops found = closes-loop bs b reached affected (subst (λ (xs : List Place). reads_any b xs ≡ true) all found)
 
-  pub install_loops : (lent : List Place) → lent ≡ later → reads_any b lent ≡ true → Loop (binding_at (replaced bs b))
-  install_loops lent read found = closes-loop bs b order sooner walked.reached o both (subst (λ (xs : List Place). reads_any b xs ≡ true) (read ∙ walked.is_later) found)
+  module _ (free : reads_any b later ≡ false) where
+    apart : reads_any b (b.target ∷ reached) ≡ false
+    apart = subst (λ (xs : List Place). reads_any b xs ≡ false) all free
 
-  module _ (lent : List Place) (read : lent ≡ later) (free : reads_any b lent ≡ false) where
-    apart : reads_any b (b.target ∷ walked.reached) ≡ false
-    apart = subst (λ (xs : List Place). reads_any b xs ≡ false) (read ∙ walked.is_later) free
+    pub is_moved : IsLater (binding_at bs) (binding_at (replaced bs b)) b.target later
+    is_moved = subst (λ (xs : List Place). IsLater (binding_at bs) (binding_at (replaced bs b)) b.target xs) (sym all) (installed-later bs b reached affected apart)
 
-    pub install_order : (all : List Place) → all ≡ sooner ++ later → IsOrder (binding_at (replaced bs b)) all
-    install_order all is = subst (λ (xs : List Place). IsOrder (binding_at (replaced bs b)) xs) (sym (is ∙ ap (λ (xs : List Place). sooner ++ xs) walked.is_later)) (installed-order bs b order sooner walked.reached o both apart)
+    pub is_later : IsLater (binding_at bs) (bound (binding_at bs) b.target b) b.target (b.target ∷ reached)
+    is_later = later-is bs b reached affected apart
 
-    module _ (old new : List Object) (v : Value) (followers : List Place) (before : Settled (binding_at bs) (values_in old))
-        (has : value_of b (values_in old) ≡ Some v) (rest : followers ≡ walked.reached)
-        (is : (q : Place) → values_in new q ≡ pass (binding_at bs) followers (update (values_in old) b.target (Some v)) q) where
-      once : Distinct (b.target ∷ walked.reached)
-      once = subst Distinct walked.is_later walked.distinct
-
-      follows : (q : Place) → values_in new q ≡ pass (binding_at bs) walked.reached (update (values_in old) b.target (Some v)) q
-      follows q = is q ∙ ap (λ (xs : List Place). pass (binding_at bs) xs (update (values_in old) b.target (Some v)) q) rest
-
+    module _ (old new : List Object) (v : Value) (before : Settled (binding_at bs) (values_in old)) (acyclic : ¬ Loop (binding_at bs))
+        (has : value_of b (values_in old) ≡ Some v)
+        (is : (q : Place) → values_in new q ≡ pass (binding_at bs) reached (update (values_in old) b.target (Some v)) q) where
       settles : Settled (binding_at (replaced bs b)) (values_in new)
-      settles = installed-settled bs b order sooner walked.reached o both apart v (values_in old) (values_in new) once before has follows
+      settles = installed-settled bs b reached affected apart v (values_in old) (values_in new) before has is
 
       pub is_installed : (cs : List Binding) (changed : List Place) → cs ≡ replaced bs b → DifferInValues old new → AreChanged old new (in_order (b.target ∷ []) bs) changed → IsInstalled bs cs old new b changed
       is_installed cs changed left differ changes = record {
         bindings = left;
-        acyclic = subst (λ (xs : List Binding). ¬ Loop (binding_at xs)) (sym left) (installed-acyclic bs b order sooner walked.reached o both apart);
+        acyclic = subst (λ (xs : List Binding). ¬ Loop (binding_at xs)) (sym left) (installed-acyclic bs b reached affected apart acyclic);
         objects = differ;
         settled = subst (λ (xs : List Binding). Settled (binding_at xs) (values_in new)) (sym left) settles;
-        kept = λ q none. installed-kept bs b order sooner walked.reached o both apart v (values_in old) (values_in new) once before has follows q (ap (λ (xs : List Binding). binding_at xs q) (sym left) ∙ none);
+        kept = λ q none. installed-kept bs b reached affected apart v (values_in old) (values_in new) before has is q (ap (λ (xs : List Binding). binding_at xs q) (sym left) ∙ none);
         changes = changes;
       }
-
-      pub is_later : IsLater (binding_at bs) (bound (binding_at bs) b.target b) b.target (b.target ∷ walked.reached)
-      is_later = later-is bs b order sooner walked.reached o both apart v (values_in old) (values_in new) once before has follows
 
       pub agree_installed : (p : Loaded) (cs : List Binding) → cs ≡ replaced bs b → DifferInValues old new → Agree p old bs → IsFit p old b → IsInOneLoop old b → AreSound p new bs → Agree p new cs
       agree_installed p cs left differ agree fit joined sound = subst (λ (xs : List Binding). Agree p new xs) (sym left) (record {
@@ -128,7 +118,7 @@ module _ (bs : List Binding) (b : Binding) (order sooner later : List Place) (o 
         fit = All-push (IsFit p new) (without b.target bs) b (All-filter _ (IsFit p new) bs sound.1) (fit-stays p old new agree.typed sound.0 differ b fit);
         one_loop = All-push (IsInOneLoop new) (without b.target bs) b (All-filter _ (IsInOneLoop new) bs (all-joined old new differ bs agree.one_loop)) (joined-stays old new differ b joined);
         apart = apart-replaced bs b agree.apart;
-        acyclic = installed-acyclic bs b order sooner walked.reached o both apart;
+        acyclic = installed-acyclic bs b reached affected apart acyclic;
         settled = settles;
       })
 

@@ -1,7 +1,7 @@
 -- The changed ones of those that follow a property, in the order in which their bindings were installed, are those of all
 -- bound properties.
 use Rattle.std.proofs.Common.{◌≡◌, ℕ, zero, suc, ◌+◌, ◌<◌, ◌⊎◌, Bool, true, false, cond, not, List, [], ◌∷◌, map, inl, inr, None, Some, refl, ap, sym, ◌∙◌, subst, arith}
-use Rattle.std.specs.Prelude.{slice_get}
+use Rattle.std.specs.Prelude.{◌↔◌, slice_get}
 use Rattle.std.proofs.lemmas.Bool.{false≢true, cases_Bool}
 use Rattle.std.proofs.lemmas.Option.{same_Some}
 use Rattle.object_tree.specs.declared.object.Object.{Object}
@@ -12,7 +12,7 @@ use Rattle.prop_bindings.specs.Places.{In, same_place}
 use Rattle.prop_bindings.specs.Bindings.{binding_at, AreApart, without}
 use Rattle.prop_bindings.specs.Changes.{in_order, ReadsAlike, AreChanged, none_changed, one_changed, one_stayed}
 use Rattle.prop_bindings.specs.code.Graph.{position_of}
-use Rattle.prop_bindings.specs.code.Numbering.{places_of, Above, Rises, AreBy, AreInOrder}
+use Rattle.prop_bindings.specs.code.Numbering.{places_of, Above, Rises, AreBy, IsNumbering}
 use Rattle.prop_bindings.proofs.Places.{decide_place, decide_in, same_place-refl}
 use Rattle.prop_bindings.proofs.Keyed.{position-target}
 
@@ -115,15 +115,15 @@ stands bs [] h = tt
 stands bs (f ∷ fs) h = let found = position-target bs f.place f.number h.0 in let zeroth : f.number ≡ 0 + f.number = omega arith in ((f.number, found.0, zeroth, found.1, found.2), stands bs fs h.1)
 
 -- the first changed, or it didn't
-pub lifted-changes : (old new : List Object) (p : Place) (bs : List Binding) (others places cs : List Place) → AreApart bs → AreInOrder (position_of bs) p others places → (In p others → ⊥) → ((q : Place) → (p ≡ q → ⊥) → (In q others → ⊥) → ReadsAlike old new q) → AreChanged old new places cs → AreChanged old new (in_order (p ∷ []) bs) cs
-lifted-changes old new p bs others places cs apart o away alike h =
-    head-moves old new p p (places_of o.sorted) (map (λ (b : Binding). b.target) (without p bs)) cs (subst (λ (xs : List Place). AreChanged old new xs cs) o.are h)
-    (λ ds g. lifted old new p bs 0 o.sorted ds o.numbered.0 (stands bs o.sorted o.numbered.1)
-    (λ q i. elim (decide_place q p) [ inl e ↦ absurd (away (subst (λ (r : Place). In r others) e ((o.same q).0 i))) | inr f ↦ f ]) apart
+pub lifted-changes : (old new : List Object) (p : Place) (bs : List Binding) (others : List Place) (sorted : List Numbered) (cs : List Place) → AreApart bs → IsNumbering (position_of bs) sorted → ((q : Place) → In q (places_of sorted) ↔ In q others) → (In p others → ⊥) → ((q : Place) → (p ≡ q → ⊥) → (In q others → ⊥) → ReadsAlike old new q) → AreChanged old new (p ∷ places_of sorted) cs → AreChanged old new (in_order (p ∷ []) bs) cs
+lifted-changes old new p bs others sorted cs apart numbered same away alike h =
+    head-moves old new p p (places_of sorted) (map (λ (b : Binding). b.target) (without p bs)) cs h
+    (λ ds g. lifted old new p bs 0 sorted ds numbered.0 (stands bs sorted numbered.1)
+    (λ q i. elim (decide_place q p) [ inl e ↦ absurd (away (subst (λ (r : Place). In r others) e ((same q).0 i))) | inr f ↦ f ]) apart
     (λ b i at. elim (decide_place b.target p) [
       | inl e ↦ inl (subst (λ (r : Place). same_place b.target r ≡ true) e (same_place-refl b.target))
-      | inr f ↦ elim (decide_in b.target (places_of o.sorted)) [
+      | inr f ↦ elim (decide_in b.target (places_of sorted)) [
         | inl j ↦ inr (inl j)
-        | inr out ↦ inr (inr (alike b.target (λ e. false≢true (sym f ∙ subst (λ (r : Place). same_place b.target r ≡ true) (sym e) (same_place-refl b.target))) (λ j. out ((o.same b.target).1 j))))
+        | inr out ↦ inr (inr (alike b.target (λ e. false≢true (sym f ∙ subst (λ (r : Place). same_place b.target r ≡ true) (sym e) (same_place-refl b.target))) (λ j. out ((same b.target).1 j))))
       ]
     ]) g)

@@ -5,7 +5,6 @@ pub mod Loops
 pub mod Walks
 pub mod Replaced
 pub mod Acyclic
-pub mod Walking
 pub mod Values
 pub mod Changed
 pub mod Alike
@@ -25,11 +24,14 @@ pub mod Short
 pub mod Covering
 pub mod Sited
 pub mod Numbers
+pub mod Sorting
 pub mod Keyed
 pub mod Graphs
 pub mod Reaching
 pub mod InOrder
 pub mod Counting
 pub mod Ranked
+pub mod Ranking
+pub mod Compacting
 pub mod Dropping
 pub mod Touching

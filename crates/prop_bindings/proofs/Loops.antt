@@ -4,7 +4,8 @@ use Rattle.prop_bindings.specs.declared.place.Place.{Place}
 use Rattle.prop_bindings.specs.declared.binding.Binding.{Binding}
 use Rattle.prop_bindings.specs.Places.{In}
 use Rattle.prop_bindings.specs.Bindings.{Reads, Chain, direct, further, Loop}
-use Rattle.prop_bindings.specs.code.Orders.{Free, Ordered, Covers}
+use Rattle.prop_bindings.specs.code.Orders.{Free, Ordered, Covers, IsLater}
+use Rattle.prop_bindings.proofs.Places.{decide_in}
 
 -- a reader of a member is a member
 abbrev Closed : (Place → Option Binding) → List Place → Type 0
@@ -38,3 +39,19 @@ chain-ends F (further b chain f r) = (b, f)
 
 pub no_loop : (F : Place → Option Binding) (xs : List Place) → Ordered F xs → Covers F xs → Loop F → ⊥
 no_loop F xs o c loop = no_loop_along F xs o (λ q m b f r i. c q b f) loop.0 loop.1 (let e = chain-ends F loop.1 in c loop.0 e.0 e.1)
+
+-- where what a binding moves has an order, and no other reads of it, no new loop comes
+outside : (F G : Place → Option Binding) (t : Place) (later : List Place) → IsLater F G t later → {p q : Place} → Chain G p q → (In q later → ⊥) → Chain F p q
+outside F G t later l (direct {p = p} {q = q} b g r) out = direct b (l.others q b g out).0 r
+outside F G t later l (further {m = m} {q = q} b chain g r) out =
+    let o = l.others q b g out in
+    further b (outside F G t later l chain (λ i. o.1 m i r)) o.0 r
+
+pub later-acyclic : (F G : Place → Option Binding) (t : Place) (later : List Place) → IsLater F G t later → (Loop F → ⊥) → Loop G → ⊥
+later-acyclic F G t later l acyclic loop = elim (decide_in loop.0 later) [
+  | inl i ↦ no_loop_along G later l.ordered closed loop.0 loop.1 i
+  | inr out ↦ acyclic (loop.0, outside F G t later l loop.1 out)
+]
+  where
+    closed : Closed G later
+    closed q m b g r i = elim (decide_in q later) [ inl j ↦ j | inr out ↦ absurd ((l.others q b g out).1 m i r) ]

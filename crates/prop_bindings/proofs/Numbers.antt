@@ -1,6 +1,6 @@
 -- Numbered properties: one more in its place, and what the order of their numbers says.
 use Rattle.std.proofs.Common.{◌≡◌, ◌≢◌, ℕ, zero, suc, ◌+◌, ◌<◌, ◌≤◌, ◌⊎◌, List, [], ◌∷◌, ◌++◌, length, take, drop, get_or, false, true, eqb, inl, inr, Option, Some, refl, ap, sym, ◌∙◌, subst, arith}
-use Rattle.std.specs.Prelude.{slice_get, insert}
+use Rattle.std.specs.Prelude.{insert}
 use Rattle.std.specs.List.Sorted.{IsNonDecreasingBy}
 use Rattle.std.proofs.Math.ListN.{drop_of_length-le}
 use Rattle.std.proofs.lemmas.List.{append-nil}
@@ -225,40 +225,21 @@ numbered-fits N n (f ∷ fs) small h =
     let rest : length fs + f.number < n = long N n f.number fs small h.0.1 h.1.1 h.0.0 less in
     omega (arith, rest)
 
--- ---- places in an order of evaluation
-pub in-slice : (xs : List Place) (i : ℕ) (p : Place) → slice_get xs i ≡ Some p → In p xs
-in-slice [] i p at = absurd (cc at)
-in-slice (x ∷ xs) zero p at = inl (same_Some x p at)
-in-slice (x ∷ xs) (suc i) p at = inr (in-slice xs i p at)
-
-pub slice-short : (xs : List Place) (i : ℕ) (p : Place) → slice_get xs i ≡ Some p → i < length xs
-slice-short [] i p at = absurd (cc at)
-slice-short (x ∷ xs) zero p at = omega arith
-slice-short (x ∷ xs) (suc i) p at = let less : i < length xs = slice-short xs i p at in omega (arith, less)
-
--- what is read stands before what reads it
-pub sooner-read : (F : Place → Option Binding) (order : List Place) → Ordered F order → (q m : Place) (b : Binding) → F q ≡ Some b → Reads b m → (i j : ℕ) → slice_get order i ≡ Some q → slice_get order j ≡ Some m → j < i
-sooner-read F [] o q m b f r i j at to = absurd (cc at)
-sooner-read F (x ∷ xs) o q m b f r zero j at to =
-    let same : x ≡ q = same_Some x q at in
-    absurd (o.0 b (ap F same ∙ f) m (in-slice (x ∷ xs) j m to) r)
-sooner-read F (x ∷ xs) o q m b f r (suc i) zero at to = omega arith
-sooner-read F (x ∷ xs) o q m b f r (suc i) (suc j) at to = let less : j < i = sooner-read F xs o.1 q m b f r i j at to in omega (arith, less)
-
-pub ordered-numbered : (F : Place → Option Binding) (order : List Place) (N : Place → Option ℕ) → Ordered F order → ((p : Place) (i : ℕ) → N p ≡ Some i → slice_get order i ≡ Some p) → (fs : List Numbered) → IsNumbering N fs → Ordered F (places_of fs)
-ordered-numbered F order N o sound [] h = tt
-ordered-numbered F order N o sound (f ∷ fs) h = (
+-- ---- the order of their numbers
+pub ordered-numbered : (F : Place → Option Binding) (N : Place → Option ℕ) → ((q m : Place) (b : Binding) (i j : ℕ) → F q ≡ Some b → Reads b m → N m ≡ Some i → N q ≡ Some j → i < j) → (fs : List Numbered) → IsNumbering N fs → Ordered F (places_of fs)
+ordered-numbered F N rises [] h = tt
+ordered-numbered F N rises (f ∷ fs) h = (
   (λ b some q i r. elim i [
     | inl e ↦
-        let less : f.number < f.number = sooner-read F order o f.place f.place b some (subst (Reads b) (sym e) r) f.number f.number (sound f.place f.number h.1.0) (sound f.place f.number h.1.0) in
+        let less : f.number < f.number = rises f.place f.place b f.number f.number some (subst (Reads b) (sym e) r) h.1.0 h.1.0 in
         absurd (omega (arith, less))
     | inr j ↦
         let found = above-in N f.number fs q h.1.1 h.0.0 j in
-        let less : found.0 < f.number = sooner-read F order o f.place q b some r f.number found.0 (sound f.place f.number h.1.0) (sound q found.0 found.1) in
+        let less : found.0 < f.number = rises f.place q b found.0 f.number some r found.1 h.1.0 in
         let over : f.number < found.0 = found.2 in
         absurd (omega (arith, less, over))
   ]),
-  ordered-numbered F order N o sound fs (h.0.1, h.1.1),
+  ordered-numbered F N rises fs (h.0.1, h.1.1),
 )
 
 -- the places of all were added, where those of what is left are none

@@ -1,13 +1,12 @@
 -- What follows from a property is found through the readers of each property.
 use Rattle.std.proofs.Common.{◌≡◌, ℕ, zero, suc, ◌+◌, ◌<◌, ◌⊎◌, List, [], ◌∷◌, ◌++◌, length, take, get_or, inl, inr, Option, Some, refl, ap, sym, ◌∙◌, subst, arith, add-one}
-use Rattle.std.specs.Prelude.{slice_get}
 use Rattle.prop_bindings.specs.declared.place.Place.{Place}
 use Rattle.prop_bindings.specs.declared.binding.Binding.{Binding}
 use Rattle.prop_bindings.specs.declared.numbering.Numbered.{Numbered}
 use Rattle.prop_bindings.specs.Places.{In}
 use Rattle.prop_bindings.specs.Bindings.{Reads, direct, further}
 use Rattle.prop_bindings.specs.code.Numbering.{places_of, IsNumbering, PutIn, Gains, IsReach}
-use Rattle.prop_bindings.specs.code.Orders.{Ordered, IsAffected}
+use Rattle.prop_bindings.specs.code.Orders.{IsAffected}
 use Rattle.prop_bindings.proofs.Places.{In-cases}
 use Rattle.prop_bindings.proofs.Numbers.{IsOneToOne, added, put-front, by-at, numbered-distinct, ordered-numbered}
 
@@ -106,9 +105,9 @@ module _ (F : Place → Option Binding) (N : Place → Option ℕ) (p : Place) w
   reach-all front found e h = subst (λ (fs : List Numbered). IsReach F N p fs found) e h
 
   -- all that was found
-  pub affected-reached : (order : List Place) (found : List Numbered) → Ordered F order → ((q : Place) (i : ℕ) → N q ≡ Some i → slice_get order i ≡ Some q) → IsReach F N p found found → IsAffected F p (places_of found)
-  affected-reached order found o sound h = record {
-    ordered = ordered-numbered F order N o sound found h.numbered;
+  pub affected-reached : (found : List Numbered) → ((q m : Place) (b : Binding) (i j : ℕ) → F q ≡ Some b → Reads b m → N m ≡ Some i → N q ≡ Some j → i < j) → IsReach F N p found found → IsAffected F p (places_of found)
+  affected-reached found rises h = record {
+    ordered = ordered-numbered F N rises found h.numbered;
     distinct = numbered-distinct N found h.numbered;
     reached = h.reached;
     closed = h.closed;

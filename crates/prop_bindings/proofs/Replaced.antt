@@ -6,10 +6,10 @@ use Rattle.prop_bindings.specs.declared.place.Place.{Place}
 use Rattle.prop_bindings.specs.declared.binding.Binding.{Binding}
 use Rattle.prop_bindings.specs.Places.{same_place}
 use Rattle.prop_bindings.specs.Bindings.{binding_at, without, Loop}
-use Rattle.prop_bindings.specs.code.Orders.{IsOrder, bound}
+use Rattle.prop_bindings.specs.code.Orders.{bound}
 use Rattle.prop_bindings.proofs.Places.{decide_place, same_place-true, same_place-refl}
 use Rattle.prop_bindings.proofs.Passes.{none_or_some}
-use Rattle.prop_bindings.proofs.Walks.{bound-other, ordered-fewer}
+use Rattle.prop_bindings.proofs.Walks.{bound-other}
 
 pub without-at : (p : Place) (bs : List Binding) → binding_at (without p bs) p ≡ None
 without-at p [] = refl
@@ -63,12 +63,6 @@ installed-is bs b = fun_ext (λ q. elim (decide_place b.target q) [
   where
     hit : (b : Binding) (q : Place) → b.target ≡ q → same_place b.target q ≡ true
     hit b q e = subst (λ (y : Place). same_place b.target y ≡ true) e (same_place-refl b.target)
-
-pub order-without : (p : Place) (bs : List Binding) (order : List Place) → IsOrder (binding_at bs) order → IsOrder (binding_at (without p bs)) order
-order-without p bs order o = record {
-  ordered = ordered-fewer (binding_at bs) (binding_at (without p bs)) (without-fewer p bs) order o.ordered;
-  covers = λ q b g. o.covers q b (without-fewer p bs q b g);
-}
 
 pub loop-installed : (bs : List Binding) (b : Binding) → Loop (bound (binding_at bs) b.target b) → Loop (binding_at (without b.target bs ++ b ∷ []))
 loop-installed bs b l = subst (λ (F : Place → Option Binding). Loop F) (sym (installed-is bs b)) l

@@ -1,16 +1,18 @@
--- What a write and a bind make of settled values, where a walk has found what follows.
-use Rattle.std.proofs.Common.{◌≡◌, true, false, List, [], ◌∷◌, ◌++◌, inl, inr, Option, Some, None, refl, ap, sym, ◌∙◌, subst}
+-- What a write and a bind make of settled values, where what follows was found.
+use Rattle.std.proofs.Common.{◌≡◌, true, false, List, [], ◌∷◌, inl, inr, Option, Some, None, refl, ap, sym, ◌∙◌, subst}
 use Rattle.std.proofs.Math.Path.{fun_ext}
 use Rattle.signatures.specs.declared.value.Value.{Value}
 use Rattle.prop_bindings.specs.declared.place.Place.{Place}
 use Rattle.prop_bindings.specs.declared.binding.Binding.{Binding}
-use Rattle.prop_bindings.specs.Places.{In, Distinct}
-use Rattle.prop_bindings.specs.Bindings.{binding_at, without, replaced, reads_any, value_of, Settled, Loop}
-use Rattle.prop_bindings.specs.code.Orders.{AreBound, IsOrder, IsWalked, update, given, evaluated, pass, bound, Halved, IsAffected, IsLater}
-use Rattle.prop_bindings.proofs.Places.{different, update-same, update-other}
+use Rattle.prop_bindings.specs.Places.{In, same_place}
+use Rattle.prop_bindings.specs.Bindings.{binding_at, without, replaced, reads_any, value_of, Chain, Settled, Loop}
+use Rattle.prop_bindings.specs.code.Orders.{AreBound, Ordered, update, given, evaluated, pass, bound, IsAffected, IsLater}
+use Rattle.prop_bindings.proofs.Acyclic.{chain-more}
+use Rattle.prop_bindings.proofs.Naming.{reads_any-true}
+use Rattle.prop_bindings.proofs.Places.{decide_place, different, update-same, update-other}
 use Rattle.prop_bindings.proofs.Passes.{pass-unbound, settled_by_affected, settled_by_later}
-use Rattle.prop_bindings.proofs.Loops.{no_loop, chain-ends}
-use Rattle.prop_bindings.proofs.Walks.{bound-same, bound-other, halved-loop, halved-ordered, halved-covers, later-by}
+use Rattle.prop_bindings.proofs.Loops.{chain-ends, later-acyclic}
+use Rattle.prop_bindings.proofs.Walks.{bound-same, bound-other, chain-on, not-reached}
 use Rattle.prop_bindings.proofs.Replaced.{without-at, without-other, without-fewer, installed-is, loop-installed}
 
 -- the passes of bindings that agree on the list are one
@@ -44,50 +46,80 @@ module _ (bs : List Binding) (p : Place) (reached : List Place) (v : Value) (e f
   written-kept q none apart = passed q ∙ pass-unbound (binding_at (without p bs)) reached (update e p (Some v)) q none ∙ update-other e p (Some v) q apart
 
 -- ---- a bind
--- what a walk reached is bound, and isn't where it began
-pub walked-bound : (bs : List Binding) (t : Place) (order sooner later : List Place) (walked : IsWalked (binding_at bs) t order sooner later) → AreBound (binding_at bs) walked.reached
-walked-bound bs t order sooner later walked p i = let h = walked.halved (binding_at bs) (λ q f. refl) in chain-ends (binding_at bs) (h.chains p i)
+ordered-same : (F G : Place → Option Binding) (xs : List Place) → ((q : Place) → In q xs → G q ≡ F q) → Ordered F xs → Ordered G xs
+ordered-same F G [] same o = tt
+ordered-same F G (x ∷ xs) same o = ((λ b g. o.0 b (sym (same x (inl refl)) ∙ g)), ordered-same F G xs (λ q i. same q (inr i)) o.1)
 
-pub walked-away : (bs : List Binding) (t : Place) (order sooner later : List Place) (walked : IsWalked (binding_at bs) t order sooner later) → In t walked.reached → ⊥
-walked-away bs t order sooner later walked i = (subst Distinct walked.is_later walked.distinct).0 i
+-- what follows is bound
+pub affected-bound : (bs : List Binding) (p : Place) (reached : List Place) → IsAffected (binding_at (without p bs)) p reached → AreBound (binding_at bs) reached
+affected-bound bs p reached affected q i = let found = chain-ends (binding_at (without p bs)) (affected.reached q i) in (found.0, without-fewer p bs q found.0 found.1)
 
-module _ (bs : List Binding) (b : Binding) (order sooner reached : List Place) (o : IsOrder (binding_at bs) order)
-    (halved : Halved (binding_at bs) (bound (binding_at bs) b.target b) b.target order reached sooner []) where
+module _ (bs : List Binding) (b : Binding) (reached : List Place) (affected : IsAffected (binding_at (without b.target bs)) b.target reached) where
+  -- without the target's binding, and with the new one
+  abbrev H : Place → Option Binding
+  H = binding_at (without b.target bs)
+
+  abbrev G : Place → Option Binding
+  G = bound (binding_at bs) b.target b
+
+  kept : (q : Place) → same_place b.target q ≡ false → G q ≡ H q
+  kept q f = bound-other (binding_at bs) b.target b q f ∙ sym (without-other b.target bs q f)
+
+  more : (q : Place) (z : Binding) → H q ≡ Some z → G q ≡ Some z
+  more q z h = elim (decide_place b.target q) [
+    | inl e ↦ let none : H q ≡ None = subst (λ (y : Place). H y ≡ None) e (without-at b.target bs) in absurd (cc (none, h))
+    | inr f ↦ kept q f ∙ h
+  ]
+
+  away : (q : Place) → In q reached → same_place b.target q ≡ false
+  away q i = different b.target q (λ e. affected-away bs b.target reached affected (subst (λ (y : Place). In y reached) (sym e) i))
+
+  chains : (q : Place) → In q reached → Chain G b.target q
+  chains q i = chain-more H G more (affected.reached q i)
+
   -- one that reads what follows from its target closes a chain
   pub closes-loop : reads_any b (b.target ∷ reached) ≡ true → Loop (binding_at (replaced bs b))
-  closes-loop found = loop-installed bs b (halved-loop (binding_at bs) (bound (binding_at bs) b.target b) b.target order reached sooner [] b halved (bound-same (binding_at bs) b.target b) found)
+  closes-loop found =
+      let r = reads_any-true b (b.target ∷ reached) found in
+      loop-installed bs b (b.target, chain-on G b.target reached chains r.0 b.target b r.1 (bound-same (binding_at bs) b.target b) r.2)
 
   module _ (free : reads_any b (b.target ∷ reached) ≡ false) where
-    bound-order : IsOrder (bound (binding_at bs) b.target b) (sooner ++ b.target ∷ reached)
-    bound-order = record {
-      ordered = halved-ordered (binding_at bs) (bound (binding_at bs) b.target b) b.target order reached sooner [] b halved (bound-same (binding_at bs) b.target b) free;
-      covers = halved-covers (binding_at bs) b.target b order reached sooner halved o.covers;
+    pub later-is : IsLater (binding_at bs) G b.target (b.target ∷ reached)
+    later-is = record {
+      ordered = (not-reached G b.target (b.target ∷ reached) (Some b) (bound-same (binding_at bs) b.target b) free, ordered-same H G reached (λ q i. kept q (away q i)) affected.ordered);
+      distinct = (affected-away bs b.target reached affected, affected.distinct);
+      here = inl refl;
+      reached = λ q i. elim i [ inl e ↦ inl e | inr j ↦ inr (chains q j) ];
+      others = λ q z g out. elim (decide_place b.target q) [
+        | inl e ↦ absurd (out (inl e))
+        | inr f ↦ (
+          sym (bound-other (binding_at bs) b.target b q f) ∙ g,
+          λ m i r. out (inr (affected.closed q m z (sym (kept q f) ∙ g) r i)),
+        )
+      ];
     }
 
-    pub installed-order : IsOrder (binding_at (replaced bs b)) (sooner ++ b.target ∷ reached)
-    installed-order = subst (λ (F : Place → Option Binding). IsOrder F (sooner ++ b.target ∷ reached)) (sym (installed-is bs b)) bound-order
+    pub installed-later : IsLater (binding_at bs) (binding_at (replaced bs b)) b.target (b.target ∷ reached)
+    installed-later = subst (λ (F : Place → Option Binding). IsLater (binding_at bs) F b.target (b.target ∷ reached)) (sym (installed-is bs b)) later-is
 
-    pub installed-acyclic : Loop (binding_at (replaced bs b)) → ⊥
-    installed-acyclic = no_loop (binding_at (replaced bs b)) (sooner ++ b.target ∷ reached) installed-order.ordered installed-order.covers
+    pub installed-acyclic : (Loop (binding_at bs) → ⊥) → Loop (binding_at (replaced bs b)) → ⊥
+    installed-acyclic acyclic loop = later-acyclic (binding_at bs) (binding_at (replaced bs b)) b.target (b.target ∷ reached) installed-later acyclic loop
 
-    module _ (v : Value) (e f : Place → Option Value) (distinct : Distinct (b.target ∷ reached)) (settled : Settled (binding_at bs) e)
+    module _ (v : Value) (e f : Place → Option Value) (settled : Settled (binding_at bs) e)
         (has : value_of b e ≡ Some v) (is : (q : Place) → f q ≡ pass (binding_at bs) reached (update e b.target (Some v)) q) where
-      pub later-is : IsLater (binding_at bs) (bound (binding_at bs) b.target b) b.target (b.target ∷ reached)
-      later-is = later-by (binding_at bs) b.target b order reached sooner halved o.covers distinct free
-
-      first : evaluated (bound (binding_at bs) b.target b) b.target e ≡ update e b.target (Some v)
+      first : evaluated G b.target e ≡ update e b.target (Some v)
       first = ap (λ (found : Option Binding). given found b.target e) (bound-same (binding_at bs) b.target b) ∙ ap (λ (found : Option Value). update e b.target found) has
 
-      passed-all : (q : Place) → f q ≡ pass (bound (binding_at bs) b.target b) (b.target ∷ reached) e q
+      passed-all : (q : Place) → f q ≡ pass G (b.target ∷ reached) e q
       passed-all q =
           is q
-          ∙ sym (ap (λ (d : Place → Option Value). d q) (pass-same (binding_at bs) (bound (binding_at bs) b.target b) reached (update e b.target (Some v)) (λ r i. bound-other (binding_at bs) b.target b r (different b.target r (λ same. distinct.0 (subst (λ (y : Place). In y reached) (sym same) i))))))
-          ∙ sym (ap (λ (d : Place → Option Value). pass (bound (binding_at bs) b.target b) reached d q) first)
+          ∙ sym (ap (λ (d : Place → Option Value). d q) (pass-same (binding_at bs) G reached (update e b.target (Some v)) (λ r i. bound-other (binding_at bs) b.target b r (away r i))))
+          ∙ sym (ap (λ (d : Place → Option Value). pass G reached d q) first)
 
       pub installed-settled : Settled (binding_at (replaced bs b)) f
       installed-settled = subst (λ (F : Place → Option Binding). Settled F f) (sym (installed-is bs b))
-          (subst (λ (d : Place → Option Value). Settled (bound (binding_at bs) b.target b) d) (sym (fun_ext passed-all))
-          (settled_by_later (binding_at bs) (bound (binding_at bs) b.target b) b.target (b.target ∷ reached) e later-is settled))
+          (subst (λ (d : Place → Option Value). Settled G d) (sym (fun_ext passed-all))
+          (settled_by_later (binding_at bs) G b.target (b.target ∷ reached) e later-is settled))
 
       pub installed-kept : (q : Place) → binding_at (replaced bs b) q ≡ None → f q ≡ e q
-      installed-kept q none = passed-all q ∙ pass-unbound (bound (binding_at bs) b.target b) (b.target ∷ reached) e q (sym (ap (λ (F : Place → Option Binding). F q) (installed-is bs b)) ∙ none)
+      installed-kept q none = passed-all q ∙ pass-unbound G (b.target ∷ reached) e q (sym (ap (λ (F : Place → Option Binding). F q) (installed-is bs b)) ∙ none)

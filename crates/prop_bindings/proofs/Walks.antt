@@ -1,13 +1,30 @@
--- The walk over an order of evaluation, which sorts out what chains lead to from a property.
-use Rattle.std.proofs.Common.{◌≡◌, Bool, true, false, cond, List, [], ◌∷◌, ◌++◌, inl, inr, Option, Some, None, refl, ap, sym, ◌∙◌, subst}
+-- An order of evaluation, from which what chains lead to from a property is sorted out: one more binding goes between it
+-- and the rest.
+use Rattle.std.proofs.Common.{◌≡◌, ◌⊎◌, Bool, true, false, cond, List, [], ◌∷◌, ◌++◌, inl, inr, Option, Some, None, refl, ap, sym, ◌∙◌, subst}
 use Rattle.std.proofs.lemmas.Bool.{false≢true}
 use Rattle.prop_bindings.specs.declared.place.Place.{Place}
 use Rattle.prop_bindings.specs.declared.binding.Binding.{Binding}
-use Rattle.prop_bindings.specs.Places.{same_place, In, Distinct}
+use Rattle.prop_bindings.specs.Places.{same_place, In}
 use Rattle.prop_bindings.specs.Bindings.{Reads, reads_any, Chain, direct, further, Loop}
-use Rattle.prop_bindings.specs.code.Orders.{Free, Ordered, Covers, bound, reached_by, Halved, IsLater}
+use Rattle.prop_bindings.specs.code.Orders.{Free, Ordered, Covers, bound}
 use Rattle.prop_bindings.proofs.Naming.{reads_any-true, reads_any-false}
 use Rattle.prop_bindings.proofs.Places.{decide_place, same_place-refl, In-left, In-right, In-cases}
+
+-- one of these is read
+abbrev pub reached_by : Option Binding → List Place → Bool
+reached_by None ps = false
+reached_by (Some b) ps = reads_any b ps
+
+-- of what came before the rest, what chains lead to from t stands in `reached`, and the others that are bound in `sooner`
+pub record Halved (F G : Place → Option Binding) (t : Place) (order reached sooner rest : List Place) : Type 0 where
+  pub rest_ordered : Ordered F rest
+  pub reached_ordered : Ordered G reached
+  pub sooner_ordered : Ordered G sooner
+  pub reached_rest : (p : Place) → In p reached → Free G p rest
+  pub sooner_rest : (p : Place) → In p sooner → Free G p rest
+  pub sooner_later : (p : Place) → In p sooner → Free G p (t ∷ reached)
+  pub chains : (p : Place) → In p reached → Chain G t p
+  pub total : (p : Place) (b : Binding) → F p ≡ Some b → In p order → (t ≡ p) ⊎ (In p reached ⊎ (In p sooner ⊎ In p rest))
 
 pub ordered-fewer : (F G : Place → Option Binding) → ((p : Place) (b : Binding) → G p ≡ Some b → F p ≡ Some b) → (xs : List Place) → Ordered F xs → Ordered G xs
 ordered-fewer F G h [] o = tt
@@ -79,7 +96,7 @@ halved-skip F G t order reached sooner q rest h e = record {
   ];
 }
 
-chain-on : (G : Place → Option Binding) (t : Place) (reached : List Place) → ((p : Place) → In p reached → Chain G t p) → (m q : Place) (b : Binding) → In m (t ∷ reached) → G q ≡ Some b → Reads b m → Chain G t q
+pub chain-on : (G : Place → Option Binding) (t : Place) (reached : List Place) → ((p : Place) → In p reached → Chain G t p) → (m q : Place) (b : Binding) → In m (t ∷ reached) → G q ≡ Some b → Reads b m → Chain G t q
 chain-on G t reached chains m q b (inl e) g r = direct b g (subst (λ (y : Place). Reads b y) (sym e) r)
 chain-on G t reached chains m q b (inr i) g r = further b (chains m i) g r
 
@@ -108,7 +125,7 @@ halved-reached F G t order reached sooner q rest h e found = record {
     reaches None f so = absurd (false≢true so)
     reaches (Some z) f so = let r = reads_any-true z (t ∷ reached) so in chain-on G t reached h.chains r.0 q z r.1 (e ∙ f) r.2
 
-not-reached : (G : Place → Option Binding) (q : Place) (xs : List Place) (o : Option Binding) → G q ≡ o → reached_by o xs ≡ false → Free G q xs
+pub not-reached : (G : Place → Option Binding) (q : Place) (xs : List Place) (o : Option Binding) → G q ≡ o → reached_by o xs ≡ false → Free G q xs
 not-reached G q xs None g so b f r i rd = cc
 not-reached G q xs (Some us) g so b f r i rd = let same : us ≡ b = cc in reads_any-false us xs so r i (subst (λ (vs : Binding). Reads vs r) (sym same) rd)
 
@@ -133,53 +150,6 @@ halved-sooner F G t order reached sooner q rest h e found = record {
   ];
 }
 
--- a place that was found before is passed over
-pub halved-again : (F G : Place → Option Binding) (t : Place) (order reached sooner : List Place) (q : Place) (rest : List Place) → Halved F G t order reached sooner (q ∷ rest) → In q reached → Halved F G t order reached sooner rest
-halved-again F G t order reached sooner q rest h found = record {
-  rest_ordered = h.rest_ordered.1;
-  reached_ordered = h.reached_ordered;
-  sooner_ordered = h.sooner_ordered;
-  reached_rest = λ p i. free-rest G p q rest (h.reached_rest p i);
-  sooner_rest = λ p i. free-rest G p q rest (h.sooner_rest p i);
-  sooner_later = h.sooner_later;
-  chains = h.chains;
-  total = λ p z f i. elim (h.total p z f i) [
-    | inl a ↦ inl a
-    | inr b ↦ elim b [
-      | inl a ↦ inr (inl a)
-      | inr b2 ↦ elim b2 [
-        | inl a ↦ inr (inr (inl a))
-        | inr b3 ↦ elim b3 [ inl a ↦ inr (inl (subst (λ (y : Place). In y reached) a found)) | inr a ↦ inr (inr (inr a)) ]
-      ]
-    ]
-  ];
-}
-
--- one that isn't bound is passed over
-pub halved-unbound : (F G : Place → Option Binding) (t : Place) (order reached sooner : List Place) (q : Place) (rest : List Place) → Halved F G t order reached sooner (q ∷ rest) → F q ≡ None → Halved F G t order reached sooner rest
-halved-unbound F G t order reached sooner q rest h none = record {
-  rest_ordered = h.rest_ordered.1;
-  reached_ordered = h.reached_ordered;
-  sooner_ordered = h.sooner_ordered;
-  reached_rest = λ p i. free-rest G p q rest (h.reached_rest p i);
-  sooner_rest = λ p i. free-rest G p q rest (h.sooner_rest p i);
-  sooner_later = h.sooner_later;
-  chains = h.chains;
-  total = λ p z f i. elim (h.total p z f i) [
-    | inl a ↦ inl a
-    | inr b ↦ elim b [
-      | inl a ↦ inr (inl a)
-      | inr b2 ↦ elim b2 [
-        | inl a ↦ inr (inr (inl a))
-        | inr b3 ↦ elim b3 [
-          | inl a ↦ let gone : F p ≡ None = subst (λ (y : Place). F y ≡ None) a none in absurd (cc (gone, f))
-          | inr a ↦ inr (inr (inr a))
-        ]
-      ]
-    ]
-  ];
-}
-
 pub halved-loop : (F G : Place → Option Binding) (t : Place) (order reached sooner rest : List Place) (b : Binding) → Halved F G t order reached sooner rest → G t ≡ Some b → reads_any b (t ∷ reached) ≡ true → Loop G
 halved-loop F G t order reached sooner rest b h g found = let r = reads_any-true b (t ∷ reached) found in (t, chain-on G t reached h.chains r.0 t b r.1 g r.2)
 
@@ -197,33 +167,3 @@ halved-covers F t z order reached sooner h c p us g = elim (decide_place t p) [
     ]
   ]
 ]
-
-pub distinct-push : (xs : List Place) (q : Place) → Distinct xs → (In q xs → ⊥) → Distinct (xs ++ q ∷ [])
-distinct-push [] q d out = ((λ h. h), tt)
-distinct-push (x ∷ xs) q d out = (
-  (λ i. elim (In-cases x xs (q ∷ []) i) [ inl j ↦ d.0 j | inr j ↦ elim j [ inl e ↦ out (inl (sym e)) | inr k ↦ k ] ]),
-  distinct-push xs q d.1 (λ i. out (inr i)),
-)
-
--- what a whole walk found
-pub later-by : (F : Place → Option Binding) (t : Place) (z : Binding) (order reached sooner : List Place) → Halved F (bound F t z) t order reached sooner [] → Covers F order → Distinct (t ∷ reached) → reads_any z (t ∷ reached) ≡ false → IsLater F (bound F t z) t (t ∷ reached)
-later-by F t z order reached sooner h c d free = record {
-  ordered = (not-reached (bound F t z) t (t ∷ reached) (Some z) (bound-same F t z) free, h.reached_ordered);
-  distinct = d;
-  here = inl refl;
-  reached = λ q i. elim i [ inl e ↦ inl e | inr j ↦ inr (h.chains q j) ];
-  others = λ q us g out. elim (decide_place t q) [
-    | inl e ↦ absurd (out (inl e))
-    | inr f ↦
-        let old : F q ≡ Some us = sym (bound-other F t z q f) ∙ g in (
-          old,
-          λ m i r. elim (h.total q us old (c q us old)) [
-            | inl e ↦ out (inl e)
-            | inr b ↦ elim b [
-              | inl a ↦ out (inr a)
-              | inr b2 ↦ elim b2 [ inl a ↦ h.sooner_later q a us g m i r | inr a ↦ a ]
-            ]
-          ],
-        )
-  ];
-}

@@ -4,5 +4,6 @@ pub mod Keys
 pub mod Groups
 pub mod Orders
 pub mod Numbering
+pub mod Ranks
 pub mod Graph
 pub mod Parts

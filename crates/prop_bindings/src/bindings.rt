@@ -1,6 +1,6 @@
 //! The installed bindings.
 
-ghost use Rattle.std.specs.Prelude.{◌≡◌, slice_get, IfOk, OnOk, OnErr};
+ghost use Rattle.std.specs.Prelude.{◌≡◌, ◌∷◌, slice_get, IfOk, OnOk, OnErr};
 ghost use Rattle.std.specs.Option.{option_copied};
 ghost use Rattle.prop_bindings.specs.Bindings.{binding_at, dropped, replaced, without};
 ghost use Rattle.prop_bindings.specs.Calls.{Binds, Writes};
@@ -18,7 +18,6 @@ use crate::fault::{BindFault, WriteFault};
 use crate::followers::followers;
 use crate::graph::Graph;
 use crate::installed::Reader;
-use crate::order::{Walked, ranks_of, walk};
 use crate::place::Place;
 use crate::planned::{Planned, PlannedBind, assign};
 use crate::preparing::{Prepared, fits, has_value, prepare};
@@ -33,8 +32,8 @@ use std::marker::Model;
 /// Bindings in the order in which they were installed, at most one of each property, and of which no chain leads from a
 /// property back to itself, and how many evaluations the last write or bind took.
 ///
-/// They are kept with the readers of each property and an order of evaluation, in which sources stand before their readers:
-/// a write looks at what depends on the property, and at nothing else.
+/// They are kept with the readers of each property, and with numbers of the bound ones, a source's below its readers': a
+/// write and a bind look at what depends on the property, and at nothing else.
 #[derive(Drop)]
 pub struct Bindings {
     graph: Graph,
@@ -190,17 +189,15 @@ impl Bindings {
         let Prepared { binding, value } = prepared;
         let target = binding.target;
         let reader = Reader::new(self.alloc, binding)?;
-        let walked = walk(self.alloc, &self.graph, &target)?;
-        let Walked { mut sooner, later } = walked;
-        if reader.reads_any(&later) {
+        let followers = followers(self.alloc, &self.graph, &target)?;
+        let moved = from_target(self.alloc, &target, &followers)?;
+        if reader.reads_any(&moved) {
             return Err(BindFault::BindingLoop);
         }
-        sooner.extend_from_slice(&later)?;
-        let ranks = ranks_of(self.alloc, &sooner)?;
         let planned = plan(
             self.alloc,
             &self.graph.installed,
-            &later[1..],
+            &moved[1..],
             tree,
             &target,
             value,
@@ -208,8 +205,7 @@ impl Bindings {
         )?;
         Ok(PlannedBind {
             reader,
-            order: sooner,
-            ranks,
+            moved,
             planned,
         })
     }
@@ -232,12 +228,11 @@ impl Bindings {
     {
         let PlannedBind {
             reader,
-            order,
-            ranks,
+            moved,
             planned,
         } = planned;
-        self.graph.make_room(self.alloc, &reader)?;
-        self.graph.install(reader, order, ranks);
+        self.graph.make_room(self.alloc, &reader, moved.len())?;
+        self.graph.install(reader, &moved);
         let Planned {
             target: _,
             values,
@@ -302,6 +297,16 @@ impl Bindings {
     {
         self.graph.drop_object(object);
     }
+}
+
+/// A property, and then what follows from it.
+fn from_target(alloc: Global, target: &Place, followers: &[Place]) -> Result<Vec<Place>, AllocError>
+    ensures { IfOk result (λ places. places.items ≡ target.now ∷ followers.now) }
+{
+    let mut places = Vec::new(alloc);
+    places.push(*target)?;
+    places.extend_from_slice(followers)?;
+    Ok(places)
 }
 
 /// Plans to give a property a value that is of its type, and what follows from it without its own binding. Its error is that

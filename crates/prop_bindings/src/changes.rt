@@ -1,22 +1,22 @@
 //! A property is to have a value, and what follows from it is to change.
 
-ghost use Rattle.std.specs.Prelude.{◌≡◌, ◌↔◌, ◌+◌, ◌<◌, ◌^◌, ◌∷◌, [], length, IfOk, IsTrue, Some};
+ghost use Rattle.std.specs.Prelude.{◌≡◌, ◌↔◌, ◌+◌, ◌<◌, ◌^◌, ◌∷◌, [], length, IfOk, IsTrue, OnOk, Some};
 ghost use Rattle.std.specs.Option.{option_map};
 ghost use Rattle.object_tree.specs.Seen.{seen};
 ghost use Rattle.prop_bindings.specs.declared.place.Place.{Place};
-ghost use Rattle.prop_bindings.specs.Places.{In, values_in};
+ghost use Rattle.prop_bindings.specs.Places.{Distinct, In, values_in};
 ghost use Rattle.prop_bindings.specs.Bindings.{AreApart, binding_at};
 ghost use Rattle.prop_bindings.specs.Changes.{in_order, DifferInValues, AreChanged};
 ghost use Rattle.prop_bindings.specs.Plans.{after};
 ghost use Rattle.prop_bindings.specs.code.Graph.{AreKeyed, bindings_in, position_of};
-ghost use Rattle.prop_bindings.specs.code.Numbering.{AreInOrder, IsNumbering, places_of};
+ghost use Rattle.prop_bindings.specs.code.Numbering.{IsNumbering, places_of};
 ghost use Rattle.prop_bindings.specs.code.Orders.{AreBound, pass, update};
-ghost use Rattle.prop_bindings.specs.code.Parts.{IsSoundWith, StaySoundWith, ahead, value_ahead};
+ghost use Rattle.prop_bindings.specs.code.Parts.{AddsChanged, IsSoundWith, StaySoundWith, ahead, value_ahead};
 
 use crate::ahead::value_ahead;
 use crate::evaluation::evaluate_all;
 use crate::installed::Installed;
-use crate::numbering::{Numbered, put_in};
+use crate::numbering::Numbered;
 use crate::place::Place;
 use crate::planned::Planned;
 use indexmap::IndexMap;
@@ -41,6 +41,7 @@ pub fn plan(
     requires apart { AreApart (bindings_in installed.now) }
     requires sound { IsSoundWith tree.now (bindings_in installed.now) place.now value }
     requires bound { AreBound (binding_at (bindings_in installed.now)) followers.now }
+    requires distinct { Distinct followers.now }
     requires others { In place.now followers.now → ⊥ }
     requires few { before + length followers.now < 2 ^ 64 }
     ensures target { IfOk result (λ plan. plan.target ≡ place.now) }
@@ -58,8 +59,8 @@ pub fn plan(
     let mut values = IndexMap::with_capacity(alloc, followers.len())?;
     values.insert(place.key(), value)?;
     evaluate_all(alloc, installed, followers, tree, &mut values, &mut count)?;
-    let places = sorted(alloc, installed, followers, place)?;
-    let changed = changed_among(alloc, &places, tree, &values)?;
+    let others = by_position(alloc, installed, followers)?;
+    let changed = changed_among(alloc, place, &others, tree, &values)?;
     Ok(Planned {
         target: *place,
         values,
@@ -68,28 +69,7 @@ pub fn plan(
     })
 }
 
-/// A property, and then these others in the order in which their bindings were installed.
-fn sorted(
-    alloc: Global,
-    installed: &Installed,
-    others: &[Place],
-    place: &Place,
-) -> Result<Vec<Place>, AllocError>
-    requires keyed { AreKeyed installed.now }
-    requires bound { AreBound (binding_at (bindings_in installed.now)) others.now }
-    ensures { IfOk result (λ places. AreInOrder (position_of (bindings_in installed.now)) place.now
-        others.now places.items) }
-{
-    let numbered = by_position(alloc, installed, others)?;
-    let mut places = Vec::new(alloc);
-    places.push(*place)?;
-    for each in &numbered {
-        places.push(each.place)?;
-    }
-    Ok(places)
-}
-
-/// Properties that are bound, in the order in which their bindings were installed.
+/// Different properties that are bound, in the order in which their bindings were installed.
 fn by_position(
     alloc: Global,
     installed: &Installed,
@@ -97,6 +77,7 @@ fn by_position(
 ) -> Result<Vec<Numbered>, AllocError>
     requires keyed { AreKeyed installed.now }
     requires bound { AreBound (binding_at (bindings_in installed.now)) places.now }
+    requires distinct { Distinct places.now }
     ensures numbered { IfOk result (λ found.
         IsNumbering (position_of (bindings_in installed.now)) found.items) }
     ensures same { IfOk result (λ found.
@@ -108,29 +89,47 @@ fn by_position(
             unreachable!()
         };
         let place = *place;
-        put_in(&mut found, Numbered { number, place })?;
+        found.push(Numbered { number, place })?;
     }
+    found.sort_by_key(|each| each.number)?;
     Ok(found)
 }
 
-/// Those of the properties that no longer read as they did once these have their values.
+/// The property, and then those of the others in their order, that no longer read as they did once these have their values.
+/// Its error is that memory was refused.
 fn changed_among(
     alloc: Global,
-    places: &[Place],
+    place: &Place,
+    others: &[Numbered],
     tree: &Tree,
     values: &IndexMap<(usize, usize), Value>,
 ) -> Result<Items<Place>, AllocError>
-    ensures { IfOk result (λ changed.
-        AreChanged tree.now (ahead values.now tree.now) places.now changed) }
+    ensures { IfOk result (λ changed. AreChanged tree.now (ahead values.now tree.now)
+        (place.now ∷ places_of others.now) changed) }
 {
     let mut changed = Vec::new(alloc);
-    for place in places {
-        if stays(place, tree, values) {
-            continue;
-        }
-        changed.push(*place)?;
+    add_changed(place, tree, values, &mut changed)?;
+    for each in others {
+        add_changed(&each.place, tree, values, &mut changed)?;
     }
     Ok(Items::from_vec(changed))
+}
+
+/// Adds the property to those that changed, unless it still reads as it did once these have their values.
+fn add_changed(
+    place: &Place,
+    tree: &Tree,
+    values: &IndexMap<(usize, usize), Value>,
+    changed: &mut Vec<Place>,
+) -> Result<(), AllocError>
+    ensures { OnOk result (AddsChanged tree.now (ahead values.now tree.now) place.now
+        changed.old.items changed.new.items) }
+{
+    if stays(place, tree, values) {
+        return Ok(());
+    }
+    changed.push(*place)?;
+    Ok(())
 }
 
 /// Whether the property still reads as it did once these have their values.

@@ -7,7 +7,7 @@ ghost use Rattle.prop_bindings.specs.Places.{values_in};
 ghost use Rattle.prop_bindings.specs.Bindings.{binding_at, value_of};
 ghost use Rattle.prop_bindings.specs.Changes.{DifferInValues};
 ghost use Rattle.prop_bindings.specs.code.Graph.{AreKeyed, bindings_in};
-ghost use Rattle.prop_bindings.specs.code.Orders.{AreBound, IsBoundBy, evaluated, pass};
+ghost use Rattle.prop_bindings.specs.code.Orders.{AreBound, pass};
 ghost use Rattle.prop_bindings.specs.code.Parts.{IsSoundBySome, StaySound, ahead, value_ahead};
 
 use crate::ahead::Ahead;
@@ -42,43 +42,17 @@ pub fn evaluate_all(
     ensures counted { OnOk result (count.new ≡ count.old + length order.now) }
 {
     for place in order {
-        evaluate(alloc, installed, place, tree, values, count)?;
+        let Some(reader) = installed.reader(place) else {
+            unreachable!()
+        };
+        let value = match value_of(alloc, reader.binding(), tree, values, count) {
+            Ok(value) => value,
+            Err(EvalFault::BadType) => unreachable!(),
+            Err(EvalFault::Memory) => return Err(AllocError),
+        };
+        values.insert(place.key(), value)?;
     }
     Ok(())
-}
-
-/// A bound property is to have its expression's value. Its error is that memory was refused.
-fn evaluate(
-    alloc: Global,
-    installed: &Installed,
-    place: &Place,
-    tree: &Tree,
-    values: &mut IndexMap<(usize, usize), Value>,
-    count: &mut usize,
-) -> Result<(), AllocError>
-    requires keyed { AreKeyed installed.now }
-    requires sound { IsSoundBySome (ahead values.old tree.now) (bindings_in installed.now) }
-    requires bound { IsBoundBy (binding_at (bindings_in installed.now)) place.now }
-    requires few { count.old + 1 < 2 ^ 64 }
-    ensures values { OnOk result ((q : Place) → values_in (ahead values.new tree.now) q
-        ≡ evaluated (binding_at (bindings_in installed.now)) place.now
-        (values_in (ahead values.old tree.now)) q) }
-    ensures objects { OnOk result (DifferInValues (ahead values.old tree.now) (ahead values.new tree.now)) }
-    ensures sound { OnOk result (StaySound (ahead values.old tree.now) (ahead values.new tree.now)
-        (bindings_in installed.now)) }
-    ensures counted { OnOk result (count.new ≡ count.old + 1) }
-{
-    let Some(reader) = installed.reader(place) else {
-        unreachable!()
-    };
-    match value_of(alloc, reader.binding(), tree, values, count) {
-        Ok(value) => {
-            values.insert(place.key(), value)?;
-            Ok(())
-        }
-        Err(EvalFault::BadType) => unreachable!(),
-        Err(EvalFault::Memory) => Err(AllocError),
-    }
 }
 
 /// The value of a binding's expression over these objects, where these properties are to have these values; `BadType` where

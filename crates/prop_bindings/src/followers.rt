@@ -3,9 +3,10 @@
 ghost use Rattle.std.specs.Prelude.{◌≡◌, IfOk, OnOk};
 ghost use Rattle.prop_bindings.specs.Places.{same_place};
 ghost use Rattle.prop_bindings.specs.Bindings.{binding_at, without};
-ghost use Rattle.prop_bindings.specs.code.Graph.{IsGraph, bindings_of, rank_of, readers_at};
+ghost use Rattle.prop_bindings.specs.code.Graph.{IsGraph, bindings_of, readers_at};
 ghost use Rattle.prop_bindings.specs.code.Numbering.{Gains, IsNumbering, IsReach, places_of};
 ghost use Rattle.prop_bindings.specs.code.Orders.{IsAffected};
+ghost use Rattle.prop_bindings.specs.code.Ranks.{rank_of};
 
 use crate::graph::Graph;
 use crate::numbering::{Numbered, put_in};
@@ -27,7 +28,7 @@ pub fn followers(alloc: Global, graph: &Graph, from: &Place) -> Result<Vec<Place
     Ok(places)
 }
 
-/// The same with their places in the order of evaluation: first the readers of the property, then those of each that was
+/// The same with their numbers, in whose order they are evaluated: first the readers of the property, then those of each that was
 /// found, in that order, so that none comes before one whose readers are added already.
 fn reach(alloc: Global, graph: &Graph, from: &Place) -> Result<Vec<Numbered>, AllocError>
     requires { IsGraph graph.now }

@@ -1,26 +1,27 @@
 //! The installed bindings with what finds what follows from a property.
 
-ghost use Rattle.std.specs.Prelude.{◌≡◌, [], OnOk};
+ghost use Rattle.std.specs.Prelude.{◌≡◌, ◌<◌, ◌^◌, [], length, OnOk};
 ghost use Rattle.prop_bindings.specs.Bindings.{binding_at, dropped, replaced, without};
-ghost use Rattle.prop_bindings.specs.code.Graph.{AreKeyed, AreNamed, AreRanks, AreTouched, HasRoom, IsGraph, KeepTouched, LosesReader, RankOfReader, bindings_of, rank_of};
-ghost use Rattle.prop_bindings.specs.code.Orders.{IsOrder};
+ghost use Rattle.prop_bindings.specs.code.Graph.{AreKeyed, AreNamed, AreTouched, HasRoom, IsGraph, KeepTouched, LosesReader, RankOfReader, bindings_of};
+ghost use Rattle.prop_bindings.specs.code.Orders.{IsLater};
+ghost use Rattle.prop_bindings.specs.code.Ranks.{HasNumbers};
 
 use crate::binding::Binding;
 use crate::installed::{Installed, Reader};
 use crate::place::{Place, contains};
+use crate::ranks::Ranks;
 use crate::readers::Readers;
-use indexmap::{IndexMap, IndexSet};
+use indexmap::IndexSet;
 use signatures::ObjectId;
 use std::alloc::{AllocError, Global};
 
-/// The installed bindings, each property's readers, and an order of evaluation, in which sources stand before their
-/// readers, with the place of each property in it, and the objects that bindings have as targets' or as sources.
+/// The installed bindings, each property's readers, the numbers of the bound properties, in whose order they are evaluated,
+/// and the objects that bindings have as targets' or as sources.
 #[derive(Drop)]
 pub struct Graph {
     pub installed: Installed,
     pub readers: Readers,
-    pub order: Vec<Place>,
-    pub ranks: IndexMap<(usize, usize), usize>,
+    pub ranks: Ranks,
     pub touched: IndexSet<usize>,
 }
 
@@ -32,29 +33,17 @@ impl Graph {
     {
         let installed = Installed::new(alloc);
         let readers = Readers::new(alloc);
-        let order = Vec::new(alloc);
-        let ranks = IndexMap::new(alloc);
+        let ranks = Ranks::new(alloc);
         let touched = IndexSet::new(alloc);
         Graph {
             installed,
             readers,
-            order,
             ranks,
             touched,
         }
     }
 
-    /// The place of a property in the order of evaluation.
-    fn rank(&self, place: &Place) -> Option<usize>
-        ensures { result ≡ rank_of self.now.ranks place.now }
-    {
-        match self.ranks.get(&place.key()) {
-            Some(rank) => Some(*rank),
-            None => None,
-        }
-    }
-
-    /// The place in the order of evaluation of a property, if its binding reads the source.
+    /// The number of a property, if its binding reads the source.
     pub fn rank_of_reader(&self, reader: &Place, source: &Place) -> Option<usize>
         requires { IsGraph self.now }
         ensures { RankOfReader self.now reader.now source.now result }
@@ -65,38 +54,43 @@ impl Graph {
         if !contains(found.reads(), source) {
             return None;
         }
-        self.rank(reader)
+        self.ranks.rank(reader)
     }
 
-    /// Makes room for a binding, which is named as a reader. Where memory is refused nothing changes that is seen.
-    pub fn make_room(&mut self, alloc: Global, reader: &Reader) -> Result<(), AllocError>
-        requires { IsGraph self.old }
+    /// Makes room for a binding, which is named as a reader, and for so many numbers. Where memory is refused nothing
+    /// changes that is seen.
+    pub fn make_room(
+        &mut self,
+        alloc: Global,
+        reader: &Reader,
+        moved: usize,
+    ) -> Result<(), AllocError>
+        requires graph { IsGraph self.old }
+        requires few { moved < 2 ^ 63 }
         ensures same { bindings_of self.new ≡ bindings_of self.old }
-        ensures order { self.new.order.items ≡ self.old.order.items }
         ensures graph { IsGraph self.new }
         ensures room { OnOk result (HasRoom self.new.installed) }
+        ensures numbers { OnOk result (HasNumbers moved self.new.ranks) }
         ensures named { OnOk result (AreNamed self.new.readers reader.now) }
         ensures touched { OnOk result (AreTouched self.new.touched reader.now) }
     {
         self.installed.reserve()?;
+        self.ranks.reserve(moved)?;
         self.readers.enlist(alloc, reader)?;
         touch(&mut self.touched, reader.binding())?;
         Ok(())
     }
 
-    /// Puts a binding, for which there is room, in place of its target's old one, with an order of evaluation.
-    pub fn install(
-        &mut self,
-        reader: Reader,
-        order: Vec<Place>,
-        ranks: IndexMap<(usize, usize), usize>,
-    )
+    /// Puts a binding, for which there is room, in place of its target's old one. The target and what follows from it are
+    /// evaluated after all others from now on.
+    pub fn install(&mut self, reader: Reader, moved: &[Place])
         requires graph { IsGraph self.old }
         requires room { HasRoom self.old.installed }
+        requires numbers { HasNumbers (length moved.now) self.old.ranks }
         requires named { AreNamed self.old.readers reader }
         requires touched { AreTouched self.old.touched reader }
-        requires order { IsOrder (binding_at (replaced (bindings_of self.old) reader)) order.items }
-        requires ranks { AreRanks order.items ranks }
+        requires later { IsLater (binding_at (bindings_of self.old))
+            (binding_at (replaced (bindings_of self.old) reader)) reader.target moved.now }
         ensures replaced { bindings_of self.new ≡ replaced (bindings_of self.old) reader }
         ensures graph { IsGraph self.new }
     {
@@ -104,8 +98,7 @@ impl Graph {
         unlist(&self.installed, &mut self.readers, &target, reader.reads());
         self.installed.remove(&target);
         self.installed.push(reader);
-        self.order = order;
-        self.ranks = ranks;
+        self.ranks.renumber(moved);
     }
 
     /// Removes the binding of a property.
@@ -116,6 +109,7 @@ impl Graph {
     {
         unlist(&self.installed, &mut self.readers, place, &[]);
         self.installed.remove(place);
+        self.ranks.forget(place);
     }
 
     /// Removes the bindings whose target is of the object, or of which it is a source. It looks at them only where there may

@@ -13,10 +13,10 @@ mod groups;
 mod installed;
 mod laws;
 mod numbering;
-mod order;
 mod place;
 mod planned;
 mod preparing;
+mod ranks;
 mod readers;
 mod uncounted;
 

@@ -50,15 +50,14 @@ impl Planned {
     }
 }
 
-/// A binding that is to be installed, with the order of evaluation that it needs, and what it is to change.
+/// A binding that is to be installed, with what it moves in the order of evaluation, and what it is to change.
 #[derive(Drop)]
 pub struct PlannedBind {
     /// The binding.
     pub reader: Reader,
-    /// The order of evaluation once it is installed.
-    pub order: Vec<Place>,
-    /// The places of the properties in it.
-    pub ranks: IndexMap<(usize, usize), usize>,
+    /// Its target and what chains of bindings lead to from there, a source before its readers. Once it is installed they
+    /// are evaluated after all others.
+    pub moved: Vec<Place>,
     /// What it is to change.
     pub planned: Planned,
 }

@@ -1,8 +1,7 @@
--- How the crate keeps the installed bindings: by target, with the readers of each property and an order of evaluation.
--- No contract of a public call speaks of this.
-use Rattle.std.specs.Prelude.{◌≡◌, ℕ, ◌<◌, ◌⊎◌, List, map, Option, None, Some, slice_get, position, eqb, true}
+-- How the crate keeps the installed bindings: by target, with the readers and the number of each property.
+use Rattle.std.specs.Prelude.{◌≡◌, ℕ, ◌<◌, ◌⊎◌, List, [], map, Option, None, Some, position, eqb, true}
 use Rattle.indexmap.specs.IndexSet.{IndexSet, contains}
-use Rattle.indexmap.specs.IndexMap.{IndexMap, get, keys, values, spare}
+use Rattle.indexmap.specs.IndexMap.{keys, values, spare}
 use Rattle.prop_bindings.specs.declared.place.Place.{Place}
 use Rattle.prop_bindings.specs.declared.binding.Binding.{Binding}
 use Rattle.prop_bindings.specs.declared.graph.Graph.{Graph}
@@ -12,7 +11,7 @@ use Rattle.prop_bindings.specs.Places.{In}
 use Rattle.prop_bindings.specs.code.Groups.{list_of}
 use Rattle.prop_bindings.specs.code.Keys.{key_of, same_key}
 use Rattle.prop_bindings.specs.Bindings.{binding_at, AreApart, Reads, touches}
-use Rattle.prop_bindings.specs.code.Orders.{IsOrder}
+use Rattle.prop_bindings.specs.code.Ranks.{RankAll, rank_of}
 
 -- ---- the bindings
 abbrev pub bindings_in : Installed → List Binding
@@ -52,15 +51,6 @@ LosesReader kept reader old new =
 abbrev pub AreNamed : Readers → Binding → Type 0
 AreNamed x b = (m : Place) → Reads b m → In b.target (readers_at x m)
 
--- ---- the places in the order of evaluation
-abbrev pub rank_of : {S : Type 0} → IndexMap (ℕ × ℕ) ℕ S → Place → Option ℕ
-rank_of ranks p = get same_key ranks (key_of p)
-
--- each property of a list, and no other, has a number: one at which it stands there
-pub record AreRanks {S : Type 0} (order : List Place) (ranks : IndexMap (ℕ × ℕ) ℕ S) : Type 0 where
-  pub sound : (p : Place) (i : ℕ) → rank_of ranks p ≡ Some i → slice_get order i ≡ Some p
-  pub complete : (p : Place) → In p order → (i : ℕ) × (rank_of ranks p ≡ Some i)
-
 -- ---- the whole
 abbrev pub bindings_of : Graph → List Binding
 bindings_of g = bindings_in g.installed
@@ -68,13 +58,12 @@ bindings_of g = bindings_in g.installed
 pub record IsGraph (g : Graph) : Type 0 where
   pub keyed : AreKeyed g.installed
   pub apart : AreApart (bindings_of g)
-  pub order : IsOrder (binding_at (bindings_of g)) g.order.items
-  pub ranks : AreRanks g.order.items g.ranks
+  pub ranks : RankAll (binding_at (bindings_of g)) [] g.ranks
   pub readers : (q m : Place) (b : Binding) → binding_at (bindings_of g) q ≡ Some b → Reads b m → In q (readers_at g.readers m)
   pub touched : (q : Place) (b : Binding) (o : ℕ) → binding_at (bindings_of g) q ≡ Some b → touches o b ≡ true
       → contains eqb g.touched o ≡ true
 
--- the place in the order of evaluation of a property whose binding reads the source
+-- the number of a property whose binding reads the source
 abbrev pub RankOfReader : Graph → Place → Place → Option ℕ → Type 0
 RankOfReader g q source None = (b : Binding) → binding_at (bindings_of g) q ≡ Some b → Reads b source → ⊥
 RankOfReader g q source (Some i) =

@@ -1,5 +1,5 @@
 -- Numbered properties, in the order of their numbers: some of a longer list, each with its place there.
-use Rattle.std.specs.Prelude.{◌≡◌, ◌↔◌, ℕ, suc, ◌<◌, ◌≤◌, ◌⊎◌, eqb, Bool, false, slice_get, List, [], ◌∷◌, ◌++◌, map, length, take, get_or, Option, None, Some}
+use Rattle.std.specs.Prelude.{◌≡◌, ℕ, suc, ◌<◌, ◌≤◌, ◌⊎◌, eqb, Bool, false, slice_get, List, [], ◌∷◌, ◌++◌, map, length, take, get_or, Option, None, Some}
 use Rattle.prop_bindings.specs.declared.place.Place.{Place}
 use Rattle.prop_bindings.specs.declared.binding.Binding.{Binding}
 use Rattle.prop_bindings.specs.declared.numbering.Numbered.{Numbered}
@@ -30,13 +30,6 @@ AreBy N (f ∷ fs) = (N f.place ≡ Some f.number) × AreBy N fs
 -- both
 abbrev pub IsNumbering : (Place → Option ℕ) → List Numbered → Type 0
 IsNumbering N fs = Rises fs × AreBy N fs
-
--- a property, and then others in the order of the numbers that N gives
-pub record AreInOrder (N : Place → Option ℕ) (first : Place) (others places : List Place) : Type 0 where
-  pub sorted : List Numbered
-  pub numbered : IsNumbering N sorted
-  pub are : places ≡ first ∷ places_of sorted
-  pub same : (q : Place) → In q (places_of sorted) ↔ In q others
 
 -- one more, in its place, unless its number is there
 pub data PutIn (old : List Numbered) (f : Numbered) (new : List Numbered) : Type 0 where

@@ -1,11 +1,11 @@
--- Orders of evaluation, in which sources come before their readers: how the crate computes settled values. No contract
--- of a public call speaks of them.
-use Rattle.std.specs.Prelude.{◌≡◌, Bool, false, ◌⊎◌, List, [], ◌∷◌, cond, Option, None, Some}
+-- Orders of evaluation, in which sources come before their readers: how the crate computes settled values. Of what public
+-- calls say, only `MayInstall` speaks of one: a planned bind brings what it moves, in such an order.
+use Rattle.std.specs.Prelude.{◌≡◌, ◌⊎◌, List, [], ◌∷◌, cond, Option, None, Some}
 use Rattle.signatures.specs.declared.value.Value.{Value}
 use Rattle.prop_bindings.specs.declared.place.Place.{Place}
 use Rattle.prop_bindings.specs.declared.binding.Binding.{Binding}
 use Rattle.prop_bindings.specs.Places.{same_place, In, Distinct}
-use Rattle.prop_bindings.specs.Bindings.{Reads, reads_any, value_of, Chain}
+use Rattle.prop_bindings.specs.Bindings.{Reads, value_of, Chain}
 
 -- the binding of a property reads none of these
 abbrev pub Free : (Place → Option Binding) → Place → List Place → Type 0
@@ -24,12 +24,9 @@ pub record IsOrder (F : Place → Option Binding) (order : List Place) : Type 0 
   pub ordered : Ordered F order
   pub covers : Covers F order
 
--- the property is bound, and so is each of these
-abbrev pub IsBoundBy : (Place → Option Binding) → Place → Type 0
-IsBoundBy F p = (b : Binding) × (F p ≡ Some b)
-
+-- each of these is bound
 abbrev pub AreBound : (Place → Option Binding) → List Place → Type 0
-AreBound F ps = (p : Place) → In p ps → IsBoundBy F p
+AreBound F ps = (p : Place) → In p ps → (b : Binding) × (F p ≡ Some b)
 
 -- ---- evaluating in an order
 abbrev pub update : (Place → Option Value) → Place → Option Value → Place → Option Value
@@ -66,34 +63,7 @@ pub record IsLater (F G : Place → Option Binding) (t : Place) (later : List Pl
   pub others : (q : Place) (b : Binding) → G q ≡ Some b → (In q later → ⊥)
       → (F q ≡ Some b) × ((m : Place) → In m later → Reads b m → ⊥)
 
--- ---- how both are found: a walk over an order
+-- ---- a bind
 -- one more binding, or another one of the same target
 abbrev pub bound : (Place → Option Binding) → Place → Binding → Place → Option Binding
 bound F t b p = cond (same_place t p) (Some b) (F p)
-
-abbrev pub reached_by : Option Binding → List Place → Bool
-reached_by None ps = false
-reached_by (Some b) ps = reads_any b ps
-
--- the walk has sorted out what chains lead to from t, which stand in `reached`; the others that are bound stand in
--- `sooner`
-pub record Halved (F G : Place → Option Binding) (t : Place) (order reached sooner rest : List Place) : Type 0 where
-  pub rest_ordered : Ordered F rest
-  pub reached_ordered : Ordered G reached
-  pub sooner_ordered : Ordered G sooner
-  pub reached_rest : (p : Place) → In p reached → Free G p rest
-  pub sooner_rest : (p : Place) → In p sooner → Free G p rest
-  pub sooner_later : (p : Place) → In p sooner → Free G p (t ∷ reached)
-  pub chains : (p : Place) → In p reached → Chain G t p
-  pub total : (p : Place) (b : Binding) → F p ≡ Some b → In p order → (t ≡ p) ⊎ (In p reached ⊎ (In p sooner ⊎ In p rest))
-
--- G binds what F binds, but for t
-abbrev pub AgreesBut : Place → (Place → Option Binding) → (Place → Option Binding) → Type 0
-AgreesBut t F G = (q : Place) → same_place t q ≡ false → G q ≡ F q
-
--- the whole walk, whatever t is bound to: t and what chains lead to from it, each once, and the others
-pub record IsWalked (F : Place → Option Binding) (t : Place) (order sooner later : List Place) : Type 0 where
-  pub reached : List Place
-  pub is_later : later ≡ t ∷ reached
-  pub distinct : Distinct later
-  pub halved : (G : Place → Option Binding) → AgreesBut t F G → Halved F G t order reached sooner []

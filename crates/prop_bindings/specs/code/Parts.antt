@@ -1,5 +1,5 @@
 -- The parts of a write and a bind.
-use Rattle.std.specs.Prelude.{◌≡◌, ℕ, List, All, Option, Some, Result, Ok, Err}
+use Rattle.std.specs.Prelude.{◌≡◌, ℕ, List, [], ◌∷◌, ◌++◌, All, Option, Some, Result, Ok, Err}
 use Rattle.std.specs.Option.{option_map, unwrap_or}
 use Rattle.signatures.specs.declared.value.Value.{Value}
 use Rattle.indexmap.specs.IndexMap.{IndexMap, get}
@@ -15,12 +15,11 @@ use Rattle.prop_bindings.specs.declared.preparing.Prepared.{Prepared}
 use Rattle.prop_bindings.specs.Places.{values_in}
 use Rattle.prop_bindings.specs.Bindings.{binding_at, replaced, without, value_of, Loop}
 use Rattle.prop_bindings.specs.Calls.{MayBind, IsNotBound, new_binding}
-use Rattle.prop_bindings.specs.Changes.{IsInstalled}
+use Rattle.prop_bindings.specs.Changes.{AreChanged, IsInstalled}
 use Rattle.prop_bindings.specs.Fits.{FitsAt, IsFit, IsInOneLoop, Agree}
 use Rattle.prop_bindings.specs.Plans.{assigned, after}
-use Rattle.prop_bindings.specs.code.Graph.{AreRanks}
 use Rattle.prop_bindings.specs.code.Keys.{key_of, same_key}
-use Rattle.prop_bindings.specs.code.Orders.{IsOrder}
+use Rattle.prop_bindings.specs.code.Orders.{IsLater}
 
 -- ---- values to come
 -- the objects once these properties have their values
@@ -30,6 +29,10 @@ ahead values objects = assigned values.entries objects
 -- what a property reads then: the value that it is to have, if it is to have one, or its own
 abbrev pub value_ahead : {S : Type 0} → IndexMap (ℕ × ℕ) Value S → List Object → Place → Option Value
 value_ahead values objects q = option_map (unwrap_or (get same_key values (key_of q))) (values_in objects q)
+
+-- the property is added to those of some that changed, if it did
+abbrev pub AddsChanged : List Object → List Object → Place → List Place → List Place → Type 0
+AddsChanged old new p changed more = (ps : List Place) → AreChanged old new ps changed → AreChanged old new (ps ++ p ∷ []) more
 
 -- ---- values and types alone
 abbrev pub AreSound : Loaded → List Object → List Binding → Type 0
@@ -98,7 +101,6 @@ abbrev pub Installs : Binding → List Binding → List Object → Result Planne
 Installs b bs objects (Ok plan) = InstallsIt b bs objects plan
 Installs b bs objects (Err fault) = IsNotInstalled bs b fault
 
--- the order of evaluation that comes with a planned bind is one of the bindings once it is carried out
+-- what a planned bind moves in the order of evaluation is its target and what chains lead to from it
 pub record MayInstall (bs : List Binding) (plan : PlannedBind) : Type 0 where
-  pub order : IsOrder (binding_at (replaced bs plan.reader)) plan.order.items
-  pub ranks : AreRanks plan.order.items plan.ranks
+  pub later : IsLater (binding_at bs) (binding_at (replaced bs plan.reader)) plan.reader.target plan.moved.items

@@ -3,7 +3,7 @@ use Rattle.object_tree.specs.declared.object.Object.{Object}
 use Rattle.std.proofs.lemmas.Bool.{false≢true}
 use Rattle.prop_bindings.specs.declared.place.Place.{Place}
 use Rattle.prop_bindings.specs.declared.binding.Binding.{Binding}
-use Rattle.prop_bindings.specs.Places.{In, values_in}
+use Rattle.prop_bindings.specs.Places.{Distinct, In, values_in}
 use Rattle.prop_bindings.specs.Bindings.{binding_at, without}
 use Rattle.prop_bindings.specs.Changes.{in_order, IsWritten, one}
 use Rattle.prop_bindings.specs.Fits.{Agree}
@@ -41,6 +41,9 @@ plan-requires-clause-bound c =
     let bs : List Binding = bindings_of c.args.graph.now in
     subst (λ (ps : List Place). AreBound (binding_at bs) ps) (sym c.deref.ensures.value) (λ q i.
     (let found = chain-ends (binding_at (without c.args.place.now bs)) (c.in_ok-followers.ensures.reached q i) in (found.0, without-fewer c.args.place.now bs q found.0 found.1)))
+
+pub plan-requires-clause-distinct : goal.plan-requires-clause-distinct
+plan-requires-clause-distinct c = subst Distinct (sym c.deref.ensures.value) c.in_ok-followers.ensures.distinct
 
 pub plan-requires-clause-others : goal.plan-requires-clause-others
 plan-requires-clause-others c = λ i. affected-away (bindings_of c.args.graph.now) c.args.place.now c.in_ok-followers.followers.items c.in_ok-followers.ensures (subst (In c.args.place.now) c.deref.ensures.value i)

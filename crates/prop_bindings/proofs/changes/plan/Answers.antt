@@ -1,11 +1,12 @@
-use Rattle.std.proofs.Common.{◌∙◌, List, ap, sym, subst}
+use Rattle.std.proofs.Common.{◌∙◌, ◌∷◌, List, ap, sym, subst}
 use Rattle.object_tree.specs.declared.object.Object.{Object}
 use Rattle.object_tree.specs.Objects.{change_life, written}
-use Rattle.prop_bindings.specs.declared.place.Place.{Place}
+use Rattle.prop_bindings.specs.declared.numbering.Numbered.{Numbered}
 use Rattle.prop_bindings.specs.Places.{values_in}
 use Rattle.prop_bindings.specs.Bindings.{binding_at}
 use Rattle.prop_bindings.specs.Changes.{AreChanged}
 use Rattle.prop_bindings.specs.code.Graph.{bindings_in}
+use Rattle.prop_bindings.specs.code.Numbering.{places_of}
 use Rattle.prop_bindings.specs.code.Orders.{pass}
 use Rattle.prop_bindings.specs.code.Parts.{AreSound, StaySound, ahead}
 use Rattle.prop_bindings.proofs.Assigned.{ahead-more, ahead-none, assigned-differs}
@@ -35,9 +36,9 @@ returns-clause-changed c =
     ∙ ap (λ (xs : List Object). change_life c.args.place.now.object (written c.args.place.now.property c.args.value) xs) (ahead-none c.in_ok-values.values c.args.tree.now c.in_ok-values.ensures.empty) in
     let values = settle-values c.args.tree.now (ahead c.evaluate_all.new.values c.args.tree.now) (bindings_in c.args.installed.now) c.args.place.now c.args.value c.requires.sound c.args.followers.now (λ q.
     c.in_ok-evaluate_all.ensures.values q ∙ ap (λ (xs : List Object). pass (binding_at (bindings_in c.args.installed.now)) c.args.followers.now (values_in xs) q) first) in
-    lifted-changes c.args.tree.now (ahead c.evaluate_all.new.values c.args.tree.now) c.args.place.now (bindings_in c.args.installed.now) c.args.followers.now c.in_ok-places.places.items c.in_ok-changed.changed c.requires.apart c.in_ok-places.ensures c.requires.others
+    lifted-changes c.args.tree.now (ahead c.evaluate_all.new.values c.args.tree.now) c.args.place.now (bindings_in c.args.installed.now) c.args.followers.now c.in_ok-others.others.items c.in_ok-changed.changed c.requires.apart c.in_ok-others.ensures.numbered c.in_ok-others.ensures.same c.requires.others
     (rest-alike c.args.tree.now (ahead c.evaluate_all.new.values c.args.tree.now) (bindings_in c.args.installed.now) c.args.place.now c.args.value c.requires.sound c.args.followers.now (assigned-differs c.evaluate_all.new.values.entries c.args.tree.now) values)
-    (subst (λ (ps : List Place). AreChanged c.args.tree.now (ahead c.evaluate_all.new.values c.args.tree.now) ps c.in_ok-changed.changed) c.deref.ensures.value c.in_ok-changed.ensures)
+    (subst (λ (fs : List Numbered). AreChanged c.args.tree.now (ahead c.evaluate_all.new.values c.args.tree.now) (c.args.place.now ∷ places_of fs) c.in_ok-changed.changed) c.deref.ensures.value c.in_ok-changed.ensures)
 
 pub returns-clause-objects : goal.returns-clause-objects
 returns-clause-objects c = assigned-differs c.evaluate_all.new.values.entries c.args.tree.now

@@ -1,23 +1,50 @@
-use Rattle.std.proofs.Common.{◌∙◌, arith}
-use Rattle.prop_bindings.specs.Bindings.{binding_at}
+use Rattle.std.proofs.Common.{◌≡◌, ◌∙◌, None, Some, List, Option, map, ap, sym, subst, arith}
+use Rattle.signatures.specs.declared.value.Value.{Value}
+use Rattle.object_tree.specs.declared.object.Object.{Object}
+use Rattle.object_tree.specs.Objects.{change_life, written}
+use Rattle.prop_bindings.specs.declared.binding.Binding.{Binding}
+use Rattle.prop_bindings.specs.declared.place.Place.{Place}
+use Rattle.prop_bindings.specs.Places.{values_in}
+use Rattle.prop_bindings.specs.Bindings.{binding_at, value_of}
+use Rattle.prop_bindings.specs.Changes.{valueless}
 use Rattle.prop_bindings.specs.code.Graph.{bindings_in}
+use Rattle.prop_bindings.specs.code.Parts.{StaySound, ahead, value_ahead}
+use Rattle.prop_bindings.proofs.Assigned.{ahead-env, ahead-more}
+use Rattle.prop_bindings.proofs.Evaluating.{evaluated-there, evaluated-values, evaluated-sound}
 use Rattle.prop_bindings.proofs.Passes.{pass-step}
-use Rattle.prop_bindings.proofs.Ranked.{in-at}
-use Rattle.prop_bindings.proofs.Walking.{next-is}
+use Rattle.prop_bindings.proofs.Ranked.{in-at, next-is}
+use Rattle.prop_bindings.proofs.Values.{written-differs}
 use Rattle.prop_bindings.proofs.evaluation.evaluate_all.Goals as goal
 
-pub evaluate-requires-clause-bound : goal.evaluate-requires-clause-bound
-evaluate-requires-clause-bound c = c.requires.bound c.place-item.result (in-at c.args.order.now c.loop-place.place-index c.place-item.result c.loop-place-test.true c.place-item.is)
+pub unreachable-requires : goal.unreachable-requires
+unreachable-requires c =
+    let bound = c.requires.bound c.place-item.result (in-at c.args.order.now c.loop-place.place-index c.place-item.result c.loop-place-test.true c.place-item.is) in
+    let none : binding_at (bindings_in c.args.installed.now) c.place-item.result ≡ None = sym c.in_default.ensures in
+    let some : binding_at (bindings_in c.args.installed.now) c.place-item.result ≡ Some bound.0 = bound.1 in
+    cc (none, some)
 
-pub evaluate-requires-clause-few : goal.evaluate-requires-clause-few
-evaluate-requires-clause-few c = omega (arith, c.requires.few, c.loop-place.invariant.counted, c.loop-place-test.true)
+pub value_of-requires : goal.value_of-requires
+value_of-requires c = omega (arith, c.requires.few, c.loop-place.invariant.counted, c.loop-place-test.true)
+
+pub unreachable-requires-in-Err-BadType : goal.unreachable-requires-in-Err-BadType
+unreachable-requires-in-Err-BadType c = evaluated-there (ahead c.loop-place.values c.args.tree.now) (bindings_in c.args.installed.now) c.place-item.result c.in-Some.reader.now (sym c.in-Some.ensures) c.loop-place.invariant.by
+    (subst (λ (e : Place → Option Value). value_of c.in-Some.reader.now e ≡ None) (ahead-env c.loop-place.values c.args.tree.now)
+    (subst (λ (z : Binding). value_of z (value_ahead c.loop-place.values c.args.tree.now) ≡ None) c.binding.ensures (rw c.in-Err-BadType.field-0-is at c.in-Err-BadType.ensures.value)))
 
 pub loop-place-preserved : goal.loop-place-preserved
 loop-place-preserved c =
+    let at : Place = c.place-item.result in
+    let b : Binding = c.in-Some.reader.now in
+    let bs : List Binding = bindings_in c.args.installed.now in
+    let old : List Object = ahead c.loop-place.values c.args.tree.now in
+    let more : ahead c.insert.new.self c.args.tree.now ≡ change_life at.object (written at.property c.in-Ok.value) old = ahead-more c.loop-place.values c.insert.new.self c.args.tree.now at c.in-Ok.value c.key.result c.key.ensures c.in_ok-insert.ensures.updates.0 in
+    let has : value_of b (values_in old) ≡ Some c.in-Ok.value = subst (λ (e : Place → Option Value). value_of b e ≡ Some c.in-Ok.value) (ahead-env c.loop-place.values c.args.tree.now) (subst (λ (z : Binding). value_of z (value_ahead c.loop-place.values c.args.tree.now) ≡ Some c.in-Ok.value) c.binding.ensures c.in-Ok.ensures.value) in
+    let stay : StaySound old (ahead c.insert.new.self c.args.tree.now) bs = subst (λ (xs : List Object). StaySound old xs bs) (sym more) (evaluated-sound old bs at b (sym c.in-Some.ensures) c.in-Ok.value has) in
     record {
-      passed = λ q. pass-step (binding_at (bindings_in c.args.installed.now)) c.place-item.result _ _ _ _ (next-is c.args.order.now c.loop-place.place-index c.place-item.result c.loop-place-test.true c.place-item.is) c.in_ok-evaluate.ensures.values q ∙ c.loop-place.invariant.passed q;
-      objects = c.in_ok-evaluate.ensures.objects ∙ c.loop-place.invariant.objects;
-      counted = omega (arith, c.in_ok-evaluate.ensures.counted, c.loop-place.invariant.counted);
-      by = (c.loop-place.invariant.by.0, c.in_ok-evaluate.ensures.sound c.loop-place.invariant.by.0 c.loop-place.invariant.by.1);
-      sound = λ p sound. c.in_ok-evaluate.ensures.sound p (c.loop-place.invariant.sound p sound);
+      passed = λ q. pass-step (binding_at bs) at _ _ _ _ (next-is c.args.order.now c.loop-place.place-index at c.loop-place-test.true c.place-item.is)
+          (λ r. ap (λ (xs : List Object). values_in xs r) more ∙ evaluated-values old bs at b (sym c.in-Some.ensures) c.in-Ok.value has c.loop-place.invariant.by r) q ∙ c.loop-place.invariant.passed q;
+      objects = ap (λ (xs : List Object). map valueless xs) more ∙ written-differs at.object at.property c.in-Ok.value old ∙ c.loop-place.invariant.objects;
+      counted = omega (arith, c.value_of.ensures.counted, c.loop-place.invariant.counted);
+      by = (c.loop-place.invariant.by.0, stay c.loop-place.invariant.by.0 c.loop-place.invariant.by.1);
+      sound = λ p sound. stay p (c.loop-place.invariant.sound p sound);
     }

@@ -2,7 +2,8 @@ use Rattle.std.proofs.Common.{◌≡◌, ◌∙◌, false, None, sym, subst}
 use Rattle.prop_bindings.specs.declared.place.Place.{Place}
 use Rattle.prop_bindings.specs.Places.{same_place}
 use Rattle.prop_bindings.specs.Bindings.{binding_at, without}
-use Rattle.prop_bindings.specs.code.Graph.{bindings_of, rank_of}
+use Rattle.prop_bindings.specs.code.Graph.{bindings_of}
+use Rattle.prop_bindings.specs.code.Ranks.{rank_of}
 use Rattle.prop_bindings.specs.code.Numbering.{Gains}
 use Rattle.prop_bindings.proofs.Graphs.{rank-rises, ranks-apart}
 use Rattle.prop_bindings.proofs.Keyed.{same_place-sym}

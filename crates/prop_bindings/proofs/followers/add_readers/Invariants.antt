@@ -1,6 +1,7 @@
 use Rattle.std.proofs.Common.{take}
 use Rattle.prop_bindings.specs.Bindings.{binding_at, without}
-use Rattle.prop_bindings.specs.code.Graph.{bindings_of, rank_of}
+use Rattle.prop_bindings.specs.code.Graph.{bindings_of}
+use Rattle.prop_bindings.specs.code.Ranks.{rank_of}
 use Rattle.prop_bindings.specs.code.Numbering.{Gains}
 use Rattle.prop_bindings.proofs.followers.add_readers.Given as goal
 

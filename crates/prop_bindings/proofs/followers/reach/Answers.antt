@@ -1,7 +1,8 @@
 use Rattle.std.proofs.Common.{◌<◌, ◌≤◌, length, List, refl, sym, subst, arith}
 use Rattle.prop_bindings.specs.declared.numbering.Numbered.{Numbered}
 use Rattle.prop_bindings.specs.Bindings.{binding_at, without}
-use Rattle.prop_bindings.specs.code.Graph.{bindings_of, rank_of, readers_at}
+use Rattle.prop_bindings.specs.code.Graph.{bindings_of, readers_at}
+use Rattle.prop_bindings.specs.code.Ranks.{rank_of}
 use Rattle.prop_bindings.specs.code.Numbering.{Gains, IsNumbering}
 use Rattle.prop_bindings.proofs.Graphs.{rank-short}
 use Rattle.prop_bindings.proofs.Numbers.{numbered-fits, taken-all}
@@ -33,7 +34,7 @@ loop-i-preserved c =
 pub loop-i-smaller : goal.loop-i-smaller
 loop-i-smaller c =
     let below : c.loop-i.i < length c.loop-i.found.items = omega (arith, c.loop-i-test.true, c.len.ensures) in
-    let most : length c.loop-i.found.items ≤ length c.args.graph.now.order.items = numbered-fits _ _ c.loop-i.found.items (rank-short c.args.graph.now c.requires) c.loop-i.invariant.reach.numbered in
+    let most : length c.loop-i.found.items ≤ c.args.graph.now.ranks.next = numbered-fits _ _ c.loop-i.found.items (rank-short c.args.graph.now c.requires) c.loop-i.invariant.reach.numbered in
     omega (arith, below, most)
 
 pub returns : goal.returns

@@ -1,6 +1,7 @@
 use Rattle.std.proofs.Common.{take, length, ◌≤◌, ◌-◌}
 use Rattle.prop_bindings.specs.Bindings.{binding_at, without}
-use Rattle.prop_bindings.specs.code.Graph.{bindings_of, rank_of}
+use Rattle.prop_bindings.specs.code.Graph.{bindings_of}
+use Rattle.prop_bindings.specs.code.Ranks.{rank_of}
 use Rattle.prop_bindings.specs.code.Numbering.{IsReach}
 use Rattle.prop_bindings.proofs.followers.reach.Given as goal
 
@@ -12,4 +13,4 @@ invariant-loop-i l = record {
 }
 
 abbrev pub decreases-loop-i : goal.decreases-loop-i
-decreases-loop-i l = length l.graph.order.items - l.i
+decreases-loop-i l = l.graph.ranks.next - l.i

@@ -1,19 +1,18 @@
-use Rattle.std.proofs.Common.{◌≡◌, List, ap, sym, subst, refl, ◌∙◌}
+use Rattle.std.proofs.Common.{◌≡◌, ◌∙◌, List, ap, refl, sym, subst}
+use Rattle.prop_bindings.specs.declared.place.Place.{Place}
 use Rattle.prop_bindings.specs.declared.binding.Binding.{Binding}
 use Rattle.prop_bindings.specs.Bindings.{binding_at, replaced}
 use Rattle.prop_bindings.specs.Counts.{Kept}
 use Rattle.prop_bindings.specs.code.Graph.{bindings_of}
-use Rattle.prop_bindings.specs.code.Orders.{IsOrder}
+use Rattle.prop_bindings.specs.code.Orders.{IsLater}
 use Rattle.prop_bindings.proofs.Short.{on-err}
 use Rattle.prop_bindings.proofs.bindings.Bindings.carry_out_bind.Goals as goal
 
-pub install-requires-clause-order : goal.install-requires-clause-order
-install-requires-clause-order c =
+pub install-requires-clause-later : goal.install-requires-clause-later
+install-requires-clause-later c =
     let read : bindings_of c.make_room.new.self ≡ c.args.self.now.installed = c.make_room.ensures.same ∙ ap (λ (k : Kept). k.installed) c.self.view_is in
-    subst (λ (bs : List Binding). IsOrder (binding_at (replaced bs c.args.planned.reader)) c.args.planned.order.items) (sym read) c.requires.may.order
-
-pub install-requires-clause-ranks : goal.install-requires-clause-ranks
-install-requires-clause-ranks c = c.requires.may.ranks
+    subst (λ (ps : List Place). IsLater (binding_at (bindings_of c.make_room.new.self)) (binding_at (replaced (bindings_of c.make_room.new.self) c.args.planned.reader)) c.args.planned.reader.target ps) (sym c.deref.ensures.value)
+    (subst (λ (bs : List Binding). IsLater (binding_at bs) (binding_at (replaced bs c.args.planned.reader)) c.args.planned.reader.target c.args.planned.moved.items) (sym read) c.requires.may.later)
 
 pub returns-clause-installed : goal.returns-clause-installed
 returns-clause-installed c =

@@ -1,35 +1,32 @@
-use Rattle.std.proofs.Common.{◌≡◌, ◌∙◌, ◌-◌, ◌++◌, ◌∷◌, [], ◌⊎◌, Option, false, suc, List, length, take, drop, ap, sym, subst, refl, arith}
+use Rattle.std.proofs.Common.{◌≡◌, ◌∙◌, ◌-◌, ◌∷◌, [], ◌⊎◌, Option, Some, false, suc, List, length, take, drop, ap, sym, subst, refl, arith}
 use Rattle.prop_bindings.specs.declared.place.Place.{Place}
 use Rattle.prop_bindings.specs.declared.binding.Binding.{Binding}
 use Rattle.prop_bindings.specs.declared.fault.BindFault.TheVariants.{BindingLoop}
-use Rattle.prop_bindings.specs.Places.{In}
-use Rattle.prop_bindings.specs.Bindings.{binding_at, Loop, replaced, reads_any}
+use Rattle.prop_bindings.specs.Places.{Distinct, In, values_in}
+use Rattle.prop_bindings.specs.Bindings.{binding_at, Loop, replaced, reads_any, without}
 use Rattle.prop_bindings.specs.Changes.{in_order, IsInstalled}
 use Rattle.prop_bindings.specs.Counts.{Kept, CountsFrom}
 use Rattle.prop_bindings.specs.Fits.{Agree}
 use Rattle.prop_bindings.specs.Plans.{after}
-use Rattle.prop_bindings.specs.code.Graph.{AreRanks, bindings_of}
-use Rattle.prop_bindings.specs.code.Orders.{AreBound, IsOrder, IsWalked, bound}
+use Rattle.prop_bindings.specs.code.Graph.{bindings_of}
+use Rattle.prop_bindings.specs.code.Orders.{AreBound, IsAffected, IsLater, bound, pass, update}
 use Rattle.prop_bindings.specs.code.Parts.{IsNotInstalled, IsSoundWith, loops}
-use Rattle.prop_bindings.proofs.Calling.{tail-is, install_loops, install_order, is_installed, is_later, agree_installed, fits-of}
+use Rattle.prop_bindings.proofs.Calling.{tail-is, install_loops, is_moved, is_installed, is_later, agree_installed, fits-of}
 use Rattle.prop_bindings.proofs.Counting.{changed-among, counts-later}
 use Rattle.prop_bindings.proofs.Evaluating.{rest-alike}
 use Rattle.prop_bindings.proofs.Replaced.{installed-is}
-use Rattle.prop_bindings.proofs.Settling.{walked-away, walked-bound}
+use Rattle.prop_bindings.proofs.Settling.{affected-away, affected-bound}
 use Rattle.prop_bindings.proofs.Short.{installs-short}
 use Rattle.prop_bindings.proofs.bindings.Bindings.plan_install.Goals as goal
 
 pub returns-in_err-reader-clause-value : goal.returns-in_err-reader-clause-value
 returns-in_err-reader-clause-value c = installs-short c.args.prepared.binding c.args.self.now.installed c.args.tree.now c.from_residual.result c.from_residual.ensures.1
 
-pub returns-in_err-walked-clause-value : goal.returns-in_err-walked-clause-value
-returns-in_err-walked-clause-value c = installs-short c.args.prepared.binding c.args.self.now.installed c.args.tree.now c.from_residual-in_err-walked.result c.from_residual-in_err-walked.ensures.1
+pub returns-in_err-followers-clause-value : goal.returns-in_err-followers-clause-value
+returns-in_err-followers-clause-value c = installs-short c.args.prepared.binding c.args.self.now.installed c.args.tree.now c.from_residual-in_err-followers.result c.from_residual-in_err-followers.ensures.1
 
-pub returns-in_err-extend_from_slice-clause-value : goal.returns-in_err-extend_from_slice-clause-value
-returns-in_err-extend_from_slice-clause-value c = installs-short c.args.prepared.binding c.args.self.now.installed c.args.tree.now c.from_residual-in_err-extend_from_slice.result c.from_residual-in_err-extend_from_slice.ensures.1
-
-pub returns-in_err-ranks-clause-value : goal.returns-in_err-ranks-clause-value
-returns-in_err-ranks-clause-value c = installs-short c.args.prepared.binding c.args.self.now.installed c.args.tree.now c.from_residual-in_err-ranks.result c.from_residual-in_err-ranks.ensures.1
+pub returns-in_err-moved-clause-value : goal.returns-in_err-moved-clause-value
+returns-in_err-moved-clause-value c = installs-short c.args.prepared.binding c.args.self.now.installed c.args.tree.now c.from_residual-in_err-moved.result c.from_residual-in_err-moved.ensures.1
 
 pub returns-in_err-planned-clause-value : goal.returns-in_err-planned-clause-value
 returns-in_err-planned-clause-value c = installs-short c.args.prepared.binding c.args.self.now.installed c.args.tree.now c.from_residual-in_err-planned.result c.from_residual-in_err-planned.ensures.1
@@ -38,13 +35,13 @@ pub returns-then-reads_any-clause-value : goal.returns-then-reads_any-clause-val
 returns-then-reads_any-clause-value c =
     let b : Binding = c.args.prepared.binding in
     let bs : List Binding = bindings_of c.self.inside.graph in
-    let order : List Place = c.self.inside.graph.order.items in
-    let sooner : List Place = c.in_ok-walked.walked.sooner.items in
-    let later : List Place = c.in_ok-walked.walked.later.items in
+    let reached : List Place = c.in_ok-followers.followers.items in
+    let later : List Place = c.in_ok-moved.moved.items in
     let same : c.in_ok-reader.reader ≡ b = c.in_ok-reader.ensures in
-    let walked : IsWalked (binding_at bs) b.target order sooner later = c.in_ok-walked.ensures in
+    let affected : IsAffected (binding_at (without b.target bs)) b.target reached = c.in_ok-followers.ensures in
+    let all : later ≡ b.target ∷ reached = c.in_ok-moved.ensures ∙ ap (λ (xs : List Place). b.target ∷ xs) c.deref.ensures.value in
     let view : bs ≡ c.args.self.now.installed = ap (λ (k : Kept). k.installed) c.self.view_is in
-    let chain = install_loops bs b order sooner later c.self.invariant.order walked c.deref.result.now c.deref.ensures.value (ap (λ (z : Binding). reads_any z c.deref.result.now) (sym same) ∙ sym c.reads_any.ensures ∙ c.if-reads_any.true) in
+    let chain = install_loops bs b reached later affected all (ap (λ (xs : List Place). reads_any b xs) (sym c.deref-2.ensures.value) ∙ ap (λ (z : Binding). reads_any z c.deref-2.result.now) (sym same) ∙ sym c.reads_any.ensures ∙ c.if-reads_any.true) in
     subst (λ (xs : List Binding). IsNotInstalled xs b BindingLoop) view (loops chain)
 
 pub plan-requires-clause-apart : goal.plan-requires-clause-apart
@@ -61,44 +58,57 @@ pub plan-requires-clause-bound : goal.plan-requires-clause-bound
 plan-requires-clause-bound c =
     let b : Binding = c.args.prepared.binding in
     let bs : List Binding = bindings_of c.self.inside.graph in
-    let order : List Place = c.self.inside.graph.order.items in
-    let sooner : List Place = c.in_ok-walked.walked.sooner.items in
-    let later : List Place = c.in_ok-walked.walked.later.items in
+    let reached : List Place = c.in_ok-followers.followers.items in
+    let later : List Place = c.in_ok-moved.moved.items in
     let same : c.in_ok-reader.reader ≡ b = c.in_ok-reader.ensures in
-    let walked : IsWalked (binding_at bs) b.target order sooner later = c.in_ok-walked.ensures in
-    let followers : List Place = take (length c.deref-4.result.now - 1) (drop 1 c.deref-4.result.now) in
-    let rest : followers ≡ walked.reached = tail-is c.deref-4.result.now later walked.reached b.target c.deref-4.ensures.value walked.is_later in
-    subst (λ (ps : List Place). AreBound (binding_at bs) ps) (sym rest) (walked-bound bs b.target order sooner later walked)
+    let affected : IsAffected (binding_at (without b.target bs)) b.target reached = c.in_ok-followers.ensures in
+    let all : later ≡ b.target ∷ reached = c.in_ok-moved.ensures ∙ ap (λ (xs : List Place). b.target ∷ xs) c.deref.ensures.value in
+    let followers : List Place = take (length c.deref-3.result.now - 1) (drop 1 c.deref-3.result.now) in
+    let rest : followers ≡ reached = tail-is c.deref-3.result.now later reached b.target c.deref-3.ensures.value all in
+    subst (λ (ps : List Place). AreBound (binding_at bs) ps) (sym rest) (affected-bound bs b.target reached affected)
+
+pub plan-requires-clause-distinct : goal.plan-requires-clause-distinct
+plan-requires-clause-distinct c =
+    let b : Binding = c.args.prepared.binding in
+    let bs : List Binding = bindings_of c.self.inside.graph in
+    let reached : List Place = c.in_ok-followers.followers.items in
+    let later : List Place = c.in_ok-moved.moved.items in
+    let affected : IsAffected (binding_at (without b.target bs)) b.target reached = c.in_ok-followers.ensures in
+    let all : later ≡ b.target ∷ reached = c.in_ok-moved.ensures ∙ ap (λ (xs : List Place). b.target ∷ xs) c.deref.ensures.value in
+    let followers : List Place = take (length c.deref-3.result.now - 1) (drop 1 c.deref-3.result.now) in
+    let rest : followers ≡ reached = tail-is c.deref-3.result.now later reached b.target c.deref-3.ensures.value all in
+    subst Distinct (sym rest) affected.distinct
 
 pub plan-requires-clause-others : goal.plan-requires-clause-others
 plan-requires-clause-others c =
     let b : Binding = c.args.prepared.binding in
     let bs : List Binding = bindings_of c.self.inside.graph in
-    let order : List Place = c.self.inside.graph.order.items in
-    let sooner : List Place = c.in_ok-walked.walked.sooner.items in
-    let later : List Place = c.in_ok-walked.walked.later.items in
+    let reached : List Place = c.in_ok-followers.followers.items in
+    let later : List Place = c.in_ok-moved.moved.items in
     let same : c.in_ok-reader.reader ≡ b = c.in_ok-reader.ensures in
-    let walked : IsWalked (binding_at bs) b.target order sooner later = c.in_ok-walked.ensures in
-    let followers : List Place = take (length c.deref-4.result.now - 1) (drop 1 c.deref-4.result.now) in
-    let rest : followers ≡ walked.reached = tail-is c.deref-4.result.now later walked.reached b.target c.deref-4.ensures.value walked.is_later in
-    λ i. walked-away bs b.target order sooner later walked (subst (λ (ps : List Place). In b.target ps) rest i)
+    let affected : IsAffected (binding_at (without b.target bs)) b.target reached = c.in_ok-followers.ensures in
+    let all : later ≡ b.target ∷ reached = c.in_ok-moved.ensures ∙ ap (λ (xs : List Place). b.target ∷ xs) c.deref.ensures.value in
+    let followers : List Place = take (length c.deref-3.result.now - 1) (drop 1 c.deref-3.result.now) in
+    let rest : followers ≡ reached = tail-is c.deref-3.result.now later reached b.target c.deref-3.ensures.value all in
+    λ i. affected-away bs b.target reached affected (subst (λ (ps : List Place). In b.target ps) rest i)
 
 pub returns-clause-value : goal.returns-clause-value
 returns-clause-value c =
     let b : Binding = c.args.prepared.binding in
     let bs : List Binding = bindings_of c.self.inside.graph in
-    let order : List Place = c.self.inside.graph.order.items in
-    let sooner : List Place = c.in_ok-walked.walked.sooner.items in
-    let later : List Place = c.in_ok-walked.walked.later.items in
+    let reached : List Place = c.in_ok-followers.followers.items in
+    let later : List Place = c.in_ok-moved.moved.items in
     let same : c.in_ok-reader.reader ≡ b = c.in_ok-reader.ensures in
-    let walked : IsWalked (binding_at bs) b.target order sooner later = c.in_ok-walked.ensures in
-    let free : reads_any b c.deref.result.now ≡ false = ap (λ (z : Binding). reads_any z c.deref.result.now) (sym same) ∙ sym c.reads_any.ensures ∙ c.if-reads_any.false in
-    let followers : List Place = take (length c.deref-4.result.now - 1) (drop 1 c.deref-4.result.now) in
-    let rest : followers ≡ walked.reached = tail-is c.deref-4.result.now later walked.reached b.target c.deref-4.ensures.value walked.is_later in
+    let affected : IsAffected (binding_at (without b.target bs)) b.target reached = c.in_ok-followers.ensures in
+    let all : later ≡ b.target ∷ reached = c.in_ok-moved.ensures ∙ ap (λ (xs : List Place). b.target ∷ xs) c.deref.ensures.value in
+    let free : reads_any b later ≡ false = ap (λ (xs : List Place). reads_any b xs) (sym c.deref-2.ensures.value) ∙ ap (λ (z : Binding). reads_any z c.deref-2.result.now) (sym same) ∙ sym c.reads_any.ensures ∙ c.if-reads_any.false in
+    let followers : List Place = take (length c.deref-3.result.now - 1) (drop 1 c.deref-3.result.now) in
+    let rest : followers ≡ reached = tail-is c.deref-3.result.now later reached b.target c.deref-3.ensures.value all in
     let view : bs ≡ c.args.self.now.installed = ap (λ (k : Kept). k.installed) c.self.view_is in
     let agree = subst (λ (xs : List Binding). Agree c.requires.agree.0 c.args.tree.now xs) (sym view) c.requires.agree.1 in
     let plan = c.in_ok-planned.planned in
-    let done = is_installed bs b order sooner later c.self.invariant.order walked c.deref.result.now c.deref.ensures.value free c.args.tree.now (after plan c.args.tree.now) c.args.prepared.value followers agree.settled c.requires.agree.4 rest c.in_ok-planned.ensures.values
+    let follows : (q : Place) → values_in (after plan c.args.tree.now) q ≡ pass (binding_at bs) reached (update (values_in c.args.tree.now) b.target (Some c.args.prepared.value)) q = λ q. c.in_ok-planned.ensures.values q ∙ ap (λ (xs : List Place). pass (binding_at bs) xs (update (values_in c.args.tree.now) b.target (Some c.args.prepared.value)) q) rest in
+    let done = is_installed bs b reached later affected all free c.args.tree.now (after plan c.args.tree.now) c.args.prepared.value agree.settled agree.acyclic c.requires.agree.4 follows
     (replaced bs c.in_ok-reader.reader) plan.changed (ap (λ (z : Binding). replaced bs z) same) c.in_ok-planned.ensures.objects c.in_ok-planned.ensures.changed in
     record {
       binding = same;
@@ -110,37 +120,35 @@ pub returns-clause-may : goal.returns-clause-may
 returns-clause-may c =
     let b : Binding = c.args.prepared.binding in
     let bs : List Binding = bindings_of c.self.inside.graph in
-    let order : List Place = c.self.inside.graph.order.items in
-    let sooner : List Place = c.in_ok-walked.walked.sooner.items in
-    let later : List Place = c.in_ok-walked.walked.later.items in
+    let reached : List Place = c.in_ok-followers.followers.items in
+    let later : List Place = c.in_ok-moved.moved.items in
     let same : c.in_ok-reader.reader ≡ b = c.in_ok-reader.ensures in
-    let walked : IsWalked (binding_at bs) b.target order sooner later = c.in_ok-walked.ensures in
-    let free : reads_any b c.deref.result.now ≡ false = ap (λ (z : Binding). reads_any z c.deref.result.now) (sym same) ∙ sym c.reads_any.ensures ∙ c.if-reads_any.false in
+    let affected : IsAffected (binding_at (without b.target bs)) b.target reached = c.in_ok-followers.ensures in
+    let all : later ≡ b.target ∷ reached = c.in_ok-moved.ensures ∙ ap (λ (xs : List Place). b.target ∷ xs) c.deref.ensures.value in
+    let free : reads_any b later ≡ false = ap (λ (xs : List Place). reads_any b xs) (sym c.deref-2.ensures.value) ∙ ap (λ (z : Binding). reads_any z c.deref-2.result.now) (sym same) ∙ sym c.reads_any.ensures ∙ c.if-reads_any.false in
     let view : bs ≡ c.args.self.now.installed = ap (λ (k : Kept). k.installed) c.self.view_is in
-    let all : c.extend_from_slice.new.self.items ≡ sooner ++ later = c.in_ok-extend_from_slice.ensures.items ∙ ap (λ (xs : List Place). sooner ++ xs) c.deref-2.ensures.value in
-    let placed = install_order bs b order sooner later c.self.invariant.order walked c.deref.result.now c.deref.ensures.value free c.extend_from_slice.new.self.items all in
     record {
-      order = subst (λ (xs : List Binding). IsOrder (binding_at (replaced xs c.in_ok-reader.reader)) c.extend_from_slice.new.self.items) view
-          (subst (λ (z : Binding). IsOrder (binding_at (replaced bs z)) c.extend_from_slice.new.self.items) (sym same) placed);
-      ranks = subst (λ (ps : List Place). AreRanks ps c.in_ok-ranks.ranks) c.deref-3.ensures.value c.in_ok-ranks.ensures;
+      later = subst (λ (xs : List Binding). IsLater (binding_at xs) (binding_at (replaced xs c.in_ok-reader.reader)) c.in_ok-reader.reader.target later) view
+          (subst (λ (z : Binding). IsLater (binding_at bs) (binding_at (replaced bs z)) z.target later) (sym same) (is_moved bs b reached later affected all free));
     }
 
 pub returns-clause-agree : goal.returns-clause-agree
 returns-clause-agree c = λ p agree fit joined.
     let b : Binding = c.args.prepared.binding in
     let bs : List Binding = bindings_of c.self.inside.graph in
-    let order : List Place = c.self.inside.graph.order.items in
-    let sooner : List Place = c.in_ok-walked.walked.sooner.items in
-    let later : List Place = c.in_ok-walked.walked.later.items in
+    let reached : List Place = c.in_ok-followers.followers.items in
+    let later : List Place = c.in_ok-moved.moved.items in
     let same : c.in_ok-reader.reader ≡ b = c.in_ok-reader.ensures in
-    let walked : IsWalked (binding_at bs) b.target order sooner later = c.in_ok-walked.ensures in
-    let free : reads_any b c.deref.result.now ≡ false = ap (λ (z : Binding). reads_any z c.deref.result.now) (sym same) ∙ sym c.reads_any.ensures ∙ c.if-reads_any.false in
-    let followers : List Place = take (length c.deref-4.result.now - 1) (drop 1 c.deref-4.result.now) in
-    let rest : followers ≡ walked.reached = tail-is c.deref-4.result.now later walked.reached b.target c.deref-4.ensures.value walked.is_later in
+    let affected : IsAffected (binding_at (without b.target bs)) b.target reached = c.in_ok-followers.ensures in
+    let all : later ≡ b.target ∷ reached = c.in_ok-moved.ensures ∙ ap (λ (xs : List Place). b.target ∷ xs) c.deref.ensures.value in
+    let free : reads_any b later ≡ false = ap (λ (xs : List Place). reads_any b xs) (sym c.deref-2.ensures.value) ∙ ap (λ (z : Binding). reads_any z c.deref-2.result.now) (sym same) ∙ sym c.reads_any.ensures ∙ c.if-reads_any.false in
+    let followers : List Place = take (length c.deref-3.result.now - 1) (drop 1 c.deref-3.result.now) in
+    let rest : followers ≡ reached = tail-is c.deref-3.result.now later reached b.target c.deref-3.ensures.value all in
     let view : bs ≡ c.args.self.now.installed = ap (λ (k : Kept). k.installed) c.self.view_is in
     let old = subst (λ (xs : List Binding). Agree p c.args.tree.now xs) (sym view) agree in
     let plan = c.in_ok-planned.planned in
-    let done = agree_installed bs b order sooner later c.self.invariant.order walked c.deref.result.now c.deref.ensures.value free c.args.tree.now (after plan c.args.tree.now) c.args.prepared.value followers old.settled c.requires.agree.4 rest c.in_ok-planned.ensures.values
+    let follows : (q : Place) → values_in (after plan c.args.tree.now) q ≡ pass (binding_at bs) reached (update (values_in c.args.tree.now) b.target (Some c.args.prepared.value)) q = λ q. c.in_ok-planned.ensures.values q ∙ ap (λ (xs : List Place). pass (binding_at bs) xs (update (values_in c.args.tree.now) b.target (Some c.args.prepared.value)) q) rest in
+    let done = agree_installed bs b reached later affected all free c.args.tree.now (after plan c.args.tree.now) c.args.prepared.value old.settled old.acyclic c.requires.agree.4 follows
     p (replaced bs c.in_ok-reader.reader) (ap (λ (z : Binding). replaced bs z) same) c.in_ok-planned.ensures.objects old fit joined
     (c.in_ok-planned.ensures.sound p (old.typed, old.fit) (fits-of p c.args.tree.now b c.args.prepared.value fit c.requires.agree.4)) in
     subst (λ (xs : List Binding). Agree p (after plan c.args.tree.now) (replaced xs c.in_ok-reader.reader)) view done
@@ -149,29 +157,30 @@ pub returns-clause-counted : goal.returns-clause-counted
 returns-clause-counted c =
     let b : Binding = c.args.prepared.binding in
     let bs : List Binding = bindings_of c.self.inside.graph in
-    let order : List Place = c.self.inside.graph.order.items in
-    let sooner : List Place = c.in_ok-walked.walked.sooner.items in
-    let later : List Place = c.in_ok-walked.walked.later.items in
+    let reached : List Place = c.in_ok-followers.followers.items in
+    let later : List Place = c.in_ok-moved.moved.items in
     let same : c.in_ok-reader.reader ≡ b = c.in_ok-reader.ensures in
-    let walked : IsWalked (binding_at bs) b.target order sooner later = c.in_ok-walked.ensures in
-    let free : reads_any b c.deref.result.now ≡ false = ap (λ (z : Binding). reads_any z c.deref.result.now) (sym same) ∙ sym c.reads_any.ensures ∙ c.if-reads_any.false in
-    let followers : List Place = take (length c.deref-4.result.now - 1) (drop 1 c.deref-4.result.now) in
-    let rest : followers ≡ walked.reached = tail-is c.deref-4.result.now later walked.reached b.target c.deref-4.ensures.value walked.is_later in
+    let affected : IsAffected (binding_at (without b.target bs)) b.target reached = c.in_ok-followers.ensures in
+    let all : later ≡ b.target ∷ reached = c.in_ok-moved.ensures ∙ ap (λ (xs : List Place). b.target ∷ xs) c.deref.ensures.value in
+    let free : reads_any b later ≡ false = ap (λ (xs : List Place). reads_any b xs) (sym c.deref-2.ensures.value) ∙ ap (λ (z : Binding). reads_any z c.deref-2.result.now) (sym same) ∙ sym c.reads_any.ensures ∙ c.if-reads_any.false in
+    let followers : List Place = take (length c.deref-3.result.now - 1) (drop 1 c.deref-3.result.now) in
+    let rest : followers ≡ reached = tail-is c.deref-3.result.now later reached b.target c.deref-3.ensures.value all in
     let view : bs ≡ c.args.self.now.installed = ap (λ (k : Kept). k.installed) c.self.view_is in
     let agree = subst (λ (xs : List Binding). Agree c.requires.agree.0 c.args.tree.now xs) (sym view) c.requires.agree.1 in
     let plan = c.in_ok-planned.planned in
     let new = after plan c.args.tree.now in
     let values = c.in_ok-planned.ensures.values in
     let F = binding_at bs in
-    let later-is = is_later bs b order sooner later c.self.invariant.order walked c.deref.result.now c.deref.ensures.value free c.args.tree.now new c.args.prepared.value followers agree.settled c.requires.agree.4 rest values in
-    let done = is_installed bs b order sooner later c.self.invariant.order walked c.deref.result.now c.deref.ensures.value free c.args.tree.now new c.args.prepared.value followers agree.settled c.requires.agree.4 rest values
+    let follows : (q : Place) → values_in (after plan c.args.tree.now) q ≡ pass (binding_at bs) reached (update (values_in c.args.tree.now) b.target (Some c.args.prepared.value)) q = λ q. c.in_ok-planned.ensures.values q ∙ ap (λ (xs : List Place). pass (binding_at bs) xs (update (values_in c.args.tree.now) b.target (Some c.args.prepared.value)) q) rest in
+    let later-is = is_later bs b reached later affected all free in
+    let done = is_installed bs b reached later affected all free c.args.tree.now new c.args.prepared.value agree.settled agree.acyclic c.requires.agree.4 follows
     (replaced bs b) plan.changed refl c.in_ok-planned.ensures.objects c.in_ok-planned.ensures.changed in
     let alike = rest-alike c.args.tree.now new bs b.target c.args.prepared.value (c.requires.agree.0, (agree.typed, agree.fit), fits-of c.requires.agree.0 c.args.tree.now b c.args.prepared.value c.requires.agree.2 c.requires.agree.4) followers c.in_ok-planned.ensures.objects values in
     let among = changed-among c.args.tree.now new (in_order (b.target ∷ []) bs) plan.changed b.target followers c.in_ok-planned.ensures.changed alike in
     let count : plan.evaluated ≡ suc (length followers) = omega (arith, c.in_ok-planned.ensures.counted, c.requires.once) in
     let counts : CountsFrom (bound F b.target b) b.target plan.changed plan.evaluated =
     subst (λ (fs : List Place). plan.evaluated ≡ suc (length fs) → ((q : Place) → In q plan.changed → (b.target ≡ q) ⊎ In q fs) → CountsFrom (bound F b.target b) b.target plan.changed plan.evaluated) (sym rest)
-    (λ n some. counts-later F (bound F b.target b) b.target walked.reached plan.changed plan.evaluated later-is (subst (λ (G : Place → Option Binding). ¬ Loop G) (installed-is bs b) done.acyclic) some n) count among in
+    (λ n some. counts-later F (bound F b.target b) b.target reached plan.changed plan.evaluated later-is (subst (λ (G : Place → Option Binding). ¬ Loop G) (installed-is bs b) done.acyclic) some n) count among in
     subst (λ (z : Binding). CountsFrom (binding_at (replaced c.args.self.now.installed z)) z.target plan.changed plan.evaluated) (sym same)
     (subst (λ (xs : List Binding). CountsFrom (binding_at (replaced xs b)) b.target plan.changed plan.evaluated) view
     (subst (λ (G : Place → Option Binding). CountsFrom G b.target plan.changed plan.evaluated) (sym (installed-is bs b)) counts))

@@ -3,8 +3,11 @@ use Rattle.prop_bindings.specs.declared.binding.Binding.{Binding}
 use Rattle.prop_bindings.specs.Bindings.{binding_at}
 use Rattle.prop_bindings.specs.Counts.{Kept}
 use Rattle.prop_bindings.specs.Laws.{Determines}
-use Rattle.prop_bindings.proofs.Passes.{determines}
+use Rattle.prop_bindings.specs.code.Graph.{bindings_of}
+use Rattle.prop_bindings.proofs.Acyclic.{acyclic_determine}
+use Rattle.prop_bindings.proofs.Ranking.{ranked-acyclic}
 use Rattle.prop_bindings.proofs.bindings.Bindings.settle_once.Goals as goal
 
 pub returns : goal.returns
-returns c = subst (λ (bs : List Binding). Determines (binding_at bs)) (ap (λ (k : Kept). k.installed) c.self.view_is) (determines _ c.self.inside.graph.order.items c.self.invariant.order)
+returns c = subst (λ (bs : List Binding). Determines (binding_at bs)) (ap (λ (k : Kept). k.installed) c.self.view_is)
+    (acyclic_determine (bindings_of c.self.inside.graph) c.self.invariant.apart (ranked-acyclic _ _ _ c.self.invariant.ranks))

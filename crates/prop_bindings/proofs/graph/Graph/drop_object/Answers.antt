@@ -13,6 +13,6 @@ returns-then-not-contains-clause-left c =
     sym (none-dropped c.args.object (bindings_of c.args.self.now) (contains eqb c.args.self.now.touched c.args.object) c.requires.apart (λ q b some t. c.requires.touched q b c.args.object some t) out)
 
 pub returns-clause-graph : goal.returns-clause-graph
-returns-clause-graph c = untouched-graph c.drop_touching.new.self _ c.args.object c.drop_touching.ensures.graph refl refl refl refl
+returns-clause-graph c = untouched-graph c.drop_touching.new.self _ c.args.object c.drop_touching.ensures.graph refl refl refl
     (λ k apart. c.swap_remove.ensures.updates.2 k (ap (λ (o : ℕ). eqb o k) c.number-2.ensures ∙ apart))
     (λ q b some. left-untouched c.args.object (bindings_of c.args.self.now) q b (ap (λ (xs : List Binding). binding_at xs q) (sym c.drop_touching.ensures.left) ∙ some))

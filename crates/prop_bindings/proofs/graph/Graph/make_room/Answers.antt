@@ -1,20 +1,23 @@
-use Rattle.std.proofs.Common.{refl, subst}
+use Rattle.std.proofs.Common.{subst}
 use Rattle.prop_bindings.specs.declared.binding.Binding.{Binding}
 use Rattle.prop_bindings.specs.code.Graph.{AreTouched}
 use Rattle.prop_bindings.proofs.Graphs.{roomier-graph}
 use Rattle.prop_bindings.proofs.graph.Graph.make_room.Goals as goal
 
 pub returns-in_err-reserve-clause-graph : goal.returns-in_err-reserve-clause-graph
-returns-in_err-reserve-clause-graph c = roomier-graph c.args.self.now _ c.requires (c.reserve.ensures.keyed c.requires.keyed) c.reserve.ensures.same refl refl (λ o t. t) (λ m q i. i)
+returns-in_err-reserve-clause-graph c = roomier-graph c.args.self.now _ c.requires.graph (c.reserve.ensures.keyed c.requires.graph.keyed) c.reserve.ensures.same (λ F all. all) (λ o t. t) (λ m q i. i)
+
+pub returns-in_err-reserve-2-clause-graph : goal.returns-in_err-reserve-2-clause-graph
+returns-in_err-reserve-2-clause-graph c = roomier-graph c.args.self.now _ c.requires.graph (c.reserve.ensures.keyed c.requires.graph.keyed) c.reserve.ensures.same c.reserve-2.ensures.kept (λ o t. t) (λ m q i. i)
 
 pub returns-in_err-enlist-clause-graph : goal.returns-in_err-enlist-clause-graph
-returns-in_err-enlist-clause-graph c = roomier-graph c.args.self.now _ c.requires (c.reserve.ensures.keyed c.requires.keyed) c.reserve.ensures.same refl refl (λ o t. t) c.enlist.ensures.kept
+returns-in_err-enlist-clause-graph c = roomier-graph c.args.self.now _ c.requires.graph (c.reserve.ensures.keyed c.requires.graph.keyed) c.reserve.ensures.same c.reserve-2.ensures.kept (λ o t. t) c.enlist.ensures.kept
 
 pub returns-clause-graph : goal.returns-clause-graph
-returns-clause-graph c = roomier-graph c.args.self.now _ c.requires (c.reserve.ensures.keyed c.requires.keyed) c.reserve.ensures.same refl refl c.touch.ensures.kept c.enlist.ensures.kept
+returns-clause-graph c = roomier-graph c.args.self.now _ c.requires.graph (c.reserve.ensures.keyed c.requires.graph.keyed) c.reserve.ensures.same c.reserve-2.ensures.kept c.touch.ensures.kept c.enlist.ensures.kept
 
 pub returns-in_err-touch-clause-graph : goal.returns-in_err-touch-clause-graph
-returns-in_err-touch-clause-graph c = roomier-graph c.args.self.now _ c.requires (c.reserve.ensures.keyed c.requires.keyed) c.reserve.ensures.same refl refl c.touch.ensures.kept c.enlist.ensures.kept
+returns-in_err-touch-clause-graph c = roomier-graph c.args.self.now _ c.requires.graph (c.reserve.ensures.keyed c.requires.graph.keyed) c.reserve.ensures.same c.reserve-2.ensures.kept c.touch.ensures.kept c.enlist.ensures.kept
 
 pub returns-clause-touched : goal.returns-clause-touched
 returns-clause-touched c = subst (λ (b : Binding). AreTouched c.touch.new.touched b) c.binding.ensures c.in_ok-touch.ensures.touched
