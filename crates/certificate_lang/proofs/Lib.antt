@@ -1,4 +1,4 @@
-pub mod Names
+pub mod Items
 pub mod Nodes
 pub mod OneTree
 pub mod Rows

@@ -1,21 +1,26 @@
 -- Reading nodes and lines from their parts.
 use Rattle.std.proofs.Common.{ℕ, ◌≡◌, Result, Ok, Err, List, [], ◌∷◌, map, refl, sym, ◌∙◌, ap}
 use Rattle.signatures.specs.declared.qtype.QType.{QType}
-use Rattle.texts.specs.Cursor.{NotAt}
+use Rattle.texts.specs.code.Cursor.{NotAt}
 use Rattle.texts.specs.Lists.{spell_each, spell_listed}
 use Rattle.texts.specs.Literals.{greatest}
-use Rattle.texts.specs.Numerals.{spell_numeral, value_of, ReadsNumeral}
-use Rattle.texts.specs.Reading.{Found, EndsAnywhere, IsAtEnd, spell_name}
+use Rattle.texts.specs.Numerals.{spell_numeral, value_of}
+use Rattle.texts.specs.code.Numerals.{ReadsNumeral}
+use Rattle.texts.specs.code.Reading.{Found, EndsAnywhere, IsAtEnd}
+use Rattle.texts.specs.Reading.{spell_name}
 use Rattle.texts.specs.Signatures.{TypeReading, spell_type, tree_of_type, sig}
 use Rattle.texts.specs.declared.fault.ParseFault.{ParseFault}
 use Rattle.texts.specs.declared.symbol.Symbol.TheVariants.{Open, Dot, Tilde}
 use Rattle.texts.specs.declared.token.Token.{Token}
 use Rattle.texts.specs.declared.token.Token.TheVariants as token
 use Rattle.texts.proofs.Signatures.{sig_found}
+use Rattle.texts.proofs.Underway.{None}
 use Rattle.certificate_lang.specs.declared.certificate.MemberName.{MemberName}
 use Rattle.certificate_lang.specs.declared.certificate.MemberName.TheVariants as member
 use Rattle.certificate_lang.specs.declared.certificate.NodeName.{NodeName}
-use Rattle.certificate_lang.specs.Grammar.{spell_setting, IsSetting, ReadsSetting, MemberReading, method, property, spell_member, tree_of_member, NodeReading, destruction, of_class, spell_node, tree_of_node, EndsNode, LineReading, spell_line, tree_of_line}
+use Rattle.certificate_lang.specs.declared.certificate.SetItem.{SetItem}
+use Rattle.certificate_lang.specs.declared.version.Version.{Version}
+use Rattle.certificate_lang.specs.Grammar.{spell_setting, IsSetting, ReadsSetting, MemberReading, method, property, spell_member, tree_of_member, NodeReading, destruction, of_class, spell_node, tree_of_node, EndsNode, spell_item, tree_of_item, LineReading, spell_line, tree_of_line}
 
 -- a list in parentheses begins with one
 pub listed_opens : (ts : List TypeReading) (rest : List Token) → (after : List Token) × (spell_listed spell_type ts rest ≡ token.Symbol Open ∷ after)
@@ -102,14 +107,20 @@ module _ {before between at_member after : List Token} {class : List ℕ} {m : M
 
 -- ---- lines
 
-module _ {before between at_names after : List Token} {node : NodeName} {rank : ℕ} {destroys : List (List ℕ)} (n : Found spell_node tree_of_node EndsNode before node between) (k : Found (spell_numeral greatest) (λ n. value_of n.digits) EndsAnywhere between rank at_names) (d : Found (spell_each spell_name) (λ names. names) IsAtEnd at_names destroys after) where
-  line_only : (r : LineReading) (rest : List Token) → IsAtEnd rest → before ≡ spell_line r rest → after ≡ rest
+module _ {v : Version} {before between at_items : List Token} {node : NodeName} {rank : ℕ} (n : Found spell_node tree_of_node EndsNode before node between) (k : Found (spell_numeral greatest) (λ n. value_of n.digits) EndsAnywhere between rank at_items) where
+  pub no_line : None (spell_each (spell_item v)) IsAtEnd at_items → None (spell_line v) IsAtEnd before
+  no_line none r rest ends g =
+      let at_rank = n.only r.node (spell_numeral greatest r.rank (spell_each (spell_item v) r.destroys rest)) (λ more e. cc) g in
+      none r.destroys rest ends (k.only r.rank (spell_each (spell_item v) r.destroys rest) tt at_rank)
+
+module _ {v : Version} {before between at_items after : List Token} {node : NodeName} {rank : ℕ} {destroys : List SetItem} (n : Found spell_node tree_of_node EndsNode before node between) (k : Found (spell_numeral greatest) (λ n. value_of n.digits) EndsAnywhere between rank at_items) (d : Found (spell_each (spell_item v)) (map (tree_of_item v)) IsAtEnd at_items destroys after) where
+  line_only : (r : LineReading v) (rest : List Token) → IsAtEnd rest → before ≡ spell_line v r rest → after ≡ rest
   line_only r rest ends g =
-      let at_rank = n.only r.node (spell_numeral greatest r.rank (spell_each spell_name r.destroys rest)) (λ more e. cc) g in
-      let at_rest = k.only r.rank (spell_each spell_name r.destroys rest) tt at_rank in
+      let at_rank = n.only r.node (spell_numeral greatest r.rank (spell_each (spell_item v) r.destroys rest)) (λ more e. cc) g in
+      let at_rest = k.only r.rank (spell_each (spell_item v) r.destroys rest) tt at_rank in
       d.only r.destroys rest ends at_rest
 
-  pub line_found : Found spell_line tree_of_line IsAtEnd before (record { node = node; rank = rank; destroys = destroys }) after
+  pub line_found : Found (spell_line v) (tree_of_line v) IsAtEnd before (record { node = node; rank = rank; destroys = destroys }) after
   line_found =
       let s = n.spelled in let t = k.spelled in let u = d.spelled in
       let x = n.tree_is in let y = k.tree_is in let z = d.tree_is in

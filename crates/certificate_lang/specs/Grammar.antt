@@ -2,17 +2,18 @@
 -- (docs/certificate.md, "The certificate").
 --
 --   setting = Name number                    "certificate" and "bound" are names
---   line    = node number {Name}
+--   line    = node number {item}
 --   node    = "~" Name | Name "." member
 --   member  = sig | Name
+--   item    = Name                       in version 1
 --
 -- A number is at most 2147483647.
-use Rattle.std.specs.Prelude.{◌≡◌, ℕ, List, [], ◌∷◌, Result}
-use Rattle.texts.specs.Cursor.{NotAt}
+use Rattle.std.specs.Prelude.{◌≡◌, ℕ, List, [], ◌∷◌, map, Result}
+use Rattle.texts.specs.code.Cursor.{NotAt}
 use Rattle.texts.specs.Lists.{spell_each}
 use Rattle.texts.specs.Literals.{greatest}
 use Rattle.texts.specs.Numerals.{Numeral, spell_numeral, value_of}
-use Rattle.texts.specs.Reading.{Reads, EndsAnywhere, IsAtEnd, spell_name}
+use Rattle.texts.specs.code.Reading.{Reads, EndsAnywhere, IsAtEnd}
 use Rattle.texts.specs.Signatures.{SigReading, spell_sig, tree_of_sig, HasFewTypes, HasPlainReference}
 use Rattle.texts.specs.declared.fault.ParseFault.{ParseFault}
 use Rattle.texts.specs.declared.symbol.Symbol.TheVariants.{Open, Dot, Tilde}
@@ -21,7 +22,10 @@ use Rattle.texts.specs.declared.token.Token.TheVariants as token
 use Rattle.certificate_lang.specs.declared.certificate.MemberName.{MemberName}
 use Rattle.certificate_lang.specs.declared.certificate.MemberName.TheVariants as member
 use Rattle.certificate_lang.specs.declared.certificate.NodeName.{NodeName}
+use Rattle.certificate_lang.specs.declared.certificate.SetItem.{SetItem}
+use Rattle.certificate_lang.specs.declared.certificate.SetItem.TheVariants.{Class}
 use Rattle.certificate_lang.specs.declared.certificate.Line.{Line}
+use Rattle.certificate_lang.specs.declared.version.Version.{Version}
 
 -- ---- a name with a number
 abbrev pub spell_setting : List ℕ → Numeral greatest → List Token → List Token
@@ -62,17 +66,29 @@ tree_of_node (of_class class m) = record { class = class; member = tree_of_membe
 abbrev pub EndsNode : List Token → Type 0
 EndsNode after = NotAt Open after
 
+-- ---- items of destroy sets, which the version tells
+pub data ItemReading (version : Version) : Type 0 where
+  class : (name : List ℕ) → ItemReading version
+
+abbrev pub spell_item : (version : Version) → ItemReading version → List Token → List Token
+spell_item version (class name) after = token.Name name ∷ after
+
+abbrev pub tree_of_item : (version : Version) → ItemReading version → SetItem
+tree_of_item version (class name) = Class name
+
 -- ---- lines of nodes
-pub record LineReading : Type 0 where
+pub record LineReading (version : Version) : Type 0 where
   pub node : NodeReading
   pub rank : Numeral greatest
-  pub destroys : List (List ℕ)
+  pub destroys : List (ItemReading version)
 
-abbrev pub spell_line : LineReading → List Token → List Token
-spell_line r after = spell_node r.node (spell_numeral greatest r.rank (spell_each spell_name r.destroys after))
+abbrev pub spell_line : (version : Version) → LineReading version → List Token → List Token
+spell_line version r after =
+    spell_node r.node (spell_numeral greatest r.rank (spell_each (spell_item version) r.destroys after))
 
-abbrev pub tree_of_line : LineReading → Line
-tree_of_line r = record { node = tree_of_node r.node; rank = value_of r.rank.digits; destroys = r.destroys }
+abbrev pub tree_of_line : (version : Version) → LineReading version → Line
+tree_of_line version r =
+    record { node = tree_of_node r.node; rank = value_of r.rank.digits; destroys = map (tree_of_item version) r.destroys }
 
 -- a method has at most 8 parameters
 abbrev pub HasFewParameters : MemberName → Type 0
@@ -81,10 +97,10 @@ HasFewParameters (member.Property name) = Unit {0}
 HasFewParameters member.Destruction = Unit {0}
 
 -- the tokens are this line
-pub record IsNodeLine (tokens : List Token) (line : Line) : Type 0 where
-  pub reading : LineReading
-  pub spelled : tokens ≡ spell_line reading []
-  pub tree : tree_of_line reading ≡ line
+pub record IsNodeLine (version : Version) (tokens : List Token) (line : Line) : Type 0 where
+  pub reading : LineReading version
+  pub spelled : tokens ≡ spell_line version reading []
+  pub tree : tree_of_line version reading ≡ line
   pub few : HasFewParameters line.node.member
   -- signatures have a normal form
   pub normal : ¬ HasPlainReference tokens
@@ -102,6 +118,9 @@ ReadsMember before result after = Reads spell_member tree_of_member EndsNode bef
 abbrev pub ReadsNode : List Token → Result NodeName ParseFault → List Token → Type 0
 ReadsNode before result after = Reads spell_node tree_of_node EndsNode before result after
 
+abbrev pub ReadsItem : Version → List Token → Result SetItem ParseFault → List Token → Type 0
+ReadsItem version before result after = Reads (spell_item version) (tree_of_item version) EndsAnywhere before result after
+
 -- .. for all tokens of a line
-abbrev pub ReadsNodeLine : List Token → Result Line ParseFault → List Token → Type 0
-ReadsNodeLine before result after = Reads spell_line tree_of_line IsAtEnd before result after
+abbrev pub ReadsNodeLine : Version → List Token → Result Line ParseFault → List Token → Type 0
+ReadsNodeLine version before result after = Reads (spell_line version) (tree_of_line version) IsAtEnd before result after

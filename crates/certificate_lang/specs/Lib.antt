@@ -1,4 +1,4 @@
 pub mod Grammar
 pub mod Reads
 pub use Rattle.texts.specs.Lists
-pub use Rattle.texts.specs.Reading
+pub use Rattle.texts.specs.code.Reading

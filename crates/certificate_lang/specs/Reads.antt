@@ -1,6 +1,6 @@
 -- What the reader answers for a text (docs/certificate.md, "The certificate").
 use Rattle.std.specs.Borrow.{Bor}
-use Rattle.std.specs.Prelude.{◌≡◌, ℕ, List, [], ◌∷◌, Option, Some, None, Result, Ok, Err, codes}
+use Rattle.std.specs.Prelude.{◌≡◌, ℕ, List, [], ◌∷◌, Option, Some, None, MatchOption, Result, Ok, Err, codes}
 use Rattle.std.specs.List.{AllZip}
 use Rattle.texts.specs.Lines.{AreLines}
 use Rattle.texts.specs.Pieces.{AreTokens}
@@ -13,6 +13,8 @@ use Rattle.certificate_lang.specs.declared.certificate.Line.{Line}
 use Rattle.certificate_lang.specs.declared.certificate.Certificate.{Certificate}
 use Rattle.certificate_lang.specs.declared.fault.CertificateFault.{CertificateFault}
 use Rattle.certificate_lang.specs.declared.fault.CertificateFault.TheVariants.{Format, Memory}
+use Rattle.certificate_lang.specs.declared.version.Version.{Version}
+use Rattle.certificate_lang.specs.declared.version.Version.TheVariants.{One}
 use Rattle.certificate_lang.specs.Grammar.{IsSetting, IsNodeLine}
 
 -- ---- lines with tokens
@@ -36,19 +38,20 @@ pub record HasRows (text : List ℕ) (rows : List (List Token)) : Type 0 where
 
 -- ---- certificates
 
--- the version of this format
-abbrev pub version : ℕ
-version = 1
+-- the number of a version
+abbrev pub version_number : Version → ℕ
+version_number One = 1
 
--- the text is a certificate: `certificate 1`, the bound, and the lines of nodes
+-- the text is a certificate: `certificate` and the version's number, the bound, and the lines of nodes
 pub record IsCertificate (text : List ℕ) (certificate : Certificate) : Type 0 where
+  pub version : Version
   pub first : List Token
   pub second : List Token
   pub others : List (List Token)
   pub has_rows : HasRows text (first ∷ second ∷ others)
-  pub header : IsSetting (codes "certificate") first version
+  pub header : IsSetting (codes "certificate") first (version_number version)
   pub bound : IsSetting (codes "bound") second certificate.bound
-  pub nodes : AllZip IsNodeLine others certificate.lines
+  pub nodes : AllZip (IsNodeLine version) others certificate.lines
 
 -- where memory is refused, nothing is said
 abbrev pub ReadsCertificate : List ℕ → Result Certificate CertificateFault → Type 0
@@ -71,6 +74,10 @@ fault_of_parsing parse.Syntax = Format
 fault_of_parsing parse.Memory = Memory
 
 -- ---- what each step of reading answers
+
+-- the version of this number, if there is one
+abbrev pub FindsVersion : ℕ → Option Version → Type 0
+FindsVersion n found = MatchOption found ((version : Version) → ¬ (version_number version ≡ n)) (λ version. version_number version ≡ n)
 
 -- the first of the text's rows has these tokens, and those of `rest` follow it
 pub record TakesRow (text : List ℕ) (tokens : List Token) (rest : List ℕ) : Type 0 where
@@ -97,25 +104,25 @@ SplitsSetting name text (Err Format) =
 SplitsSetting name text (Err Memory) = Unit {0}
 
 -- all of its rows are lines of nodes
-pub record AreNodeLines (text : List ℕ) (lines : List Line) : Type 0 where
+pub record AreNodeLines (version : Version) (text : List ℕ) (lines : List Line) : Type 0 where
   pub rows : List (List Token)
   pub has_rows : HasRows text rows
-  pub each : AllZip IsNodeLine rows lines
+  pub each : AllZip (IsNodeLine version) rows lines
 
-abbrev pub ReadsNodeLines : List ℕ → Result (List Line) CertificateFault → Type 0
-ReadsNodeLines text (Ok lines) = AreNodeLines text lines
-ReadsNodeLines text (Err Format) = (lines : List Line) → ¬ AreNodeLines text lines
-ReadsNodeLines text (Err Memory) = Unit {0}
+abbrev pub ReadsNodeLines : Version → List ℕ → Result (List Line) CertificateFault → Type 0
+ReadsNodeLines version text (Ok lines) = AreNodeLines version text lines
+ReadsNodeLines version text (Err Format) = (lines : List Line) → ¬ AreNodeLines version text lines
+ReadsNodeLines version text (Err Memory) = Unit {0}
 
 abbrev pub ReadsWholeSetting : List ℕ → List Token → Result ℕ CertificateFault → Type 0
 ReadsWholeSetting name tokens (Ok n) = IsSetting name tokens n
 ReadsWholeSetting name tokens (Err Format) = (n : ℕ) → ¬ IsSetting name tokens n
 ReadsWholeSetting name tokens (Err Memory) = Unit {0}
 
-abbrev pub ReadsLine : List Token → Result Line CertificateFault → Type 0
-ReadsLine tokens (Ok line) = IsNodeLine tokens line
-ReadsLine tokens (Err Format) = (line : Line) → ¬ IsNodeLine tokens line
-ReadsLine tokens (Err Memory) = Unit {0}
+abbrev pub ReadsLine : Version → List Token → Result Line CertificateFault → Type 0
+ReadsLine version tokens (Ok line) = IsNodeLine version tokens line
+ReadsLine version tokens (Err Format) = (line : Line) → ¬ IsNodeLine version tokens line
+ReadsLine version tokens (Err Memory) = Unit {0}
 
 -- ---- laws
 

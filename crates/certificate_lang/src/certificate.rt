@@ -31,15 +31,22 @@ impl Drop for NodeName {
     }
 }
 
+/// An item of a destroy set, as a certificate names it.
+#[derive(Drop)]
+pub enum SetItem {
+    /// `C`: the class of this name.
+    Class(Name),
+}
+
 /// What a certificate says of a node: `NODE RANK {CLASS}`.
 pub struct Line {
     /// The node.
     pub node: NodeName,
     /// Its rank, which is above the rank of each node that it may lead to at once.
     pub rank: u32,
-    /// Its destroy set, by the names of classes: those whose objects may be destroyed in a chain of calls that begins at
-    /// the node. They may stand in any order, and one may stand twice.
-    pub destroys: Items<Name>,
+    /// Its destroy set: the classes whose objects may be destroyed in a chain of calls that begins at the node. The items
+    /// may stand in any order, and one may stand twice.
+    pub destroys: Items<SetItem>,
 }
 
 impl Drop for Line {

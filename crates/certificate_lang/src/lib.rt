@@ -5,7 +5,8 @@ mod certificate;
 mod fault;
 mod reader;
 mod syntax;
+mod version;
 
-pub use certificate::{Certificate, Line, MemberName, NodeName};
+pub use certificate::{Certificate, Line, MemberName, NodeName, SetItem};
 pub use fault::CertificateFault;
 pub use reader::{one_reading, read_certificate};

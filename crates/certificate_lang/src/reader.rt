@@ -6,12 +6,10 @@ ghost use Rattle.certificate_lang.specs.Reads.{ReadsCertificate, SplitsRow, Spli
 use crate::certificate::{Certificate, Line};
 use crate::fault::CertificateFault;
 use crate::syntax::{has_few_parameters, line, setting};
+use crate::version::Version;
 use sqlite_items::Items;
 use std::alloc::Global;
 use texts::{Cursor, Token, has_plain_reference, split_line, tokens};
-
-/// The version of the format.
-const VERSION: u32 = 1;
 
 /// Reads a certificate: `certificate 1`, `bound N`, and a line `NODE RANK {CLASS}` for each node, where a node is
 /// `C.m(T, ..)`, `C.p` or `~C`. A line ends at a newline or at the end of the text; lines that are empty, that is blank or
@@ -23,12 +21,12 @@ const VERSION: u32 = 1;
 pub fn read_certificate(alloc: Global, bytes: &[u8]) -> Result<Certificate, CertificateFault>
     ensures { ReadsCertificate bytes.now result }
 {
-    let (version, after) = setting_line(alloc, bytes, b"certificate")?;
-    if version != VERSION {
+    let (number, after) = setting_line(alloc, bytes, b"certificate")?;
+    let Some(version) = Version::of(number) else {
         return Err(CertificateFault::Format);
-    }
+    };
     let (bound, rest) = setting_line(alloc, after, b"bound")?;
-    let lines = node_lines(alloc, rest)?;
+    let lines = node_lines(alloc, version, rest)?;
     Ok(Certificate { bound, lines })
 }
 
@@ -54,14 +52,14 @@ fn setting_line<'a>(
     }
 }
 
-/// The lines of nodes that the text is.
-fn node_lines(alloc: Global, text: &[u8]) -> Result<Items<Line>, CertificateFault>
-    ensures { ReadsNodeLines text.now result }
+/// The lines of nodes that the text is, in this version.
+fn node_lines(alloc: Global, version: Version, text: &[u8]) -> Result<Items<Line>, CertificateFault>
+    ensures { ReadsNodeLines version text.now result }
 {
     let mut lines = Items::new(alloc);
     let mut rest = text;
     while let Some((tokens, after)) = next_row(alloc, rest)? {
-        let line = node_line(alloc, tokens.as_slice())?;
+        let line = node_line(alloc, version, tokens.as_slice())?;
         lines.push(line)?;
         rest = after;
     }
@@ -101,15 +99,15 @@ fn whole_setting(alloc: Global, tokens: &[Token], name: &[u8]) -> Result<u32, Ce
     }
 }
 
-/// The line of a node that the tokens are.
-fn node_line(alloc: Global, tokens: &[Token]) -> Result<Line, CertificateFault>
-    ensures { ReadsLine tokens.now result }
+/// The line of a node that the tokens are, in this version.
+fn node_line(alloc: Global, version: Version, tokens: &[Token]) -> Result<Line, CertificateFault>
+    ensures { ReadsLine version tokens.now result }
 {
     if has_plain_reference(tokens) {
         return Err(CertificateFault::Format);
     }
     let mut cursor = Cursor::new(alloc, tokens);
-    let line = line(&mut cursor)?;
+    let line = line(&mut cursor, version)?;
     if !cursor.is_empty() {
         return Err(CertificateFault::Format);
     }

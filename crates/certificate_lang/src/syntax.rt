@@ -1,12 +1,13 @@
 //! The grammar of a certificate's lines, one function a rule.
 
-ghost use Rattle.std.specs.Prelude.{◌↔◌, IsTrue};
-ghost use Rattle.certificate_lang.specs.Grammar.{ReadsSetting, IsAtOpen, ReadsMember, ReadsNode, ReadsNodeLine, HasFewParameters};
+ghost use Rattle.std.specs.Prelude.{◌↔◌, ◌<◌, length, map, IsTrue, OnOk};
+ghost use Rattle.certificate_lang.specs.Grammar.{ReadsSetting, IsAtOpen, ReadsMember, ReadsNode, ReadsItem, ReadsNodeLine, spell_item, tree_of_item, HasFewParameters};
 ghost use Rattle.texts.specs.Lists.{spell_each};
-ghost use Rattle.texts.specs.Reading.{Reads, IsAtEnd, spell_name};
+ghost use Rattle.texts.specs.code.Reading.{Reads, IsAtEnd};
 
-use crate::certificate::{Line, MemberName, NodeName};
-use signatures::{Name, Sig};
+use crate::certificate::{Line, MemberName, NodeName, SetItem};
+use crate::version::Version;
+use signatures::Sig;
 use sqlite_items::Items;
 use texts::{Cursor, ParseFault, Symbol, Token, TypePart, has_few_types, list};
 
@@ -23,13 +24,13 @@ pub fn setting(cursor: &mut Cursor, name: &[u8]) -> Result<u32, ParseFault>
     }
 }
 
-/// `NODE RANK {CLASS}`: what is left behind it has to be judged by the caller.
-pub fn line(cursor: &mut Cursor) -> Result<Line, ParseFault>
-    ensures { ReadsNodeLine cursor.old result cursor.new }
+/// `NODE RANK {CLASS}`, in this version: what is left behind it has to be judged by the caller.
+pub fn line(cursor: &mut Cursor, version: Version) -> Result<Line, ParseFault>
+    ensures { ReadsNodeLine version cursor.old result cursor.new }
 {
     let node = node(cursor)?;
     let rank = cursor.number(GREATEST)?;
-    let destroys = names(cursor)?;
+    let destroys = items(cursor, version)?;
     Ok(Line {
         node,
         rank,
@@ -76,16 +77,29 @@ fn is_at_open(tokens: &[Token]) -> bool
     }
 }
 
-/// Names up to the end.
-fn names(cursor: &mut Cursor) -> Result<Items<Name>, ParseFault>
-    ensures { Reads (spell_each spell_name) (λ names. names) IsAtEnd cursor.old result cursor.new }
+/// The items of a destroy set, up to the end.
+fn items(cursor: &mut Cursor, version: Version) -> Result<Items<SetItem>, ParseFault>
+    ensures { Reads (spell_each (spell_item version)) (map (tree_of_item version)) IsAtEnd cursor.old result cursor.new }
 {
-    let mut names = Items::new(cursor.alloc());
+    let mut items = Items::new(cursor.alloc());
     while !cursor.is_empty() {
-        let name = cursor.name()?;
-        names.push(name)?;
+        let item = item(cursor, version)?;
+        items.push(item)?;
     }
-    Ok(names)
+    Ok(items)
+}
+
+/// An item of a destroy set.
+fn item(cursor: &mut Cursor, version: Version) -> Result<SetItem, ParseFault>
+    ensures reads { ReadsItem version cursor.old result cursor.new }
+    ensures shorter { OnOk result (length cursor.new < length cursor.old) }
+{
+    match version {
+        Version::One => {
+            let class = cursor.name()?;
+            Ok(SetItem::Class(class))
+        }
+    }
 }
 
 /// Whether the member has at most 8 parameters.

@@ -15,18 +15,20 @@ use Rattle.texts.specs.Lists.{spell_each}
 use Rattle.texts.specs.Literals.{greatest}
 use Rattle.texts.specs.Numerals.{value_of}
 use Rattle.texts.specs.Pieces.{AreTokens}
-use Rattle.texts.specs.Reading.{spell_name}
 use Rattle.texts.specs.declared.token.Token.{Token}
 use Rattle.texts.specs.declared.token.Token.TheVariants as token
-use Rattle.certificate_lang.specs.Grammar.{NodeReading, method, property, destruction, of_class, spell_node, tree_of_node, HasFewParameters, IsNodeLine}
+use Rattle.certificate_lang.specs.Grammar.{NodeReading, method, property, destruction, of_class, spell_node, tree_of_node, ItemReading, class as item_class, spell_item, tree_of_item, HasFewParameters, IsNodeLine}
 use Rattle.certificate_lang.specs.Reads.{before, AreRows, IsCertificate}
 use Rattle.certificate_lang.specs.declared.certificate.MemberName.{MemberName}
 use Rattle.certificate_lang.specs.declared.certificate.MemberName.TheVariants as member
 use Rattle.certificate_lang.specs.declared.certificate.NodeName.{NodeName}
+use Rattle.certificate_lang.specs.declared.certificate.SetItem.{SetItem}
+use Rattle.certificate_lang.specs.declared.certificate.SetItem.TheVariants.{Class}
 use Rattle.certificate_lang.specs.declared.certificate.Line.{Line}
 use Rattle.certificate_lang.specs.declared.certificate.Certificate.{Certificate}
-use Rattle.certificate_texts.specs.Texts.{node_text_of, node_text, destroyed_text, node_line, certificate_text}
-use Rattle.certificate_texts.specs.Written.{IsWritableMember, IsWritableLine, IsWritable, NodesAreRead}
+use Rattle.certificate_lang.specs.declared.version.Version.TheVariants.{One}
+use Rattle.certificate_texts.specs.Texts.{node_text_of, node_text, listed_text, node_line, certificate_text}
+use Rattle.certificate_texts.specs.Written.{IsWritableMember, IsWritableItem, IsWritableLine, IsWritable, NodesAreRead}
 use Rattle.certificate_texts.proofs.Pieces.{IsWritten, ampersand, nothing, blank_then, name_then, dot_then, tilde_then, digits_then, are_digits}
 use Rattle.certificate_texts.proofs.Signatures.{sig_reading, sig_tree, sig_then}
 
@@ -65,32 +67,42 @@ node_is_read node h =
       tree = tree_by node.class node.member h.member;
     }
 
--- ---- the classes of a set
-stops_at_set : (names : List (List ℕ)) → StopsBy is_digit (flat_map destroyed_text names)
+-- ---- the items of a set
+abbrev reading_of_item : SetItem → ItemReading One
+reading_of_item (Class name) = item_class name
+
+abbrev set_tokens : List SetItem → List Token
+set_tokens items = spell_each (spell_item One) (map reading_of_item items) []
+
+set_tree : (items : List SetItem) → map (tree_of_item One) (map reading_of_item items) ≡ items
+set_tree [] = refl
+set_tree (Class name ∷ items) = ap (λ (more : List SetItem). Class name ∷ more) (set_tree items)
+
+stops_at_set : (items : List SetItem) → StopsBy is_digit (flat_map listed_text items)
 stops_at_set [] = tt
-stops_at_set (name ∷ names) = refl
+stops_at_set (item ∷ items) = refl
 
-stops_at_names : (names : List (List ℕ)) → StopsBy is_name_byte (flat_map destroyed_text names)
-stops_at_names [] = tt
-stops_at_names (name ∷ names) = refl
+stops_at_items : (items : List SetItem) → StopsBy is_name_byte (flat_map listed_text items)
+stops_at_items [] = tt
+stops_at_items (item ∷ items) = refl
 
-set_written : (names : List (List ℕ)) → AllByRecursion IsFreeName names → IsWritten (flat_map destroyed_text names) (spell_each spell_name names [])
+set_written : (items : List SetItem) → AllByRecursion IsWritableItem items → IsWritten (flat_map listed_text items) (set_tokens items)
 set_written [] free = nothing
-set_written (name ∷ names) free = blank_then (name ++ flat_map destroyed_text names) _ (name_then name (flat_map destroyed_text names) (spell_each spell_name names []) free.0 (stops_at_names names) (set_written names free.1))
+set_written (Class name ∷ items) free = blank_then (name ++ flat_map listed_text items) _ (name_then name (flat_map listed_text items) (set_tokens items) free.0 (stops_at_items items) (set_written items free.1))
 
 -- ---- lines
 below : (n : ℕ) → n ≤ greatest → n < 2 ^ 64
 below n h = omega arith
 
 abbrev line_text : Line → List ℕ
-line_text line = node_text line.node ++ (codes " " ++ (decimal line.rank ++ flat_map destroyed_text line.destroys))
+line_text line = node_text line.node ++ (codes " " ++ (decimal line.rank ++ flat_map listed_text line.destroys))
 
-line_written : (line : Line) → IsWritableLine line → IsWritten (line_text line) (spell_node (reading_of_node line.node) (token.Number (decimal line.rank) ∷ spell_each spell_name line.destroys []))
+line_written : (line : Line) → IsWritableLine line → IsWritten (line_text line) (spell_node (reading_of_node line.node) (token.Number (decimal line.rank) ∷ set_tokens line.destroys))
 line_written line h =
     let digits = are_digits line.rank (below line.rank h.rank) in
     let set = set_written line.destroys h.destroys in
-    let ranked = digits_then (decimal line.rank) (flat_map destroyed_text line.destroys) (spell_each spell_name line.destroys []) digits.some digits.each (stops_at_set line.destroys) set in
-    node_then line.node.class line.node.member h.node.class h.node.member (32 ∷ (decimal line.rank ++ flat_map destroyed_text line.destroys)) _ refl (blank_then (decimal line.rank ++ flat_map destroyed_text line.destroys) _ ranked)
+    let ranked = digits_then (decimal line.rank) (flat_map listed_text line.destroys) (set_tokens line.destroys) digits.some digits.each (stops_at_set line.destroys) set in
+    node_then line.node.class line.node.member h.node.class h.node.member (32 ∷ (decimal line.rank ++ flat_map listed_text line.destroys)) _ refl (blank_then (decimal line.rank ++ flat_map listed_text line.destroys) _ ranked)
 
 plain_front : (front : List Token) (t : Token) (after tokens : List Token) → tokens ≡ front ++ t ∷ ampersand ∷ after → AllByRecursion (λ x. x ≢ ampersand) tokens → ⊥
 plain_front [] t after [] e h = cc
@@ -104,18 +116,19 @@ few (member.Method x) h = h.few
 few (member.Property name) h = tt
 few member.Destruction h = tt
 
-line_is_read : (line : Line) (h : IsWritableLine line) → IsNodeLine (spell_node (reading_of_node line.node) (token.Number (decimal line.rank) ∷ spell_each spell_name line.destroys [])) line
+line_is_read : (line : Line) (h : IsWritableLine line) → IsNodeLine One (spell_node (reading_of_node line.node) (token.Number (decimal line.rank) ∷ set_tokens line.destroys)) line
 line_is_read line h =
     let written = line_written line h in
     let digits = are_digits line.rank (below line.rank h.rank) in
     let node : tree_of_node (reading_of_node line.node) ≡ line.node = tree_by line.node.class line.node.member h.node.member in
     let value : value_of (decimal line.rank) ≡ line.rank = digits.value in
     record {
-      reading = record { node = reading_of_node line.node; rank = record { digits = decimal line.rank; fits = let most = h.rank in omega arith }; destroys = line.destroys };
+      reading = record { node = reading_of_node line.node; rank = record { digits = decimal line.rank; fits = let most = h.rank in omega arith }; destroys = map reading_of_item line.destroys };
       spelled = refl;
       tree =
-          ap (λ n. let x : Line = record { node = n; rank = value_of (decimal line.rank); destroys = line.destroys } in x) node
-          ∙ ap (λ (k : ℕ). let x : Line = record { node = line.node; rank = k; destroys = line.destroys } in x) value;
+          ap (λ n. let x : Line = record { node = n; rank = value_of (decimal line.rank); destroys = map (tree_of_item One) (map reading_of_item line.destroys) } in x) node
+          ∙ ap (λ (k : ℕ). let x : Line = record { node = line.node; rank = k; destroys = map (tree_of_item One) (map reading_of_item line.destroys) } in x) value
+          ∙ ap (λ (items : List SetItem). let x : Line = record { node = line.node; rank = line.rank; destroys = items } in x) (set_tree line.destroys);
       few = few line.node.member h.node.member;
       normal = λ plain. plain_front plain.front (token.Name plain.name) plain.after _ plain.is written.plain;
     }
@@ -130,13 +143,13 @@ row_of node ts later = by node.class node.member
     by class member.Destruction = refl
 
 abbrev line_tokens : Line → List Token
-line_tokens line = spell_node (reading_of_node line.node) (token.Number (decimal line.rank) ∷ spell_each spell_name line.destroys [])
+line_tokens line = spell_node (reading_of_node line.node) (token.Number (decimal line.rank) ∷ set_tokens line.destroys)
 
 line_bytes : (line : Line) (rest : List ℕ) → node_line line ++ rest ≡ line_text line ++ (10 ∷ rest)
 line_bytes line rest =
     let node = node_text line.node in
     let rank = decimal line.rank in
-    let set = flat_map destroyed_text line.destroys in
+    let set = flat_map listed_text line.destroys in
     append_assoc node (32 ∷ (rank ++ (set ++ codes "\n"))) rest
     ∙ ap (λ (bytes : List ℕ). node ++ (32 ∷ bytes)) (append_assoc rank (set ++ codes "\n") rest ∙ ap (λ (bytes : List ℕ). rank ++ bytes) (append_assoc set (codes "\n") rest) ∙ sym (append_assoc rank set (10 ∷ rest)))
     ∙ sym (append_assoc node (32 ∷ (rank ++ set)) (10 ∷ rest))
@@ -144,7 +157,7 @@ line_bytes line rest =
 pub record AreRead (lines : List Line) : Type 0 where
   pub cut : AreFrontLines (flat_map node_line lines) (map line_text lines) []
   pub rows : AreRows (map line_text lines) (map line_tokens lines)
-  pub each : AllZip IsNodeLine (map line_tokens lines) lines
+  pub each : AllZip (IsNodeLine One) (map line_tokens lines) lines
 
 lines_are_read : (lines : List Line) → AllByRecursion IsWritableLine lines → AreRead lines
 lines_are_read [] h = record { cut = refl; rows = refl; each = tt }
@@ -153,7 +166,7 @@ lines_are_read (line ∷ lines) h =
     let written = line_written line h.0 in
     record {
       cut = (flat_map node_line lines, record { unbroken = written.unbroken; ends = inl (line_bytes line (flat_map node_line lines)) }, more.cut);
-      rows = (line_tokens line, map line_tokens lines, written.cut, more.rows, sym (row_of line.node (token.Number (decimal line.rank) ∷ spell_each spell_name line.destroys []) (map line_tokens lines)));
+      rows = (line_tokens line, map line_tokens lines, written.cut, more.rows, sym (row_of line.node (token.Number (decimal line.rank) ∷ set_tokens line.destroys) (map line_tokens lines)));
       each = (line_is_read line h.0, more.each);
     }
 
@@ -204,6 +217,7 @@ text_is_read certificate h =
     let second = bound_written certificate.bound h.bound in
     let bytes : certificate_text certificate ≡ codes "certificate 1\nbound " ++ (bound ++ (10 ∷ others)) = ap (λ (rest : List ℕ). codes "certificate 1\nbound " ++ rest) (append_assoc bound (codes "\n") others) in
     record {
+      version = One;
       first = token.Name (codes "certificate") ∷ token.Number (codes "1") ∷ [];
       second = token.Name (codes "bound") ∷ token.Number bound ∷ [];
       others = map line_tokens certificate.lines;

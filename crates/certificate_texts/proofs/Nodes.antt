@@ -1,6 +1,6 @@
 -- A text names one node.
 use Rattle.std.proofs.Common.{◌≡◌, [], sym, ◌∙◌, ap}
-use Rattle.texts.specs.Cursor.{NotAt}
+use Rattle.texts.specs.code.Cursor.{NotAt}
 use Rattle.texts.specs.Signatures.{sig}
 use Rattle.texts.specs.declared.symbol.Symbol.TheVariants.{Open}
 use Rattle.texts.proofs.Cut.{same_tokens}

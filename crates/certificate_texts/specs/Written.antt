@@ -10,6 +10,8 @@ use Rattle.certificate_lang.specs.Reads.{IsCertificate}
 use Rattle.certificate_lang.specs.declared.certificate.MemberName.{MemberName}
 use Rattle.certificate_lang.specs.declared.certificate.MemberName.TheVariants.{Method, Property, Destruction}
 use Rattle.certificate_lang.specs.declared.certificate.NodeName.{NodeName}
+use Rattle.certificate_lang.specs.declared.certificate.SetItem.{SetItem}
+use Rattle.certificate_lang.specs.declared.certificate.SetItem.TheVariants.{Class}
 use Rattle.certificate_lang.specs.declared.certificate.Line.{Line}
 use Rattle.certificate_lang.specs.declared.certificate.Certificate.{Certificate}
 use Rattle.certificate_texts.specs.Texts.{node_text, certificate_text}
@@ -24,11 +26,15 @@ pub record IsWritableNode (node : NodeName) : Type 0 where
   pub class : IsFreeName node.class
   pub member : IsWritableMember node.member
 
--- so are the names of classes, and no number is larger than one may be
+-- a class's name isn't a reserved word either
+abbrev pub IsWritableItem : SetItem → Type 0
+IsWritableItem (Class name) = IsFreeName name
+
+-- no number is larger than one may be
 pub record IsWritableLine (line : Line) : Type 0 where
   pub node : IsWritableNode line.node
   pub rank : line.rank ≤ greatest
-  pub destroys : AllByRecursion IsFreeName line.destroys
+  pub destroys : AllByRecursion IsWritableItem line.destroys
 
 pub record IsWritable (certificate : Certificate) : Type 0 where
   pub bound : certificate.bound ≤ greatest

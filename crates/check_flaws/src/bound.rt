@@ -3,10 +3,7 @@
 ghost use Rattle.std.specs.Prelude.{IfSome};
 ghost use Rattle.check_flaws.specs.Broken.{IsLoose};
 
-use rank_check::Certificate;
-
-/// The greatest bound.
-const MOST_BOUND: u32 = 256;
+use rank_check::{Certificate, MOST_BOUND};
 
 /// What makes a bound wrong.
 #[derive(Clone, Copy, Debug, PartialEq, Eq)]

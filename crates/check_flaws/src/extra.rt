@@ -6,7 +6,7 @@ ghost use Rattle.check_flaws.specs.Broken.{IsExtra};
 
 use crate::placing::line_of;
 use meta_objects::Meta;
-use rank_check::Line;
+use rank_check::{Line, SetItem};
 use signatures::Name;
 
 /// What is wrong with a line.
@@ -70,9 +70,10 @@ pub fn unknown_class<'c>(
     None
 }
 
-/// The first of these names that no class has.
-fn first_unknown<'c>(meta: &Meta, names: &'c [Name]) -> Option<&'c Name> {
-    for name in names {
+/// The first name in these items that no class has.
+fn first_unknown<'c>(meta: &Meta, items: &'c [SetItem]) -> Option<&'c Name> {
+    for item in items {
+        let SetItem::Class(name) = item;
         if meta.class(name).is_none() {
             return Some(name);
         }

@@ -4,7 +4,7 @@ use crate::placing::line_of;
 use effect_scan::{Member, Node, Scan, row_at};
 use meta_model::Work;
 use meta_objects::Meta;
-use rank_check::Line;
+use rank_check::{Line, SetItem};
 use signatures::Name;
 
 /// What is wrong with a destroy set.
@@ -27,11 +27,11 @@ pub fn first_mistake(
 ) -> Option<Mistake> {
     for (number, node) in scan.nodes().iter().enumerate() {
         if let Some(placed) = line_of(lines, places, number) {
-            let names = placed.line.destroys.as_slice();
-            if let Some(mistake) = own_mistake(meta, scan, number, *node, names) {
+            let set = placed.line.destroys.as_slice();
+            if let Some(mistake) = own_mistake(meta, scan, number, *node, set) {
                 return Some(mistake);
             }
-            if let Some(mistake) = lost_class(meta, scan, lines, places, number, names) {
+            if let Some(mistake) = lost_class(meta, scan, lines, places, number, set) {
                 return Some(mistake);
             }
         }
@@ -45,15 +45,15 @@ fn own_mistake(
     scan: &Scan,
     number: usize,
     node: Node,
-    names: &[Name],
+    set: &[SetItem],
 ) -> Option<Mistake> {
     match node.member {
         Member::Destruction => {
-            let class = first_unlisted(meta, row_at(scan.destroys(), node.class), names)?;
+            let class = first_unlisted(meta, row_at(scan.destroys(), node.class), set)?;
             Some(Mistake::Unclosed(number, class))
         }
         Member::Method(method) => {
-            if has_body(meta, node.class, method) && is_listed(meta, node.class, names) {
+            if has_body(meta, node.class, method) && is_listed(meta, node.class, set) {
                 Some(Mistake::Own(number))
             } else {
                 None
@@ -63,27 +63,28 @@ fn own_mistake(
     }
 }
 
-/// The first of these classes that isn't among those with these names.
-fn first_unlisted(meta: &Meta, classes: &[usize], names: &[Name]) -> Option<usize> {
+/// The first of these classes that isn't in the set.
+fn first_unlisted(meta: &Meta, classes: &[usize], set: &[SetItem]) -> Option<usize> {
     for class in classes {
-        if !is_listed(meta, *class, names) {
+        if !is_listed(meta, *class, set) {
             return Some(*class);
         }
     }
     None
 }
 
-/// Whether the class is one with these names.
-fn is_listed(meta: &Meta, class: usize, names: &[Name]) -> bool {
+/// Whether the class is in the set.
+fn is_listed(meta: &Meta, class: usize, set: &[SetItem]) -> bool {
     match meta.object(class) {
-        Some(object) => is_among(&object.name, names),
+        Some(object) => is_among(&object.name, set),
         None => false,
     }
 }
 
-/// Whether the name is one of these.
-fn is_among(name: &Name, names: &[Name]) -> bool {
-    for other in names {
+/// Whether the class of this name is in the set.
+fn is_among(name: &Name, set: &[SetItem]) -> bool {
+    for item in set {
+        let SetItem::Class(other) = item;
         if other.is_same(name) {
             return true;
         }
@@ -106,11 +107,11 @@ fn lost_class(
     lines: &[Line],
     places: &[Option<usize>],
     number: usize,
-    names: &[Name],
+    set: &[SetItem],
 ) -> Option<Mistake> {
     for to in scan.targets(number) {
         if let Some(placed) = line_of(lines, places, *to) {
-            if let Some(class) = first_lost(meta, placed.line.destroys.as_slice(), names) {
+            if let Some(class) = first_lost(meta, placed.line.destroys.as_slice(), set) {
                 return Some(Mistake::Lost(number, *to, class));
             }
         }
@@ -118,10 +119,11 @@ fn lost_class(
     None
 }
 
-/// The first class with one of the first names that has none of the others.
-fn first_lost(meta: &Meta, from: &[Name], names: &[Name]) -> Option<usize> {
-    for name in from {
-        if !is_among(name, names) {
+/// The first class of a set that isn't in another one.
+fn first_lost(meta: &Meta, from: &[SetItem], set: &[SetItem]) -> Option<usize> {
+    for item in from {
+        let SetItem::Class(name) = item;
+        if !is_among(name, set) {
             return meta.class(name);
         }
     }

@@ -9,6 +9,7 @@ use Rattle.effect_scan.specs.Destroying.{IsMarked}
 use Rattle.typing.specs.Wires.{AreFitWires}
 use Rattle.typing.specs.Typed.{IsTypedProgram}
 use Rattle.certificate_lang.specs.declared.certificate.NodeName.{NodeName}
+use Rattle.certificate_lang.specs.declared.certificate.SetItem.{SetItem}
 use Rattle.certificate_lang.specs.declared.certificate.Line.{Line}
 use Rattle.certificate_lang.specs.declared.certificate.Certificate.{Certificate}
 use Rattle.rank_check.specs.declared.no.No.{No}
@@ -91,14 +92,14 @@ abbrev pub AreOnce : List (Option ℕ) → List ℕ → Type 0
 AreOnce numbers places = (k : ℕ) → k < length numbers → IsPlaced numbers places k
 
 -- ---- ranks and sets
--- the classes that are marked are those that are listed by their names, which are all there
-pub record IsSet (p : Loaded) (names : List (List ℕ)) (set : List Bool) : Type 0 where
-  pub there : AreClassesThere p names
-  pub marks : (d : ℕ) → IsMarked set d ↔ IsListed p names d
+-- the classes that are marked are those that the items stand for, which are all there
+pub record IsSet (p : Loaded) (items : List SetItem) (set : List Bool) : Type 0 where
+  pub there : AreClassesThere p items
+  pub marks : (d : ℕ) → IsMarked set d ↔ IsListed p items d
 
 -- the set, or that a class isn't there
-abbrev pub FindsSet : Loaded → List (List ℕ) → Option (List Bool) → Type 0
-FindsSet p names found = MatchOption found (¬ AreClassesThere p names) (IsSet p names)
+abbrev pub FindsSet : Loaded → List SetItem → Option (List Bool) → Type 0
+FindsSet p items found = MatchOption found (¬ AreClassesThere p items) (IsSet p items)
 
 -- the rank and the set of the line
 pub record IsEntry (p : Loaded) (line : Line) (entry : Entry) : Type 0 where

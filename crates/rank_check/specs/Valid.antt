@@ -12,8 +12,11 @@ use Rattle.effect_scan.specs.Edges.{MayLead}
 use Rattle.effect_scan.specs.Destroying.{Closure}
 use Rattle.typing.specs.Wires.{AreFitWires}
 use Rattle.typing.specs.Typed.{IsTypedProgram}
+use Rattle.certificate_lang.specs.declared.certificate.SetItem.{SetItem}
+use Rattle.certificate_lang.specs.declared.certificate.SetItem.TheVariants.{Class}
 use Rattle.certificate_lang.specs.declared.certificate.Line.{Line}
 use Rattle.certificate_lang.specs.declared.certificate.Certificate.{Certificate}
+use Rattle.rank_check.specs.declared.ranks.TheConstants.{MOST_BOUND}
 use Rattle.rank_check.specs.Names.{IsNodeNamed}
 
 -- the certificate has this line, for this node
@@ -21,19 +24,23 @@ pub record IsLineOf (p : Loaded) (certificate : Certificate) (x : Node) (line : 
   pub stands : Contains certificate.lines line
   pub named : IsNodeNamed p line.node x
 
--- class d is listed by its name
-pub record IsListed (p : Loaded) (names : List (List ℕ)) (d : ℕ) : Type 0 where
-  pub name : List ℕ
-  pub listed : Contains names name
-  pub named : IsClassNamed p name d
+-- class d is one of those that the item stands for
+abbrev pub StandsFor : Loaded → SetItem → ℕ → Type 0
+StandsFor p (Class name) d = IsClassNamed p name d
+
+-- .. that one of the items stands for
+pub record IsListed (p : Loaded) (items : List SetItem) (d : ℕ) : Type 0 where
+  pub item : SetItem
+  pub listed : Contains items item
+  pub stands_for : StandsFor p item d
 
 -- .. in the line's destroy set
 abbrev pub Destroys : Loaded → Line → ℕ → Type 0
 Destroys p line d = IsListed p line.destroys d
 
--- the classes of these names are there
-abbrev pub AreClassesThere : Loaded → List (List ℕ) → Type 0
-AreClassesThere p names = (name : List ℕ) → Contains names name → (c : ℕ) × IsClassNamed p name c
+-- each of the items stands for a class that is there
+abbrev pub AreClassesThere : Loaded → List SetItem → Type 0
+AreClassesThere p items = (item : SetItem) → Contains items item → (d : ℕ) × StandsFor p item d
 
 -- what runs when method m of class c is called is a body, which may be that of a native
 pub record RunsBody (p : Loaded) (c m : ℕ) : Type 0 where
@@ -78,7 +85,7 @@ pub record SetsHold (p : Loaded) (certificate : Certificate) : Type 0 where
 
 -- the greatest bound
 abbrev pub most_bound : ℕ
-most_bound = 256
+most_bound = MOST_BOUND
 
 -- ranks are below the bound, which isn't too great
 pub record IsBounded (certificate : Certificate) : Type 0 where

@@ -12,8 +12,9 @@ mod ranks;
 mod sets;
 
 pub use certificate_lang::{
-    Certificate, CertificateFault, Line, MemberName, NodeName, read_certificate,
+    Certificate, CertificateFault, Line, MemberName, NodeName, SetItem, read_certificate,
 };
 pub use checked::{Checked, check};
 pub use no::No;
+pub use ranks::MOST_BOUND;
 pub use typing::{Spot, unfit_wire, untyped};

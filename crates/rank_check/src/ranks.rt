@@ -10,8 +10,8 @@ use crate::entries::Entry;
 use certificate_lang::Certificate;
 use effect_scan::Scan;
 
-/// The greatest bound.
-const MOST_BOUND: u32 = 256;
+/// The greatest bound of a valid certificate.
+pub const MOST_BOUND: u32 = 256;
 
 /// Whether the rank falls along each edge.
 pub fn ranks_fall(scan: &Scan, entries: &[Entry]) -> bool

@@ -14,7 +14,7 @@ pub returns-in_err-line : goal.returns-in_err-line
 returns-in_err-line c =
     let p = err_from_is_err_and c.from_residual-in_err-line.result c.from_residual-in_err-line.ensures.1 in
     let takes = rw c.in-Some.is at c.in_ok-tokens.ensures.splits in
-    rw (p.1, p.2) (line_refused c.loop-lines.invariant takes c.in_err-line.field-0.0 (subst (λ (ts : List Token). ReadsLine ts (Err c.in_err-line.field-0.0)) c.as_slice.ensures c.in_err-line.ensures))
+    rw (p.1, p.2) (line_refused c.loop-lines.invariant takes c.in_err-line.field-0.0 (subst (λ (ts : List Token). ReadsLine c.args.version ts (Err c.in_err-line.field-0.0)) c.as_slice.ensures c.in_err-line.ensures))
 
 pub loop-lines-preserved : goal.loop-lines-preserved
 loop-lines-preserved c =

@@ -1,0 +1,22 @@
+//! Versions of the format.
+
+ghost use Rattle.certificate_lang.specs.Reads.{FindsVersion};
+
+/// A version of the format, which says what an item of a destroy set may be.
+#[derive(Clone, Copy)]
+pub enum Version {
+    /// `certificate 1`: an item is a class.
+    One,
+}
+
+impl Version {
+    /// The version of this number, or `None` where there is none.
+    pub fn of(number: u32) -> Option<Version>
+        ensures { FindsVersion number result }
+    {
+        match number {
+            1 => Some(Version::One),
+            _ => None,
+        }
+    }
+}
