@@ -12,8 +12,7 @@ use Rattle.meta_model.specs.Sound.{IsSound}
 use Rattle.meta_model.proofs.OneAnswer.{one_class}
 use Rattle.meta_model.proofs.Zips.{zip_left, zip_right}
 use Rattle.meta_objects.specs.Builds.{Builds}
-use Rattle.meta_objects.proofs.Unique.{one_loading}
-use Rattle.meta_objects.proofs.Whole.{sound}
+use Rattle.meta_objects.proofs.FoundClasses.{one_loading, form_sound}
 use Rattle.class_lang.proofs.OneAnswer.{one_program_text}
 use Rattle.effect_scan.specs.declared.node.Node.{Node}
 use Rattle.effect_scan.specs.declared.node.Member.{Member}
@@ -22,10 +21,12 @@ use Rattle.effect_scan.specs.Nodes.{nodes_of}
 use Rattle.certificate_lang.specs.declared.certificate.MemberName.{MemberName}
 use Rattle.certificate_lang.specs.declared.certificate.MemberName.TheVariants as member
 use Rattle.certificate_lang.specs.declared.certificate.NodeName.{NodeName}
+use Rattle.certificate_lang.specs.declared.certificate.SetItem.{SetItem}
+use Rattle.certificate_lang.specs.declared.certificate.SetItem.TheVariants.{Class}
 use Rattle.certificate_lang.specs.declared.certificate.Line.{Line}
 use Rattle.certificate_lang.specs.declared.certificate.Certificate.{Certificate}
 use Rattle.rank_check.specs.Names.{IsMemberNamed, IsNodeNamed}
-use Rattle.rank_check.specs.Valid.{IsLineOf, IsListed}
+use Rattle.rank_check.specs.Valid.{IsLineOf, StandsFor, IsListed}
 use Rattle.rank_check.proofs.Elements.{place_of, element_at}
 use Rattle.rank_graph.proofs.Distinct.{in_first, in_rest}
 use Rattle.rank_make.specs.Least.{AreInOrder, IsLeastValid}
@@ -77,28 +78,31 @@ module _ (p : Loaded) where
       ap (λ (c : List ℕ). let n : NodeName = record { class = c; member = a.member } in n) class
       ∙ ap (λ (m : MemberName). let n : NodeName = record { class = b.class; member = m } in n) named
 
-  class_names : (cs : List ℕ) (ms ns : List (List ℕ)) → AllZip (IsClassNamed p) ms cs → AllZip (IsClassNamed p) ns cs → ms ≡ ns
-  class_names [] [] [] h g = refl
-  class_names [] (m ∷ ms) ns h g = absurd h
-  class_names [] [] (n ∷ ns) h g = absurd g
-  class_names (c ∷ cs) [] ns h g = absurd h
-  class_names (c ∷ cs) (m ∷ ms) [] h g = absurd g
-  class_names (c ∷ cs) (m ∷ ms) (n ∷ ns) h g =
-      ap (λ (x : List ℕ). x ∷ ms) (class_name c m n h.0 g.0) ∙ ap (λ (xs : List (List ℕ)). n ∷ xs) (class_names cs ms ns h.1 g.1)
+  set_items : (cs : List ℕ) (ms ns : List SetItem) → AllZip (StandsFor p) ms cs → AllZip (StandsFor p) ns cs → ms ≡ ns
+  set_items [] [] [] h g = refl
+  set_items [] (m ∷ ms) ns h g = absurd h
+  set_items [] [] (n ∷ ns) h g = absurd g
+  set_items (c ∷ cs) [] ns h g = absurd h
+  set_items (c ∷ cs) (m ∷ ms) [] h g = absurd g
+  set_items (c ∷ cs) (Class m ∷ ms) (Class n ∷ ns) h g =
+      ap (λ (x : List ℕ). Class x ∷ ms) (class_name c m n h.0 g.0) ∙ ap (λ (xs : List SetItem). Class n ∷ xs) (set_items cs ms ns h.1 g.1)
 
   module _ (is : IsSound p) where
     -- ---- sets
-    listed : (names : List (List ℕ)) (order : AreInOrder p names) (d : ℕ) → Contains order.classes d → IsListed p names d
-    listed names order d held =
+    listed : (items : List SetItem) (order : AreInOrder p items) (d : ℕ) → Contains order.classes d → IsListed p items d
+    listed items order d held =
         let at = place_of order.classes d held in
-        let pair = zip_right (IsClassNamed p) names order.classes order.named at.0 d at.1 in
-        record { name = pair.0; listed = element_at names at.0 pair.0 pair.1; named = pair.2 }
+        let pair = zip_right (StandsFor p) items order.classes order.each at.0 d at.1 in
+        record { item = pair.0; listed = element_at items at.0 pair.0 pair.1; stands_for = pair.2 }
 
-    stands : (names : List (List ℕ)) (order : AreInOrder p names) (d : ℕ) → IsListed p names d → Contains order.classes d
-    stands names order d h =
-        let at = place_of names h.name h.listed in
-        let pair = zip_left (IsClassNamed p) names order.classes order.named at.0 h.name at.1 in
-        let same : pair.0 ≡ d = one_class p is h.name d pair.0 h.named pair.2 in
+    one_item : (item : SetItem) (d e : ℕ) → StandsFor p item d → StandsFor p item e → e ≡ d
+    one_item (Class name) d e h g = one_class p is name d e h g
+
+    stands : (items : List SetItem) (order : AreInOrder p items) (d : ℕ) → IsListed p items d → Contains order.classes d
+    stands items order d h =
+        let at = place_of items h.item h.listed in
+        let pair = zip_left (StandsFor p) items order.classes order.each at.0 h.item at.1 in
+        let same : pair.0 ≡ d = one_item h.item d pair.0 h.stands_for pair.2 in
         subst (λ (c : ℕ). Contains order.classes c) same (element_at order.classes at.0 pair.0 pair.1)
 
     module _ (a b : Certificate) (h : IsLeastValid p a) (g : IsLeastValid p b) where
@@ -114,10 +118,10 @@ module _ (p : Loaded) where
           (λ d held. stands m.destroys second d (h.least.sets b g.valid x l m d la lb (listed l.destroys first d held)))
           (λ d held. stands l.destroys first d (g.least.sets a h.valid x m l d lb la (listed m.destroys second d held)))
           in
-          let destroys : l.destroys ≡ m.destroys = class_names second.classes l.destroys m.destroys (subst (λ (cs : List ℕ). AllZip (IsClassNamed p) l.destroys cs) classes first.named) second.named in
+          let destroys : l.destroys ≡ m.destroys = set_items second.classes l.destroys m.destroys (subst (λ (cs : List ℕ). AllZip (StandsFor p) l.destroys cs) classes first.each) second.each in
           ap (λ (n : NodeName). let y : Line = record { node = n; rank = l.rank; destroys = l.destroys } in y) node
           ∙ (ap (λ (k : ℕ). let y : Line = record { node = m.node; rank = k; destroys = l.destroys } in y) rank
-          ∙ ap (λ (ds : List (List ℕ)). let y : Line = record { node = m.node; rank = m.rank; destroys = ds } in y) destroys)
+          ∙ ap (λ (ds : List SetItem). let y : Line = record { node = m.node; rank = m.rank; destroys = ds } in y) destroys)
 
       lines_same : (xs : List Node) (ls ms : List Line) → AllZip (λ x (line : Line). IsNodeNamed p line.node x) xs ls → AllZip (λ x (line : Line). IsNodeNamed p line.node x) xs ms
           → ((l : Line) → Contains ls l → Contains a.lines l) → ((m : Line) → Contains ms m → Contains b.lines m) → ls ≡ ms
@@ -144,12 +148,9 @@ pub one_least : OneLeast
 one_least p is a b h g = same p is a b h g
 
 -- ---- one certificate for a text
-loaded_sound : (program : Program) (p : Loaded) → Builds program (Ok p) → IsSound p
-loaded_sound program p builds = sound program builds.outlines builds.outlined builds.clean p builds.looked_up
-
 pub one_made : OneMade
 one_made source a b h g =
     let program : h.program ≡ g.program = one_program_text source h.program g.program h.reads.text g.reads.text in
     let builds : Builds g.program (Ok h.loaded) = subst (λ (x : Program). Builds x (Ok h.loaded)) program h.builds in
     let loaded : h.loaded ≡ g.loaded = one_loading g.program h.loaded g.loaded builds g.builds in
-    one_least g.loaded (loaded_sound g.program g.loaded g.builds) a b (subst (λ (p : Loaded). IsLeastValid p a) loaded h.makes) g.makes
+    one_least g.loaded (form_sound g.program g.loaded g.builds) a b (subst (λ (p : Loaded). IsLeastValid p a) loaded h.makes) g.makes

@@ -10,21 +10,26 @@ use Rattle.meta_model.specs.Members.{IsClassNamed}
 use Rattle.effect_scan.specs.declared.node.Member.{Member}
 use Rattle.certificate_lang.specs.declared.certificate.MemberName.{MemberName}
 use Rattle.certificate_lang.specs.declared.certificate.MemberName.TheVariants as member
+use Rattle.certificate_lang.specs.declared.certificate.SetItem.{SetItem}
+use Rattle.certificate_lang.specs.declared.certificate.SetItem.TheVariants.{Class}
 use Rattle.certificate_lang.specs.declared.certificate.Line.{Line}
 use Rattle.certificate_lang.specs.declared.certificate.Certificate.{Certificate}
-use Rattle.certificate_texts.specs.Written.{IsWritableMember, IsWritableLine, IsWritable}
+use Rattle.certificate_texts.specs.Written.{IsWritableMember, IsWritableItem, IsWritableLine, IsWritable}
 use Rattle.certificate_texts.proofs.Lines.{text_is_read}
 use Rattle.program_names.specs.Names.{IsNamedObject, IsNamedLoaded}
 use Rattle.program_names.proofs.Loading.{all_at, at_all, loaded_is_named}
 use Rattle.program_names.proofs.Reading.{read_is_named}
 use Rattle.rank_check.specs.Names.{IsMemberNamed}
-use Rattle.rank_check.specs.Valid.{IsValid}
+use Rattle.rank_check.specs.Valid.{StandsFor, IsValid}
 use Rattle.rank_check.proofs.Elements.{element_at}
 use Rattle.certificate_laws.specs.Laws.{ValidIsWritable, MadeIsRead}
 
 module _ (p : Loaded) (named : IsNamedLoaded p) where
   class_free : (name : List ℕ) (c : ℕ) → IsClassNamed p name c → IsFreeName name
   class_free name c h = subst IsFreeName h.named (at_all IsNamedObject p.classes named c h.class h.is.is).named
+
+  item_writable : (item : SetItem) (c : ℕ) → StandsFor p item c → IsWritableItem item
+  item_writable (Class name) c h = class_free name c h
 
   member_writable : (c : ℕ) (m : MemberName) (x : Member) → IsMemberNamed p c m x → IsWritableMember m
   member_writable c (member.Method sig) x h =
@@ -45,7 +50,7 @@ module _ (p : Loaded) (named : IsNamedLoaded p) where
       record {
         node = record { class = class_free line.node.class node.0.class node.1.class; member = member_writable node.0.class line.node.member node.0.member node.1.member };
         rank = omega arith;
-        destroys = all_at IsFreeName line.destroys (λ k name at. let there = valid.nothing_else.classes line stands name (element_at line.destroys k name at) in class_free name there.0 there.1);
+        destroys = all_at IsWritableItem line.destroys (λ k item at. let there = valid.nothing_else.classes line stands item (element_at line.destroys k item at) in item_writable item there.0 there.1);
       }
 
   writable : (certificate : Certificate) → IsValid p certificate → IsWritable certificate

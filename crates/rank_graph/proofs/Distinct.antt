@@ -2,7 +2,7 @@
 use Rattle.std.proofs.Common.{◌≡◌, ℕ, zero, suc, ◌<◌, ◌⊎◌, inl, inr, List, [], ◌∷◌, ◌++◌, length, get_or, refl, sym, subst, arith}
 use Rattle.std.specs.List.{Contains}
 use Rattle.std.proofs.lemmas.List.Elements.{Contains-append_left, Contains-append_right, Contains-append_cases}
-use Rattle.rank_graph.specs.Graphs.{AreDistinct}
+use Rattle.rank_graph.specs.Walks.{AreDistinct}
 
 pub in_first : {X : Type 0} (x : X) (xs : List X) → Contains (x ∷ xs) x
 in_first x xs = (0, omega arith, refl)

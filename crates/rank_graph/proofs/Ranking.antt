@@ -1,5 +1,5 @@
 -- Why ranks are the lengths of the longest chains, and classes those that nodes lead to.
-use Rattle.std.proofs.Common.{◌≡◌, ℕ, zero, suc, ◌+◌, ◌*◌, ◌/◌, ◌%◌, ◌≤◌, ◌<◌, ◌↔◌, Bool, true, inl, inr, List, [], ◌∷◌, refl, sym, ap, ◌∙◌, subst, arith}
+use Rattle.std.proofs.Common.{◌≡◌, ℕ, zero, suc, ◌+◌, ◌*◌, ◌/◌, ◌%◌, ◌≤◌, ◌<◌, ◌↔◌, Bool, true, inl, inr, List, [], ◌∷◌, length, refl, sym, ap, ◌∙◌, subst, arith}
 use Rattle.std.proofs.Math.Nat.{div-add-mod}
 use Rattle.std.proofs.lemmas.Bool.{cases_lt, false≢true}
 use Rattle.effect_scan.specs.Rows.{Edge}
@@ -7,26 +7,26 @@ use Rattle.rank_graph.specs.declared.bits.TheConstants.{SIZE}
 use Rattle.rank_graph.specs.declared.bits.Bits.{Bits}
 use Rattle.rank_graph.specs.declared.path.Entry.{Entry}
 use Rattle.rank_graph.specs.declared.solution.Solution.{Solution}
-use Rattle.rank_graph.specs.Graphs.{Chain, Leads}
+use Rattle.rank_graph.specs.Walks.{Leads}
 use Rattle.rank_graph.specs.Entries.{owns, rank_at, leads_at, IsSearched}
 use Rattle.rank_graph.specs.Groups.{IsGroup}
 use Rattle.rank_graph.specs.Solutions.{AreRanks, LeadsTo, AreClasses, entries_of, rank_of, leads_of}
 
--- what falls along edges falls along a chain
-pub chain_low : (rows : List (List ℕ)) (rank : ℕ → ℕ) → ((a b : ℕ) → Edge rows a b → rank b < rank a) → (a n : ℕ) → Chain rows a n → n ≤ rank a
-chain_low rows rank falls a zero chain = omega arith
-chain_low rows rank falls a (suc n) chain = let h = chain_low rows rank falls chain.0 n chain.2 in omega (arith, falls a chain.0 chain.1)
+-- what falls along edges falls along a walk
+pub walk_low : (rows : List (List ℕ)) (rank : ℕ → ℕ) → ((a b : ℕ) → Edge rows a b → rank b < rank a) → (a : ℕ) (along : List ℕ) (to : ℕ) → Leads (Edge rows) a along to → length along ≤ rank a
+walk_low rows rank falls a [] to l = omega arith
+walk_low rows rank falls a (w ∷ along) to l = let h = walk_low rows rank falls w along to l.1 in omega (arith, falls a w l.0)
 
-pub chain_of : (rows : List (List ℕ)) (own : List Bits) (es : List Entry) (n a : ℕ) → IsSearched rows own es → rank_at es a ≡ n → Chain rows a n
-chain_of rows own es zero a s e = tt
+pub chain_of : (rows : List (List ℕ)) (own : List Bits) (es : List Entry) (n a : ℕ) → IsSearched rows own es → rank_at es a ≡ n → (along : List ℕ) × (to : ℕ) × Leads (Edge rows) a along to × (length along ≡ n)
+chain_of rows own es zero a s e = ([], a, refl, refl)
 chain_of rows own es (suc n) a s e =
     elim (s.tight a) [
       | inl z ↦ absurd (omega arith)
-      | inr x ↦ (x.0, x.1, chain_of rows own es n x.0 s (omega (arith, x.2)))
+      | inr x ↦ let r = chain_of rows own es n x.0 s (omega (arith, x.2)) in (x.0 ∷ r.0, r.1, (x.1, r.2), ap (λ (k : ℕ). suc k) r.3)
     ]
 
 -- a class comes from a node that has it
-pub reaches : (rows : List (List ℕ)) (own : List Bits) (es : List Entry) (n a c : ℕ) → IsSearched rows own es → rank_at es a ≤ n → leads_at es a c ≡ true → (b : ℕ) × (along : List ℕ) × Leads rows a along b × owns own b c
+pub reaches : (rows : List (List ℕ)) (own : List Bits) (es : List Entry) (n a c : ℕ) → IsSearched rows own es → rank_at es a ≤ n → leads_at es a c ≡ true → (b : ℕ) × (along : List ℕ) × Leads (Edge rows) a along b × owns own b c
 reaches rows own es zero a c s low h =
     elim (s.source a c h) [
       | inl itself ↦ (a, [], refl, itself)
@@ -39,7 +39,7 @@ reaches rows own es (suc n) a c s low h =
     ]
 
 -- edges carry a class back to where they begin
-pub carried : (rows : List (List ℕ)) (leads : ℕ → Bool) → ((a b : ℕ) → Edge rows a b → leads b ≡ true → leads a ≡ true) → (a : ℕ) (along : List ℕ) (b : ℕ) → Leads rows a along b → leads b ≡ true → leads a ≡ true
+pub carried : (rows : List (List ℕ)) (leads : ℕ → Bool) → ((a b : ℕ) → Edge rows a b → leads b ≡ true → leads a ≡ true) → (a : ℕ) (along : List ℕ) (b : ℕ) → Leads (Edge rows) a along b → leads b ≡ true → leads a ≡ true
 carried rows leads holds a [] b l h = subst (λ (x : ℕ). leads x ≡ true) (sym l) h
 carried rows leads holds a (w ∷ along) b l h = holds a w l.0 (carried rows leads holds w along b l.1 h)
 
@@ -47,7 +47,7 @@ pub ranks_found : (rows own : List (List ℕ)) (s : Solution) → IsGroup rows o
 unfolding rank_of
 ranks_found rows own s g = record {
   chains = λ a. chain_of rows g.bits (entries_of s 0) (rank_at (entries_of s 0) a) a g.searched refl;
-  longest = λ a n chain. chain_low rows (rank_at (entries_of s 0)) g.searched.falls a n chain;
+  longest = λ a along to l. walk_low rows (rank_at (entries_of s 0)) g.searched.falls a along to l;
 }
 
 -- a class and its group and place there

@@ -1,5 +1,5 @@
 -- Walks along edges.
-use Rattle.std.proofs.Common.{◌≡◌, ℕ, suc, ◌-◌, ◌≤◌, ◌<◌, eqb, Bool, true, false, inl, inr, List, [], ◌∷◌, ◌++◌, get_or, slice_get, unwrap_or, Option, None, Some, refl, sym, ap, ◌∙◌, subst, arith}
+use Rattle.std.proofs.Common.{◌≡◌, ℕ, suc, ◌-◌, ◌≤◌, ◌<◌, eqb, Bool, true, false, inl, inr, List, [], ◌∷◌, ◌++◌, length, get_or, slice_get, unwrap_or, Option, None, Some, refl, sym, ap, ◌∙◌, subst, arith}
 use Rattle.std.specs.List.{Contains, list_any}
 use Rattle.std.proofs.lemmas.Bool.{eqb-true, eq-eqb, false≢true}
 use Rattle.std.proofs.lemmas.List.Folds.{list_any_at, Any-from_list_any}
@@ -7,7 +7,7 @@ use Rattle.std.proofs.lemmas.Option.{get_or_from_slice_get, unwrap_or-slice_get}
 use Rattle.effect_scan.specs.Rows.{row, Edge}
 use Rattle.rank_graph.specs.declared.path.Entry.{Entry}
 use Rattle.rank_graph.specs.declared.solution.Solution.{Solution}
-use Rattle.rank_graph.specs.Graphs.{Chain, Leads, AreDistinct}
+use Rattle.rank_graph.specs.Walks.{Leads, IsWalk, AreDistinct}
 use Rattle.rank_graph.specs.Solutions.{AreRanks, AreClasses, entries_of}
 use Rattle.rank_graph.proofs.Distinct.{cons_cases}
 use Rattle.rank_graph.proofs.Searching.{leads_push}
@@ -40,20 +40,24 @@ pub has_any : (q : ℕ) (xs : List ℕ) → list_any (λ y. eqb y q) xs ≡ true
 has_any q xs h = let a = Any-from_list_any (λ (y : ℕ). eqb y q) xs h in subst (λ (y : ℕ). Contains xs y) (eqb-true a.1 q a.4) (a.0, a.2, a.3)
 
 -- ---- walks
-abbrev pub Walked : List (List ℕ) → ℕ → ℕ → List ℕ → Type 0
-Walked rows from at nodes = (after : List ℕ) × (nodes ≡ from ∷ after) × Leads rows from after at
-
 -- one more node of a walk
-pub walk_step : (rows : List (List ℕ)) (from at b : ℕ) (r nodes more : List ℕ) → r ≡ row rows at → Contains r b → more ≡ nodes ++ b ∷ [] → Walked rows from at nodes → Walked rows from b more
+pub walk_step : (rows : List (List ℕ)) (from at b : ℕ) (r nodes more : List ℕ) → r ≡ row rows at → Contains r b → more ≡ nodes ++ b ∷ [] → IsWalk (Edge rows) from at nodes → IsWalk (Edge rows) from b more
 walk_step rows from at b r nodes more e has pushed w =
-    (w.0 ++ b ∷ [], pushed ∙ ap (λ (l : List ℕ). l ++ b ∷ []) w.1, leads_push rows from w.0 at b w.2 (edge_of rows at b r e has))
+    record {
+      after = w.after ++ b ∷ [];
+      nodes_are = pushed ∙ ap (λ (l : List ℕ). l ++ b ∷ []) w.nodes_are;
+      leads = leads_push rows from w.after at b w.leads (edge_of rows at b r e has);
+    }
 
 -- ranks fall along edges
 pub rank_falls : (rows : List (List ℕ)) (rank : ℕ → ℕ) (a b : ℕ) (r : List ℕ) → AreRanks rows rank → r ≡ row rows a → Contains r b → rank b < rank a
-rank_falls rows rank a b r ranks e has = let h : suc (rank b) ≤ rank a = ranks.longest a (suc (rank b)) (b, edge_of rows a b r e has, ranks.chains b) in omega arith
+rank_falls rows rank a b r ranks e has =
+    let chain = ranks.chains b in
+    let h : length (b ∷ chain.0) ≤ rank a = ranks.longest a (b ∷ chain.0) chain.1 (edge_of rows a b r e has, chain.2) in
+    omega (arith, chain.3)
 
 -- so they are lower behind a walk's first node
-low_behind : (rows : List (List ℕ)) (rank : ℕ → ℕ) → AreRanks rows rank → (a : ℕ) (ws : List ℕ) (b : ℕ) → Leads rows a ws b → (c : ℕ) → Contains ws c → rank c < rank a
+low_behind : (rows : List (List ℕ)) (rank : ℕ → ℕ) → AreRanks rows rank → (a : ℕ) (ws : List ℕ) (b : ℕ) → Leads (Edge rows) a ws b → (c : ℕ) → Contains ws c → rank c < rank a
 low_behind rows rank ranks a [] b l c held = omega (arith, held.1)
 low_behind rows rank ranks a (w ∷ ws) b l c held =
     let low = rank_falls rows rank a w (row rows a) ranks refl l.0 in
@@ -63,16 +67,16 @@ low_behind rows rank ranks a (w ∷ ws) b l c held =
     ]
 
 -- and it comes to no node twice
-walk_once : (rows : List (List ℕ)) (rank : ℕ → ℕ) → AreRanks rows rank → (a : ℕ) (ws : List ℕ) (b : ℕ) → Leads rows a ws b → AreDistinct (a ∷ ws)
+walk_once : (rows : List (List ℕ)) (rank : ℕ → ℕ) → AreRanks rows rank → (a : ℕ) (ws : List ℕ) (b : ℕ) → Leads (Edge rows) a ws b → AreDistinct (a ∷ ws)
 walk_once rows rank ranks a [] b l = (λ held. omega (arith, held.1), tt)
 walk_once rows rank ranks a (w ∷ ws) b l =
     (λ held. let low = low_behind rows rank ranks a (w ∷ ws) b l a held in omega arith, walk_once rows rank ranks w ws b l.1)
 
-pub walked_once : (rows : List (List ℕ)) (rank : ℕ → ℕ) (from at : ℕ) (nodes : List ℕ) → AreRanks rows rank → Walked rows from at nodes → AreDistinct nodes
-walked_once rows rank from at nodes ranks w = subst AreDistinct (sym w.1) (walk_once rows rank ranks from w.0 at w.2)
+pub walked_once : (rows : List (List ℕ)) (rank : ℕ → ℕ) (from at : ℕ) (nodes : List ℕ) → AreRanks rows rank → IsWalk (Edge rows) from at nodes → AreDistinct nodes
+walked_once rows rank from at nodes ranks w = subst AreDistinct (sym w.nodes_are) (walk_once rows rank ranks from w.after at w.leads)
 
 -- from a node without the class some edge leads on
-pub leads_on : (rows own : List (List ℕ)) (leads : ℕ → ℕ → Bool) (a c : ℕ) → AreClasses rows own leads → (along : List ℕ) (to : ℕ) → Leads rows a along to → Edge own to c → (Edge own a c → ⊥) → ((b : ℕ) → Edge rows a b → leads b c ≡ false) → ⊥
+pub leads_on : (rows own : List (List ℕ)) (leads : ℕ → ℕ → Bool) (a c : ℕ) → AreClasses rows own leads → (along : List ℕ) (to : ℕ) → Leads (Edge rows) a along to → Edge own to c → (Edge own a c → ⊥) → ((b : ℕ) → Edge rows a b → leads b c ≡ false) → ⊥
 leads_on rows own leads a c classes [] to l has lacks none = lacks (subst (λ (x : ℕ). Edge own x c) (sym l) has)
 leads_on rows own leads a c classes (x ∷ along) to l has lacks none =
     let further : leads x c ≡ true = (classes x c).1 (record { along = along; to = to; leads = l.1; has = has }) in
@@ -88,12 +92,15 @@ not_at_end rows own leads a c r mine classes holds here lacks e none =
 -- ---- chains
 -- from a node of rank above 0 some edge leads to one of the rank below
 pub next_there : (rows : List (List ℕ)) (rank : ℕ → ℕ) (a n : ℕ) (r : List ℕ) → AreRanks rows rank → rank a ≡ suc n → r ≡ row rows a → ((b : ℕ) → Contains r b → rank b ≡ n → ⊥) → ⊥
-next_there rows rank a n r ranks is e none =
-    let chain = subst (λ (m : ℕ). Chain rows a m) is (ranks.chains a) in
-    let held = row_has rows a chain.0 r e chain.1 in
-    let high : n ≤ rank chain.0 = ranks.longest chain.0 n chain.2 in
-    let low = rank_falls rows rank a chain.0 r ranks e held in
-    none chain.0 held (omega arith)
+next_there rows rank a n r ranks is e none = let chain = ranks.chains a in from chain.0 chain.1 chain.2 (chain.3 ∙ is)
+  where
+    from : (along : List ℕ) (to : ℕ) → Leads (Edge rows) a along to → length along ≡ suc n → ⊥
+    from [] to l long = omega (arith, long)
+    from (b ∷ along) to l long =
+        let held = row_has rows a b r e l.0 in
+        let high : length along ≤ rank b = ranks.longest b along to l.1 in
+        let low = rank_falls rows rank a b r ranks e held in
+        none b held (omega arith)
 
 pub no_next : (rows : List (List ℕ)) (rank : ℕ → ℕ) (a m : ℕ) (r : List ℕ) → AreRanks rows rank → m ≡ rank a → 0 < rank a → r ≡ row rows a → ((b : ℕ) → Contains r b → rank b ≡ m - 1 → ⊥) → ⊥
 no_next rows rank a m r ranks is some e none =

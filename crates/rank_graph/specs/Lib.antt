@@ -1,3 +1,4 @@
+pub mod Walks
 pub mod Graphs
 pub mod Bits
 pub mod Entries

@@ -1,9 +1,10 @@
 -- What a search knows.
-use Rattle.std.specs.Prelude.{◌≡◌, ℕ, suc, ◌+◌, ◌-◌, ◌≤◌, ◌<◌, true, ◌⊎◌, List, [], ◌∷◌, length, take, slice_index_or}
+use Rattle.std.specs.Prelude.{◌≡◌, ℕ, suc, ◌+◌, ◌-◌, ◌≤◌, ◌<◌, true, ◌⊎◌, List, [], ◌∷◌, ◌++◌, length, take, slice_index_or}
 use Rattle.std.specs.List.{Contains}
 use Rattle.rank_graph.specs.Bits.{has}
 use Rattle.effect_scan.specs.Rows.{row, Edge}
 use Rattle.rank_graph.specs.Entries.{owns}
+use Rattle.rank_graph.specs.Walks.{Leads}
 use Rattle.rank_graph.specs.declared.bits.Bits.{Bits}
 use Rattle.rank_graph.specs.declared.path.Entry.{Entry}
 use Rattle.rank_graph.specs.declared.path.State.{State}
@@ -105,6 +106,11 @@ left_below rows (v ∷ vs) = (length (row rows v.node) - v.next) + 1 + left_belo
 abbrev pub Climbs : List (List ℕ) → ℕ → List Visit → Type 0
 Climbs rows child [] = Unit {0}
 Climbs rows child (v ∷ vs) = Edge rows v.node child × Climbs rows v.node vs
+
+-- edges lead from each of these nodes to the next one, and from the last to the first
+abbrev pub LeadsRound : List (List ℕ) → List ℕ → Type 0
+LeadsRound rows [] = ⊥
+LeadsRound rows (a ∷ xs) = Leads (Edge rows) a (xs ++ a ∷ []) a
 
 abbrev pub AllDone : List State → Type 0
 AllDone states = (a : ℕ) → a < length states → (d : Entry) × (state_of states a ≡ Done d)

@@ -2,15 +2,16 @@
 
 ghost use Rattle.std.specs.Prelude.{◌≡◌, ℕ, ◌<◌, ◌≤◌, ◌⊎◌, List, length, slice_index, IfOk};
 ghost use Rattle.effect_scan.specs.Rows.{Edge};
-ghost use Rattle.rank_graph.specs.Graphs.{IsCycle, AreDistinct, IsToldCycle, BeginsLeast};
-ghost use Rattle.rank_graph.specs.Searching.{OnPath, AreOnce, Climbs};
+ghost use Rattle.rank_graph.specs.Graphs.{IsToldCycle};
+ghost use Rattle.rank_graph.specs.Searching.{OnPath, AreOnce, Climbs, LeadsRound};
+ghost use Rattle.rank_graph.specs.Walks.{AreDistinct};
 
 use crate::path::Path;
 use sqlite_items::Items;
 use std::alloc::{AllocError, Global};
 
-/// The nodes of the path from the target up to the top, from whose last one an edge leads to the target: each of them once, and
-/// told from the least of them on.
+/// The nodes of the path from the target up to the top, from whose last one an edge leads to the target: told from the least of
+/// them on back to it, each of the others once.
 pub fn back_to(
     alloc: Global,
     mut path: Path,
@@ -35,23 +36,21 @@ pub fn back_to(
         }
     }
     nodes.reverse();
-    let turned = from_least(alloc, nodes.as_slice())?;
-    Ok(Items::from_vec(turned))
+    let told = from_least(alloc, nodes.as_slice())?;
+    Ok(Items::from_vec(told))
 }
 
-/// The same cycle from its least node on.
+/// The same cycle from its least node on back to it.
 fn from_least(alloc: Global, nodes: &[usize]) -> Result<Vec<usize>, AllocError>
     requires { 0 < length nodes.now }
-    ensures cycle { IfOk result (λ turned. (rows : List (List ℕ)) →
-        IsCycle rows nodes.now → IsCycle rows turned.items) }
-    ensures once { IfOk result (λ turned. AreDistinct nodes.now → AreDistinct turned.items) }
-    ensures least { IfOk result (λ turned. BeginsLeast turned.items) }
+    ensures { IfOk result (λ told. (rows : List (List ℕ)) →
+        LeadsRound rows nodes.now → AreDistinct nodes.now → IsToldCycle rows told.items) }
 {
     let place = least_place(nodes);
-    let mut turned = Vec::new(alloc);
-    turned.extend_from_slice(&nodes[place..])?;
-    turned.extend_from_slice(&nodes[..place])?;
-    Ok(turned)
+    let mut told = Vec::new(alloc);
+    told.extend_from_slice(&nodes[place..])?;
+    told.extend_from_slice(&nodes[..place + 1])?;
+    Ok(told)
 }
 
 /// The place of the least number.

@@ -2,8 +2,10 @@
 
 ghost use Rattle.std.specs.Prelude.{◌≡◌, ℕ, ◌≤◌, true, false, IfOk, MatchOption};
 ghost use Rattle.std.specs.List.{Contains};
-ghost use Rattle.rank_graph.specs.Graphs.{IsPathTo, IsChainFrom};
+ghost use Rattle.effect_scan.specs.Rows.{Edge};
+ghost use Rattle.rank_graph.specs.Graphs.{IsPathTo};
 ghost use Rattle.rank_graph.specs.Solutions.{AreRanks, AreClasses, rank_of, leads_of};
+ghost use Rattle.rank_graph.specs.Walks.{IsChain};
 
 use crate::solution::Solution;
 use effect_scan::row_at;
@@ -65,7 +67,7 @@ pub fn chain_from(
 ) -> Result<Items<usize>, AllocError>
     requires ranks { AreRanks rows.now (rank_of solution.now) }
     requires count { count ≤ rank_of solution.now from }
-    ensures { IfOk result (IsChainFrom rows.now count from) }
+    ensures { IfOk result (IsChain (Edge rows.now) count from) }
 {
     let mut nodes = Items::new(alloc);
     nodes.push(from)?;

@@ -5,6 +5,7 @@ use Rattle.std.specs.List.{Contains}
 use Rattle.meta_model.specs.Loaded.{Loaded}
 use Rattle.effect_scan.specs.declared.node.Node.{Node}
 use Rattle.effect_scan.specs.declared.node.Member.TheVariants as member
+use Rattle.effect_scan.specs.Edges.{MayLead}
 use Rattle.effect_scan.specs.Laws.{IsNode, EdgesJoinNodes}
 use Rattle.certificate_lang.specs.declared.certificate.Line.{Line}
 use Rattle.certificate_lang.specs.declared.certificate.Certificate.{Certificate}
@@ -12,17 +13,18 @@ use Rattle.typing.specs.declared.spot.Spot.TheVariants as spot
 use Rattle.typing.specs.Typed.{FindsUntyped}
 use Rattle.rank_check.specs.Valid.{IsLineOf, Destroys, HasBody, IsValid}
 use Rattle.rank_check.proofs.Elements.{place_of}
-use Rattle.rank_make.specs.Walks.{Leads, IsWalk, ComesBack, IsToldCycle, LeadsToDestruction, IsDestroyPath, IsHighChain}
+use Rattle.rank_graph.specs.Walks.{Leads, IsWalk, ComesBack}
+use Rattle.rank_make.specs.Walks.{IsToldCycle, LeadsToDestruction, IsDestroyPath, IsHighChain}
 use Rattle.rank_make.specs.Makes.{NoneIsValid}
 
 module _ (p : Loaded) (join : EdgesJoinNodes p) where
   -- a walk of an edge or more begins at a node
-  pub begins_at_node : (x : Node) (zs : List Node) (y : Node) → Leads p x zs y → 0 < length zs → IsNode p x
+  pub begins_at_node : (x : Node) (zs : List Node) (y : Node) → Leads (MayLead p) x zs y → 0 < length zs → IsNode p x
   begins_at_node x [] y leads some = absurd (omega arith)
   begins_at_node x (z ∷ zs) y leads some = (join x z leads.0).0
 
   -- a path to a destruction has an edge
-  pub path_some : (x : Node) (zs : List Node) (y : Node) → Leads p x zs y → HasBody p x → y.member ≡ member.Destruction → 0 < length zs
+  pub path_some : (x : Node) (zs : List Node) (y : Node) → Leads (MayLead p) x zs y → HasBody p x → y.member ≡ member.Destruction → 0 < length zs
   path_some x [] y leads body destruction = let same : x ≡ y = leads in let from = body.from in let e = ap (λ (n : Node). n.member) same in absurd (cc)
   path_some x (z ∷ zs) y leads body destruction = omega arith
 
@@ -35,7 +37,7 @@ module _ (p : Loaded) (join : EdgesJoinNodes p) where
         let same : i.0 ≡ j.0 = valid.nothing_else.once i.0 j.0 a b x i.1 j.1 h.named g.named in
         same_Some a b (sym i.1 ∙ ap (slice_get certificate.lines) same ∙ j.1)
 
-    pub walk_falls : (x : Node) (zs : List Node) (y : Node) (a : Line) → Leads p x zs y → IsLineOf p certificate x a → (b : Line) × IsLineOf p certificate y b × (b.rank + length zs ≤ a.rank)
+    pub walk_falls : (x : Node) (zs : List Node) (y : Node) (a : Line) → Leads (MayLead p) x zs y → IsLineOf p certificate x a → (b : Line) × IsLineOf p certificate y b × (b.rank + length zs ≤ a.rank)
     walk_falls x [] y a leads h = let same : x ≡ y = leads in (a, subst (λ (n : Node). IsLineOf p certificate n a) same h, omega arith)
     walk_falls x (z ∷ zs) y a leads h =
         let line = valid.each_node z ((join x z leads.0).1) in
@@ -44,7 +46,7 @@ module _ (p : Loaded) (join : EdgesJoinNodes p) where
         let more = rest.2 in
         (rest.0, rest.1, omega arith)
 
-    pub walk_carries : (x : Node) (zs : List Node) (y : Node) (a b : Line) (d : ℕ) → Leads p x zs y → IsLineOf p certificate x a → IsLineOf p certificate y b → Destroys p b d → Destroys p a d
+    pub walk_carries : (x : Node) (zs : List Node) (y : Node) (a b : Line) (d : ℕ) → Leads (MayLead p) x zs y → IsLineOf p certificate x a → IsLineOf p certificate y b → Destroys p b d → Destroys p a d
     walk_carries x [] y a b d leads h g destroys =
         let same : y ≡ x = sym leads in
         let line : b ≡ a = one_line x b a (subst (λ (n : Node). IsLineOf p certificate n b) same g) h in
@@ -53,7 +55,7 @@ module _ (p : Loaded) (join : EdgesJoinNodes p) where
         let line = valid.each_node z ((join x z leads.0).1) in
         valid.sets.passed_on x z a line.0 d leads.0 h line.1 (walk_carries z zs y line.0 b d leads.1 line.1 g destroys)
 
-    cycle_invalid : (x : Node) (nodes : List Node) → ComesBack p x nodes → ⊥
+    cycle_invalid : (x : Node) (nodes : List Node) → ComesBack (MayLead p) x nodes → ⊥
     cycle_invalid x nodes cycle =
         let walk = cycle.walk in
         let count = ap (λ (ns : List Node). length ns) walk.nodes_are in
@@ -76,12 +78,12 @@ module _ (p : Loaded) (join : EdgesJoinNodes p) where
 
     chain_invalid : (nodes : List Node) → IsHighChain p nodes → ⊥
     chain_invalid nodes chain =
-        let walk = chain.walk in
+        let walk = chain.1.path.walk in
         let count = ap (λ (ns : List Node). length ns) walk.nodes_are in
-        let high = chain.count in
+        let high = chain.1.edges in
         let some : 0 < length walk.after = omega arith in
-        let line = valid.each_node chain.from (begins_at_node chain.from walk.after chain.to walk.leads some) in
-        let end = walk_falls chain.from walk.after chain.to line.0 walk.leads line.1 in
+        let line = valid.each_node chain.0 (begins_at_node chain.0 walk.after chain.1.to walk.leads some) in
+        let end = walk_falls chain.0 walk.after chain.1.to line.0 walk.leads line.1 in
         let low = end.2 in
         let below = valid.bounded.ranks line.0 (line.1).stands in
         let most = valid.bounded.bound in
@@ -97,12 +99,12 @@ module _ (p : Loaded) (join : EdgesJoinNodes p) where
   chain_bars nodes chain certificate valid = chain_invalid certificate valid nodes chain
 
   -- ---- what a reason names are nodes
-  walk_nodes : (x : Node) (zs : List Node) (y : Node) → Leads p x zs y → IsNode p x → (k : ℕ) (z : Node) → slice_get (x ∷ zs) k ≡ Some z → IsNode p z
+  walk_nodes : (x : Node) (zs : List Node) (y : Node) → Leads (MayLead p) x zs y → IsNode p x → (k : ℕ) (z : Node) → slice_get (x ∷ zs) k ≡ Some z → IsNode p z
   walk_nodes x zs y leads node zero z at = subst (λ (n : Node). IsNode p n) (same_Some x z at) node
   walk_nodes x [] y leads node (suc k) z at = absurd (none-some z at)
   walk_nodes x (w ∷ ws) y leads node (suc k) z at = walk_nodes w ws y leads.1 ((join x w leads.0).1) k z at
 
-  named_nodes : (x y : Node) (nodes : List Node) → IsWalk p x y nodes → 1 < length nodes → (z : Node) → Contains nodes z → IsNode p z
+  named_nodes : (x y : Node) (nodes : List Node) → IsWalk (MayLead p) x y nodes → 1 < length nodes → (z : Node) → Contains nodes z → IsNode p z
   named_nodes x y nodes walk more z held =
       let count = ap (λ (ns : List Node). length ns) walk.nodes_are in
       let some : 0 < length walk.after = omega arith in
@@ -121,7 +123,7 @@ module _ (p : Loaded) (join : EdgesJoinNodes p) where
       named_nodes path.from path.to nodes walk (omega arith)
 
   pub chain_nodes : (nodes : List Node) → IsHighChain p nodes → (z : Node) → Contains nodes z → IsNode p z
-  chain_nodes nodes chain = let count = chain.count in named_nodes chain.from chain.to nodes chain.walk (omega arith)
+  chain_nodes nodes chain = let count = chain.1.edges in named_nodes chain.0 chain.1.to nodes chain.1.path.walk (omega arith)
 
 pub spot_node : (p : Loaded) (x : Node) → FindsUntyped p (Some (spot.Node x)) → IsNode p x
 spot_node p x h = (h.number, h.first.is)

@@ -3,7 +3,6 @@ use Rattle.std.proofs.Common.{◌≡◌, ◌⊎◌, inl, inr, ◌↔◌, ℕ, ze
 use Rattle.std.specs.List.{AllZip}
 use Rattle.std.proofs.lemmas.Option.{slice_get_within}
 use Rattle.meta_model.specs.Loaded.{Loaded}
-use Rattle.meta_model.specs.Members.{IsClassNamed}
 use Rattle.meta_model.specs.Sound.{IsSound}
 use Rattle.meta_model.proofs.OneAnswer.{one_class}
 use Rattle.meta_model.proofs.Zips.{zip_left, zip_right}
@@ -13,14 +12,16 @@ use Rattle.effect_scan.specs.Rows.{Edge}
 use Rattle.effect_scan.specs.Destroying.{Closure}
 use Rattle.effect_scan.specs.Laws.{EdgesJoinNodes}
 use Rattle.effect_scan.specs.Scans.{Scanned, IsScan}
+use Rattle.certificate_lang.specs.declared.certificate.SetItem.{SetItem}
+use Rattle.certificate_lang.specs.declared.certificate.SetItem.TheVariants.{Class}
 use Rattle.certificate_lang.specs.declared.certificate.Line.{Line}
 use Rattle.certificate_lang.specs.declared.certificate.Certificate.{Certificate}
 use Rattle.rank_check.specs.Names.{IsNodeNamed}
-use Rattle.rank_check.specs.Valid.{IsLineOf, Destroys, AreClassesThere, HasEachNode, HasNothingElse, RanksFall, SetsHold, IsBounded, IsValid, most_bound}
+use Rattle.rank_check.specs.Valid.{IsLineOf, StandsFor, Destroys, AreClassesThere, HasEachNode, HasNothingElse, RanksFall, SetsHold, IsBounded, IsValid, most_bound}
 use Rattle.rank_check.specs.Entries.{IsReady}
 use Rattle.rank_check.proofs.Elements.{some_inside, place_of, element_at}
-use Rattle.rank_graph.specs.Graphs.{Chain, Leads as LeadsByNumber}
 use Rattle.rank_graph.specs.Solutions.{LeadsTo}
+use Rattle.rank_graph.specs.Walks.{Leads}
 use Rattle.rank_make.specs.Least.{IsLeast, AreInOrder, IsInOrder, IsLeastValid}
 use Rattle.rank_make.specs.Solved.{own_rows, IsSolved, NoneEnds, IsLineFor, AreLinesFor}
 use Rattle.rank_make.proofs.Placed.{one_number, one_at, one_name, closure_low}
@@ -36,18 +37,25 @@ zip_from R (x ∷ xs) (y ∷ ys) count each = (each 0 x y refl refl, zip_from R 
 module _ (p : Loaded) (sound : IsSound p) (join : EdgesJoinNodes p) (scan : Scanned) (is : IsScan p scan) (rank : ℕ → ℕ) (leads : ℕ → ℕ → Bool) (solved : IsSolved scan rank leads) where
   -- ---- what a valid certificate has to say
   module _ (other : Certificate) (valid : IsValid p other) where
-    -- a rank is at least as great as a chain is long
-    chain_low : (count : ℕ) (n : ℕ) (x : Node) (b : Line) → Chain scan.rows n count → IsAt (nodes_of p) x n → IsLineOf p other x b → count ≤ b.rank
-    chain_low zero n x b chain at line = omega arith
-    chain_low (suc count) n x b chain at line =
-        let edge = edge_leads p scan is n chain.0 x chain.1 at in
-        let next = valid.each_node edge.0 (chain.0, edge.1) in
-        let rest = chain_low count chain.0 edge.0 next.0 chain.2 edge.1 next.1 in
+    -- a rank is at least as great as a walk is long
+    walk_low : (n : ℕ) (ws : List ℕ) (to : ℕ) (x : Node) (b : Line) → Leads (Edge scan.rows) n ws to → IsAt (nodes_of p) x n → IsLineOf p other x b → length ws ≤ b.rank
+    walk_low n [] to x b walk at line = omega arith
+    walk_low n (w ∷ ws) to x b walk at line =
+        let edge = edge_leads p scan is n w x walk.0 at in
+        let next = valid.each_node edge.0 (w, edge.1) in
+        let rest = walk_low w ws to edge.0 next.0 walk.1 edge.1 next.1 in
         let low = valid.ranks x edge.0 b next.0 edge.2 line next.1 in
         omega arith
 
+    -- .. so it is at least as great as the one here
+    rank_low : (n : ℕ) (x : Node) (b : Line) → IsAt (nodes_of p) x n → IsLineOf p other x b → rank n ≤ b.rank
+    rank_low n x b at line =
+        let chain = solved.ranks.chains n in
+        let low = walk_low n chain.0 chain.1 x b chain.2 at line in
+        omega (arith, chain.3)
+
     -- a set has each class that a walk leads to
-    walk_has : (n : ℕ) (ws : List ℕ) (to d : ℕ) (x : Node) (b : Line) → LeadsByNumber scan.rows n ws to → Edge (own_rows scan) to d → IsAt (nodes_of p) x n → IsLineOf p other x b → Destroys p b d
+    walk_has : (n : ℕ) (ws : List ℕ) (to d : ℕ) (x : Node) (b : Line) → Leads (Edge scan.rows) n ws to → Edge (own_rows scan) to d → IsAt (nodes_of p) x n → IsLineOf p other x b → Destroys p b d
     walk_has n [] to d x b walk own at line =
         let same : n ≡ to = walk in
         let end = own_is p scan is to d own in
@@ -65,35 +73,38 @@ module _ (p : Loaded) (sound : IsSound p) (join : EdgesJoinNodes p) (scan : Scan
       let end = own_is p scan is to.to d to.has in
       closure_low p (end.0).class d end.3
 
+  one_item : (item : SetItem) (d e : ℕ) → StandsFor p item d → StandsFor p item e → e ≡ d
+  one_item (Class name) d e h g = one_class p sound name d e h g
+
   module _ (n : ℕ) (x : Node) (line : Line) (for : IsLineFor p rank leads n x line) where
     set_is : (d : ℕ) → Destroys p line d ↔ (leads n d ≡ true)
     set_is d = (there, back)
       where
         there : Destroys p line d → leads n d ≡ true
         there listed =
-            let names = for.destroys in
-            let at = place_of line.destroys listed.name listed.listed in
-            let pair = zip_left (IsClassNamed p) line.destroys names.classes names.named at.0 listed.name at.1 in
-            let same : pair.0 ≡ d = one_class p sound listed.name d pair.0 listed.named pair.2 in
-            let member = (names.lists.members pair.0).0 (element_at names.classes at.0 pair.0 pair.1) in
+            let items = for.destroys in
+            let at = place_of line.destroys listed.item listed.listed in
+            let pair = zip_left (StandsFor p) line.destroys items.classes items.each at.0 listed.item at.1 in
+            let same : pair.0 ≡ d = one_item listed.item d pair.0 listed.stands_for pair.2 in
+            let member = (items.lists.members pair.0).0 (element_at items.classes at.0 pair.0 pair.1) in
             subst (λ (c : ℕ). leads n c ≡ true) same member.1
 
         back : leads n d ≡ true → Destroys p line d
         back h =
-            let names = for.destroys in
-            let at = place_of names.classes d ((names.lists.members d).1 (class_low n d h, h)) in
-            let pair = zip_right (IsClassNamed p) line.destroys names.classes names.named at.0 d at.1 in
-            record { name = pair.0; listed = element_at line.destroys at.0 pair.0 pair.1; named = pair.2 }
+            let items = for.destroys in
+            let at = place_of items.classes d ((items.lists.members d).1 (class_low n d h, h)) in
+            let pair = zip_right (StandsFor p) line.destroys items.classes items.each at.0 d at.1 in
+            record { item = pair.0; listed = element_at line.destroys at.0 pair.0 pair.1; stands_for = pair.2 }
 
-    names_there : AreClassesThere p line.destroys
-    names_there name listed =
-        let names = for.destroys in
-        let at = place_of line.destroys name listed in
-        let pair = zip_left (IsClassNamed p) line.destroys names.classes names.named at.0 name at.1 in
+    items_there : AreClassesThere p line.destroys
+    items_there item listed =
+        let items = for.destroys in
+        let at = place_of line.destroys item listed in
+        let pair = zip_left (StandsFor p) line.destroys items.classes items.each at.0 item at.1 in
         (pair.0, pair.2)
 
     in_order : AreInOrder p line.destroys
-    in_order = record { classes = for.destroys.classes; named = for.destroys.named; increasing = for.destroys.lists.increasing }
+    in_order = record { classes = for.destroys.classes; each = for.destroys.each; increasing = for.destroys.lists.increasing }
 
   -- ---- all lines
   module _ (bound : ℕ) (lines : List Line) (are : AreLinesFor p rank leads lines) where
@@ -139,7 +150,7 @@ module _ (p : Loaded) (sound : IsSound p) (join : EdgesJoinNodes p) (scan : Scan
           let one : first.0 ≡ x = one_name p sound a.node first.0 x (first.2).named named_a in
           let two : second.0 ≡ x = one_name p sound b.node second.0 x (second.2).named named_b in
           one_number p x j k (subst (λ (y : Node). IsAt (nodes_of p) y j) one first.1) (subst (λ (y : Node). IsAt (nodes_of p) y k) two second.1);
-      classes = λ line stands. let at = place_of lines line stands in let node = node_at at.0 line at.1 in names_there at.0 node.0 line node.2;
+      classes = λ line stands. let at = place_of lines line stands in let node = node_at at.0 line at.1 in items_there at.0 node.0 line node.2;
     }
 
     ranks : RanksFall p certificate
@@ -197,7 +208,7 @@ module _ (p : Loaded) (sound : IsSound p) (join : EdgesJoinNodes p) (scan : Scan
           | inr high ↦
               let x = some_inside (nodes_of p) high.0 high.1 in
               let line = valid.each_node x.0 (high.0, x.1) in
-              let low = chain_low other valid (rank high.0) high.0 x.0 line.0 (solved.ranks.chains high.0) x.1 line.1 in
+              let low = rank_low other valid high.0 x.0 line.0 x.1 line.1 in
               let below = valid.bounded.ranks line.0 (line.1).stands in
               let e = high.2 in
               omega arith
@@ -208,7 +219,7 @@ module _ (p : Loaded) (sound : IsSound p) (join : EdgesJoinNodes p) (scan : Scan
       bound = bound_least from;
       ranks = λ other valid x a b of_a of_b.
           let at = number_of x a of_a in
-          let low = chain_low other valid (rank at.0) at.0 x b (solved.ranks.chains at.0) at.1 of_b in
+          let low = rank_low other valid at.0 x b at.1 of_b in
           let e = (at.2).ranked in
           omega arith;
       sets = λ other valid x a b d of_a of_b destroys.

@@ -4,14 +4,15 @@ use Rattle.std.specs.List.{AllZip}
 use Rattle.std.proofs.lemmas.List.{length-append, take_more, map-append, get_or_default}
 use Rattle.std.proofs.lemmas.Option.{slice_get-get_or, same_Some, none-some}
 use Rattle.meta_model.specs.Loaded.{Loaded}
-use Rattle.meta_model.specs.Members.{IsClassNamed}
 use Rattle.meta_model.proofs.Zips.{zip_append, zip_push}
 use Rattle.effect_scan.specs.declared.node.Node.{Node}
 use Rattle.effect_scan.specs.Nodes.{nodes_of, IsAt}
 use Rattle.effect_scan.proofs.Listing.{lists_none, lists_yes, lists_no}
 use Rattle.effect_scan.proofs.Numbered.{get_either}
+use Rattle.certificate_lang.specs.declared.certificate.SetItem.{SetItem}
 use Rattle.certificate_lang.specs.declared.certificate.Line.{Line}
-use Rattle.rank_make.specs.Solved.{own_of, AreNames, IsLineFor, AreLinesTo}
+use Rattle.rank_check.specs.Valid.{StandsFor}
+use Rattle.rank_make.specs.Solved.{own_of, AreItems, IsLineFor, AreLinesTo}
 use Rattle.rank_make.proofs.Placed.{one_at}
 
 -- ---- rows
@@ -29,20 +30,20 @@ nodes_more nodes all items more numbers i d inside same low before e =
     zip_push (λ n x. IsAt nodes x n) numbers items more i (get_or numbers i 0) (get_or all (get_or numbers i 0) d) inside (sym (get_or_default numbers i (get_or numbers i 0) 0 inside))
     (subst (λ (ns : List Node). slice_get ns (get_or numbers i 0) ≡ Some (get_or all (get_or numbers i 0) d)) same (slice_get-get_or all (get_or numbers i 0) d low)) before e
 
--- ---- names
+-- ---- items of sets
 module _ (p : Loaded) (P : ℕ → Type 0) where
-  pub names_none : AreNames p P 0 []
-  names_none = record { classes = []; lists = lists_none P; named = tt }
+  pub items_none : AreItems p P 0 []
+  items_none = record { classes = []; lists = lists_none P; each = tt }
 
-  pub names_yes : (n : ℕ) (name : List ℕ) (names more : List (List ℕ)) → AreNames p P n names → P n → IsClassNamed p name n → more ≡ names ++ name ∷ [] → AreNames p P (n + 1) more
-  names_yes n name names more h has named e = record {
+  pub items_yes : (n : ℕ) (item : SetItem) (items more : List SetItem) → AreItems p P n items → P n → StandsFor p item n → more ≡ items ++ item ∷ [] → AreItems p P (n + 1) more
+  items_yes n item items more h has stands e = record {
     classes = h.classes ++ n ∷ [];
     lists = lists_yes P n h.classes (h.classes ++ n ∷ []) h.lists has refl;
-    named = subst (λ (l : List (List ℕ)). AllZip (IsClassNamed p) l (h.classes ++ n ∷ [])) (sym e) (zip_append (IsClassNamed p) names (name ∷ []) h.classes (n ∷ []) h.named (named, tt));
+    each = subst (λ (l : List SetItem). AllZip (StandsFor p) l (h.classes ++ n ∷ [])) (sym e) (zip_append (StandsFor p) items (item ∷ []) h.classes (n ∷ []) h.each (stands, tt));
   }
 
-  pub names_no : (n : ℕ) (names : List (List ℕ)) → AreNames p P n names → ¬ P n → AreNames p P (n + 1) names
-  names_no n names h lacks = record { classes = h.classes; lists = lists_no P n h.classes h.lists lacks; named = h.named }
+  pub items_no : (n : ℕ) (items : List SetItem) → AreItems p P n items → ¬ P n → AreItems p P (n + 1) items
+  items_no n items h lacks = record { classes = h.classes; lists = lists_no P n h.classes h.lists lacks; each = h.each }
 
 -- ---- lines
 module _ (p : Loaded) (rank : ℕ → ℕ) (leads : ℕ → ℕ → Bool) where

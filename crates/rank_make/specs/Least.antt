@@ -3,13 +3,13 @@ use Rattle.std.specs.Prelude.{◌≤◌, ℕ, List}
 use Rattle.std.specs.List.{Contains, AllZip}
 use Rattle.std.specs.List.Sorted.{IsStrictlyIncreasing}
 use Rattle.meta_model.specs.Loaded.{Loaded}
-use Rattle.meta_model.specs.Members.{IsClassNamed}
 use Rattle.effect_scan.specs.declared.node.Node.{Node}
 use Rattle.effect_scan.specs.Nodes.{nodes_of}
+use Rattle.certificate_lang.specs.declared.certificate.SetItem.{SetItem}
 use Rattle.certificate_lang.specs.declared.certificate.Line.{Line}
 use Rattle.certificate_lang.specs.declared.certificate.Certificate.{Certificate}
 use Rattle.rank_check.specs.Names.{IsNodeNamed}
-use Rattle.rank_check.specs.Valid.{IsLineOf, Destroys, IsValid}
+use Rattle.rank_check.specs.Valid.{IsLineOf, StandsFor, Destroys, IsValid}
 
 -- no valid certificate has a smaller bound, a smaller rank of a node, or a set of a node without one of the classes of its set
 -- here
@@ -20,10 +20,10 @@ pub record IsLeast (p : Loaded) (certificate : Certificate) : Type 0 where
   pub sets : (other : Certificate) → IsValid p other → (x : Node) (a b : Line) (d : ℕ) → IsLineOf p certificate x a → IsLineOf p other x b
       → Destroys p a d → Destroys p b d
 
--- these are the names of classes, in the order of classes, each once
-pub record AreInOrder (p : Loaded) (names : List (List ℕ)) : Type 0 where
+-- each item stands for a class, and these are in the order of classes, each once
+pub record AreInOrder (p : Loaded) (items : List SetItem) : Type 0 where
   pub classes : List ℕ
-  pub named : AllZip (IsClassNamed p) names classes
+  pub each : AllZip (StandsFor p) items classes
   pub increasing : IsStrictlyIncreasing classes
 
 -- the lines are those of the nodes in their order, and each set stands in the order of classes

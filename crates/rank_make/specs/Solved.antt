@@ -5,7 +5,6 @@ use Rattle.meta_model.specs.declared.object.MetaMethod.{MetaMethod}
 use Rattle.meta_model.specs.declared.object.MetaProperty.{MetaProperty}
 use Rattle.meta_model.specs.declared.object.MetaObject.{MetaObject}
 use Rattle.meta_model.specs.Loaded.{Loaded}
-use Rattle.meta_model.specs.Members.{IsClassNamed}
 use Rattle.effect_scan.specs.declared.node.Node.{Node}
 use Rattle.effect_scan.specs.declared.node.Member.{Member}
 use Rattle.effect_scan.specs.declared.node.Member.TheVariants.{Method, Property, Destruction}
@@ -13,9 +12,10 @@ use Rattle.effect_scan.specs.Nodes.{nodes_of, IsAt}
 use Rattle.effect_scan.specs.Rows.{row}
 use Rattle.effect_scan.specs.Places.{Lists}
 use Rattle.effect_scan.specs.Scans.{Scanned}
+use Rattle.certificate_lang.specs.declared.certificate.SetItem.{SetItem}
 use Rattle.certificate_lang.specs.declared.certificate.Line.{Line}
 use Rattle.rank_check.specs.Names.{IsNodeNamed}
-use Rattle.rank_check.specs.Valid.{HasBody, most_bound}
+use Rattle.rank_check.specs.Valid.{HasBody, StandsFor, most_bound}
 use Rattle.rank_graph.specs.Solutions.{AreRanks, AreClasses}
 
 -- ---- what a node destroys itself: with `~C` those of the closure of C, anything else nothing
@@ -55,12 +55,12 @@ NoneEnds p leads = (n : ℕ) (x : Node) → ¬ EndsItself p leads n x
 abbrev pub AreLow : ℕ → (ℕ → ℕ) → Type 0
 AreLow count rank = (n : ℕ) → n < count → rank n < most_bound
 
--- ---- names
--- the classes with P, by their names, in the order of classes
-pub record AreNames (p : Loaded) (P : ℕ → Type 0) (end : ℕ) (names : List (List ℕ)) : Type 0 where
+-- ---- items of sets
+-- items for the classes with P, in the order of classes
+pub record AreItems (p : Loaded) (P : ℕ → Type 0) (end : ℕ) (items : List SetItem) : Type 0 where
   pub classes : List ℕ
   pub lists : Lists P end classes
-  pub named : AllZip (IsClassNamed p) names classes
+  pub each : AllZip (StandsFor p) items classes
 
 -- the class has the member
 abbrev pub HasMember : MetaObject → Member → Type 0
@@ -73,7 +73,7 @@ HasMember class Destruction = Unit {0}
 pub record IsLineFor (p : Loaded) (rank : ℕ → ℕ) (leads : ℕ → ℕ → Bool) (n : ℕ) (x : Node) (line : Line) : Type 0 where
   pub named : IsNodeNamed p line.node x
   pub ranked : line.rank ≡ rank n
-  pub destroys : AreNames p (λ d. leads n d ≡ true) (length p.classes) line.destroys
+  pub destroys : AreItems p (λ d. leads n d ≡ true) (length p.classes) line.destroys
 
 -- the lines of the first nodes, in their order
 pub record AreLinesTo (p : Loaded) (rank : ℕ → ℕ) (leads : ℕ → ℕ → Bool) (end : ℕ) (lines : List Line) : Type 0 where

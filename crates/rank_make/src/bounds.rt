@@ -5,10 +5,8 @@ ghost use Rattle.rank_check.specs.Valid.{most_bound};
 ghost use Rattle.rank_graph.specs.Solutions.{rank_of};
 ghost use Rattle.rank_make.specs.Solved.{AreLow};
 
+use rank_check::MOST_BOUND;
 use rank_graph::Solution;
-
-/// The greatest bound.
-pub const MOST_BOUND: usize = 256;
 
 /// The first of so many nodes whose rank isn't below the greatest bound.
 pub fn first_high(solution: &Solution, count: usize) -> Option<usize>
@@ -17,7 +15,7 @@ pub fn first_high(solution: &Solution, count: usize) -> Option<usize>
         (λ n. (n < count) × (most_bound ≤ rank_of solution.now n)) }
 {
     for node in 0..count {
-        if solution.rank(node) >= MOST_BOUND {
+        if solution.rank(node) >= MOST_BOUND as usize {
             return Some(node);
         }
     }

@@ -9,8 +9,8 @@ ghost use Rattle.rank_make.specs.Solved.{own_rows, IsSolved};
 
 use crate::bounds::bound_of;
 use crate::naming::lines;
-use crate::reasons::{destroy_path, high_chain, told_cycle};
-use crate::rows::own_rows;
+use crate::reasons::{destroy_path, high_chain};
+use crate::rows::{nodes_at, own_rows};
 use crate::why::Why;
 use effect_scan::{Scan, edges_join_nodes};
 use meta_objects::Meta;
@@ -67,7 +67,7 @@ fn make_scanned(
     match solve(alloc, scan.rows(), own, meta.classes().len()) {
         Ok(solution) => make_solved(alloc, meta, scan, own, &solution),
         Err(Unranked::Cycle(numbers)) => {
-            let nodes = told_cycle(alloc, meta, scan, numbers)?;
+            let nodes = nodes_at(alloc, scan, numbers.as_slice())?;
             Err(Why::Cycle(nodes))
         }
         Err(Unranked::Memory) => Err(Why::Memory),

@@ -8,14 +8,13 @@ ghost use Rattle.effect_scan.specs.Scans.{IsScan};
 ghost use Rattle.rank_check.specs.Names.{IsNodeNamed, IsMemberNamed};
 ghost use Rattle.rank_check.specs.Valid.{most_bound};
 ghost use Rattle.rank_graph.specs.Solutions.{rank_of, leads_of};
-ghost use Rattle.rank_make.specs.Solved.{AreLow, AreNames, IsLineFor, AreLinesFor, HasMember};
+ghost use Rattle.rank_make.specs.Solved.{AreLow, AreItems, IsLineFor, AreLinesFor, HasMember};
 
 use effect_scan::{Member, Node, Scan};
 use meta_model::MetaObject;
 use meta_objects::Meta;
-use rank_check::{Line, MemberName, NodeName};
+use rank_check::{Line, MemberName, NodeName, SetItem};
 use rank_graph::Solution;
-use signatures::Name;
 use sqlite_items::Items;
 use std::alloc::{AllocError, Global};
 
@@ -51,7 +50,7 @@ fn line_of(
     ensures { IfOk result (IsLineFor meta.now (rank_of solution.now) (leads_of solution.now) number node) }
 {
     let name = node_name(alloc, meta, node)?;
-    let destroys = class_names(alloc, meta, solution, number)?;
+    let destroys = set_items(alloc, meta, solution, number)?;
     Ok(Line {
         node: name,
         rank: solution.rank(number) as u32,
@@ -59,24 +58,23 @@ fn line_of(
     })
 }
 
-/// The names of the classes that the node of this number leads to, in the order of classes. Its error is that memory was
-/// refused.
-fn class_names(
+/// The classes that the node of this number leads to, in the order of classes. Its error is that memory was refused.
+fn set_items(
     alloc: Global,
     meta: &Meta,
     solution: &Solution,
     node: usize,
-) -> Result<Items<Name>, AllocError>
-    ensures { IfOk result (AreNames meta.now (λ d. leads_of solution.now node d ≡ true) (length meta.now.classes)) }
+) -> Result<Items<SetItem>, AllocError>
+    ensures { IfOk result (AreItems meta.now (λ d. leads_of solution.now node d ≡ true) (length meta.now.classes)) }
 {
-    let mut names = Items::new(alloc);
+    let mut items = Items::new(alloc);
     for (class, object) in meta.classes().iter().enumerate() {
         if solution.leads_to(node, class) {
             let name = object.name.copy()?;
-            names.push(name)?;
+            items.push(SetItem::Class(name))?;
         }
     }
-    Ok(names)
+    Ok(items)
 }
 
 /// The name of the node. Its error is that memory was refused.

@@ -4,40 +4,19 @@ ghost use Rattle.std.specs.Prelude.{◌≡◌, ◌<◌, length, IfOk, IsTrue, �
 ghost use Rattle.effect_scan.specs.Scans.{IsScan};
 ghost use Rattle.effect_scan.specs.declared.node.Node.{Node};
 ghost use Rattle.rank_check.specs.Valid.{HasBody};
-ghost use Rattle.rank_graph.specs.Graphs.{IsToldCycle as IsCycleByNumber};
 ghost use Rattle.rank_graph.specs.Solutions.{rank_of, leads_of};
-ghost use Rattle.rank_make.specs.Walks.{IsToldCycle, IsDestroyPath, IsHighChain};
+ghost use Rattle.rank_make.specs.Walks.{IsDestroyPath, IsHighChain};
 ghost use Rattle.rank_make.specs.Solved.{own_rows, IsSolved, EndsItself, NoneEnds, AreLow};
 
-use crate::bounds::{MOST_BOUND, first_high};
+use crate::bounds::first_high;
 use crate::rows::nodes_at;
 use effect_scan::{Member, Node, Scan};
 use meta_model::Work;
 use meta_objects::Meta;
+use rank_check::MOST_BOUND;
 use rank_graph::{Solution, chain_from, path_to};
 use sqlite_items::Items;
 use std::alloc::{AllocError, Global};
-
-/// The nodes of these numbers, which are a cycle from its least one on, and then the first of them again. Its error is
-/// that memory was refused.
-pub fn told_cycle(
-    alloc: Global,
-    meta: &Meta,
-    scan: &Scan,
-    numbers: Items<usize>,
-) -> Result<Items<Node>, AllocError>
-    requires scan { IsScan meta.now scan.now }
-    requires cycle { IsCycleByNumber scan.now.rows numbers }
-    ensures { IfOk result (IsToldCycle meta.now) }
-{
-    let first = match numbers.as_slice().first() {
-        Some(first) => *first,
-        None => unreachable!(),
-    };
-    let mut closed = numbers;
-    closed.push(first)?;
-    nodes_at(alloc, scan, closed.as_slice())
-}
 
 /// A path from a slot or native to the destruction of an object of its class, if there is one. Its error is that memory
 /// was refused.
@@ -105,7 +84,7 @@ pub fn high_chain(
     let Some(from) = first_high(solution, scan.nodes().len()) else {
         return Ok(None);
     };
-    let numbers = chain_from(alloc, scan.rows(), solution, from, MOST_BOUND)?;
+    let numbers = chain_from(alloc, scan.rows(), solution, from, MOST_BOUND as usize)?;
     let nodes = nodes_at(alloc, scan, numbers.as_slice())?;
     Ok(Some(nodes))
 }

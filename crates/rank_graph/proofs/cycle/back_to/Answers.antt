@@ -1,6 +1,7 @@
 use Rattle.std.proofs.Common.{[], refl, length, arith, sym, ◌∙◌, ap, subst}
 use Rattle.std.proofs.lemmas.List.{length_push, length-reverse}
-use Rattle.rank_graph.specs.Graphs.{AreDistinct, IsToldCycle}
+use Rattle.rank_graph.specs.Graphs.{IsToldCycle}
+use Rattle.rank_graph.specs.Walks.{AreDistinct}
 use Rattle.rank_graph.proofs.Searching.{climb_on, climb_step, climbed, once_step, one_reversed, top_alone}
 use Rattle.rank_graph.proofs.cycle.back_to.Goals as goal
 
@@ -26,8 +27,5 @@ from_least-requires c = omega (arith, ap length c.as_slice.ensures.value ∙ ap 
 pub returns : goal.returns
 returns c = λ rows climbs edge.
     let cycle = climbed rows _ _ _ c.loop-current.nodes.items _ c.loop-current-test.false (c.as_slice.ensures.value ∙ c.reverse.ensures.items) edge (c.loop-current.invariant.1 rows climbs).1 in
-    subst (IsToldCycle rows) (sym c.from_vec.ensures) (record {
-      cycle = c.in_ok-turned.ensures.cycle rows cycle;
-      once = c.in_ok-turned.ensures.once (subst AreDistinct (sym (c.as_slice.ensures.value ∙ c.reverse.ensures.items)) c.loop-current.invariant.3.distinct);
-      least = c.in_ok-turned.ensures.least;
-    })
+    subst (IsToldCycle rows) (sym c.from_vec.ensures)
+    (c.in_ok-told.ensures rows cycle (subst AreDistinct (sym (c.as_slice.ensures.value ∙ c.reverse.ensures.items)) c.loop-current.invariant.3.distinct))

@@ -20,13 +20,9 @@ loop-edge-preserved c =
 pub returns : goal.returns
 returns c =
     let walk = c.loop-edge.invariant.0 in
-    let count = ap length walk.1 in
     let long = c.loop-edge.invariant.1 in
     record {
-      after = walk.0;
       to = c.loop-edge.at;
-      nodes_are = walk.1;
-      leads = walk.2;
-      once = walked_once _ _ _ _ _ c.requires.ranks walk;
-      count = omega (arith, c.loop-edge-test.false, c.loop-edge.auto);
+      path = record { walk = walk; once = walked_once _ _ _ _ _ c.requires.ranks walk };
+      edges = omega (arith, c.loop-edge-test.false, c.loop-edge.auto);
     }

@@ -17,10 +17,7 @@ pub returns : goal.returns
 returns c =
     let walk = c.loop-class.invariant.0 in
     record {
-      after = walk.0;
       to = c.loop-class.at;
-      nodes_are = walk.1;
-      leads = walk.2;
-      once = walked_once _ _ _ _ _ c.requires.ranks walk;
+      path = record { walk = walk; once = walked_once _ _ _ _ _ c.requires.ranks walk };
       has = edge_of _ _ _ _ c.row_at.ensures (has_any _ _ (sym c.loop-class-test.ensures.value));
     }

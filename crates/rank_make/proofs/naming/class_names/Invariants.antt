@@ -1,7 +1,0 @@
-use Rattle.std.proofs.Common.{◌≡◌, true}
-use Rattle.rank_graph.specs.Solutions.{leads_of}
-use Rattle.rank_make.specs.Solved.{AreNames}
-use Rattle.rank_make.proofs.naming.class_names.Given as goal
-
-abbrev pub invariant-loop-class : goal.invariant-loop-class
-invariant-loop-class l = AreNames l.meta (λ d. leads_of l.solution l.node d ≡ true) l.class l.names
