@@ -1,5 +1,5 @@
 -- What a rule or an event pushes has the arguments that its method declares.
-use Rattle.std.proofs.Common.{◌≡◌, ℕ, suc, ◌<◌, ◌≤◌, Bool, true, false, List, [], ◌∷◌, map, take, length, Ok, Err, Result, Option, Some, None, refl, sym, ap, subst, arith}
+use Rattle.std.proofs.Common.{◌≡◌, ℕ, suc, ◌<◌, ◌≤◌, Bool, true, false, List, [], ◌∷◌, map, take, length, Ok, Err, Result, Option, Some, None, refl, sym, ap, subst, arith, inl, inr}
 use Rattle.std.specs.List.{AllByRecursion, find}
 use Rattle.signatures.specs.declared.value.Value.{Value}
 use Rattle.script_lang.specs.declared.event.Event.{Event}
@@ -37,13 +37,13 @@ use Rattle.machine_state.specs.Connections.{is_living, next_used}
 use Rattle.machine_state.specs.State.{Step, Run, Act, State, IsIdle, Activation, Body, Emit, Update, Destroy}
 use Rattle.machine_state.specs.Turns.{running, reaches_at_once}
 use Rattle.machine_rules.specs.Connecting.{kept_ends, names_of}
-use Rattle.machine_rules.specs.Destroying.{Dies, NextRule, ChildRule, DestroyRule, living_child, DefersOnce, Schedules}
+use Rattle.machine_rules.specs.Destroying.{Dies, NextRule, ChildRule, DestroyRule, living_child, Schedules}
 use Rattle.machine_rules.specs.Operations.{Operation, Write, Begin, Choose, Connect, Disconnect, Delete, Schedule, TakeAnswer, Nothing, operation_of_step}
 use Rattle.machine_rules.specs.Good.{ArgumentsFit, of_living, of_dead, TopFits}
 use Rattle.machine_rules.specs.Judgement.{found as finds, holds as so, becomes, goes_on}
 use Rattle.machine_rules.specs.Natives.{NativeAnswers}
 use Rattle.machine_rules.specs.Rules.{Rule, RuleAt, BodyRule, Does, EmitRule, UpdateRule, NotifiesIf, TurnRule, Serves, Delivers, Arrives, Begins, BeginsIf, begun, with_used, linked, unlinked}
-use Rattle.machine_rules.specs.code.Sound.{Waits, SendsThese}
+use Rattle.machine_rules.specs.code.Sound.{Waits, SendsThese, MayBeHeard}
 use Rattle.machine_rules.specs.There.{IsMember}
 use Rattle.machine_rules.specs.code.Writing.{Announces}
 use Rattle.machine_rules.proofs.Beginning.{fit-of, next-delivered, delivered-fits}
@@ -65,6 +65,8 @@ use Rattle.checked_runs.proofs.Promised.{StepIsPromised, AllIsPromised}
 use Rattle.checked_runs.proofs.Giving.{does-give, answer-promised}
 use Rattle.checked_runs.proofs.Given.{given-is, living-is, living-object}
 use Rattle.checked_runs.proofs.Leading.{does-led}
+use Rattle.machine_rules.proofs.Scheduling.{schedule-cases}
+use Rattle.machine_rules.proofs.Hearing.{AllHeard, nobody, may-be-heard}
 
 -- What was pushed over so many activations has its arguments, and what is left of natives' answers keeps to their effects.
 pub record Pushes (p : Loaded) (classes : ℕ → Option ℕ) (high : ℕ) (t : State) : Type 0 where
@@ -112,12 +114,10 @@ module _ {p : Loaded} {classes : ℕ → Option ℕ} where
 
   -- an object is scheduled
   pushes-schedules : {n : ℕ} (s t : State) (stack : List Activation) (x : ℕ) (life : Option Life) → length stack ≤ n → AllIsPromised p classes stack → Schedules s stack x t life → Pushes p classes n t
-  pushes-schedules s t stack x None low all e = pushes-as e (pushes-none low all)
-  pushes-schedules {n} s t stack x (Some l) low all rule = by_mark l.scheduled rule
-    where
-      by_mark : (b : Bool) → DefersOnce s stack l.home x t b → Pushes p classes n t
-      by_mark true e = pushes-as e (pushes-none low all)
-      by_mark false d = pushes-as d.gives (pushes-none low all)
+  pushes-schedules s t stack x life low all rule = elim (schedule-cases life rule) [
+    | inl e ↦ pushes-as e (pushes-none low all)
+    | inr d ↦ pushes-as d.gives (pushes-none low all)
+  ]
 
   -- connections are made and removed
   pushes-linked : {n : ℕ} (s : State) (stack : List Activation) (ends : Endpoints) (how : ConnectionType) (names : Named (List ℕ)) (answer : Result (Unit {0}) Refusal) → length stack ≤ n → AllIsPromised p classes stack → Pushes p classes n (linked s stack ends how names answer)
@@ -164,17 +164,17 @@ module _ {p : Loaded} {certificate : Certificate} (valid : IsValid p certificate
 
   -- ---- emissions
 
-  pushes-emission : (t : State) (n o g : ℕ) (arguments : List Value) (used last : ℕ) (below : List Activation) → n ≡ suc (length below) → SendsThese p s.objects o g arguments → AllIsPromised p classes below →
+  pushes-emission : (t : State) (n o g : ℕ) (arguments : List Value) (used last : ℕ) (below : List Activation) → n ≡ suc (length below) → SendsThese p s.objects o g arguments → MayBeHeard s.objects s.connected.connections o g → AllIsPromised p classes below →
       (found : Option Connection) → next_used s.objects s.connected.connections o g used last ≡ found → EmitRule p s o g arguments last below t found → Pushes p classes n t
-  pushes-emission t n o g arguments used last below high sends all None is e = pushes-as e (pushes-none (omega (arith, high)) all)
-  pushes-emission t n o g arguments used last below high sends all (Some c) is u =
+  pushes-emission t n o g arguments used last below high sends may all None is e = pushes-as e (pushes-none (omega (arith, high)) all)
+  pushes-emission t n o g arguments used last below high sends may all (Some c) is u =
       by_way (reaches_at_once c.kind u.home (running s.turn)) u.arrives
     where
       given : List Value
       given = take (length (u.method).kinds) arguments
 
       fit : ArgumentsFit p s.objects c.receiver c.method given
-      fit = delivered-fits (next-delivered s.connected.connections o g used last c (up.sound).joined sends is) u.is refl refl
+      fit = delivered-fits (next-delivered s.connected.connections o g used last c (up.sound).joined sends may is) u.is refl refl
 
       by_way : (b : Bool) → Arrives (with_used s c) (Emit o g arguments c.number last ∷ below) u.home c.receiver u.receiver c.method u.method given t b → Pushes p classes n t
       by_way true e = pushes-begun (with_used s c) (Emit o g arguments c.number last ∷ below) c.receiver u.receiver c.method u.method given (u.method).work fit (tt, all) e
@@ -232,10 +232,13 @@ module _ {p : Loaded} {certificate : Certificate} (valid : IsValid p certificate
   pushes-at t (a ∷ below) [] is all st rule = absurd st
   pushes-at t (Body o m arguments left ∷ below) (r ∷ levels) is all st rule = pushes-body t (length s.stack) o m arguments left below st.0 (ap (λ (l : List Activation). length l) is) all.0 all.1 rule
   pushes-at t (Emit o g arguments used last ∷ below) (r ∷ levels) is all st rule =
-      pushes-emission t (length s.stack) o g arguments used last below (ap (λ (l : List Activation). length l) is) (emitted-on-top is) all.1 (next_used s.objects s.connected.connections o g used last) refl rule
+      pushes-emission t (length s.stack) o g arguments used last below (ap (λ (l : List Activation). length l) is) (emitted-on-top is) (heard-on-top is) all.1 (next_used s.objects s.connected.connections o g used last) refl rule
     where
       emitted-on-top : s.stack ≡ Emit o g arguments used last ∷ below → SendsThese p s.objects o g arguments
       emitted-on-top e = (subst (λ (l : List Activation). AllFit p s.objects l) e up.emitted).0
+
+      heard-on-top : s.stack ≡ Emit o g arguments used last ∷ below → MayBeHeard s.objects s.connected.connections o g
+      heard-on-top e = may-be-heard s.objects s.connected.connections o g (subst (λ (l : List Activation). AllHeard s.objects s.connected.connections nobody l) e up.heard).0
   pushes-at t (Update places ∷ below) (r ∷ levels) is all st rule = pushes-update t (length s.stack) places below (ap (λ (l : List Activation). length l) is) all.1 rule
   pushes-at t (Destroy next torn ∷ below) (r ∷ levels) is all st rule = pushes-destroy s t below next torn (ap (λ (l : List Activation). length l) is) all.1 rule
 

@@ -56,7 +56,7 @@ never_lacks_value natives p certificate s steps left taken answers sound valid r
 pub never_stuck : (natives : NativeAnswers) → NeverStuck natives
 never_stuck natives p certificate s steps left taken answers sound valid run stuck =
     let kept = run-kept valid sound natives run in
-    lacks-not valid sound natives kept (stuck-lacks sound kept.1 stuck)
+    lacks-not valid sound natives kept (stuck-lacks sound kept.1 (record { goes_on = stuck.goes_on; stuck = stuck.none; lacks = stuck.writes_none; asks_none = stuck.asks_none }))
 
 -- ---- every step
 

@@ -69,6 +69,7 @@ start-invariant p steps = record {
   sound = record { agree = agree-none p; joined = tt; housed = record { has_main = omega arith; each = λ o home is. absurd (cc is) }; waiting = (tt, tt) };
   stands = tt;
   emitted = tt;
+  heard = tt;
 }
 
 pub start-holds : (p : Loaded) (certificate : Certificate) (steps : ℕ) → Holds p certificate (λ o. None) (at (untouched steps) [])

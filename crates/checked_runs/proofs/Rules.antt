@@ -55,7 +55,7 @@ use Rattle.machine_state.specs.State.{Step, Run, Act, State, Activation, Body, E
 use Rattle.machine_state.specs.Turns.{running, reaches_at_once}
 use Rattle.machine_state.proofs.Due.{found-among, all-removed, all-used, used-due, used-among}
 use Rattle.machine_rules.specs.Connecting.{kept_ends, names_of, named_signal, found_ends, may_connect}
-use Rattle.machine_rules.specs.Destroying.{Dies, NextRule, ChildRule, DestroyRule, living_child, DefersOnce, Schedules, deleting}
+use Rattle.machine_rules.specs.Destroying.{Dies, NextRule, ChildRule, DestroyRule, living_child, Schedules, deleting}
 use Rattle.machine_rules.specs.Operations.{Operation, Write, Begin, Choose, Connect, Disconnect, Delete, Schedule, TakeAnswer, Nothing, operation_of_step}
 use Rattle.machine_rules.specs.Good.{ArgumentsFit, TopFits, IsWell, Spares, has_body}
 use Rattle.machine_rules.specs.Judgement.{holds as so, goes_on}
@@ -77,6 +77,7 @@ use Rattle.checked_runs.proofs.Ladder.{higher-none, level-at, falls-to, line-fro
 use Rattle.checked_runs.proofs.Worlds.{Leaves, classes-left, differ-leaves, scheduled-leaves, died-leaves, SparedIn, stacked-still}
 use Rattle.checked_runs.proofs.Followers.{IsKnown, followers}
 use Rattle.checked_runs.proofs.Leading.{does-led}
+use Rattle.machine_rules.proofs.Scheduling.{schedule-cases}
 
 -- the binding of a property is one of the list, and the property is its target
 pub bound-by : (P : Binding → Type 0) (bs : List Binding) → AllByRecursion P bs → (q : Place) (b : Binding) → binding_at bs q ≡ Some b → P b × (b.target ≡ q)
@@ -397,28 +398,23 @@ module _ {p : Loaded} {certificate : Certificate} (valid : IsValid p certificate
   -- ---- an object is scheduled
 
   pub schedules-held : (s t : State) (stack : List Activation) (levels : List (Level p certificate)) (x : ℕ) (life : Option Life) → Covered s → Stacked classes s.objects stack levels → Schedules s stack x t life → Goes s stack t
-  schedules-held s t stack levels x None covered st e =
+  schedules-held s t stack levels x life covered st rule =
       let Family : State → Type 0 = λ v. Goes s stack v in
-      subst Family (sym e) (record { covered = covered; levels = levels; stacked = st }, same-spared s.objects stack)
-  schedules-held s t stack levels x (Some l) covered st rule = by_mark l.scheduled rule
-    where
-      by_mark : (b : Bool) → DefersOnce s stack l.home x t b → Goes s stack t
-      by_mark true e =
-          let Family : State → Type 0 = λ v. Goes s stack v in
-          subst Family (sym e) (record { covered = covered; levels = levels; stacked = st }, same-spared s.objects stack)
-      by_mark false d =
-          let new : List Object = change_life x scheduled s.objects in
-          let left : Leaves p classes s.objects new = scheduled-leaves s.objects x in
-          let spared : SparedIn stack s.objects new = λ o body gone. sym (scheduled-seen s.objects x o) ∙ gone in
-          let Family : State → Type 0 = λ v. Goes s stack v in
-          subst Family (sym d.gives) (
-            record {
-              covered = record { known = classes-left left covered.known; owned = left.children covered.owned; wired = covered.wired; sited = covered.sited };
-              levels = levels;
-              stacked = stacked-still classes s.objects new (scheduled-stay s.objects x) stack levels spared st;
-            },
-            spared,
-          )
+      elim (schedule-cases life rule) [
+        | inl e ↦ subst Family (sym e) (record { covered = covered; levels = levels; stacked = st }, same-spared s.objects stack)
+        | inr d ↦
+            let new : List Object = change_life x scheduled s.objects in
+            let left : Leaves p classes s.objects new = scheduled-leaves s.objects x in
+            let spared : SparedIn stack s.objects new = λ o body gone. sym (scheduled-seen s.objects x o) ∙ gone in
+            subst Family (sym d.gives) (
+              record {
+                covered = record { known = classes-left left covered.known; owned = left.children covered.owned; wired = covered.wired; sited = covered.sited };
+                levels = levels;
+                stacked = stacked-still classes s.objects new (scheduled-stay s.objects x) stack levels spared st;
+              },
+              spared,
+            )
+      ]
 
   -- ---- bodies
 

@@ -1,6 +1,6 @@
 -- Whatever step a run takes, each property has a value of its type, and values agree with bindings: a rule keeps this if
 -- what it writes is of the property's type, and each event keeps it.
-use Rattle.std.proofs.Common.{◌≡◌, ℕ, suc, Bool, true, false, List, [], ◌∷◌, ◌++◌, length, take, Result, Ok, Err, Option, Some, None, slice_get, refl, sym, subst}
+use Rattle.std.proofs.Common.{◌≡◌, ℕ, suc, Bool, true, false, List, [], ◌∷◌, ◌++◌, length, take, Result, Ok, Err, Option, Some, None, slice_get, refl, sym, subst, inl, inr}
 use Rattle.std.specs.List.{AllByRecursion, find}
 use Rattle.std.proofs.lemmas.List.Elements.{All-from_recursion}
 use Rattle.signatures.specs.declared.value.Value.{Value}
@@ -51,7 +51,7 @@ use Rattle.machine_state.specs.Connections.{is_living, next_used}
 use Rattle.machine_state.specs.State.{Step, State, IsIdle, Activation, Body, Emit, Update, Destroy}
 use Rattle.machine_state.specs.Turns.{running, reaches_at_once}
 use Rattle.machine_rules.specs.Connecting.{kept_ends, names_of}
-use Rattle.machine_rules.specs.Destroying.{Dies, NextRule, ChildRule, DestroyRule, living_child, DefersOnce, Schedules}
+use Rattle.machine_rules.specs.Destroying.{Dies, NextRule, ChildRule, DestroyRule, living_child, Schedules}
 use Rattle.machine_rules.specs.Operations.{Operation, Write, Begin, Choose, Connect, Disconnect, Delete, Schedule, TakeAnswer, Nothing, operation_of_step}
 use Rattle.machine_rules.specs.Judgement.{found as finds, holds as so, becomes, goes_on}
 use Rattle.machine_rules.specs.Natives.{NativeAnswers}
@@ -75,6 +75,7 @@ use Rattle.checked_runs.proofs.Nodes.{property-node}
 use Rattle.checked_runs.proofs.Rules.{bound-by}
 use Rattle.checked_runs.proofs.Settled.{agree-at, writes-agree, installs-agree}
 use Rattle.checked_runs.proofs.Sites.{no-loop}
+use Rattle.machine_rules.proofs.Scheduling.{schedule-cases}
 
 -- every value that the next step writes is of its property's type
 abbrev pub WritesFit : Loaded → State → Type 0
@@ -114,12 +115,10 @@ module _ {p : Loaded} (s t : State) (agree : Agree p s.objects s.bindings) where
       by_child None e = agree-at _ e agree
 
   schedules-agrees : (stack : List Activation) (x : ℕ) (life : Option Life) → Schedules s stack x t life → Agree p t.objects t.bindings
-  schedules-agrees stack x None e = agree-at _ e agree
-  schedules-agrees stack x (Some l) r = by_mark l.scheduled r
-    where
-      by_mark : (b : Bool) → DefersOnce s stack l.home x t b → Agree p t.objects t.bindings
-      by_mark true e = agree-at _ e agree
-      by_mark false d = agree-at _ d.gives (scheduled-agree p s.objects s.bindings x agree)
+  schedules-agrees stack x life r = elim (schedule-cases life r) [
+    | inl e ↦ agree-at _ e agree
+    | inr d ↦ agree-at _ d.gives (scheduled-agree p s.objects s.bindings x agree)
+  ]
 
   does-agrees : (natives : NativeAnswers) (o m : ℕ) (arguments : List Value) (step : Step) (rest : List Step) (below : List Activation) (d : Operation) → s.stack ≡ Body o m arguments (step ∷ rest) ∷ below → operation_of_step s.objects o arguments step ≡ Some d → WritesFit p s → Does p natives s o m arguments rest below d t → Agree p t.objects t.bindings
   does-agrees natives o m arguments step rest below (Write x q new) at is fit does =

@@ -10,14 +10,18 @@ use Rattle.object_tree.specs.Typed.{AreTyped}
 use Rattle.machine_state.specs.declared.fault.Answer.{Answer}
 use Rattle.machine_state.specs.declared.fault.Fault.{Fault}
 use Rattle.machine_state.specs.declared.fault.Fault.TheVariants.{Steps, Memory}
-use Rattle.machine_state.specs.State.{State}
+use Rattle.machine_state.specs.State.{State, IsIdle}
 use Rattle.machine_state.specs.Worlds.{at, untouched}
 use Rattle.machine_rules.specs.Good.{HasArguments, Spares, IsAcyclic, AreSettled}
-use Rattle.machine_rules.specs.Faults.{LacksValue}
+use Rattle.machine_rules.specs.Faults.{LacksValue, DoesNext, WritesNext}
 use Rattle.machine_rules.specs.Natives.{NativeAnswers}
-use Rattle.machine_rules.specs.code.Going.{IsStuck}
 use Rattle.machine_events.specs.Causes.{StopsFor}
 use Rattle.machine_events.specs.Runs.{Run, Each, GoodRun, Follows}
+use Rattle.machine_rules.specs.Rules.{Rule}
+use Rattle.machine_rules.specs.There.{LacksField}
+use Rattle.machine_rules.specs.Operations.{TakeAnswer}
+use Rattle.signatures.specs.declared.value.Value.{Value}
+use Rattle.meta_model.specs.declared.effects.MetaEffects.{MetaEffects}
 
 -- ---- every step of every run
 
@@ -96,6 +100,14 @@ NeverStops fault natives = (next : List Event) → Never natives (λ p certifica
 abbrev pub NeverLacksValue : NativeAnswers → Type 0
 NeverLacksValue natives = Never natives (λ p certificate s left. LacksValue s)
 
--- .. so what goes on is never without a next rule. What a native is to answer is not asked.
+-- something goes on, and no rule follows; a step that writes, only where its property isn't there. What a native is to
+-- answer is not asked.
+pub record LacksRule (p : Loaded) (natives : NativeAnswers) (s : State) : Type 0 where
+  pub goes_on : ¬ IsIdle s
+  pub none : (t : State) → ¬ Rule p natives s t
+  pub writes_none : (o q : ℕ) (new : Value) → WritesNext s o q new → LacksField p s.objects o q
+  pub asks_none : (effects : MetaEffects) → ¬ DoesNext s (TakeAnswer effects)
+
+-- .. which is never so
 abbrev pub NeverStuck : NativeAnswers → Type 0
-NeverStuck natives = Never natives (λ p certificate s left. IsStuck p natives s)
+NeverStuck natives = Never natives (λ p certificate s left. LacksRule p natives s)

@@ -106,7 +106,7 @@ runs-pay (takes x rest) =
 
 -- where nothing is going on, all that is going on stands
 pub invariant-at : {p : Loaded} (w : World) → IsSoundWorld p w → Invariant p (at w [])
-invariant-at w sound = record { sound = record { agree = sound.is.agree; joined = sound.is.joined; housed = sound.is.housed; waiting = sound.is.waiting }; stands = tt; emitted = tt }
+invariant-at w sound = record { sound = record { agree = sound.is.agree; joined = sound.is.joined; housed = sound.is.housed; waiting = sound.is.waiting }; stands = tt; emitted = tt; heard = tt }
 
 keeps-run : {p : Loaded} {natives : NativeAnswers} {d : ℕ} {w v : World} {stack : List Activation} {es : List Event} {xs : List Answer} → IsSound p → WorldInvariant p w → GoodRun p natives d (at w []) w.left es xs (at v stack) v.left → WorldInvariant p v
 keeps-run {w = w} sound keeps runs =

@@ -16,3 +16,4 @@ pub mod Possible
 mod Homes
 pub mod Preservation
 pub mod Progress
+mod Stopping

@@ -1,5 +1,5 @@
 -- Why what is going on goes on: its members and statements are there, and the objects whose bodies are active live.
-use Rattle.std.proofs.Common.{◌≡◌, ℕ, suc, ◌+◌, ◌<◌, Bool, List, [], ◌∷◌, ◌++◌, map, length, take, true, false, Option, Some, None, slice_get, refl, sym, ap, IsTrue, inl, length-append, ◌∙◌, subst, Ok, arith}
+use Rattle.std.proofs.Common.{◌≡◌, ℕ, suc, ◌+◌, ◌<◌, Bool, List, [], ◌∷◌, ◌++◌, map, length, take, true, false, Option, Some, None, slice_get, refl, sym, ap, IsTrue, inl, length-append, ◌∙◌, subst, Ok, arith, inr, ◌⊎◌}
 use Rattle.std.specs.List.{AllByRecursion, find}
 use Rattle.signatures.specs.declared.value.Value.{Value}
 use Rattle.script_lang.specs.declared.event.Event.{Event}
@@ -36,7 +36,7 @@ use Rattle.machine_state.specs.declared.refusal.Refusal.{Refusal}
 use Rattle.machine_rules.specs.Natives.{NativeAnswers, IsShownAs, set_shown, emit_shown, AreShownAs}
 use Rattle.machine_rules.specs.Connecting.{AreThere, kept_ends, names_of}
 use Rattle.machine_rules.specs.Operations.{Operation, Write, Begin, Choose, Connect as Link, Disconnect as Unlink, Delete, Schedule, TakeAnswer, Nothing, operation_of_step}
-use Rattle.machine_rules.specs.Destroying.{Dies, NextRule, ChildRule, DestroyRule, living_child, DefersOnce, Schedules}
+use Rattle.machine_rules.specs.Destroying.{Dies, NextRule, ChildRule, DestroyRule, living_child, Schedules}
 use Rattle.machine_events.proofs.Possible.{possible}
 use Rattle.machine_events.proofs.Standing.{ActionStands, StepStands, BodyStands, Stands, Invariant, AllStand, SparedIn, all-stand-still}
 use Rattle.machine_state.specs.declared.telling.Cause.{Cause}
@@ -86,6 +86,8 @@ use Rattle.machine_rules.proofs.Keeps.{all-stay, all-joined-still, rule-kept, be
 use Rattle.machine_events.proofs.Homes.{housed-more, housed-loop, waiting-loop, home-there, home-moved}
 use Rattle.machine_rules.proofs.Soundness.{AllFit, Fair, rule-fair, begins-fair, writes-fair, installs-fair, schedules-fair, all-wait-still}
 use Rattle.machine_rules.proofs.Waiting.{housed-same, home-change}
+use Rattle.machine_rules.proofs.Scheduling.{schedule-cases}
+use Rattle.machine_rules.proofs.Hearing.{AllHeard, nobody, Heard, rule-heard, begins-heard, writes-heard, installs-heard, schedules-heard}
 
 -- ---- steps
 
@@ -184,12 +186,10 @@ module _ {p : Loaded} {s t : State} (sound : IsSound p) (well : IsWell p s t) wh
 
   -- an object is scheduled to be deleted
   schedules-stands : (stack : List Activation) (x : ℕ) (life : Option Life) → AllByRecursion (Stands p s.objects) stack → Schedules s stack x t life → AllStand p t
-  schedules-stands stack x None all r = as-is r all
-  schedules-stands stack x (Some l) all r = by_mark l.scheduled r
-    where
-      by_mark : (b : Bool) → DefersOnce s stack l.home x t b → AllStand p t
-      by_mark true e = as-is e all
-      by_mark false d = as-is d.gives (all-stand-still p s.objects _ stack (scheduled-stay s.objects x) (λ o body gone. sym (scheduled-seen s.objects x o) ∙ gone) all)
+  schedules-stands stack x life all r = elim (schedule-cases life r) [
+    | inl e ↦ as-is e all
+    | inr d ↦ as-is d.gives (all-stand-still p s.objects _ stack (scheduled-stay s.objects x) (λ o body gone. sym (scheduled-seen s.objects x o) ∙ gone) all)
+  ]
 
   -- what a step does, over what stands
   does-stands : (natives : NativeAnswers) → AreTyped p s.objects → (o m : ℕ) (arguments : List Value) (x : Step) (rest : List Step) (below : List Activation) (d : Operation) → BodyStands p s.objects o arguments (x ∷ rest) → operation_of_step s.objects o arguments x ≡ Some d → AllByRecursion (Stands p s.objects) below → length s.stack ≡ suc (length below) → Does p natives s o m arguments rest below d t → AllStand p t
@@ -282,11 +282,11 @@ module _ {p : Loaded} {s t : State} (sound : IsSound p) (well : IsWell p s t) wh
       destroy-stands below next torn (λ o body gone. spares o (subst (λ (l : List Activation). IsTrue (has_body o l)) (sym is) body) gone) all.1 r
 
   -- what is going on stands where the stack does
-  kept-invariant : Agree p t.objects t.bindings → Invariant p s → Keeps p s 1 t 0 → AllStand p t → Fair p t → Invariant p t
-  kept-invariant agree up kept stands fair = record { sound = record { agree = agree; joined = kept.joined sound up.sound.joined; housed = kept.housed up.sound.housed; waiting = fair.waiting }; stands = stands; emitted = fair.emitted }
+  kept-invariant : Agree p t.objects t.bindings → Invariant p s → Keeps p s 1 t 0 → AllStand p t → Fair p t → Heard t → Invariant p t
+  kept-invariant agree up kept stands fair heard = record { sound = record { agree = agree; joined = kept.joined sound up.sound.joined; housed = kept.housed up.sound.housed; waiting = fair.waiting }; stands = stands; emitted = fair.emitted; heard = heard }
 
   rule-invariant : (natives : NativeAnswers) → Spares s t → Agree p t.objects t.bindings → Invariant p s → Rule p natives s t → Invariant p t
-  rule-invariant natives spares agree up r = kept-invariant agree up (rule-kept p natives s t s.stack r) (rule-stands natives up.sound.agree.typed spares s.stack refl up.stands up.stands r) (rule-fair sound well up.sound.waiting natives s.stack up.sound.joined up.emitted up.emitted refl r)
+  rule-invariant natives spares agree up r = kept-invariant agree up (rule-kept p natives s t s.stack r) (rule-stands natives up.sound.agree.typed spares s.stack refl up.stands up.stands r) (rule-fair sound well up.sound.waiting natives s.stack up.sound.joined up.heard up.emitted up.emitted refl r) (rule-heard p s t natives up.heard r)
 
 -- ---- events
 
@@ -296,6 +296,9 @@ none-stand p objects idle = let Family : List Activation → Type 0 = λ l. AllB
 
 none-fit : (p : Loaded) {s : State} (objects : List Object) → IsIdle s → AllFit p objects s.stack
 none-fit p objects idle = let Family : List Activation → Type 0 = λ l. AllFit p objects l in subst Family (sym idle.empty) tt
+
+none-heard : {s : State} (Over : ℕ → Type 0) (objects : List Object) (connections : List Connection) → IsIdle s → AllHeard objects connections Over s.stack
+none-heard Over objects connections idle = let Family : List Activation → Type 0 = λ l. AllHeard objects connections Over l in subst Family (sym idle.empty) tt
 
 -- objects change, the living ones stay of their classes, and each lives in a loop that is there
 changed-invariant : {p : Loaded} {s : State} (objects : List Object) → IsIdle s → Invariant p s → Agree p objects s.bindings → StayThere s.objects objects → AreHoused objects s.queues.loops → Invariant p (record (accepted s) { objects = objects })
@@ -308,6 +311,7 @@ changed-invariant {p} {s} objects idle up agree stay housed = record {
   };
   stands = none-stand p objects idle;
   emitted = none-fit p objects idle;
+  heard = none-heard nobody objects s.connected.connections idle;
 }
 
 -- an object is added
@@ -324,6 +328,7 @@ loop-invariant {p} {s} name up = record {
   sound = record { agree = up.sound.agree; joined = up.sound.joined; housed = housed-loop s.objects s.queues.loops name up.sound.housed; waiting = waiting-loop p s.objects s.queues.loops name up.sound.waiting };
   stands = up.stands;
   emitted = up.emitted;
+  heard = up.heard;
 }
 
 -- .. where each of them shows the same
@@ -359,14 +364,14 @@ connection-joined {p} {objects} e how n f sound (goes_on a sender (goes_on b rec
 
 -- the state in which an event is taken
 accepted-invariant : {p : Loaded} {s : State} → Invariant p s → Invariant p (accepted s)
-accepted-invariant up = record { sound = record { agree = up.sound.agree; joined = up.sound.joined; housed = up.sound.housed; waiting = up.sound.waiting }; stands = up.stands; emitted = up.emitted }
+accepted-invariant up = record { sound = record { agree = up.sound.agree; joined = up.sound.joined; housed = up.sound.housed; waiting = up.sound.waiting }; stands = up.stands; emitted = up.emitted; heard = up.heard }
 
 accepted-well : {p : Loaded} {s t : State} → IsWell p s t → IsWell p (accepted s) t
 accepted-well well = record { arguments = well.arguments; values = well.values }
 
 invoked-invariant : {p : Loaded} {s t : State} (a : Invocation) (name called : List ℕ) (inputs : List Input) → IsSound p → Invariant p s → IsWell p s t → Agree p t.objects t.bindings → invoke p s a name called inputs (Ok t) → Invariant p t
-invoked-invariant {p} {s} a name called inputs sound up well agree (goes_on _ o (goes_on _ m (goes_on _ vs (goes_on _ fit (becomes begins))))) =
-    kept-invariant sound (accepted-well well) agree (accepted-invariant up) (begins-kept begins) (begins-stands sound (accepted-well well) begins (omega arith) up.stands) (begins-fair sound (accepted-well well) up.sound.waiting begins (omega arith) up.emitted)
+invoked-invariant {p} {s} {t} a name called inputs sound up well agree (goes_on _ o (goes_on _ m (goes_on _ vs (goes_on _ fit (becomes begins))))) =
+    kept-invariant sound (accepted-well well) agree (accepted-invariant up) (begins-kept begins) (begins-stands sound (accepted-well well) begins (omega arith) up.stands) (begins-fair sound (accepted-well well) up.sound.waiting begins (omega arith) up.emitted) (begins-heard p (accepted s) t begins up.heard)
 
 blocked-invariant : {p : Loaded} {s t : State} (name : List ℕ) (on : Bool) → IsIdle s → Invariant p s → Agree p t.objects t.bindings → block s name on (Ok t) → Invariant p t
 blocked-invariant {p} {s} name on idle up agree (goes_on o lives just) =
@@ -375,7 +380,7 @@ blocked-invariant {p} {s} name on idle up agree (goes_on o lives just) =
 
 judged-invariant : {p : Loaded} {s t : State} (e : Event) → IsSound p → IsIdle s → Invariant p s → judged p s e (Ok t) → IsWell p s t → Agree p t.objects t.bindings → Invariant p t
 judged-invariant (Loop name) sound idle up (goes_on _ free just) well agree = loop-invariant name up
-judged-invariant (Turn name) sound idle up (goes_on home is just) well agree = record { sound = record { agree = up.sound.agree; joined = up.sound.joined; housed = up.sound.housed; waiting = up.sound.waiting }; stands = up.stands; emitted = up.emitted }
+judged-invariant (Turn name) sound idle up (goes_on home is just) well agree = record { sound = record { agree = up.sound.agree; joined = up.sound.joined; housed = up.sound.housed; waiting = up.sound.waiting }; stands = up.stands; emitted = up.emitted; heard = up.heard }
 judged-invariant {s = s} (New name class loop) sound idle up (goes_on _ free (goes_on c is (goes_on home (finds lives) (goes_on _ room just)))) well agree =
     let x : Object = fresh name c.number home (initial_values c.it) in
     let l : Life = begun_life c.number home (initial_values c.it) in
@@ -396,6 +401,7 @@ judged-invariant {p} {s} (Connect e how) sound idle up (goes_on f named (goes_on
       };
       stands = up.stands;
       emitted = up.emitted;
+      heard = none-heard nobody s.objects _ idle;
     })
 judged-invariant {p} {s} (Disconnect e) sound idle up (goes_on f named (goes_on _ is given)) well agree =
     let Family : State → Type 0 = λ u. Invariant p u in
@@ -403,27 +409,29 @@ judged-invariant {p} {s} (Disconnect e) sound idle up (goes_on f named (goes_on 
       sound = record { agree = up.sound.agree; joined = all-removed (Joined p s.objects) (joins_these f.ends) s.connected up.sound.joined; housed = up.sound.housed; waiting = up.sound.waiting };
       stands = up.stands;
       emitted = up.emitted;
+      heard = none-heard nobody s.objects _ idle;
     })
-judged-invariant {p} {s} (Set name property i) sound idle up (goes_on _ o (goes_on _ q (goes_on _ v (goes_on _ fits (becomes writes))))) well agree =
-    kept-invariant sound (accepted-well well) agree (accepted-invariant up) (writes-kept writes) (writes-stands sound (accepted-well well) writes up.stands) (writes-fair sound (accepted-well well) up.sound.waiting writes up.emitted)
-judged-invariant {p} {s} (Bind site target sources) sound idle up (goes_on b may (becomes installs)) well agree =
-    kept-invariant sound (accepted-well well) agree (accepted-invariant up) (installs-kept installs) (installs-stands sound (accepted-well well) installs up.stands) (installs-fair sound (accepted-well well) up.sound.waiting installs up.emitted)
+judged-invariant {p} {s} {t} (Set name property i) sound idle up (goes_on _ o (goes_on _ q (goes_on _ v (goes_on _ fits (becomes writes))))) well agree =
+    kept-invariant sound (accepted-well well) agree (accepted-invariant up) (writes-kept writes) (writes-stands sound (accepted-well well) writes up.stands) (writes-fair sound (accepted-well well) up.sound.waiting writes up.emitted) (writes-heard p (accepted s) t writes up.heard)
+judged-invariant {p} {s} {t} (Bind site target sources) sound idle up (goes_on b may (becomes installs)) well agree =
+    kept-invariant sound (accepted-well well) agree (accepted-invariant up) (installs-kept installs) (installs-stands sound (accepted-well well) installs up.stands) (installs-fair sound (accepted-well well) up.sound.waiting installs up.emitted) (installs-heard p (accepted s) t installs up.heard)
 judged-invariant (EmitEvent name signal inputs) sound idle up x well agree = invoked-invariant EmitIt name signal inputs sound up well agree x
 judged-invariant (CallEvent name slot inputs) sound idle up x well agree = invoked-invariant CallIt name slot inputs sound up well agree x
 judged-invariant (Block name) sound idle up x well agree = blocked-invariant name true idle up agree x
 judged-invariant (Unblock name) sound idle up x well agree = blocked-invariant name false idle up agree x
-judged-invariant (DeleteEvent name) sound idle up (goes_on o lives just) well agree = record {
+judged-invariant {s = s} (DeleteEvent name) sound idle up (goes_on o lives just) well agree = record {
   sound = record { agree = up.sound.agree; joined = up.sound.joined; housed = up.sound.housed; waiting = up.sound.waiting };
   stands = (tt, up.stands);
   emitted = (tt, up.emitted);
+  heard = none-heard (λ k. (k ≡ o.number) ⊎ ⊥) s.objects s.connected.connections idle;
 }
 judged-invariant {p} {s} {t} (LaterEvent name) sound idle up (goes_on o lives (becomes x)) well agree =
     kept-invariant sound (accepted-well well) agree (accepted-invariant up) (schedules-kept p (accepted s) s.stack o.number t (Some o.it) x)
-    (schedules-stands sound (accepted-well well) s.stack o.number (Some o.it) up.stands x) (schedules-fair sound (accepted-well well) up.sound.waiting s.stack o.number (Some o.it) x up.emitted)
+    (schedules-stands sound (accepted-well well) s.stack o.number (Some o.it) up.stands x) (schedules-fair sound (accepted-well well) up.sound.waiting s.stack o.number (Some o.it) x up.emitted) (schedules-heard p (accepted s) t s.stack o.number (Some o.it) x up.heard)
 
 takes-invariant : {p : Loaded} {s t : State} {e : Event} {a : Answer} → IsSound p → Invariant p s → Takes p e a s t → IsWell p s t → Agree p t.objects t.bindings → Invariant p t
 takes-invariant {e = e} sound up (accepts idle x) well agree = judged-invariant e sound idle up x well agree
-takes-invariant sound up (refuses k idle x) well agree = record { sound = record { agree = up.sound.agree; joined = up.sound.joined; housed = up.sound.housed; waiting = up.sound.waiting }; stands = up.stands; emitted = up.emitted }
+takes-invariant sound up (refuses k idle x) well agree = record { sound = record { agree = up.sound.agree; joined = up.sound.joined; housed = up.sound.housed; waiting = up.sound.waiting }; stands = up.stands; emitted = up.emitted; heard = up.heard }
 
 -- ---- steps without a bad moment
 

@@ -21,7 +21,7 @@ use Rattle.machine_state.specs.declared.fault.Fault.TheVariants.{BadType, TooDee
 use Rattle.object_tree.specs.declared.object.Object.{Object}
 use Rattle.machine_state.specs.State.{Step, Run, Ask, Act, State, Activation, Body, Emit, Update, Destroy}
 use Rattle.machine_rules.specs.Rules.{RuleAt, StepRule, Does, EmitRule, UpdateRule, Connects, Disconnects, TurnRule, Serves, Delivers, Arrives, with_used, BeginsIf, NotifiesIf}
-use Rattle.machine_rules.specs.Destroying.{Dies, NextRule, ChildRule, DestroyRule, living_child, DefersOnce, Schedules}
+use Rattle.machine_rules.specs.Destroying.{Dies, NextRule, ChildRule, DestroyRule, living_child, Schedules, scheduled_now, scheduled_before, not_living}
 use Rattle.machine_rules.specs.Operations.{Operation, Write, Begin, Choose, Connect, Disconnect, Delete, Schedule, TakeAnswer, Nothing, operation_of_step}
 use Rattle.std.specs.Prelude.{is_some}
 use Rattle.std.specs.List.{find}
@@ -40,9 +40,8 @@ use Rattle.machine_state.specs.declared.turn.Turn.{Turn}
 use Rattle.machine_state.specs.Turns.{running, reaches_at_once}
 use Rattle.machine_state.specs.Connections.{is_living, next_used}
 use Rattle.machine_rules.specs.Faults.{DoesNext, LacksValue}
-use Rattle.machine_rules.specs.code.Going.{IsStuck}
-use Rattle.machine_events.specs.code.Taking.{RunStops}
-use Rattle.machine_events.specs.Causes.{StopsFor, spent, short, brings, lacks_value, writes_ill, binds_ill, goes_ill, goes_fatal, binds_loop, writes_deep, goes_deep}
+use Rattle.machine_rules.specs.code.Going.{IsStuck, RulesStop}
+use Rattle.machine_events.specs.Causes.{StopsFor, spent, short, brings, lacks_value, writes_ill, goes_ill, goes_fatal, writes_deep, goes_deep}
 use Rattle.machine_rules.specs.There.{IsField, LacksField}
 use Rattle.machine_rules.specs.code.Writing.{MayNotify}
 use Rattle.machine_rules.proofs.Beginning.{next-delivered}
@@ -52,6 +51,8 @@ use Rattle.machine_events.proofs.Standing.{BodyStands, Stands, Invariant}
 use Rattle.machine_rules.specs.code.Sound.{IsDelivered, Waits}
 use Rattle.machine_rules.proofs.Soundness.{AllFit}
 use Rattle.machine_rules.proofs.Waiting.{loop-named, first-waits}
+use Rattle.machine_events.specs.Runs.{by_rule, goes_on}
+use Rattle.machine_rules.proofs.Hearing.{AllHeard, nobody, may-be-heard}
 
 -- a judgement has some answer
 check-somehow : {k : Refusal} {Holds : Type 0} → ((r : Result (Unit {0}) Refusal) → ¬ Check k Holds r) → ⊥
@@ -114,16 +115,16 @@ module _ {p : Loaded} {s : State} (sound : IsSound p) (up : Invariant p s) where
 
   -- an object may be scheduled to be deleted, since its loop has a name
   no-schedule : (stack : List Activation) (x : ℕ) (life : Option Life) → life_of s.objects x ≡ life → ((t : State) → ¬ Schedules s stack x t life) → ⊥
-  no-schedule stack x None is none = none _ refl
-  no-schedule stack x (Some l) is none = by_mark l.scheduled none
+  no-schedule stack x None is none = none _ (record { lines = []; told = not_living; gives = refl })
+  no-schedule stack x (Some l) is none = by_mark l.scheduled refl
     where
-      by_mark : (b : Bool) → ((t : State) → ¬ DefersOnce s stack l.home x t b) → ⊥
-      by_mark true stays = stays _ refl
-      by_mark false stays =
+      by_mark : (b : Bool) → l.scheduled ≡ b → ⊥
+      by_mark true marked = none _ (record { lines = []; told = scheduled_before marked; gives = refl })
+      by_mark false unmarked =
           let there = lives-of-life s.objects x l is in
           let lives : home_of s.objects x ≡ Some l.home = ap (option_map (λ (k : Life). k.home)) is in
           let named = loop-named s.queues.loops l.home (up.sound.housed.each x l.home lives) in
-          stays _ (record { loop = named.0; is_loop = named.1; name = there.0.name; named = ap (option_map (λ (y : Object). y.name)) there.1.is; gives = refl })
+          none _ (record { lines = _; told = scheduled_now unmarked named.1 (ap (option_map (λ (y : Object). y.name)) there.1.is); gives = refl })
 
   -- what is possible is done by some rule
   possible-goes : (natives : NativeAnswers) (o m : ℕ) (arguments : List Value) (rest : List Step) (below : List Activation) (me : ℕ) (kinds : List ValueType) (d : Operation) → IsPossible p s.objects me kinds d → ((x q : ℕ) (new : Value) → d ≡ Write x q new → LacksField p s.objects x q) → ((effects : MetaEffects) → d ≡ TakeAnswer effects → ⊥) → ((t : State) → ¬ Does p natives s o m arguments rest below d t) → ⊥
@@ -210,43 +211,42 @@ module _ {p : Loaded} {s : State} (sound : IsSound p) (up : Invariant p s) where
             gives = refl;
           })
 
-  stack-lacks : {natives : NativeAnswers} (stack : List Activation) → s.stack ≡ stack → IsStuck p natives s → AllByRecursion (Stands p s.objects) stack → AllFit p s.objects stack → ((t : State) → ¬ RuleAt p natives s t stack) → LacksValue s
-  stack-lacks [] e halts all fit stuck = by_turn s.turn refl stuck
+  stack-lacks : {natives : NativeAnswers} (stack : List Activation) → s.stack ≡ stack → IsStuck p natives s → AllByRecursion (Stands p s.objects) stack → AllFit p s.objects stack → AllHeard s.objects s.connected.connections nobody stack → ((t : State) → ¬ RuleAt p natives s t stack) → LacksValue s
+  stack-lacks [] e halts all fit heard stuck = by_turn s.turn refl stuck
     where
       by_turn : (found : Option Turn) → s.turn ≡ found → ((t : State) → ¬ TurnRule p s t found) → LacksValue s
       by_turn None none stays = absurd (halts.goes_on (record { empty = e; no_turn = none }))
       by_turn (Some turn) is stays = absurd (turn-goes turn (find (is_before turn.limit) (items_at s.queues.loops turn.home)) (λ q found. first-waits p s.objects s.queues.loops turn.home turn.limit q up.sound.waiting found) stays)
-  stack-lacks (Body o m arguments [] ∷ below) e halts all fit stuck = absurd (stuck _ refl)
-  stack-lacks (Body o m arguments (x ∷ rest) ∷ below) e halts all fit stuck = step-lacks o m arguments x rest below e halts all.0 stuck
-  stack-lacks (Emit o g arguments used last ∷ below) e halts all fit stuck =
-      absurd (emission-goes o g arguments last below (next_used s.objects s.connected.connections o g used last) (λ c found. next-delivered s.connected.connections o g used last c up.sound.joined fit.0 found) stuck)
-  stack-lacks (Update places ∷ below) e halts all fit stuck = absurd (update-goes below places all.0 stuck)
-  stack-lacks (Destroy next torn ∷ below) e halts all fit stuck = absurd (destroy-somehow s below next torn stuck)
+  stack-lacks (Body o m arguments [] ∷ below) e halts all fit heard stuck = absurd (stuck _ refl)
+  stack-lacks (Body o m arguments (x ∷ rest) ∷ below) e halts all fit heard stuck = step-lacks o m arguments x rest below e halts all.0 stuck
+  stack-lacks (Emit o g arguments used last ∷ below) e halts all fit heard stuck =
+      absurd (emission-goes o g arguments last below (next_used s.objects s.connected.connections o g used last) (λ c found. next-delivered s.connected.connections o g used last c up.sound.joined fit.0 (may-be-heard s.objects s.connected.connections o g heard.0) found) stuck)
+  stack-lacks (Update places ∷ below) e halts all fit heard stuck = absurd (update-goes below places all.0 stuck)
+  stack-lacks (Destroy next torn ∷ below) e halts all fit heard stuck = absurd (destroy-somehow s below next torn stuck)
 
   -- what goes on without a next rule lacks a value
   pub stuck-lacks : {natives : NativeAnswers} → IsStuck p natives s → LacksValue s
-  stuck-lacks x = stack-lacks s.stack refl x up.stands up.emitted x.stuck
+  stuck-lacks x = stack-lacks s.stack refl x up.stands up.emitted up.heard x.stuck
 
-  -- why the code stops is why the run does
-  pub cause-of : (natives : NativeAnswers) (d left : ℕ) (es : List Event) (f : Fault) → RunStops p natives d s left es f → StopsFor p natives d s left es f
+  -- why rules stop is why the run does, whatever events are left
+  pub cause-of : (natives : NativeAnswers) (d left : ℕ) (es : List Event) (f : Fault) → RulesStop p natives d s left f → StopsFor p natives d s left es f
   cause-of natives d left es BadType r =
       elim r.1 [
-        | inl none ↦ elim none [
-          | inl stuck ↦ brings r.0 (lacks_value (stuck-lacks stuck))
-          | inr ill ↦ brings r.0 (binds_ill ill)
-        ]
+        | inl stuck ↦ brings r.0 (lacks_value (stuck-lacks stuck))
         | inr wrong ↦ elim wrong [
           | inl write ↦ brings r.0 (writes_ill write)
-          | inr goes ↦ brings r.0 (goes_ill goes)
+          | inr goes ↦ brings r.0 (goes_ill (record { t = goes.t; follows = by_rule goes.follows; ill = goes.ill }))
         ]
       ]
   cause-of natives d left es TooDeep r =
       elim r.1 [
         | inl write ↦ brings r.0 (writes_deep write)
-        | inr goes ↦ brings r.0 (goes_deep goes)
+        | inr deep ↦ brings r.0 (goes_deep (record { t = deep.t; follows = by_rule deep.follows; well = deep.well; spared = deep.spared; acyclic = deep.acyclic; deep = deep.deep }))
       ]
-  cause-of natives d left es BindingLoop r = brings r.0 (binds_loop r.1)
-  cause-of natives d left es InUse r = brings r.0 (goes_fatal r.1)
-  cause-of natives d left es Steps r = spent r.0 r.1
-  cause-of natives d left es Memory r = short r.0 r.1
+  cause-of natives d left es InUse r =
+      let fatal = r.1 in
+      brings r.0 (goes_fatal (record { t = fatal.t; follows = by_rule fatal.follows; well = fatal.well; fatal = fatal.fatal }))
+  cause-of natives d left es Steps r = spent r.0 (goes_on r.1)
+  cause-of natives d left es Memory r = short r.0 (goes_on r.1)
+  cause-of natives d left es BindingLoop r = absurd r
   cause-of natives d left es Stopped r = absurd r

@@ -19,7 +19,7 @@ use Rattle.machine_state.specs.Accepting.{accepted}
 use Rattle.machine_state.specs.Worlds.{at, accepting_entries, accepting_turn, with_bound, HasWritten, HasBound}
 use Rattle.machine_events.specs.Takes.{judged, accepts}
 use Rattle.machine_rules.specs.Natives.{NativeAnswers}
-use Rattle.machine_rules.specs.code.Reaches.{RunsTo, begin_entry, top_of, IsActivated, IsBarred}
+use Rattle.machine_rules.specs.code.Reaches.{RunsTo, IsActivated, IsBarred}
 use Rattle.prop_bindings.specs.declared.binding.Binding.{Binding}
 use Rattle.prop_bindings.specs.declared.place.Place.{Place}
 use Rattle.prop_bindings.specs.Bindings.{binding_at, Settled}
@@ -28,14 +28,16 @@ use Rattle.prop_bindings.specs.Changes.{DifferInValues, IsWritten, one}
 use Rattle.prop_bindings.specs.Fits.{Agree, FitsAt}
 use Rattle.prop_bindings.specs.Places.{values_in}
 use Rattle.machine_rules.specs.Good.{ArgumentsFit, TopFits}
-use Rattle.machine_rules.specs.Rules.{begun}
+use Rattle.machine_rules.specs.Rules.{begun, begin_entry, top_of}
 use Rattle.machine_rules.specs.Settling.{Installs, notified}
 use Rattle.machine_rules.proofs.Beginning.{top-fits}
 use Rattle.machine_rules.proofs.Soundness.{sound-settled}
 use Rattle.machine_rules.specs.code.Sound.{IsSoundWorld}
-use Rattle.machine_events.specs.code.Taking.{AsksFor, WritesTo, Took, Halted}
+use Rattle.machine_events.specs.code.Taking.{AsksFor, WritesTo, Took}
 use Rattle.machine_events.proofs.Judging.Assigning.{field-of}
-use Rattle.machine_events.proofs.Taken.{idle, Ready, good-pushed, took-run, took-unchanged}
+use Rattle.machine_events.proofs.Taken.{idle, Ready, good-pushed, took-unchanged}
+use Rattle.machine_events.specs.Causes.{Halts}
+use Rattle.machine_events.proofs.Stopping.{took-run}
 
 begun-here : (w : World) (o : ℕ) (x : Object) (m : ℕ) (method : MetaMethod) (values : List Value) (work : Work) →
     at (accepting_entries w (begin_entry 1 x m method.sig.name (all_shown w.store.tree values) work ∷ [])) (top_of o m values w.store.connections.last work ∷ []) ≡ begun (accepted (at w [])) [] o x m method values work
@@ -104,18 +106,18 @@ installed {p} {v} {changed = changed} w has =
 
 -- ---- .. and it runs to its end, or stops on the way
 
-pub began : {p : Loaded} {natives : NativeAnswers} {d o m : ℕ} {w v u : World} {values : List Value} {line : Entry} {work : Work} {last : ℕ} {r : Result (Unit {0}) Fault} (e : Event) → Agree p w.store.tree w.store.bindings → ArgumentsFit p w.store.tree o m values → Ready w → AsksFor p w o m values e → IsActivated p d [] w o m values line work last → v ≡ accepting_entries w (line ∷ []) → RunsTo p natives d [] v (top_of o m values last work ∷ []) u [] r →
-    MatchResult r (λ _. Took p natives d w e u (Ok Done)) (λ f. Halted p natives d w e u f)
-began {p} {natives} {d} {o} {m} {w} {v} {u} {values = values} {work = work} {last = last} {r = r} e agree fit some asks is v_is ends =
+pub began : {p : Loaded} {natives : NativeAnswers} {d o m : ℕ} {w v u : World} {values : List Value} {line : Entry} {work : Work} {last : ℕ} {r : Result (Unit {0}) Fault} (e : Event) → IsSoundWorld p w → ArgumentsFit p w.store.tree o m values → Ready w → AsksFor p w o m values e → IsActivated p d [] w o m values line work last → v ≡ accepting_entries w (line ∷ []) → RunsTo p natives d [] v (top_of o m values last work ∷ []) u [] r →
+    MatchResult r (λ _. Took p natives d w e u (Ok Done)) (λ f. Halts p natives d w (e ∷ []) f u)
+began {p} {natives} {d} {o} {m} {w} {v} {u} {values = values} {work = work} {last = last} {r = r} e sound fit some asks is v_is ends =
     let Agrees : World → Type 0 = λ z. Agree p z.store.tree z.store.bindings in
     let Fits : World → Type 0 = λ z. TopFits p z.store.tree (top_of o m values last work ∷ []) in
-    let agree_after : Agree p v.store.tree v.store.bindings = subst Agrees (sym v_is) agree in
+    let agree_after : Agree p v.store.tree v.store.bindings = subst Agrees (sym v_is) sound.is.agree in
     let fits : TopFits p v.store.tree (top_of o m values last work ∷ []) = subst Fits (sym v_is) (top-fits last work [] fit) in
     let less : v.left ≡ w.left - 1 = ap (λ (z : World). z.left) v_is in
     let none : v.turn ≡ None = ap (λ (z : World). z.turn) v_is ∙ some.no_turn in
     let begun = judged-begun w e asks is v_is in
     let room : 0 < d = is.room in
-    took-run e (accepts (idle w some.no_turn) begun) (good-pushed w v agree_after fits (omega (arith, room))) some.some less none ends
+    took-run e sound (accepts (idle w some.no_turn) begun) (good-pushed w v agree_after fits (omega (arith, room))) some.some less none ends
 
 -- a method that fits begins, unless memory is refused
 pub barred-short : {p : Loaded} {natives : NativeAnswers} {d : ℕ} {w : World} {f : Fault} (e : Event) (r : Result Answer Fault) → 0 < d → Ready w → IsBarred d [] f → IsErrAnd r (λ y. y ≡ f) → Took p natives d w e w r
@@ -125,12 +127,12 @@ barred-short e r room some why is = elim why [
 ]
 
 -- values have changed, and what is notified runs to its end, or stops on the way
-pub changed-run : {p : Loaded} {natives : NativeAnswers} {d : ℕ} {w v u : World} {r : Result (Unit {0}) Fault} (lines : List Entry) (changed : List Place) (e : Event) → Agree p v.store.tree v.store.bindings → 0 < d → Ready w → judged p (at w []) e (Ok (at v (updates p v changed))) → v ≡ with_bound (accepting_entries w lines) v.store.tree v.store.bindings → RunsTo p natives d [] v (updates p v changed) u [] r →
-    MatchResult r (λ _. Took p natives d w e u (Ok Done)) (λ f. Halted p natives d w e u f)
-changed-run {w = w} {v = v} lines changed e agree room some judged is ends =
+pub changed-run : {p : Loaded} {natives : NativeAnswers} {d : ℕ} {w v u : World} {r : Result (Unit {0}) Fault} (lines : List Entry) (changed : List Place) (e : Event) → IsSoundWorld p w → Agree p v.store.tree v.store.bindings → 0 < d → Ready w → judged p (at w []) e (Ok (at v (updates p v changed))) → v ≡ with_bound (accepting_entries w lines) v.store.tree v.store.bindings → RunsTo p natives d [] v (updates p v changed) u [] r →
+    MatchResult r (λ _. Took p natives d w e u (Ok Done)) (λ f. Halts p natives d w (e ∷ []) f u)
+changed-run {w = w} {v = v} lines changed e sound agree room some judged is ends =
     let less : v.left ≡ w.left - 1 = ap (λ (z : World). z.left) is in
     let none : v.turn ≡ None = ap (λ (z : World). z.turn) is ∙ some.no_turn in
-    took-run e (accepts (idle w some.no_turn) judged) (good-pushed w v agree tt (omega (arith, room))) some.some less none ends
+    took-run e sound (accepts (idle w some.no_turn) judged) (good-pushed w v agree tt (omega (arith, room))) some.some less none ends
 
 -- ---- what stays sound meanwhile
 

@@ -1,17 +1,14 @@
 -- How runs with events are put together.
-use Rattle.std.proofs.Common.{ℕ, List, [], ◌++◌, inl}
+use Rattle.std.proofs.Common.{ℕ, List, [], ◌++◌}
 use Rattle.script_lang.specs.declared.event.Event.{Event}
 use Rattle.meta_model.specs.Loaded.{Loaded}
 use Rattle.machine_state.specs.declared.fault.Answer.{Answer}
-use Rattle.machine_state.specs.declared.fault.Fault.{Fault}
 use Rattle.machine_state.specs.State.{State}
 use Rattle.machine_rules.specs.Good.{IsGood}
 use Rattle.machine_rules.specs.Natives.{NativeAnswers}
-use Rattle.machine_rules.specs.code.Going.{GoodRules, RulesStop}
+use Rattle.machine_rules.specs.code.Going.{GoodRules}
 use Rattle.machine_rules.specs.code.Going as of_rules
-use Rattle.machine_rules.proofs.Reaching.{reason-more}
-use Rattle.machine_events.specs.Runs.{Run, done, goes, takes, Each, GoodRun, by_rule, goes_on}
-use Rattle.machine_events.specs.code.Taking.{RunStops}
+use Rattle.machine_events.specs.Runs.{Run, done, goes, takes, Each, GoodRun}
 
 pub run-trans : {p : Loaded} {natives : NativeAnswers} {s m t : State} {n k j : ℕ} {es fs : List Event} {xs ys : List Answer} → Run p natives s n es xs m k → Run p natives m k fs ys t j → Run p natives s n (es ++ fs) (xs ++ ys) t j
 run-trans done y = y
@@ -38,7 +35,3 @@ runs-trans {p} {d = d} x y = record { run = run-trans x.run y.run; good = each-t
 pub rules-run : {p : Loaded} {natives : NativeAnswers} {d : ℕ} {s t : State} {n k : ℕ} → GoodRules p natives d s n t k → GoodRun p natives d s n [] [] t k
 rules-run of_rules.done = record { run = done; good = tt }
 rules-run (of_rules.then x ok rest) = let more = rules-run rest in record { run = goes x more.run; good = (ok, more.good) }
-
--- why rules stop is why the run stops, whatever events are left
-pub reason-of : (p : Loaded) (natives : NativeAnswers) (d : ℕ) (s : State) (left : ℕ) (es : List Event) (f : Fault) → RulesStop p natives d s left f → RunStops p natives d s left es f
-reason-of p natives d s left es f r = reason-more p d s left f (λ stuck. inl stuck) (λ closes. absurd closes) (λ t rule. by_rule rule) (λ due. goes_on due) r

@@ -28,6 +28,7 @@ use Rattle.machine_rules.specs.code.Writing.{MayNotify}
 use Rattle.machine_rules.proofs.Dying.{lives-not-dead}
 use Rattle.machine_rules.proofs.Keeps.{lives-on, values-stay}
 use Rattle.machine_rules.proofs.Notifying.{all-may-still}
+use Rattle.machine_rules.proofs.Hearing.{Heard}
 
 -- ---- what stands
 
@@ -59,11 +60,13 @@ Stands p objects (Emit o g arguments used last) = Unit {0}
 Stands p objects (Update places) = AllByRecursion (MayNotify p objects) places
 Stands p objects (Destroy next torn) = Unit {0}
 
--- the world is sound, what is going on stands, and emissions have the arguments of their signals
+-- the world is sound, what is going on stands, and emissions have the arguments of their signals and call nothing more once
+-- their objects are dead
 pub record Invariant (p : Loaded) (s : State) : Type 0 where
   pub sound : Sound p s.objects s.bindings s.connected.connections s.queues.loops
   pub stands : AllByRecursion (Stands p s.objects) s.stack
   pub emitted : AllFit p s.objects s.stack
+  pub heard : Heard s
 
 -- ---- it stands as long as no object dies that has a body
 

@@ -1,5 +1,5 @@
 -- What the taking of an event comes to.
-use Rattle.std.proofs.Common.{◌≡◌, ℕ, suc, ◌-◌, ◌<◌, ◌≤◌, [], ◌∷◌, None, Result, Ok, Err, OnOk, MatchResult, refl, sym, ◌∙◌, subst, arith}
+use Rattle.std.proofs.Common.{◌≡◌, ℕ, suc, ◌-◌, ◌<◌, ◌≤◌, [], ◌∷◌, None, Result, Ok, Err, refl, sym, ◌∙◌, subst, arith}
 use Rattle.std.specs.Result.{IsErrAnd}
 use Rattle.script_lang.specs.declared.event.Event.{Event}
 use Rattle.meta_model.specs.Loaded.{Loaded}
@@ -14,7 +14,6 @@ use Rattle.machine_state.specs.Refusals.{refusal_number}
 use Rattle.machine_state.specs.State.{State, Activation, IsIdle}
 use Rattle.machine_state.specs.Worlds.{at, after, Rejects}
 use Rattle.machine_rules.specs.Natives.{NativeAnswers}
-use Rattle.machine_rules.specs.code.Reaches.{RunsTo}
 use Rattle.prop_bindings.specs.Fits.{Agree}
 use Rattle.machine_rules.specs.Good.{IsGood, TopFits}
 use Rattle.machine_rules.specs.code.Going.{GoodRules}
@@ -24,9 +23,9 @@ use Rattle.machine_events.specs.code.Judgement.{IsNotAccepted}
 use Rattle.machine_events.specs.code.Judgement as not_accepted
 use Rattle.machine_events.specs.Runs.{GoodRun, RunsWhole, done, takes, is_next}
 use Rattle.machine_events.specs.Takes.{judged, Takes, accepts, refuses}
-use Rattle.machine_events.specs.code.Taking.{Halted, SaysWhy, Took, IsRefused}
-use Rattle.machine_rules.proofs.Keeps.{rules-kept}
-use Rattle.machine_events.proofs.Running.{reason-of, rules-run}
+use Rattle.machine_events.specs.code.Taking.{SaysWhy, Took, IsRefused}
+use Rattle.machine_events.proofs.Running.{rules-run}
+use Rattle.machine_events.specs.Causes.{Halts, short, spent}
 
 -- an event is taken, and rules follow
 pub runs-taken : {p : Loaded} {natives : NativeAnswers} {d : ℕ} {a : Answer} {s m t : State} {n j k : ℕ} (e : Event) → Takes p e a s m → IsGood p d s m → 0 < n → j ≡ n - 1 → GoodRules p natives d m j t k → GoodRun p natives d s n (e ∷ []) (a ∷ []) t k
@@ -65,30 +64,30 @@ pub ready : {w : World} → 0 < w.left → w.turn ≡ None → Ready w
 ready some none = record { some = some; no_turn = none }
 
 -- memory was refused before anything changed
-pub halted-short : {p : Loaded} {natives : NativeAnswers} {d : ℕ} {w : World} (e : Event) → Ready w → Halted p natives d w e w Memory
-halted-short {w = w} e some = record { stack = []; front = record { taken = []; rest = e ∷ []; split = refl; answers = []; runs = none-yet }; reason = (some.some, is_next (idle w some.no_turn)) }
+pub halted-short : {p : Loaded} {natives : NativeAnswers} {d : ℕ} {w : World} (e : Event) → Ready w → Halts p natives d w (e ∷ []) Memory w
+halted-short {w = w} e some = record { stack = []; front = record { taken = []; rest = e ∷ []; split = refl; answers = []; runs = none-yet }; cause = short some.some (is_next (idle w some.no_turn)) }
 
 -- no rule is left for the event
-pub halted-spent : {p : Loaded} {natives : NativeAnswers} {d : ℕ} {w : World} (e : Event) → w.left ≡ 0 → w.turn ≡ None → Halted p natives d w e w Steps
-halted-spent {w = w} e none no_turn = record { stack = []; front = record { taken = []; rest = e ∷ []; split = refl; answers = []; runs = none-yet }; reason = (none, is_next (idle w no_turn)) }
+pub halted-spent : {p : Loaded} {natives : NativeAnswers} {d : ℕ} {w : World} (e : Event) → w.left ≡ 0 → w.turn ≡ None → Halts p natives d w (e ∷ []) Steps w
+halted-spent {w = w} e none no_turn = record { stack = []; front = record { taken = []; rest = e ∷ []; split = refl; answers = []; runs = none-yet }; cause = spent none (is_next (idle w no_turn)) }
 
 pub took-unchanged : {p : Loaded} {natives : NativeAnswers} {d : ℕ} {w v : World} {f : Fault} (e : Event) (r : Result Answer Fault) → Ready w → (f ≡ Memory) × (v ≡ w) → IsErrAnd r (λ y. y ≡ f) → Took p natives d w e v r
 took-unchanged e (Ok a) some same is = absurd is
 took-unchanged {p} {natives} {d} {w} {v} {f} e (Err y) some same is =
-    let Family : World → Type 0 = λ u. Halted p natives d w e u y in
-    let Named : Fault → Type 0 = λ g. Halted p natives d w e w g in
+    let Family : World → Type 0 = λ u. Halts p natives d w (e ∷ []) y u in
+    let Named : Fault → Type 0 = λ g. Halts p natives d w (e ∷ []) g w in
     record { cases = subst Family (sym same.1) (subst Named (sym (is ∙ same.0)) (halted-short e some)) }
 
 pub took-short : {p : Loaded} {natives : NativeAnswers} {d : ℕ} {w : World} (e : Event) (r : Result Answer Fault) → Ready w → IsErrAnd r (λ y. y ≡ Memory) → Took p natives d w e w r
 took-short e r some is = took-unchanged e r some (refl, refl) is
 
 -- the run stopped, behind a `?`
-pub took-stopped : {p : Loaded} {natives : NativeAnswers} {d : ℕ} {w v : World} {f : Fault} (e : Event) (r : Result Answer Fault) → Halted p natives d w e v f → IsErrAnd r (λ y. y ≡ f) → Took p natives d w e v r
+pub took-stopped : {p : Loaded} {natives : NativeAnswers} {d : ℕ} {w v : World} {f : Fault} (e : Event) (r : Result Answer Fault) → Halts p natives d w (e ∷ []) f v → IsErrAnd r (λ y. y ≡ f) → Took p natives d w e v r
 took-stopped e (Ok a) halted is = absurd is
-took-stopped {p} {natives} {d} {w} {v} e (Err y) halted is = record { cases = subst (λ (g : Fault). Halted p natives d w e v g) (sym is) halted }
+took-stopped {p} {natives} {d} {w} {v} e (Err y) halted is = record { cases = subst (λ (g : Fault). Halts p natives d w (e ∷ []) g v) (sym is) halted }
 
 -- .. where nothing had changed
-pub took-halted : {p : Loaded} {natives : NativeAnswers} {d : ℕ} {w v : World} {f : Fault} (e : Event) (r : Result Answer Fault) → Halted p natives d w e w f → v ≡ w → IsErrAnd r (λ y. y ≡ f) → Took p natives d w e v r
+pub took-halted : {p : Loaded} {natives : NativeAnswers} {d : ℕ} {w v : World} {f : Fault} (e : Event) (r : Result Answer Fault) → Halts p natives d w (e ∷ []) f w → v ≡ w → IsErrAnd r (λ y. y ≡ f) → Took p natives d w e v r
 took-halted {p} {natives} {d} {w} {v} e r halted same is = subst (λ (u : World). Took p natives d w e u r) (sym same) (took-stopped e r halted is)
 
 -- the event is refused
@@ -124,18 +123,3 @@ took-quiet {p} {natives} {d} {w} {v} t e judged empty agree some no_turn is =
     let quiet : World = after w t in
     let taken : RunsWhole p natives d (at w []) w.left (e ∷ []) (answer.Done ∷ []) (at quiet []) quiet.left = record { ends = idle quiet no_turn; runs = runs-taken e (subst Leads (sym empty) (accepts (idle w some.no_turn) judged)) (good-quiet w (after w t) agree) some.some (omega arith) of_rules.done } in
     record { cases = (subst Family (sym is) taken, tt) }
-
--- ---- what an event pushes runs to its end, or stops on the way
-
-pub took-run : {p : Loaded} {natives : NativeAnswers} {d : ℕ} {w m v : World} {top : Activation} {r : Result (Unit {0}) Fault} (e : Event) → Takes p e answer.Done (at w []) (at m (top ∷ [])) → IsGood p d (at w []) (at m (top ∷ [])) → 0 < w.left → m.left ≡ w.left - 1 → m.turn ≡ None → RunsTo p natives d [] m (top ∷ []) v [] r → MatchResult r (λ _. Took p natives d w e v (Ok answer.Done)) (λ f. Halted p natives d w e v f)
-took-run {v = v} {r = Ok _} e x good some less none ends = record { cases = (record { runs = runs-taken e x good some less (ends.cases.runs [] refl); ends = idle v ((rules-kept (ends.cases.runs [] refl)).no_turn none) }, tt) }
-took-run {p = p} {natives = natives} {d = d} {v = v} {r = Err f} e x good some less none ends =
-    let q = ends.cases.stops [] refl in
-    record { stack = q.0; front = record { taken = e ∷ []; rest = []; split = refl; answers = answer.Done ∷ []; runs = runs-taken e x good some less q.1 }; reason = reason-of p natives d (at v q.0) v.left [] f q.2 }
-
--- a turn runs to its end, or stops on the way
-pub took-turn : {p : Loaded} {natives : NativeAnswers} {d : ℕ} {w m v : World} {r : Result (Unit {0}) Fault} (e : Event) → Takes p e answer.Done (at w []) (at m []) → IsGood p d (at w []) (at m []) → 0 < w.left → m.left ≡ w.left - 1 → RunsTo p natives d [] m [] v [] r → OnOk r (v.turn ≡ None) → MatchResult r (λ _. Took p natives d w e v (Ok answer.Done)) (λ f. Halted p natives d w e v f)
-took-turn {v = v} {r = Ok _} e x good some less ends over = record { cases = (record { runs = runs-taken e x good some less (ends.cases.runs [] refl); ends = idle v over }, tt) }
-took-turn {p = p} {natives = natives} {d = d} {v = v} {r = Err f} e x good some less ends over =
-    let q = ends.cases.stops [] refl in
-    record { stack = q.0; front = record { taken = e ∷ []; rest = []; split = refl; answers = answer.Done ∷ []; runs = runs-taken e x good some less q.1 }; reason = reason-of p natives d (at v q.0) v.left [] f q.2 }

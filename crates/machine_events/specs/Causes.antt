@@ -1,5 +1,5 @@
 -- Why a machine stops (docs/machine.md, "Faults").
-use Rattle.std.specs.Prelude.{◌≡◌, ℕ, ◌<◌, List, ◌∷◌, Ok}
+use Rattle.std.specs.Prelude.{◌≡◌, ℕ, ◌<◌, List, [], ◌∷◌, Ok}
 use Rattle.script_lang.specs.declared.event.Event.{Event}
 use Rattle.script_lang.specs.declared.event.Event.TheVariants.{Bind}
 use Rattle.meta_model.specs.Loaded.{Loaded}
@@ -8,10 +8,13 @@ use Rattle.prop_bindings.specs.Bindings.{binding_at, replaced, Loop}
 use Rattle.prop_bindings.specs.Fits.{IsFit}
 use Rattle.machine_state.specs.declared.fault.Fault.{Fault}
 use Rattle.machine_state.specs.declared.fault.Fault.TheVariants.{BadType, TooDeep, BindingLoop, InUse, Steps, Memory}
-use Rattle.machine_state.specs.State.{State, IsIdle}
+use Rattle.machine_state.specs.declared.fault.Answer.{Answer}
+use Rattle.machine_state.specs.declared.world.World.{World}
+use Rattle.machine_state.specs.State.{State, Activation, IsIdle}
+use Rattle.machine_state.specs.Worlds.{at}
 use Rattle.machine_rules.specs.Natives.{NativeAnswers}
 use Rattle.machine_rules.specs.Faults.{LacksValue, WritesIll, WritesDeep, GoesIll, GoesFatal, GoesDeep}
-use Rattle.machine_events.specs.Runs.{Follows, IsDue}
+use Rattle.machine_events.specs.Runs.{RunsWhole, RunsFront, Follows, IsDue}
 use Rattle.machine_events.specs.Events.{may_bind}
 
 -- the next event asks that this binding be installed, which its judgement lets
@@ -61,3 +64,18 @@ pub data StopsFor (p : Loaded) (natives : NativeAnswers) (depth : ℕ) (s : Stat
   -- memory was refused
   short : 0 < left → IsDue s events → StopsFor p natives depth s left events Memory
   brings : {fault : Fault} → 0 < left → Brings p natives depth s events fault → StopsFor p natives depth s left events fault
+
+-- ---- what the taking of events comes to
+
+-- a whole run of these events, with these answers and without a bad moment, leads from one world to another
+abbrev pub Completes : Loaded → NativeAnswers → ℕ → World → List Event → List Answer → World → Type 0
+Completes p natives depth w events answers v =
+    RunsWhole p natives depth (at w []) w.left events answers (at v []) v.left
+
+-- A run of a front of them without a bad moment, which stops on the way for this fault: stores and trace are those of its
+-- last state, and what comes next, or memory, is the cause.
+pub record Halts (p : Loaded) (natives : NativeAnswers) (depth : ℕ) (w : World) (events : List Event) (f : Fault) (v : World)
+    : Type 0 where
+  pub stack : List Activation
+  pub front : RunsFront p natives depth (at w []) w.left events (at v stack) v.left
+  pub cause : StopsFor p natives depth (at v stack) v.left front.rest f

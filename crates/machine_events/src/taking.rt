@@ -1,7 +1,7 @@
 //! The taking of events.
 
 ghost use Rattle.std.specs.Prelude.{◌<◌, ◌≡◌, None};
-ghost use Rattle.native_slots.specs.Promises.{Promises};
+ghost use Rattle.machine_rules.specs.Natives.{KeepPromises};
 ghost use Rattle.machine_events.specs.code.Taking.{WorldInvariant, Answers};
 
 use crate::events::add_loop::add_loop;
@@ -29,7 +29,7 @@ pub fn take_event<N: Answering>(
     event: &Event,
 ) -> Result<Answer, Fault>
     requires depth { 0 < interpreter.now.depth }
-    requires promises { Promises interpreter.now.meta (N.takes interpreter.now.natives) (N.gives interpreter.now.natives) }
+    requires promises { KeepPromises N.takes N.gives interpreter.now.meta interpreter.now.natives }
     requires idle { world.old.turn ≡ None }
     requires keeps { WorldInvariant interpreter.now.meta world.old }
     ensures { Answers N.gives interpreter.now event.now world.old world.new result }
@@ -46,7 +46,7 @@ fn run_event<N: Answering>(
     event: &Event,
 ) -> Result<Answer, Fault>
     requires depth { 0 < interpreter.now.depth }
-    requires promises { Promises interpreter.now.meta (N.takes interpreter.now.natives) (N.gives interpreter.now.natives) }
+    requires promises { KeepPromises N.takes N.gives interpreter.now.meta interpreter.now.natives }
     requires idle { world.old.turn ≡ None }
     requires keeps { WorldInvariant interpreter.now.meta world.old }
     ensures { Answers N.gives interpreter.now event.now world.old world.new result }

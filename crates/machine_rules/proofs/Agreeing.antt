@@ -1,5 +1,5 @@
 -- After a rule that is well properties and bindings agree, if they did before it.
-use Rattle.std.proofs.Common.{◌≡◌, ℕ, Bool, true, false, not, cond, List, [], ◌∷◌, length, take, All, Result, Ok, Err, Option, Some, None, sym, ap, ◌∙◌, subst}
+use Rattle.std.proofs.Common.{◌≡◌, ℕ, Bool, true, false, not, cond, List, [], ◌∷◌, length, take, All, Result, Ok, Err, Option, Some, None, sym, ap, ◌∙◌, subst, inl, inr}
 use Rattle.std.proofs.lemmas.List.Elements.{All-push}
 use Rattle.std.specs.List.{find}
 use Rattle.signatures.specs.declared.value.Value.{Value}
@@ -39,7 +39,7 @@ use Rattle.machine_state.specs.Connections.{is_living, next_used}
 use Rattle.machine_state.specs.State.{Step, State, Activation, Body, Emit, Update, Destroy}
 use Rattle.machine_state.specs.Turns.{running, reaches_at_once}
 use Rattle.machine_rules.specs.Connecting.{kept_ends, names_of}
-use Rattle.machine_rules.specs.Destroying.{Dies, NextRule, ChildRule, DestroyRule, living_child, DefersOnce, Schedules}
+use Rattle.machine_rules.specs.Destroying.{Dies, NextRule, ChildRule, DestroyRule, living_child, Schedules}
 use Rattle.machine_rules.specs.Operations.{Operation, Write, Begin, Choose, Connect, Disconnect, Delete, Schedule, TakeAnswer, Nothing}
 use Rattle.machine_rules.specs.Good.{IsWell, IsAcyclic}
 use Rattle.machine_rules.specs.Rules.{RuleAt, BodyRule, Does, EmitRule, UpdateRule, NotifiesIf, TurnRule, Serves, Delivers, Arrives, BeginsIf, begun, with_used, linked, unlinked}
@@ -49,6 +49,7 @@ use Rattle.machine_rules.specs.There.{IsField}
 use Rattle.machine_rules.proofs.Fields.{old-there, stored-reads}
 use Rattle.machine_rules.proofs.Differing.{scheduled-agree}
 use Rattle.machine_rules.specs.Natives.{NativeAnswers}
+use Rattle.machine_rules.proofs.Scheduling.{schedule-cases}
 
 -- a binding that replaces another stands
 replaced-at : (bs : List Binding) (b : Binding) → binding_at (replaced bs b) b.target ≡ Some b
@@ -148,12 +149,10 @@ module _ {p : Loaded} {s t : State} (agree : Agree p s.objects s.bindings) (well
       by_child None e = agree-at _ e agree
 
   pub schedules-agrees : (stack : List Activation) (x : ℕ) (life : Option Life) → Schedules s stack x t life → Agree p t.objects t.bindings
-  schedules-agrees stack x None e = agree-at _ e agree
-  schedules-agrees stack x (Some l) r = by_mark l.scheduled r
-    where
-      by_mark : (b : Bool) → DefersOnce s stack l.home x t b → Agree p t.objects t.bindings
-      by_mark true e = agree-at _ e agree
-      by_mark false d = agree-at _ d.gives (scheduled-agree p s.objects s.bindings x agree)
+  schedules-agrees stack x life r = elim (schedule-cases life r) [
+    | inl e ↦ agree-at _ e agree
+    | inr d ↦ agree-at _ d.gives (scheduled-agree p s.objects s.bindings x agree)
+  ]
 
   does-agrees : (natives : NativeAnswers) (o m : ℕ) (arguments : List Value) (rest : List Step) (below : List Activation) (d : Operation) → Does p natives s o m arguments rest below d t → Agree p t.objects t.bindings
   does-agrees natives o m arguments rest below (Write x q new) does = writes-agrees does

@@ -1,5 +1,5 @@
 -- How methods begin.
-use Rattle.std.proofs.Common.{◌≡◌, ℕ, suc, ◌+◌, ◌-◌, ◌<◌, ◌≤◌, inl, inr, eqb, not, Bool, true, false, IsTrue, List, [], ◌∷◌, ◌++◌, length, take, Result, Option, None, Some, refl, sym, ap, ◌∙◌, subst, arith, length-append, Ok, Err}
+use Rattle.std.proofs.Common.{◌≡◌, ℕ, suc, ◌+◌, ◌-◌, ◌<◌, ◌≤◌, inl, inr, Bool, true, false, IsTrue, List, [], ◌∷◌, ◌++◌, length, take, Result, Option, None, Some, refl, sym, ap, ◌∙◌, subst, arith, length-append, Ok, Err, ◌≢◌}
 use Rattle.std.specs.List.{AllByRecursion}
 use Rattle.std.specs.Result.{IsErrAnd}
 use Rattle.signatures.specs.declared.value.Value.{Value}
@@ -15,7 +15,6 @@ use Rattle.machine_state.specs.declared.fault.Fault.TheVariants.{BadType, TooDee
 use Rattle.event_loops.specs.declared.item.Item.TheVariants.{Call}
 use Rattle.std.specs.Option.{option_map}
 use Rattle.std.specs.Prelude.{is_some}
-use Rattle.std.proofs.lemmas.Bool.{eqb-true}
 use Rattle.meta_model.specs.declared.qobject.TheConstants.{DESTROYED}
 use Rattle.object_tree.specs.Objects.{Lives, life_of, home_of}
 use Rattle.object_tree.proofs.Changing.{life-of-lives, lives-of-life}
@@ -25,18 +24,17 @@ use Rattle.machine_state.specs.declared.world.World.{World}
 use Rattle.machine_state.specs.Objects.{all_shown}
 use Rattle.machine_state.specs.State.{State, Activation, Emit}
 use Rattle.machine_state.specs.Turns.{running, reaches_at_once}
-use Rattle.machine_rules.specs.Rules.{Begins, begun, with_used, posted, EmitRule, Uses, Arrives}
-use Rattle.machine_state.specs.Connections.{silences, is_living, next_used}
-use Rattle.machine_state.proofs.Due.{used-among, used-due, used-living, used-heard, last-used}
+use Rattle.machine_rules.specs.Rules.{Begins, begun, with_used, posted, EmitRule, Uses, Arrives, begin_entry, top_of}
+use Rattle.machine_state.specs.Connections.{is_living, next_used}
+use Rattle.machine_state.proofs.Due.{used-among, used-due, used-living, last-used}
 use Rattle.object_tree.specs.Typed.{ReadAs}
-use Rattle.machine_rules.specs.Good.{ArgumentsFit, EmissionFits, of_living, of_dead, TopFits, IsWell}
-use Rattle.machine_rules.specs.code.Sound.{Sends, SendsThese, Joined, IsDelivered, AgreeIn}
+use Rattle.machine_rules.specs.Good.{ArgumentsFit, EmissionFits, of_living, of_dead, TopFits, IsWell, shows}
+use Rattle.machine_rules.specs.code.Sound.{Sends, SendsThese, Joined, IsDelivered, AgreeIn, MayBeHeard}
 use Rattle.machine_state.specs.Worlds.{at, noted, having_used, posting, GoesTo}
-use Rattle.machine_rules.specs.code.Reaches.{Reaches, StopsIn, RunsTo, CallsIn, Calls, OnlyCalls, begin_entry, entry_of_post, top_of, DoesWork, IsActivated, IsBarred, PostsCall}
-use Rattle.machine_rules.specs.code.Active.{shows}
+use Rattle.machine_rules.specs.code.Reaches.{Reaches, StopsIn, RunsTo, CallsIn, Calls, OnlyCalls, entry_of_post, DoesWork, IsActivated, IsBarred, PostsCall}
 use Rattle.machine_rules.proofs.Frames.{high, shows-over}
-use Rattle.machine_rules.specs.There.{IsMember}
-use Rattle.machine_rules.proofs.Dying.{lives-not-dead}
+use Rattle.machine_rules.specs.There.{IsMember, IsDead}
+use Rattle.machine_rules.proofs.Dying.{lives-not-dead, lives-or-dead}
 use Rattle.machine_rules.proofs.Reaching.{none-spared, same-spared, reaches-high, ends-after, ends-lifted, not-idle, ends-noted, stops-as, stops-memory, stops-deep, stops-ill, stops-stuck}
 use Rattle.machine_rules.proofs.Fields.{member-method, method-unique, read-front}
 use Rattle.machine_rules.specs.Operations.{Write, Begin, TakeAnswer}
@@ -151,20 +149,14 @@ fit-of {x = x} {method = method} is typed = record { object = x; method = method
 -- ---- connections
 
 -- a signal that is heard has one list of types
-heard-kinds : {p : Loaded} (objects : List Object) (o g : ℕ) {a b : List ValueType} → Sends p objects o g a → Sends p objects o g b → silences (life_of objects o) g ≡ false → a ≡ b
-heard-kinds {p} objects o g {a} {b} x y heard = by_life (life_of objects o) refl heard
-  where
-    not-false : (n : Bool) → not n ≡ false → n ≡ true
-    not-false true e = refl
-    not-false false e = absurd (cc e)
-
-    by_life : (there : Option Life) → life_of objects o ≡ there → silences there g ≡ false → a ≡ b
-    by_life None is h = let last : g ≡ DESTROYED = eqb-true g DESTROYED (not-false (eqb g DESTROYED) h) in x.last last ∙ sym (y.last last)
-    by_life (Some l) is h =
-        let there = lives-of-life objects o l is in
-        let first = x.takes.living there.0 l there.1 in
-        let second = y.takes.living there.0 l there.1 in
-        sym first.takes ∙ ap (λ (k : MetaMethod). k.kinds) (method-unique first.is second.is) ∙ second.takes
+heard-kinds : {p : Loaded} (objects : List Object) (o g : ℕ) {a b : List ValueType} → Sends p objects o g a → Sends p objects o g b → (IsDead objects o → g ≡ DESTROYED) → a ≡ b
+heard-kinds {p} objects o g {a} {b} x y last_one = elim (lives-or-dead objects o x.takes.created) as (λ h. a ≡ b) [
+  | inl there ↦
+      let first = x.takes.living there.0 there.1 there.2 in
+      let second = y.takes.living there.0 there.1 there.2 in
+      sym first.takes ∙ ap (λ (k : MetaMethod). k.kinds) (method-unique first.is second.is) ∙ second.takes
+  | inr gone ↦ x.last (last_one gone) ∙ sym (y.last (last_one gone))
+]
 
 -- what lives has a life
 pub has-life : (objects : List Object) (o : ℕ) → is_living objects o ≡ true → (x : Object) × (l : Life) × Lives objects o x l
@@ -175,13 +167,17 @@ has-life objects o e = by_life (life_of objects o) refl e
     by_life (Some l) is f = let there = lives-of-life objects o l is in (there.0, l, there.1)
 
 -- the next connection's receiver lives, and its method takes the first of the emission's arguments
-pub next-delivered : {p : Loaded} {objects : List Object} {arguments : List Value} (connections : List Connection) (o g used last : ℕ) (c : Connection) → AllByRecursion (Joined p objects) connections → SendsThese p objects o g arguments → next_used objects connections o g used last ≡ Some c → IsDelivered p objects c arguments
-next-delivered {p} {objects} {arguments} connections o g used last c all emitted found =
+pub next-delivered : {p : Loaded} {objects : List Object} {arguments : List Value} (connections : List Connection) (o g used last : ℕ) (c : Connection) → AllByRecursion (Joined p objects) connections → SendsThese p objects o g arguments → MayBeHeard objects connections o g → next_used objects connections o g used last ≡ Some c → IsDelivered p objects c arguments
+next-delivered {p} {objects} {arguments} connections o g used last c all emitted may found =
     let j : Joined p objects c = used-among (Joined p objects) objects connections o g used last c all found in
     let is = (used-due objects connections o g used last c found).0 in
     let sends : Sends p objects o g (j.kinds ++ j.rest) =
     subst (λ (n : ℕ). Sends p objects o n (j.kinds ++ j.rest)) is.1 (subst (λ (n : ℕ). Sends p objects n c.signal (j.kinds ++ j.rest)) is.0 j.sends) in
-    let same : emitted.kinds ≡ j.kinds ++ j.rest = heard-kinds objects o g emitted.sends sends (used-heard objects connections o g used last c found) in
+    let last_one : IsDead objects o → g ≡ DESTROYED = λ gone. elim may as (λ h. g ≡ DESTROYED) [
+      | inl is_last ↦ is_last
+      | inr quiet ↦ absurd (used-among (λ (d : Connection). d.sender ≢ o) objects connections o g used last c (quiet gone) found is.0)
+    ] in
+    let same : emitted.kinds ≡ j.kinds ++ j.rest = heard-kinds objects o g emitted.sends sends last_one in
     let split : ReadAs p objects arguments (j.kinds ++ j.rest) = subst (λ (l : List ValueType). ReadAs p objects arguments l) same emitted.typed in
     let front : ReadAs p objects (take (length j.kinds) arguments) j.kinds = read-front p objects arguments j.kinds j.rest split in
     let receiver = has-life objects c.receiver (used-living objects connections o g used last c found) in

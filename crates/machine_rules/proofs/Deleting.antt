@@ -26,9 +26,9 @@ use Rattle.machine_state.specs.declared.world.World.{World}
 use Rattle.machine_state.specs.Connections.{is_living}
 use Rattle.machine_state.specs.State.{State, Activation, Emit, Destroy}
 use Rattle.machine_state.specs.Worlds.{at, ticked, dying, ending, Ticks}
-use Rattle.machine_rules.specs.code.Active.{shows, shows_body}
+use Rattle.machine_rules.specs.code.Active.{shows_body}
 use Rattle.machine_rules.specs.Destroying.{deleting, Dies, NextRule, ChildRule}
-use Rattle.machine_rules.specs.Good.{EmissionFits, of_dead, has_body, IsWell, Spares}
+use Rattle.machine_rules.specs.Good.{EmissionFits, of_dead, has_body, IsWell, Spares, shows}
 use Rattle.machine_rules.specs.code.Keeps.{KeepsWorld}
 use Rattle.machine_rules.specs.code.Reaches.{Reaches, StopsIn, RunsTo, Deletes, Kills, entry_of_destroyed, Forgets}
 use Rattle.machine_rules.specs.Rules.{Rule}
@@ -38,7 +38,7 @@ use Rattle.machine_rules.proofs.Beginning.{one-more, has-life}
 use Rattle.machine_rules.proofs.Declared.{emission-sends}
 use Rattle.machine_rules.specs.code.Sound.{SendsThese}
 use Rattle.meta_model.specs.Sound.{IsSound}
-use Rattle.machine_rules.proofs.Frames.{high, has-shown}
+use Rattle.machine_rules.proofs.Frames.{high}
 use Rattle.machine_rules.proofs.Reaching.{none-spared, reaches-low, reaches-high, stops-as, stops-memory, stops-steps, stops-deep, stops-fatal, ends-after, ends-lifted, not-idle}
 use Rattle.machine_rules.specs.Natives.{NativeAnswers}
 
@@ -95,7 +95,7 @@ unbodied-spared objects x stack none o body gone = ⊎_elim
     (cases_eq o x)
 
 bodiless : (x : ℕ) {active : List (Option ℕ)} (below : List Activation) → shows below ≡ active → shows_body x active ≡ false → has_body x below ≡ false
-bodiless x below e none = has-shown x below ∙ ap (shows_body x) e ∙ none
+bodiless x below e none = ap (shows_body x) e ∙ none
 
 died-next : {p : Loaded} {natives : NativeAnswers} {w : World} {next : Option ℕ} {before torn : List ℕ} {x n : ℕ} {name : List ℕ} (below : List Activation) → Kills p natives w next before torn x → name_of w.store.tree x ≡ Some name → n ≡ suc (length below) → Rule p natives (at w (Destroy next before ∷ below)) (at (died_world w n x name) (announced w x ∷ Destroy (Some x) torn ∷ below))
 died-next {p} {natives} {w} {next} {before} {torn} {x} below kills named depth_is = kills.gives below _ (dies-there w (Destroy next before ∷ below) (Destroy (Some x) torn ∷ below) named depth_is)
@@ -120,7 +120,7 @@ module _ {p : Loaded} {natives : NativeAnswers} {d : ℕ} {active : List (Option
       let s : State = at w (Destroy next before ∷ below) in
       let t : State = at (died_world w (suc (length below)) x name) (announced w x ∷ Destroy (Some x) torn ∷ below) in
       let well : IsWell p s t = record { arguments = λ higher. death-fits p w.store.tree x named; values = (left_agree p w.store.bindings w.store.tree x agree).typed } in
-      let body : has_body x below ≡ true = has-shown x below ∙ ap (shows_body x) e ∙ bodied in
+      let body : has_body x below ≡ true = ap (shows_body x) e ∙ bodied in
       let fatal : ¬ Spares s t = λ spares. living-dead w.store.tree x lives (spares x body (died-dead w.store.tree x named)) in
       (t, died-next below kills named refl, well, fatal))
     where

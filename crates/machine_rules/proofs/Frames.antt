@@ -1,13 +1,13 @@
 -- What frames and stacks show.
-use Rattle.std.proofs.Common.{◌≡◌, ℕ, ◌+◌, eqb, ◌||◌, Bool, List, [], ◌∷◌, ◌++◌, length, Option, refl, sym, ap, ◌∙◌, arith}
+use Rattle.std.proofs.Common.{◌≡◌, ℕ, ◌+◌, List, [], ◌∷◌, ◌++◌, length, Option, refl, sym, ap, ◌∙◌, arith}
 use denote.Bor.{Bor}
-use Rattle.machine_state.specs.State.{Activation, Body, Emit, Update, Destroy}
+use Rattle.machine_state.specs.State.{Activation}
 use Rattle.machine_rules.specs.declared.active.Frame.{Frame}
 use Rattle.machine_rules.specs.declared.active.Frame.TheVariants.{Nothing, Over, rolls-Nothing, rolls-Over}
 use Rattle.machine_rules.specs.declared.active.Frame.TheFolds.{fold-roll-Frame}
 use Rattle.machine_rules.specs.declared.active.Frame.TheOpen as frame
-use Rattle.machine_rules.specs.code.Active.{whose, shows, shows_body, layer_shows, frame_shows}
-use Rattle.machine_rules.specs.Good.{has_body}
+use Rattle.machine_rules.specs.code.Active.{layer_shows, frame_shows}
+use Rattle.machine_rules.specs.Good.{whose, shows}
 
 -- ---- frames
 
@@ -44,11 +44,3 @@ high below is = shows-length below ∙ ap (λ (l : List (Option ℕ)). length l)
 -- .. also where more stands over it
 pub shows-over : {shown active : List (Option ℕ)} (to below : List Activation) → active ≡ shows to ++ shown → shows below ≡ shown → shows (to ++ below) ≡ active
 shows-over to below over is = shows-append to below ∙ ap (λ (l : List (Option ℕ)). shows to ++ l) is ∙ sym over
-
--- an object has a body where one shows
-pub has-shown : (o : ℕ) (stack : List Activation) → has_body o stack ≡ shows_body o (shows stack)
-has-shown o [] = refl
-has-shown o (Body x m arguments left ∷ stack) = ap (λ (b : Bool). eqb x o || b) (has-shown o stack)
-has-shown o (Emit x g arguments used last ∷ stack) = has-shown o stack
-has-shown o (Update places ∷ stack) = has-shown o stack
-has-shown o (Destroy next torn ∷ stack) = has-shown o stack

@@ -18,7 +18,7 @@ use Rattle.machine_state.specs.Worlds.{at}
 use Rattle.machine_state.proofs.Due.{last-used, all-used, all-removed}
 use Rattle.prop_bindings.specs.declared.place.Place.{Place}
 use Rattle.machine_state.specs.State.{Step, State, Activation, Body, Emit, Update, Destroy}
-use Rattle.machine_rules.specs.Destroying.{Dies, forgotten, deferred, NextRule, ChildRule, DestroyRule, living_child, DefersOnce, Schedules}
+use Rattle.machine_rules.specs.Destroying.{Dies, forgotten, NextRule, ChildRule, DestroyRule, living_child, Schedules}
 use Rattle.machine_rules.specs.Rules.{RuleAt, BodyRule, Does, EmitRule, UpdateRule, NotifiesIf, Begins, BeginsIf, begun, with_used, linked, unlinked, TurnRule, Serves, Delivers, Arrives}
 use Rattle.machine_rules.specs.Operations.{Operation, Write, Begin, Choose, Connect, Disconnect, Delete, Schedule, TakeAnswer, Nothing}
 use Rattle.machine_state.specs.Connections.{is_living, next_used, joins_these}
@@ -47,7 +47,6 @@ use Rattle.machine_rules.proofs.Declared.{member-takes, member-sends}
 use Rattle.machine_rules.proofs.Dying.{lives-or-dead, lives-not-dead, died-stay, died-home, scheduled-stay}
 use Rattle.machine_rules.specs.code.Going.{GoodRules, done, then}
 use Rattle.machine_rules.specs.code.Sound.{IsDeclared, Receives, Sends, Joined, AgreeIn}
-use Rattle.machine_rules.specs.code.Active.{whose, shows}
 use Rattle.machine_rules.specs.code.Reaches.{Reaches}
 use Rattle.machine_rules.specs.Settling.{Settles, Writes, Installs}
 use Rattle.machine_rules.proofs.Agreeing.{rules-settled}
@@ -59,6 +58,8 @@ use Rattle.machine_rules.specs.code.Keeps.{StayThere, AllJoined, Grows, Keeps, K
 use Rattle.object_tree.proofs.TypedObjects.{Follow, read-still}
 use Rattle.std.specs.Option.{option_map}
 use Rattle.machine_rules.specs.Natives.{NativeAnswers}
+use Rattle.machine_rules.specs.Good.{whose, shows}
+use Rattle.machine_rules.proofs.Scheduling.{deferred, schedule-cases}
 
 -- ---- objects that stay
 
@@ -334,12 +335,10 @@ deferred-kept {p} {s} stack loop home x name =
     }
 
 pub schedules-kept : (p : Loaded) (s : State) (stack : List Activation) (x : ℕ) (t : State) (life : Option Life) → Schedules s stack x t life → Keeps p s 1 t 0
-schedules-kept p s stack x t None e = keeps-is e (keeps-all stack (grows-same s.trace))
-schedules-kept p s stack x t (Some l) r = by_mark l.scheduled r
-  where
-    by_mark : (b : Bool) → DefersOnce s stack l.home x t b → Keeps p s 1 t 0
-    by_mark true e = keeps-is e (keeps-all stack (grows-same s.trace))
-    by_mark false d = keeps-is d.gives (deferred-kept stack d.loop l.home x d.name)
+schedules-kept p s stack x t life r = elim (schedule-cases life r) [
+  | inl e ↦ keeps-is e (keeps-all stack (grows-same s.trace))
+  | inr d ↦ keeps-is d.gives (deferred-kept stack d.loop d.home x d.name)
+]
 
 -- ---- bodies
 
@@ -453,6 +452,12 @@ some-stack [] = ([], refl)
 some-stack (body ∷ shown) =
     let q = some-stack shown in
     (some-top body ∷ q.0, ap (λ (x : Option ℕ). x ∷ shows q.0) (some-whose body) ∙ ap (λ (l : List (Option ℕ)). body ∷ l) q.1)
+
+-- what holds of no activations, and stays where one is put over others, holds of it
+pub some-by : (P : List Activation → Type 0) → P [] → ((body : Option ℕ) (rest : List Activation) → P rest → P (some-top body ∷ rest)) → (shown : List (Option ℕ)) → P ((some-stack shown).0)
+unfolding some-stack
+some-by P none step [] = none
+some-by P none step (body ∷ shown) = step body ((some-stack shown).0) (some-by P none step shown)
 
 -- what holds of whatever shows something holds of all of it
 pub some-all : (P : Activation → Type 0) → ((body : Option ℕ) → P (some-top body)) → (shown : List (Option ℕ)) → AllByRecursion P ((some-stack shown).0)

@@ -12,8 +12,10 @@ pub mod Fields
 pub mod Beginning
 pub mod Writes
 pub mod Notifying
+pub mod Scheduling
 pub mod Linking
 pub mod Bodies
+pub mod Hearing
 pub mod Reading
 pub mod Yielding
 pub mod Blocks

@@ -1,5 +1,5 @@
 -- Connections that statements make and remove.
-use Rattle.std.proofs.Common.{◌≡◌, ◌&&◌, Bool, true, false, IsTrue, Option, Some, ℕ, ◌-◌, List, [], ◌∷◌, length, Result, Ok, Err, MatchResult, refl, sym, ap, ◌∙◌, subst, inr}
+use Rattle.std.proofs.Common.{◌≡◌, ◌&&◌, Bool, true, false, IsTrue, Option, Some, ℕ, ◌-◌, List, [], ◌∷◌, length, Result, Ok, Err, MatchResult, refl, sym, ap, ◌∙◌, subst, inr, None, ◌<◌, arith}
 use Rattle.texts.specs.declared.connection.ConnectionType.{ConnectionType}
 use Rattle.texts.specs.declared.connection.Endpoints.{Endpoints as Named}
 use Rattle.meta_model.specs.Loaded.{Loaded}
@@ -7,7 +7,7 @@ use Rattle.meta_model.specs.declared.object.MetaMethod.{MetaMethod}
 use Rattle.meta_model.specs.Members.{IsMethod}
 use Rattle.object_tree.specs.declared.life.Life.{Life}
 use Rattle.object_tree.specs.declared.object.Object.{Object}
-use Rattle.object_tree.specs.Objects.{Lives}
+use Rattle.object_tree.specs.Objects.{Lives, IsGone}
 use Rattle.machine_rules.specs.There.{IsDead, NoneDied}
 use Rattle.delete_later.specs.declared.store.Store.{Store}
 use Rattle.delete_later.specs.Scheduling.{deferred_to, scheduled_in}
@@ -16,12 +16,13 @@ use Rattle.event_loops.specs.Queues.{name_at}
 use Rattle.prop_bindings.specs.Fits.{Agree}
 use Rattle.machine_rules.specs.code.Sound.{AgreeIn}
 use Rattle.object_tree.specs.Objects.{life_of}
-use Rattle.object_tree.proofs.Changing.{life-of-lives}
+use Rattle.object_tree.proofs.Changing.{life-of-lives, lives-of-life}
 use Rattle.std.specs.Option.{option_map}
-use Rattle.machine_rules.specs.Destroying.{Defers, DefersOnce, Schedules}
+use Rattle.machine_rules.specs.Destroying.{Schedules, TellsSchedule, scheduled_now}
 use Rattle.machine_rules.proofs.Dying.{scheduled-seen}
 use Rattle.machine_rules.proofs.Differing.{scheduled-agree}
 use Rattle.machine_state.specs.declared.endpoints.Endpoints.{Endpoints}
+use Rattle.machine_state.specs.declared.entry.Entry.{Entry}
 use Rattle.machine_state.specs.declared.entry.Entry.TheVariants.{At}
 use Rattle.machine_state.specs.declared.entry.EntryKind.TheVariants.{Connected, Disconnected, Refused, Scheduled}
 use Rattle.machine_state.specs.declared.fault.Fault.{Fault}
@@ -30,12 +31,13 @@ use Rattle.machine_state.specs.declared.refusal.Refusal.TheVariants.{NoConnectio
 use Rattle.machine_state.specs.declared.world.World.{World}
 use Rattle.machine_state.specs.Refusals.{refusal_number}
 use Rattle.machine_state.specs.State.{State, Activation}
-use Rattle.machine_state.specs.Worlds.{at, noted, connecting, disconnecting, scheduling, GoesTo}
+use Rattle.machine_state.specs.Worlds.{at, noted, connecting, disconnecting, scheduling, GoesTo, ticked, Ticks}
 use Rattle.machine_rules.specs.Connecting.{AreThere, kept_ends, may_disconnect}
 use Rattle.machine_rules.specs.code.Reaches.{IsJudged, LacksEnds, NamesEnds, Went, Stalls, ConnectsIn, DisconnectsIn, SchedulesIn}
 use Rattle.machine_rules.specs.Rules.{Connects, Disconnects}
 use Rattle.machine_rules.proofs.Fields.{member-at}
 use Rattle.machine_rules.proofs.Fitting.{named-there}
+use Rattle.machine_rules.proofs.Scheduling.{schedules-none, schedules-before}
 
 -- where the ends that are spelled are there, those are that a connection keeps
 pub kept-there : {p : Loaded} {objects : List Object} {ends : Endpoints} → AreThere p objects ends → AreThere p objects (kept_ends ends)
@@ -89,6 +91,26 @@ module _ (What : State → List Activation → State → Type 0) (w v : World) (
   }
   came target (Err f) tells agree spared left short = record { same = short.1; why = inr short.0 }
 
+-- what isn't scheduled changes nothing
+schedule-idle : (w v : World) (depth x : ℕ) (r : Result (Unit {0}) Fault) → ((old stack : List Activation) → Schedules (at w old) stack x (at w stack) (life_of w.store.tree x)) → 0 < w.left → Ticks w v r → SchedulesIn w depth x v r
+schedule-idle w v depth x (Ok y) tells some went =
+    came (λ s stack t. Schedules s stack x t (life_of s.objects x)) w v depth (λ n. ticked w) (Ok y) tells (λ n p before. before) (λ n o gone. gone) (λ n. refl) went.1
+schedule-idle w v depth x (Err f) tells some went = absurd (omega (arith, some, went.0))
+
+-- there is no such living object
+pub schedule-gone : (w v : World) (depth x : ℕ) (r : Result (Unit {0}) Fault) → IsGone w.store.tree x → 0 < w.left → Ticks w v r → SchedulesIn w depth x v r
+schedule-gone w v depth x r gone some went =
+    schedule-idle w v depth x r (λ old stack. subst (λ (life : Option Life). Schedules (at w old) stack x (at w stack) life) (sym (no-life (life_of w.store.tree x) refl)) schedules-none) some went
+  where
+    no-life : (there : Option Life) → life_of w.store.tree x ≡ there → there ≡ None
+    no-life None is = refl
+    no-life (Some l) is = let lives = lives-of-life w.store.tree x l is in absurd (gone lives.0 l lives.1)
+
+-- it is scheduled already
+pub schedule-again : (w v : World) (depth x : ℕ) {y : Object} {l : Life} (r : Result (Unit {0}) Fault) → Lives w.store.tree x y l → l.scheduled ≡ true → 0 < w.left → Ticks w v r → SchedulesIn w depth x v r
+schedule-again w v depth x r lives marked some went =
+    schedule-idle w v depth x r (λ old stack. subst (λ (life : Option Life). Schedules (at w old) stack x (at w stack) life) (sym (life-of-lives lives)) (schedules-before marked)) some went
+
 -- an object is scheduled for deletion
 pub schedule-made : (w v : World) (depth x : ℕ) {y : Object} {l : Life} {loop : List ℕ} (r : Result (Unit {0}) Fault) → Lives w.store.tree x y l → l.scheduled ≡ false → Some loop ≡ name_at w.store.loops.loops l.home → GoesTo w (scheduling w (At depth (Scheduled loop y.name) ∷ []) x) v r → SchedulesIn w depth x v r
 schedule-made w v depth x {y} {l} {loop} r lives unmarked named becomes =
@@ -97,18 +119,9 @@ schedule-made w v depth x {y} {l} {loop} r lives unmarked named becomes =
     let target : ℕ → World = λ n. scheduling w (At n (Scheduled loop y.name) ∷ []) x in
     came (λ s stack t. Schedules s stack x t (life_of s.objects x)) w v depth target r
     (λ old stack.
-    let s : State = at w old in
-    let t : State = at (target (length stack)) stack in
-    let defers : Defers s stack l.home x t = record {
-      loop = loop;
-      is_loop = sym named;
-      name = y.name;
-      named = ap (option_map (λ (z : Object). z.name)) lives.is;
-      gives = ap (λ (store : Store). at (record (noted w (At (length stack) (Scheduled loop y.name) ∷ [])) { store = store }) stack) made;
-    } in
-    let Once : Bool → Type 0 = λ b. DefersOnce s stack l.home x t b in
-    let Life_is : Option Life → Type 0 = λ life. Schedules s stack x t life in
-    subst Life_is (sym life_is) (subst Once (sym unmarked) defers))
+    let lines : List Entry = At (length stack) (Scheduled loop y.name) ∷ [] in
+    let Told : Option Life → Type 0 = λ life. TellsSchedule (at w old) (length stack) x life lines in
+    record { lines = lines; told = subst Told (sym life_is) (scheduled_now unmarked (sym named) (ap (option_map (λ (z : Object). z.name)) lives.is)); gives = refl })
     (λ n p before. subst (λ (store : Store). Agree p store.tree store.bindings) (sym made) (scheduled-agree p w.store.tree w.store.bindings x before))
     (λ n o gone. sym (scheduled-seen w.store.tree x o) ∙ subst (λ (store : Store). IsDead store.tree o) made gone)
     (λ n. refl) becomes

@@ -40,13 +40,16 @@ use Rattle.machine_rules.specs.declared.ends.FoundEnds.{FoundEnds}
 use Rattle.machine_rules.specs.Connecting.{AreThere, kept_ends, names_of, found_ends, may_connect}
 use Rattle.machine_rules.specs.Judgement.{HasOneAnswer}
 use Rattle.machine_rules.proofs.OneAnswer.{one-check, one-then}
-use Rattle.machine_rules.specs.Destroying.{Dies, died, NextRule, ChildRule, DestroyRule, living_child, Defers, deferred, DefersOnce, Schedules}
+use Rattle.machine_rules.specs.Destroying.{Dies, died, NextRule, ChildRule, DestroyRule, living_child, Schedules}
 use Rattle.machine_rules.specs.Operations.{Operation, Write, Begin, Choose, Connect, Disconnect, Delete, Schedule, TakeAnswer, Nothing}
 use Rattle.machine_rules.specs.Rules.{Rule, RuleAt, BodyRule, Does, EmitRule, Uses, UpdateRule, Notifies, NotifiesIf, Begins, BeginsIf, begun, with_used, Connects, Disconnects, linked, unlinked, Arrives, posted, TurnRule, Serves, Delivers}
 use Rattle.machine_rules.specs.Settling.{Settles, Writes, Installs, notified}
 use Rattle.machine_rules.proofs.Answering.{answers-one}
 use Rattle.machine_rules.proofs.Fields.{some-is, life-unique, method-unique, member-object, member-method, field-property}
 use Rattle.machine_rules.specs.Natives.{NativeAnswers, AnswersOnce}
+use Rattle.machine_rules.proofs.Scheduling.{told-one}
+use Rattle.delete_later.specs.Scheduling.{scheduled_with}
+use Rattle.machine_state.specs.Worlds.{store_of, with_store}
 
 -- two methods of one number of one life's class
 method-is : {p : Loaded} {x y : Life} {m n : ℕ} {a b : MetaMethod} → x ≡ y → m ≡ n → IsMethod p x.class m a → IsMethod p y.class n b → a ≡ b
@@ -148,20 +151,10 @@ destroy-one s below t u None (parent ∷ torn) a b = by_child (living_child s pa
     by_child (Some x) a b = dies-one a b
     by_child None a b = a ∙ sym b
 
-defers-one : {s t u : State} {stack : List Activation} {home x : ℕ} → Defers s stack home x t → Defers s stack home x u → t ≡ u
-defers-one {s} {stack = stack} {home = home} {x = x} a b =
-    a.gives
-    ∙ ap (λ (loop : List ℕ). deferred s stack loop home x a.name) (some-is a.is_loop b.is_loop)
-    ∙ ap (λ (name : List ℕ). deferred s stack b.loop home x name) (some-is a.named b.named)
-    ∙ sym b.gives
-
 pub schedules-one : (s t u : State) (stack : List Activation) (x : ℕ) (life : Option Life) → Schedules s stack x t life → Schedules s stack x u life → t ≡ u
-schedules-one s t u stack x None a b = a ∙ sym b
-schedules-one s t u stack x (Some l) a b = by_mark l.scheduled a b
-  where
-    by_mark : (n : Bool) → DefersOnce s stack l.home x t n → DefersOnce s stack l.home x u n → t ≡ u
-    by_mark true a b = a ∙ sym b
-    by_mark false a b = defers-one a b
+schedules-one s t u stack x life a b =
+    let state_of : List Entry → State = λ lines. record (with_store s (scheduled_with life x (store_of s))) { stack = stack; trace = s.trace ++ lines } in
+    a.gives ∙ (ap state_of (told-one a.told b.told) ∙ sym b.gives)
 
 -- ---- bodies
 

@@ -17,11 +17,10 @@ use Rattle.prop_bindings.specs.Fits.{Agree}
 use Rattle.object_tree.specs.declared.object.Object.{Object}
 use Rattle.machine_rules.specs.There.{IsDead, NoneDied, LacksField}
 use Rattle.machine_rules.specs.code.Sound.{AgreeIn}
-use Rattle.machine_rules.specs.Good.{has_body, IsWell, Spares, IsGood, TopFits}
-use Rattle.machine_rules.specs.Faults.{DoesNext, WritesNext, WritesIll, WritesDeep, GoesIll, GoesFatal, GoesDeep, Reason}
+use Rattle.machine_rules.specs.Good.{has_body, IsWell, Spares, IsGood, TopFits, shows}
+use Rattle.machine_rules.specs.Faults.{DoesNext, WritesNext, WritesIll, WritesDeep, GoesIll, GoesFatal, GoesDeep}
 use Rattle.machine_rules.specs.code.Going.{GoodRules, done, then, IsStuck}
 use Rattle.machine_state.specs.Worlds.{at, Ticks, GoesTo}
-use Rattle.machine_rules.specs.code.Active.{shows}
 use Rattle.machine_rules.specs.code.Reaches.{Reaches, StopsIn, RunsTo}
 use Rattle.machine_rules.proofs.Frames.{high, shows-over}
 use Rattle.machine_state.specs.Faults.{IsFaultOf}
@@ -135,27 +134,6 @@ stops-deep {p} {natives} {d} {w = w} {from = from} some next = record {
 -- .. the next statement writes, and what that notifies would
 pub stops-deep-write : {p : Loaded} {natives : NativeAnswers} {d : ℕ} {h : List (Option ℕ)} {w : World} {from : List Activation} → 0 < w.left → ((below : List Activation) → shows below ≡ h → WritesDeep p d (at w (from ++ below))) → StopsIn p natives d h w from w TooDeep
 stops-deep-write {w = w} {from = from} some deep = record { stops = λ below e. (from ++ below, done, (some, inl (deep below e))) }
-
--- a reason that stays one where more may follow
-pub reason-more : {Stuck Held Closes Shuts : Type 0} {Follows Comes : State → Type 0} {Due Owed : Type 0} (p : Loaded) (d : ℕ) (s : State) (left : ℕ) (f : Fault) → (Stuck → Held) → (Closes → Shuts) → ((t : State) → Follows t → Comes t) → (Due → Owed) → Reason Stuck Closes Follows Due p d s left f → Reason Held Shuts Comes Owed p d s left f
-reason-more p d s left BadType stuck closes follows due r =
-    elim r.1 [
-      | inl none ↦ (r.0, inl (stuck none))
-      | inr ill ↦ elim ill [
-        | inl write ↦ (r.0, inr (inl write))
-        | inr goes ↦ (r.0, inr (inr (record { t = goes.t; follows = follows goes.t goes.follows; ill = goes.ill })))
-      ]
-    ]
-reason-more p d s left TooDeep stuck closes follows due r =
-    elim r.1 [
-      | inl write ↦ (r.0, inl write)
-      | inr deep ↦ (r.0, inr (record { t = deep.t; follows = follows deep.t deep.follows; well = deep.well; spared = deep.spared; acyclic = deep.acyclic; deep = deep.deep }))
-    ]
-reason-more p d s left BindingLoop stuck closes follows due r = (r.0, closes r.1)
-reason-more p d s left InUse stuck closes follows due r = let fatal = r.1 in (r.0, record { t = fatal.t; follows = follows fatal.t fatal.follows; well = fatal.well; fatal = fatal.fatal })
-reason-more p d s left Steps stuck closes follows due r = (r.0, due r.1)
-reason-more p d s left Memory stuck closes follows due r = (r.0, due r.1)
-reason-more p d s left Stopped stuck closes follows due r = absurd r
 
 -- ---- what is left behind a `?`
 

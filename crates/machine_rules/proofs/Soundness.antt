@@ -1,5 +1,5 @@
 -- What stays sound: items that wait and emissions have arguments that fit.
-use Rattle.std.proofs.Common.{◌≡◌, ℕ, suc, ◌+◌, ◌<◌, Bool, true, false, List, [], ◌∷◌, ◌++◌, length, take, Result, Ok, Err, Option, Some, None, slice_get, refl, sym, subst, arith}
+use Rattle.std.proofs.Common.{◌≡◌, ℕ, suc, ◌+◌, ◌<◌, Bool, true, false, List, [], ◌∷◌, ◌++◌, length, take, Result, Ok, Err, Option, Some, None, slice_get, refl, sym, subst, arith, inl, inr}
 use Rattle.std.specs.List.{AllByRecursion, find}
 use Rattle.std.specs.Option.{option_map}
 use Rattle.std.proofs.lemmas.Option.{slice_get_within}
@@ -37,8 +37,8 @@ use Rattle.machine_rules.specs.code.Reaches.{Reaches}
 use Rattle.machine_rules.specs.Settling.{Settles, Writes, Installs}
 use Rattle.machine_rules.specs.Rules.{RuleAt, BodyRule, Does, EmitRule, UpdateRule, NotifiesIf, TurnRule, Serves, Delivers, Arrives, Begins, BeginsIf, begun, with_used, linked, unlinked}
 use Rattle.machine_rules.specs.code.Going.{GoodRules, done, then}
-use Rattle.machine_rules.specs.code.Sound.{SendsThese, IsDelivered, Joined, Waits, AllWait, Sound, AgreeIn, IsSoundWorld}
-use Rattle.machine_rules.specs.Destroying.{Dies, forgotten, deferred, NextRule, ChildRule, DestroyRule, living_child, DefersOnce, Schedules}
+use Rattle.machine_rules.specs.code.Sound.{SendsThese, IsDelivered, Joined, Waits, AllWait, Sound, AgreeIn, IsSoundWorld, MayBeHeard}
+use Rattle.machine_rules.specs.Destroying.{Dies, forgotten, NextRule, ChildRule, DestroyRule, living_child, Schedules}
 use Rattle.machine_rules.proofs.Beginning.{next-delivered, delivered-fits}
 use Rattle.machine_rules.proofs.Declared.{fit-takes, emission-sends}
 use Rattle.machine_rules.proofs.Dying.{died-stay, scheduled-stay}
@@ -53,6 +53,8 @@ use Rattle.texts.specs.declared.connection.ConnectionType.{ConnectionType}
 use Rattle.texts.specs.declared.connection.Endpoints.{Endpoints as Named}
 use Rattle.meta_model.specs.Sound.{IsSound}
 use Rattle.machine_rules.specs.Natives.{NativeAnswers}
+use Rattle.machine_rules.proofs.Scheduling.{deferred, schedule-cases}
+use Rattle.machine_rules.proofs.Hearing.{AllHeard, nobody, Heard, may-be-heard, rule-heard, heard-over}
 
 -- ---- as long as the objects stay there
 
@@ -201,12 +203,10 @@ module _ {p : Loaded} {s t : State} (program : IsSound p) (well : IsWell p s t) 
       })
 
   pub schedules-fair : (stack : List Activation) (x : ℕ) (life : Option Life) → Schedules s stack x t life → AllFit p s.objects stack → Fair p t
-  schedules-fair stack x None e lower = quiet-fair e lower
-  schedules-fair stack x (Some l) r lower = by_mark l.scheduled r
-    where
-      by_mark : (b : Bool) → DefersOnce s stack l.home x t b → Fair p t
-      by_mark true e = quiet-fair e lower
-      by_mark false d = deferred-fair stack d.loop l.home x d.name d.gives (named-created s.objects x d.named) lower
+  schedules-fair stack x life r lower = elim (schedule-cases life r) [
+    | inl e ↦ quiet-fair e lower
+    | inr d ↦ deferred-fair stack d.loop d.home x d.name d.gives (named-created s.objects x d.named) lower
+  ]
 
   does-fair : (natives : NativeAnswers) (o m : ℕ) (arguments : List Value) (rest : List Step) (below : List Activation) (d : Operation) → AllFit p s.objects below → length s.stack ≡ suc (length below) → Does p natives s o m arguments rest below d t → Fair p t
   does-fair natives o m arguments rest below (Write y q new) lower high does = writes-fair does (tt, lower)
@@ -225,10 +225,10 @@ module _ {p : Loaded} {s t : State} (program : IsSound p) (well : IsWell p s t) 
   body-fair natives o m arguments below [] lower high r = quiet-fair r lower
   body-fair natives o m arguments below (x ∷ rest) lower high r = does-fair natives o m arguments rest below r.what lower high r.does
 
-  emission-fair : (o g : ℕ) (arguments : List Value) (used last : ℕ) (below : List Activation) (found : Option Connection) → AllJoined p s.objects s.connected.connections → next_used s.objects s.connected.connections o g used last ≡ found → SendsThese p s.objects o g arguments → AllFit p s.objects below → length s.stack ≡ suc (length below) → EmitRule p s o g arguments last below t found → Fair p t
-  emission-fair o g arguments used last below None joined is fit lower high r = quiet-fair r lower
-  emission-fair o g arguments used last below (Some c) joined is fit lower high r =
-      let d : IsDelivered p s.objects c arguments = next-delivered s.connected.connections o g used last c joined fit is in
+  emission-fair : (o g : ℕ) (arguments : List Value) (used last : ℕ) (below : List Activation) (found : Option Connection) → AllJoined p s.objects s.connected.connections → next_used s.objects s.connected.connections o g used last ≡ found → SendsThese p s.objects o g arguments → MayBeHeard s.objects s.connected.connections o g → AllFit p s.objects below → length s.stack ≡ suc (length below) → EmitRule p s o g arguments last below t found → Fair p t
+  emission-fair o g arguments used last below None joined is fit may lower high r = quiet-fair r lower
+  emission-fair o g arguments used last below (Some c) joined is fit may lower high r =
+      let d : IsDelivered p s.objects c arguments = next-delivered s.connected.connections o g used last c joined fit may is in
       let given : ArgumentsFit p s.objects c.receiver c.method (take (length r.method.kinds) arguments) = delivered-fits d r.is refl refl in
       arrives-fair p program (with_used s c) t (length s.stack) (Emit o g arguments c.number last ∷ below) r.home c.receiver r.receiver c.method r.method (take (length r.method.kinds) arguments) (reaches_at_once c.kind r.home (running s.turn)) given waiting (fit, lower) (omega (arith, high)) well.arguments r.arrives
 
@@ -267,18 +267,19 @@ module _ {p : Loaded} {s t : State} (program : IsSound p) (well : IsWell p s t) 
           subst Family (sym e) (record { waiting = waiting; emitted = all })
       by_first (Some q) d = delivers-fair turn q.item low all d
 
-  pub rule-fair : (natives : NativeAnswers) (stack : List Activation) → AllJoined p s.objects s.connected.connections → AllFit p s.objects s.stack → AllFit p s.objects stack → length s.stack ≡ length stack → RuleAt p natives s t stack → Fair p t
-  rule-fair natives [] joined here all high r = turn-fair s.turn high here r
-  rule-fair natives (Body o m arguments left ∷ below) joined here all high r = body-fair natives o m arguments below left all.1 high r
-  rule-fair natives (Emit o g arguments used last ∷ below) joined here all high r = emission-fair o g arguments used last below (next_used s.objects s.connected.connections o g used last) joined refl all.0 all.1 high r
-  rule-fair natives (Update places ∷ below) joined here all high r = update-fair below places all.1 high r
-  rule-fair natives (Destroy next torn ∷ below) joined here all high r = destroy-fair below next torn all.1 high r
+  pub rule-fair : (natives : NativeAnswers) (stack : List Activation) → AllJoined p s.objects s.connected.connections → AllHeard s.objects s.connected.connections nobody stack → AllFit p s.objects s.stack → AllFit p s.objects stack → length s.stack ≡ length stack → RuleAt p natives s t stack → Fair p t
+  rule-fair natives [] joined heard here all high r = turn-fair s.turn high here r
+  rule-fair natives (Body o m arguments left ∷ below) joined heard here all high r = body-fair natives o m arguments below left all.1 high r
+  rule-fair natives (Emit o g arguments used last ∷ below) joined heard here all high r =
+      emission-fair o g arguments used last below (next_used s.objects s.connected.connections o g used last) joined refl all.0 (may-be-heard s.objects s.connected.connections o g heard.0) all.1 high r
+  rule-fair natives (Update places ∷ below) joined heard here all high r = update-fair below places all.1 high r
+  rule-fair natives (Destroy next torn ∷ below) joined heard here all high r = destroy-fair below next torn all.1 high r
 
 -- .. and so after runs of rules
-pub rules-fair : {p : Loaded} {natives : NativeAnswers} {d : ℕ} {s t : State} {n k : ℕ} → IsSound p → GoodRules p natives d s n t k → AllJoined p s.objects s.connected.connections → Fair p s → Fair p t
-rules-fair program done joined fair = fair
-rules-fair {p} {natives} program (then {s = s} {m = m} r good rest) joined fair =
-    rules-fair program rest ((rule-kept p natives s m s.stack r).joined program joined) (rule-fair program good.well fair.waiting natives s.stack joined fair.emitted fair.emitted refl r)
+pub rules-fair : {p : Loaded} {natives : NativeAnswers} {d : ℕ} {s t : State} {n k : ℕ} → IsSound p → GoodRules p natives d s n t k → AllJoined p s.objects s.connected.connections → Heard s → Fair p s → Fair p t
+rules-fair program done joined heard fair = fair
+rules-fair {p} {natives} program (then {s = s} {m = m} r good rest) joined heard fair =
+    rules-fair program rest ((rule-kept p natives s m s.stack r).joined program joined) (rule-heard p s m natives heard r) (rule-fair program good.well fair.waiting natives s.stack joined heard fair.emitted fair.emitted refl r)
 
 -- ---- the world stays sound
 
@@ -298,9 +299,9 @@ keeps-sound sound keeps agree waiting = record {
   room = omega (arith, keeps.posted, sound.room);
 }
 
-module _ {p : Loaded} {natives : NativeAnswers} {d : ℕ} {h : List (Option ℕ)} {w v : World} {a : List Activation} (fits : AllFit p w.store.tree a) (sound : IsSoundWorld p w) where
+module _ {p : Loaded} {natives : NativeAnswers} {d : ℕ} {h : List (Option ℕ)} {w v : World} {a : List Activation} (fits : AllFit p w.store.tree a × AllHeard w.store.tree w.store.connections.connections nobody a) (sound : IsSoundWorld p w) where
   reaches-waiting : {b : List Activation} → Reaches p natives d h w a v b → AllWait p v.store.tree v.store.loops.loops
-  reaches-waiting x = let q = some-stack h in (rules-fair sound.program (x.runs q.0 q.1) sound.is.joined (record { waiting = sound.is.waiting; emitted = fit-over p w.store.tree a h fits })).waiting
+  reaches-waiting x = let q = some-stack h in (rules-fair sound.program (x.runs q.0 q.1) sound.is.joined (heard-over w.store.tree w.store.connections.connections nobody a h fits.1) (record { waiting = sound.is.waiting; emitted = fit-over p w.store.tree a h fits.0 })).waiting
 
   -- wherever a run of rules leads, the machine stays sound
   pub reaches-sound : {b : List Activation} → Reaches p natives d h w a v b → IsSoundWorld p v

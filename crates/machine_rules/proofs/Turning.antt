@@ -19,10 +19,9 @@ use Rattle.machine_state.specs.declared.turn.Turn.{Turn}
 use Rattle.machine_state.specs.declared.world.World.{World}
 use Rattle.machine_state.specs.State.{State, Activation, Destroy, IsIdle}
 use Rattle.machine_state.specs.Worlds.{at, with_queues, taking, taking_unwritten, turn_ended}
-use Rattle.machine_rules.specs.code.Active.{shows}
-use Rattle.machine_rules.specs.Good.{ArgumentsFit}
-use Rattle.machine_rules.specs.code.Reaches.{IsCalled, DoesWork, Reaches, StopsIn, RunsTo, Advances, IsActivated, IsBarred, top_of}
-use Rattle.machine_rules.specs.Rules.{Rule, TurnRule, Serves, Delivers, Begins, BeginsIf}
+use Rattle.machine_rules.specs.Good.{ArgumentsFit, shows}
+use Rattle.machine_rules.specs.code.Reaches.{IsCalled, DoesWork, Reaches, StopsIn, RunsTo, Advances, IsActivated, IsBarred}
+use Rattle.machine_rules.specs.Rules.{Rule, TurnRule, Serves, Delivers, Begins, BeginsIf, top_of}
 use Rattle.machine_rules.specs.code.Going.{done}
 use Rattle.machine_rules.specs.code.Sound.{Waits, IsSoundWorld, AgreeIn}
 use Rattle.machine_rules.proofs.Beginning.{begun_world, begins-there, top-fits}

@@ -17,7 +17,6 @@ use Rattle.machine_state.specs.declared.world.World.{World}
 use Rattle.machine_state.specs.State.{Step, State, Activation, Body, Update}
 use Rattle.machine_state.specs.Telling.{AreTold}
 use Rattle.machine_state.specs.Worlds.{at, noted, HasWritten}
-use Rattle.machine_rules.specs.code.Active.{shows}
 use Rattle.machine_rules.specs.Operations.{Operation, Write, TakeAnswer, operation_of_step}
 use Rattle.machine_rules.specs.code.Reaches.{Reaches, StopsIn, RunsTo, MayNest, Sets}
 use Rattle.machine_rules.specs.Faults.{DoesNext, WritesIll, WritesDeep}
@@ -29,6 +28,7 @@ use Rattle.machine_rules.proofs.Beginning.{one-more}
 use Rattle.machine_rules.proofs.Differing.{differ-spared}
 use Rattle.machine_rules.proofs.Reaching.{none-spared, reaches-high, ends-after, ends-lifted, stops-stuck, stops-ill-write, stops-deep-write}
 use Rattle.machine_rules.specs.Natives.{NativeAnswers}
+use Rattle.machine_rules.specs.Good.{shows}
 
 -- ---- a property is written
 

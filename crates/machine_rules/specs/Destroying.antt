@@ -6,11 +6,12 @@ use Rattle.signatures.specs.declared.value.Value.TheVariants as value
 use Rattle.meta_model.specs.declared.qobject.TheConstants.{DESTROYED}
 use Rattle.meta_model.specs.Outlines.{destroyed}
 use Rattle.delete_later.specs.Ending.{died_in, ended_in}
-use Rattle.delete_later.specs.Scheduling.{deferred_to}
+use Rattle.delete_later.specs.Scheduling.{scheduled_with}
 use Rattle.event_loops.specs.Queues.{HasName}
 use Rattle.object_tree.specs.declared.life.Life.{Life}
 use Rattle.object_tree.specs.Family.{children_of}
 use Rattle.object_tree.specs.Objects.{name_of}
+use Rattle.machine_state.specs.declared.entry.Entry.{Entry}
 use Rattle.machine_state.specs.declared.entry.Entry.TheVariants.{At}
 use Rattle.machine_state.specs.declared.entry.EntryKind.TheVariants as entry_kind
 use Rattle.machine_state.specs.declared.entry.Shown.TheVariants as show
@@ -67,28 +68,17 @@ DestroyRule s below t None (parent ∷ torn) = ChildRule s below t parent torn (
 
 -- ---- an object is scheduled to be deleted
 
--- The deletion of object x, of this name, is appended to the items of the event loop in which it lives, and x is scheduled;
--- the stack stays as it is.
-abbrev pub deferred : State → List Activation → List ℕ → ℕ → ℕ → List ℕ → State
-deferred s stack loop home x name = record (with_store s (deferred_to home x (store_of s))) {
-  stack = stack;
-  trace = s.trace ++ At (length stack) (entry_kind.Scheduled loop name) ∷ [];
-}
+-- what is written down of an object that lives this life: the names of the event loop in which it lives, and of the object;
+-- nothing where it is scheduled already, or lives no more
+pub data TellsSchedule (s : State) (depth x : ℕ) : Option Life → List Entry → Type 0 where
+  scheduled_now : {l : Life} {loop name : List ℕ} →
+      l.scheduled ≡ false → HasName s.queues.loops loop l.home → name_of s.objects x ≡ Some name →
+      TellsSchedule s depth x (Some l) (At depth (entry_kind.Scheduled loop name) ∷ [])
+  scheduled_before : {l : Life} → l.scheduled ≡ true → TellsSchedule s depth x (Some l) []
+  not_living : TellsSchedule s depth x None []
 
--- .. whatever the names are
-pub record Defers (s : State) (stack : List Activation) (home x : ℕ) (t : State) : Type 0 where
-  pub loop : List ℕ
-  pub is_loop : HasName s.queues.loops loop home
-  pub name : List ℕ
-  pub named : name_of s.objects x ≡ Some name
-  pub gives : t ≡ deferred s stack loop home x name
-
--- .. unless it is scheduled already
-abbrev pub DefersOnce : State → List Activation → ℕ → ℕ → State → Bool → Type 0
-DefersOnce s stack home x t true = t ≡ record s { stack = stack }
-DefersOnce s stack home x t false = Defers s stack home x t
-
--- an object that lives this life is scheduled; where it doesn't live, nothing changes
-abbrev pub Schedules : State → List Activation → ℕ → State → Option Life → Type 0
-Schedules s stack x t None = t ≡ record s { stack = stack }
-Schedules s stack x t (Some l) = DefersOnce s stack l.home x t l.scheduled
+-- object x, which lives this life, is scheduled; the stack stays as it is
+pub record Schedules (s : State) (stack : List Activation) (x : ℕ) (t : State) (life : Option Life) : Type 0 where
+  pub lines : List Entry
+  pub told : TellsSchedule s (length stack) x life lines
+  pub gives : t ≡ record (with_store s (scheduled_with life x (store_of s))) { stack = stack; trace = s.trace ++ lines }

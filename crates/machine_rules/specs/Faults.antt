@@ -1,5 +1,5 @@
 -- What comes next where a run stops, and why it stops (docs/machine.md, "Faults").
-use Rattle.std.specs.Prelude.{◌≡◌, ℕ, ◌<◌, ◌≤◌, ◌⊎◌, List, ◌∷◌, length, None, Some}
+use Rattle.std.specs.Prelude.{◌≡◌, ℕ, ◌<◌, ◌≤◌, List, ◌∷◌, length, None, Some}
 use Rattle.signatures.specs.declared.value.Value.{Value}
 use Rattle.meta_model.specs.declared.object.MetaProperty.{MetaProperty}
 use Rattle.meta_model.specs.declared.object.Statement.{Statement}
@@ -7,8 +7,6 @@ use Rattle.meta_model.specs.declared.object.Statement.TheViews.{out-Statement}
 use Rattle.meta_model.specs.Loaded.{Loaded}
 use Rattle.object_tree.specs.declared.object.Object.{Object}
 use Rattle.object_tree.specs.Typed.{ReadsAs}
-use Rattle.machine_state.specs.declared.fault.Fault.{Fault}
-use Rattle.machine_state.specs.declared.fault.Fault.TheVariants.{BadType, TooDeep, BindingLoop, InUse, Steps, Memory, Stopped}
 use Rattle.machine_state.specs.State.{Step, Run, State, Activation, Body}
 use Rattle.machine_rules.specs.Operations.{Operation, Write, operation, operation_of_step}
 use Rattle.machine_rules.specs.There.{IsField}
@@ -90,15 +88,3 @@ pub record GoesDeep (p : Loaded) (depth : ℕ) (s : State) (Follows : State → 
   pub spared : Spares s t
   pub acyclic : IsAcyclic t
   pub deep : depth < length t.stack
-
--- Why a run stops in a state. Nothing follows, or what follows would give a value of a wrong type; an object would die
--- while a body of it is active; a chain of bindings would close; activations would nest too deep; no rule is left where one
--- is due; memory was refused where a rule is due.
-abbrev pub Reason : Type 0 → Type 0 → (State → Type 0) → Type 0 → Loaded → ℕ → State → ℕ → Fault → Type 0
-Reason Stuck Closes Follows Due p depth s left BadType = (0 < left) × (Stuck ⊎ (WritesIll p s ⊎ GoesIll p s Follows))
-Reason Stuck Closes Follows Due p depth s left InUse = (0 < left) × GoesFatal p s Follows
-Reason Stuck Closes Follows Due p depth s left BindingLoop = (0 < left) × Closes
-Reason Stuck Closes Follows Due p depth s left TooDeep = (0 < left) × (WritesDeep p depth s ⊎ GoesDeep p depth s Follows)
-Reason Stuck Closes Follows Due p depth s left Steps = (left ≡ 0) × Due
-Reason Stuck Closes Follows Due p depth s left Memory = (0 < left) × Due
-Reason Stuck Closes Follows Due p depth s left Stopped = ⊥

@@ -1,5 +1,6 @@
 -- The bad moments that a rule, or the taking of an event, may bring (docs/machine.md, "Faults"). None of them is forbidden.
-use Rattle.std.specs.Prelude.{◌≡◌, ℕ, ◌<◌, ◌≤◌, eqb, ◌||◌, Bool, false, IsTrue, List, [], ◌∷◌, length}
+use Rattle.std.specs.Prelude.{◌≡◌, ℕ, ◌<◌, ◌≤◌, Bool, false, IsTrue, List, [], ◌∷◌, length, Option, None, Some}
+use Rattle.std.specs.List.{list_any}
 use Rattle.signatures.specs.declared.value.Value.{Value}
 use Rattle.meta_model.specs.declared.object.MetaMethod.{MetaMethod}
 use Rattle.meta_model.specs.declared.object.ValueType.{ValueType}
@@ -7,11 +8,12 @@ use Rattle.meta_model.specs.declared.object.ValueType.TheVariants as type
 use Rattle.meta_model.specs.declared.qobject.TheConstants.{QOBJECT, DESTROYED}
 use Rattle.meta_model.specs.Loaded.{Loaded}
 use Rattle.object_tree.specs.declared.object.Object.{Object}
+use Rattle.object_tree.specs.Forest.{is_the}
 use Rattle.object_tree.specs.Typed.{ReadAs, AreTyped}
 use Rattle.prop_bindings.specs.Bindings.{binding_at, Loop, Settled}
 use Rattle.prop_bindings.specs.Places.{values_in}
 use Rattle.machine_rules.specs.There.{IsMember, IsDead}
-use Rattle.machine_state.specs.State.{State, Activation, Body, Emit, Update, Destroy}
+use Rattle.machine_state.specs.State.{State, Activation, Body, Emit}
 
 -- ---- arguments
 
@@ -36,18 +38,23 @@ abbrev pub TopFits : Loaded → List Object → List Activation → Type 0
 TopFits p objects [] = Unit {0}
 TopFits p objects (Body o m arguments left ∷ below) = ArgumentsFit p objects o m arguments
 TopFits p objects (Emit o g arguments used last ∷ below) = EmissionFits p objects o g arguments
-TopFits p objects (Update places ∷ below) = Unit {0}
-TopFits p objects (Destroy next torn ∷ below) = Unit {0}
+TopFits p objects (_ ∷ below) = Unit {0}
 
 -- ---- active bodies
 
+-- the object whose body an activation is
+abbrev pub whose : Activation → Option ℕ
+whose (Body o m arguments left) = Some o
+whose _ = None
+
+-- .. of each of a stack
+abbrev pub shows : List Activation → List (Option ℕ)
+shows [] = []
+shows (a ∷ below) = whose a ∷ shows below
+
 -- a body of the object is active
 abbrev pub has_body : ℕ → List Activation → Bool
-has_body o [] = false
-has_body o (Body x m arguments left ∷ below) = eqb x o || has_body o below
-has_body o (Emit x g arguments used last ∷ below) = has_body o below
-has_body o (Update places ∷ below) = has_body o below
-has_body o (Destroy next torn ∷ below) = has_body o below
+has_body o stack = list_any (is_the o) (shows stack)
 
 -- ---- from a state s to the next, t
 

@@ -13,6 +13,7 @@ use Rattle.object_tree.specs.Objects.{stored}
 use Rattle.meta_model.specs.declared.effects.MetaEffects.{MetaEffects}
 use Rattle.native_slots.specs.declared.action.Action.{Action}
 use Rattle.native_slots.specs.declared.action.Action.TheVariants as action
+use Rattle.native_slots.specs.Promises.{Takes, Promises}
 use Rattle.machine_state.specs.declared.entry.Entry.{Entry}
 use Rattle.machine_state.specs.declared.entry.Entry.TheVariants.{At}
 use Rattle.machine_state.specs.declared.entry.EntryKind.TheVariants.{Answered}
@@ -25,6 +26,10 @@ use Rattle.machine_rules.specs.There.{IsMember, IsField}
 -- the present values of the properties that it reads.
 abbrev pub NativeAnswers : Type 1
 NativeAnswers = List ℕ → Sig → List Value → List Value → List Action → Type 0
+
+-- these natives keep what the program declares of them: they may be called so, and answer within their effects
+abbrev pub KeepPromises : {N : Type 0} → (N → Takes) → (N → NativeAnswers) → Loaded → N → Type 0
+KeepPromises takes gives p natives = Promises p (takes natives) (gives natives)
 
 -- natives have one answer to one question
 abbrev pub AnswersOnce : NativeAnswers → Type 0

@@ -39,12 +39,9 @@ pub data Operation : Type 0 where
 
 -- what is done with the object that a path leads to; on null nothing is done, and no expression is evaluated
 abbrev pub on_object : (ℕ → Option Operation) → Option Value → Option Operation
-on_object act None = None
 on_object act (Some (value.Ref None)) = Some Nothing
 on_object act (Some (value.Ref (Some x))) = act x
-on_object act (Some (value.Int n)) = None
-on_object act (Some (value.Bool b)) = None
-on_object act (Some (value.Text t)) = None
+on_object act _ = None
 
 -- what is done with the objects that the two paths of a connection lead to
 abbrev pub on_ends : (Endpoints → Operation) → MetaEndpoints → Option Value → Option Value → Option Operation
@@ -53,12 +50,9 @@ on_ends act ends sender receiver =
 
 -- the block that a condition chooses
 abbrev pub chosen_by : List Statement → List Statement → Option Value → Option Operation
-chosen_by block other None = None
 chosen_by block other (Some (value.Bool true)) = Some (Choose block)
 chosen_by block other (Some (value.Bool false)) = Some (Choose other)
-chosen_by block other (Some (value.Int n)) = None
-chosen_by block other (Some (value.Text t)) = None
-chosen_by block other (Some (value.Ref r)) = None
+chosen_by block other _ = None
 
 -- What a statement of a body of object o does. `None`: it lacks a value that it needs, or its path leads to no object,
 -- or its condition is no truth value.

@@ -24,9 +24,7 @@ root_value o arguments (Parameter k) = slice_get arguments k
 abbrev pub step_value : List Object → Step → Value → Option Value
 step_value objects s (value.Ref None) = Some (default s.kind)
 step_value objects s (value.Ref (Some o)) = option_map (seen objects) (stored objects o s.property)
-step_value objects s (value.Int n) = None
-step_value objects s (value.Bool b) = None
-step_value objects s (value.Text t) = None
+step_value objects s _ = None
 
 abbrev pub steps_value : List Object → List Step → Option Value → Option Value
 steps_value objects [] found = found

@@ -1,7 +1,7 @@
 -- What may follow a state by one rule, beside the taking of events (docs/machine.md, "Rules"). No rule is forbidden
 -- because activations would nest too deep, a value is of a wrong type or an object dies while a body of it is active: those
 -- are faults of a run, and not of a rule.
-use Rattle.std.specs.Prelude.{◌≡◌, ℕ, List, [], ◌∷◌, ◌++◌, length, take, map, Option, None, Some, Result, Ok, Err, Bool, true, false}
+use Rattle.std.specs.Prelude.{◌≡◌, ℕ, suc, List, [], ◌∷◌, ◌++◌, length, take, map, Option, None, Some, Result, Ok, Err, Bool, true, false}
 use Rattle.std.specs.List.{find}
 use Rattle.signatures.specs.declared.value.Value.{Value}
 use Rattle.texts.specs.declared.connection.ConnectionType.{ConnectionType}
@@ -24,6 +24,7 @@ use Rattle.machine_state.specs.declared.entry.Entry.{Entry}
 use Rattle.machine_state.specs.declared.entry.Entry.TheVariants.{At}
 use Rattle.machine_state.specs.declared.entry.EntryKind.{EntryKind}
 use Rattle.machine_state.specs.declared.entry.EntryKind.TheVariants as entry_kind
+use Rattle.machine_state.specs.declared.entry.Shown.{Shown}
 use Rattle.machine_state.specs.declared.entry.ShownAction.{ShownAction}
 use Rattle.meta_model.specs.declared.effects.MetaEffects.{MetaEffects}
 use Rattle.native_slots.specs.declared.action.Action.{Action}
@@ -44,22 +45,23 @@ use Rattle.machine_state.specs.State.{Step, Run, Ask, Act, State, Activation, Bo
 use Rattle.machine_state.specs.Turns.{running, reaches_at_once}
 use Rattle.machine_state.specs.declared.turn.Turn.{Turn}
 
--- one more activation over a stack, and the entries that are written down, with the length of the stack
-abbrev pub pushed : State → Activation → List Activation → (ℕ → List Entry) → State
-pushed s top below notes = record s { stack = top ∷ below; trace = s.trace ++ notes (length (top ∷ below)) }
+-- what begins with a method: the emission of a signal, the body of a slot, or of a native, which begins with its answer
+abbrev pub top_of : ℕ → ℕ → List Value → ℕ → Work → Activation
+top_of o m arguments last Signal = Emit o m arguments 0 last
+top_of o m arguments last (Slot statements) = Body o m arguments (map Run statements)
+top_of o m arguments last (Native effects) = Body o m arguments (Ask effects ∷ [])
 
--- a method of an object begins: a signal is emitted, and its entry tells whether it calls nothing; a slot's body is called,
--- or a native's, which begins with its answer
+-- .. and its entry, which tells of a signal whether it calls nothing
+abbrev pub begin_entry : ℕ → Object → ℕ → List ℕ → List Shown → Work → Entry
+begin_entry depth x m method given Signal = At depth (entry_kind.Emitted x.name method given (is_silent x m))
+begin_entry depth x m method given _ = At depth (entry_kind.Called x.name method given)
+
+-- a method of an object begins over a stack
 abbrev pub begun : State → List Activation → ℕ → Object → ℕ → MetaMethod → List Value → Work → State
-begun s below o x m method arguments Signal =
-    pushed s (Emit o m arguments 0 s.connected.last) below
-    (λ d. At d (entry_kind.Emitted x.name method.sig.name (all_shown s.objects arguments) (is_silent x m)) ∷ [])
-begun s below o x m method arguments (Slot statements) =
-    pushed s (Body o m arguments (map Run statements)) below
-    (λ d. At d (entry_kind.Called x.name method.sig.name (all_shown s.objects arguments)) ∷ [])
-begun s below o x m method arguments (Native effects) =
-    pushed s (Body o m arguments (Ask effects ∷ [])) below
-    (λ d. At d (entry_kind.Called x.name method.sig.name (all_shown s.objects arguments)) ∷ [])
+begun s below o x m method arguments work = record s {
+  stack = top_of o m arguments s.connected.last work ∷ below;
+  trace = s.trace ++ begin_entry (suc (length below)) x m method.sig.name (all_shown s.objects arguments) work ∷ [];
+}
 
 -- method m of object o begins with these arguments
 pub record Begins (p : Loaded) (s : State) (below : List Activation) (o m : ℕ) (arguments : List Value) (t : State) : Type 0 where

@@ -4,8 +4,7 @@ ghost use Rattle.std.specs.Prelude.{◌<◌, IfOk};
 ghost use Rattle.std.specs.List.{AllByRecursion};
 ghost use Rattle.meta_model.specs.declared.object.Work.TheVariants.{Native};
 ghost use Rattle.meta_model.specs.Members.{method_count};
-ghost use Rattle.native_slots.specs.Promises.{Promises};
-ghost use Rattle.machine_rules.specs.Natives.{DeclaredBy, AreRead, HasStored, MayAnswer, IsShownAs, IsTellable, AreTellable, TellsAnswer};
+ghost use Rattle.machine_rules.specs.Natives.{DeclaredBy, AreRead, HasStored, MayAnswer, IsShownAs, IsTellable, AreTellable, TellsAnswer, KeepPromises};
 ghost use Rattle.machine_rules.specs.code.Reaches.{CallFits, DoesWork};
 ghost use Rattle.machine_rules.specs.code.Sound.{IsSoundWorld};
 
@@ -27,12 +26,13 @@ impl<N: Answering> Interpreter<N> {
         call: &MethodCall<'_>,
         effects: &MetaEffects,
     ) -> Result<Vec<Action>, AllocError>
-        requires promises { Promises self.now.meta (N.takes self.now.natives) (N.gives self.now.natives) }
+        requires promises { KeepPromises N.takes N.gives self.now.meta self.now.natives }
         requires sound { IsSoundWorld self.now.meta world.now }
         requires fit { CallFits self.now.meta world.now.store.tree call.now }
         requires native { DoesWork self.now.meta world.now.store.tree
             call.now.object call.now.method (Native effects.now) }
-        ensures may { IfOk result (λ actions. MayAnswer self.now.meta (N.gives self.now.natives) world.now.store.tree
+        ensures may { IfOk result (λ actions. MayAnswer self.now.meta (N.gives self.now.natives)
+            world.now.store.tree
             call.now.object call.now.method call.now.arguments.now effects.now actions.items) }
         ensures within { IfOk result (λ actions. AreTellable self.now.meta world.now.store.tree
             call.now.object effects.now actions.items) }
@@ -81,7 +81,8 @@ impl<N: Answering> Interpreter<N> {
         effects: &MetaEffects,
         actions: &[Action],
     ) -> Result<Entry, AllocError>
-        requires within { AreTellable self.now.meta world.now.store.tree object effects.now actions.now }
+        requires within { AreTellable self.now.meta world.now.store.tree
+            object effects.now actions.now }
         ensures { IfOk result (TellsAnswer self.now.meta world.now.store.tree depth object
             effects.now actions.now) }
     {
@@ -102,7 +103,8 @@ impl<N: Answering> Interpreter<N> {
         effects: &MetaEffects,
         action: &Action,
     ) -> Result<ShownAction, AllocError>
-        requires within { IsTellable self.now.meta world.now.store.tree object effects.now action.now }
+        requires within { IsTellable self.now.meta world.now.store.tree
+            object effects.now action.now }
         ensures { IfOk result (IsShownAs self.now.meta world.now.store.tree object
             effects.now action.now) }
     {

@@ -5,7 +5,7 @@ ghost use Rattle.machine_rules.specs.code.Sound.{IsSoundWorld};
 ghost use Rattle.machine_state.specs.State.{Run, Body};
 ghost use Rattle.machine_rules.specs.code.Coded.{meant};
 ghost use Rattle.machine_rules.specs.code.Calls.{Finishes, CarriesOut};
-ghost use Rattle.native_slots.specs.Promises.{Promises};
+ghost use Rattle.machine_rules.specs.Natives.{KeepPromises};
 
 use crate::active::Active;
 use crate::interpreter::Interpreter;
@@ -28,7 +28,7 @@ impl<N: Answering> Interpreter<N> {
         call: &MethodCall<'_>,
         statements: &[Statement],
     ) -> Result<(), Fault>
-        requires promises { Promises self.now.meta (N.takes self.now.natives) (N.gives self.now.natives) }
+        requires promises { KeepPromises N.takes N.gives self.now.meta self.now.natives }
         requires room { length active.now < self.now.depth }
         requires sound { IsSoundWorld self.now.meta world.old }
         ensures ends { Finishes self.now.meta (N.gives self.now.natives) self.now.depth active.now
@@ -54,11 +54,12 @@ impl<N: Answering> Interpreter<N> {
         done: Operation<'p>,
         left: &mut Remaining<'p>,
     ) -> Result<(), Fault>
-        requires promises { Promises self.now.meta (N.takes self.now.natives) (N.gives self.now.natives) }
+        requires promises { KeepPromises N.takes N.gives self.now.meta self.now.natives }
         requires room { length active.now < self.now.depth }
         requires sound { IsSoundWorld self.now.meta world.old }
         requires due { 0 < world.old.left }
-        ensures advances { CarriesOut self.now.meta (N.gives self.now.natives) self.now.depth active.now
+        ensures advances { CarriesOut self.now.meta (N.gives self.now.natives)
+            self.now.depth active.now
             object (meant done.entry) left.old left.new world.old world.new result }
     {
         let over = (&*active).over(Some(object));

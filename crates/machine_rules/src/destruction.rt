@@ -6,7 +6,7 @@ ghost use Rattle.machine_rules.specs.code.Reaches.{entry_of_destroyed, Forgets, 
 ghost use Rattle.machine_rules.specs.code.Sound.{IsSoundWorld};
 ghost use Rattle.machine_state.specs.Connections.{is_living};
 ghost use Rattle.machine_state.specs.State.{Destroy};
-ghost use Rattle.native_slots.specs.Promises.{Promises};
+ghost use Rattle.machine_rules.specs.Natives.{KeepPromises};
 
 use crate::active::Active;
 use crate::interpreter::Interpreter;
@@ -27,10 +27,11 @@ impl<N: Answering> Interpreter<N> {
         active: &Active<'_>,
         object: ObjectId,
     ) -> Result<(), Fault>
-        requires promises { Promises self.now.meta (N.takes self.now.natives) (N.gives self.now.natives) }
+        requires promises { KeepPromises N.takes N.gives self.now.meta self.now.natives }
         requires sound { IsSoundWorld self.now.meta world.old }
         requires left { 0 < world.old.left }
-        ensures ends { RunsDeletion self.now.meta (N.gives self.now.natives) self.now.depth active.now object world.old world.new result }
+        ensures ends { RunsDeletion self.now.meta (N.gives self.now.natives)
+            self.now.depth active.now object world.old world.new result }
     {
         self.may_nest(active)?;
         world.tick()?;
@@ -46,10 +47,11 @@ impl<N: Answering> Interpreter<N> {
         active: &Active<'_>,
         object: ObjectId,
     ) -> Result<(), Fault>
-        requires promises { Promises self.now.meta (N.takes self.now.natives) (N.gives self.now.natives) }
+        requires promises { KeepPromises N.takes N.gives self.now.meta self.now.natives }
         requires room { length active.now < self.now.depth }
         requires sound { IsSoundWorld self.now.meta world.old }
-        ensures ends { Finishes self.now.meta (N.gives self.now.natives) self.now.depth active.now (Destroy (Some object) [])
+        ensures ends { Finishes self.now.meta (N.gives self.now.natives) self.now.depth active.now
+            (Destroy (Some object) [])
             world.old world.new result }
     {
         self.announce_living(world, active, object)?;
@@ -78,10 +80,11 @@ impl<N: Answering> Interpreter<N> {
         active: &Active<'_>,
         object: ObjectId,
     ) -> Result<(), Fault>
-        requires promises { Promises self.now.meta (N.takes self.now.natives) (N.gives self.now.natives) }
+        requires promises { KeepPromises N.takes N.gives self.now.meta self.now.natives }
         requires room { length active.now < self.now.depth }
         requires sound { IsSoundWorld self.now.meta world.old }
-        ensures ends { Leads self.now.meta (N.gives self.now.natives) self.now.depth active.now (Destroy (Some object) []) (Destroy (Some object) [])
+        ensures ends { Leads self.now.meta (N.gives self.now.natives) self.now.depth active.now
+            (Destroy (Some object) []) (Destroy (Some object) [])
             world.old world.new result }
         ensures dead { OnOk result (is_living world.new.store.tree object ≡ false) }
     {
@@ -100,11 +103,12 @@ impl<N: Answering> Interpreter<N> {
         active: &Active<'_>,
         object: ObjectId,
     ) -> Result<(), Fault>
-        requires promises { Promises self.now.meta (N.takes self.now.natives) (N.gives self.now.natives) }
+        requires promises { KeepPromises N.takes N.gives self.now.meta self.now.natives }
         requires room { length active.now < self.now.depth }
         requires sound { IsSoundWorld self.now.meta world.old }
         requires lives { is_living world.old.store.tree object ≡ true }
-        ensures ends { RunsDeath self.now.meta (N.gives self.now.natives) self.now.depth active.now object world.old world.new result }
+        ensures ends { RunsDeath self.now.meta (N.gives self.now.natives) self.now.depth active.now
+            object world.old world.new result }
         ensures dead { OnOk result (is_living world.new.store.tree object ≡ false) }
     {
         world.require_rule()?;

@@ -1,12 +1,13 @@
 //! Emissions, and the beginning of methods.
 
 ghost use Rattle.std.specs.Prelude.{◌<◌, length, OnOk};
-ghost use Rattle.machine_rules.specs.code.Sound.{IsSoundWorld, SendsThese, IsDelivered};
+ghost use Rattle.machine_rules.specs.code.Sound.{IsSoundWorld, SendsThese, IsDelivered, MayBeHeardIn};
 ghost use Rattle.machine_state.specs.State.{Emit};
 ghost use Rattle.machine_rules.specs.code.Calls.{Finishes, UsesNext, RunsCall, RunsUse, RunsOnlyCall};
-ghost use Rattle.machine_rules.specs.code.Reaches.{CallFits, DoesWork, top_of};
+ghost use Rattle.machine_rules.specs.Rules.{top_of};
+ghost use Rattle.machine_rules.specs.code.Reaches.{CallFits, DoesWork};
 ghost use Rattle.machine_rules.specs.code.Keeps.{KeepsWorld};
-ghost use Rattle.native_slots.specs.Promises.{Promises};
+ghost use Rattle.machine_rules.specs.Natives.{KeepPromises};
 
 use crate::active::Active;
 use crate::interpreter::{Callee, Interpreter};
@@ -27,11 +28,12 @@ impl<N: Answering> Interpreter<N> {
         call: &MethodCall<'_>,
         last: u64,
     ) -> Result<(), Fault>
-        requires promises { Promises self.now.meta (N.takes self.now.natives) (N.gives self.now.natives) }
+        requires promises { KeepPromises N.takes N.gives self.now.meta self.now.natives }
         requires room { length active.now < self.now.depth }
         requires sound { IsSoundWorld self.now.meta world.old }
         requires emitted { SendsThese self.now.meta world.old.store.tree
             call.now.object call.now.method call.now.arguments.now }
+        requires heard { MayBeHeardIn world.old call.now.object call.now.method }
         ensures ends { Finishes self.now.meta (N.gives self.now.natives) self.now.depth active.now
             (Emit call.now.object call.now.method call.now.arguments.now 0 last)
             world.old world.new result }
@@ -55,7 +57,7 @@ impl<N: Answering> Interpreter<N> {
         connection: Connection,
         arguments: &[Value],
     ) -> Result<(), Fault>
-        requires promises { Promises self.now.meta (N.takes self.now.natives) (N.gives self.now.natives) }
+        requires promises { KeepPromises N.takes N.gives self.now.meta self.now.natives }
         requires room { length active.now < self.now.depth }
         requires sound { IsSoundWorld self.now.meta world.old }
         requires takes { IsDelivered self.now.meta world.old.store.tree connection arguments.now }
@@ -93,7 +95,7 @@ impl<N: Answering> Interpreter<N> {
         connection: &Connection,
         call: &MethodCall<'_>,
     ) -> Result<(), Fault>
-        requires promises { Promises self.now.meta (N.takes self.now.natives) (N.gives self.now.natives) }
+        requires promises { KeepPromises N.takes N.gives self.now.meta self.now.natives }
         requires sound { IsSoundWorld self.now.meta world.old }
         requires left { 0 < world.old.left }
         requires fit { CallFits self.now.meta world.old.store.tree call.now }
@@ -114,10 +116,11 @@ impl<N: Answering> Interpreter<N> {
         active: &Active<'_>,
         call: &MethodCall<'_>,
     ) -> Result<(), Fault>
-        requires promises { Promises self.now.meta (N.takes self.now.natives) (N.gives self.now.natives) }
+        requires promises { KeepPromises N.takes N.gives self.now.meta self.now.natives }
         requires sound { IsSoundWorld self.now.meta world.old }
         requires left { 0 < world.old.left }
-        ensures ends { RunsOnlyCall self.now.meta (N.gives self.now.natives) self.now.depth active.now call.now world.old world.new result }
+        ensures ends { RunsOnlyCall self.now.meta (N.gives self.now.natives)
+            self.now.depth active.now call.now world.old world.new result }
     {
         let Some((_, declared)) = self.member(world, call.object, call.method) else {
             return Err(Fault::BadType);
@@ -140,11 +143,12 @@ impl<N: Answering> Interpreter<N> {
         active: &Active<'_>,
         call: &MethodCall<'_>,
     ) -> Result<(), Fault>
-        requires promises { Promises self.now.meta (N.takes self.now.natives) (N.gives self.now.natives) }
+        requires promises { KeepPromises N.takes N.gives self.now.meta self.now.natives }
         requires sound { IsSoundWorld self.now.meta world.old }
         requires left { 0 < world.old.left }
         requires fit { CallFits self.now.meta world.old.store.tree call.now }
-        ensures ends { RunsCall self.now.meta (N.gives self.now.natives) self.now.depth active.now call.now world.old world.new result }
+        ensures ends { RunsCall self.now.meta (N.gives self.now.natives) self.now.depth active.now
+            call.now world.old world.new result }
     {
         let (line, callee) = self.activate(world, active, call)?;
         world.note(line)?;
@@ -160,7 +164,7 @@ impl<N: Answering> Interpreter<N> {
         call: &MethodCall<'_>,
         callee: &Callee<'_>,
     ) -> Result<(), Fault>
-        requires promises { Promises self.now.meta (N.takes self.now.natives) (N.gives self.now.natives) }
+        requires promises { KeepPromises N.takes N.gives self.now.meta self.now.natives }
         requires room { length active.now < self.now.depth }
         requires sound { IsSoundWorld self.now.meta world.old }
         requires fit { CallFits self.now.meta world.old.store.tree call.now }

@@ -2,10 +2,9 @@
 
 ghost use Rattle.std.specs.Prelude.{◌≡◌, ◌<◌, ◌∷◌, [], IsTrue, is_some, length};
 ghost use Rattle.meta_model.specs.declared.object.Work.TheVariants.{Native};
-ghost use Rattle.native_slots.specs.Promises.{Promises};
 ghost use Rattle.machine_state.specs.State.{Ask, Body};
 ghost use Rattle.machine_rules.specs.code.Calls.{Finishes, CarriesOutAction};
-ghost use Rattle.machine_rules.specs.Natives.{place_of};
+ghost use Rattle.machine_rules.specs.Natives.{place_of, KeepPromises};
 ghost use Rattle.machine_rules.specs.code.Reaches.{CallFits, DoesWork};
 ghost use Rattle.machine_rules.specs.code.Sound.{IsSoundWorld};
 
@@ -29,7 +28,7 @@ impl<N: Answering> Interpreter<N> {
         call: &MethodCall<'_>,
         effects: &MetaEffects,
     ) -> Result<(), Fault>
-        requires promises { Promises self.now.meta (N.takes self.now.natives) (N.gives self.now.natives) }
+        requires promises { KeepPromises N.takes N.gives self.now.meta self.now.natives }
         requires room { length active.now < self.now.depth }
         requires sound { IsSoundWorld self.now.meta world.old }
         requires fit { CallFits self.now.meta world.old.store.tree call.now }
@@ -61,12 +60,13 @@ impl<N: Answering> Interpreter<N> {
         effects: &MetaEffects,
         action: Action,
     ) -> Result<(), Fault>
-        requires promises { Promises self.now.meta (N.takes self.now.natives) (N.gives self.now.natives) }
+        requires promises { KeepPromises N.takes N.gives self.now.meta self.now.natives }
         requires room { length active.now < self.now.depth }
         requires sound { IsSoundWorld self.now.meta world.old }
         requires due { 0 < world.old.left }
         requires within { IsTrue (is_some (place_of effects.now action)) }
-        ensures advances { CarriesOutAction self.now.meta (N.gives self.now.natives) self.now.depth active.now
+        ensures advances { CarriesOutAction self.now.meta (N.gives self.now.natives)
+            self.now.depth active.now
             object effects.now action world.old world.new result }
     {
         let over = (&*active).over(Some(object));

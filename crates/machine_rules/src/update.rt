@@ -6,7 +6,7 @@ ghost use Rattle.machine_state.specs.State.{Update};
 ghost use Rattle.machine_rules.specs.code.Calls.{Finishes, NotifiesFirst, RunsWrite};
 ghost use Rattle.machine_rules.specs.Settling.{signal_at, notified};
 ghost use Rattle.machine_rules.specs.code.Writing.{MayWrite, IsUnwritten, MayNotify, Announces};
-ghost use Rattle.native_slots.specs.Promises.{Promises};
+ghost use Rattle.machine_rules.specs.Natives.{KeepPromises};
 
 use crate::active::Active;
 use crate::interpreter::Interpreter;
@@ -29,10 +29,11 @@ impl<N: Answering> Interpreter<N> {
         place: &Place,
         value: Value,
     ) -> Result<(), Fault>
-        requires promises { Promises self.now.meta (N.takes self.now.natives) (N.gives self.now.natives) }
+        requires promises { KeepPromises N.takes N.gives self.now.meta self.now.natives }
         requires sound { IsSoundWorld self.now.meta world.old }
         requires left { 0 < world.old.left }
-        ensures ends { RunsWrite self.now.meta (N.gives self.now.natives) self.now.depth active.now place.now value world.old world.new result }
+        ensures ends { RunsWrite self.now.meta (N.gives self.now.natives) self.now.depth active.now
+            place.now value world.old world.new result }
     {
         self.may_write(world, active, place, &value)?;
         let changed = world.write(&self.meta, active.count() + 1, place, value)?;
@@ -70,7 +71,7 @@ impl<N: Answering> Interpreter<N> {
         active: &Active<'_>,
         changed: &[Place],
     ) -> Result<(), Fault>
-        requires promises { Promises self.now.meta (N.takes self.now.natives) (N.gives self.now.natives) }
+        requires promises { KeepPromises N.takes N.gives self.now.meta self.now.natives }
         requires room { length active.now < self.now.depth }
         requires sound { IsSoundWorld self.now.meta world.old }
         ensures ends { Finishes self.now.meta (N.gives self.now.natives) self.now.depth active.now
@@ -113,11 +114,12 @@ impl<N: Answering> Interpreter<N> {
     /// Notifies that a property has changed, if its object lives.
     #[cycle(machine)]
     fn notify(&self, world: &mut World, active: &Active<'_>, place: &Place) -> Result<(), Fault>
-        requires promises { Promises self.now.meta (N.takes self.now.natives) (N.gives self.now.natives) }
+        requires promises { KeepPromises N.takes N.gives self.now.meta self.now.natives }
         requires room { length active.now < self.now.depth }
         requires sound { IsSoundWorld self.now.meta world.old }
         requires notifies { MayNotify self.now.meta world.old.store.tree place.now }
-        ensures ends { NotifiesFirst self.now.meta (N.gives self.now.natives) self.now.depth active.now place.now world.old world.new result }
+        ensures ends { NotifiesFirst self.now.meta (N.gives self.now.natives)
+            self.now.depth active.now place.now world.old world.new result }
     {
         match self.signal_at(&world.store.tree, place) {
             Some(signal) => self.emit_change(world, active, place, signal),
@@ -134,11 +136,12 @@ impl<N: Answering> Interpreter<N> {
         place: &Place,
         signal: usize,
     ) -> Result<(), Fault>
-        requires promises { Promises self.now.meta (N.takes self.now.natives) (N.gives self.now.natives) }
+        requires promises { KeepPromises N.takes N.gives self.now.meta self.now.natives }
         requires room { length active.now < self.now.depth }
         requires sound { IsSoundWorld self.now.meta world.old }
         requires announces { Announces self.now.meta world.old.store.tree place.now signal }
-        ensures ends { NotifiesFirst self.now.meta (N.gives self.now.natives) self.now.depth active.now place.now world.old world.new result }
+        ensures ends { NotifiesFirst self.now.meta (N.gives self.now.natives)
+            self.now.depth active.now place.now world.old world.new result }
     {
         world.require_rule()?;
         let Some((_, declared)) = self.member(world, place.object, signal) else {

@@ -1,5 +1,5 @@
 -- The connections that are made and removed, and those that an emission uses (docs/machine.md, "Rules").
-use Rattle.std.specs.Prelude.{ℕ, ◌&&◌, not, eqb, if◌then◌else◌, Bool, List, Option, None, Some, is_some}
+use Rattle.std.specs.Prelude.{ℕ, ◌&&◌, not, eqb, if◌then◌else◌, Bool, false, List, Option, None, Some, is_some}
 use Rattle.std.specs.List.{find}
 use Rattle.meta_model.specs.declared.qobject.TheConstants.{DESTROYED}
 use Rattle.object_tree.specs.declared.life.Life.{Life}
@@ -29,10 +29,10 @@ newly_joined ends how connected = connected_by connected ends.sender ends.signal
 abbrev pub parted : Endpoints → Connected → Connected
 parted ends connected = removed (joins_these ends) connected
 
--- the emission of an object that lives this life calls nothing: it is blocked (Qt 6, `QObject::blockSignals`) or dead,
--- unless the signal is `destroyed`
+-- the emission of an object that lives this life calls nothing: the object lives and is blocked (Qt 6,
+-- `QObject::blockSignals`), and the signal isn't `destroyed`
 abbrev pub silences : Option Life → ℕ → Bool
-silences None g = not (eqb g DESTROYED)
+silences None g = false
 silences (Some l) g = l.blocked && not (eqb g DESTROYED)
 
 abbrev pub is_silent : Object → ℕ → Bool

@@ -183,7 +183,8 @@ impl World {
         requires unscheduled { IsUnscheduled self.old.store.tree object }
         requires home { IsHoused object self.old.store }
         requires few_posted { self.old.store.loops.posted < 2 ^ 63 - 1 }
-        ensures { GoesTo self.old (accepting_schedule self.old (entry ∷ []) object) self.new result }
+        ensures { let target = accepting_schedule self.old (entry ∷ []) object in
+            GoesTo self.old target self.new result }
     {
         self.trace.accept(self.events + 1, [entry])?;
         match self.store.schedule(object) {

@@ -54,7 +54,8 @@ impl World {
         requires left { 0 < self.old.left }
         requires there { home < length self.old.store.loops.loops }
         requires few { self.old.store.loops.posted < 2 ^ 63 - 1 }
-        ensures { let target = posting (having_used self.old connection.now) (entry ∷ []) home item in
+        ensures { let used = having_used self.old connection.now in
+            let target = posting used (entry ∷ []) home item in
             GoesTo self.old target self.new result }
     {
         self.trace.append([entry])?;

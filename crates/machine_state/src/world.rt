@@ -67,8 +67,8 @@ impl World {
     }
 
     /// The connection that an emission uses next: the first of this sender and signal that was made later than the one
-    /// of the number `used`, and not later than that of `last`, and whose receiver lives; none where the sender is blocked
-    /// or dead, unless the signal is `destroyed`.
+    /// of the number `used`, and not later than that of `last`, and whose receiver lives; none where the sender lives and
+    /// is blocked, unless the signal is `destroyed`.
     pub fn next_used(
         &self,
         sender: ObjectId,
@@ -110,7 +110,7 @@ impl World {
         None
     }
 
-    /// Whether an emission of this signal calls nothing, since the sender is blocked or dead.
+    /// Whether an emission of this signal calls nothing, since the sender lives and is blocked.
     fn is_silent(&self, sender: ObjectId, signal: usize) -> bool
         ensures { result ≡ silences (life_of self.now.store.tree sender) signal }
     {
@@ -170,19 +170,19 @@ impl World {
     }
 }
 
-/// Whether an emission of this signal calls nothing, since its object is blocked or dead; `destroyed` always calls.
+/// Whether an emission of this signal calls nothing, since its object lives and is blocked; `destroyed` always calls.
 pub fn is_silent(object: &Object, signal: usize) -> bool
     ensures { result ≡ is_silent object.now signal }
 {
     silences(object.life.as_ref(), signal)
 }
 
-/// Whether an object that lives this life is blocked, or lives no more, and the signal isn't `destroyed`.
+/// Whether an object that lives this life is blocked, and the signal isn't `destroyed`.
 fn silences(life: Option<&Life>, signal: usize) -> bool
     ensures { result ≡ silences (option_copied life.entry) signal }
 {
     match life {
         Some(life) => life.blocked && signal != DESTROYED,
-        None => signal != DESTROYED,
+        None => false,
     }
 }

@@ -24,8 +24,10 @@ pub struct NativeSlot {
     pub ghost callable: { (arguments reads : _)
         → IsTrue (accepts head.effects arguments.now reads.now) → Work.pre work arguments reads },
     pub ghost within: { (arguments reads outcome : _)
-        → IsTrue (accepts head.effects arguments.now reads.now) → Work.post work arguments reads outcome
-        → IfOk outcome (λ actions. IsTrue (are_within head.effects actions.items)) } by { Prim.hlevel props },
+        → IsTrue (accepts head.effects arguments.now reads.now)
+        → Work.post work arguments reads outcome
+        → IfOk outcome
+        (λ actions. IsTrue (are_within head.effects actions.items)) } by { Prim.hlevel props },
 }
 
 impl Drop for NativeSlot {
@@ -43,7 +45,8 @@ impl NativeSlot {
         requires callable { (arguments reads : _)
             → IsTrue (accepts effects arguments.now reads.now) → Work.pre work arguments reads }
         requires within { (arguments reads outcome : _)
-            → IsTrue (accepts effects arguments.now reads.now) → Work.post work arguments reads outcome
+            → IsTrue (accepts effects arguments.now reads.now)
+            → Work.post work arguments reads outcome
             → IfOk outcome (λ actions. IsTrue (are_within effects actions.items)) }
         ensures head { result.head ≡ record { class = class; sig = sig; effects = effects } }
         ensures work { result.work ≡ work }
@@ -60,7 +63,8 @@ impl NativeSlot {
     pub fn call(&self, arguments: &[Value], reads: &[Value]) -> Result<Vec<Action>, AllocError>
         requires { IsTrue (accepts self.now.head.effects arguments.now reads.now) }
         ensures answers { FnReturnsAtPair Work.Fn self.now.work arguments.now reads.now result }
-        ensures within { IfOk result (λ actions. IsTrue (are_within self.now.head.effects actions.items)) }
+        ensures within { IfOk result
+            (λ actions. IsTrue (are_within self.now.head.effects actions.items)) }
     {
         (self.work)(arguments, reads)
     }

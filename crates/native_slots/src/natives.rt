@@ -51,8 +51,8 @@ impl Natives {
             (λ class sig arguments reads.
             takes_any (map (λ slot. slot.head) self.now.slots.items) class sig arguments reads)
             (λ class sig arguments reads actions.
-            MayAnswer (λ slot. slot.head) (λ slot. FnReturnsAtPair Work.Fn slot.work) self.now.slots.items
-            class sig arguments reads actions)) }
+            MayAnswer (λ slot. slot.head) (λ slot. FnReturnsAtPair Work.Fn slot.work)
+            self.now.slots.items class sig arguments reads actions)) }
     {
         let mut answer = Ok(());
         let classes = meta.classes();
@@ -65,7 +65,8 @@ impl Natives {
 
     /// The same of the class's natives from this method on.
     fn class_fits(&self, class: &MetaObject, first: usize) -> Result<(), NativeFault>
-        ensures { FitAmong (map (λ slot. slot.head) self.now.slots.items) (IsNativeFrom class.now first) result }
+        ensures { FitAmong (map (λ slot. slot.head) self.now.slots.items)
+            (IsNativeFrom class.now first) result }
     {
         let methods = class.methods.as_slice();
         let mut answer = Ok(());
@@ -77,7 +78,8 @@ impl Natives {
 
     /// The same of one method of the class.
     fn method_fits(&self, class: &MetaObject, method: &MetaMethod) -> Result<(), NativeFault>
-        ensures { FitAmong (map (λ slot. slot.head) self.now.slots.items) (IsThis class.now method.now) result }
+        ensures { FitAmong (map (λ slot. slot.head) self.now.slots.items)
+            (IsThis class.now method.now) result }
     {
         let MethodWork::Native(declared) = &method.work else {
             return Ok(());
@@ -96,7 +98,8 @@ impl Natives {
 
     /// What the first closure for the native of this class and signature is for, or `None` where there is none.
     fn head_for(&self, class: &Name, sig: &Sig) -> Option<&NativeHead>
-        ensures { option_copied result ≡ first_for class.now sig.now (map (λ slot. slot.head) self.now.slots.items) }
+        ensures { option_copied result ≡
+            first_for class.now sig.now (map (λ slot. slot.head) self.now.slots.items) }
     {
         match self.find(class, sig) {
             Some(place) => Some(&self.slots[place].head),
@@ -106,7 +109,8 @@ impl Natives {
 
     /// The place of the first closure for the native of this class and signature, or `None` where there is none.
     pub fn find(&self, class: &Name, sig: &Sig) -> Option<usize>
-        ensures { result ≡ position (λ slot. is_for class.now sig.now slot.head) self.now.slots.items }
+        ensures { result ≡
+            position (λ slot. is_for class.now sig.now slot.head) self.now.slots.items }
     {
         let slots = self.slots.as_slice();
         for place in 0..slots.len() {
@@ -145,7 +149,8 @@ impl Answering for Natives {
         takes_any (map (λ slot. slot.head) natives.slots.items) class sig arguments reads };
 
     ghost gives = { λ natives class sig arguments reads actions.
-        MayAnswer (λ slot. slot.head) (λ slot. FnReturnsAtPair Work.Fn slot.work) natives.slots.items class sig arguments reads actions };
+        MayAnswer (λ slot. slot.head) (λ slot. FnReturnsAtPair Work.Fn slot.work)
+        natives.slots.items class sig arguments reads actions };
 
     fn answer(
         &self,

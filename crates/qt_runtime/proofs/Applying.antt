@@ -30,15 +30,17 @@ halts-after {N} {gives} {a} {b} {c} {f} {es} {fs} {xs} x y =
     record {
       went = x.went;
       same = z.same;
-      stack = z.stack;
-      front = record {
-        taken = es ++ z.front.taken;
-        rest = z.front.rest;
-        split = ap (λ (l : List Event). es ++ l) z.front.split ∙ sym (append_assoc es z.front.taken z.front.rest);
-        answers = xs ++ z.front.answers;
-        runs = runs-trans x.whole.runs z.front.runs;
+      way = record {
+        stack = z.way.stack;
+        front = record {
+          taken = es ++ z.way.front.taken;
+          rest = z.way.front.rest;
+          split = ap (λ (l : List Event). es ++ l) z.way.front.split ∙ sym (append_assoc es z.way.front.taken z.way.front.rest);
+          answers = xs ++ z.way.front.answers;
+          runs = runs-trans x.whole.runs z.way.front.runs;
+        };
+        cause = z.way.cause;
       };
-      cause = z.cause;
     }
 
 -- a rule that is due stays due, and one that follows still follows, whatever events come after
@@ -75,15 +77,17 @@ pub halts-more : {N : Type 0} {gives : N → NativeAnswers} {a c : Seen N} {f : 
 halts-more {N} {gives} {a} {c} {f} {es} more x = record {
   went = x.went;
   same = x.same;
-  stack = x.stack;
-  front = record {
-    taken = x.front.taken;
-    rest = x.front.rest ++ more;
-    split = ap (λ (l : List Event). l ++ more) x.front.split ∙ append_assoc x.front.taken x.front.rest more;
-    answers = x.front.answers;
-    runs = x.front.runs;
+  way = record {
+    stack = x.way.stack;
+    front = record {
+      taken = x.way.front.taken;
+      rest = x.way.front.rest ++ more;
+      split = ap (λ (l : List Event). l ++ more) x.way.front.split ∙ append_assoc x.way.front.taken x.way.front.rest more;
+      answers = x.way.front.answers;
+      runs = x.way.front.runs;
+    };
+    cause = stops-more more x.way.cause;
   };
-  cause = stops-more more x.cause;
 }
 
 -- where a run completed the machine has not stopped

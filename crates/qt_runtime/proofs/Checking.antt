@@ -79,18 +79,18 @@ module _ {N : Type 0} (takes : N → Takes) (gives : N → NativeAnswers) where
   halts-limit {a} {b} {f = f} sound kept x checked =
       let come = checked.came x.went in
       let natives = gives a.natives in
-      let stop = at b.world x.stack in
-      let StopsAt : ℕ → Type 0 = λ d. StopsFor a.program natives d stop b.world.left x.front.rest f in
+      let stop = at b.world x.way.stack in
+      let StopsAt : ℕ → Type 0 = λ d. StopsFor a.program natives d stop b.world.left x.way.front.rest f in
       let reached : IsReached (takes a.natives) natives a.program checked.certificate stop b.world.left = record {
         sound = sound;
         valid = checked.valid;
         promises = kept;
         steps = come.steps;
-        taken = come.taken ++ x.front.taken;
-        answers = come.answers ++ x.front.answers;
-        run = run-trans come.run x.front.runs.run;
+        taken = come.taken ++ x.way.front.taken;
+        answers = come.answers ++ x.way.front.answers;
+        run = run-trans come.run x.way.front.runs.run;
       } in
-      only_limits b.world.left x.front.rest f reached (subst StopsAt checked.bound x.cause)
+      only_limits b.world.left x.way.front.rest f reached (subst StopsAt checked.bound x.way.cause)
 
   stops-checked : {a b : Seen N} {es : List Event} {f : Fault} → IsSound a.program → AreKept takes gives a → Halts gives a es f b ⊎ Stays a f b → IsChecked gives a → IsChecked gives b × StopsAtLimit a f
   stops-checked sound kept (inl halts) checked = (halts-checked gives halts checked, inl (halts-limit sound kept halts checked))

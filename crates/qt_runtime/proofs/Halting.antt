@@ -7,37 +7,43 @@ use Rattle.meta_model.specs.Loaded.{Loaded}
 use Rattle.meta_model.specs.Sound.{IsSound}
 use Rattle.machine_state.specs.declared.fault.Answer.{Answer}
 use Rattle.machine_state.specs.declared.fault.Fault.{Fault}
-use Rattle.machine_state.specs.declared.fault.Fault.TheVariants.{BadType, TooDeep, BindingLoop, InUse, Steps, Memory, Stopped}
+use Rattle.machine_state.specs.declared.fault.Fault.TheVariants.{Steps}
 use Rattle.machine_state.specs.State.{State}
-use Rattle.machine_state.specs.Worlds.{at}
 use Rattle.machine_state.specs.declared.world.World.{World}
 use Rattle.machine_rules.specs.Natives.{NativeAnswers}
 use Rattle.machine_rules.specs.code.Sound.{IsSoundWorld}
 use Rattle.qt_runtime.specs.Seen.{Seen, Completes, RefusesExactly, Halts, Stays}
-use Rattle.machine_events.specs.code.Taking.{SaysWhy, Took, RunStops}
+use Rattle.machine_events.specs.Causes.{Brings, StopsFor, spent, short, brings, lacks_value, writes_ill, binds_ill, goes_ill, goes_fatal, binds_loop, writes_deep, goes_deep}
+use Rattle.machine_events.specs.code.Taking.{SaysWhy, Took}
 use Rattle.machine_events.proofs.OneRun.{first-taken}
 use Rattle.machine_events.proofs.OneTaking.{answer-refused}
-use Rattle.machine_events.proofs.Keeping.{invariant-at}
-use Rattle.machine_events.proofs.Preservation.{runs-invariant}
-use Rattle.machine_events.proofs.Progress.{cause-of}
 
 -- a machine with this world
 abbrev pub seen : {N : Type 0} → Loaded → N → ℕ → World → Bool → Seen N
 seen p natives depth w stopped = record { program = p; natives = natives; depth = depth; world = w; stopped = stopped }
 
+-- no bad moment is want of rules
+not-spent : {p : Loaded} {natives : NativeAnswers} {d : ℕ} {s : State} {es : List Event} {f : Fault} → Brings p natives d s es f → f ≡ Steps → ⊥
+not-spent (lacks_value x) is = absurd (cc is)
+not-spent (writes_ill x) is = absurd (cc is)
+not-spent (binds_ill x) is = absurd (cc is)
+not-spent (goes_ill x) is = absurd (cc is)
+not-spent (goes_fatal x) is = absurd (cc is)
+not-spent (binds_loop x) is = absurd (cc is)
+not-spent (writes_deep x) is = absurd (cc is)
+not-spent (goes_deep x) is = absurd (cc is)
+
 -- what stops for want of rules has none left ..
-spent-left : (p : Loaded) (natives : NativeAnswers) (d : ℕ) (s : State) (left : ℕ) (es : List Event) (f : Fault) → f ≡ Steps → RunStops p natives d s left es f → left ≡ 0
-spent-left p natives d s left es f is r = (subst (λ (g : Fault). RunStops p natives d s left es g) is r).0
+spent-left : {p : Loaded} {natives : NativeAnswers} {d : ℕ} {s : State} {left : ℕ} {es : List Event} {f : Fault} → f ≡ Steps → StopsFor p natives d s left es f → left ≡ 0
+spent-left is (spent none due) = none
+spent-left is (short some due) = absurd (cc is)
+spent-left is (brings some x) = absurd (not-spent x is)
 
 -- .. and what stops with none left does so for want of rules
-spent-fault : (p : Loaded) (natives : NativeAnswers) (d : ℕ) (s : State) (left : ℕ) (es : List Event) (f : Fault) → left ≡ 0 → RunStops p natives d s left es f → f ≡ Steps
-spent-fault p natives d s left es BadType none r = let some : 0 < left = r.0 in absurd (omega (arith, none, some))
-spent-fault p natives d s left es TooDeep none r = let some : 0 < left = r.0 in absurd (omega (arith, none, some))
-spent-fault p natives d s left es BindingLoop none r = let some : 0 < left = r.0 in absurd (omega (arith, none, some))
-spent-fault p natives d s left es InUse none r = let some : 0 < left = r.0 in absurd (omega (arith, none, some))
-spent-fault p natives d s left es Steps none r = refl
-spent-fault p natives d s left es Memory none r = let some : 0 < left = r.0 in absurd (omega (arith, none, some))
-spent-fault p natives d s left es Stopped none r = absurd r
+spent-fault : {p : Loaded} {natives : NativeAnswers} {d : ℕ} {s : State} {left : ℕ} {es : List Event} {f : Fault} → left ≡ 0 → StopsFor p natives d s left es f → f ≡ Steps
+spent-fault none (spent same due) = refl
+spent-fault none (short some due) = absurd (omega (arith, none, some))
+spent-fault none (brings some x) = absurd (omega (arith, none, some))
 
 module _ {N : Type 0} (gives : N → NativeAnswers) (natives : N) {p : Loaded} {depth : ℕ} {w v : World} {e : Event} where
   -- what `take_event` did, as what `apply` does
@@ -53,26 +59,17 @@ module _ {N : Type 0} (gives : N → NativeAnswers) (natives : N) {p : Loaded} {
   }
   applied-refused went stopped (Err f) sound whole none took = tt
 
-  pub applied-stopped : {went stopped : Bool} (r : Result Answer Fault) → IsSound p → IsSoundWorld p w → Took p (gives natives) depth w e v r → went ≡ false → stopped ≡ is_err r → IfErr r (λ f. Halts gives (seen p natives depth w went) (e ∷ []) f (seen p natives depth v stopped) ⊎ Stays (seen p natives depth w went) f (seen p natives depth v stopped))
-  applied-stopped (Ok x) sound whole took goes is = tt
-  applied-stopped (Err f) sound whole took goes is =
-      let halted = took.cases in
-      let up = runs-invariant sound halted.front.runs (invariant-at w whole) in
-      inl (record {
-        went = goes;
-        same = ap (λ (b : Bool). seen p natives depth v b) is;
-        stack = halted.stack;
-        front = halted.front;
-        cause = cause-of sound up (gives natives) depth v.left halted.front.rest f halted.reason;
-      })
+  pub applied-stopped : {went stopped : Bool} (r : Result Answer Fault) → Took p (gives natives) depth w e v r → went ≡ false → stopped ≡ is_err r → IfErr r (λ f. Halts gives (seen p natives depth w went) (e ∷ []) f (seen p natives depth v stopped) ⊎ Stays (seen p natives depth w went) f (seen p natives depth v stopped))
+  applied-stopped (Ok x) took goes is = tt
+  applied-stopped (Err f) took goes is =
+      inl (record { went = goes; same = ap (λ (b : Bool). seen p natives depth v b) is; way = took.cases })
 
   -- it stops for want of rules exactly where none is left
   pub applied-spent : {stopped : Bool} (r : Result Answer Fault) → Took p (gives natives) depth w e v r → stopped ≡ is_err r → (r ≡ Err Steps) ↔ ((stopped ≡ true) × (v.left ≡ 0))
   applied-spent (Ok a) took is = (λ same. absurd (cc same), λ both. let no : true ≡ false = sym both.0 ∙ is in absurd (cc no))
-  applied-spent (Err f) took is =
-      let halted = took.cases in (
-        λ same.
-            let f_is : f ≡ Steps = cc same in
-            (is, spent-left p (gives natives) depth (at v halted.stack) v.left halted.front.rest f f_is halted.reason),
-        λ both. ap (λ (g : Fault). Err g) (spent-fault p (gives natives) depth (at v halted.stack) v.left halted.front.rest f both.1 halted.reason),
-      )
+  applied-spent (Err f) took is = (
+    λ same.
+        let f_is : f ≡ Steps = cc same in
+        (is, spent-left f_is took.cases.cause),
+    λ both. ap (λ (g : Fault). Err g) (spent-fault both.1 took.cases.cause),
+  )

@@ -9,13 +9,11 @@ use Rattle.machine_state.specs.declared.fault.Fault.{Fault}
 use Rattle.machine_state.specs.declared.fault.Fault.TheVariants as fault
 use Rattle.machine_state.specs.declared.refusal.Refusal.{Refusal}
 use Rattle.machine_state.specs.Refusals.{refusal_number}
-use Rattle.machine_state.specs.State.{Activation}
 use Rattle.machine_state.specs.Worlds.{at, untouched}
-use Rattle.native_slots.specs.Promises.{Promises, Takes}
+use Rattle.native_slots.specs.Promises.{Takes}
 use Rattle.machine_rules.specs.Good.{AreSettled}
-use Rattle.machine_rules.specs.Natives.{NativeAnswers}
-use Rattle.machine_events.specs.Runs.{RunsWhole, RunsFront}
-use Rattle.machine_events.specs.Causes.{StopsFor}
+use Rattle.machine_rules.specs.Natives.{NativeAnswers, KeepPromises}
+use Rattle.machine_events.specs.Causes as run
 use Rattle.machine_events.specs.Takes.{judged, IsRefusedAs}
 
 pub record Seen (N : Type 0) : Type 0 where
@@ -32,27 +30,21 @@ begun program natives depth steps = record { program = program; natives = native
 
 -- the natives of a machine keep what its program declares of them
 abbrev pub AreKept : {N : Type 0} → (N → Takes) → (N → NativeAnswers) → Seen N → Type 0
-AreKept takes gives m = Promises m.program (takes m.natives) (gives m.natives)
+AreKept takes gives m = KeepPromises takes gives m.program m.natives
 
--- the machine took these events with these answers by a whole run without a bad moment
+-- the machine took these events with these answers, and goes on
 pub record Completes {N : Type 0} (gives : N → NativeAnswers) (before : Seen N) (events : List Event) (answers : List Answer)
     (after : Seen N) : Type 0 where
   pub went : before.stopped ≡ false
   pub same : after ≡ record before { world = after.world }
-  pub whole :
-      RunsWhole before.program (gives before.natives) before.depth (at before.world []) before.world.left events answers
-      (at after.world []) after.world.left
+  pub whole : run.Completes before.program (gives before.natives) before.depth before.world events answers after.world
 
--- The machine took a front of these events by a run without a bad moment, and stopped on the way: stores and trace are those
--- of the run's last state, and what comes next, or memory, is the cause.
-pub record Halts {N : Type 0} (gives : N → NativeAnswers) (before : Seen N) (events : List Event) (f : Fault) (after : Seen N) : Type 0 where
+-- .. it stopped on the way
+pub record Halts {N : Type 0} (gives : N → NativeAnswers) (before : Seen N) (events : List Event) (f : Fault) (after : Seen N)
+    : Type 0 where
   pub went : before.stopped ≡ false
   pub same : after ≡ record before { world = after.world; stopped = true }
-  pub stack : List Activation
-  pub front :
-      RunsFront before.program (gives before.natives) before.depth (at before.world []) before.world.left events
-      (at after.world stack) after.world.left
-  pub cause : StopsFor before.program (gives before.natives) before.depth (at after.world stack) after.world.left front.rest f
+  pub way : run.Halts before.program (gives before.natives) before.depth before.world events f after.world
 
 -- a machine that has stopped does nothing more
 pub record Stays {N : Type 0} (before : Seen N) (f : Fault) (after : Seen N) : Type 0 where

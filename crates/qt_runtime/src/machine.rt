@@ -1,6 +1,6 @@
 ghost use Rattle.std.specs.Prelude.{◌≡◌, ◌↔◌, ◌<◌, ◌≤◌, ◌^◌, ◌∷◌, [], length, Err, IfOk, IfErr, true, false, None};
 ghost use Rattle.machine_state.specs.declared.fault.Fault.TheVariants.{Steps};
-ghost use Rattle.native_slots.specs.Promises.{Promises};
+ghost use Rattle.machine_rules.specs.Natives.{KeepPromises};
 ghost use Rattle.qt_runtime.specs.Checked.{Claims, IsChecked, StopsAtLimit};
 ghost use Rattle.qt_runtime.specs.Seen.{AreKept, Completes, RefusesExactly, IsSettled, Stops, RunsAll, begun};
 
@@ -53,7 +53,8 @@ impl<N> Model for Machine<N> {
       stopped = m.stopped;
     } };
 
-    ghost invariant = { λ m. MachineInvariant m.interpreter.meta m.interpreter.depth m.world m.stopped };
+    ghost invariant = { λ m.
+        MachineInvariant m.interpreter.meta m.interpreter.depth m.world m.stopped };
 }
 
 impl<N: Answering + Drop> Machine<N> {
@@ -69,7 +70,7 @@ impl<N: Answering + Drop> Machine<N> {
     ) -> Result<Machine<N>, AllocError>
         requires depth { (1 ≤ depth) × (depth ≤ 256) }
         requires steps { (1 ≤ steps) × (steps < 2 ^ 63) }
-        requires promises { Promises meta (N.takes natives) (N.gives natives) }
+        requires promises { KeepPromises N.takes N.gives meta natives }
         ensures { IfOk result (λ machine. machine ≡ begun meta natives depth steps) }
     {
         // The contract of `classes` says that the numbers in bodies are those of members.
@@ -92,7 +93,7 @@ impl<N: Answering + Drop> Machine<N> {
         steps: u64,
     ) -> Result<Machine<N>, AllocError>
         requires steps { (1 ≤ steps) × (steps < 2 ^ 63) }
-        requires promises { Promises program.program (N.takes natives) (N.gives natives) }
+        requires promises { KeepPromises N.takes N.gives program.program natives }
         ensures begins { IfOk result (λ machine. machine
             ≡ begun program.program natives program.certificate.bound steps) }
         ensures checked { IfOk result (λ machine. IsChecked N.gives machine) }
@@ -118,8 +119,10 @@ impl<N: Answering + Drop> Machine<N> {
         requires { AreKept N.takes N.gives self.old }
         ensures taken { IfOk result
             (λ answer. Completes N.gives self.old (event.now ∷ []) (answer ∷ []) self.new) }
-        ensures refused { IfOk result (λ answer. RefusesExactly self.old event.now answer self.new) }
-        ensures stopped { IfErr result (λ fault. Stops N.gives self.old (event.now ∷ []) fault self.new) }
+        ensures refused { IfOk result
+            (λ answer. RefusesExactly self.old event.now answer self.new) }
+        ensures stopped { IfErr result
+            (λ fault. Stops N.gives self.old (event.now ∷ []) fault self.new) }
         ensures spent { self.old.stopped ≡ false
             → (result ≡ Err Steps) ↔ ((self.new.stopped ≡ true) × (self.new.world.left ≡ 0)) }
         ensures left_settled { IfOk result (λ _. IsSettled self.new) }

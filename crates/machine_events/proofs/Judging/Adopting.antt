@@ -1,5 +1,5 @@
 -- `adopt`.
-use Rattle.std.proofs.Common.{◌≡◌, ℕ, List, [], Result, Ok, Err, MatchResult, refl, sym, subst}
+use Rattle.std.proofs.Common.{◌≡◌, ℕ, List, [], Result, Ok, Err, MatchResult, refl, sym, subst, ◌∷◌}
 use Rattle.meta_model.specs.Loaded.{Loaded}
 use Rattle.object_tree.specs.declared.fault.AdoptFault.{AdoptFault}
 use Rattle.object_tree.specs.declared.life.Life.{Life}
@@ -19,13 +19,14 @@ use Rattle.machine_rules.specs.Natives.{NativeAnswers}
 use Rattle.machine_rules.specs.Judgement.{Numbered, holds, fails, becomes, goes_on, ends}
 use Rattle.machine_events.specs.code.Judgement.{IsNotAccepted, IsLiving}
 use Rattle.machine_events.specs.declared.judgement.NotAccepted.{NotAccepted}
-use Rattle.machine_events.specs.code.Taking.{Halted, adoption_reason}
+use Rattle.machine_events.specs.code.Taking.{adoption_reason}
 use Rattle.machine_events.specs.Events.{adopt, living}
 use Rattle.object_tree.proofs.TypedObjects.{typed-moved}
 use Rattle.machine_events.proofs.Changes.{adopted-by}
 use Rattle.machine_events.proofs.Judged.{then-ends, then-on}
 use Rattle.machine_events.proofs.Taken.{no_natives, Ready, halted-short}
 use Rattle.machine_events.proofs.Judging.Naming.{living-ok}
+use Rattle.machine_events.specs.Causes.{Halts}
 
 -- the parent's name isn't accepted
 pub no-parent : (p : Loaded) (w : World) (parent child : List ℕ) {n : NotAccepted} → IsNotAccepted (living w.store.tree parent) n → IsNotAccepted (adopt p (at w []) parent child) n
@@ -47,7 +48,7 @@ module _ (p : Loaded) (w : World) (parent child : List ℕ) (a : Numbered Life) 
         (goes_on tt (holds may.owns) (goes_on tt (holds may.no_cycle) (goes_on tt (holds may.one_loop) (becomes (record { objects = new; is = is; gives = refl }))))))
 
     -- the object isn't adopted
-    pub not-adopted : (natives : NativeAnswers) (d : ℕ) {f : AdoptFault} → IsNotAdopted p w.store.tree a.number c.number a.it c.it f → Ready w → MatchResult (adoption_reason f) (λ k. adopt p (at w []) parent child (Err k)) (λ g. Halted p natives d w (Adopt parent child) w g)
+    pub not-adopted : (natives : NativeAnswers) (d : ℕ) {f : AdoptFault} → IsNotAdopted p w.store.tree a.number c.number a.it c.it f → Ready w → MatchResult (adoption_reason f) (λ k. adopt p (at w []) parent child (Err k)) (λ g. Halts p natives d w (Adopt parent child ∷ []) g w)
     not-adopted natives d (not_owned none) some = goes_on a (living-ok a above) (goes_on c (living-ok c below) (ends (fails none)))
     not-adopted natives d (cycle owns over) some =
         goes_on a (living-ok a above) (goes_on c (living-ok c below) (goes_on tt (holds owns) (ends (fails (λ free. free over)))))
@@ -55,12 +56,12 @@ module _ (p : Loaded) (w : World) (parent child : List ℕ) (a : Numbered Life) 
         goes_on a (living-ok a above) (goes_on c (living-ok c below) (goes_on tt (holds owns) (goes_on tt (holds free) (ends (fails apart)))))
     not-adopted natives d no_memory some = halted-short (Adopt parent child) some
 
-    pub adoption-stops : {natives : NativeAnswers} (d : ℕ) {f : AdoptFault} {g : Fault} → IsNotAdopted p w.store.tree a.number c.number a.it c.it f → Ready w → Err g ≡ adoption_reason f → Halted p natives d w (Adopt parent child) w g
+    pub adoption-stops : {natives : NativeAnswers} (d : ℕ) {f : AdoptFault} {g : Fault} → IsNotAdopted p w.store.tree a.number c.number a.it c.it f → Ready w → Err g ≡ adoption_reason f → Halts p natives d w (Adopt parent child ∷ []) g w
     adoption-stops {natives = natives} d is some e =
-        let Decides : Result Refusal Fault → Type 0 = λ r. MatchResult r (λ k. adopt p (at w []) parent child (Err k)) (λ h. Halted p natives d w (Adopt parent child) w h) in
+        let Decides : Result Refusal Fault → Type 0 = λ r. MatchResult r (λ k. adopt p (at w []) parent child (Err k)) (λ h. Halts p natives d w (Adopt parent child ∷ []) h w) in
         subst Decides (sym e) (not-adopted natives d is some)
 
     pub adoption-refuses : {f : AdoptFault} {k : Refusal} → IsNotAdopted p w.store.tree a.number c.number a.it c.it f → Ready w → Ok k ≡ adoption_reason f → adopt p (at w []) parent child (Err k)
     adoption-refuses is some e =
-        let Decides : Result Refusal Fault → Type 0 = λ r. MatchResult r (λ k. adopt p (at w []) parent child (Err k)) (λ h. Halted p no_natives 0 w (Adopt parent child) w h) in
+        let Decides : Result Refusal Fault → Type 0 = λ r. MatchResult r (λ k. adopt p (at w []) parent child (Err k)) (λ h. Halts p no_natives 0 w (Adopt parent child ∷ []) h w) in
         subst Decides (sym e) (not-adopted no_natives 0 is some)

@@ -22,10 +22,10 @@ use Rattle.machine_rules.specs.Judgement.{Numbered, numbered, Check, Gives, ◌>
 use Rattle.machine_rules.specs.Settling.{Installs}
 use Rattle.machine_events.specs.declared.judgement.NotAccepted.{NotAccepted}
 use Rattle.machine_events.specs.code.Judgement.{IsNotAccepted, IsLiving}
-use Rattle.machine_events.specs.Causes.{BindsNext}
+use Rattle.machine_events.specs.Causes.{BindsNext, Halts, StopsFor, short, brings, binds_ill, binds_loop}
 use Rattle.machine_events.specs.Runs.{is_next}
 use Rattle.machine_events.specs.Takes.{judged}
-use Rattle.machine_events.specs.code.Taking.{AsksToBind, Halted, binding_reason, RunStops}
+use Rattle.machine_events.specs.code.Taking.{AsksToBind, binding_reason}
 use Rattle.machine_events.specs.Events.{IsSiteOf, may_bind, living, all_living}
 use Rattle.machine_events.proofs.Judged.{then-ends, then-on}
 use Rattle.machine_events.proofs.Judging.Naming.{living-ok}
@@ -98,26 +98,26 @@ module _ {p : Loaded} {w : World} {name target : List ℕ} {sources : List (List
   judged-bound t may installs = goes_on (new_binding may) (may-ok may) (becomes installs)
 
   -- nothing has changed
-  halted-before : {natives : NativeAnswers} {d : ℕ} {f : Fault} → RunStops p natives d (at w []) w.left (event ∷ []) f → Halted p natives d w event w f
-  halted-before reason = record { stack = []; front = record { taken = []; rest = event ∷ []; split = refl; answers = []; runs = none-yet }; reason = reason }
+  halted-before : {natives : NativeAnswers} {d : ℕ} {f : Fault} → StopsFor p natives d (at w []) w.left (event ∷ []) f → Halts p natives d w (event ∷ []) f w
+  halted-before cause = record { stack = []; front = record { taken = []; rest = event ∷ []; split = refl; answers = []; runs = none-yet }; cause = cause }
 
   -- why no binding is installed
   pub not-bound : (natives : NativeAnswers) (d : ℕ) {f : BindFault} → Ready w → IsNotBound p w.store.tree w.store.bindings number o objects f →
-      MatchResult (binding_reason f) (λ k. judged p (at w []) event (Err k)) (λ g. Halted p natives d w event w g)
+      MatchResult (binding_reason f) (λ k. judged p (at w []) event (Err k)) (λ g. Halts p natives d w (event ∷ []) g w)
   not-bound natives d some (bad_source none) =
       let judges : may_bind p (at w []) name target sources (Err BadSource) = on-found asks.site asks.is.is (ends (fails (λ covers. none (record { site = asks.site; is = asks.is.is; covers = covers })))) in
       ends judges
   not-bound natives d some (other_loop sited apart) = ends (on-found sited.site sited.is (goes_on tt (holds sited.covers) (ends (fails apart))))
-  not-bound natives d some (bad_type may ill) = halted-before (some.some, inl (inr (record { binding = new_binding may; next = next-bind some (may-ok may); ill = ill })))
-  not-bound natives d some (closes may fit loop) = halted-before (some.some, record { binding = new_binding may; next = next-bind some (may-ok may); fit = fit; closes = loop })
-  not-bound natives d some no_memory = halted-before (some.some, is_next (idle w some.no_turn))
+  not-bound natives d some (bad_type may ill) = halted-before (brings some.some (binds_ill (record { binding = new_binding may; next = next-bind some (may-ok may); ill = ill })))
+  not-bound natives d some (closes may fit loop) = halted-before (brings some.some (binds_loop (record { binding = new_binding may; next = next-bind some (may-ok may); fit = fit; closes = loop })))
+  not-bound natives d some no_memory = halted-before (short some.some (is_next (idle w some.no_turn)))
 
-  pub binding-stops : {natives : NativeAnswers} (d : ℕ) {f : BindFault} {g : Fault} → Ready w → IsNotBound p w.store.tree w.store.bindings number o objects f → Err g ≡ binding_reason f → Halted p natives d w event w g
+  pub binding-stops : {natives : NativeAnswers} (d : ℕ) {f : BindFault} {g : Fault} → Ready w → IsNotBound p w.store.tree w.store.bindings number o objects f → Err g ≡ binding_reason f → Halts p natives d w (event ∷ []) g w
   binding-stops {natives = natives} d some is e =
-      let Decides : Result Refusal Fault → Type 0 = λ r. MatchResult r (λ k. judged p (at w []) event (Err k)) (λ h. Halted p natives d w event w h) in
+      let Decides : Result Refusal Fault → Type 0 = λ r. MatchResult r (λ k. judged p (at w []) event (Err k)) (λ h. Halts p natives d w (event ∷ []) h w) in
       subst Decides (sym e) (not-bound natives d some is)
 
   pub binding-refuses : {f : BindFault} {k : Refusal} → Ready w → IsNotBound p w.store.tree w.store.bindings number o objects f → Ok k ≡ binding_reason f → judged p (at w []) event (Err k)
   binding-refuses some is e =
-      let Decides : Result Refusal Fault → Type 0 = λ r. MatchResult r (λ k. judged p (at w []) event (Err k)) (λ h. Halted p no_natives 0 w event w h) in
+      let Decides : Result Refusal Fault → Type 0 = λ r. MatchResult r (λ k. judged p (at w []) event (Err k)) (λ h. Halts p no_natives 0 w (event ∷ []) h w) in
       subst Decides (sym e) (not-bound no_natives 0 some is)

@@ -25,9 +25,10 @@ use Rattle.machine_rules.proofs.Fields.{class-unique}
 use Rattle.machine_rules.specs.Judgement.{NothingIs, found, missing, holds, fails, gives, goes_on, ends}
 use Rattle.machine_events.specs.Runs.{by_event}
 use Rattle.machine_events.specs.Takes.{accepts}
-use Rattle.machine_events.specs.code.Taking.{Halted, creation_reason}
+use Rattle.machine_events.specs.code.Taking.{creation_reason}
 use Rattle.machine_events.specs.Events.{create, IsClassOf, IsHome}
 use Rattle.machine_events.proofs.Taken.{idle, no_natives, none-yet, Ready, halted-short}
+use Rattle.machine_events.specs.Causes.{Halts, brings, goes_ill}
 
 -- the class of a name
 class-of : {p : Loaded} {name : List ℕ} {number : ℕ} {kind : MetaObject} → IsClassNamed p name number → IsClass p number kind → IsClassOf p name (record { number = number; it = kind })
@@ -54,7 +55,7 @@ module _ (p : Loaded) (w : World) (name class : List ℕ) (loop : Option (List �
       (agree-on p w.store.tree _ (live-created w.store.tree (made name home is.number is.kind)) w.store.bindings (typed-made p w.store.tree name is.number home is.kind is.may.is is.may.begins agree.typed) agree)
 
   -- an initial value isn't of its property's type
-  halted-ill : {natives : NativeAnswers} {d number : ℕ} {kind : MetaObject} → Ready w → IsFree w.store.tree name → IsClassNamed p class number → IsClass p number kind → length w.store.tree < most_objects → (¬ BeginsWell p w.store.tree number kind) → Halted p natives d w (New name class loop) w BadType
+  halted-ill : {natives : NativeAnswers} {d number : ℕ} {kind : MetaObject} → Ready w → IsFree w.store.tree name → IsClassNamed p class number → IsClass p number kind → length w.store.tree < most_objects → (¬ BeginsWell p w.store.tree number kind) → Halts p natives d w (New name class loop ∷ []) BadType w
   halted-ill {number = number} {kind = kind} some free named is room ill =
       let after : State = record (accepted (at w [])) { objects = w.store.tree ++ made name home number kind ∷ [] } in
       let not_well : IsWell p (at w []) after → ⊥ = λ well.
@@ -62,11 +63,11 @@ module _ (p : Loaded) (w : World) (name class : List ℕ) (loop : Option (List �
       record {
         stack = [];
         front = record { taken = []; rest = New name class loop ∷ []; split = refl; answers = []; runs = none-yet };
-        reason = (some.some, inr (inr (record { t = after; follows = by_event (accepts (idle w some.no_turn) (creates free named is room)); ill = not_well })));
+        cause = brings some.some (goes_ill (record { t = after; follows = by_event (accepts (idle w some.no_turn) (creates free named is room)); ill = not_well }));
       }
 
   -- no object is created
-  pub not-created : (natives : NativeAnswers) (d : ℕ) {f : CreateFault} → Ready w → IsNotCreated p w.store.tree name class f → MatchResult (creation_reason f) (λ k. create p (at w []) name class loop (Err k)) (λ g. Halted p natives d w (New name class loop) w g)
+  pub not-created : (natives : NativeAnswers) (d : ℕ) {f : CreateFault} → Ready w → IsNotCreated p w.store.tree name class f → MatchResult (creation_reason f) (λ k. create p (at w []) name class loop (Err k)) (λ g. Halts p natives d w (New name class loop ∷ []) g w)
   not-created natives d some (name_used is) = ends (fails (λ free. free _ is.named))
   not-created natives d some (no_class free none) = goes_on tt (holds free) (ends (missing (λ c is. none c.number (record { class = c.it; is = is.is; named = is.named }))))
   not-created natives d some (too_many {c = c} free named many) =
@@ -74,14 +75,14 @@ module _ (p : Loaded) (w : World) (name class : List ℕ) (loop : Option (List �
   not-created natives d some (bad_type free named is room ill) = halted-ill some free named is room ill
   not-created natives d some no_memory = halted-short (New name class loop) some
 
-  pub creation-stops : {natives : NativeAnswers} (d : ℕ) {f : CreateFault} {g : Fault} → Ready w → IsNotCreated p w.store.tree name class f → Err g ≡ creation_reason f → Halted p natives d w (New name class loop) w g
+  pub creation-stops : {natives : NativeAnswers} (d : ℕ) {f : CreateFault} {g : Fault} → Ready w → IsNotCreated p w.store.tree name class f → Err g ≡ creation_reason f → Halts p natives d w (New name class loop ∷ []) g w
   creation-stops {natives = natives} d some is e =
-      let Decides : Result Refusal Fault → Type 0 = λ r. MatchResult r (λ k. create p (at w []) name class loop (Err k)) (λ h. Halted p natives d w (New name class loop) w h) in
+      let Decides : Result Refusal Fault → Type 0 = λ r. MatchResult r (λ k. create p (at w []) name class loop (Err k)) (λ h. Halts p natives d w (New name class loop ∷ []) h w) in
       subst Decides (sym e) (not-created natives d some is)
 
   pub creation-refuses : {f : CreateFault} {k : Refusal} → Ready w → IsNotCreated p w.store.tree name class f → Ok k ≡ creation_reason f → create p (at w []) name class loop (Err k)
   creation-refuses some is e =
-      let Decides : Result Refusal Fault → Type 0 = λ r. MatchResult r (λ k. create p (at w []) name class loop (Err k)) (λ h. Halted p no_natives 0 w (New name class loop) w h) in
+      let Decides : Result Refusal Fault → Type 0 = λ r. MatchResult r (λ k. create p (at w []) name class loop (Err k)) (λ h. Halts p no_natives 0 w (New name class loop ∷ []) h w) in
       subst Decides (sym e) (not-created no_natives 0 some is)
 
 -- there is no such loop

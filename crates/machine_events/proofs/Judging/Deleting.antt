@@ -1,8 +1,8 @@
 -- `delete` and `later`.
-use Rattle.std.proofs.Common.{◌≡◌, ℕ, ◌<◌, Bool, true, false, List, [], ◌∷◌, Some, Result, Ok, MatchResult, refl, sym, ap, ◌∙◌, subst, arith}
+use Rattle.std.proofs.Common.{◌≡◌, ℕ, ◌<◌, Bool, true, false, List, [], ◌∷◌, Some, Result, Ok, MatchResult, refl, sym, ap, ◌∙◌, subst, arith, Option}
 use Rattle.meta_model.specs.Loaded.{Loaded}
 use Rattle.delete_later.specs.declared.store.Store.{Store}
-use Rattle.delete_later.specs.Scheduling.{deferred_to, scheduled_in}
+use Rattle.delete_later.specs.Scheduling.{deferred_to, scheduled_in, scheduled_with}
 use Rattle.event_loops.specs.Queues.{HasName}
 use Rattle.object_tree.specs.declared.life.Life.{Life}
 use Rattle.object_tree.specs.Objects.{change_life, scheduled}
@@ -21,18 +21,21 @@ use Rattle.machine_state.specs.State.{State, Activation, Destroy}
 use Rattle.machine_state.specs.Worlds.{at, store_of, with_store, with_scheduled, accepting, accepting_schedule}
 use Rattle.machine_state.proofs.Deferring.{scheduled-now}
 use Rattle.machine_rules.specs.Natives.{NativeAnswers}
-use Rattle.machine_rules.specs.Destroying.{deferred, DefersOnce}
+use Rattle.machine_rules.specs.Destroying.{scheduled_now}
 use Rattle.machine_rules.specs.Judgement.{Numbered, becomes, gives, goes_on}
 use Rattle.machine_rules.specs.code.Reaches.{RunsTo}
 use Rattle.machine_rules.specs.code.Sound.{IsSoundWorld}
 use Rattle.machine_events.specs.declared.judgement.NotAccepted.{NotAccepted}
 use Rattle.machine_events.specs.code.Judgement.{IsNotAccepted, IsLiving}
 use Rattle.machine_events.specs.Takes.{judged, accepts}
-use Rattle.machine_events.specs.code.Taking.{Took, Halted}
+use Rattle.machine_events.specs.code.Taking.{Took}
 use Rattle.machine_events.specs.Events.{living}
 use Rattle.machine_events.proofs.Judged.{then-ends}
 use Rattle.machine_events.proofs.Judging.Naming.{living-ok}
-use Rattle.machine_events.proofs.Taken.{idle, Ready, good-pushed, took-run, took-quiet}
+use Rattle.machine_events.proofs.Taken.{idle, Ready, good-pushed, took-quiet}
+use Rattle.machine_rules.proofs.Scheduling.{schedules-before}
+use Rattle.machine_events.specs.Causes.{Halts}
+use Rattle.machine_events.proofs.Stopping.{took-run}
 
 -- what an event that is accepted leaves is sound
 pub sound-accepted : {p : Loaded} {v : World} (w : World) → IsSoundWorld p w → v ≡ accepting w → IsSoundWorld p v
@@ -58,22 +61,20 @@ module _ (p : Loaded) (w : World) (name : List ℕ) where
     deletes = goes_on o (living-ok o lives) gives
 
     -- the deletion begins, and is carried to its end, or stops on the way
-    pub deleted : {natives : NativeAnswers} {d : ℕ} {m v : World} {r : Result (Unit {0}) Fault} → Agree p w.store.tree w.store.bindings → Ready w → 0 < d → m ≡ accepting w → RunsTo p natives d [] m (Destroy (Some o.number) [] ∷ []) v [] r →
-        MatchResult r (λ _. Took p natives d w (Delete name) v (Ok answer.Done)) (λ f. Halted p natives d w (Delete name) v f)
-    deleted {m = m} agree some room m_is ends =
+    pub deleted : {natives : NativeAnswers} {d : ℕ} {m v : World} {r : Result (Unit {0}) Fault} → IsSoundWorld p w → Ready w → 0 < d → m ≡ accepting w → RunsTo p natives d [] m (Destroy (Some o.number) [] ∷ []) v [] r →
+        MatchResult r (λ _. Took p natives d w (Delete name) v (Ok answer.Done)) (λ f. Halts p natives d w (Delete name ∷ []) f v)
+    deleted {m = m} sound some room m_is ends =
         let Effect : World → Type 0 = λ z. judged p (at w []) (Delete name) (Ok (at z deletion)) in
         let Agrees : World → Type 0 = λ z. Agree p z.store.tree z.store.bindings in
         let effect : judged p (at w []) (Delete name) (Ok (at m deletion)) = subst Effect (sym m_is) deletes in
-        took-run (Delete name) (accepts (idle w some.no_turn) effect) (good-pushed w m (subst Agrees (sym m_is) agree) tt (omega (arith, room))) some.some
+        took-run (Delete name) sound (accepts (idle w some.no_turn) effect) (good-pushed w m (subst Agrees (sym m_is) sound.is.agree) tt (omega (arith, room))) some.some
         (ap (λ (z : World). z.left) m_is) (ap (λ (z : World). z.turn) m_is ∙ some.no_turn) ends
 
     -- ---- `later`
 
     -- the object is scheduled already
     again : o.it.scheduled ≡ true → judged p (at w []) (Later name) (Ok (accepted (at w [])))
-    again marked =
-        let Once : Bool → Type 0 = λ b. DefersOnce (accepted (at w [])) [] o.it.home o.number (accepted (at w [])) b in
-        goes_on o (living-ok o lives) (becomes (subst Once (sym marked) refl))
+    again marked = goes_on o (living-ok o lives) (becomes (schedules-before marked))
 
     pub later-again : {natives : NativeAnswers} {d : ℕ} {v : World} → o.it.scheduled ≡ true → Agree p w.store.tree w.store.bindings → Ready w → v ≡ accepting w → Took p natives d w (Later name) v (Ok answer.Done)
     later-again marked agree some v_is = took-quiet (accepted (at w [])) (Later name) (again marked) refl agree some some.no_turn v_is
@@ -91,9 +92,8 @@ module _ (p : Loaded) (w : World) (name : List ℕ) where
 
       once : judged p (at w []) (Later name) (Ok (with_scheduled noted o.number))
       once =
-          let Once : Bool → Type 0 = λ b. DefersOnce (accepted (at w [])) [] o.it.home o.number (with_scheduled noted o.number) b in
-          let put : with_scheduled noted o.number ≡ deferred (accepted (at w [])) [] loop o.it.home o.number name = ap (λ (store : Store). with_store noted store) now in
-          goes_on o (living-ok o lives) (becomes (subst Once (sym unmarked) (record { loop = loop; is_loop = is_loop; name = name; named = lives.named.named; gives = put })))
+          let state_of : Option Life → State = λ life. with_store noted (scheduled_with life o.number (store_of noted)) in
+          goes_on o (living-ok o lives) (becomes (record { lines = entry ∷ []; told = scheduled_now unmarked is_loop lives.named.named; gives = ap state_of lives.lives }))
 
       pub later-once : {natives : NativeAnswers} {d : ℕ} {v : World} → Agree p w.store.tree w.store.bindings → Ready w → v ≡ accepting_schedule w (At 0 (Scheduled loop name) ∷ []) o.number → Took p natives d w (Later name) v (Ok answer.Done)
       later-once agree some v_is =

@@ -1,5 +1,5 @@
 -- What the machine's code does with an event (docs/machine.md, "Events").
-use Rattle.std.specs.Prelude.{◌≡◌, ℕ, ◌+◌, ◌<◌, ◌^◌, ◌⊎◌, Bool, true, false, List, [], ◌∷◌, length, Result, Ok, Err}
+use Rattle.std.specs.Prelude.{◌≡◌, ℕ, ◌+◌, ◌<◌, ◌^◌, Bool, true, false, List, [], ◌∷◌, length, Result, Ok, Err}
 use Rattle.signatures.specs.declared.value.Value.{Value}
 use Rattle.meta_model.specs.declared.site.MetaSite.{MetaSite}
 use Rattle.meta_model.specs.Loaded.{Loaded}
@@ -24,13 +24,11 @@ use Rattle.machine_state.specs.declared.refusal.Refusal.{Refusal}
 use Rattle.machine_state.specs.declared.refusal.Refusal.TheVariants.{NameUsed, NoClass, TooManyObjects, NotOwned, Cycle, OtherLoop, BadSource}
 use Rattle.machine_state.specs.declared.world.World.{World}
 use Rattle.machine_state.specs.Accepting.{accepted}
-use Rattle.machine_state.specs.State.{State, Activation}
+use Rattle.machine_state.specs.State.{State}
 use Rattle.machine_state.specs.Worlds.{at, with_connection, without_connections, Rejects}
 use Rattle.machine_rules.specs.declared.interpreter.Interpreter.{Interpreter}
-use Rattle.machine_rules.specs.Faults.{Reason}
 use Rattle.machine_rules.specs.Judgement.{numbered}
 use Rattle.machine_rules.specs.Natives.{NativeAnswers}
-use Rattle.machine_rules.specs.code.Going.{IsStuck}
 use Rattle.machine_rules.specs.Rules.{Begins}
 use Rattle.machine_rules.specs.Settling.{Writes}
 use Rattle.machine_rules.specs.code.Sound.{IsSoundWorld}
@@ -38,8 +36,7 @@ use Rattle.machine_events.specs.declared.events.invoke.Invocation.{Invocation}
 use Rattle.machine_events.specs.declared.events.invoke.Invocation.TheVariants.{Emit, Call}
 use Rattle.machine_events.specs.declared.judgement.NotAccepted.{NotAccepted}
 use Rattle.machine_events.specs.declared.judgement.NotAccepted.TheVariants as reason
-use Rattle.machine_events.specs.Causes.{BindsIll, BindsLoop}
-use Rattle.machine_events.specs.Runs.{RunsWhole, RunsFront, Follows, IsDue}
+use Rattle.machine_events.specs.Causes.{Completes, Halts}
 use Rattle.machine_events.specs.Takes.{judged, IsRefusedAs}
 use Rattle.machine_events.specs.Events.{IsSiteOf, connect, disconnect, all_living}
 use Rattle.machine_events.specs.code.Judgement.{IsLiving}
@@ -49,26 +46,15 @@ pub record WorldInvariant (p : Loaded) (w : World) : Type 0 where
   pub sound : IsSoundWorld p w
   pub events : w.events + w.left < 2 ^ 63
 
--- why a run stops in a state, with these events left
-abbrev pub RunStops : Loaded → NativeAnswers → ℕ → State → ℕ → List Event → Fault → Type 0
-RunStops p natives depth s left events fault =
-    Reason (IsStuck p natives s ⊎ BindsIll p s events) (BindsLoop p s events) (λ t. Follows p natives s t events) (IsDue s events)
-    p depth s left fault
-
--- the machine stopped before or after it took the event
-pub record Halted (p : Loaded) (natives : NativeAnswers) (depth : ℕ) (w : World) (e : Event) (v : World) (f : Fault) : Type 0 where
-  pub stack : List Activation
-  pub front : RunsFront p natives depth (at w []) w.left (e ∷ []) (at v stack) v.left
-  pub reason : RunStops p natives depth (at v stack) v.left front.rest f
-
+-- the event is refused for the reason of the answer's number, and only its line is written
 abbrev pub SaysWhy : Loaded → World → Event → World → Answer → Type 0
 SaysWhy p w e v answer.Done = Unit {0}
 SaysWhy p w e v (answer.Refused n) = IsRefusedAs p w e n v
 
--- the event was taken with this answer, and the run went on to its end; or it stopped
+-- the event was taken with this answer, and the run went on to its end; or it stopped before or after that
 abbrev pub TookCases : Loaded → NativeAnswers → ℕ → World → Event → World → Result Answer Fault → Type 0
-TookCases p natives depth w e v (Ok a) = RunsWhole p natives depth (at w []) w.left (e ∷ []) (a ∷ []) (at v []) v.left × SaysWhy p w e v a
-TookCases p natives depth w e v (Err f) = Halted p natives depth w e v f
+TookCases p natives depth w e v (Ok a) = Completes p natives depth w (e ∷ []) (a ∷ []) v × SaysWhy p w e v a
+TookCases p natives depth w e v (Err f) = Halts p natives depth w (e ∷ []) f v
 
 pub record Took (p : Loaded) (natives : NativeAnswers) (depth : ℕ) (w : World) (e : Event) (v : World) (result : Result Answer Fault) : Type 0 where
   pub cases : TookCases p natives depth w e v result

@@ -23,7 +23,8 @@ pub fn adopt<N: Answering>(
     requires left { 0 < world.old.left }
     requires idle { world.old.turn ≡ None }
     requires keeps { WorldInvariant interpreter.now.meta world.old }
-    ensures { Answers N.gives interpreter.now (Adopt parent.now child.now) world.old world.new result }
+    ensures { Answers N.gives interpreter.now (Adopt parent.now child.now)
+        world.old world.new result }
 {
     let parent = match find_living(world, parent) {
         Ok((number, _)) => ObjectId::new(number),

@@ -5,7 +5,7 @@ ghost use Rattle.script_lang.specs.declared.event.Event.TheVariants.{Set};
 ghost use Rattle.prop_bindings.specs.Fits.{FitsAt};
 ghost use Rattle.machine_state.specs.Worlds.{at};
 ghost use Rattle.machine_rules.specs.Judgement.{NothingIs, numbered};
-ghost use Rattle.native_slots.specs.Promises.{Promises};
+ghost use Rattle.machine_rules.specs.Natives.{KeepPromises};
 ghost use Rattle.machine_events.specs.code.Judgement.{IsNotAccepted};
 ghost use Rattle.machine_events.specs.code.Taking.{WorldInvariant, Answers, WritesTo};
 ghost use Rattle.machine_events.specs.Events.{assign, IsPropertyOf};
@@ -38,7 +38,7 @@ pub fn assign<N: Answering>(
     input: &Input,
 ) -> Result<Answer, Fault>
     requires depth { 0 < interpreter.now.depth }
-    requires promises { Promises interpreter.now.meta (N.takes interpreter.now.natives) (N.gives interpreter.now.natives) }
+    requires promises { KeepPromises N.takes N.gives interpreter.now.meta interpreter.now.natives }
     requires left { 0 < world.old.left }
     requires idle { world.old.turn ≡ None }
     requires keeps { WorldInvariant interpreter.now.meta world.old }
@@ -61,7 +61,8 @@ fn judge<N: Answering>(
 ) -> Result<Assignment, NotAccepted>
     ensures accepted { IfOk result (λ a. WritesTo interpreter.now.meta world.now
         a.place.object a.place.property a.value (Set name.now property.now input.now)) }
-    ensures fits { IfOk result (λ a. FitsAt interpreter.now.meta world.now.store.tree a.place a.value) }
+    ensures fits { IfOk result
+        (λ a. FitsAt interpreter.now.meta world.now.store.tree a.place a.value) }
     ensures refused { IfErr result (IsNotAccepted
         (assign interpreter.now.meta (at world.now []) name.now property.now input.now)) }
 {
@@ -106,7 +107,7 @@ fn write<N: Answering>(
     value: Value,
 ) -> Result<Answer, Fault>
     requires depth { 0 < interpreter.now.depth }
-    requires promises { Promises interpreter.now.meta (N.takes interpreter.now.natives) (N.gives interpreter.now.natives) }
+    requires promises { KeepPromises N.takes N.gives interpreter.now.meta interpreter.now.natives }
     requires left { 0 < world.old.left }
     requires idle { world.old.turn ≡ None }
     requires keeps { WorldInvariant interpreter.now.meta world.old }

@@ -3,7 +3,7 @@
 ghost use Rattle.std.specs.Prelude.{◌≡◌, ℕ, ◌<◌, List, [], IfOk, IfErr, None};
 ghost use Rattle.script_lang.specs.declared.event.Event.TheVariants.{Bind};
 ghost use Rattle.machine_state.specs.Worlds.{at};
-ghost use Rattle.native_slots.specs.Promises.{Promises};
+ghost use Rattle.machine_rules.specs.Natives.{KeepPromises};
 ghost use Rattle.machine_events.specs.code.Judgement.{IsNotAccepted};
 ghost use Rattle.machine_events.specs.code.Taking.{WorldInvariant, Answers, AsksToBind, binding_reason};
 ghost use Rattle.machine_events.specs.Events.{may_bind};
@@ -34,7 +34,7 @@ pub fn bind<N: Answering>(
     sources: &[Name],
 ) -> Result<Answer, Fault>
     requires depth { 0 < interpreter.now.depth }
-    requires promises { Promises interpreter.now.meta (N.takes interpreter.now.natives) (N.gives interpreter.now.natives) }
+    requires promises { KeepPromises N.takes N.gives interpreter.now.meta interpreter.now.natives }
     requires left { 0 < world.old.left }
     requires idle { world.old.turn ≡ None }
     requires keeps { WorldInvariant interpreter.now.meta world.old }
@@ -86,7 +86,7 @@ fn install<N: Answering>(
     asked: &Asked,
 ) -> Result<Answer, Fault>
     requires depth { 0 < interpreter.now.depth }
-    requires promises { Promises interpreter.now.meta (N.takes interpreter.now.natives) (N.gives interpreter.now.natives) }
+    requires promises { KeepPromises N.takes N.gives interpreter.now.meta interpreter.now.natives }
     requires left { 0 < world.old.left }
     requires idle { world.old.turn ≡ None }
     requires keeps { WorldInvariant interpreter.now.meta world.old }

@@ -25,7 +25,8 @@ pub fn create<N: Answering>(
     requires left { 0 < world.old.left }
     requires idle { world.old.turn ≡ None }
     requires keeps { WorldInvariant interpreter.now.meta world.old }
-    ensures { Answers N.gives interpreter.now (New name.now class.now home.now) world.old world.new result }
+    ensures { Answers N.gives interpreter.now (New name.now class.now home.now)
+        world.old world.new result }
 {
     let Some(home) = home_of(world, home) else {
         let refusal = refusal_without_loop(interpreter, world, name, class);

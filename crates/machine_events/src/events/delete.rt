@@ -2,7 +2,7 @@
 
 ghost use Rattle.std.specs.Prelude.{◌<◌, ◌≡◌, None};
 ghost use Rattle.script_lang.specs.declared.event.Event.TheVariants.{Delete};
-ghost use Rattle.native_slots.specs.Promises.{Promises};
+ghost use Rattle.machine_rules.specs.Natives.{KeepPromises};
 ghost use Rattle.machine_events.specs.code.Taking.{WorldInvariant, Answers};
 
 use crate::events::named::find_living;
@@ -19,7 +19,7 @@ pub fn delete<N: Answering>(
     name: &Name,
 ) -> Result<Answer, Fault>
     requires depth { 0 < interpreter.now.depth }
-    requires promises { Promises interpreter.now.meta (N.takes interpreter.now.natives) (N.gives interpreter.now.natives) }
+    requires promises { KeepPromises N.takes N.gives interpreter.now.meta interpreter.now.natives }
     requires left { 0 < world.old.left }
     requires idle { world.old.turn ≡ None }
     requires keeps { WorldInvariant interpreter.now.meta world.old }

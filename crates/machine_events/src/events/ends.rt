@@ -21,7 +21,8 @@ pub fn find_ends<N: Answering>(
     world: &World,
     named: &texts::Endpoints<Name>,
 ) -> Result<FoundEnds, NotAccepted>
-    ensures found { IfOk result (λ f. FindsEnds interpreter.now.meta world.now.store.tree named.now f) }
+    ensures found { IfOk result
+        (λ f. FindsEnds interpreter.now.meta world.now.store.tree named.now f) }
     ensures refused { IfErr result (IsNotAccepted
         (find_ends interpreter.now.meta world.now.store.tree named.now)) }
 {

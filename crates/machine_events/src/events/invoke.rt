@@ -5,7 +5,7 @@ ghost use Rattle.machine_state.specs.Worlds.{at};
 ghost use Rattle.machine_rules.specs.code.Reaches.{CallFits};
 ghost use Rattle.machine_rules.specs.Good.{ArgumentsFit};
 ghost use Rattle.machine_rules.specs.Judgement.{NothingIs, numbered};
-ghost use Rattle.native_slots.specs.Promises.{Promises};
+ghost use Rattle.machine_rules.specs.Natives.{KeepPromises};
 ghost use Rattle.machine_events.specs.code.Judgement.{IsNotAccepted};
 ghost use Rattle.machine_events.specs.code.Taking.{WorldInvariant, Answers, AsksFor, invoking};
 ghost use Rattle.machine_events.specs.Events.{invoke, May, IsAskedOf};
@@ -62,7 +62,7 @@ pub fn invoke<N: Answering>(
     inputs: &[Input],
 ) -> Result<Answer, Fault>
     requires depth { 0 < interpreter.now.depth }
-    requires promises { Promises interpreter.now.meta (N.takes interpreter.now.natives) (N.gives interpreter.now.natives) }
+    requires promises { KeepPromises N.takes N.gives interpreter.now.meta interpreter.now.natives }
     requires left { 0 < world.old.left }
     requires idle { world.old.turn ≡ None }
     requires keeps { WorldInvariant interpreter.now.meta world.old }
@@ -162,13 +162,14 @@ fn begin<N: Answering>(
     call: &MethodCall<'_>,
 ) -> Result<Answer, Fault>
     requires depth { 0 < interpreter.now.depth }
-    requires promises { Promises interpreter.now.meta (N.takes interpreter.now.natives) (N.gives interpreter.now.natives) }
+    requires promises { KeepPromises N.takes N.gives interpreter.now.meta interpreter.now.natives }
     requires left { 0 < world.old.left }
     requires idle { world.old.turn ≡ None }
     requires keeps { WorldInvariant interpreter.now.meta world.old }
     requires fit { CallFits interpreter.now.meta world.old.store.tree call.now }
     ensures { (e : AnEvent) →
-        AsksFor interpreter.now.meta world.old call.now.object call.now.method call.now.arguments.now e →
+        AsksFor interpreter.now.meta world.old
+        call.now.object call.now.method call.now.arguments.now e →
         Answers N.gives interpreter.now e world.old world.new result }
 {
     let below = Active::nothing();

@@ -14,7 +14,8 @@ use std::alloc::Global;
 
 /// The number of the living object of this name, and its life.
 pub fn find_living<'w>(world: &'w World, name: &Name) -> Result<(usize, &'w Life), NotAccepted>
-    ensures found { IfOk result (λ f. IsLiving world.now.store.tree name.now (numbered f.0 f.1.now)) }
+    ensures found { IfOk result
+        (λ f. IsLiving world.now.store.tree name.now (numbered f.0 f.1.now)) }
     ensures refused { IfErr result (IsNotAccepted (living world.now.store.tree name.now)) }
 {
     let Some(number) = world.find(name) else {
@@ -32,7 +33,8 @@ pub fn find_all_living(
     world: &World,
     names: &[Name],
 ) -> Result<Items<ObjectId>, NotAccepted>
-    ensures found { IfOk result (λ objects. all_living world.now.store.tree names.now (Ok objects)) }
+    ensures found { IfOk result
+        (λ objects. all_living world.now.store.tree names.now (Ok objects)) }
     ensures refused { IfErr result (IsNotAccepted (all_living world.now.store.tree names.now)) }
 {
     let mut objects = Items::new(alloc);

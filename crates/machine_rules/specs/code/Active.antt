@@ -1,25 +1,12 @@
 -- What the code sees of a stack: of each activation, the object whose body it is (docs/machine.md, "The state").
-use Rattle.std.specs.Prelude.{ℕ, List, [], ◌∷◌, Option, None, Some, Bool}
+use Rattle.std.specs.Prelude.{ℕ, List, [], ◌∷◌, Option, Bool}
 use Rattle.std.specs.List.{list_any}
 use Rattle.object_tree.specs.Forest.{is_the}
-use Rattle.machine_state.specs.State.{Activation, Body, Emit, Update, Destroy}
 use Rattle.machine_rules.specs.declared.active.Frame.{Frame}
 use Rattle.machine_rules.specs.declared.active.Frame.TheFolds.{fold-Frame}
 use Rattle.machine_rules.specs.declared.active.Frame.TheOpen as frame
 
--- the object whose body an activation is
-abbrev pub whose : Activation → Option ℕ
-whose (Body o m arguments left) = Some o
-whose (Emit o g arguments used last) = None
-whose (Update places) = None
-whose (Destroy next torn) = None
-
--- .. of each of a stack
-abbrev pub shows : List Activation → List (Option ℕ)
-shows [] = []
-shows (a ∷ below) = whose a ∷ shows below
-
--- some of these is a body of the object
+-- some of these is a body of the object (`has_body` of a stack that shows them)
 abbrev pub shows_body : ℕ → List (Option ℕ) → Bool
 shows_body o shown = list_any (is_the o) shown
 

@@ -11,13 +11,13 @@ use Rattle.machine_state.specs.Worlds.{having_used}
 use Rattle.meta_model.specs.declared.effects.MetaEffects.{MetaEffects}
 use Rattle.native_slots.specs.declared.action.Action.{Action}
 use Rattle.machine_state.specs.State.{Step, Run, Act, Activation, Body, Emit, Update, Destroy}
-use Rattle.machine_rules.specs.code.Active.{shows}
 use Rattle.machine_rules.specs.Operations.{Operation, operation_of_step}
 use Rattle.machine_rules.specs.code.Reaches.{RunsTo, Advances, CallsIn, Calls, OnlyCalls, Sets, Deletes, Kills}
 use Rattle.machine_rules.specs.declared.method_call.MethodCall.{MethodCall}
 use Rattle.prop_bindings.specs.declared.place.Place.{Place}
 use Rattle.machine_rules.specs.Natives.{NativeAnswers}
 use Rattle.meta_model.specs.Loaded.{Loaded}
+use Rattle.machine_rules.specs.Good.{shows}
 
 -- one activation on top of the stack leads to another
 abbrev pub Leads : Loaded → NativeAnswers → ℕ → List (Option ℕ) → Activation → Activation → World → World → Result (Unit {0}) Fault → Type 0

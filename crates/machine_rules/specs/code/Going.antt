@@ -1,12 +1,13 @@
 -- Rules that the code carries out, one after the other, and why it stops (docs/machine.md, "Runs").
-use Rattle.std.specs.Prelude.{ℕ, suc}
+use Rattle.std.specs.Prelude.{◌≡◌, ℕ, suc, ◌<◌, ◌⊎◌}
 use Rattle.signatures.specs.declared.value.Value.{Value}
 use Rattle.meta_model.specs.declared.effects.MetaEffects.{MetaEffects}
 use Rattle.meta_model.specs.Loaded.{Loaded}
 use Rattle.machine_state.specs.declared.fault.Fault.{Fault}
+use Rattle.machine_state.specs.declared.fault.Fault.TheVariants.{BadType, TooDeep, BindingLoop, InUse, Steps, Memory, Stopped}
 use Rattle.machine_state.specs.State.{State, IsIdle}
 use Rattle.machine_rules.specs.Operations.{TakeAnswer}
-use Rattle.machine_rules.specs.Faults.{DoesNext, WritesNext, Reason}
+use Rattle.machine_rules.specs.Faults.{DoesNext, WritesNext, WritesIll, WritesDeep, GoesIll, GoesFatal, GoesDeep}
 use Rattle.machine_rules.specs.Good.{IsGood}
 use Rattle.machine_rules.specs.Natives.{NativeAnswers}
 use Rattle.machine_rules.specs.Rules.{Rule}
@@ -27,7 +28,16 @@ pub record IsStuck (p : Loaded) (natives : NativeAnswers) (s : State) : Type 0 w
   pub lacks : (o q : ℕ) (new : Value) → WritesNext s o q new → LacksField p s.objects o q
   pub asks_none : (effects : MetaEffects) → ¬ DoesNext s (TakeAnswer effects)
 
--- why rules stop in a state: none of them binds a property
+-- Why rules stop in a state, none of which binds a property: nothing follows, or what follows would give a value of a wrong
+-- type; an object would die while a body of it is active; activations would nest too deep; no rule is left where one is due;
+-- memory was refused where a rule is due.
 abbrev pub RulesStop : Loaded → NativeAnswers → ℕ → State → ℕ → Fault → Type 0
-RulesStop p natives depth s left fault =
-    Reason (IsStuck p natives s) ⊥ (λ t. Rule p natives s t) (¬ IsIdle s) p depth s left fault
+RulesStop p natives depth s left BadType =
+    (0 < left) × (IsStuck p natives s ⊎ (WritesIll p s ⊎ GoesIll p s (λ t. Rule p natives s t)))
+RulesStop p natives depth s left InUse = (0 < left) × GoesFatal p s (λ t. Rule p natives s t)
+RulesStop p natives depth s left TooDeep =
+    (0 < left) × (WritesDeep p depth s ⊎ GoesDeep p depth s (λ t. Rule p natives s t))
+RulesStop p natives depth s left Steps = (left ≡ 0) × (¬ IsIdle s)
+RulesStop p natives depth s left Memory = (0 < left) × (¬ IsIdle s)
+RulesStop p natives depth s left BindingLoop = ⊥
+RulesStop p natives depth s left Stopped = ⊥

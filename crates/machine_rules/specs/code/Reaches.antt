@@ -5,7 +5,6 @@ use Rattle.signatures.specs.declared.value.Value.{Value}
 use Rattle.signatures.specs.declared.value.Value.TheVariants as value
 use Rattle.meta_model.specs.declared.object.MetaMethod.{MetaMethod}
 use Rattle.meta_model.specs.declared.object.Work.{Work}
-use Rattle.meta_model.specs.declared.object.Work.TheVariants.{Signal, Slot, Native}
 use Rattle.expressions.specs.declared.evaluation.EvalFault.{EvalFault}
 use Rattle.expressions.specs.declared.evaluation.EvalFault.TheVariants.{BadType, Memory as NoMemory}
 use Rattle.connections.specs.declared.connection.Connection.{Connection}
@@ -17,13 +16,12 @@ use Rattle.std.specs.List.{find}
 use Rattle.machine_state.specs.declared.entry.Entry.{Entry}
 use Rattle.machine_state.specs.declared.entry.Entry.TheVariants.{At}
 use Rattle.machine_state.specs.declared.entry.EntryKind.TheVariants as entry_kind
-use Rattle.machine_state.specs.declared.entry.Shown.{Shown}
 use Rattle.object_tree.specs.declared.object.Object.{Object}
 use Rattle.machine_state.specs.declared.fault.Fault.{Fault}
 use Rattle.machine_state.specs.declared.fault.Fault.TheVariants.{BadType as IllTyped, TooDeep, Steps, Memory}
 use Rattle.machine_state.specs.declared.world.World.{World}
-use Rattle.machine_state.specs.Connections.{is_silent, is_living}
-use Rattle.machine_state.specs.State.{Run, Ask, State, Activation, Body, Emit, Destroy, IsIdle}
+use Rattle.machine_state.specs.Connections.{is_living}
+use Rattle.machine_state.specs.State.{State, Activation, Destroy, IsIdle}
 use Rattle.machine_state.specs.Objects.{all_shown}
 use Rattle.texts.specs.declared.connection.ConnectionType.{ConnectionType}
 use Rattle.texts.specs.declared.connection.Endpoints.{Endpoints as Named}
@@ -31,10 +29,10 @@ use Rattle.machine_state.specs.declared.endpoints.Endpoints.{Endpoints}
 use Rattle.machine_state.specs.declared.refusal.Refusal.{Refusal}
 use Rattle.machine_rules.specs.Connecting.{AreThere, may_connect, found_ends, names_of}
 use Rattle.machine_rules.specs.declared.method_call.MethodCall.{MethodCall}
-use Rattle.machine_rules.specs.Good.{ArgumentsFit}
+use Rattle.machine_rules.specs.Good.{ArgumentsFit, shows}
 use Rattle.machine_rules.specs.Natives.{NativeAnswers}
 use Rattle.machine_rules.specs.Operations.{Operation, Begin}
-use Rattle.machine_rules.specs.Rules.{Rule, Begins, Connects, Disconnects}
+use Rattle.machine_rules.specs.Rules.{Rule, Begins, Connects, Disconnects, begin_entry}
 use Rattle.machine_rules.specs.Settling.{Writes}
 use Rattle.meta_model.specs.Outlines.{destroyed}
 use Rattle.object_tree.specs.Objects.{life_of, home_of}
@@ -42,7 +40,6 @@ use Rattle.prop_bindings.specs.Fits.{Agree}
 use Rattle.machine_state.specs.declared.entry.Shown.TheVariants as show
 use Rattle.machine_rules.specs.Destroying.{deleting, Dies, Schedules}
 use Rattle.machine_rules.specs.There.{IsMember, NoneDied}
-use Rattle.machine_rules.specs.code.Active.{shows}
 use Rattle.machine_rules.specs.Faults.{DoesNext, WritesNext}
 use Rattle.machine_rules.specs.code.Going.{GoodRules, RulesStop}
 use Rattle.machine_state.specs.Worlds.{at, having_used, posting, taking, ending, GoesTo}
@@ -141,12 +138,6 @@ pub record Kills (p : Loaded) (natives : NativeAnswers) (w : World) (next : Opti
 abbrev pub CallFits : Loaded → List Object → MethodCall → Type 0
 CallFits p objects call = ArgumentsFit p objects call.object call.method call.arguments.now
 
--- the entry of a method that begins
-abbrev pub begin_entry : ℕ → Object → ℕ → List ℕ → List Shown → Work → Entry
-begin_entry depth x m method given Signal = At depth (entry_kind.Emitted x.name method given (is_silent x m))
-begin_entry depth x m method given (Slot statements) = At depth (entry_kind.Called x.name method given)
-begin_entry depth x m method given (Native effects) = At depth (entry_kind.Called x.name method given)
-
 -- the entry of a method of an object that begins with these arguments, where so many activations are on the stack
 abbrev pub entry_of_call : World → ℕ → Object → ℕ → MetaMethod → List Value → Entry
 entry_of_call w depth x m method arguments = begin_entry depth x m method.sig.name (all_shown w.store.tree arguments) method.work
@@ -172,12 +163,6 @@ pub record PostsCall (p : Loaded) (w : World) (depth : ℕ) (c : Connection) (o 
   pub is_loop : HasName w.store.loops.loops name home
   pub becomes :
       GoesTo w (posting (having_used w c) (entry_of_post w depth name object method arguments ∷ []) home (Call o m arguments)) v result
-
--- what is pushed where a method begins
-abbrev pub top_of : ℕ → ℕ → List Value → ℕ → Work → Activation
-top_of o m arguments last Signal = Emit o m arguments 0 last
-top_of o m arguments last (Slot statements) = Body o m arguments (map Run statements)
-top_of o m arguments last (Native effects) = Body o m arguments (Ask effects ∷ [])
 
 -- a living object's method does this
 pub record DoesWork (p : Loaded) (objects : List Object) (o m : ℕ) (work : Work) : Type 0 where

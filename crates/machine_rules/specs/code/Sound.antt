@@ -1,7 +1,7 @@
 -- What every machine keeps: properties have values of their types, bound ones those of their expressions, connections join
 -- methods that their objects have or had, what a connection calls takes the first arguments of its signal, each object
 -- lives in a loop that is there, and what waits in the loops may begin (docs/machine.md, "What every run keeps").
-use Rattle.std.specs.Prelude.{◌≡◌, ℕ, ◌+◌, ◌^◌, ◌<◌, List, ◌++◌, length, take, Some}
+use Rattle.std.specs.Prelude.{◌≡◌, ℕ, ◌+◌, ◌^◌, ◌<◌, List, ◌++◌, length, take, Some, ◌≢◌, ◌⊎◌}
 use Rattle.std.specs.List.{AllByRecursion}
 use Rattle.meta_model.specs.declared.object.MetaMethod.{MetaMethod}
 use Rattle.meta_model.specs.declared.object.ValueType.{ValueType}
@@ -21,7 +21,7 @@ use Rattle.object_tree.specs.Typed.{ReadAs}
 use Rattle.prop_bindings.specs.declared.binding.Binding.{Binding}
 use Rattle.prop_bindings.specs.Fits.{Agree}
 use Rattle.signatures.specs.declared.value.Value.{Value}
-use Rattle.machine_rules.specs.There.{IsMember}
+use Rattle.machine_rules.specs.There.{IsMember, IsDead}
 use Rattle.machine_rules.specs.Good.{destroyed_kinds}
 
 -- ---- methods of objects that may be dead by now
@@ -53,6 +53,20 @@ pub record SendsThese (p : Loaded) (objects : List Object) (o g : ℕ) (argument
   pub kinds : List ValueType
   pub sends : Sends p objects o g kinds
   pub typed : ReadAs p objects arguments kinds
+
+-- ---- emissions of objects that may be dead by now
+
+-- no connection leads from the object
+abbrev pub IsUnheard : ℕ → List Connection → Type 0
+IsUnheard o connections = AllByRecursion (λ (c : Connection). c.sender ≢ o) connections
+
+-- the signal is `destroyed`, or no connection leads from the object any more once it is dead
+abbrev pub MayBeHeard : List Object → List Connection → ℕ → ℕ → Type 0
+MayBeHeard objects connections o g = (g ≡ DESTROYED) ⊎ (IsDead objects o → IsUnheard o connections)
+
+-- .. in a world
+abbrev pub MayBeHeardIn : World → ℕ → ℕ → Type 0
+MayBeHeardIn w o g = MayBeHeard w.store.tree w.store.connections.connections o g
 
 -- ---- connections and items
 

@@ -16,11 +16,11 @@ returns-in_err-run_update g c = λ e writes.
     let has = c.in_ok-changed.ensures.value in
     let ends = rw (c.nothing.ensures, c.as_slice.ensures) at c.in_err-run_update.ensures.ends in
     took-stopped e _
-    (changed-run {r = Err c.in_err-run_update.field-0.0} has.lines _ e c.in_ok-changed.ensures.agree c.requires.depth (ready c.requires.left c.requires.idle) (judged-written c.args.world.now e writes c.requires.fits has) has.gives ends)
+    (changed-run {r = Err c.in_err-run_update.field-0.0} has.lines _ e c.requires.keeps.sound c.in_ok-changed.ensures.agree c.requires.depth (ready c.requires.left c.requires.idle) (judged-written c.args.world.now e writes c.requires.fits has) has.gives ends)
     c.from_residual-in_err-run_update.ensures.1
 
 pub returns : goal.returns
 returns g c = λ e writes.
     let has = c.in_ok-changed.ensures.value in
     let ends = rw (c.nothing.ensures, c.as_slice.ensures) at c.in_ok-run_update.ensures.ends in
-    changed-run {r = Ok tt} has.lines _ e c.in_ok-changed.ensures.agree c.requires.depth (ready c.requires.left c.requires.idle) (judged-written c.args.world.now e writes c.requires.fits has) has.gives ends
+    changed-run {r = Ok tt} has.lines _ e c.requires.keeps.sound c.in_ok-changed.ensures.agree c.requires.depth (ready c.requires.left c.requires.idle) (judged-written c.args.world.now e writes c.requires.fits has) has.gives ends

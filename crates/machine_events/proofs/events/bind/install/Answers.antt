@@ -14,14 +14,14 @@ returns-in_err-run_update-in-Ok g c = λ site target sources asks.
     let has = rw c.as_slice-sources.ensures at c.in-Ok.ensures.value in
     let ends = rw (c.nothing.ensures, c.as_slice.ensures) at c.in_err-run_update-in-Ok.ensures.ends in
     took-stopped _ _
-    (changed-run {r = Err c.in_err-run_update-in-Ok.field-0.0} has.lines _ _ c.in-Ok.ensures.agree c.requires.depth (ready c.requires.left c.requires.idle) (judged-bound asks _ has.binds.may (installed c.args.world.now has)) has.gives ends)
+    (changed-run {r = Err c.in_err-run_update-in-Ok.field-0.0} has.lines _ _ c.requires.keeps.sound c.in-Ok.ensures.agree c.requires.depth (ready c.requires.left c.requires.idle) (judged-bound asks _ has.binds.may (installed c.args.world.now has)) has.gives ends)
     c.from_residual.ensures.1
 
 pub returns-in_ok-run_update-in-Ok : goal.returns-in_ok-run_update-in-Ok
 returns-in_ok-run_update-in-Ok g c = λ site target sources asks.
     let has = rw c.as_slice-sources.ensures at c.in-Ok.ensures.value in
     let ends = rw (c.nothing.ensures, c.as_slice.ensures) at c.in_ok-run_update-in-Ok.ensures.ends in
-    changed-run {r = Ok tt} has.lines _ _ c.in-Ok.ensures.agree c.requires.depth (ready c.requires.left c.requires.idle) (judged-bound asks _ has.binds.may (installed c.args.world.now has)) has.gives ends
+    changed-run {r = Ok tt} has.lines _ _ c.requires.keeps.sound c.in-Ok.ensures.agree c.requires.depth (ready c.requires.left c.requires.idle) (judged-bound asks _ has.binds.may (installed c.args.world.now has)) has.gives ends
 
 pub returns-in_err-refusal-in-Err : goal.returns-in_err-refusal-in-Err
 returns-in_err-refusal-in-Err g c = λ site target sources asks.

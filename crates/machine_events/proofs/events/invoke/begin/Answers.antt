@@ -17,11 +17,11 @@ returns-in_err-run_callee g c = λ e asks.
     let is = rw c.nothing-below.ensures at c.in_ok-line.ensures.ok in
     let ends = rw c.nothing-below.ensures at c.in_err-run_callee.ensures.ends in
     took-stopped e _
-    (began {r = Err c.in_err-run_callee.field-0.0} e c.requires.keeps.sound.is.agree c.requires.fit (ready c.requires.left c.requires.idle) asks is c.in_ok-accept_with.ensures ends)
+    (began {r = Err c.in_err-run_callee.field-0.0} e c.requires.keeps.sound c.requires.fit (ready c.requires.left c.requires.idle) asks is c.in_ok-accept_with.ensures ends)
     c.from_residual-in_err-run_callee.ensures.1
 
 pub returns : goal.returns
 returns g c = λ e asks.
     let is = rw c.nothing-below.ensures at c.in_ok-line.ensures.ok in
     let ends = rw c.nothing-below.ensures at c.in_ok-run_callee.ensures.ends in
-    began {r = Ok tt} e c.requires.keeps.sound.is.agree c.requires.fit (ready c.requires.left c.requires.idle) asks is c.in_ok-accept_with.ensures ends
+    began {r = Ok tt} e c.requires.keeps.sound c.requires.fit (ready c.requires.left c.requires.idle) asks is c.in_ok-accept_with.ensures ends

@@ -1,4 +1,4 @@
-use Rattle.std.proofs.Common.{map, ◌≡◌, ◌∙◌, ℕ, false, List, [], ◌∷◌, length, refl, sym, ap, subst, arith, Option, Some, Ok}
+use Rattle.std.proofs.Common.{map, ◌≡◌, ◌∙◌, ℕ, false, List, [], ◌∷◌, length, refl, sym, ap, subst, arith, Option, Some, Ok, inl, inr}
 use Rattle.std.proofs.lemmas.Grind.{common_steps}
 use Rattle.signatures.specs.declared.value.Value.{Value}
 use Rattle.machine_state.specs.declared.world.World.{World}
@@ -18,14 +18,15 @@ use Rattle.machine_rules.proofs.Writes.{ends-written, stops-unwritten, may-fits}
 use Rattle.machine_rules.proofs.Notifying.{no-places, all-notified, all-may-still, announces-signal, dead-rule, announced-member, announced-value, announced-fits, announcement-calls}
 use Rattle.machine_rules.proofs.Bodies.{does-call, does-call-alone, does-set, does-answer, does-nothing, does-connect, does-disconnect, does-delete, does-schedule, does-choose, lacks-read, advances-one, advances-ticked, advances-left}
 use Rattle.machine_rules.proofs.Deleting.{ends-deleting, stops-deleting, reaches-died, stops-in-use, stops-announcing, living-name, died-as, died-emits, died-gone, dead-after, kills-first, kills-next, reaches-latest, reaches-next, stops-forgetting, forgets-fewer, nonempty, none-left}
-use Rattle.machine_rules.proofs.Dying.{copied-living}
+use Rattle.machine_rules.proofs.Dying.{copied-living, lives-not-dead}
 use Rattle.machine_rules.proofs.Promised.{all-placed}
 use Rattle.machine_rules.proofs.interpreter.Interpreter.+machine.Goals as goal
+use Rattle.machine_rules.proofs.Hearing.{heard-top, reaches-heard}
 
 -- ---- emissions
 
 pub run_emission-loop-connection-init : goal.run_emission-loop-connection-init
-run_emission-loop-connection-init g t c = record { reaches = reaches-same; keeps = keeps-same; fewer = omega arith; sound = c.requires.sound }
+run_emission-loop-connection-init g t c = record { reaches = reaches-same; keeps = keeps-same; fewer = omega arith; sound = c.requires.sound; heard = c.requires.heard }
 
 pub run_emission-deliver-requires : goal.run_emission-deliver-requires
 run_emission-deliver-requires g t c = λ κs lives.
@@ -33,14 +34,22 @@ run_emission-deliver-requires g t c = λ κs lives.
     let found = sym c.in-Some.ensures.value in
     let sound = c.loop-connection.invariant.sound in
     let emitted = emitted-still c.loop-connection.invariant.keeps c.requires.emitted in
-    let takes = next-delivered now.store.connections.connections c.args.call.now.object c.args.call.now.method c.loop-connection.used c.args.last _ sound.is.joined emitted found in
+    let takes = next-delivered now.store.connections.connections c.args.call.now.object c.args.call.now.method c.loop-connection.used c.args.last _ sound.is.joined emitted c.loop-connection.invariant.heard found in
     (omega (arith, c.loop-connection.invariant.fewer), (lives, (c.requires.promises, (c.requires.room, (sound, takes)))))
 
 pub run_emission-loop-connection-preserved : goal.run_emission-loop-connection-preserved
 run_emission-loop-connection-preserved g t c =
     let went = c.in_ok-deliver.ensures.ends _ _ _ _ (sym c.in-Some.ensures.value) in
     let keeps = keeps-then c.loop-connection.invariant.keeps (reaches-keeps went.cases) in
-    record { reaches = reaches-then c.loop-connection.invariant.reaches went.cases; keeps = keeps; fewer = keeps.fewer; sound = reaches-sound (emitted-still c.loop-connection.invariant.keeps c.requires.emitted, tt) c.loop-connection.invariant.sound went.cases }
+    let now = c.loop-connection.world.store in
+    let heard = heard-top now.tree now.connections.connections c.args.call.now.object c.args.call.now.method c.loop-connection.invariant.heard in
+    record {
+      reaches = reaches-then c.loop-connection.invariant.reaches went.cases;
+      keeps = keeps;
+      fewer = keeps.fewer;
+      sound = reaches-sound ((emitted-still c.loop-connection.invariant.keeps c.requires.emitted, tt), (heard, tt)) c.loop-connection.invariant.sound went.cases;
+      heard = reaches-heard went.cases c.loop-connection.invariant.heard;
+    }
 
 pub run_emission-returns-in_err-deliver-clause-ends : goal.run_emission-returns-in_err-deliver-clause-ends
 run_emission-returns-in_err-deliver-clause-ends g t c =
@@ -174,7 +183,7 @@ run_body-loop-statement-preserved g t c =
     let is = rw (c.scope.ensures.objects, c.scope.ensures.this, c.scope.ensures.arguments) at c.in_ok-operation.ensures in
     let one = (c.in_ok-carry_out.ensures.advances c.args.call.now.method c.args.call.now.arguments.now (Run c.in-Some.statement.now) is).cases in
     let keeps = keeps-then c.loop-statement.invariant.keeps (reaches-keeps one.0) in
-    record { reaches = reaches-then came one.0; keeps = keeps; fewer = keeps.fewer; sound = reaches-sound (tt, tt) c.loop-statement.invariant.sound one.0 }
+    record { reaches = reaches-then came one.0; keeps = keeps; fewer = keeps.fewer; sound = reaches-sound ((tt, tt), tt) c.loop-statement.invariant.sound one.0 }
 
 pub run_body-loop-statement-smaller : goal.run_body-loop-statement-smaller
 run_body-loop-statement-smaller g t c =
@@ -286,7 +295,7 @@ run_update-loop-place-preserved g t c =
     record {
       reaches = went;
       fewer = (reaches-keeps went).fewer;
-      sound = reaches-sound (tt, tt) c.loop-place.invariant.sound one;
+      sound = reaches-sound ((tt, tt), tt) c.loop-place.invariant.sound one;
       may = all-may-still c.args.self.now.meta c.loop-place.world.store.tree c.notify.new.world.store.tree c.in-Some.rest.now (reaches-keeps one).objects may.1;
     }
 
@@ -346,7 +355,7 @@ delete-returns g t c = record {
 }
 
 pub run_callee-run_emission-requires : goal.run_callee-run_emission-requires
-run_callee-run_emission-requires g t c = λ κs lives. (omega arith, (lives, (c.requires.promises, (c.requires.room, (c.requires.sound, fit-sends c.requires.sound.program c.requires.fit)))))
+run_callee-run_emission-requires g t c = λ κs lives. (omega arith, (lives, (c.requires.promises, (c.requires.room, (c.requires.sound, (fit-sends c.requires.sound.program c.requires.fit, inr (λ gone. absurd (lives-not-dead c.requires.fit.is.lives gone))))))))
 
 pub carry_out-returns-in-Delete : goal.carry_out-returns-in-Delete
 carry_out-returns-in-Delete g t c = record { advances = λ m arguments x is. advances-one _ (c.delete.ensures.ends _ _ _ c.over-over.ensures (does-delete m (map Run c.args.left.now) (rw c.in-Delete.is at is))) }
@@ -388,7 +397,7 @@ announce-run_emission-requires g t c = λ κs lives.
     let came = died-as c.args.world.now c.args.object c.in_ok-mark_dead.ensures c.in_ok-copy.ensures c.in_ok-emitted.ensures c.count.ensures c.count-2.ensures in
     let higher = ap (λ (l : List (Option ℕ)). length l) c.over-over.ensures in
     let went = reaches-died {natives = g.N.Answering.gives c.args.self.now.natives} {d = c.args.self.now.depth} {active = c.args.active.now} {torn = []} (kills-first w c.args.object [] c.requires.lives) named c.requires.sound.is.agree c.in_ok-require_rule.ensures (sym c.has_body.ensures ∙ c.if-has_body.false) (omega (arith, c.in_ok-may_nest.ensures, higher)) (omega (arith, higher)) c.last-last.ensures came in
-    (omega (arith, ap (λ (u : World). u.left) c.in_ok-mark_dead.ensures, c.in_ok-require_rule.ensures), (lives, (c.requires.promises, (c.in_ok-may_nest.ensures, (reaches-sound (tt, tt) c.requires.sound went, died-emits w _ c.args.object c.requires.sound.program named came)))))
+    (omega (arith, ap (λ (u : World). u.left) c.in_ok-mark_dead.ensures, c.in_ok-require_rule.ensures), (lives, (c.requires.promises, (c.in_ok-may_nest.ensures, (reaches-sound ((tt, tt), tt) c.requires.sound went, (died-emits w _ c.args.object c.requires.sound.program named came, inl refl))))))
 
 pub announce-returns-clause-ends : goal.announce-returns-clause-ends
 announce-returns-clause-ends g t c = λ next before torn kills.
@@ -415,10 +424,10 @@ announce_living-returns-else-is_some-clause-ends g t c = record { cases = reache
 pub run_deletion-loop-world-init : goal.run_deletion-loop-world-init
 run_deletion-loop-world-init g t c =
     let died = c.in_ok-announce_living.ensures.ends.cases in
-    let sound = reaches-sound (tt, tt) c.requires.sound died in
+    let sound = reaches-sound ((tt, tt), tt) c.requires.sound died in
     let forgets = rw c.new-torn.ensures.items at c.in_ok-forget.ensures in
     let went = reaches-latest c.args.object [] c.forget.new.torn.items c.requires.room sound.is.agree c.in_ok-announce_living.ensures.dead forgets in
-    record { reaches = reaches-then died went; fewer = (reaches-keeps (reaches-then died went)).fewer; sound = reaches-sound (tt, tt) sound went }
+    record { reaches = reaches-then died went; fewer = (reaches-keeps (reaches-then died went)).fewer; sound = reaches-sound ((tt, tt), tt) sound went }
 
 pub run_deletion-returns-in_err-announce-in-Some : goal.run_deletion-returns-in_err-announce-in-Some
 run_deletion-returns-in_err-announce-in-Some g t c =
@@ -447,10 +456,10 @@ run_deletion-loop-world-preserved-in-Continue-branch-4 g t c =
     let lives = rw c.as_slice.ensures.value at c.next_to_end.ensures.lives in
     let kills = kills-next now c.loop-world.torn.items some c.next_to_end.result next lives c.in-Some.child c.in-Some.is in
     let died = (c.in_ok-announce-in-Some.ensures.ends _ _ _ kills).cases in
-    let sound = reaches-sound (tt, tt) c.loop-world.invariant.sound died in
+    let sound = reaches-sound ((tt, tt), tt) c.loop-world.invariant.sound died in
     let went = reaches-latest c.in-Some.child c.loop-world.torn.items c.forget-in-Some.new.torn.items c.requires.room sound.is.agree c.in_ok-announce-in-Some.ensures.dead c.in_ok-forget-in-Some.ensures in
     let came = reaches-then c.loop-world.invariant.reaches (reaches-then died went) in
-    record { reaches = came; fewer = (reaches-keeps came).fewer; sound = reaches-sound (tt, tt) sound went }
+    record { reaches = came; fewer = (reaches-keeps came).fewer; sound = reaches-sound ((tt, tt), tt) sound went }
 
 pub run_deletion-returns-in_err-forget-in-Some : goal.run_deletion-returns-in_err-forget-in-Some
 run_deletion-returns-in_err-forget-in-Some g t c =
@@ -471,7 +480,7 @@ run_deletion-loop-world-preserved g t c =
     let shorter = rw c.loop-world.torn.ok.0 at c.pop.ensures.rest in
     let went = reaches-next now c.loop-world.torn.items some c.next_to_end.result next lives c.pop.new.self.items c.requires.room c.loop-world.invariant.sound.is.agree c.in-None.is shorter c.in_ok-tick-in-None.ensures in
     let came = reaches-then c.loop-world.invariant.reaches went in
-    record { reaches = came; fewer = (reaches-keeps came).fewer; sound = reaches-sound (tt, tt) c.loop-world.invariant.sound went }
+    record { reaches = came; fewer = (reaches-keeps came).fewer; sound = reaches-sound ((tt, tt), tt) c.loop-world.invariant.sound went }
 
 pub run_deletion-returns-in_err-tick-in-None : goal.run_deletion-returns-in_err-tick-in-None
 run_deletion-returns-in_err-tick-in-None g t c = record { ends = ends-left _ (stops-after c.loop-world.invariant.reaches (stops-ticked c.in_err-tick-in-None.ensures)) c.from_residual-in_err-tick-in-None.ensures.1 }
@@ -537,7 +546,7 @@ run_native-loop-action-preserved g t c =
     let came = rw steps at was.reaches in
     let one = (c.in_ok-carry_out_action.ensures.advances c.args.call.now.method c.args.call.now.arguments.now left).cases in
     let went = reaches-then came one.0 in
-    record { reaches = went; within = (rw steps at was.within).1; fewer = (reaches-keeps went).fewer; sound = reaches-sound (tt, tt) was.sound one.0 }
+    record { reaches = went; within = (rw steps at was.within).1; fewer = (reaches-keeps went).fewer; sound = reaches-sound ((tt, tt), tt) was.sound one.0 }
 
 pub run_native-returns-in_err-carry_out_action : goal.run_native-returns-in_err-carry_out_action
 run_native-returns-in_err-carry_out_action g t c =

@@ -6,7 +6,7 @@ use Rattle.native_slots.specs.declared.action.Action.{Action}
 use Rattle.machine_rules.specs.Natives.{place_of}
 use Rattle.machine_rules.specs.Settling.{notified}
 use Rattle.machine_rules.specs.code.Writing.{MayNotify}
-use Rattle.machine_rules.specs.code.Sound.{IsSoundWorld}
+use Rattle.machine_rules.specs.code.Sound.{IsSoundWorld, MayBeHeardIn}
 use Rattle.machine_rules.specs.code.Reaches.{Reaches}
 use Rattle.machine_rules.specs.code.Keeps.{KeepsWorld}
 use Rattle.machine_rules.proofs.interpreter.Interpreter.+machine.Given as goal
@@ -95,6 +95,7 @@ invariant-run_emission-loop-connection g l =
       keeps : KeepsWorld l.self.meta l.fn.world l.world;
       fewer : l.world.left ≤ l.fn.world.left;
       sound : IsSoundWorld l.self.meta l.world;
+      heard : MayBeHeardIn l.world l.call.object l.call.method;
     }
 
 abbrev pub decreases-run_emission-loop-connection : goal.decreases-run_emission-loop-connection

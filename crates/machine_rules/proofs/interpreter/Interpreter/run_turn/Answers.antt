@@ -9,7 +9,7 @@ loop-world-init g c = record { reaches = reaches-same; sound = c.requires.sound 
 pub loop-world-preserved : goal.loop-world-preserved
 loop-world-preserved g c =
     let went = c.in_ok-serve.ensures.cases in
-    record { reaches = reaches-then c.loop-world.invariant.reaches went.0; sound = reaches-sound tt c.loop-world.invariant.sound went.0 }
+    record { reaches = reaches-then c.loop-world.invariant.reaches went.0; sound = reaches-sound (tt, tt) c.loop-world.invariant.sound went.0 }
 
 pub loop-world-smaller : goal.loop-world-smaller
 loop-world-smaller g c = c.in_ok-serve.ensures.cases.1

@@ -14,7 +14,7 @@ returns-in_default g c =
 pub run_deletion-requires-clause-sound : goal.run_deletion-requires-clause-sound
 run_deletion-requires-clause-sound g c =
     let went = reaches-deleting {natives = g.N.Answering.gives c.args.self.now.natives} c.requires.goes_on c.in-Some.ensures c.in-Deletion.is c.requires.room c.requires.sound.is.agree c.requires.left c.take_unwritten-in-Deletion.ensures in
-    reaches-sound tt c.requires.sound went
+    reaches-sound (tt, tt) c.requires.sound went
 
 pub returns-else-is_some : goal.returns-else-is_some
 returns-else-is_some g c =

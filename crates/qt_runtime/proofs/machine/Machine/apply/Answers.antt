@@ -35,7 +35,7 @@ pub returns-clause-stopped : goal.returns-clause-stopped
 returns-clause-stopped g c =
     let after : Seen _ = seen c.self.inside.interpreter.meta c.self.inside.interpreter.natives c.self.inside.interpreter.depth c.take_event-result.new.world c.is_err-self-inside.result in
     let From : Seen _ → Type 0 = λ a. IfErr c.take_event-result.result (λ f. Halts g.N.Answering.gives a (c.args.event.now ∷ []) f after ⊎ Stays a f after) in
-    subst From c.self.view_is (applied-stopped g.N.Answering.gives c.self.inside.interpreter.natives c.take_event-result.result c.classes.ensures.sound (c.self.invariant.keeps c.if-self.false).sound c.take_event-result.ensures c.if-self.false c.is_err-self-inside.ensures.value)
+    subst From c.self.view_is (applied-stopped g.N.Answering.gives c.self.inside.interpreter.natives c.take_event-result.result c.take_event-result.ensures c.if-self.false c.is_err-self-inside.ensures.value)
 
 pub returns-clause-spent : goal.returns-clause-spent
 returns-clause-spent g c = λ went. applied-spent g.N.Answering.gives c.self.inside.interpreter.natives c.take_event-result.result c.take_event-result.ensures c.is_err-self-inside.ensures.value
@@ -57,7 +57,7 @@ returns-clause-checked g c =
     let Kept : Seen _ → Type 0 = λ m. AreKept takes gives m in
     let From : Seen _ → Type 0 = λ a. IsChecked gives a → IsChecked gives after × IfErr result (StopsAtLimit a) in
     subst From c.self.view_is (applied-checked takes gives c.args.event.now result sound (subst Kept (sym c.self.view_is) c.requires) (applied-taken gives natives result took went is)
-    (applied-stopped gives natives result sound (c.self.invariant.keeps went).sound took went is))
+    (applied-stopped gives natives result took went is))
 
 pub returns-clause-claims : goal.returns-clause-claims
 returns-clause-claims g c = claims-hold g.N.Answering.takes g.N.Answering.gives (sound-of c.classes.ensures.sound c.self.view_is) c.requires
