@@ -1,7 +1,7 @@
 //! What command lines answer.
 
 use doubler::{class, doubled, effects, twice};
-use explained_commands::{KeptReader, TracedWriter, WriteFault, explained_command};
+use explained_commands::{WriteFault, explained_command};
 use native_slots::{NativeSlot, Natives};
 use signatures::Value;
 use std::alloc::Global;
@@ -29,14 +29,13 @@ pub fn answered(
     let mut slots = Vec::new(alloc);
     slots.push(NativeSlot::new(class, sig, effects, work))?;
     let natives = Natives::of(slots);
-    let mut reader = KeptReader::new(alloc, input);
-    let mut writer = TracedWriter::new(alloc, output);
+    let mut reader = input;
     match explained_command(
         alloc,
         words,
         &mut reader,
         natives,
-        &mut writer,
+        output,
         errors,
         tells_refusals,
     ) {

@@ -1,52 +1,70 @@
 //! What a command writes on standard output, what is told of its end on standard error, and its exit status.
 
 ghost use Rattle.std.specs.Prelude.{◌≡◌, map, false};
-ghost use Rattle.trace_tool.specs.Commands.{AnswersCommand};
+ghost use Rattle.trace_tool.specs.Commands.{WritesCommand};
 
-use explanations::{Answer, KeptReader, explanation};
+use explanations::explanation;
 use native_slots::{Answering, Natives};
-use run_reports::{Seen, TracedWriter, fault_report, refusal_report};
+use run_reports::{fault_report, refusal_report};
 use std::alloc::{AllocError, Global};
-use std::io;
 use std::io::{Read, Write};
-use trace_tool::{InputFault, WriteFault, command};
+use trace_tool::{Answered, InputFault, Outcome, Ran, WriteFault, answer};
 
 /// The exit status of a command that did what it was asked.
 const SUCCESS: u8 = 0;
 
-/// Does what the words say, as [`command`] does, and then writes to `errors` what a person needs of this end: why events were
-/// refused, where `tells_refusals` asks for it, what another answer than success means, and why the input can't be read or
-/// the output can't be written. Where that fails nothing else changes.
-pub fn explained_command<R: Read + Drop, W: Write + Drop, E: Write>(
+/// The most bytes of an input in which a place is looked for.
+const MOST_EXPLAINED: usize = 8388608;
+
+/// Does what the words say, as [`trace_tool::command`] does, and then writes to `errors` what a person needs of this end: why
+/// events were refused, where `tells_refusals` asks for it, what another answer than success means, and why the input can't
+/// be read or the output can't be written. Where that fails nothing else changes.
+pub fn explained_command<R: Read, W: Write, E: Write>(
     alloc: Global,
     words: &[&str],
-    reader: &mut KeptReader<R>,
+    reader: &mut R,
     natives: Natives,
-    writer: &mut TracedWriter<W>,
+    writer: &mut W,
     errors: &mut E,
     tells_refusals: bool,
 ) -> Result<u8, WriteFault>
     ensures answers { let said = map (λ word. word.now) words.now in
         let heads = map (λ slot. slot.head) natives.slots.items in
-        AnswersCommand ⟦<Natives as Answering>⟧.gives heads natives said (R.remaining reader.old.inner)
-        (W.contents writer.old.inner) (W.contents writer.new.inner) result }
+        WritesCommand ⟦<Natives as Answering>⟧.gives heads natives said (R.remaining reader.old)
+        (W.contents writer.old) (W.contents writer.new) result }
     ensures silent { result ≡ Ok 0 → tells_refusals ≡ false → errors.new ≡ errors.old }
 {
-    let ended = command(alloc, words, reader, natives, writer);
-    if let Err(fault) = ended {
-        tell_fault(errors, fault);
+    let answered = answer(alloc, words, reader, natives);
+    match answered.outcome.write(alloc, writer) {
+        Ok(status) => {
+            tell_end(alloc, words, &answered, status, tells_refusals, errors);
+            Ok(status)
+        }
+        Err(fault) => {
+            tell_fault(errors, fault);
+            Err(fault)
+        }
     }
-    let status = ended?;
-    let input = reader.kept();
-    let seen = writer.seen();
+}
+
+/// Writes what a person needs of what the words come to, with this exit status: why events were refused, where that is asked
+/// for, and what another answer than success means.
+fn tell_end<E: Write>(
+    alloc: Global,
+    words: &[&str],
+    answered: &Answered<Natives>,
+    status: u8,
+    tells_refusals: bool,
+    errors: &mut E,
+)
+    ensures { status ≡ 0 → tells_refusals ≡ false → errors.new ≡ errors.old }
+{
     if tells_refusals {
-        tell(errors, refusal_report(alloc, input, seen));
+        tell_refusals(alloc, answered, errors);
     }
     if status != SUCCESS {
-        tell_unread(errors, reader.fault());
-        explain(alloc, words, input, seen, errors);
+        explain(alloc, words, answered, errors);
     }
-    Ok(status)
 }
 
 /// Writes why the output can't be written.
@@ -55,36 +73,52 @@ pub fn tell_fault<E: Write>(errors: &mut E, fault: WriteFault) {
     writeln!(errors, "{fault}: {reason}").ok();
 }
 
-/// Writes why the input can't be read, where it can't.
-fn tell_unread<E: Write>(errors: &mut E, reason: Option<io::Error>) {
-    if let Some(reason) = reason {
-        let fault = InputFault::Unread;
-        writeln!(errors, "{fault}: {reason}").ok();
+/// The input, as far as places are looked for in it; `None` where it is too large, or there is none.
+fn explained_input(answered: &Answered<Natives>) -> Option<&[u8]> {
+    match &answered.input {
+        Some(input) if input.len() <= MOST_EXPLAINED => Some(input.as_slice()),
+        _ => None,
     }
 }
 
-/// Writes what the last line of the output means for this input, if it is an answer that is explained.
-fn explain<E: Write>(
+/// Writes why events of a run were refused, if any were.
+fn tell_refusals<E: Write>(alloc: Global, answered: &Answered<Natives>, errors: &mut E) {
+    if let Outcome::Ran(ran) = &answered.outcome {
+        tell(
+            errors,
+            refusal_report(alloc, explained_input(answered), ran.trace()),
+        );
+    }
+}
+
+/// Writes what the words come to, if it is something that is explained.
+fn explain<E: Write>(alloc: Global, words: &[&str], answered: &Answered<Natives>, errors: &mut E) {
+    let input = explained_input(answered);
+    tell(errors, explanation(alloc, words, input, &answered.outcome));
+    match &answered.outcome {
+        Outcome::NoInput(InputFault::Unread(reason)) => {
+            writeln!(errors, "the input can't be read: {reason}").ok();
+        }
+        Outcome::Ran(ran) => tell(errors, report_on_fault(alloc, input, ran)),
+        _ => {}
+    }
+}
+
+/// What is told of the fault that stopped a run, if one did.
+fn report_on_fault(
     alloc: Global,
-    words: &[&str],
     input: Option<&[u8]>,
-    seen: &Seen,
-    errors: &mut E,
-) {
-    let Some(answer) = Answer::of(seen.last_line()) else {
-        return;
-    };
-    if let Ok(text) = explanation(alloc, words, input, answer) {
-        errors.write_all(text.as_bytes()).ok();
-    }
-    if let Answer::Fault(number) = answer {
-        tell(errors, fault_report(alloc, input, seen, number));
+    ran: &Ran<Natives>,
+) -> Result<Option<String>, AllocError> {
+    match ran.ended {
+        Ok(()) => Ok(None),
+        Err(fault) => Ok(Some(fault_report(alloc, input, ran.trace(), fault)?)),
     }
 }
 
-/// Writes a report, if there is one.
-fn tell<E: Write>(errors: &mut E, report: Result<Option<String>, AllocError>) {
-    if let Ok(Some(text)) = report {
+/// Writes a text, if there is one.
+fn tell<E: Write>(errors: &mut E, text: Result<Option<String>, AllocError>) {
+    if let Ok(Some(text)) = text {
         errors.write_all(text.as_bytes()).ok();
     }
 }

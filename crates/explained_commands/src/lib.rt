@@ -4,6 +4,5 @@
 mod ends;
 
 pub use ends::{explained_command, tell_fault};
-pub use explanations::KeptReader;
-pub use run_reports::{EXPLAIN, TracedWriter, is_asked};
+pub use run_reports::{EXPLAIN, is_asked};
 pub use trace_tool::WriteFault;

@@ -1,15 +1,16 @@
 //! Explanations: what an answer of the program means, and where in the input its reason lies.
 
-use crate::answer::{Answer, Reason};
 use crate::usage::push_usage;
 use check_flaws::broken_condition;
 use declaration_flaws::declaration_flaw;
+use native_slots::Answering;
 use program_flaws::missing_certificate;
 use std::alloc::{AllocError, Global};
 use text_flaws::{
     Flaw, Span, certificate_flaw, meaning, program_flaw, push_excerpt, push_place, script_flaw,
     text_spans, wire_flaw,
 };
+use trace_tool::{Fault, Outcome, ProgramOutcome, Refusal, ScriptFault, Why};
 
 /// A text of an input, as a person calls it.
 #[derive(Clone, Copy, Debug, PartialEq, Eq)]
@@ -40,141 +41,187 @@ impl TextKind {
     }
 }
 
-/// Explains an answer to these words and this input: what it means, in one sentence; and where the input is at fault,
-/// what is wrong there, its line and column in the input and in its text, that line with a caret below the place, and
-/// what to write instead, where that is known. Where the input isn't known no place is told.
-pub fn explanation(
+/// Explains what the words come to on this input: what it means, in one sentence; and where the input is at fault, what is
+/// wrong there, its line and column in the input and in its text, that line with a caret below the place, and what to write
+/// instead, where that is known. Where the input isn't known no place is told. `None` where there is nothing to explain: a
+/// command did what it was asked, memory was wanting, or there is no input.
+pub fn explanation<N: Answering + Drop>(
     alloc: Global,
     words: &[&str],
     input: Option<&[u8]>,
-    answer: Answer,
-) -> Result<String, AllocError> {
+    outcome: &Outcome<N>,
+) -> Result<Option<String>, AllocError> {
     let mut text = String::new(alloc);
-    push_meaning(&mut text, answer)?;
-    match answer {
-        Answer::Usage => push_usage(&mut text, alloc, words, input)?,
-        _ => {
-            if let Some(input) = input {
-                push_where(&mut text, alloc, input, answer)?;
-                push_reason(&mut text, alloc, input, answer)?;
+    match outcome {
+        Outcome::Usage(fault) => push_usage(&mut text, alloc, words, input, *fault)?,
+        Outcome::Program(ProgramOutcome::Refused(refusal)) => {
+            push_refusal(&mut text, alloc, input, refusal)?
+        }
+        Outcome::Program(ProgramOutcome::Uncertified(_, why)) => {
+            push_missing(&mut text, alloc, input, why)?
+        }
+        Outcome::Ran(ran) => {
+            if let Err(fault) = ran.ended {
+                push_fault(&mut text, fault)?;
             }
         }
+        Outcome::Program(_) | Outcome::NoInput(_) | Outcome::Memory => {}
     }
-    Ok(text)
-}
-
-/// Adds what an answer means, but for `usage`, which depends on the words.
-fn push_meaning(text: &mut String, answer: Answer) -> Result<(), AllocError> {
-    match answer {
-        Answer::Usage => Ok(()),
-        Answer::Refused(number) => {
-            let about = meaning(number).unwrap_or("");
-            writeln!(text, "refused {number}: {about}")
-        }
-        Answer::BadLine(_) => {
-            let about = meaning(16).unwrap_or("");
-            writeln!(text, "refused 16: {about}")
-        }
-        Answer::No(number) => {
-            let about = meaning(number).unwrap_or("");
-            writeln!(text, "no {number}: {about}")
-        }
-        Answer::Uncertified(reason) => {
-            let about = reason.meaning();
-            writeln!(text, "no certificate: {about}")
-        }
-        Answer::Fault(number) => {
-            let about = meaning(number).unwrap_or("");
-            writeln!(text, "fault {number}: {about}")
-        }
+    if text.is_empty() {
+        Ok(None)
+    } else {
+        Ok(Some(text))
     }
 }
 
-/// Adds where the input is at fault, if that is at one place.
-fn push_where(
+/// Adds what a fault means.
+fn push_fault(text: &mut String, fault: Fault) -> Result<(), AllocError> {
+    let number = fault.number();
+    let about = meaning(number).unwrap_or("");
+    writeln!(text, "fault {number}: {about}")
+}
+
+/// Adds what a refusal means, and where the input is at fault.
+fn push_refusal(
+    text: &mut String,
+    alloc: Global,
+    input: Option<&[u8]>,
+    refusal: &Refusal,
+) -> Result<(), AllocError> {
+    let Some(number) = refusal.number() else {
+        return Ok(());
+    };
+    let about = meaning(number).unwrap_or("");
+    match refusal {
+        Refusal::Check(_) => writeln!(text, "no {number}: {about}")?,
+        _ => writeln!(text, "refused {number}: {about}")?,
+    }
+    let Some(input) = input else {
+        return Ok(());
+    };
+    match refusal {
+        Refusal::Check(_) => push_broken(text, alloc, input, number),
+        _ => push_place_of(text, alloc, input, refusal, number),
+    }
+}
+
+/// Adds where the input is at fault that is refused under this number, if that is at one place.
+fn push_place_of(
     text: &mut String,
     alloc: Global,
     input: &[u8],
-    answer: Answer,
+    refusal: &Refusal,
+    number: u8,
 ) -> Result<(), AllocError> {
-    let Some(kind) = text_at_fault(answer) else {
-        return Ok(());
-    };
+    let kind = text_at_fault(refusal);
     let spans = text_spans(alloc, input)?;
     let Some(span) = kind.span(spans.as_slice()) else {
         return Ok(());
     };
     let source = source_of(input, span);
-    match flaw_of(alloc, source, answer)? {
+    match flaw_of(alloc, source, refusal, number)? {
         Some(flaw) => push_flaw(text, input, span.begin, source, kind, &flaw),
         None => Ok(()),
     }
 }
 
-/// The text in which the reason of an answer lies.
-fn text_at_fault(answer: Answer) -> Option<TextKind> {
-    match answer {
-        Answer::Refused(77) => Some(TextKind::Certificate),
-        Answer::Refused(_) | Answer::Uncertified(Reason::Wire(_)) => Some(TextKind::Program),
-        Answer::BadLine(_) => Some(TextKind::Script),
-        _ => None,
+/// The text in which the reason of a refusal lies.
+fn text_at_fault(refusal: &Refusal) -> TextKind {
+    match refusal {
+        Refusal::Text(_) | Refusal::Loading(_) | Refusal::Natives(_) => TextKind::Program,
+        Refusal::Certificate(_) | Refusal::Check(_) => TextKind::Certificate,
+        Refusal::Script(_) => TextKind::Script,
     }
 }
 
 /// What is wrong with that text.
-fn flaw_of(alloc: Global, source: &[u8], answer: Answer) -> Result<Option<Flaw>, AllocError> {
-    match answer {
-        Answer::Refused(77) => certificate_flaw(alloc, source),
-        Answer::Refused(number @ 10..=18) => declaration_flaw(alloc, source, number),
-        Answer::Refused(number) => program_flaw(alloc, source, number),
-        Answer::Uncertified(Reason::Wire(number)) => wire_flaw(alloc, source, number),
-        Answer::BadLine(line) => script_flaw(alloc, source, line),
-        _ => Ok(None),
+fn flaw_of(
+    alloc: Global,
+    source: &[u8],
+    refusal: &Refusal,
+    number: u8,
+) -> Result<Option<Flaw>, AllocError> {
+    match refusal {
+        Refusal::Text(_) => program_flaw(alloc, source, number),
+        Refusal::Loading(_) | Refusal::Natives(_) => declaration_flaw(alloc, source, number),
+        Refusal::Certificate(_) => certificate_flaw(alloc, source),
+        Refusal::Script(ScriptFault::BadLine(line)) => script_flaw(alloc, source, *line),
+        Refusal::Script(_) | Refusal::Check(_) => Ok(None),
     }
 }
 
-/// Adds what a certificate that isn't valid breaks its condition by, or why a program has none.
-fn push_reason(
+/// Adds what breaks the condition of this number.
+fn push_broken(
     text: &mut String,
     alloc: Global,
     input: &[u8],
-    answer: Answer,
+    number: u8,
 ) -> Result<(), AllocError> {
-    let reason = match answer {
-        Answer::No(number) => broken(alloc, input, number)?,
-        Answer::Uncertified(_) => uncertified(alloc, input)?,
-        _ => None,
+    let spans = text_spans(alloc, input)?;
+    let spans = spans.as_slice();
+    let (Some(program), Some(certificate)) = (
+        TextKind::Program.span(spans),
+        TextKind::Certificate.span(spans),
+    ) else {
+        return Ok(());
     };
-    match reason {
+    let program = source_of(input, program);
+    let certificate = source_of(input, certificate);
+    match broken_condition(alloc, program, certificate, number)? {
         Some(reason) => text.push_str(reason.as_str()),
         None => Ok(()),
     }
 }
 
-/// What breaks the condition of this number.
-fn broken(alloc: Global, input: &[u8], number: u8) -> Result<Option<String>, AllocError> {
+/// Adds why a program has no certificate, and what leads to that.
+fn push_missing(
+    text: &mut String,
+    alloc: Global,
+    input: Option<&[u8]>,
+    why: &Why,
+) -> Result<(), AllocError> {
+    let Some(about) = meaning_of_reason(why) else {
+        return Ok(());
+    };
+    writeln!(text, "no certificate: {about}")?;
+    let Some(input) = input else {
+        return Ok(());
+    };
     let spans = text_spans(alloc, input)?;
-    let spans = spans.as_slice();
-    match (
-        TextKind::Program.span(spans),
-        TextKind::Certificate.span(spans),
-    ) {
-        (Some(program), Some(certificate)) => broken_condition(
-            alloc,
-            source_of(input, program),
-            source_of(input, certificate),
-            number,
-        ),
-        _ => Ok(None),
+    let Some(span) = TextKind::Program.span(spans.as_slice()) else {
+        return Ok(());
+    };
+    let source = source_of(input, span);
+    if let Why::Wire(place) = why {
+        if let Some(flaw) = wire_flaw(alloc, source, place.saturating_add(1))? {
+            push_flaw(text, input, span.begin, source, TextKind::Program, &flaw)?;
+        }
+    }
+    match missing_certificate(alloc, source)? {
+        Some(reason) => text.push_str(reason.as_str()),
+        None => Ok(()),
     }
 }
 
-/// Why no certificate is valid for the program.
-fn uncertified(alloc: Global, input: &[u8]) -> Result<Option<String>, AllocError> {
-    let spans = text_spans(alloc, input)?;
-    match TextKind::Program.span(spans.as_slice()) {
-        Some(program) => missing_certificate(alloc, source_of(input, program)),
-        None => Ok(None),
+/// What a reason says, in one sentence; want of memory says nothing of the program.
+fn meaning_of_reason(why: &Why) -> Option<&'static str> {
+    match why {
+        Why::Wire(_) => Some(
+            "the method of a wire takes other types than the first ones of its signal",
+        ),
+        Why::BodyType(_) => Some(
+            "a literal, a body or a binding isn't typed: a value is given where another type is asked",
+        ),
+        Why::Cycle(_) => Some(
+            "each of these members may call the next one at once, and so without end: a `queued` wire in the place of a direct one breaks the chain",
+        ),
+        Why::DestroyPath(_) => Some(
+            "a slot may lead at once to the deletion of an object of its own class, while it runs: `later` in the place of `delete` puts that off",
+        ),
+        Why::TooHigh(_) => Some(
+            "a chain of direct calls may be longer than 256: a `queued` wire breaks it",
+        ),
+        Why::Memory => None,
     }
 }
 

@@ -3,6 +3,7 @@
 use std::alloc::{AllocError, Global};
 use text_flaws::text_spans;
 use texts::split_line;
+use trace_tool::UsageFault;
 
 /// The most bytes of an input.
 const LARGEST_INPUT: usize = 67108864;
@@ -17,16 +18,18 @@ pub fn push_usage(
     alloc: Global,
     words: &[&str],
     input: Option<&[u8]>,
+    fault: UsageFault,
 ) -> Result<(), AllocError> {
-    match texts_wanted(words) {
-        Err(reason) => writeln!(text, "usage: {reason}")?,
-        Ok(wanted) => match input {
-            Some(input) => push_number(text, alloc, input, wanted)?,
-            None => writeln!(
-                text,
-                "usage: the command takes {wanted} texts, in at most {LARGEST_INPUT} bytes"
-            )?,
-        },
+    match fault {
+        UsageFault::Words => {
+            let reason = mistake(words);
+            writeln!(text, "usage: {reason}")?;
+        }
+        UsageFault::TooLarge => writeln!(
+            text,
+            "usage: the texts of the input may have {LARGEST_INPUT} bytes together, and it has more"
+        )?,
+        UsageFault::Texts(wanted) => push_number(text, alloc, input, wanted)?,
     }
     text.push_str(COMMANDS)
 }
@@ -35,9 +38,12 @@ pub fn push_usage(
 fn push_number(
     text: &mut String,
     alloc: Global,
-    input: &[u8],
+    input: Option<&[u8]>,
     wanted: usize,
 ) -> Result<(), AllocError> {
+    let Some(input) = input else {
+        return writeln!(text, "usage: the command takes {wanted} texts");
+    };
     let found = text_spans(alloc, input)?.len();
     writeln!(
         text,
@@ -51,52 +57,37 @@ fn push_number(
     Ok(())
 }
 
-/// How many texts the command takes that the words are, or what is wrong with them.
-fn texts_wanted(words: &[&str]) -> Result<usize, &'static str> {
+/// What is wrong with words that are no command.
+fn mistake(words: &[&str]) -> &'static str {
     let Some((command, options)) = words.split_first() else {
-        return Err("a command is wanted");
+        return "a command is wanted";
     };
     match *command {
-        "meta" | "certify" | "check" if !options.is_empty() => Err(
-            "this command takes no further words",
-        ),
-        "meta" | "certify" => Ok(1),
-        "check" => Ok(2),
-        "run" => texts_of_run(options),
-        "--help" | "-h" | "help" => Err("the commands are these"),
-        _ => Err("the first word is no command"),
+        "meta" | "certify" | "check" => "this command takes no further words",
+        "run" => mistake_in_run(options),
+        "--help" | "-h" | "help" => "the commands are these",
+        _ => "the first word is no command",
     }
 }
 
-/// How many texts `run` takes with these options.
-fn texts_of_run(options: &[&str]) -> Result<usize, &'static str> {
+/// What is wrong with the words behind `run`.
+fn mistake_in_run(options: &[&str]) -> &'static str {
     match options.split_first() {
         Some((first, others)) if *first == "--unchecked" => match others.split_first() {
-            Some((depth, steps)) if is_number(depth, 256) => {
-                check_steps(steps)?;
-                Ok(2)
-            }
-            _ => Err("behind `--unchecked` stands a number from 1 to 256"),
+            Some((depth, steps)) if is_number(depth, 256) => mistake_in_steps(steps),
+            _ => "behind `--unchecked` stands a number from 1 to 256",
         },
-        _ => {
-            check_steps(options)?;
-            Ok(3)
-        }
+        _ => mistake_in_steps(options),
     }
 }
 
-/// Whether these words are nothing, or `--steps M`.
-fn check_steps(words: &[&str]) -> Result<(), &'static str> {
+/// What is wrong with the words that are to be `--steps M`.
+fn mistake_in_steps(words: &[&str]) -> &'static str {
     match words {
-        [] => Ok(()),
-        [option, steps] if *option == "--steps" => {
-            if is_number(steps, 9223372036854775807) {
-                Ok(())
-            } else {
-                Err("behind `--steps` stands a number from 1 to 9223372036854775807")
-            }
+        [option, _] if *option == "--steps" => {
+            "behind `--steps` stands a number from 1 to 9223372036854775807"
         }
-        _ => Err("the words stand in this order: `run`, `--unchecked N`, `--steps M`"),
+        _ => "the words stand in this order: `run`, `--unchecked N`, `--steps M`",
     }
 }
 

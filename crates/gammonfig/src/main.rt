@@ -3,9 +3,7 @@
 #![tactic(auto)]
 
 use doubler::{class, doubled, effects, twice};
-use explained_commands::{
-    EXPLAIN, KeptReader, TracedWriter, WriteFault, explained_command, is_asked, tell_fault,
-};
+use explained_commands::{EXPLAIN, WriteFault, explained_command, is_asked, tell_fault};
 use native_slots::{NativeSlot, Natives};
 use signatures::Value;
 use std::alloc::{AllocError, Global};
@@ -61,8 +59,8 @@ fn answer(rt: &HostRuntime, words: &[&str]) -> Result<ExitCode, AllocError> {
     })?;
     let mut slots = Vec::new(alloc);
     slots.push(NativeSlot::new(class, sig, effects, work))?;
-    let mut reader = KeptReader::new(alloc, rt.reader());
-    let mut writer = TracedWriter::new(alloc, io::writer(rt));
+    let mut reader = rt.reader();
+    let mut writer = io::writer(rt);
     let mut errors = rt.stderr();
     let ended = explained_command(
         alloc,

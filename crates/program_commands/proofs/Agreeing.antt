@@ -1,20 +1,35 @@
 -- What is certified is agreed to.
-use Rattle.std.proofs.Common.{◌≡◌, ℕ, List, refl, arith}
+use Rattle.std.proofs.Common.{◌≡◌, ◌≤◌, ℕ, List, Option, Some, None, Ok, refl, arith, sym, subst}
+use Rattle.certificate_lang.specs.declared.certificate.Certificate.{Certificate}
+use Rattle.certificate_laws.proofs.Writable.{made_is_read}
+use Rattle.certificate_texts.specs.Texts.{certificate_text}
+use Rattle.meta_model.specs.Loaded.{Loaded}
+use Rattle.rank_make.specs.Makes.{Makes}
 use Rattle.rank_make.specs.declared.why.Why.{Why}
 use Rattle.rank_make.specs.declared.why.Why.TheVariants as why
-use Rattle.certificate_laws.proofs.Writable.{made_is_read}
+use Rattle.program_commands.specs.declared.outcome.Outcome.{Outcome}
+use Rattle.program_commands.specs.declared.outcome.Outcome.TheVariants.{Valid, Uncertified, Certificate as Certified}
 use Rattle.program_commands.specs.declared.refusal.Refusal.{Refusal}
-use Rattle.program_commands.specs.declared.refusal.Refusal.TheVariants.{Numbered, BadLine, Denied, Memory}
-use Rattle.program_commands.specs.Commands.{CertifyWrites, CheckWrites, CertifiedIsAgreed}
-use Rattle.program_commands.specs.Commands as commands
+use Rattle.program_commands.specs.declared.refusal.Refusal.TheVariants as refusal
+use Rattle.program_commands.specs.Commands.{CertifyComesTo, CheckComesTo, CertifiedIsAgreed}
+use Rattle.program_commands.specs.Loading.{LoadsProgram}
+use Rattle.program_commands.specs.Outcomes.{outcome_text, outcome_status}
 use Rattle.program_commands.specs.Reasons.{reason_status}
-use Rattle.program_commands.specs.Refusals.{refusal_status, yes_line}
+use Rattle.program_commands.specs.Refusals.{refusal_status, status_of}
+use Rattle.program_commands.specs.Steps.{First, Is, fails, goes_on}
+use Rattle.program_commands.proofs.Stepping.{loads_of}
 
-refused_some : (refusal : Refusal) → ¬ (refusal_status refusal ≡ 0)
-refused_some (Numbered k) e = omega arith
-refused_some (BadLine n) e = omega arith
-refused_some (Denied k) e = omega arith
-refused_some Memory e = omega arith
+some_status : (k : ℕ) (number : Option ℕ) → 1 ≤ k → ¬ (status_of k number ≡ 0)
+some_status k (Some n) h e = omega (arith, h, e)
+some_status k None h e = omega (arith, e)
+
+refused_some : (r : Refusal) → ¬ (refusal_status r ≡ 0)
+refused_some (refusal.Text fault) e = some_status 2 _ (omega arith) e
+refused_some (refusal.Loading fault) e = some_status 2 _ (omega arith) e
+refused_some (refusal.Certificate fault) e = some_status 2 _ (omega arith) e
+refused_some (refusal.Script fault) e = some_status 2 _ (omega arith) e
+refused_some (refusal.Check w) e = some_status 3 _ (omega arith) e
+refused_some (refusal.Natives fault) e = omega (arith, e)
 
 reason_some : (w : Why) → ¬ (reason_status w ≡ 0)
 reason_some (why.Wire place) e = omega arith
@@ -24,15 +39,28 @@ reason_some (why.DestroyPath nodes) e = omega arith
 reason_some (why.TooHigh nodes) e = omega arith
 reason_some why.Memory e = omega arith
 
-agreed_at : (program written : List ℕ) (status : ℕ) → CertifyWrites program written status → status ≡ 0 → CheckWrites program written yes_line 0
-agreed_at program written status (commands.refused refusal is) e = absurd (refused_some refusal e)
-agreed_at program written status (commands.made loaded certificate loads makes) e =
-    commands.agreed loaded certificate (record {
-      certified = record { loads = loads; reads = made_is_read program loads.program loaded certificate loads.reads loads.builds makes };
-      valid = makes.valid;
-    })
-agreed_at program written status (commands.not_made loaded w loads makes) e = absurd (reason_some w e)
-agreed_at program written status commands.memory e = absurd (omega arith)
+agreed : (program : List ℕ) (loaded : Loaded) (certificate : Certificate) → LoadsProgram program (Ok loaded) → Makes loaded (Ok certificate) →
+    CheckComesTo program (certificate_text certificate) Valid
+agreed program loaded certificate steps makes =
+    let loads = loads_of steps in
+    let read = made_is_read program loads.program loaded certificate loads.reads loads.builds makes in
+    let certified = goes_on loaded (Ok (loaded, certificate)) steps (goes_on certificate (Ok (loaded, certificate)) read refl) in
+    goes_on (record { program = loaded; certificate = certificate }) Valid
+    (goes_on (loaded, certificate) (Ok (record { program = loaded; certificate = certificate })) certified
+    (goes_on (record { program = loaded; certificate = certificate }) (Ok (record { program = loaded; certificate = certificate })) (refl, refl, makes.valid) refl))
+    refl
+
+made_agreed : {program : List ℕ} {loaded : Loaded} {outcome : Outcome} → LoadsProgram program (Ok loaded) →
+    First (Makes loaded) (Uncertified loaded) (λ certificate. Is (Certified certificate)) outcome → outcome_status outcome ≡ 0 →
+    CheckComesTo program (outcome_text outcome) Valid
+made_agreed steps (fails w reason) zero = absurd (reason_some w zero)
+made_agreed {program} {loaded} steps (goes_on certificate end makes is) zero =
+    subst (λ (o : Outcome). CheckComesTo program (outcome_text o) Valid) (sym is) (agreed program loaded certificate steps makes)
+
+certified_at : {program : List ℕ} {outcome : Outcome} → CertifyComesTo program outcome → outcome_status outcome ≡ 0 →
+    CheckComesTo program (outcome_text outcome) Valid
+certified_at (fails r bad) zero = absurd (refused_some r zero)
+certified_at (goes_on loaded end steps made) zero = made_agreed steps made zero
 
 pub certified_is_agreed : CertifiedIsAgreed
-certified_is_agreed program written writes = agreed_at program written 0 writes refl
+certified_is_agreed program outcome comes zero = certified_at comes zero

@@ -1,50 +1,55 @@
--- What the commands on programs and certificates write, and their exit status (docs/commands.md). A definition says which
--- bytes and which status belong together. Want of memory may come at any time; that it comes only where a growth of memory
--- was refused is not stated here.
-use Rattle.std.specs.Prelude.{ℕ, List, Option, Result, Ok, Err}
+-- What the commands on programs and certificates come to (docs/commands.md). Want of memory may come at any step; that it
+-- comes only where a growth of memory was refused is not stated here.
+use Rattle.std.specs.Prelude.{◌≡◌, ◌⊎◌, ℕ, List, Result, Ok, Err}
 use Rattle.certificate_lang.specs.declared.certificate.Certificate.{Certificate}
+use Rattle.certificate_laws.specs.Laws.{IsSameReason}
 use Rattle.meta_model.specs.Loaded.{Loaded}
 use Rattle.rank_make.specs.Makes.{Makes}
 use Rattle.rank_make.specs.declared.why.Why.{Why}
-use Rattle.program_commands.specs.declared.refusal.Refusal.{Refusal}
-use Rattle.certificate_texts.specs.Texts.{certificate_text}
-use Rattle.trace_lines.specs.MetaLines.{meta_text}
-use Rattle.trace_lines.specs.Sent.{TakesWith}
-use Rattle.program_commands.specs.Reasons.{reason_line, reason_status}
-use Rattle.program_commands.specs.Refusals.{memory_line, yes_line, refusal_line, refusal_status}
-use Rattle.program_commands.specs.Loading.{Loads, IsRefused, AreInvalid, AreValid}
+use Rattle.program_commands.specs.declared.outcome.Outcome.{Outcome}
+use Rattle.program_commands.specs.declared.outcome.Outcome.TheVariants.{Refused, Classes, Certificate as Certified, Uncertified, Valid}
+use Rattle.program_commands.specs.Loading.{LoadsProgram, LoadsValid}
+use Rattle.program_commands.specs.Outcomes.{outcome_text, outcome_status, IsShort}
+use Rattle.program_commands.specs.Steps.{First, Is}
 
--- `check`, from the texts of the program and the certificate: the bytes that are written, and the exit status
-pub data CheckWrites (program certificate : List ℕ) : List ℕ → ℕ → Type 0 where
-  not_valid : (refusal : Refusal) → AreInvalid program certificate refusal → CheckWrites program certificate (refusal_line refusal) (refusal_status refusal)
-  agreed : (loaded : Loaded) (read : Certificate) → AreValid program certificate loaded read → CheckWrites program certificate yes_line 0
-  memory : CheckWrites program certificate memory_line 1
+-- `meta`, from the program's text
+abbrev pub MetaComesTo : List ℕ → Outcome → Type 0
+MetaComesTo program = First (LoadsProgram program) Refused (λ loaded. Is (Classes loaded))
 
--- `certify`, from the program's text: the bytes that are written, and the exit status
-pub data CertifyWrites (program : List ℕ) : List ℕ → ℕ → Type 0 where
-  refused : (refusal : Refusal) → IsRefused program refusal → CertifyWrites program (refusal_line refusal) (refusal_status refusal)
-  made : (loaded : Loaded) (certificate : Certificate) → Loads program loaded → Makes loaded (Ok certificate) →
-      CertifyWrites program (certificate_text certificate) 0
-  not_made : (loaded : Loaded) (why : Why) → Loads program loaded → Makes loaded (Err why) →
-      CertifyWrites program (reason_line loaded why) (reason_status why)
-  memory : CertifyWrites program memory_line 1
+-- `certify`, from the program's text
+abbrev pub CertifyComesTo : List ℕ → Outcome → Type 0
+CertifyComesTo program =
+    First (LoadsProgram program) Refused (λ loaded.
+    First (Makes loaded) (Uncertified loaded) (λ certificate. Is (Certified certificate)))
 
--- `meta`, from the program's text: the bytes that are written, and the exit status
-pub data MetaWrites (program : List ℕ) : List ℕ → ℕ → Type 0 where
-  refused : (refusal : Refusal) → IsRefused program refusal → MetaWrites program (refusal_line refusal) (refusal_status refusal)
-  wrote : (loaded : Loaded) → Loads program loaded → MetaWrites program (meta_text loaded) 0
-  memory : MetaWrites program memory_line 1
-
--- A writer took bytes that belong to an exit status: all of them where that is the answer, and the first ones where a write
--- failed.
-pub record Answers {E : Type 0} (Writes : List ℕ → ℕ → Type 0) (before after : Option (List ℕ)) (result : Result ℕ E) : Type 0 where
-  pub bytes : List ℕ
-  pub expected : ℕ
-  pub meaning : Writes bytes expected
-  pub takes : TakesWith before after bytes expected result
+-- `check`, from the texts of the program and the certificate
+abbrev pub CheckComesTo : List ℕ → List ℕ → Outcome → Type 0
+CheckComesTo program certificate = First (LoadsValid program certificate) Refused (λ checked. Is Valid)
 
 -- ---- laws
 
 -- what `certify` writes of a program with status 0, `check` says yes to, byte for byte
 abbrev pub CertifiedIsAgreed : Type 0
-CertifiedIsAgreed = (program written : List ℕ) → CertifyWrites program written 0 → CheckWrites program written yes_line 0
+CertifiedIsAgreed =
+    (program : List ℕ) (outcome : Outcome) → CertifyComesTo program outcome → outcome_status outcome ≡ 0 →
+    CheckComesTo program (outcome_text outcome) Valid
+
+-- But for want of memory a command comes to one thing, and so writes one thing: `meta` ..
+abbrev pub OneDescription : Type 0
+OneDescription =
+    (program : List ℕ) (a b : Outcome) → MetaComesTo program a → MetaComesTo program b → IsShort a ⊎ IsShort b ⊎ (a ≡ b)
+
+-- .. `check` ..
+abbrev pub OneCheck : Type 0
+OneCheck =
+    (program certificate : List ℕ) (a b : Outcome) → CheckComesTo program certificate a → CheckComesTo program certificate b →
+    IsShort a ⊎ IsShort b ⊎ (a ≡ b)
+
+-- .. and `certify`; but which cycle, path or chain shows why there is no certificate isn't fixed
+abbrev pub IsSameOutcome : Outcome → Outcome → Type 0
+IsSameOutcome (Uncertified p v) (Uncertified q w) = (p ≡ q) × IsSameReason v w
+IsSameOutcome a b = a ≡ b
+
+abbrev pub OneCertifying : Type 0
+OneCertifying =
+    (program : List ℕ) (a b : Outcome) → CertifyComesTo program a → CertifyComesTo program b → IsShort a ⊎ IsShort b ⊎ IsSameOutcome a b

@@ -1,7 +1,9 @@
 pub mod Commands
 pub mod Loading
+pub mod Outcomes
 pub mod Reasons
 pub mod Refusals
+pub mod Steps
 pub use Rattle.class_lang.specs.Reads as ClassLangReads
 pub use Rattle.meta_model.specs.FaultNumbers as MetaModelFaultNumbers
 pub use Rattle.native_slots.specs.FaultNumbers as NativeSlotsFaultNumbers

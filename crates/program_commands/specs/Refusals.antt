@@ -1,25 +1,32 @@
 -- Refused texts, the checker's nos, and their lines (docs/commands.md, "Refusals").
 use Rattle.std.specs.Prelude.{ℕ, List, ◌++◌, codes, decimal, Option, Some, None}
+use Rattle.class_lang.specs.Reads.{number_of as text_number}
+use Rattle.meta_model.specs.FaultNumbers.{number_of as meta_number}
+use Rattle.certificate_lang.specs.Reads.{number_of as certificate_number}
+use Rattle.rank_check.specs.Checks.{number_of as no_number}
+use Rattle.native_slots.specs.FaultNumbers.{number_of as native_number}
 use Rattle.script_lang.specs.declared.fault.ScriptFault.{ScriptFault}
-use Rattle.script_lang.specs.declared.fault.ScriptFault.TheVariants as script
+use Rattle.script_lang.specs.declared.fault.ScriptFault.TheVariants.{TooLarge, BadLine, Memory}
 use Rattle.program_commands.specs.declared.refusal.Refusal.{Refusal}
-use Rattle.program_commands.specs.declared.refusal.Refusal.TheVariants.{Numbered, BadLine, Denied, Memory}
+use Rattle.program_commands.specs.declared.refusal.Refusal.TheVariants.{Text, Loading, Certificate, Script, Check, Natives}
 use Rattle.trace_lines.specs.Lines.{newline}
 
--- the refusal of this number; want of memory has none
-abbrev pub numbered : Option ℕ → Refusal
-numbered (Some k) = Numbered k
-numbered None = Memory
+-- the number of a refused script; want of memory has none
+abbrev pub script_number : ScriptFault → Option ℕ
+script_number TooLarge = Some 7
+script_number (BadLine n) = Some 16
+script_number Memory = None
 
--- the checker's no of this number; want of memory has none
-abbrev pub denied : Option ℕ → Refusal
-denied (Some k) = Denied k
-denied None = Memory
+-- the number of a refusal, or of the checker's no
+abbrev pub refusal_number : Refusal → Option ℕ
+refusal_number (Text fault) = text_number fault
+refusal_number (Loading fault) = meta_number fault
+refusal_number (Certificate fault) = certificate_number fault
+refusal_number (Script fault) = script_number fault
+refusal_number (Check why) = no_number why
+refusal_number (Natives fault) = Some (native_number fault)
 
-abbrev pub of_script : ScriptFault → Refusal
-of_script script.TooLarge = Numbered 7
-of_script (script.BadLine line) = BadLine line
-of_script script.Memory = Memory
+-- ---- lines
 
 abbrev pub memory_line : List ℕ
 memory_line = codes "memory\n"
@@ -34,15 +41,35 @@ yes_line = codes "yes\n"
 abbrev pub fault_line : ℕ → List ℕ
 fault_line k = codes "fault " ++ decimal k ++ newline
 
-abbrev pub refusal_line : Refusal → List ℕ
-refusal_line (Numbered k) = codes "refused " ++ decimal k ++ newline
-refusal_line (BadLine n) = codes "refused 16 line " ++ decimal n ++ newline
-refusal_line (Denied k) = codes "no " ++ decimal k ++ newline
-refusal_line Memory = memory_line
+-- a line of words and a number; without one it is that of want of memory
+abbrev pub line_of : List ℕ → Option ℕ → List ℕ
+line_of words (Some k) = words ++ decimal k ++ newline
+line_of words None = memory_line
 
--- the exit status
+abbrev pub script_line : ScriptFault → List ℕ
+script_line TooLarge = line_of (codes "refused ") (script_number TooLarge)
+script_line (BadLine n) = codes "refused 16 line " ++ decimal n ++ newline
+script_line Memory = line_of (codes "refused ") (script_number Memory)
+
+abbrev pub refusal_line : Refusal → List ℕ
+refusal_line (Text fault) = line_of (codes "refused ") (text_number fault)
+refusal_line (Loading fault) = line_of (codes "refused ") (meta_number fault)
+refusal_line (Certificate fault) = line_of (codes "refused ") (certificate_number fault)
+refusal_line (Script fault) = script_line fault
+refusal_line (Check why) = line_of (codes "no ") (no_number why)
+refusal_line (Natives fault) = line_of (codes "refused ") (Some (native_number fault))
+
+-- ---- the exit status
+
+-- .. where there is a number; that of want of memory is 1
+abbrev pub status_of : ℕ → Option ℕ → ℕ
+status_of status (Some k) = status
+status_of status None = 1
+
 abbrev pub refusal_status : Refusal → ℕ
-refusal_status (Numbered k) = 2
-refusal_status (BadLine n) = 2
-refusal_status (Denied k) = 3
-refusal_status Memory = 1
+refusal_status (Text fault) = status_of 2 (text_number fault)
+refusal_status (Loading fault) = status_of 2 (meta_number fault)
+refusal_status (Certificate fault) = status_of 2 (certificate_number fault)
+refusal_status (Script fault) = status_of 2 (script_number fault)
+refusal_status (Check why) = status_of 3 (no_number why)
+refusal_status (Natives fault) = status_of 2 (Some (native_number fault))

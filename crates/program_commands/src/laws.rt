@@ -1,8 +1,16 @@
 //! Laws on the commands.
 
-ghost use Rattle.program_commands.specs.Commands.{CertifiedIsAgreed};
+ghost use Rattle.program_commands.specs.Commands.{CertifiedIsAgreed, OneDescription, OneCertifying, OneCheck};
 
 /// What `certify` writes of a program with the exit status 0 is a certificate that `check` says yes to, byte for byte.
 pub fn certified_is_agreed()
     ensures { CertifiedIsAgreed }
+{}
+
+/// But for want of memory, what `meta`, `certify` and `check` write is determined by their texts; of several cycles, paths or
+/// chains that show why a program has no certificate `certify` may name any one.
+pub fn one_outcome()
+    ensures meta { OneDescription }
+    ensures certify { OneCertifying }
+    ensures check { OneCheck }
 {}

@@ -1,18 +1,18 @@
 //! The commands that run nothing: a program's classes, its certificate, and whether a certificate is valid for it. From the
-//! bytes of the texts to the bytes that are written and an exit status.
+//! bytes of the texts to what they come to, and to the bytes that are written and an exit status.
 #![tactic(auto)]
 
-mod certifying;
-mod checks;
-mod description;
+mod commands;
 mod laws;
 mod loading;
+mod outcome;
+mod reasons;
 mod refusal;
 
-pub use certifying::certify;
-pub use checks::check;
-pub use description::meta;
-pub use laws::certified_is_agreed;
-pub use loading::{load_certified, load_program, refuse};
-pub use refusal::{Refusal, UNDONE};
+pub use commands::{certify, certify_outcome, check, check_outcome, meta, meta_outcome};
+pub use laws::{certified_is_agreed, one_outcome};
+pub use loading::{load_certified, load_program, load_valid};
+pub use outcome::Outcome;
+pub use rank_make::Why;
+pub use refusal::Refusal;
 pub use trace_lines::WriteFault;

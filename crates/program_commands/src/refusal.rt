@@ -1,6 +1,8 @@
+//! Why a program isn't checked or run.
+
 ghost use Rattle.std.specs.Prelude.{◌≡◌};
 ghost use Rattle.trace_lines.specs.Sent.{Puts};
-ghost use Rattle.program_commands.specs.Refusals.{numbered, refusal_line, refusal_status};
+ghost use Rattle.program_commands.specs.Refusals.{refusal_line, refusal_number, refusal_status, line_of, script_line, script_number, status_of};
 
 use certificate_lang::CertificateFault;
 use class_lang::TextFault;
@@ -12,22 +14,27 @@ use std::io::Write;
 use thiserror::Error;
 use trace_lines::Output;
 
-/// Why a program isn't checked or run, with its certificate, its script and its natives.
+/// Why a program isn't checked or run, with its certificate, its script and its natives: what is refused, and why.
 #[derive(Debug, Drop, Error)]
 pub enum Refusal {
-    /// The program, its certificate or one of its natives is refused for the reason of this number, or the script is too
-    /// large, which is 7.
-    #[error("refused {0}")]
-    Numbered(u8),
-    /// The first line of the script that is no event, counted from 1.
-    #[error("refused 16 line {0}")]
-    BadLine(usize),
-    /// The certificate isn't valid for the program, for the reason of this number, from 70 to 76.
-    #[error("no {0}")]
-    Denied(u8),
-    /// A growth of memory was refused.
-    #[error("out of memory")]
-    Memory,
+    /// The program's text can't be read.
+    #[error(transparent)]
+    Text(TextFault),
+    /// The program doesn't load.
+    #[error(transparent)]
+    Loading(MetaFault),
+    /// The certificate can't be read.
+    #[error(transparent)]
+    Certificate(CertificateFault),
+    /// The script can't be read.
+    #[error(transparent)]
+    Script(ScriptFault),
+    /// The certificate isn't valid for the program.
+    #[error(transparent)]
+    Check(No),
+    /// The closures aren't those of the natives that the program declares.
+    #[error(transparent)]
+    Natives(NativeFault),
 }
 
 /// The exit status where nothing was done.
@@ -38,14 +45,32 @@ const REFUSED: u8 = 2;
 pub const DENIED: u8 = 3;
 
 impl Refusal {
+    /// The number under which it is answered: that of the refusal, from 2 to 18 or 77, or of the checker's no, from 70 to
+    /// 76. Want of memory has none.
+    pub fn number(&self) -> Option<u8>
+        ensures { result ≡ refusal_number self.now }
+    {
+        match self {
+            Refusal::Text(fault) => fault.number(),
+            Refusal::Loading(fault) => fault.number(),
+            Refusal::Certificate(fault) => fault.number(),
+            Refusal::Script(fault) => number_of_script(fault),
+            Refusal::Check(no) => no.number(),
+            Refusal::Natives(fault) => Some(fault.number()),
+        }
+    }
+
     /// The exit status.
     pub fn status(&self) -> u8
         ensures { result ≡ refusal_status self.now }
     {
         match self {
-            Refusal::Numbered(_) | Refusal::BadLine(_) => REFUSED,
-            Refusal::Denied(_) => DENIED,
-            Refusal::Memory => UNDONE,
+            Refusal::Text(fault) => status_or_undone(REFUSED, fault.number()),
+            Refusal::Loading(fault) => status_or_undone(REFUSED, fault.number()),
+            Refusal::Certificate(fault) => status_or_undone(REFUSED, fault.number()),
+            Refusal::Script(fault) => status_or_undone(REFUSED, number_of_script(fault)),
+            Refusal::Check(no) => status_or_undone(DENIED, no.number()),
+            Refusal::Natives(fault) => status_or_undone(REFUSED, Some(fault.number())),
         }
     }
 
@@ -54,98 +79,120 @@ impl Refusal {
         ensures { Puts W.contents output.old output.new (refusal_line self.now) }
     {
         match self {
-            Refusal::Numbered(number) => output.numbered(b"refused ", *number),
-            Refusal::BadLine(line) => output.numbered(b"refused 16 line ", *line),
-            Refusal::Denied(number) => output.numbered(b"no ", *number),
-            Refusal::Memory => output.put(b"memory\n"),
+            Refusal::Text(fault) => put_line(output, b"refused ", fault.number()),
+            Refusal::Loading(fault) => put_line(output, b"refused ", fault.number()),
+            Refusal::Certificate(fault) => put_line(output, b"refused ", fault.number()),
+            Refusal::Script(fault) => put_script(output, fault),
+            Refusal::Check(no) => put_line(output, b"no ", no.number()),
+            Refusal::Natives(fault) => output.numbered(b"refused ", fault.number()),
         }
     }
+}
 
-    /// The refusal of this number, where want of memory has none.
-    fn numbered(number: Option<u8>) -> Refusal
-        ensures { result ≡ numbered number }
-    {
-        match number {
-            Some(number) => Refusal::Numbered(number),
-            None => Refusal::Memory,
-        }
+/// The number of a refused script; want of memory has none.
+fn number_of_script(fault: &ScriptFault) -> Option<u8>
+    ensures { result ≡ script_number fault.now }
+{
+    match fault {
+        ScriptFault::TooLarge => Some(7),
+        ScriptFault::BadLine(_) => Some(16),
+        ScriptFault::Memory => None,
+    }
+}
+
+/// Adds the line of a refused script.
+fn put_script<W: Write>(output: &mut Output<'_, W>, fault: &ScriptFault)
+    ensures { Puts W.contents output.old output.new (script_line fault.now) }
+{
+    match fault {
+        ScriptFault::TooLarge => put_line(output, b"refused ", number_of_script(fault)),
+        ScriptFault::BadLine(line) => output.numbered(b"refused 16 line ", *line),
+        ScriptFault::Memory => put_line(output, b"refused ", number_of_script(fault)),
+    }
+}
+
+/// This exit status, where there is a number, and else that of want of memory.
+fn status_or_undone(status: u8, number: Option<u8>) -> u8
+    ensures { result ≡ status_of status number }
+{
+    match number {
+        Some(_) => status,
+        None => UNDONE,
+    }
+}
+
+/// Adds a line of these words and a number, or that of want of memory.
+fn put_line<W: Write>(output: &mut Output<'_, W>, words: &[u8], number: Option<u8>)
+    ensures { Puts W.contents output.old output.new (line_of words.now number) }
+{
+    match number {
+        Some(number) => output.numbered(words, number),
+        None => output.put(b"memory\n"),
     }
 }
 
 impl From<TextFault> for Refusal {
     ghost use Rattle.std.specs.Prelude.{◌≡◌};
-    ghost use Rattle.class_lang.specs.Reads.{number_of};
-    ghost use Rattle.program_commands.specs.Refusals.{numbered};
+    ghost use Rattle.program_commands.specs.declared.refusal.Refusal.TheVariants.{Text};
 
-    ghost from_gives = { λ fault refusal. refusal ≡ numbered (number_of fault) };
+    ghost from_gives = { λ fault refusal. refusal ≡ Text fault };
 
     fn from(fault: TextFault) -> Refusal {
-        Refusal::numbered(fault.number())
+        Refusal::Text(fault)
     }
 }
 
 impl From<MetaFault> for Refusal {
     ghost use Rattle.std.specs.Prelude.{◌≡◌};
-    ghost use Rattle.meta_model.specs.FaultNumbers.{number_of};
-    ghost use Rattle.program_commands.specs.Refusals.{numbered};
+    ghost use Rattle.program_commands.specs.declared.refusal.Refusal.TheVariants.{Loading};
 
-    ghost from_gives = { λ fault refusal. refusal ≡ numbered (number_of fault) };
+    ghost from_gives = { λ fault refusal. refusal ≡ Loading fault };
 
     fn from(fault: MetaFault) -> Refusal {
-        Refusal::numbered(fault.number())
-    }
-}
-
-impl From<NativeFault> for Refusal {
-    ghost use Rattle.std.specs.Prelude.{◌≡◌};
-    ghost use Rattle.native_slots.specs.FaultNumbers.{number_of};
-    ghost use Rattle.program_commands.specs.declared.refusal.Refusal.TheVariants.{Numbered};
-
-    ghost from_gives = { λ fault refusal. refusal ≡ Numbered (number_of fault) };
-
-    fn from(fault: NativeFault) -> Refusal {
-        Refusal::Numbered(fault.number())
+        Refusal::Loading(fault)
     }
 }
 
 impl From<CertificateFault> for Refusal {
     ghost use Rattle.std.specs.Prelude.{◌≡◌};
-    ghost use Rattle.certificate_lang.specs.Reads.{number_of};
-    ghost use Rattle.program_commands.specs.Refusals.{numbered};
+    ghost use Rattle.program_commands.specs.declared.refusal.Refusal.TheVariants.{Certificate};
 
-    ghost from_gives = { λ fault refusal. refusal ≡ numbered (number_of fault) };
+    ghost from_gives = { λ fault refusal. refusal ≡ Certificate fault };
 
     fn from(fault: CertificateFault) -> Refusal {
-        Refusal::numbered(fault.number())
-    }
-}
-
-impl From<No> for Refusal {
-    ghost use Rattle.std.specs.Prelude.{◌≡◌};
-    ghost use Rattle.rank_check.specs.Checks.{number_of};
-    ghost use Rattle.program_commands.specs.Refusals.{denied};
-
-    ghost from_gives = { λ no refusal. refusal ≡ denied (number_of no) };
-
-    fn from(no: No) -> Refusal {
-        match no.number() {
-            Some(number) => Refusal::Denied(number),
-            None => Refusal::Memory,
-        }
+        Refusal::Certificate(fault)
     }
 }
 
 impl From<ScriptFault> for Refusal {
     ghost use Rattle.std.specs.Prelude.{◌≡◌};
-    ghost use Rattle.program_commands.specs.Refusals.{of_script};
+    ghost use Rattle.program_commands.specs.declared.refusal.Refusal.TheVariants.{Script};
 
-    ghost from_gives = { λ fault refusal. refusal ≡ of_script fault };
+    ghost from_gives = { λ fault refusal. refusal ≡ Script fault };
 
     fn from(fault: ScriptFault) -> Refusal {
-        match fault {
-            ScriptFault::TooLarge => Refusal::Numbered(7),
-            ScriptFault::BadLine(line) => Refusal::BadLine(line),
-            ScriptFault::Memory => Refusal::Memory,
-        }
+        Refusal::Script(fault)
+    }
+}
+
+impl From<No> for Refusal {
+    ghost use Rattle.std.specs.Prelude.{◌≡◌};
+    ghost use Rattle.program_commands.specs.declared.refusal.Refusal.TheVariants.{Check};
+
+    ghost from_gives = { λ no refusal. refusal ≡ Check no };
+
+    fn from(no: No) -> Refusal {
+        Refusal::Check(no)
+    }
+}
+
+impl From<NativeFault> for Refusal {
+    ghost use Rattle.std.specs.Prelude.{◌≡◌};
+    ghost use Rattle.program_commands.specs.declared.refusal.Refusal.TheVariants.{Natives};
+
+    ghost from_gives = { λ fault refusal. refusal ≡ Natives fault };
+
+    fn from(fault: NativeFault) -> Refusal {
+        Refusal::Natives(fault)
     }
 }

@@ -1,31 +1,46 @@
 //! What is told of a fault.
 
+use crate::active::active;
 use crate::events::nature_in;
 use crate::script::Script;
-use crate::seen::Seen;
 use crate::suspects::{Nature, Suspects};
+use machine_state::{Entry, Fault};
 use std::alloc::{AllocError, Global};
 use std::str;
+use trace_lines::Output;
 
 /// So many lines of what was begun are shown from the front, and as many from the back.
 const SHOWN: usize = 5;
 
-/// What is told of a fault of this number, behind what it means: the event at which it came, or the two at one of which
+/// The most bytes of a line that are shown.
+const MOST_OF_LINE: usize = 160;
+
+/// The last event of a trace.
+#[derive(Clone, Copy, Debug, PartialEq, Eq)]
+struct LastEvent {
+    /// Its number in the script, counted from 1; 0 where there was none.
+    number: u64,
+    /// Whether it was refused.
+    was_refused: bool,
+}
+
+/// What is told of a fault that ended a run with this trace, behind what the fault means: the event at which it came, or the two at one of which
 /// it came where the trace doesn't tell more, with the event's line; what that event had begun; and what to do. Where the
 /// input isn't known no line is told.
 pub fn fault_report(
     alloc: Global,
     input: Option<&[u8]>,
-    seen: &Seen,
-    fault: u8,
-) -> Result<Option<String>, AllocError> {
+    trace: &[Entry],
+    fault: Fault,
+) -> Result<String, AllocError> {
     let mut text = String::new(alloc);
     let script = match input {
         Some(input) => Some(Script::of(alloc, input)?),
         None => None,
     };
-    let suspects = suspects(alloc, script, seen, fault)?;
-    let last = seen.event();
+    let event = last_event(trace);
+    let suspects = suspects(alloc, script, event, fault)?;
+    let last = event.number;
     if suspects.last && last > 0 {
         writeln!(&mut text, "in event {last}")?;
         push_line(&mut text, alloc, script, last)?;
@@ -39,20 +54,46 @@ pub fn fault_report(
         push_line(&mut text, alloc, script, next)?;
     }
     if suspects.last {
-        push_active(&mut text, seen.active())?;
+        push_active(&mut text, alloc, trace)?;
     }
     if let Some(advice) = advice(fault) {
         writeln!(&mut text, "help: {advice}")?;
     }
-    Ok(Some(text))
+    Ok(text)
+}
+
+/// The last event of a trace.
+fn last_event(trace: &[Entry]) -> LastEvent {
+    let mut last = LastEvent {
+        number: 0,
+        was_refused: false,
+    };
+    for entry in trace {
+        match entry {
+            Entry::Accepted(number) => {
+                last = LastEvent {
+                    number: *number,
+                    was_refused: false,
+                }
+            }
+            Entry::Refused(number, _) => {
+                last = LastEvent {
+                    number: *number,
+                    was_refused: true,
+                }
+            }
+            Entry::At(_, _) => {}
+        }
+    }
+    last
 }
 
 /// The events at which the fault may have come.
 fn suspects(
     alloc: Global,
     script: Option<Script<'_>>,
-    seen: &Seen,
-    fault: u8,
+    event: LastEvent,
+    fault: Fault,
 ) -> Result<Suspects, AllocError> {
     let Some(script) = script else {
         return Ok(Suspects {
@@ -60,12 +101,12 @@ fn suspects(
             next: false,
         });
     };
-    let last = if seen.was_refused() {
+    let last = if event.was_refused {
         None
     } else {
-        nature_of(alloc, script, seen.event())?
+        nature_of(alloc, script, event.number)?
     };
-    let next = nature_of(alloc, script, seen.event().saturating_add(1))?;
+    let next = nature_of(alloc, script, event.number.saturating_add(1))?;
     Ok(Suspects::of(fault, last, next))
 }
 
@@ -94,46 +135,76 @@ fn push_line(
 }
 
 /// Adds the lines of what was begun, of which the middle is left out where there are many.
-fn push_active(text: &mut String, lines: &[Vec<u8>]) -> Result<(), AllocError> {
-    if lines.is_empty() {
+fn push_active(text: &mut String, alloc: Global, trace: &[Entry]) -> Result<(), AllocError> {
+    let active = active(alloc, trace)?;
+    let active = active.as_slice();
+    if active.is_empty() {
         return Ok(());
     }
     text.push_str("begun by then, the outermost first (the inner ones may have ended):\n")?;
-    if lines.len() <= 2 * SHOWN {
-        return push_lines(text, lines);
+    if active.len() <= 2 * SHOWN {
+        return push_lines(text, alloc, trace, active);
     }
-    push_lines(text, &lines[..SHOWN])?;
+    push_lines(text, alloc, trace, &active[..SHOWN])?;
     text.push_str("  ..\n")?;
-    push_lines(text, &lines[lines.len() - SHOWN..])
+    push_lines(text, alloc, trace, &active[active.len() - SHOWN..])
 }
 
-/// Adds lines of a trace.
-fn push_lines(text: &mut String, lines: &[Vec<u8>]) -> Result<(), AllocError> {
-    for line in lines {
+/// Adds the lines of the entries at these places.
+fn push_lines(
+    text: &mut String,
+    alloc: Global,
+    trace: &[Entry],
+    places: &[usize],
+) -> Result<(), AllocError> {
+    let mut line = Vec::new(alloc);
+    for place in places {
+        line.clear();
+        put_line(&mut line, alloc, trace, *place)?;
+        let shown = &line.as_slice()[..line.len().min(MOST_OF_LINE)];
         text.push_str("  ")?;
-        text.push_str(str::from_utf8(line.as_slice()).unwrap_or(".."))?;
+        text.push_str(str::from_utf8(shown).unwrap_or(".."))?;
         text.push('\n')?;
     }
     Ok(())
 }
 
+/// Puts the line of the entry at this place, without its newline, behind these bytes.
+fn put_line(
+    line: &mut Vec<u8>,
+    alloc: Global,
+    trace: &[Entry],
+    place: usize,
+) -> Result<(), AllocError> {
+    let entry = trace.get(place..place.saturating_add(1)).unwrap_or(&[]);
+    let mut output = Output::new(alloc, line);
+    output.entries(entry);
+    let ended = output.finish(0);
+    drop(output);
+    let _newline = line.pop();
+    match ended {
+        Ok(_) => Ok(()),
+        Err(_) => Err(AllocError),
+    }
+}
+
 /// What to do about a fault.
-fn advice(fault: u8) -> Option<&'static str> {
+fn advice(fault: Fault) -> Option<&'static str> {
     match fault {
-        60 => Some(
+        Fault::BadType => Some(
             "`certify` says without a run which literal, body or binding gives a value where another type is asked",
         ),
-        61 => Some(
+        Fault::TooDeep => Some(
             "`certify` finds such chains without a run, and names one that has no end; a `queued` wire in the place of a direct one breaks it; `run --unchecked N` lets N activations nest, at most 256",
         ),
-        62 => Some(
+        Fault::BindingLoop => Some(
             "`certify` finds such chains without a run, and names the properties; no two properties may follow each other",
         ),
-        63 => Some(
+        Fault::InUse => Some(
             "`certify` finds such deletions without a run; `later` in the place of `delete` puts one off until the body has ended",
         ),
-        64 => Some("`--steps M` gives the run M steps; without it a run has 1000000"),
-        65 => Some("a smaller script, or objects that are deleted, need less memory"),
-        _ => None,
+        Fault::Steps => Some("`--steps M` gives the run M steps; without it a run has 1000000"),
+        Fault::Memory => Some("a smaller script, or objects that are deleted, need less memory"),
+        Fault::Stopped => None,
     }
 }

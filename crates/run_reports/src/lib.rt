@@ -8,13 +8,9 @@ mod events;
 mod faults;
 mod refusals;
 mod script;
-mod seen;
 mod suspects;
-mod writer;
 
 pub use asked::{EXPLAIN, is_asked};
 pub use events::{EventLine, event_line};
 pub use faults::fault_report;
 pub use refusals::refusal_report;
-pub use seen::{RefusedEvent, Seen};
-pub use writer::TracedWriter;

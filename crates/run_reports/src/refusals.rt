@@ -1,18 +1,31 @@
 //! What is told of refused events.
 
 use crate::script::Script;
-use crate::seen::{RefusedEvent, Seen};
+use machine_state::Entry;
 use std::alloc::{AllocError, Global};
 use text_flaws::meaning;
 
-/// What is told of the events that were refused: of each of the first ones what its reason means, and its line, where the
-/// input is known; and how many more there were. `None` where no event was refused.
+/// So many refused events are told.
+const MOST_TOLD: usize = 100;
+
+/// An event that was refused, and why.
+#[derive(Clone, Copy, Debug, PartialEq, Eq)]
+struct RefusedEvent {
+    /// Its number in the script, counted from 1.
+    event: u64,
+    /// The reason's number.
+    reason: u8,
+}
+
+/// What is told of the events that were refused in a run with this trace: of each of the first 100 what its reason means, and
+/// its line, where the input is known; and how many more there were. `None` where no event was refused.
 pub fn refusal_report(
     alloc: Global,
     input: Option<&[u8]>,
-    seen: &Seen,
+    trace: &[Entry],
 ) -> Result<Option<String>, AllocError> {
-    if seen.refused().is_empty() {
+    let refused = refused_events(alloc, trace)?;
+    if refused.is_empty() {
         return Ok(None);
     }
     let script = match input {
@@ -20,14 +33,28 @@ pub fn refusal_report(
         None => None,
     };
     let mut text = String::new(alloc);
-    for refused in seen.refused() {
+    for refused in refused.as_slice().iter().take(MOST_TOLD) {
         push_refusal(&mut text, alloc, script, *refused)?;
     }
-    let untold = seen.untold();
+    let untold = refused.len().saturating_sub(MOST_TOLD);
     if untold > 0 {
         writeln!(&mut text, "and {untold} more events were refused")?;
     }
     Ok(Some(text))
+}
+
+/// The refused events of a trace, in their order.
+fn refused_events(alloc: Global, trace: &[Entry]) -> Result<Vec<RefusedEvent>, AllocError> {
+    let mut refused = Vec::new(alloc);
+    for entry in trace {
+        if let Entry::Refused(event, reason) = entry {
+            refused.push(RefusedEvent {
+                event: *event,
+                reason: *reason,
+            })?;
+        }
+    }
+    Ok(refused)
 }
 
 /// Adds what is told of a refused event.
@@ -37,8 +64,7 @@ fn push_refusal(
     script: Option<Script<'_>>,
     refused: RefusedEvent,
 ) -> Result<(), AllocError> {
-    let event = refused.event;
-    let reason = refused.reason;
+    let RefusedEvent { event, reason } = refused;
     let about = meaning(reason).unwrap_or("");
     writeln!(text, "event {event} refused {reason}: {about}")?;
     let Some(script) = script else {

@@ -3,19 +3,8 @@
 //! A trace tells which events were taken, and not how far the last one had come. A fault comes in the middle of the last
 //! event, or where the next one was to be taken, which then has no line (docs/machine.md, "Faults").
 
+use machine_state::Fault;
 use script_lang::Event;
-
-/// A value of a wrong type.
-const BAD_TYPE: u8 = 60;
-
-/// A chain of bindings back to a property itself.
-const BINDING_LOOP: u8 = 62;
-
-/// The limit of rules.
-const STEPS: u8 = 64;
-
-/// Want of memory.
-const MEMORY: u8 = 65;
 
 /// How an event may lead to a fault.
 #[derive(Clone, Copy, Debug, PartialEq, Eq)]
@@ -45,20 +34,20 @@ impl Nature {
     }
 
     /// Whether the fault may come once an event is taken.
-    fn may_lead_to(self, fault: u8) -> bool {
+    fn may_lead_to(self, fault: Fault) -> bool {
         match self {
-            Nature::Bind | Nature::Lasting => fault != BINDING_LOOP,
+            Nature::Bind | Nature::Lasting => fault != Fault::BindingLoop,
             Nature::Quiet | Nature::New => false,
         }
     }
 
     /// Whether the fault may come as an event is to be taken.
-    fn may_meet(self, fault: u8) -> bool {
+    fn may_meet(self, fault: Fault) -> bool {
         match fault {
-            BAD_TYPE => self == Nature::New || self == Nature::Bind,
-            BINDING_LOOP => self == Nature::Bind,
-            STEPS | MEMORY => true,
-            _ => false,
+            Fault::BadType => self == Nature::New || self == Nature::Bind,
+            Fault::BindingLoop => self == Nature::Bind,
+            Fault::Steps | Fault::Memory => true,
+            Fault::TooDeep | Fault::InUse | Fault::Stopped => false,
         }
     }
 }
@@ -74,7 +63,7 @@ pub struct Suspects {
 
 impl Suspects {
     /// The suspects of a fault, by the last event, if it was accepted, and by the next one, if there is one.
-    pub fn of(fault: u8, last: Option<Nature>, next: Option<Nature>) -> Suspects {
+    pub fn of(fault: Fault, last: Option<Nature>, next: Option<Nature>) -> Suspects {
         let last = match last {
             Some(nature) => nature.may_lead_to(fault),
             None => false,

@@ -4,25 +4,13 @@ use Rattle.std.specs.List.{flat_map}
 use Rattle.std.specs.Option.{option_and_then}
 use Rattle.signatures.specs.Spelling.{text_of_sig, text_of_type}
 use Rattle.meta_model.specs.Loaded.{Loaded}
+use Rattle.meta_model.specs.Members.{base_class, methods_in, properties_in}
 use Rattle.meta_model.specs.declared.object.MetaObject.{MetaObject}
 use Rattle.meta_model.specs.declared.object.MetaMethod.{MetaMethod}
 use Rattle.meta_model.specs.declared.object.MetaProperty.{MetaProperty}
 use Rattle.meta_model.specs.declared.object.Work.{Work}
 use Rattle.meta_model.specs.declared.object.Work.TheVariants.{Signal, Slot, Native}
 use Rattle.trace_lines.specs.Lines.{newline}
-
--- the class that a class stands under
-abbrev pub base_of : Loaded → MetaObject → Option MetaObject
-base_of p class = option_and_then (slice_get p.classes) class.base
-
--- how many methods and properties it has from there
-abbrev pub method_offset : Option MetaObject → ℕ
-method_offset None = 0
-method_offset (Some base) = length base.methods
-
-abbrev pub property_offset : Option MetaObject → ℕ
-property_offset None = 0
-property_offset (Some base) = length base.properties
 
 -- ` : B`
 abbrev pub base_text : Option MetaObject → List ℕ
@@ -32,7 +20,7 @@ base_text (Some base) = codes " : " ++ base.name
 -- `class C : B offset count`
 abbrev pub class_line : MetaObject → Option MetaObject → List ℕ
 class_line class base =
-    codes "class " ++ class.name ++ base_text base ++ codes " " ++ decimal (method_offset base) ++ codes " " ++ decimal (length class.methods) ++ newline
+    codes "class " ++ class.name ++ base_text base ++ codes " " ++ decimal (methods_in base) ++ codes " " ++ decimal (length class.methods) ++ newline
 
 abbrev pub work_text : Work → List ℕ
 work_text Signal = codes " signal "
@@ -64,12 +52,12 @@ property_line class property =
 -- the class's line, and those of its own methods and properties
 abbrev pub class_lines : MetaObject → Option MetaObject → List ℕ
 class_lines class base =
-    class_line class base ++ method_lines (method_offset base) (drop (method_offset base) class.methods)
-    ++ flat_map (property_line class) (drop (property_offset base) class.properties)
+    class_line class base ++ method_lines (methods_in base) (drop (methods_in base) class.methods)
+    ++ flat_map (property_line class) (drop (properties_in base) class.properties)
 
 -- a class's lines, in its program
 abbrev pub described : Loaded → MetaObject → List ℕ
-described p class = class_lines class (base_of p class)
+described p class = class_lines class (base_class p class)
 
 -- every class, `QObject` first
 abbrev pub meta_text : Loaded → List ℕ

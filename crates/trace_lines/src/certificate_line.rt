@@ -3,12 +3,12 @@
 ghost use Rattle.std.specs.Prelude.{◌++◌, codes};
 ghost use Rattle.std.specs.List.{flat_map};
 ghost use Rattle.signatures.specs.Spelling.{text_of_sig};
-ghost use Rattle.certificate_texts.specs.Texts.{node_text, destroyed_text, node_line, certificate_text};
+ghost use Rattle.certificate_texts.specs.Texts.{node_text, item_text, listed_text, node_line, certificate_text};
 ghost use Rattle.trace_lines.specs.Lines.{member_text};
 ghost use Rattle.trace_lines.specs.Sent.{Puts};
 
 use crate::output::Output;
-use certificate_lang::{Certificate, Line, MemberName, NodeName};
+use certificate_lang::{Certificate, Line, MemberName, NodeName, SetItem};
 use signatures::{Name, Sig};
 use std::io::Write;
 
@@ -65,13 +65,22 @@ impl<W: Write> Output<'_, W> {
         self.sig(sig);
     }
 
-    /// Adds classes, a blank in front of each.
-    fn destroyed(&mut self, classes: &[Name])
-        ensures { Puts W.contents self.old self.new (flat_map destroyed_text classes.now) }
+    /// Adds the items of a destroy set, a blank in front of each.
+    fn destroyed(&mut self, items: &[SetItem])
+        ensures { Puts W.contents self.old self.new (flat_map listed_text items.now) }
     {
-        for class in classes {
+        for item in items {
             self.put(b" ");
-            self.name(class);
+            self.set_item(item);
+        }
+    }
+
+    /// Adds an item of a destroy set.
+    fn set_item(&mut self, item: &SetItem)
+        ensures { Puts W.contents self.old self.new (item_text item.now) }
+    {
+        match item {
+            SetItem::Class(name) => self.name(name),
         }
     }
 }

@@ -3,7 +3,8 @@
 ghost use Rattle.std.specs.Prelude.{◌≡◌, ◌++◌, drop, length, option_copied};
 ghost use Rattle.std.specs.List.{flat_map};
 ghost use Rattle.signatures.specs.Spelling.{const_text, star_text, text_of_sig, text_of_type, text_of_types, text_of_others};
-ghost use Rattle.trace_lines.specs.MetaLines.{described, base_of, class_line, class_lines, method_line, method_lines, method_offset, property_offset, notify_text, property_line, meta_text, work_text, base_text};
+ghost use Rattle.meta_model.specs.Members.{base_class, methods_in, properties_in};
+ghost use Rattle.trace_lines.specs.MetaLines.{described, class_line, class_lines, method_line, method_lines, notify_text, property_line, meta_text, work_text, base_text};
 ghost use Rattle.trace_lines.specs.Sent.{Puts};
 
 use crate::output::Output;
@@ -198,7 +199,7 @@ fn work_text(work: &Work) -> &'static [u8]
 
 /// The class that a class stands under.
 fn base_of<'m>(meta: &'m Meta, class: &MetaObject) -> Option<&'m MetaObject>
-    ensures { option_copied result ≡ base_of meta.now class.now }
+    ensures { option_copied result ≡ base_class meta.now class.now }
 {
     match class.base {
         Some(base) => meta.object(base),
@@ -208,7 +209,7 @@ fn base_of<'m>(meta: &'m Meta, class: &MetaObject) -> Option<&'m MetaObject>
 
 /// How many methods a class has from its base.
 fn method_offset(base: Option<&MetaObject>) -> usize
-    ensures { result ≡ method_offset (option_copied base.entry) }
+    ensures { result ≡ methods_in (option_copied base.entry) }
 {
     match base {
         Some(base) => base.methods.len(),
@@ -218,7 +219,7 @@ fn method_offset(base: Option<&MetaObject>) -> usize
 
 /// How many properties a class has from its base.
 fn property_offset(base: Option<&MetaObject>) -> usize
-    ensures { result ≡ property_offset (option_copied base.entry) }
+    ensures { result ≡ properties_in (option_copied base.entry) }
 {
     match base {
         Some(base) => base.properties.len(),

@@ -1,98 +1,51 @@
 -- Where `run` accepts, it refuses nothing but for want of memory, and runs what it accepts.
-use Rattle.std.proofs.Common.{◌≡◌, ℕ, inl, inr, List, Some, None, Result, Ok, Err, refl, sym, ap, ◌∙◌, subst}
-use Rattle.certificate_lang.specs.Reads.{ReadsCertificate, number_of as certificate_number}
+use Rattle.std.proofs.Common.{◌≡◌, ◌≢◌, ℕ, ◌⊎◌, inl, inr, List, Some, None, Result, Ok, Err, refl, sym, ap, ◌∙◌, subst}
 use Rattle.certificate_lang.specs.declared.certificate.Certificate.{Certificate}
-use Rattle.certificate_lang.specs.declared.fault.CertificateFault.{CertificateFault}
-use Rattle.certificate_lang.specs.declared.fault.CertificateFault.TheVariants as of_certificate
-use Rattle.certificate_lang.proofs.Certificates.{one_certificate}
-use Rattle.class_lang.specs.Reads.{ReadsProgram, number_of as text_number}
-use Rattle.class_lang.specs.declared.fault.TextFault.{TextFault}
-use Rattle.class_lang.specs.declared.fault.TextFault.TheVariants as of_text
-use Rattle.class_lang.proofs.OneAnswer.{one_answer as one_reading, one_program_text}
-use Rattle.meta_model.specs.FaultNumbers.{number_of as meta_number}
 use Rattle.meta_model.specs.Loaded.{Loaded}
-use Rattle.meta_model.specs.declared.fault.MetaFault.{MetaFault}
-use Rattle.meta_model.specs.declared.fault.MetaFault.TheVariants as of_meta
-use Rattle.meta_objects.specs.Builds.{Builds}
-use Rattle.meta_objects.proofs.OnlyAnswer.{one_answer as one_loading}
 use Rattle.native_slots.specs.declared.fault.NativeFault.{NativeFault}
 use Rattle.native_slots.specs.declared.fault.NativeFault.TheVariants as of_native
 use Rattle.native_slots.specs.declared.head.NativeHead.{NativeHead}
 use Rattle.native_slots.specs.Fitting.{Fit, AreAsDeclared}
-use Rattle.rank_check.specs.Checks.{Checks, number_of as no_number}
-use Rattle.rank_check.specs.Valid.{IsValid}
-use Rattle.rank_check.specs.declared.no.No.{No}
-use Rattle.rank_check.specs.declared.no.No.TheVariants as of_check
+use Rattle.rank_check.specs.Checks.{Checking}
 use Rattle.script_lang.specs.Reads.{ReadsScript}
 use Rattle.script_lang.specs.declared.event.Event.{Event}
 use Rattle.script_lang.specs.declared.fault.ScriptFault.{ScriptFault}
-use Rattle.script_lang.specs.declared.fault.ScriptFault.TheVariants as of_script_fault
-use Rattle.script_lang.proofs.OneAnswer.{one_list, one_result}
-use Rattle.texts.specs.declared.program.Program.{Program}
+use Rattle.script_lang.specs.declared.fault.ScriptFault.TheVariants as of_script
+use Rattle.script_lang.proofs.OneAnswer.{one_result}
 use Rattle.machine_rules.specs.Natives.{NativeAnswers}
-use Rattle.trace_tool.specs.Accepted.{AcceptedWrites, runs, short}
-use Rattle.program_commands.specs.Loading.{Loads, IsRefused, AreUncertified, text, load, uncertified_program, uncertified}
-use Rattle.trace_tool.specs.Commands.{Accepts, AreUnchecked, MayNotRun, CheckedRunWrites, run_text, run_status, unchecked_texts, unchecked_script, unchecked, not_checked, not_fit, refused, ran, memory}
-use Rattle.program_commands.specs.Refusals.{numbered, denied, of_script, refusal_line, refusal_status}
+use Rattle.program_commands.specs.declared.outcome.Outcome.{Outcome as ProgramOutcome}
+use Rattle.program_commands.specs.declared.outcome.Outcome.TheVariants.{Refused}
 use Rattle.program_commands.specs.declared.refusal.Refusal.{Refusal}
-use Rattle.program_commands.specs.declared.refusal.Refusal.TheVariants.{Memory}
+use Rattle.program_commands.specs.declared.refusal.Refusal.TheVariants as refusal
+use Rattle.program_commands.specs.Outcomes.{IsShort as IsShortProgram}
+use Rattle.program_commands.specs.Refusals.{refusal_number, script_number}
+use Rattle.program_commands.proofs.Once.{OneOf, one_first, one_is, goes_with, loads_once, certified_once, check_once, check_short, IsShortCheck, IsShortResult, never_short, same_short, short_refusal}
+use Rattle.trace_tool.specs.declared.outcome.Outcome.{Outcome}
+use Rattle.trace_tool.specs.Commands.{Accepting, Accepts, AcceptedComesTo, MayRun, RunComesTo, refused}
+use Rattle.trace_tool.specs.Outcomes.{IsShort}
 
--- ---- what is read and loaded is one thing
+-- ---- each step comes to one thing
 
-one-program : {bytes : List ℕ} {p q : Program} → ReadsProgram bytes (Ok p) → ReadsProgram bytes (Ok q) → p ≡ q
-one-program {bytes} {p} {q} a b = one_program_text bytes p q a.text b.text
+script_or_short : (r : Result (List Event) ScriptFault) → (r ≡ Err of_script.Memory) ⊎ (r ≢ Err of_script.Memory)
+script_or_short (Ok events) = inr (λ e. cc e)
+script_or_short (Err of_script.TooLarge) = inr (λ e. cc e)
+script_or_short (Err (of_script.BadLine n)) = inr (λ e. cc e)
+script_or_short (Err of_script.Memory) = inl refl
 
-builds-as : {p q : Program} (r : Result Loaded MetaFault) → p ≡ q → Builds p r → Builds q r
-builds-as r is x = subst (λ (k : Program). Builds k r) is x
+abbrev pub IsShortScript : Result (List Event) ScriptFault → Type 0
+IsShortScript r = r ≡ Err of_script.Memory
 
-one-loaded : {bytes : List ℕ} {a b : Loaded} → Loads bytes a → Loads bytes b → a ≡ b
-one-loaded {bytes} {a} {b} x y =
-    let same = one-program x.reads y.reads in
-    let both : Ok a ≡ Ok b = one_loading y.program (Ok a) (Ok b) (builds-as (Ok a) same x.builds) y.builds (λ e. absurd (cc e)) (λ e. absurd (cc e)) in
-    cc both
-
--- ---- a refusal is want of memory
-
-text-short : {bytes : List ℕ} {p : Program} (fault : TextFault) → ReadsProgram bytes (Err fault) → ReadsProgram bytes (Ok p) → numbered (text_number fault) ≡ Memory
-text-short {bytes} {p} fault a b = elim (one_reading bytes (Err fault) (Ok p) a b) [
-  | inl is ↦ (let short_of : fault ≡ of_text.Memory = cc is in ap (λ (f : TextFault). numbered (text_number f)) short_of)
-  | inr rest ↦ elim rest [
-    | inl bad ↦ absurd (cc bad)
-    | inr bad ↦ absurd (cc bad)
+pub script_once : (text : List ℕ) → OneOf IsShortScript (ReadsScript text)
+script_once text a b h k = elim (script_or_short a) [
+  | inl s ↦ inl s
+  | inr x ↦ elim (script_or_short b) [
+    | inl s ↦ inr (inl s)
+    | inr y ↦ inr (inr (one_result text a b h k x y))
   ]
 ]
 
-load-short : {p : Program} {l : Loaded} (fault : MetaFault) → Builds p (Err fault) → Builds p (Ok l) → numbered (meta_number fault) ≡ Memory
-load-short {p} {l} of_meta.DuplicateClass a b = let bad = one_loading p (Err of_meta.DuplicateClass) (Ok l) a b (λ e. absurd (cc e)) (λ e. absurd (cc e)) in absurd (cc bad)
-load-short {p} {l} of_meta.NoBase a b = let bad = one_loading p (Err of_meta.NoBase) (Ok l) a b (λ e. absurd (cc e)) (λ e. absurd (cc e)) in absurd (cc bad)
-load-short {p} {l} of_meta.DuplicateMember a b = let bad = one_loading p (Err of_meta.DuplicateMember) (Ok l) a b (λ e. absurd (cc e)) (λ e. absurd (cc e)) in absurd (cc bad)
-load-short {p} {l} of_meta.NoMember a b = let bad = one_loading p (Err of_meta.NoMember) (Ok l) a b (λ e. absurd (cc e)) (λ e. absurd (cc e)) in absurd (cc bad)
-load-short {p} {l} of_meta.BadNotify a b = let bad = one_loading p (Err of_meta.BadNotify) (Ok l) a b (λ e. absurd (cc e)) (λ e. absurd (cc e)) in absurd (cc bad)
-load-short {p} {l} of_meta.NoType a b = let bad = one_loading p (Err of_meta.NoType) (Ok l) a b (λ e. absurd (cc e)) (λ e. absurd (cc e)) in absurd (cc bad)
-load-short of_meta.Memory a b = refl
-
-program-short : {bytes : List ℕ} {loaded : Loaded} {refusal : Refusal} → IsRefused bytes refusal → Loads bytes loaded → refusal ≡ Memory
-program-short (text fault reads) x = text-short fault reads x.reads
-program-short (load read fault reads builds) x = load-short fault (builds-as (Err fault) (one-program reads x.reads) builds) x.builds
-
-certificate-short : {bytes : List ℕ} {c : Certificate} (fault : CertificateFault) → ReadsCertificate bytes (Err fault) → ReadsCertificate bytes (Ok c) → numbered (certificate_number fault) ≡ Memory
-certificate-short {c = c} of_certificate.Format a b = absurd (a c b)
-certificate-short of_certificate.Memory a b = refl
-
-script-short : {bytes : List ℕ} {events : List Event} (fault : ScriptFault) → ReadsScript bytes (Err fault) → ReadsScript bytes (Ok events) → of_script fault ≡ Memory
-script-short {bytes} {events} (of_script_fault.BadLine n) a b = let bad = one_result bytes (Err (of_script_fault.BadLine n)) (Ok events) a b (λ e. absurd (cc e)) (λ e. absurd (cc e)) in absurd (cc bad)
-script-short {bytes} {events} of_script_fault.TooLarge a b = let bad = one_result bytes (Err of_script_fault.TooLarge) (Ok events) a b (λ e. absurd (cc e)) (λ e. absurd (cc e)) in absurd (cc bad)
-script-short of_script_fault.Memory a b = refl
-
-check-short : {p : Loaded} {c : Certificate} (why : No) → Checks p c (Err why) → IsValid p c → denied (no_number why) ≡ Memory
-check-short of_check.Wire bad valid = absurd (bad valid.wires)
-check-short of_check.BodyType bad valid = absurd (bad.1 valid.typed)
-check-short of_check.Missing bad valid = absurd (bad.2 valid.each_node)
-check-short of_check.Extra bad valid = absurd (bad.3 valid.nothing_else)
-check-short of_check.Edge bad valid = absurd (bad.4 valid.ranks)
-check-short of_check.Destroys bad valid = absurd (bad.5 valid.sets)
-check-short of_check.Bound bad valid = absurd (bad.6 valid.bounded)
-check-short of_check.Memory bad valid = refl
+pub script_short : (fault : ScriptFault) → IsShortScript (Err fault) → refusal_number (refusal.Script fault) ≡ None
+script_short fault is = let same : fault ≡ of_script.Memory = cc is in ap script_number same
 
 -- each native has a closure, of which the first keeps to the effects declared: so none has none, or another
 fit-not : {heads : List NativeHead} {p : Loaded} (fault : NativeFault) → Fit heads p (Err fault) → Fit heads p (Ok tt) → ⊥
@@ -107,35 +60,44 @@ fit-not of_native.EffectsDiffer some each =
     let same : fits.head ≡ other.has.head = cc both in
     other.has.differs (subst (λ (h : NativeHead). AreAsDeclared other.class other.method other.effects h.effects) same fits.same)
 
-module _ {heads : List NativeHead} {program certificate script : List ℕ} {loaded : Loaded} {read : Certificate} {events : List Event} (accepts : Accepts heads program certificate script loaded read events) where
-  uncertified-short : {refusal : Refusal} → AreUncertified program certificate refusal → refusal ≡ Memory
-  uncertified-short (uncertified_program refusal bad) = program-short bad accepts.checked.valid.certified.loads
-  uncertified-short (uncertified other fault loads reads) = certificate-short fault reads accepts.checked.valid.certified.reads
+abbrev pub NeverShort : Result (Unit {0}) NativeFault → Type 0
+NeverShort r = ⊥
 
-  unchecked-short : {refusal : Refusal} → AreUnchecked program certificate script refusal → refusal ≡ Memory
-  unchecked-short (unchecked_texts refusal bad) = uncertified-short bad
-  unchecked-short (unchecked_script other another fault certified reads) = script-short fault reads accepts.checked.reads
-  unchecked-short (unchecked other another list why certified reads bad) =
-      let program_is = one-loaded certified.loads accepts.checked.valid.certified.loads in
-      let certificate_is = one_certificate certificate another read certified.reads accepts.checked.valid.certified.reads in
-      check-short why (subst (λ (c : Certificate). Checks loaded c (Err why)) certificate_is (subst (λ (l : Loaded). Checks l another (Err why)) program_is bad)) accepts.checked.valid.valid
+pub fit_once : (heads : List NativeHead) (p : Loaded) → OneOf NeverShort (Fit heads p)
+fit_once heads p (Ok _) (Ok _) h k = inr (inr refl)
+fit_once heads p (Ok _) (Err fault) h k = absurd (fit-not fault k h)
+fit_once heads p (Err fault) (Ok _) h k = absurd (fit-not fault h k)
+fit_once heads p (Err of_native.NoNative) (Err of_native.NoNative) h k = inr (inr refl)
+fit_once heads p (Err of_native.NoNative) (Err of_native.EffectsDiffer) h k = absurd (k.0 h.class h.method h.effects h.meant h.has)
+fit_once heads p (Err of_native.EffectsDiffer) (Err of_native.NoNative) h k = absurd (h.0 k.class k.method k.effects k.meant k.has)
+fit_once heads p (Err of_native.EffectsDiffer) (Err of_native.EffectsDiffer) h k = inr (inr refl)
 
-  refused-short : {refusal : Refusal} → MayNotRun heads program certificate script refusal → refusal ≡ Memory
-  refused-short (not_checked refusal bad) = unchecked-short bad
-  refused-short (not_fit other another list fault checked bad) =
-      let program_is = one-loaded checked.valid.certified.loads accepts.checked.valid.certified.loads in
-      absurd (fit-not fault (subst (λ (l : Loaded). Fit heads l (Err fault)) program_is bad) accepts.fit)
+pub accepting_once : (heads : List NativeHead) (program certificate script : List ℕ) → OneOf IsShortResult (Accepting heads program certificate script)
+accepting_once heads program certificate script =
+    one_first IsShortResult IsShortResult (certified_once program certificate) same_short never_short
+    (λ both. one_first IsShortScript IsShortResult (script_once script) script_short (λ x e. cc e)
+    (λ events. one_first IsShortCheck IsShortResult (check_once both.0 both.1) check_short (λ x e. cc e)
+    (λ checked. one_first NeverShort IsShortResult (fit_once heads checked.program) (λ fault s. absurd s) (λ x s. s)
+    (λ fit. one_is IsShortResult (Ok (checked, events))))))
 
-  -- what is written then
-  module _ {N : Type 0} {gives : N → NativeAnswers} {natives : N} {steps : ℕ} where
-    pub accepted-writes : {bytes : List ℕ} {status : ℕ} → CheckedRunWrites gives heads natives program certificate script steps bytes status → AcceptedWrites gives natives loaded read events steps bytes status
-    accepted-writes (refused refusal bad) =
-        let At : Refusal → Type 0 = λ r. AcceptedWrites gives natives loaded read events steps (refusal_line r) (refusal_status r) in
-        subst At (sym (refused-short bad)) short
-    accepted-writes (ran other another list ended after its went ends claims) =
-        let program_is = one-loaded its.checked.valid.certified.loads accepts.checked.valid.certified.loads in
-        let certificate_is = one_certificate certificate another read its.checked.valid.certified.reads accepts.checked.valid.certified.reads in
-        let script_is = one_list script list events its.checked.reads accepts.checked.reads in
-        let Of : Loaded → Certificate → List Event → Type 0 = λ l c es. AcceptedWrites gives natives l c es steps (run_text after.world.trace ended) (run_status ended) in
-        subst (λ (l : Loaded). Of l read events) program_is (subst (λ (c : Certificate). Of other c events) certificate_is (subst (λ (es : List Event). Of other another es) script_is (runs ended after went ends claims)))
-    accepted-writes memory = short
+pub may_run_once : (heads : List NativeHead) (program script : List ℕ) → OneOf IsShortResult (MayRun heads program script)
+may_run_once heads program script =
+    one_first IsShortResult IsShortResult (loads_once program) same_short never_short
+    (λ loaded. one_first IsShortScript IsShortResult (script_once script) script_short (λ x e. cc e)
+    (λ events. one_first NeverShort IsShortResult (fit_once heads loaded) (λ fault s. absurd s) (λ x s. s)
+    (λ fit. one_is IsShortResult (Ok (loaded, events)))))
+
+pub short_refused : {N : Type 0} (r : Refusal) → refusal_number r ≡ None → IsShort (refused {N = N} r)
+short_refused r is = let s = short_refusal r is in record { line = s.line; status_is = s.status_is }
+
+-- ---- what is written where `run` accepts
+
+pub accepted_comes : {N : Type 0} {gives : N → NativeAnswers} {heads : List NativeHead} {natives : N} {program certificate script : List ℕ} {loaded : Loaded} {read : Certificate} {events : List Event} {steps : ℕ} {outcome : Outcome N} →
+    Accepts heads program certificate script loaded read events → RunComesTo gives heads natives program certificate script steps outcome →
+    AcceptedComesTo gives natives loaded read events steps outcome
+accepted_comes {heads = heads} {program = program} {certificate = certificate} {script = script} {loaded = loaded} {read = read} {events = events} accepts comes =
+    let checked : Checking = record { program = loaded; certificate = read } in
+    elim (goes_with IsShortResult IsShort (accepting_once heads program certificate script) short_refused never_short (checked, events) accepts comes) [
+      | inl short ↦ inr short
+      | inr runs ↦ inl runs
+    ]

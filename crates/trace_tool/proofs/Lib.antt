@@ -1,5 +1,7 @@
-pub mod Answering
 mod Accepted
+pub mod Answering
 pub mod Inputs
-pub mod Marks
+mod Lines
+mod OneRun
+pub mod Partings
 pub mod Saying

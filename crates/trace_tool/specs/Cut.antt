@@ -1,45 +1,39 @@
 -- How an input is cut into texts (docs/commands.md, "The input").
-use Rattle.std.specs.Prelude.{◌≡◌, ℕ, ◌+◌, ◌-◌, ◌<◌, ◌⊎◌, List, [], ◌∷◌, ◌++◌, length, codes, slice_index}
+use Rattle.std.specs.Prelude.{◌≡◌, ◌≢◌, ℕ, List, [], ◌∷◌, ◌++◌, codes}
+use Rattle.std.specs.List.{AllByRecursion}
+use Rattle.texts.specs.Lines.{IsFrontLine, AreFrontLines, AreLines}
 
--- A line begins at the front and behind each newline (10), and ends at a newline or at the end. At this place begins
--- one that is exactly `%%` (37, 37).
-pub record IsMarkAt (text : List ℕ) (place : ℕ) : Type 0 where
-  pub begins : (place ≡ 0) ⊎ (slice_index text (place - 1) ≡ 10)
-  pub first : slice_index text place ≡ 37
-  pub second : slice_index text (place + 1) ≡ 37
-  pub ends : (place + 2 ≡ length text) ⊎ (slice_index text (place + 2) ≡ 10)
+-- the line that parts two texts
+abbrev pub parting : List ℕ
+parting = codes "%%"
+
+-- none of these lines parts texts
+abbrev pub PartNothing : List (List ℕ) → Type 0
+PartNothing lines = AllByRecursion (λ line. line ≢ parting) lines
 
 -- no line of the text is exactly `%%`
-abbrev pub HasNoMark : List ℕ → Type 0
-HasNoMark text = (place : ℕ) → IsMarkAt text place → ⊥
+pub record IsUnparted (text : List ℕ) : Type 0 where
+  pub lines : List (List ℕ)
+  pub cut : AreLines text lines
+  pub unparted : PartNothing lines
 
--- here is a line that is exactly `%%`, and none before it
-abbrev pub IsFirstMark : List ℕ → ℕ → Type 0
-IsFirstMark text place = IsMarkAt text place × ((k : ℕ) → k < place → IsMarkAt text k → ⊥)
-
--- the byte here is `%` and its line's last one
-abbrev pub EndsLine : List ℕ → ℕ → Type 0
-EndsLine text place =
-    (slice_index text place ≡ 37) × ((place + 1 ≡ length text) ⊎ (slice_index text (place + 1) ≡ 10))
-
--- each line of the text has its newline
-abbrev pub IsWhole : List ℕ → Type 0
-IsWhole text = (text ≡ []) ⊎ (slice_index text (length text - 1) ≡ 10)
-
--- The input is a text, the line `%%` and the rest. The line may lack its newline where the input ends with it.
+-- The input is a text, the first line that is exactly `%%`, and the rest. The text has the newlines of its lines.
 pub record IsParted (input text rest : List ℕ) : Type 0 where
-  pub joined : (input ≡ text ++ (codes "%%\n" ++ rest)) ⊎ ((input ≡ text ++ codes "%%") × (rest ≡ []))
-  pub whole : IsWhole text
-  pub unmarked : HasNoMark text
+  pub lines : List (List ℕ)
+  pub from_parting : List ℕ
+  pub lead : AreFrontLines input lines from_parting
+  pub unparted : PartNothing lines
+  pub parts : IsFrontLine from_parting parting rest
+  pub joined : input ≡ text ++ from_parting
 
--- the text is all of the input, which has no line `%%`
+-- the text is all of the input, in which no line parts texts
 abbrev pub IsWholeInput : List ℕ → List ℕ → Type 0
-IsWholeInput input text = (text ≡ input) × HasNoMark input
+IsWholeInput input text = (text ≡ input) × IsUnparted input
 
 -- the input is these texts, with a line `%%` between each and the next one
 abbrev pub AreTexts : List ℕ → List (List ℕ) → Type 0
 AreTexts input [] = ⊥
-AreTexts input (text ∷ []) = (input ≡ text) × HasNoMark text
+AreTexts input (text ∷ []) = (input ≡ text) × IsUnparted text
 AreTexts input (text ∷ next ∷ texts) = (rest : List ℕ) × IsParted input text rest × AreTexts rest (next ∷ texts)
 
 -- the input is no other texts than these

@@ -2,6 +2,7 @@ ghost use Rattle.std.specs.Prelude.{◌≡◌, take, length, ◌<◌, IfOk, IfSo
 ghost use Rattle.trace_tool.specs.Inputs.{ReadsOn};
 
 use std::alloc::Global;
+use std::io;
 use std::io::{ErrorKind, Read};
 use thiserror::Error;
 
@@ -14,9 +15,9 @@ const CHUNK: usize = 16384;
 /// Why there is no input.
 #[derive(Clone, Copy, Debug, Error)]
 pub enum InputFault {
-    /// A read failed.
+    /// A read failed, for this reason.
     #[error("the input can't be read")]
-    Unread,
+    Unread(io::Error),
     /// A growth of memory was refused.
     #[error("out of memory")]
     Memory,
@@ -43,7 +44,7 @@ fn read_all<R: Read>(alloc: Global, reader: &mut R) -> Result<Vec<u8>, InputFaul
             return Ok(input);
         }
     }
-    Err(InputFault::Unread)
+    Err(InputFault::Unread(io::Error::from(ErrorKind::Interrupted)))
 }
 
 /// Reads once, and adds what was read to the input. The answer is whether the reader may have more.
@@ -63,6 +64,6 @@ fn read_on<R: Read>(
             Err(_) => Err(InputFault::Memory),
         },
         Err(error) if error.kind() == ErrorKind::Interrupted => Ok(true),
-        Err(_) => Err(InputFault::Unread),
+        Err(error) => Err(InputFault::Unread(error)),
     }
 }

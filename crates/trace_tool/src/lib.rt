@@ -1,14 +1,19 @@
-//! The program's commands: from words and bytes to the bytes that are written and an exit status.
+//! The program's commands: from words and bytes to what they come to, and to the bytes that are written and an exit status.
 #![tactic(auto)]
 
 mod commands;
 mod cut;
 mod input;
+mod laws;
+mod outcome;
 mod runs;
 mod words;
 
-pub use commands::{command, respond};
+pub use commands::{Answered, answer, command, respond};
 pub use input::InputFault;
-pub use program_commands::{Refusal, certify, check, meta};
-pub use runs::{run, run_unchecked};
+pub use laws::{one_run_outcome, stopped_is_front, undone_is_a_line};
+pub use outcome::{Outcome, Ran, UsageFault};
+pub use program_commands::{Outcome as ProgramOutcome, Refusal, Why, certify, check, meta};
+pub use qt_runtime::{Entry, Fault, ScriptFault};
+pub use runs::{run, run_outcome, run_unchecked, unchecked_run_outcome};
 pub use trace_lines::WriteFault;

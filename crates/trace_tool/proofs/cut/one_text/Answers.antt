@@ -1,13 +1,13 @@
 use Rattle.std.proofs.Common.{[], ◌∷◌, sym, subst}
-use Rattle.trace_tool.specs.Cut.{HasNoMark}
-use Rattle.trace_tool.proofs.Marks.{not_marked, texts_once}
+use Rattle.trace_tool.specs.Cut.{IsUnparted}
+use Rattle.trace_tool.proofs.Partings.{not_parted, texts_once}
 use Rattle.trace_tool.proofs.cut.one_text.Goals as goal
 
 pub returns-in-Some-clause-cut : goal.returns-in-Some-clause-cut
 returns-in-Some-clause-cut c text cut =
-    not_marked (rw c.in-Some.is at c.first_text.ensures) (subst HasNoMark (sym cut.0) cut.1)
+    not_parted (rw c.in-Some.is at c.first_text.ensures) (subst IsUnparted (sym cut.0) cut.1)
 
 pub returns-in-None-clause-only : goal.returns-in-None-clause-only
 returns-in-None-clause-only c others cut =
     let one = rw c.in-None.is at c.first_text.ensures in
-    texts_once c.args.input.now others (c.first_text.result.0.now ∷ []) cut (sym one.0, subst HasNoMark (sym one.0) one.1)
+    texts_once c.args.input.now others (c.first_text.result.0.now ∷ []) cut (sym one.0, subst IsUnparted (sym one.0) one.1)

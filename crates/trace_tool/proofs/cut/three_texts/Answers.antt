@@ -1,12 +1,12 @@
 use Rattle.std.proofs.Common.{◌∷◌, [], subst}
 use Rattle.trace_tool.specs.Cut.{AreTexts}
-use Rattle.trace_tool.proofs.Marks.{not_marked, same_rest, texts_once}
+use Rattle.trace_tool.proofs.Partings.{not_parted, same_rest, texts_once}
 use Rattle.trace_tool.proofs.cut.three_texts.Goals as goal
 
 pub returns-in_err-rest-clause-cut : goal.returns-in_err-rest-clause-cut
 returns-in_err-rest-clause-cut c =
     rw c.from_residual.ensures
-    (λ first second third cut. let whole = rw c.in_err-rest.was at c.first_text.ensures in not_marked cut.1 whole.1)
+    (λ first second third cut. let whole = rw c.in_err-rest.was at c.first_text.ensures in not_parted cut.1 whole.1)
 
 pub returns-in_err-second-clause-cut : goal.returns-in_err-second-clause-cut
 returns-in_err-second-clause-cut c =

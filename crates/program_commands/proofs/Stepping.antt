@@ -1,0 +1,29 @@
+-- Steps one after another, backwards from what they come to.
+use Rattle.std.proofs.Common.{◌≡◌, ℕ, List, Result, Ok, Err, refl, sym, subst}
+use Rattle.certificate_lang.specs.Reads.{ReadsCertificate}
+use Rattle.certificate_lang.specs.declared.certificate.Certificate.{Certificate}
+use Rattle.class_lang.specs.Reads.{ReadsProgram}
+use Rattle.meta_model.specs.Loaded.{Loaded}
+use Rattle.meta_objects.specs.Builds.{Builds}
+use Rattle.texts.specs.declared.program.Program.{Program}
+use Rattle.program_commands.specs.Loading.{LoadsProgram}
+use Rattle.program_commands.specs.Steps.{First, fails, goes_on}
+
+-- where all comes to what no fault is, the first step found something, and the next ones came to it
+pub went : {X F R : Type 0} {Finds : Result X F → Type 0} {fault_of : F → R} {Next : X → R → Type 0} {end : R} →
+    First Finds fault_of Next end → ((fault : F) → end ≡ fault_of fault → ⊥) → (found : X) × Finds (Ok found) × Next found end
+went (fails fault finds) other = absurd (other fault refl)
+went (goes_on found end finds next) other = (found, finds, next)
+
+-- what is loaded of a text
+pub record Loads (text : List ℕ) (loaded : Loaded) : Type 0 where
+  pub program : Program
+  pub reads : ReadsProgram text (Ok program)
+  pub builds : Builds program (Ok loaded)
+
+pub loads_of : {text : List ℕ} {loaded : Loaded} → LoadsProgram text (Ok loaded) → Loads text loaded
+loads_of {text} {loaded} steps =
+    let read = went steps (λ fault is. cc is) in
+    let built = went read.2 (λ fault is. cc is) in
+    let same : loaded ≡ built.0 = cc built.2 in
+    record { program = read.0; reads = read.1; builds = subst (λ (l : Loaded). Builds read.0 (Ok l)) (sym same) built.1 }

@@ -1,6 +1,0 @@
-use Rattle.std.proofs.Common.{rules}
-use Rattle.trace_lines.proofs.Sending.{finished}
-use Rattle.program_commands.proofs.checks.agree.Goals as goal
-
-pub returns : goal.returns
-returns g c = finished c.new-output.ensures.begun c.put.ensures c.finish.ensures (search rules)

@@ -1,0 +1,169 @@
+-- For natives with one answer a run is one; and a run that stopped is a front of the whole one.
+use Rattle.std.proofs.Common.{◌≡◌, ◌⊎◌, inl, inr, ℕ, true, false, List, [], ◌∷◌, ◌++◌, length, Result, Ok, Err, refl, sym, ap, ◌∙◌, subst, append_assoc, append-nil, arith}
+use Rattle.std.proofs.lemmas.List.{length-append}
+use Rattle.certificate_lang.specs.declared.certificate.Certificate.{Certificate}
+use Rattle.meta_model.specs.Loaded.{Loaded}
+use Rattle.meta_model.specs.Sound.{IsSound}
+use Rattle.native_slots.specs.declared.action.Action.{Action}
+use Rattle.native_slots.specs.declared.head.NativeHead.{NativeHead}
+use Rattle.rank_check.specs.Checks.{Checking}
+use Rattle.script_lang.specs.declared.event.Event.{Event}
+use Rattle.machine_state.specs.declared.fault.Answer.{Answer}
+use Rattle.machine_state.specs.declared.fault.Fault.{Fault}
+use Rattle.machine_state.specs.State.{State, Activation, IsIdle}
+use Rattle.machine_state.specs.Worlds.{at, untouched}
+use Rattle.machine_rules.specs.Natives.{NativeAnswers, AnswersOnce}
+use Rattle.machine_rules.specs.code.Keeps.{Grows}
+use Rattle.machine_events.specs.Laws.{AnswersAre, IsFront}
+use Rattle.machine_events.specs.Runs.{Run, done, goes, takes, RunsWhole, RunsFront}
+use Rattle.machine_events.proofs.OneRun.{no-rule, one_run, one_front, one_front_of_answers}
+use Rattle.checked_runs.proofs.Kept.{start-invariant}
+use Rattle.qt_runtime.specs.Seen.{Seen, RunsAll, Halts, begun}
+use Rattle.program_commands.specs.declared.refusal.Refusal.{Refusal}
+use Rattle.program_commands.specs.Loading.{LoadsCertified}
+use Rattle.program_commands.specs.Steps.{First, fails, goes_on}
+use Rattle.program_commands.proofs.Once.{both_fail, one_fails, same_found, IsShortResult, never_short, loaded_sound}
+use Rattle.program_commands.proofs.Stepping.{went}
+use Rattle.trace_tool.specs.declared.outcome.Outcome.{Outcome}
+use Rattle.trace_tool.specs.declared.outcome.Ran.{Ran}
+use Rattle.trace_tool.specs.Commands.{Accepting, MayRun, Runs, RunsFaultless, ran, short, ran_faultless, short_of_memory, refused}
+use Rattle.trace_tool.specs.Laws.{AreOneRun, IsSameOutcome, OneRunOutcome, OneUncheckedOutcome, StoppedIsFront}
+use Rattle.trace_tool.specs.Outcomes.{IsShort}
+use Rattle.trace_tool.proofs.Accepted.{accepting_once, may_run_once, short_refused}
+
+module _ {N : Type 0} (gives : N → NativeAnswers) (p : Loaded) (natives : N) (depth steps : ℕ) (events : List Event) where
+  -- ---- a run took a front of its events
+
+  record Took (after : Seen N) : Type 0 where
+    pub stack : List Activation
+    pub left : ℕ
+    pub front : RunsFront p (gives natives) depth (at (untouched steps) []) steps events (at after.world stack) left
+
+  took : (ended : Result (Unit {0}) Fault) (after : Seen N) → RunsAll gives (begun p natives depth steps) events ended after → Took after
+  took (Ok _) after all = record {
+    stack = [];
+    left = after.world.left;
+    front = record { taken = events; rest = []; split = sym (append-nil events); answers = all.0; runs = all.1.whole.runs };
+  }
+  took (Err fault) after all = elim all [
+    | inl halts ↦ record { stack = halts.way.stack; left = after.world.left; front = halts.way.front }
+    | inr stays ↦ (let no : false ≡ true = stays.stopped in absurd (cc no))
+  ]
+
+  -- ---- of two runs
+
+  module _ (is_sound : IsSound p) (once : AnswersOnce (gives natives)) where
+    same_trace : (r s : Result (Unit {0}) Fault) (a b : Seen N) → RunsAll gives (begun p natives depth steps) events r a → RunsAll gives (begun p natives depth steps) events s b →
+        r ≡ Ok tt → s ≡ Ok tt → a.world.trace ≡ b.world.trace
+    same_trace (Ok _) (Ok _) a b x y is also =
+        let agree = (start-invariant p steps).sound.agree in
+        let one = one_run (gives natives) once p depth (at (untouched steps) []) steps events x.0 y.0 (at a.world []) (at b.world []) a.world.left b.world.left is_sound agree x.1.whole y.1.whole in
+        ap (λ (t : State). t.trace) one.1
+    same_trace (Err f) s a b x y is also = absurd (cc is)
+    same_trace (Ok _) (Err f) a b x y is also = absurd (cc also)
+
+    one_front_of : {a b : Seen N} → Took a → Took b → Grows a.world.trace b.world.trace ⊎ Grows b.world.trace a.world.trace
+    one_front_of {a} {b} x y =
+        let agree = (start-invariant p steps).sound.agree in
+        elim (one_front (gives natives) once p depth (at (untouched steps) []) steps events (at a.world x.stack) (at b.world y.stack) x.left y.left is_sound agree x.front y.front) [
+          | inl leads ↦ inl leads.grows
+          | inr leads ↦ inr leads.grows
+        ]
+
+    pub one_of_runs : (x y : Ran N) → RunsAll gives (begun p natives depth steps) events x.ended x.machine → RunsAll gives (begun p natives depth steps) events y.ended y.machine → AreOneRun x y
+    one_of_runs x y a b = record {
+      whole = same_trace x.ended y.ended x.machine y.machine a b;
+      front = one_front_of (took x.ended x.machine a) (took y.ended y.machine b);
+    }
+
+-- ---- what is accepted is sound
+
+certified_sound : {program certificate : List ℕ} {both : Loaded × Certificate} → LoadsCertified program certificate (Ok both) → IsSound both.0
+certified_sound {both = both} steps =
+    let a = went steps (λ fault is. cc is) in
+    let b = went a.2 (λ fault is. cc is) in
+    let same : both ≡ (a.0, b.0) = cc b.2 in
+    subst IsSound (sym (ap (λ (pair : Loaded × Certificate). pair.0) same)) (loaded_sound a.1)
+
+accepted_sound : {heads : List NativeHead} {program certificate script : List ℕ} {both : Checking × List Event} → Accepting heads program certificate script (Ok both) → IsSound both.0.program
+accepted_sound {both = both} steps =
+    let a = went steps (λ fault is. cc is) in
+    let b = went a.2 (λ fault is. cc is) in
+    let c = went b.2 (λ fault is. cc is) in
+    let d = went c.2 (λ fault is. cc is) in
+    let same : both ≡ (c.0, b.0) = cc d.2 in
+    let program : both.0.program ≡ a.0.0 = ap (λ (pair : Checking × List Event). pair.0.program) same ∙ c.1.0 in
+    subst IsSound (sym program) (certified_sound a.1)
+
+may_run_sound : {heads : List NativeHead} {program script : List ℕ} {both : Loaded × List Event} → MayRun heads program script (Ok both) → IsSound both.0
+may_run_sound {both = both} steps =
+    let a = went steps (λ fault is. cc is) in
+    let b = went a.2 (λ fault is. cc is) in
+    let c = went b.2 (λ fault is. cc is) in
+    let same : both ≡ (a.0, b.0) = cc c.2 in
+    subst IsSound (sym (ap (λ (pair : Loaded × List Event). pair.0) same)) (loaded_sound a.1)
+
+-- ---- the commands
+
+one_faultless : {N : Type 0} (gives : N → NativeAnswers) (p : Loaded) (natives : N) (depth steps : ℕ) (events : List Event) {a b : Outcome N} → IsSound p → AnswersOnce (gives natives) →
+    RunsFaultless gives (begun p natives depth steps) events a → RunsFaultless gives (begun p natives depth steps) events b → IsShort a ⊎ IsShort b ⊎ IsSameOutcome a b
+one_faultless gives p natives depth steps events is_sound once (ran_faultless x all ends claims) (ran_faultless y also its theirs) = inr (inr (one_of_runs gives p natives depth steps events is_sound once x y all also))
+one_faultless gives p natives depth steps events is_sound once (ran_faultless x all ends claims) short_of_memory = inr (inl (record { line = refl; status_is = refl }))
+one_faultless gives p natives depth steps events is_sound once short_of_memory y = inl (record { line = refl; status_is = refl })
+
+one_unchecked : {N : Type 0} (gives : N → NativeAnswers) (p : Loaded) (natives : N) (depth steps : ℕ) (events : List Event) {a b : Outcome N} → IsSound p → AnswersOnce (gives natives) →
+    Runs gives (begun p natives depth steps) events a → Runs gives (begun p natives depth steps) events b → IsShort a ⊎ IsShort b ⊎ IsSameOutcome a b
+one_unchecked gives p natives depth steps events is_sound once (ran x all) (ran y also) = inr (inr (one_of_runs gives p natives depth steps events is_sound once x y all also))
+one_unchecked gives p natives depth steps events is_sound once (ran x all) short = inr (inl (record { line = refl; status_is = refl }))
+one_unchecked gives p natives depth steps events is_sound once short y = inl (record { line = refl; status_is = refl })
+
+pub one_run_outcome : {N : Type 0} (gives : N → NativeAnswers) → OneRunOutcome gives
+one_run_outcome {N} gives heads natives program certificate script steps a b once (fails f h) (fails g k) =
+    both_fail IsShortResult IsShort (accepting_once heads program certificate script) short_refused never_short f g h k
+one_run_outcome {N} gives heads natives program certificate script steps a b once (fails f h) (goes_on y end k more) =
+    inl (one_fails IsShortResult IsShort (accepting_once heads program certificate script) short_refused never_short f y h k)
+one_run_outcome {N} gives heads natives program certificate script steps a b once (goes_on x end h more) (fails g k) =
+    inr (inl (one_fails IsShortResult IsShort (accepting_once heads program certificate script) short_refused never_short g x k h))
+one_run_outcome {N} gives heads natives program certificate script steps a b once (goes_on x end h more) (goes_on y other k still) =
+    let same = same_found {fault_of = refused {N = N}} IsShortResult IsShort (accepting_once heads program certificate script) short_refused never_short x y h k in
+    let Goes : Checking × List Event → Type 0 = λ z. RunsFaultless gives (begun z.0.program natives z.0.certificate.bound steps) z.1 end in
+    one_faultless gives y.0.program natives y.0.certificate.bound steps y.1 (accepted_sound k) once (subst Goes same more) still
+
+pub one_unchecked_outcome : {N : Type 0} (gives : N → NativeAnswers) → OneUncheckedOutcome gives
+one_unchecked_outcome {N} gives heads natives program script depth steps a b once (fails f h) (fails g k) =
+    both_fail IsShortResult IsShort (may_run_once heads program script) short_refused never_short f g h k
+one_unchecked_outcome {N} gives heads natives program script depth steps a b once (fails f h) (goes_on y end k more) =
+    inl (one_fails IsShortResult IsShort (may_run_once heads program script) short_refused never_short f y h k)
+one_unchecked_outcome {N} gives heads natives program script depth steps a b once (goes_on x end h more) (fails g k) =
+    inr (inl (one_fails IsShortResult IsShort (may_run_once heads program script) short_refused never_short g x k h))
+one_unchecked_outcome {N} gives heads natives program script depth steps a b once (goes_on x end h more) (goes_on y other k still) =
+    let same = same_found {fault_of = refused {N = N}} IsShortResult IsShort (may_run_once heads program script) short_refused never_short x y h k in
+    let Goes : Loaded × List Event → Type 0 = λ z. Runs gives (begun z.0 natives depth steps) z.1 end in
+    one_unchecked gives y.0 natives depth steps y.1 (may_run_sound k) once (subst Goes same more) still
+
+-- ---- a run that stopped
+
+nothing-more : {X : Type 0} (xs more rest : List X) → xs ≡ (xs ++ more) ++ rest → more ≡ []
+nothing-more {X} xs [] rest e = refl
+nothing-more {X} xs (m ∷ more) rest e =
+    let one = length-append (xs ++ m ∷ more) rest in
+    let two = length-append xs (m ∷ more) in
+    absurd (omega (arith, ap length e, one, two))
+
+-- nothing leads on from where nothing is going on and no event is left
+still : {p : Loaded} {natives : NativeAnswers} {u t : State} {k j : ℕ} {es : List Event} {xs : List Answer} → es ≡ [] → IsIdle u → Run p natives u k es xs t j → Grows t.trace u.trace
+still {t = t} none idle done = record { more = []; is = sym (append-nil t.trace) }
+still {p} {natives} {u} none idle (goes {m = m} r rest) = absurd (no-rule p natives u m idle r)
+still none idle (takes r rest) = absurd (cc none)
+
+pub stopped_is_front : {N : Type 0} (gives : N → NativeAnswers) → StoppedIsFront gives
+stopped_is_front gives said p natives depth steps events fault after answers u k is_sound stopped whole alike also =
+    let agree = (start-invariant p steps).sound.agree in
+    let all : RunsFront p (gives natives) depth (at (untouched steps) []) steps events u k =
+    record { taken = events; rest = []; split = sym (append-nil events); answers = answers; runs = whole.runs } in
+    elim (one_front_of_answers (gives natives) said p depth (at (untouched steps) []) steps events (at after.world stopped.way.stack) u after.world.left k is_sound agree stopped.way.front all alike also) [
+      | inl leads ↦ leads.grows
+      | inr leads ↦
+          let split : events ≡ (events ++ leads.more) ++ stopped.way.front.rest = stopped.way.front.split ∙ ap (λ (l : List Event). l ++ stopped.way.front.rest) leads.taken in
+          still (nothing-more events leads.more stopped.way.front.rest split) whole.ends leads.runs.run
+    ]

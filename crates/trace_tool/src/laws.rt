@@ -1,0 +1,25 @@
+//! Laws on what runs come to.
+
+ghost use Rattle.trace_tool.specs.Laws.{UndoneIsALine, OneRunOutcome, OneUncheckedOutcome, StoppedIsFront};
+
+use native_slots::Answering;
+
+/// Where nothing was done, which the exit status 1 tells, all that is written is the line `usage` or the line `memory`, or
+/// nothing where a read failed.
+pub fn undone_is_a_line<N: Answering>(_natives: &N)
+    ensures { UndoneIsALine N }
+{}
+
+/// Where natives have one answer to one question, what both forms of `run` come to is determined by their arguments, but for
+/// want of memory: one refusal, or runs of which the one wrote a front of what the other did, and the same where both took all
+/// events.
+pub fn one_run_outcome<N: Answering>(_natives: &N)
+    ensures checked { OneRunOutcome N.gives }
+    ensures unchecked { OneUncheckedOutcome N.gives }
+{}
+
+/// Whatever natives may answer, a run that a fault stopped wrote a front of what each whole run of the same events writes in
+/// which they answered alike: so does a run that wanted memory, whose trace `fault 65` follows.
+pub fn stopped_is_front<N: Answering>(_natives: &N)
+    ensures { StoppedIsFront N.gives }
+{}
