@@ -14,7 +14,7 @@ from multiprocessing import get_context
 ROOT = os.path.dirname(os.path.dirname(os.path.abspath(__file__)))
 # The program as LLVM builds it, and as Rattle's own compiler does: `rt ci` leaves both here.
 BUILDS = [f"{ROOT}/crates/gammonfig/out/gammonfig", f"{ROOT}/crates/gammonfig/out/gammonfig.by-rattle"]
-EXAMPLES = f"{ROOT}/crates/worked_examples_files/data"
+EXAMPLES = f"{ROOT}/crates/cases/data/examples"
 # A run that isn't done after so many seconds hangs: on a machine with nothing else to do none takes two of them.
 PATIENCE = 120
 # So large the stack of each run may grow, in bytes: twice what any of them was measured to need as LLVM builds the program.

@@ -1,10 +1,12 @@
-//! Tests as files: command lines with their inputs, and what they have to answer.
+//! Tests as files: command lines with their inputs, and what they have to answer, as cases in a file, or each in files of
+//! its own.
 #![tactic(auto)]
 
 mod answering;
 mod case;
 mod difference;
 mod escapes;
+mod example;
 mod fault;
 mod input;
 mod running;
@@ -14,6 +16,7 @@ mod telling;
 
 pub use case::{Case, cases};
 pub use difference::{Difference, first_difference};
+pub use example::tell_example;
 pub use fault::CaseFault;
 pub use section::{Marks, Part, Section};
 pub use sections::read_sections;
