@@ -1,6 +1,7 @@
 pub mod Nodes
 pub mod Numbering
 pub mod Rows
+pub mod Paths
 pub mod Effects
 pub mod Places
 pub mod Destroying
