@@ -1,17 +1,14 @@
 -- What a native may be given, and what it may answer, by its effects (docs/natives.md, "Effects").
-use Rattle.std.specs.Prelude.{Bool, false, ◌&&◌, nat_le, List, length, map, slice_get}
-use Rattle.std.specs.List.{list_all}
-use Rattle.std.specs.Option.{option_map_or}
+use Rattle.std.specs.Prelude.{Bool, ◌&&◌, List, map, slice_get}
 use Rattle.signatures.specs.declared.value.Value.{Value}
 use Rattle.meta_model.specs.declared.object.ValueType.{ValueType}
 use Rattle.native_slots.specs.declared.action.Action.{Action}
-use Rattle.native_slots.specs.declared.action.Action.TheVariants.{Emit, Set}
-use Rattle.native_slots.specs.declared.action.TheConstants.{MOST_ACTIONS}
 use Rattle.native_slots.specs.declared.effects.Effects.{Effects}
 use Rattle.native_slots.specs.declared.effects.PlainProperty.{PlainProperty}
 use Rattle.native_slots.specs.declared.effects.PlainSignal.{PlainSignal}
 use Rattle.native_slots.specs.declared.plain_type.PlainType.{PlainType}
-use Rattle.native_slots.specs.Plain.{kind_of, is_of, are_of}
+use Rattle.native_slots.specs.Plain.{kind_of, are_of}
+use Rattle.native_slots.specs.Within.{is_allowed, are_allowed}
 
 abbrev pub kinds_of : List PlainType → List ValueType
 kinds_of types = map kind_of types
@@ -23,12 +20,10 @@ kinds_of_properties properties = map (λ (property : PlainProperty). kind_of pro
 abbrev pub accepts : Effects → List Value → List Value → Bool
 accepts effects arguments reads = are_of arguments (kinds_of effects.parameters) && are_of reads (kinds_of_properties effects.reads)
 
--- an emission of a declared signal with arguments of its types, or a write of a declared property with a value of its type
+-- what lies within the effects that a closure keeps to
 abbrev pub is_within : Effects → Action → Bool
-is_within effects (Emit place arguments) =
-    option_map_or (λ (signal : PlainSignal). are_of arguments (kinds_of signal.types)) (slice_get effects.emits place) false
-is_within effects (Set place v) =
-    option_map_or (λ (property : PlainProperty). is_of v (kind_of property.kind)) (slice_get effects.sets place) false
+is_within effects =
+    is_allowed (λ (signal : PlainSignal). kinds_of signal.types) (λ (property : PlainProperty). kind_of property.kind) (slice_get effects.emits) (slice_get effects.sets)
 
 abbrev pub are_within : Effects → List Action → Bool
-are_within effects actions = nat_le (length actions) MOST_ACTIONS && list_all (is_within effects) actions
+are_within effects = are_allowed (is_within effects)

@@ -1,4 +1,5 @@
 pub mod Plain
+pub mod Within
 pub mod Heads
 pub mod Effects
 pub mod Answers

@@ -1,8 +1,8 @@
 -- What a program may expect of its natives (docs/natives.md, "The promise").
-use Rattle.std.specs.Prelude.{◌≡◌, ℕ, Bool, false, ◌&&◌, nat_le, IsTrue, List, length, Option, Some, slice_get}
+use Rattle.std.specs.Prelude.{◌≡◌, ℕ, Bool, IsTrue, List, Option, Some, slice_get}
 use Rattle.std.specs.Coded.{Coded-set, coded_bool, ×_prop, Π_prop}
-use Rattle.std.specs.List.{AllZip, list_all}
-use Rattle.std.specs.Option.{option_and_then, option_map_or}
+use Rattle.std.specs.List.{AllZip}
+use Rattle.std.specs.Option.{option_and_then}
 use Rattle.signatures.specs.declared.sig.Sig.{Sig}
 use Rattle.signatures.specs.declared.value.Value.{Value}
 use Rattle.meta_model.specs.declared.effects.MetaEffects.{MetaEffects}
@@ -14,9 +14,7 @@ use Rattle.meta_model.specs.Loaded.{Loaded}
 use Rattle.meta_model.specs.Members.{IsClass, Declares}
 use Rattle.meta_model.specs.Values.{Has, HaveTypes}
 use Rattle.native_slots.specs.declared.action.Action.{Action}
-use Rattle.native_slots.specs.declared.action.Action.TheVariants.{Emit, Set}
-use Rattle.native_slots.specs.declared.action.TheConstants.{MOST_ACTIONS}
-use Rattle.native_slots.specs.Plain.{is_of, are_of}
+use Rattle.native_slots.specs.Within.{is_allowed, are_allowed}
 
 -- which calls may be made: the declaring class's name, the native's signature, its arguments, and the values of what it reads
 abbrev pub Takes : Type 0
@@ -47,16 +45,13 @@ signal_at class effects place = option_and_then (λ m. slice_get class.methods m
 abbrev pub property_at : MetaObject → MetaEffects → ℕ → Option MetaProperty
 property_at class effects place = option_and_then (λ q. slice_get class.properties q) (slice_get effects.sets place)
 
--- an emission of a signal that the native may emit, with values of its types, or a write of a property that it may set,
--- with a value of its type
+-- what lies within the effects that the class declares for the native
 abbrev pub is_declared : MetaObject → MetaEffects → Action → Bool
-is_declared class effects (Emit place arguments) =
-    option_map_or (λ (signal : MetaMethod). are_of arguments signal.kinds) (signal_at class effects place) false
-is_declared class effects (Set place v) =
-    option_map_or (λ (property : MetaProperty). is_of v property.kind) (property_at class effects place) false
+is_declared class effects =
+    is_allowed (λ (signal : MetaMethod). signal.kinds) (λ (property : MetaProperty). property.kind) (signal_at class effects) (property_at class effects)
 
 abbrev pub are_declared : MetaObject → MetaEffects → List Action → Bool
-are_declared class effects actions = nat_le (length actions) MOST_ACTIONS && list_all (is_declared class effects) actions
+are_declared class effects = are_allowed (is_declared class effects)
 
 -- the native may be called so, and whatever it answers then lies within its effects
 abbrev pub KeepsPromise : Takes → Gives → MetaObject → MetaMethod → MetaEffects → List Value → List Value → Type 0

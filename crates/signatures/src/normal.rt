@@ -38,11 +38,7 @@ impl QType {
             TypeEnding::Bare => Some(QType::value(name)),
             TypeEnding::Reference if place == ConstPlace::Nowhere => None,
             TypeEnding::Reference => Some(QType::value(name)),
-            TypeEnding::Pointer => Some(QType {
-                name,
-                constant: place != ConstPlace::Nowhere,
-                pointer: true,
-            }),
+            TypeEnding::Pointer => Some(QType::pointer_to(name, place != ConstPlace::Nowhere)),
         }
     }
 }

@@ -1,4 +1,5 @@
 ghost use Rattle.std.specs.Prelude.{◌≡◌, ◌++◌, ◌↔◌, IsTrue, IfOk, OnOk, List};
+ghost use Rattle.signatures.specs.Normal.{pointer_type};
 ghost use Rattle.signatures.specs.Spelling.{const_text, star_text, text_of_type, text_of_types};
 ghost use Rattle.signatures.specs.Types.{value_type, BeginsWith};
 
@@ -34,6 +35,17 @@ impl QType {
             name,
             constant: false,
             pointer: false,
+        }
+    }
+
+    /// The type of pointers to what has this name: `const T*` where `constant` says so, else `T*`.
+    pub fn pointer_to(name: Name, constant: bool) -> QType
+        ensures { result ≡ pointer_type name constant }
+    {
+        QType {
+            name,
+            constant,
+            pointer: true,
         }
     }
 
