@@ -9,4 +9,4 @@ mod version;
 
 pub use certificate::{Certificate, Line, MemberName, NodeName, SetItem};
 pub use fault::CertificateFault;
-pub use reader::{one_reading, read_certificate};
+pub use reader::{Row, one_reading, read_certificate, row_trail};

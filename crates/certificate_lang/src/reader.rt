@@ -9,7 +9,7 @@ use crate::syntax::{has_few_parameters, line, setting};
 use crate::version::Version;
 use sqlite_items::Items;
 use std::alloc::Global;
-use texts::{Cursor, Token, has_plain_reference, split_line, tokens};
+use texts::{Cursor, Token, Trail, has_plain_reference, split_line, tokens};
 
 /// Reads a certificate: `certificate 1`, `bound N`, and a line `NODE RANK {CLASS}` for each node, where a node is
 /// `C.m(T, ..)`, `C.p` or `~C`. A line ends at a newline or at the end of the text; lines that are empty, that is blank or
@@ -39,7 +39,7 @@ pub fn one_reading()
 fn setting_line<'a>(
     alloc: Global,
     text: &'a [u8],
-    name: &[u8],
+    name: &'static [u8],
 ) -> Result<(u32, &'a [u8]), CertificateFault>
     ensures { SplitsSetting name.now text.now result }
 {
@@ -87,7 +87,11 @@ fn next_row<'a>(
 }
 
 /// The number of the setting that the tokens are.
-fn whole_setting(alloc: Global, tokens: &[Token], name: &[u8]) -> Result<u32, CertificateFault>
+fn whole_setting(
+    alloc: Global,
+    tokens: &[Token],
+    name: &'static [u8],
+) -> Result<u32, CertificateFault>
     ensures { ReadsWholeSetting name.now tokens.now result }
 {
     let mut cursor = Cursor::new(alloc, tokens);
@@ -116,4 +120,29 @@ fn node_line(alloc: Global, version: Version, tokens: &[Token]) -> Result<Line, 
     } else {
         Err(CertificateFault::Format)
     }
+}
+
+/// What a line of a certificate that isn't empty is to be.
+#[derive(Clone, Copy, Debug, PartialEq, Eq)]
+pub enum Row {
+    /// The first one, `certificate 1`.
+    Version,
+    /// The second one, `bound N`.
+    Bound,
+    /// A later one, `NODE RANK {CLASS}`.
+    Node,
+}
+
+/// The way of the reader of such lines through the tokens of one: what was looked for where it came farthest.
+pub fn row_trail(alloc: Global, tokens: &[Token], row: Row) -> Option<Trail> {
+    let mut cursor = Cursor::recording(alloc, tokens);
+    let is_read = match row {
+        Row::Version => setting(&mut cursor, b"certificate").is_ok(),
+        Row::Bound => setting(&mut cursor, b"bound").is_ok(),
+        Row::Node => line(&mut cursor, Version::One).is_ok(),
+    };
+    if is_read {
+        cursor.want_end();
+    }
+    cursor.into_trail()
 }

@@ -9,16 +9,16 @@ use crate::certificate::{Line, MemberName, NodeName, SetItem};
 use crate::version::Version;
 use signatures::Sig;
 use sqlite_items::Items;
-use texts::{Cursor, ParseFault, Symbol, Token, TypePart, has_few_types, list};
+use texts::{Cursor, ParseFault, Symbol, Token, TypePart, Wanted, has_few_types, list};
 
 /// The greatest number of a certificate.
 const GREATEST: u32 = 2147483647;
 
 /// `NAME number`, for this name: the number.
-pub fn setting(cursor: &mut Cursor, name: &[u8]) -> Result<u32, ParseFault>
+pub fn setting(cursor: &mut Cursor, name: &'static [u8]) -> Result<u32, ParseFault>
     ensures { ReadsSetting name.now cursor.old result cursor.new }
 {
-    match cursor.next()? {
+    match cursor.next_of(&[Wanted::Spelled(name)])? {
         Token::Name(found) if found.bytes() == name => cursor.number(GREATEST),
         _ => Err(ParseFault::Syntax),
     }
@@ -60,7 +60,7 @@ fn member(cursor: &mut Cursor) -> Result<MemberName, ParseFault>
     ensures { ReadsMember cursor.old result cursor.new }
 {
     let name = cursor.name()?;
-    if !is_at_open(cursor.rest()) {
+    if !is_at_open(cursor.ahead(&[Wanted::Symbol(Symbol::Open)])) {
         return Ok(MemberName::Property(name));
     }
     let types = list::<TypePart>(cursor)?;

@@ -11,7 +11,7 @@ use crate::members::{add_member, next_member};
 use crate::sites::site;
 use signatures::{Name, Sig};
 use std::alloc::AllocError;
-use texts::{Class, Cursor, Owns, ParseFault, Program, Site, Symbol, Wire, Word};
+use texts::{Class, Cursor, Landmark, Owns, ParseFault, Program, Site, Symbol, Wire, Word};
 
 /// A declaration of a program.
 #[derive(Drop)]
@@ -118,13 +118,13 @@ fn next_declaration(cursor: &mut Cursor) -> Result<Declaration, ParseFault>
     ensures reads { ReadsDeclaration cursor.old result cursor.new }
     ensures shorter { OnOk result (length cursor.new < length cursor.old) }
 {
-    if cursor.eat_word(Word::Class) {
+    if cursor.eat_opening(Landmark::Declaration, Word::Class) {
         Ok(Declaration::Class(class(cursor)?))
-    } else if cursor.eat_word(Word::Wire) {
+    } else if cursor.eat_opening(Landmark::Declaration, Word::Wire) {
         Ok(Declaration::Wire(wire(cursor)?))
-    } else if cursor.eat_word(Word::Owns) {
+    } else if cursor.eat_opening(Landmark::Declaration, Word::Owns) {
         Ok(Declaration::Owns(owns(cursor)?))
-    } else if cursor.eat_word(Word::Binding) {
+    } else if cursor.eat_opening(Landmark::Declaration, Word::Binding) {
         Ok(Declaration::Site(site(cursor)?))
     } else {
         Err(ParseFault::Syntax)

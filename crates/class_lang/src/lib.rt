@@ -11,7 +11,7 @@ mod reader;
 mod sites;
 
 pub use fault::TextFault;
-pub use reader::{one_answer, one_reading, read_program};
+pub use reader::{one_answer, one_reading, program_trail, read_program};
 pub use texts::{
     Binary, Body, Class, ConnectionType, EffectNames, Endpoints, Expr, Formal, Literal, Owns,
     Parameter, Path, Program, Property, Root, Signal, Site, Slot, SlotWork, Stmt, Unary, Wire,

@@ -11,7 +11,8 @@ use signatures::Sig;
 use slot_lang::block;
 use std::alloc::AllocError;
 use texts::{
-    Class, Cursor, Literal, ParseFault, Property, Signal, Slot, SlotWork, Symbol, Word, list,
+    Class, Cursor, Landmark, Literal, ParseFault, Property, Signal, Slot, SlotWork, Symbol, Word,
+    list,
 };
 
 /// A member of a class.
@@ -109,13 +110,13 @@ pub fn next_member(cursor: &mut Cursor) -> Result<Member, ParseFault>
     ensures reads { Reads spell_member tree_of_member EndsAnywhere cursor.old result cursor.new }
     ensures shorter { OnOk result (length cursor.new < length cursor.old) }
 {
-    if cursor.eat_word(Word::Property) {
+    if cursor.eat_opening(Landmark::Member, Word::Property) {
         Ok(Member::Property(property(cursor)?))
-    } else if cursor.eat_word(Word::Signal) {
+    } else if cursor.eat_opening(Landmark::Member, Word::Signal) {
         Ok(Member::Signal(signal(cursor)?))
-    } else if cursor.eat_word(Word::Slot) {
+    } else if cursor.eat_opening(Landmark::Member, Word::Slot) {
         Ok(Member::Slot(slot(cursor)?))
-    } else if cursor.eat_word(Word::Native) {
+    } else if cursor.eat_opening(Landmark::Member, Word::Native) {
         Ok(Member::Slot(native(cursor)?))
     } else {
         Err(ParseFault::Syntax)

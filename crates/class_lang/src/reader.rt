@@ -10,7 +10,9 @@ use crate::declarations::program;
 use crate::fault::TextFault;
 use crate::limits::{has_few_parameters, is_within_limits};
 use std::alloc::Global;
-use texts::{Cursor, MOST_BYTES, ParseFault, Program, Token, has_plain_reference, nesting, tokens};
+use texts::{
+    Cursor, MOST_BYTES, ParseFault, Program, Token, Trail, has_plain_reference, nesting, tokens,
+};
 
 /// Reads a program from its text: at most 1,048,576 bytes, in time that grows as the text does.
 ///
@@ -56,6 +58,14 @@ fn parse(alloc: Global, tokens: &[Token]) -> Result<Program, ParseFault>
     ensures refused { result ≡ Err Syntax → IsNoProgram tokens.now }
 {
     program(&mut Cursor::new(alloc, tokens))
+}
+
+/// The way of the reader of programs through the tokens: where the declarations, the members and the statements begin, and
+/// what was looked for where it came farthest.
+pub fn program_trail(alloc: Global, tokens: &[Token]) -> Option<Trail> {
+    let mut cursor = Cursor::recording(alloc, tokens);
+    let _ = program(&mut cursor);
+    cursor.into_trail()
 }
 
 /// Tokens, and so a text, are at most one program.

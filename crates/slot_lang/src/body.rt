@@ -17,7 +17,22 @@ use crate::path::target;
 use signatures::Word;
 use sqlite_items::Items;
 use std::alloc::Global;
-use texts::{Body, Cursor, Expr, ParseFault, Path, Stmt, Symbol, Token, has_plain_reference, list};
+use texts::{
+    Body, Cursor, Expr, Landmark, ParseFault, Path, Stmt, Symbol, Token, Wanted,
+    has_plain_reference, list,
+};
+
+/// What begins a statement.
+const STATEMENTS: [Wanted; 8] = [
+    Wanted::Word(Word::Set),
+    Wanted::Word(Word::Emit),
+    Wanted::Word(Word::Call),
+    Wanted::Word(Word::If),
+    Wanted::Word(Word::Connect),
+    Wanted::Word(Word::Disconnect),
+    Wanted::Word(Word::Delete),
+    Wanted::Word(Word::Later),
+];
 
 /// Reads a slot's body, which all of the tokens are: its statements, in their order.
 ///
@@ -86,7 +101,7 @@ fn statement(cursor: &mut Cursor) -> Result<Stmt, ParseFault>
     ensures reads { ReadsStatement cursor.old result cursor.new }
     ensures shorter { OnOk result (length cursor.new < length cursor.old) }
 {
-    match cursor.word()? {
+    match cursor.opening_word(Landmark::Statement, &STATEMENTS)? {
         Word::Set => assignment(cursor),
         Word::Emit => emission(cursor),
         Word::Call => call(cursor),

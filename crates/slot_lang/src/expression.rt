@@ -16,8 +16,22 @@ use signatures::Word;
 use sqlite_items::Boxed;
 use std::alloc::{AllocError, Global};
 use texts::{
-    Binary, Cursor, Expr, ParseFault, Part, Path, Root, Symbol, Token, Unary, unsigned_literal,
+    Binary, Cursor, Expr, GREATEST, ParseFault, Part, Path, Root, Symbol, Token, Unary, Wanted,
+    unsigned_literal,
 };
+
+/// What an operand begins with, besides `this`.
+const OPERAND: [Wanted; 9] = [
+    Wanted::Name,
+    Wanted::Number(GREATEST),
+    Wanted::Text,
+    Wanted::Word(Word::True),
+    Wanted::Word(Word::False),
+    Wanted::Word(Word::Null),
+    Wanted::Symbol(Symbol::Open),
+    Wanted::Symbol(Symbol::Not),
+    Wanted::Symbol(Symbol::Minus),
+];
 
 /// Reads an expression, which all of the tokens are. A number in it is at most 2147483647, and a text has at most 255
 /// bytes.
@@ -105,7 +119,7 @@ fn factor(cursor: &mut Cursor) -> Result<Expr<Path>, ParseFault>
     if cursor.eat_word(Word::This) {
         return path_from(cursor, Root::This);
     }
-    let token = cursor.next()?;
+    let token = cursor.next_of(&OPERAND)?;
     match token {
         Token::Symbol(symbol) => match symbol {
             Symbol::Not => prefixed(cursor, Unary::Not),

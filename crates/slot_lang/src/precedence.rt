@@ -5,7 +5,7 @@ ghost use Rattle.slot_lang.specs.code.Levels.{precedence_at};
 ghost use Rattle.slot_lang.specs.Precedence.{symbol_of, precedence_of};
 ghost use Rattle.slot_lang.specs.code.Precedence.{IsOperatorOf, IsNextOperator, TakesOperator};
 
-use texts::{Binary, Cursor, Symbol, Token};
+use texts::{Binary, Cursor, Symbol, Token, Wanted};
 
 /// How tight an operator binds, the loosest first.
 #[derive(Clone, Copy, Debug, PartialEq, Eq)]
@@ -20,6 +20,29 @@ pub enum Precedence {
     Sum,
     /// `*`
     Term,
+}
+
+/// Comparisons.
+const COMPARISONS: [Wanted; 6] = [
+    Wanted::Symbol(Symbol::Equal),
+    Wanted::Symbol(Symbol::Unequal),
+    Wanted::Symbol(Symbol::Less),
+    Wanted::Symbol(Symbol::AtMost),
+    Wanted::Symbol(Symbol::Greater),
+    Wanted::Symbol(Symbol::AtLeast),
+];
+
+impl Precedence {
+    /// The operators that bind so tight, as they are looked for.
+    fn wanted(self) -> &'static [Wanted] {
+        match self {
+            Precedence::Or => &[Wanted::Symbol(Symbol::Or)],
+            Precedence::And => &[Wanted::Symbol(Symbol::And)],
+            Precedence::Comparison => &COMPARISONS,
+            Precedence::Sum => &[Wanted::Symbol(Symbol::Plus), Wanted::Symbol(Symbol::Minus)],
+            Precedence::Term => &[Wanted::Symbol(Symbol::Star)],
+        }
+    }
 }
 
 /// The operators that group to the left, by how tight they bind, the loosest first.
@@ -107,7 +130,7 @@ pub fn operator(cursor: &mut Cursor, precedence: Precedence) -> Option<Binary>
     ensures found { TakesOperator precedence cursor.old result cursor.new }
     ensures shorter { OnSome result (length cursor.new < length cursor.old) }
 {
-    let Some(binary) = next_operator(cursor.rest()) else {
+    let Some(binary) = next_operator(cursor.ahead(precedence.wanted())) else {
         return None;
     };
     if precedence_of(binary) == precedence && cursor.eat(symbol_of(binary)) {

@@ -18,3 +18,4 @@ pub mod Partings
 pub mod NormalTypes
 pub mod SignatureTexts
 pub mod SignatureCuts
+pub mod Placing

@@ -1,5 +1,5 @@
 -- Texts that are cut at a line.
-use Rattle.std.proofs.Common.{◌≡◌, ◌≢◌, ◌∙◌, ℕ, ◌-◌, ◌≤◌, List, [], ◌∷◌, ◌++◌, length, take, refl, sym, ap, inl, inr, ◌⊎◌, arith}
+use Rattle.std.proofs.Common.{◌≡◌, ◌≢◌, ◌∙◌, ℕ, ◌-◌, List, [], ◌∷◌, ◌++◌, length, take, refl, sym, ap, inl, inr, ◌⊎◌, arith}
 use Rattle.std.proofs.Math.Seq.{take-append_seam}
 use Rattle.std.proofs.lemmas.List.{length-append, append_assoc, append-nil, append_cancel_right}
 use Rattle.texts.specs.Lines.{IsFrontLine, AreFrontLines, AreOthers, IsPartedAt, LacksLine}

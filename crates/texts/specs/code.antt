@@ -10,3 +10,4 @@ pub mod Signatures
 pub mod Connections
 pub mod Nesting
 pub mod Bytes
+pub mod Places

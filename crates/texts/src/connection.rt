@@ -122,10 +122,10 @@ impl<'a> Cursor<'a> {
         ensures found { EatsFlag separator word self.old result self.new }
         ensures no_longer { length self.new ≤ length self.old }
     {
-        let mut ahead = Cursor::new(self.alloc(), self.rest());
-        let found = ahead.separator(separator).is_ok() && ahead.eat_word(word);
-        if found {
-            *self = ahead;
+        let before = self.rest();
+        let found = self.separator(separator).is_ok() && self.eat_word(word);
+        if !found {
+            self.rewind(before);
         }
         found
     }

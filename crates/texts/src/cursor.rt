@@ -11,15 +11,19 @@ ghost use Rattle.texts.specs.declared.token.Token.TheVariants as token;
 use crate::fault::ParseFault;
 use crate::symbol::Symbol;
 use crate::token::Token;
+use crate::trail::{Landmark, Trail, begin, want, want_each};
+use crate::wanted::Wanted;
 use signatures::{Name, Word};
 use std::alloc::Global;
 use std::marker::Model;
 
-/// A place in a list of tokens, which contracts see as the tokens that are left.
+/// A place in a list of tokens, which contracts see as the tokens that are left. One that records notes also what is looked
+/// for, and where parts begin, for explanations.
 #[derive(Drop)]
 pub struct Cursor<'a> {
     alloc: Global,
     tokens: &'a [Token],
+    trail: Option<Trail>,
 }
 
 impl<'a> Model for Cursor<'a> {
@@ -36,7 +40,33 @@ impl<'a> Cursor<'a> {
     pub fn new(alloc: Global, tokens: &'a [Token]) -> Cursor<'a>
         ensures { result ≡ tokens.now }
     {
-        Cursor { alloc, tokens }
+        Cursor {
+            alloc,
+            tokens,
+            trail: None,
+        }
+    }
+
+    /// The front of the tokens, for a cursor that records.
+    pub fn recording(alloc: Global, tokens: &'a [Token]) -> Cursor<'a>
+        ensures { result ≡ tokens.now }
+    {
+        let trail = Trail::new(alloc, tokens.len());
+        Cursor {
+            alloc,
+            tokens,
+            trail: Some(trail),
+        }
+    }
+
+    /// What was noted; `None` where the cursor doesn't record.
+    pub fn into_trail(self) -> Option<Trail> {
+        let Cursor {
+            alloc: _,
+            tokens: _,
+            trail,
+        } = self;
+        trail
     }
 
     /// What trees are built with.
@@ -49,6 +79,29 @@ impl<'a> Cursor<'a> {
         ensures { result.now ≡ self.now }
     {
         self.tokens
+    }
+
+    /// The tokens that are left, of which the first is looked at for one of these.
+    pub fn ahead(&mut self, wanted: &[Wanted]) -> &'a [Token]
+        ensures tokens { result.now ≡ self.old }
+        ensures same { self.new ≡ self.old }
+    {
+        want_each(&mut self.trail, self.tokens.len(), wanted);
+        self.tokens
+    }
+
+    /// Goes back to where these tokens are left.
+    pub(crate) fn rewind(&mut self, tokens: &'a [Token])
+        ensures { self.new ≡ tokens.now }
+    {
+        self.tokens = tokens;
+    }
+
+    /// Notes that the end of the tokens has to come here.
+    pub fn want_end(&mut self)
+        ensures { self.new ≡ self.old }
+    {
+        want(&mut self.trail, self.tokens.len(), Wanted::End);
     }
 
     /// Whether no token is left.
@@ -72,11 +125,21 @@ impl<'a> Cursor<'a> {
         }
     }
 
+    /// Takes the next token, which is to be one of these; at the end that is a fault of syntax.
+    pub fn next_of(&mut self, wanted: &[Wanted]) -> Result<&'a Token, ParseFault>
+        ensures found { TakesNext self.old result self.new }
+        ensures shorter { OnOk result (length self.new < length self.old) }
+    {
+        want_each(&mut self.trail, self.tokens.len(), wanted);
+        self.next()
+    }
+
     /// Takes the reserved word, if it comes next, and says whether it did.
     pub fn eat_word(&mut self, word: Word) -> bool
         ensures found { Eats (token.Word word) self.old result self.new }
         ensures shorter { OnTrue result (length self.new < length self.old) }
     {
+        want(&mut self.trail, self.tokens.len(), Wanted::Word(word));
         match self.tokens.split_first() {
             Some((Token::Word(found), rest)) if *found == word => {
                 self.tokens = rest;
@@ -86,11 +149,25 @@ impl<'a> Cursor<'a> {
         }
     }
 
+    /// Takes the reserved word with which such a part begins, if it comes next, and says whether it did.
+    pub fn eat_opening(&mut self, landmark: Landmark, word: Word) -> bool
+        ensures found { Eats (token.Word word) self.old result self.new }
+        ensures shorter { OnTrue result (length self.new < length self.old) }
+    {
+        let left = self.tokens.len();
+        let found = self.eat_word(word);
+        if found {
+            begin(&mut self.trail, left, landmark);
+        }
+        found
+    }
+
     /// Takes the symbol, if it comes next, and says whether it did.
     pub fn eat(&mut self, symbol: Symbol) -> bool
         ensures found { Eats (token.Symbol symbol) self.old result self.new }
         ensures shorter { OnTrue result (length self.new < length self.old) }
     {
+        want(&mut self.trail, self.tokens.len(), Wanted::Symbol(symbol));
         match self.tokens.split_first() {
             Some((Token::Symbol(found), rest)) if *found == symbol => {
                 self.tokens = rest;
@@ -124,11 +201,18 @@ impl<'a> Cursor<'a> {
         }
     }
 
-    /// Takes the reserved word that has to come next; where none does, that is a fault of syntax.
-    pub fn word(&mut self) -> Result<Word, ParseFault>
+    /// Takes the reserved word that has to come next, which is to be one of these and begins such a part; where no
+    /// reserved word comes next, that is a fault of syntax.
+    pub fn opening_word(
+        &mut self,
+        landmark: Landmark,
+        wanted: &[Wanted],
+    ) -> Result<Word, ParseFault>
         ensures reads { Reads spell_word (λ word. word) EndsAnywhere self.old result self.new }
         ensures shorter { OnOk result (length self.new < length self.old) }
     {
+        want_each(&mut self.trail, self.tokens.len(), wanted);
+        begin(&mut self.trail, self.tokens.len(), landmark);
         match self.tokens.split_first() {
             Some((Token::Word(word), rest)) => {
                 self.tokens = rest;
@@ -143,6 +227,7 @@ impl<'a> Cursor<'a> {
         ensures reads { Reads spell_name (λ name. name) EndsAnywhere self.old result self.new }
         ensures shorter { OnOk result (length self.new < length self.old) }
     {
+        want(&mut self.trail, self.tokens.len(), Wanted::Name);
         match self.tokens.split_first() {
             Some((Token::Name(name), rest)) => {
                 self.tokens = rest;
@@ -157,6 +242,7 @@ impl<'a> Cursor<'a> {
         ensures reads { ReadsOptionalName self.old result self.new }
         ensures no_longer { OnOk result (length self.new ≤ length self.old) }
     {
+        want(&mut self.trail, self.tokens.len(), Wanted::Name);
         match self.tokens.first() {
             Some(Token::Name(_)) => Ok(Some(self.name()?)),
             _ => Ok(None),

@@ -12,11 +12,14 @@ mod lines;
 mod lists;
 mod literal;
 mod numeral;
+mod placed;
 mod program;
 mod signature;
 mod symbol;
 mod syntax;
 mod token;
+mod trail;
+mod wanted;
 
 pub use connection::{ConnectionType, Endpoints, both_ends};
 pub use cursor::Cursor;
@@ -28,6 +31,7 @@ pub use lines::{split_at_line, split_line};
 pub use lists::{Part, list, list_after};
 pub use literal::{GREATEST, unsigned_literal};
 pub use numeral::number;
+pub use placed::{PlaceFault, PlacedToken, placed_tokens};
 pub use program::{
     Class, EffectNames, Formal, Owns, Parameter, Program, Property, Signal, Site, Slot, SlotWork,
     Wire,
@@ -40,3 +44,5 @@ pub use signatures::Word;
 pub use symbol::Symbol;
 pub use syntax::{Binary, Body, Expr, Literal, Path, Root, Stmt, Unary};
 pub use token::Token;
+pub use trail::{Begun, Landmark, Trail};
+pub use wanted::{LITERAL, Wanted};

@@ -12,6 +12,7 @@ use crate::numeral::value_of;
 use crate::symbol::Symbol;
 use crate::syntax::Literal;
 use crate::token::Token;
+use crate::wanted::{LITERAL, Wanted};
 use signatures::{Text, Word};
 use std::alloc::Global;
 
@@ -62,7 +63,7 @@ impl<'a> Cursor<'a> {
         ensures fits { IfOk result (λ n. n ≤ most) }
         ensures shorter { OnOk result (length self.new < length self.old) }
     {
-        match self.next()? {
+        match self.next_of(&[Wanted::Number(most)])? {
             Token::Number(digits) => match value_of(digits.as_slice(), u64::from(most)) {
                 Some(value) => Ok(value as u32),
                 None => Err(ParseFault::Syntax),
@@ -83,7 +84,7 @@ impl<'a> Cursor<'a> {
             let depth = self.number(DEEPEST)?;
             return Ok(Literal::Int(negated(depth)));
         }
-        let token = self.next()?;
+        let token = self.next_of(&LITERAL)?;
         let value = unsigned_literal(self.alloc(), token)?;
         Ok(value)
     }

@@ -9,8 +9,8 @@ returns-then-has_few_parameters c =
     let normal = is_not_so c.has_plain_reference.result c.if-has_plain_reference.false c.has_plain_reference.ensures in
     line_whole (rw c.new-cursor.ensures at c.in_ok-line.ensures) end few normal
 
-pub returns-else-has_few_parameters : goal.returns-else-has_few_parameters
-returns-else-has_few_parameters c =
+pub returns : goal.returns
+returns c =
     let end = is_so c.is_empty.result c.if-not-is_empty.false c.is_empty.ensures in
     let many = is_not_so c.has_few_parameters.result c.if-has_few_parameters.false c.has_few_parameters.ensures in
     many_parameters (rw c.new-cursor.ensures at c.in_ok-line.ensures) end many

@@ -6,7 +6,7 @@ use Rattle.certificate_lang.proofs.syntax.member.Goals as goal
 pub returns-then-not-is_at_open : goal.returns-then-not-is_at_open
 returns-then-not-is_at_open c =
     let other = is_not_so c.is_at_open.result c.if-not-is_at_open.true c.is_at_open.ensures in
-    property_found c.in_ok-name.ensures.reads (λ after e. other (after, c.rest.ensures ∙ e))
+    rw c.ahead.ensures.same (property_found c.in_ok-name.ensures.reads (λ after e. other (after, c.ahead.ensures.tokens ∙ e)))
 
 pub returns : goal.returns
-returns c = method_found c.in_ok-name.ensures.reads c.in_ok-types.ensures.reads
+returns c = method_found c.in_ok-name.ensures.reads (rw c.ahead.ensures.same at c.in_ok-types.ensures.reads)

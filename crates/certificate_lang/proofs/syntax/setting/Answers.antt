@@ -8,4 +8,4 @@ pub returns-in-Name : goal.returns-in-Name
 returns-in-Name c =
     let name = same_text c.bytes.result.now c.args.name.now c.if-eq.ensures in
     let is = c.in-Name.is ∙ ap (λ (letters : List ℕ). token.Name letters) (sym c.bytes.ensures.value ∙ name) in
-    setting_reads (c.in_ok-found.ensures.found ∙ ap (λ t. t ∷ c.next.new.self) is) c.number.new.self c.number.result c.number.ensures.reads
+    setting_reads (c.in_ok-found.ensures.found ∙ ap (λ t. t ∷ c.next_of.new.self) is) c.number.new.self c.number.result c.number.ensures.reads

@@ -43,38 +43,38 @@ choice-returns-clause-reads t c = choice_found c.in_ok-condition.ensures.reads c
 
 -- ---- a statement by its first word
 
-pub statement-returns-in_err-word-clause-reads : goal.statement-returns-in_err-word-clause-reads
-statement-returns-in_err-word-clause-reads t c =
+pub statement-returns-in_err-opening_word-clause-reads : goal.statement-returns-in_err-opening_word-clause-reads
+statement-returns-in_err-opening_word-clause-reads t c =
     let p = err_from_is_err_and c.from_residual.result c.from_residual.ensures.1 in
-    rw (p.1, p.2) (λ k. no_statement_without_word (c.in_err-word.ensures.reads k))
+    rw (p.1, p.2) (λ k. no_statement_without_word (c.in_err-opening_word.ensures.reads k))
 
 pub statement-returns-in-Set-clause-reads : goal.statement-returns-in-Set-clause-reads
-statement-returns-in-Set-clause-reads t c = form_reads set_form c.assignment.new.cursor c.assignment.result (word_at c.in_ok-word.ensures.reads word.Set c.in-Set.is) c.assignment.ensures.reads
+statement-returns-in-Set-clause-reads t c = form_reads set_form c.assignment.new.cursor c.assignment.result (word_at c.in_ok-opening_word.ensures.reads word.Set c.in-Set.is) c.assignment.ensures.reads
 
 pub statement-returns-in-Emit-clause-reads : goal.statement-returns-in-Emit-clause-reads
-statement-returns-in-Emit-clause-reads t c = form_reads emit_form c.emission.new.cursor c.emission.result (word_at c.in_ok-word.ensures.reads word.Emit c.in-Emit.is) c.emission.ensures.reads
+statement-returns-in-Emit-clause-reads t c = form_reads emit_form c.emission.new.cursor c.emission.result (word_at c.in_ok-opening_word.ensures.reads word.Emit c.in-Emit.is) c.emission.ensures.reads
 
 pub statement-returns-in-Call-clause-reads : goal.statement-returns-in-Call-clause-reads
-statement-returns-in-Call-clause-reads t c = form_reads call_form c.call.new.cursor c.call.result (word_at c.in_ok-word.ensures.reads word.Call c.in-Call.is) c.call.ensures.reads
+statement-returns-in-Call-clause-reads t c = form_reads call_form c.call.new.cursor c.call.result (word_at c.in_ok-opening_word.ensures.reads word.Call c.in-Call.is) c.call.ensures.reads
 
 pub statement-returns-in-If-clause-reads : goal.statement-returns-in-If-clause-reads
-statement-returns-in-If-clause-reads t c = form_reads if_form c.choice.new.cursor c.choice.result (word_at c.in_ok-word.ensures.reads word.If c.in-If.is) c.choice.ensures.reads
+statement-returns-in-If-clause-reads t c = form_reads if_form c.choice.new.cursor c.choice.result (word_at c.in_ok-opening_word.ensures.reads word.If c.in-If.is) c.choice.ensures.reads
 
 pub statement-returns-in-Connect-clause-reads : goal.statement-returns-in-Connect-clause-reads
-statement-returns-in-Connect-clause-reads t c = form_reads connect_form c.connection.new.cursor c.connection.result (word_at c.in_ok-word.ensures.reads word.Connect c.in-Connect.is) c.connection.ensures.reads
+statement-returns-in-Connect-clause-reads t c = form_reads connect_form c.connection.new.cursor c.connection.result (word_at c.in_ok-opening_word.ensures.reads word.Connect c.in-Connect.is) c.connection.ensures.reads
 
 pub statement-returns-in-Disconnect-clause-reads : goal.statement-returns-in-Disconnect-clause-reads
-statement-returns-in-Disconnect-clause-reads t c = form_reads disconnect_form c.disconnection.new.cursor c.disconnection.result (word_at c.in_ok-word.ensures.reads word.Disconnect c.in-Disconnect.is) c.disconnection.ensures.reads
+statement-returns-in-Disconnect-clause-reads t c = form_reads disconnect_form c.disconnection.new.cursor c.disconnection.result (word_at c.in_ok-opening_word.ensures.reads word.Disconnect c.in-Disconnect.is) c.disconnection.ensures.reads
 
 pub statement-returns-in-Delete-clause-reads : goal.statement-returns-in-Delete-clause-reads
-statement-returns-in-Delete-clause-reads t c = form_reads delete_form c.deletion.new.cursor c.deletion.result (word_at c.in_ok-word.ensures.reads word.Delete c.in-Delete.is) c.deletion.ensures.reads
+statement-returns-in-Delete-clause-reads t c = form_reads delete_form c.deletion.new.cursor c.deletion.result (word_at c.in_ok-opening_word.ensures.reads word.Delete c.in-Delete.is) c.deletion.ensures.reads
 
 pub statement-returns-in-Later-clause-reads : goal.statement-returns-in-Later-clause-reads
-statement-returns-in-Later-clause-reads t c = form_reads later_form c.later_deletion.new.cursor c.later_deletion.result (word_at c.in_ok-word.ensures.reads word.Later c.in-Later.is) c.later_deletion.ensures.reads
+statement-returns-in-Later-clause-reads t c = form_reads later_form c.later_deletion.new.cursor c.later_deletion.result (word_at c.in_ok-opening_word.ensures.reads word.Later c.in-Later.is) c.later_deletion.ensures.reads
 
 pub statement-returns-in_default : goal.statement-returns-in_default
 statement-returns-in_default t c =
-    let other = not_at_word c.in_ok-word.ensures.reads in
+    let other = not_at_word c.in_ok-opening_word.ensures.reads in
     record {
       reads = λ k. no_statement_at (other word.Set c.in_default.not-Set) (other word.Emit c.in_default.not-Emit) (other word.Call c.in_default.not-Call) (other word.If c.in_default.not-If) (other word.Connect c.in_default.not-Connect) (other word.Disconnect c.in_default.not-Disconnect) (other word.Delete c.in_default.not-Delete) (other word.Later c.in_default.not-Later);
       shorter = tt;

@@ -118,7 +118,7 @@ pub factor-returns-in_ok-root-in-Name-clause-reads : goal.factor-returns-in_ok-r
 factor-returns-in_ok-root-in-Name-clause-reads t c =
     let same = c.if-eat_word.ensures.found.0 in
     let copied = c.in_ok-root-in-Name.ensures in
-    path_reads (root.Name c.in_ok-root-in-Name.root) c.next.new.self c.path_from-in-Name.new.cursor c.path_from-in-Name.result (rw (same, c.in-Name.is, ← copied) at c.in_ok-token.ensures.found) c.path_from-in-Name.ensures.reads
+    path_reads (root.Name c.in_ok-root-in-Name.root) c.next_of.new.self c.path_from-in-Name.new.cursor c.path_from-in-Name.result (rw (same, c.in-Name.is, ← copied) at c.in_ok-token.ensures.found) c.path_from-in-Name.ensures.reads
 
 pub factor-returns-in_ok-literal-in_default : goal.factor-returns-in_ok-literal-in_default
 factor-returns-in_ok-literal-in_default t c =

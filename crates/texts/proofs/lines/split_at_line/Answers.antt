@@ -1,4 +1,4 @@
-use Rattle.std.proofs.Common.{◌≡◌, true, arith}
+use Rattle.std.proofs.Common.{◌≡◌, arith}
 use Rattle.std.proofs.lemmas.Bool.Decides.{Decides-eqb, not_from_Decides}
 use Rattle.std.proofs.lemmas.Slice.Eq.{slice_eq-Decides}
 use Rattle.texts.proofs.Partings.{none_so_far, other_next, parted_here}
