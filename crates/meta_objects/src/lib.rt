@@ -3,6 +3,7 @@
 
 mod body_resolution;
 mod class_index;
+mod lacks;
 mod laws;
 mod literals;
 mod meta;
@@ -12,6 +13,8 @@ mod resolve_site;
 mod resolve_uses;
 mod resolve_wire;
 
+pub use body_resolution::Scope;
+pub use lacks::{lacks_class, lacks_end, lacks_in_site, lacks_in_slot};
 pub use laws::{one_answer, one_as_declared, one_loading};
 pub use meta::{Meta, Wired};
 pub use meta_model::{
@@ -19,3 +22,5 @@ pub use meta_model::{
     MetaProperty, MetaRoot, MetaSite, MetaWire, SlotBody, SourceProperty, Statement, Step,
     ValueType, Work,
 };
+pub use resolve_native::emitted;
+pub use resolve_wire::signal_end;

@@ -66,8 +66,9 @@ fn resolve_emitted(
     Ok(numbers)
 }
 
-/// The number of the class's signal of this signature, if it isn't one that the runtime emits.
-fn emitted(outlines: &[IndexedOutline], class: &Name, sig: &Sig) -> Option<usize>
+/// The number of the signal of this signature, of the class of this name, which a native of the class may emit; `None` where
+/// the class has no such signal, or the runtime emits it.
+pub fn emitted(outlines: &[IndexedOutline], class: &Name, sig: &Sig) -> Option<usize>
     ensures { LooksUp (HasSignalIn outlines.now class.now sig.now) result }
 {
     let Some((_, signal)) = signal_end(outlines, class, sig) else {

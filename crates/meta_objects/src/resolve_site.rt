@@ -30,7 +30,7 @@ pub fn resolve_sites(
 }
 
 /// The site; `NoMember` where a name in it isn't there.
-fn resolve_site(
+pub fn resolve_site(
     alloc: Global,
     outlines: &[IndexedOutline],
     site: &Site,

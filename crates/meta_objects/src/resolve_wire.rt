@@ -34,7 +34,7 @@ pub fn resolve_wires(
 }
 
 /// The wire, if its ends are there.
-fn resolve_wire(outlines: &[IndexedOutline], wire: &Wire) -> Option<MetaWire>
+pub fn resolve_wire(outlines: &[IndexedOutline], wire: &Wire) -> Option<MetaWire>
     ensures { LooksUp (IsWire outlines.now wire.now) result }
 {
     let Some((sender, signal)) = signal_end(outlines, &wire.sender, &wire.signal) else {
@@ -56,7 +56,7 @@ fn resolve_wire(outlines: &[IndexedOutline], wire: &Wire) -> Option<MetaWire>
     }
 }
 
-/// The numbers of the class of this name and of its signal of this signature.
+/// The numbers of the class of this name and of its signal of this signature; `None` where either isn't there.
 pub fn signal_end(outlines: &[IndexedOutline], name: &Name, sig: &Sig) -> Option<(usize, usize)>
     ensures { FindsEnd (IsSignalOf sig.now) outlines.now name.now result }
 {
@@ -101,7 +101,7 @@ pub fn resolve_owns(
 }
 
 /// The declaration, if its classes are there.
-fn resolve_one_owns(outlines: &[IndexedOutline], owns: &Owns) -> Option<MetaOwns>
+pub fn resolve_one_owns(outlines: &[IndexedOutline], owns: &Owns) -> Option<MetaOwns>
     ensures { LooksUp (IsOwns outlines.now owns.now) result }
 {
     let Some(parent) = place_of(outlines, &owns.parent) else {

@@ -7,4 +7,5 @@ mod path;
 mod scope;
 mod work;
 
-pub use work::{ResolvedWork, resolve_works};
+pub use scope::Scope;
+pub use work::{ResolvedWork, resolve_slot_work, resolve_works};

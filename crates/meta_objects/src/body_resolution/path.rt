@@ -96,8 +96,8 @@ impl<'a> Scope<'a> {
         })
     }
 
-    /// The class that the type points to, with its number.
-    fn find_class(&self, kind: &QType) -> Option<(usize, &'a IndexedOutline)>
+    /// The class that the type points to, with its number; `None` where the type is no pointer, or there is no such class.
+    pub fn find_class(&self, kind: &QType) -> Option<(usize, &'a IndexedOutline)>
         ensures { FindsClass self.now.outlines.now kind.now result }
     {
         if kind.pointer {

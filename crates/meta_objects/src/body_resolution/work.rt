@@ -52,8 +52,8 @@ fn resolve_class_works(
     Ok(works)
 }
 
-/// What the class's slot or native does.
-fn resolve_slot_work(
+/// What the class's slot or native does; `NoMember` where a name in it isn't there.
+pub fn resolve_slot_work(
     alloc: Global,
     outlines: &[IndexedOutline],
     class: &Class,
