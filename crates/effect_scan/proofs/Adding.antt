@@ -5,8 +5,9 @@ use Rattle.std.proofs.lemmas.Bool.{cases_eq, cases_lt}
 use Rattle.std.proofs.lemmas.List.{take_more, take_all, length-set, get_or_past, get_or_default, get_or-replicate, length-replicate}
 use Rattle.std.proofs.lemmas.List.Elements.{Contains-append_left, Contains-append_right, Contains-append_cases, Contains-push, Contains-push_cases, length_all_zip, AllZip-get_or}
 use Rattle.std.proofs.lemmas.Option.{slice_get_within, same_Some, none-some, get_or_from_slice_get}
-use Rattle.effect_scan.specs.Rows.{row, Edge, Adds, Joins, IsOrdered, AreOrdered}
-use Rattle.effect_scan.specs.Rows.{Among, AmongFirst}
+use Rattle.effect_scan.specs.Rows.{row, Edge}
+use Rattle.effect_scan.specs.code.Adding.{Adds, Joins, IsOrdered, AreOrdered}
+use Rattle.effect_scan.specs.code.Adding.{Among, AmongFirst}
 
 pub no_members : {X : Type 0} (x : X) → ¬ Contains [] x
 no_members x h = absurd (omega (arith, h.1))

@@ -16,8 +16,8 @@ use Rattle.effect_scan.specs.declared.effect.Effect.{Effect}
 use Rattle.effect_scan.specs.declared.places.Places.{Places}
 use Rattle.effect_scan.specs.Nodes.{node, named, IsAt}
 use Rattle.effect_scan.specs.Effects.{WorkHas}
-use Rattle.effect_scan.specs.Places.{InEach, InBelow, IsReached, IsRead, OfSome}
-use Rattle.effect_scan.specs.Leading.{WireLeads, MethodLeads, PropertyLeads, SiteLeads, ClosureLeads}
+use Rattle.effect_scan.specs.code.Places.{InEach, InBelow, IsReached, IsRead, OfSome}
+use Rattle.effect_scan.specs.code.Leading.{WireLeads, MethodLeads, PropertyLeads, SiteLeads, ClosureLeads}
 
 module _ (places : Places) where
   pub wire_both : (wire : MetaWire) (signal : ℕ) → signal ≡ named wire.signal → wire.kind ≢ Queued → (a b : ℕ)

@@ -4,7 +4,9 @@ pub mod Listing
 pub mod Numbered
 pub mod Occurring
 pub mod Doing
+pub mod Drawing
 pub mod Pairing
+pub mod Reading
 pub mod Relating
 pub mod Sources
 pub mod Standing

@@ -11,14 +11,15 @@ use Rattle.std.proofs.lemmas.List.Sorted.{Contains-permutation, IsPermutation-sy
 use Rattle.std.proofs.lemmas.List.Kept.{Contains-dedup_nat, Contains-from_dedup}
 use Rattle.std.proofs.lemmas.Map.Keys.{IsStrictlyIncreasing-dedup}
 use Rattle.std.proofs.lemmas.Option.{slice_get_within, same_Some}
-use Rattle.effect_scan.specs.Rows.{row, IsOrdered}
+use Rattle.effect_scan.specs.Rows.{row}
+use Rattle.effect_scan.specs.code.Adding.{IsOrdered}
 use Rattle.effect_scan.specs.declared.node.Node.{Node}
 use Rattle.effect_scan.specs.declared.node.Member.{Member}
 use Rattle.meta_model.specs.declared.site.SourceProperty.{SourceProperty}
 use Rattle.effect_scan.specs.declared.node.Member.TheVariants.{Property}
 use Rattle.effect_scan.specs.declared.places.Places.{Places}
 use Rattle.effect_scan.specs.Nodes.{node, IsAt}
-use Rattle.effect_scan.specs.Places.{Lists, AreJust, InEach, InBelow, IsRead, OfSome}
+use Rattle.effect_scan.specs.code.Places.{Lists, AreJust, InEach, InBelow, IsRead, OfSome}
 use Rattle.effect_scan.proofs.Adding.{no_members, first_more}
 
 pub increasing_none : IsStrictlyIncreasing []

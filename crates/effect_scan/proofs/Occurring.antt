@@ -1,5 +1,5 @@
 -- What the statements of bodies do, one statement after another.
-use Rattle.std.proofs.Common.{◌≡◌, ◌↔◌, ◌⊎◌, inl, inr, ℕ, ◌+◌, ◌<◌, ◌≤◌, List, [], ◌∷◌, ◌++◌, length, get_or, take, Some, None, Result, Ok, Err, IfOk, refl, sym, ap, ◌∙◌, subst}
+use Rattle.std.proofs.Common.{◌≡◌, ◌↔◌, ◌⊎◌, inl, inr, ℕ, zero, suc, ◌+◌, ◌<◌, ◌≤◌, List, [], ◌∷◌, ◌++◌, length, get_or, take, slice_get, Some, None, Result, Ok, Err, IfOk, refl, sym, ap, ◌∙◌, subst}
 use Rattle.std.specs.List.{Contains}
 use Rattle.std.proofs.lemmas.List.{take_more, take_all}
 use Rattle.std.proofs.lemmas.Option.{none-some, same_Some}
@@ -58,6 +58,12 @@ occurs_either s (x ∷ xs) ys here = inl here
 occurs_either s (x ∷ xs) ys (after o) = elim (occurs_either s xs ys o) [ inl l ↦ inl (after l) | inr r ↦ inr r ]
 occurs_either s (x ∷ xs) ys (chosen is o) = inl (chosen is o)
 occurs_either s (x ∷ xs) ys (otherwise is o) = inl (otherwise is o)
+
+-- what occurs in a statement of the body occurs in the body
+pub occurs_at : (body : List Statement) (i : ℕ) (t s : Statement) → slice_get body i ≡ Some t → Occurs s (t ∷ []) → Occurs s body
+occurs_at [] i t s e o = absurd (none-some t e)
+occurs_at (x ∷ xs) zero t s e o = occurs_left s (x ∷ []) xs (subst (λ (y : Statement). Occurs s (y ∷ [])) (sym (same_Some _ _ e)) o)
+occurs_at (x ∷ xs) (suc i) t s e o = after (occurs_at xs i t s e o)
 
 module _ (kinds : List ValueType) where
   -- the effects of one statement, by its parts

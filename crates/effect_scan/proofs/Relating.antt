@@ -11,9 +11,11 @@ use Rattle.meta_model.specs.Members.{IsClass, Below, Owns, same, under}
 use Rattle.meta_model.proofs.Searches.{in_list, place_in}
 use Rattle.std.proofs.lemmas.Option.{slice_get_within, slice_get_past, none-some}
 use Rattle.meta_model.proofs.OneAnswer.{below_absent}
-use Rattle.effect_scan.specs.Rows.{row, Joins, AmongFirst}
-use Rattle.effect_scan.specs.Places.{IsLineage, Lists}
-use Rattle.effect_scan.specs.Destroying.{Closure, itself, child, AreClosures, IsMarked, marks_of, Holds, IsSquare, IsEmpty, Marks, Extends, OwnsRows, IsOwned, IsOwn, Passes, Chains, one, more, IsClosed, Closing, AreListed}
+use Rattle.effect_scan.specs.Rows.{row}
+use Rattle.effect_scan.specs.code.Adding.{Joins, AmongFirst}
+use Rattle.effect_scan.specs.code.Places.{IsLineage, Lists}
+use Rattle.effect_scan.specs.Destroying.{Closure, itself, child, AreClosures}
+use Rattle.effect_scan.specs.code.Relations.{IsMarked, marks_of, Holds, IsSquare, IsEmpty, Marks, Extends, OwnsRows, IsOwned, IsOwn, Passes, Chains, one, more, IsClosed, Closing, AreListed}
 use Rattle.effect_scan.proofs.Adding.{no_members, first_more, among_more, among_all, edge_inside}
 
 -- ---- one row

@@ -14,11 +14,12 @@ use Rattle.effect_scan.specs.declared.effect.Reach.{Reach}
 use Rattle.effect_scan.specs.declared.effect.Reach.TheVariants as reach
 use Rattle.effect_scan.specs.declared.places.Places.{Places}
 use Rattle.effect_scan.specs.Nodes.{node, named, nodes_of, IsAt}
-use Rattle.effect_scan.specs.Rows.{row, Edge, Adds, IsOrdered, AreOrdered}
-use Rattle.effect_scan.specs.Places.{InBelow, ReachedBy, ArePlaces}
+use Rattle.effect_scan.specs.Rows.{row, Edge}
+use Rattle.effect_scan.specs.code.Adding.{Adds, IsOrdered, AreOrdered}
+use Rattle.effect_scan.specs.code.Places.{InBelow, ReachedBy, ArePlaces}
 use Rattle.effect_scan.specs.Destroying.{AreClosures}
 use Rattle.effect_scan.specs.Edges.{AtOrBelow, ReachedAs, ByWork, ByWire, ByNotify, BySite, ByDestruction, MayLead, by_work, by_wire, by_notify, by_site, by_destruction, LeadsAt}
-use Rattle.effect_scan.specs.Leading.{WiresLead, WorksLead, NotifiersLead, SitesLead, ClosuresLead}
+use Rattle.effect_scan.specs.code.Leading.{WiresLead, WorksLead, NotifiersLead, SitesLead, ClosuresLead}
 use Rattle.effect_scan.specs.Scans.{AreEdges}
 use Rattle.effect_scan.proofs.Adding.{edge_inside, empty_edge, ordered_row}
 

@@ -1,12 +1,11 @@
 -- What the statements of a body and the actions of a native do at once, and to which objects (docs/certificate.md, "Edges").
-use Rattle.std.specs.Prelude.{◌≡◌, ◌↔◌, ◌⊎◌, ℕ, ◌-◌, List, ◌∷◌, length, Option, None, Some, slice_get}
+use Rattle.std.specs.Prelude.{◌≡◌, ◌↔◌, ◌⊎◌, ℕ, List, ◌∷◌, Option, None, Some}
 use Rattle.std.specs.Option.{option_and_then, option_map}
 use Rattle.std.specs.List.{Contains}
 use Rattle.texts.specs.declared.syntax.Expr.{Expr}
 use Rattle.meta_model.specs.declared.object.ValueType.{ValueType}
 use Rattle.meta_model.specs.declared.object.ValueType.TheVariants as type
 use Rattle.meta_model.specs.declared.object.MetaRoot.{MetaRoot}
-use Rattle.meta_model.specs.declared.object.MetaRoot.TheVariants.{This, Parameter}
 use Rattle.meta_model.specs.declared.object.Step.{Step}
 use Rattle.meta_model.specs.declared.object.MetaPath.{MetaPath}
 use Rattle.meta_model.specs.declared.object.Statement.{Statement}
@@ -20,6 +19,7 @@ use Rattle.effect_scan.specs.declared.node.Member.TheVariants.{Method, Property,
 use Rattle.effect_scan.specs.declared.effect.Reach.{Reach}
 use Rattle.effect_scan.specs.declared.effect.Reach.TheVariants.{Own, Below}
 use Rattle.effect_scan.specs.declared.effect.Effect.{Effect}
+use Rattle.effect_scan.specs.Paths.{of_root, of_last, of_path}
 
 -- ---- the objects that a path may lead to
 -- objects of the type's class or below it
@@ -29,18 +29,15 @@ reach_of_type type.Bool = None
 reach_of_type type.Text = None
 reach_of_type (type.Reference class constant) = Some (Below class)
 
--- `this` is the object itself, a parameter one of its declared type
+-- `this` is the object itself, anything else one of its declared type
 abbrev pub reach_of_root : List ValueType → MetaRoot → Option Reach
-reach_of_root kinds This = Some Own
-reach_of_root kinds (Parameter k) = option_and_then reach_of_type (slice_get kinds k)
+reach_of_root kinds root = of_root (Some Own) (option_and_then reach_of_type) kinds root
 
 abbrev pub reach_after : List ValueType → MetaRoot → Option Step → Option Reach
-reach_after kinds root None = reach_of_root kinds root
-reach_after kinds root (Some step) = reach_of_type step.kind
+reach_after kinds root last = of_last (Some Own) (option_and_then reach_of_type) kinds root last
 
--- a path leads to objects of the declared type of its last property, and without properties to what it begins with
 abbrev pub reach_of : List ValueType → MetaPath → Option Reach
-reach_of kinds path = reach_after kinds path.root (slice_get path.steps (length path.steps - 1))
+reach_of kinds path = of_path (Some Own) (option_and_then reach_of_type) kinds path
 
 -- ---- statements
 abbrev pub effect_on : List ValueType → Member → MetaPath → Option Effect

@@ -1,13 +1,14 @@
 pub mod Nodes
 pub mod Numbering
 pub mod Rows
+pub mod Paths
 pub mod Effects
-pub mod Places
 pub mod Destroying
 pub mod Edges
-pub mod Leading
+pub mod Reasons
 pub mod Scans
 pub mod Laws
+pub mod code
 pub use Rattle.meta_model.specs.LookUps
 pub use Rattle.meta_model.specs.Members
 pub use Rattle.meta_model.specs.Sites

@@ -2,9 +2,11 @@
 
 ghost use Rattle.std.specs.Prelude.{◌≡◌, ◌<◌, ℕ, length, true, IfOk};
 ghost use Rattle.std.specs.List.{Contains};
-ghost use Rattle.effect_scan.specs.Rows.{row, Joins};
-ghost use Rattle.effect_scan.specs.Places.{IsLineage, Lists};
-ghost use Rattle.effect_scan.specs.Destroying.{AreClosures, Marks, IsMarked, IsSquare, IsEmpty, Extends, IsClosed, Holds, Passes, IsOwned, IsOwn, AreListed};
+ghost use Rattle.effect_scan.specs.Rows.{row};
+ghost use Rattle.effect_scan.specs.code.Adding.{Joins};
+ghost use Rattle.effect_scan.specs.code.Places.{IsLineage, Lists};
+ghost use Rattle.effect_scan.specs.Destroying.{AreClosures};
+ghost use Rattle.effect_scan.specs.code.Relations.{Marks, IsMarked, IsSquare, IsEmpty, Extends, IsClosed, Holds, Passes, IsOwned, IsOwn, AreListed};
 
 use crate::rows::row_at;
 use meta_model::MetaOwns;

@@ -6,9 +6,9 @@ ghost use Rattle.meta_model.specs.Sites.{paths_in};
 ghost use Rattle.effect_scan.specs.declared.effect.Effect.{Effect as AnEffect};
 ghost use Rattle.effect_scan.specs.Nodes.{named};
 ghost use Rattle.effect_scan.specs.Effects.{WorkHas};
-ghost use Rattle.effect_scan.specs.Rows.{Adds};
-ghost use Rattle.effect_scan.specs.Places.{AreJust, IsReached, IsRead, OfSome};
-ghost use Rattle.effect_scan.specs.Leading.{WireLeads, WiresLead, MethodLeads, MethodsLead, WorksLead, PropertyLeads, PropertiesLead, NotifiersLead, SiteLeads, SitesLead, ClosureLeads, ClosuresLead};
+ghost use Rattle.effect_scan.specs.code.Adding.{Adds};
+ghost use Rattle.effect_scan.specs.code.Places.{AreJust, IsReached, IsRead, OfSome};
+ghost use Rattle.effect_scan.specs.code.Leading.{WireLeads, WiresLead, MethodLeads, MethodsLead, WorksLead, PropertyLeads, PropertiesLead, NotifiersLead, SiteLeads, SitesLead, ClosureLeads, ClosuresLead};
 
 use crate::effect::{Effect, gather, gather_native};
 use crate::node::{Member, Node};

@@ -9,6 +9,7 @@ mod lineage;
 mod node;
 mod numbering;
 mod places;
+mod reasons;
 mod rows;
 mod scan;
 
@@ -16,5 +17,6 @@ pub use effect::{Effect, Reach, effect_of};
 pub use laws::edges_join_nodes;
 pub use node::{Member, Node};
 pub use numbering::Numbering;
+pub use reasons::{Reason, reason_for};
 pub use rows::row_at;
 pub use scan::Scan;

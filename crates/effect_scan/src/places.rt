@@ -2,7 +2,7 @@
 
 ghost use Rattle.std.specs.Prelude.{◌≡◌, IfOk};
 ghost use Rattle.effect_scan.specs.Nodes.{IsAt};
-ghost use Rattle.effect_scan.specs.Places.{AreJust, ArePlaces, InEach, InBelow, IsReached};
+ghost use Rattle.effect_scan.specs.code.Places.{AreJust, ArePlaces, InEach, InBelow, IsReached};
 
 use crate::effect::{Effect, Reach};
 use crate::lineage::lineage;

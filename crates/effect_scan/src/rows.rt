@@ -2,7 +2,8 @@
 
 ghost use Rattle.std.specs.Prelude.{◌≡◌, ◌<◌, ◌++◌, ℕ, length, map, replicate, [], IfOk, OnOk};
 ghost use Rattle.std.specs.List.{Contains};
-ghost use Rattle.effect_scan.specs.Rows.{row, Adds, Joins, IsOrdered, AreOrdered};
+ghost use Rattle.effect_scan.specs.Rows.{row};
+ghost use Rattle.effect_scan.specs.code.Adding.{Adds, Joins, IsOrdered, AreOrdered};
 
 use sqlite_items::{Items, at};
 use std::alloc::{AllocError, Global};

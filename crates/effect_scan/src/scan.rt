@@ -4,7 +4,7 @@ ghost use Rattle.std.specs.Prelude.{◌≡◌, [], replicate, length, IfOk};
 ghost use Rattle.meta_model.specs.LookUps.{LooksUp, FindsOnly};
 ghost use Rattle.effect_scan.specs.Nodes.{IsAt};
 ghost use Rattle.effect_scan.specs.Rows.{row, pairs_from};
-ghost use Rattle.effect_scan.specs.Places.{ArePlaces};
+ghost use Rattle.effect_scan.specs.code.Places.{ArePlaces};
 ghost use Rattle.effect_scan.specs.Destroying.{AreClosures};
 ghost use Rattle.effect_scan.specs.Scans.{AreEdges, IsScan};
 

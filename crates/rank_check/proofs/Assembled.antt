@@ -55,13 +55,13 @@ module _ (p : Loaded) (certificate : Certificate) (numbers : List (Option ℕ)) 
   pub place_inside : (k n : ℕ) → IsFor numbers k n → k < length certificate.lines
   place_inside k n for = let w = line_for k n for in slice_get_within certificate.lines k w.0 w.1
 
-  pub node_missing : (count : ℕ) → count ≡ length (nodes_of p) → LacksLine count numbers → ¬ HasEachNode p certificate
-  node_missing count e lacks each =
-      let low : lacks.node < length (nodes_of p) = omega (arith, lacks.inside) in
-      let x = some_inside (nodes_of p) lacks.node low in
-      let line = each x.0 (lacks.node, x.1) in
+  pub node_missing : (count n : ℕ) → count ≡ length (nodes_of p) → LacksLine count numbers n → ¬ HasEachNode p certificate
+  node_missing count n e lacks each =
+      let low : n < length (nodes_of p) = omega (arith, lacks.inside) in
+      let x = some_inside (nodes_of p) n low in
+      let line = each x.0 (n, x.1) in
       let at = place_of certificate.lines line.0 (line.1).stands in
-      lacks.none at.0 (for_line at.0 lacks.node line.0 at.1 (named_at p line.0 x.0 lacks.node x.1 (line.1).named))
+      lacks.none at.0 (for_line at.0 n line.0 at.1 (named_at p line.0 x.0 n x.1 (line.1).named))
 
   module _ (places : List ℕ) (placed : ArePlaces (length (nodes_of p)) numbers places) where
     place_for : (n : ℕ) → n < length (nodes_of p) → (k : ℕ) × (slice_get places n ≡ Some k)

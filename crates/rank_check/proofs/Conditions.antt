@@ -1,5 +1,5 @@
 -- The conditions on ranks and sets, of nodes and by their numbers.
-use Rattle.std.proofs.Common.{◌≡◌, ℕ, ◌+◌, ◌<◌, ◌≤◌, Bool, true, false, MatchBool, List, [], ◌∷◌, length, map, get_or, slice_get, Some, refl, sym, ◌∙◌, subst, arith, below_more}
+use Rattle.std.proofs.Common.{◌≡◌, ℕ, ◌+◌, ◌<◌, ◌≤◌, Bool, List, [], ◌∷◌, length, map, get_or, slice_get, Some, refl, sym, ◌∙◌, subst, arith, below_more}
 use Rattle.std.specs.List.{Contains}
 use Rattle.std.proofs.lemmas.Option.{slice_get_within, slice_get-get_or, same_Some, none-some}
 use Rattle.meta_model.specs.declared.object.MetaObject.{MetaObject}
@@ -14,7 +14,8 @@ use Rattle.effect_scan.specs.Laws.{IsNode, EdgesJoinNodes}
 use Rattle.effect_scan.specs.Rows.{row, Edge}
 use Rattle.effect_scan.specs.Edges.{MayLead}
 use Rattle.effect_scan.specs.Scans.{Scanned, IsScan}
-use Rattle.effect_scan.specs.Destroying.{AreClosures, IsMarked}
+use Rattle.effect_scan.specs.Destroying.{AreClosures}
+use Rattle.effect_scan.specs.code.Relations.{IsMarked}
 use Rattle.certificate_lang.specs.declared.certificate.Line.{Line}
 use Rattle.certificate_lang.specs.declared.certificate.Certificate.{Certificate}
 use Rattle.rank_check.specs.declared.entries.Entry.{Entry}
@@ -115,13 +116,16 @@ module _ (p : Loaded) (certificate : Certificate) (scan : Scanned) (is : IsScan 
           )
 
 -- ---- what the set of a node has to hold by itself
-pub own_destruction : (p : Loaded) (x : Node) (set : List Bool) (closures : List (List ℕ)) (classes : List ℕ) → AreClosures p closures → x.member ≡ Destruction → classes ≡ row closures x.class
-    → (all : Bool) → MatchBool all ((d : ℕ) → Contains classes d → IsMarked set d) (((d : ℕ) → Contains classes d → IsMarked set d) → ⊥) → MatchBool all (HoldsOwn p x set) (HoldsOwn p x set → ⊥)
-own_destruction p x set closures classes are is e true h = record {
+pub own_closed : (p : Loaded) (x : Node) (set : List Bool) (closures : List (List ℕ)) (classes : List ℕ) → AreClosures p closures → x.member ≡ Destruction → classes ≡ row closures x.class
+    → ((d : ℕ) → Contains classes d → IsMarked set d) → HoldsOwn p x set
+own_closed p x set closures classes are is e h = record {
   closure = λ m d closure. h d (subst (λ (ds : List ℕ). Contains ds d) (sym e) ((are.members x.class d).1 closure));
   spared = λ body marked. let method = body.from in cc;
 }
-own_destruction p x set closures classes are is e false h = λ own.
+
+pub own_open : (p : Loaded) (x : Node) (set : List Bool) (closures : List (List ℕ)) (classes : List ℕ) → AreClosures p closures → x.member ≡ Destruction → classes ≡ row closures x.class
+    → (((d : ℕ) → Contains classes d → IsMarked set d) → ⊥) → ¬ HoldsOwn p x set
+own_open p x set closures classes are is e h = λ own.
     h (λ d held. own.closure is d ((are.members x.class d).0 (subst (λ (ds : List ℕ). Contains ds d) e held)))
 
 -- ---- the first nodes

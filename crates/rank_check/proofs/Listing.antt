@@ -3,15 +3,15 @@ use Rattle.std.proofs.Common.{◌≡◌, ◌⊎◌, inl, inr, ℕ, ◌+◌, ◌<
 use Rattle.std.specs.List.{Contains}
 use Rattle.std.proofs.lemmas.Bool.{cases_eq, cases_lt}
 use Rattle.std.proofs.lemmas.List.{length-set, length-replicate, get_or-replicate, get_or_past, take_all}
-use Rattle.std.proofs.lemmas.List.Elements.{Contains-get_or}
 use Rattle.std.proofs.lemmas.Option.{slice_get_within}
 use Rattle.meta_model.specs.Loaded.{Loaded}
-use Rattle.effect_scan.specs.Destroying.{IsMarked}
+use Rattle.effect_scan.specs.code.Relations.{IsMarked}
 use Rattle.effect_scan.proofs.Adding.{no_members, first_more}
 use Rattle.certificate_lang.specs.declared.certificate.SetItem.{SetItem}
 use Rattle.certificate_lang.specs.declared.certificate.SetItem.TheVariants.{Class}
 use Rattle.rank_check.specs.Valid.{StandsFor, IsListed, AreClassesThere}
-use Rattle.rank_check.specs.Entries.{IsSet}
+use Rattle.rank_check.specs.Entries.{IsSet, StandsForNone}
+use Rattle.rank_check.proofs.Elements.{at_index, element_at}
 
 -- the set of the first items, with a mark for each class
 pub record SetsFirst (p : Loaded) (items : List SetItem) (set : List Bool) : Type 0 where
@@ -37,13 +37,12 @@ none_set p items count e = record {
 class_inside : (p : Loaded) (item : SetItem) (c : ℕ) → StandsFor p item c → c < length p.classes
 class_inside p (Class name) c h = slice_get_within p.classes c h.class h.is.is
 
--- an item at this place
-at_place : (items : List SetItem) (i : ℕ) (item : SetItem) → i < length items → item ≡ get_or items i item → Contains items item
-at_place items i item inside is = subst (λ (x : SetItem). Contains items x) (sym is) (Contains-get_or items i item inside)
+pub none_there : (p : Loaded) (items : List SetItem) (i : ℕ) → StandsForNone p items i → ¬ AreClassesThere p items
+none_there p items i h all = let c = all h.item (element_at items i h.item h.stands) in h.none c.0 c.1
 
 module _ (p : Loaded) (items : List SetItem) (i : ℕ) (item : SetItem) (inside : i < length items) (is : item ≡ get_or items i item) where
-  pub class_lacks : ((c : ℕ) → ¬ StandsFor p item c) → ¬ AreClassesThere p items
-  class_lacks none all = let c = all item (at_place items i item inside is) in none c.0 c.1
+  pub class_lacks : ((c : ℕ) → ¬ StandsFor p item c) → StandsForNone p items i
+  class_lacks none = record { item = item; stands = at_index items i item inside is; none = none }
 
   newest : (x : SetItem) → Contains (take (i + 1) items) x → Contains (take i items) x ⊎ (x ≡ item)
   newest x h = elim ((first_more items i item inside x).0 h) [ inl old ↦ inl old | inr e ↦ inr (e ∙ sym is) ]

@@ -1,5 +1,5 @@
 -- The places of the lines of nodes.
-use Rattle.std.proofs.Common.{◌≡◌, ◌≢◌, inl, inr, ℕ, suc, ◌+◌, ◌<◌, ◌≤◌, List, [], ◌∷◌, length, get_or, set, replicate, slice_get, Option, Some, None, refl, sym, ap, ◌∙◌, subst, arith, get_or-set_same, get_or-set_other}
+use Rattle.std.proofs.Common.{◌≡◌, ◌≢◌, inl, inr, ℕ, suc, ◌+◌, ◌<◌, ◌≤◌, List, [], ◌∷◌, length, get_or, set, replicate, slice_get, Option, Some, None, Result, Ok, Err, refl, sym, ap, ◌∙◌, subst, arith, get_or-set_same, get_or-set_other}
 use Rattle.std.specs.List.{AllZip}
 use Rattle.std.proofs.lemmas.Bool.{cases_eq, cases_lt}
 use Rattle.std.proofs.lemmas.List.{length-set, length-replicate, get_or-replicate, get_or_past}
@@ -88,11 +88,10 @@ zip_count R (x ∷ xs) [] h = absurd h
 zip_count R (x ∷ xs) (y ∷ ys) h = ap suc (zip_count R xs ys h.1)
 
 module _ (count : ℕ) (numbers places : List (Option ℕ)) (h : PlacesEach count numbers places) where
-  node_lacks : LacksPlace places → LacksLine count numbers
-  node_lacks lacks = record {
-    node = lacks.node;
+  node_lacks : (n : ℕ) → LacksPlace places n → LacksLine count numbers n
+  node_lacks n lacks = record {
     inside = omega (arith, lacks.inside, h.counted);
-    none = λ k for. h.each lacks.node k (slice_get_within numbers k (Some lacks.node) for) for lacks.none;
+    none = λ k for. h.each n k (slice_get_within numbers k (Some n) for) for lacks.none;
   }
 
   places_found : (all : List ℕ) → AllZip IsThere places all → ArePlaces count numbers all
@@ -103,12 +102,12 @@ module _ (count : ℕ) (numbers places : List (Option ℕ)) (h : PlacesEach coun
         h.is_for n k (get_or_from_slice_get places n pair.0 None pair.1 ∙ pair.2);
   }
 
-  pub places_told : (found : Option (List ℕ)) → FindsAll places found → FindsPlaces count numbers found
-  places_told None lacks = node_lacks lacks
-  places_told (Some all) zip = places_found all zip
+  pub places_told : (found : Result (List ℕ) ℕ) → FindsAll places found → FindsPlaces count numbers found
+  places_told (Err n) lacks = node_lacks n lacks
+  places_told (Ok all) zip = places_found all zip
 
-pub place_lacks : (places : List (Option ℕ)) (i : ℕ) → i < length places → place_at places i ≡ None → LacksPlace places
-place_lacks places i inside none = record { node = i; inside = inside; none = none }
+pub place_lacks : (places : List (Option ℕ)) (i : ℕ) → i < length places → place_at places i ≡ None → LacksPlace places i
+place_lacks places i inside none = record { inside = inside; none = none }
 
 -- ---- each line is that of its node
 module _ (numbers : List (Option ℕ)) (places : List ℕ) where

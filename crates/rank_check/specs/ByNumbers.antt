@@ -5,7 +5,8 @@ use Rattle.meta_model.specs.Loaded.{Loaded}
 use Rattle.effect_scan.specs.declared.node.Node.{Node}
 use Rattle.effect_scan.specs.declared.node.Member.TheVariants.{Destruction}
 use Rattle.effect_scan.specs.Rows.{Edge}
-use Rattle.effect_scan.specs.Destroying.{Closure, IsMarked}
+use Rattle.effect_scan.specs.Destroying.{Closure}
+use Rattle.effect_scan.specs.code.Relations.{IsMarked}
 use Rattle.rank_check.specs.declared.entries.Entry.{Entry}
 use Rattle.rank_check.specs.Valid.{HasBody}
 

@@ -6,6 +6,8 @@ use Rattle.typing.specs.Wires.{AreFitWires}
 use Rattle.typing.specs.Typed.{IsTypedProgram}
 use Rattle.rank_check.specs.declared.no.No.{No}
 use Rattle.rank_check.specs.declared.no.No.TheVariants.{Wire, BodyType, Missing, Extra, Edge, Destroys, Bound, Memory}
+use Rattle.rank_check.specs.declared.causes.Cause.{Cause}
+use Rattle.rank_check.specs.declared.causes.Cause.TheVariants as cause
 use Rattle.rank_check.specs.Valid.{HasEachNode, HasNothingElse, RanksFall, SetsHold, IsBounded, IsValid}
 
 -- the number of a no; want of memory has none
@@ -18,6 +20,17 @@ number_of Edge = Some 74
 number_of Destroys = Some 75
 number_of Bound = Some 76
 number_of Memory = None
+
+-- the condition that a cause breaks
+abbrev pub no_of : Cause → No
+no_of (cause.Wire place) = Wire
+no_of (cause.BodyType spot) = BodyType
+no_of (cause.Missing node) = Missing
+no_of (cause.Extra extra) = Extra
+no_of (cause.Edge rise) = Edge
+no_of (cause.Destroys mistake) = Destroys
+no_of (cause.Bound loose) = Bound
+no_of cause.Memory = Memory
 
 -- a program with a certificate that is valid for it
 pub record Checking : Type 0 where
@@ -40,10 +53,10 @@ IsNo p certificate Bound =
     × SetsHold p certificate × ¬ IsBounded certificate
 IsNo p certificate Memory = Unit {0}
 
--- nothing is wrong where the certificate is valid
-abbrev pub Judges : Loaded → Certificate → Result (Unit {0}) No → Type 0
+-- nothing is wrong where the certificate is valid; a cause breaks the condition of its no, the first that doesn't hold
+abbrev pub Judges : Loaded → Certificate → Result (Unit {0}) Cause → Type 0
 Judges p certificate (Ok _) = IsValid p certificate
-Judges p certificate (Err reason) = IsNo p certificate reason
+Judges p certificate (Err cause) = IsNo p certificate (no_of cause)
 
 -- yes exactly where the certificate is valid, with the program and the certificate that were taken
 abbrev pub Checks : Loaded → Certificate → Result Checking No → Type 0

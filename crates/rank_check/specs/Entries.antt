@@ -1,22 +1,23 @@
 -- What a check keeps of a certificate, by the numbers of lines, nodes and classes.
-use Rattle.std.specs.Prelude.{◌≡◌, ◌↔◌, ◌<◌, ℕ, Bool, List, length, Option, Some, None, Result, Ok, Err, MatchOption, slice_get, slice_index_or}
+use Rattle.std.specs.Prelude.{◌≡◌, ◌↔◌, ◌<◌, ℕ, Bool, List, length, Option, Some, None, Result, Ok, Err, MatchResult, slice_get, slice_index_or}
 use Rattle.std.specs.List.{Contains, AllZip}
 use Rattle.meta_model.specs.Loaded.{Loaded}
 use Rattle.meta_model.specs.LookUps.{LooksUp, FindsOnly}
 use Rattle.effect_scan.specs.declared.node.Node.{Node}
 use Rattle.effect_scan.specs.Nodes.{nodes_of, IsAt}
-use Rattle.effect_scan.specs.Destroying.{IsMarked}
+use Rattle.effect_scan.specs.code.Relations.{IsMarked}
 use Rattle.typing.specs.Wires.{AreFitWires}
 use Rattle.typing.specs.Typed.{IsTypedProgram}
 use Rattle.certificate_lang.specs.declared.certificate.NodeName.{NodeName}
 use Rattle.certificate_lang.specs.declared.certificate.SetItem.{SetItem}
 use Rattle.certificate_lang.specs.declared.certificate.Line.{Line}
 use Rattle.certificate_lang.specs.declared.certificate.Certificate.{Certificate}
-use Rattle.rank_check.specs.declared.no.No.{No}
+use Rattle.rank_check.specs.declared.causes.Cause.{Cause}
+use Rattle.rank_check.specs.declared.causes.Extra.{Extra}
 use Rattle.rank_check.specs.declared.entries.Entry.{Entry}
 use Rattle.rank_check.specs.Names.{IsNodeNamed}
-use Rattle.rank_check.specs.Valid.{IsLineOf, AreClassesThere, IsListed, HasEachNode, HasNothingElse}
-use Rattle.rank_check.specs.Checks.{IsNo}
+use Rattle.rank_check.specs.Valid.{IsLineOf, StandsFor, AreClassesThere, IsListed, HasEachNode, HasNothingElse}
+use Rattle.rank_check.specs.Checks.{no_of, IsNo}
 
 -- ---- the nodes of lines
 -- the node of this number is named so
@@ -56,15 +57,14 @@ pub record PlacesFirst (count end : ℕ) (numbers places : List (Option ℕ)) : 
 abbrev pub PlacesEach : ℕ → List (Option ℕ) → List (Option ℕ) → Type 0
 PlacesEach count numbers places = PlacesFirst count (length numbers) numbers places
 
--- some node has no place
-pub record LacksPlace (places : List (Option ℕ)) : Type 0 where
-  pub node : ℕ
+-- the node has no place
+pub record LacksPlace (places : List (Option ℕ)) (node : ℕ) : Type 0 where
   pub inside : node < length places
   pub none : place_at places node ≡ None
 
--- all the places, or that one isn't there
-abbrev pub FindsAll : List (Option ℕ) → Option (List ℕ) → Type 0
-FindsAll places found = MatchOption found (LacksPlace places) (λ all. AllZip (λ place k. place ≡ Some k) places all)
+-- all the places, or a node that has none
+abbrev pub FindsAll : List (Option ℕ) → Result (List ℕ) ℕ → Type 0
+FindsAll places found = MatchResult found (λ all. AllZip (λ place k. place ≡ Some k) places all) (LacksPlace places)
 
 -- each node has a line: these are their places
 pub record ArePlaces (count : ℕ) (numbers : List (Option ℕ)) (places : List ℕ) : Type 0 where
@@ -72,14 +72,13 @@ pub record ArePlaces (count : ℕ) (numbers : List (Option ℕ)) (places : List 
   pub is_for : (n k : ℕ) → slice_get places n ≡ Some k → IsFor numbers k n
 
 -- no line is for this node
-pub record LacksLine (count : ℕ) (numbers : List (Option ℕ)) : Type 0 where
-  pub node : ℕ
+pub record LacksLine (count : ℕ) (numbers : List (Option ℕ)) (node : ℕ) : Type 0 where
   pub inside : node < count
   pub none : (k : ℕ) → ¬ IsFor numbers k node
 
--- the places of the nodes' lines, or that a node has none
-abbrev pub FindsPlaces : ℕ → List (Option ℕ) → Option (List ℕ) → Type 0
-FindsPlaces count numbers found = MatchOption found (LacksLine count numbers) (ArePlaces count numbers)
+-- the places of the nodes' lines, or a node that has none
+abbrev pub FindsPlaces : ℕ → List (Option ℕ) → Result (List ℕ) ℕ → Type 0
+FindsPlaces count numbers found = MatchResult found (ArePlaces count numbers) (LacksLine count numbers)
 
 -- the line of this place is that of its node
 pub record IsPlaced (numbers : List (Option ℕ)) (places : List ℕ) (k : ℕ) : Type 0 where
@@ -97,17 +96,23 @@ pub record IsSet (p : Loaded) (items : List SetItem) (set : List Bool) : Type 0 
   pub there : AreClassesThere p items
   pub marks : (d : ℕ) → IsMarked set d ↔ IsListed p items d
 
--- the set, or that a class isn't there
-abbrev pub FindsSet : Loaded → List SetItem → Option (List Bool) → Type 0
-FindsSet p items found = MatchOption found (¬ AreClassesThere p items) (IsSet p items)
+-- the item at this place stands for no class
+pub record StandsForNone (p : Loaded) (items : List SetItem) (place : ℕ) : Type 0 where
+  pub item : SetItem
+  pub stands : slice_get items place ≡ Some item
+  pub none : (d : ℕ) → ¬ StandsFor p item d
+
+-- the set, or the place of a class that isn't there
+abbrev pub FindsSet : Loaded → List SetItem → Result (List Bool) ℕ → Type 0
+FindsSet p items found = MatchResult found (IsSet p items) (StandsForNone p items)
 
 -- the rank and the set of the line
 pub record IsEntry (p : Loaded) (line : Line) (entry : Entry) : Type 0 where
   pub rank : entry.rank ≡ line.rank
   pub destroys : IsSet p line.destroys entry.destroys
 
-abbrev pub FindsEntry : Loaded → Line → Option Entry → Type 0
-FindsEntry p line found = MatchOption found (¬ AreClassesThere p line.destroys) (IsEntry p line)
+abbrev pub FindsEntry : Loaded → Line → Result Entry Extra → Type 0
+FindsEntry p line found = MatchResult found (IsEntry p line) (λ _. ¬ AreClassesThere p line.destroys)
 
 -- .. of the line at this place
 pub record IsEntryAt (p : Loaded) (lines : List Line) (k : ℕ) (entry : Entry) : Type 0 where
@@ -122,8 +127,8 @@ pub record LacksClass (p : Loaded) (lines : List Line) : Type 0 where
   pub lacks : ¬ AreClassesThere p line.destroys
 
 -- the entries of the lines at these places
-abbrev pub FindsEntries : Loaded → List Line → List ℕ → Option (List Entry) → Type 0
-FindsEntries p lines places found = MatchOption found (LacksClass p lines) (AllZip (IsEntryAt p lines) places)
+abbrev pub FindsEntries : Loaded → List Line → List ℕ → Result (List Entry) Extra → Type 0
+FindsEntries p lines places found = MatchResult found (AllZip (IsEntryAt p lines) places) (λ _. LacksClass p lines)
 
 -- an entry for each node, in their order
 pub record AreEntries (p : Loaded) (certificate : Certificate) (entries : List Entry) : Type 0 where
@@ -143,11 +148,11 @@ pub record IsReady (p : Loaded) : Type 0 where
   pub typed : IsTypedProgram p
 
 -- the program's own conditions are judged, whatever the certificate
-abbrev pub JudgesProgram : Loaded → Result (Unit {0}) No → Type 0
+abbrev pub JudgesProgram : Loaded → Result (Unit {0}) Cause → Type 0
 JudgesProgram p (Ok _) = IsReady p
-JudgesProgram p (Err reason) = (certificate : Certificate) → IsNo p certificate reason
+JudgesProgram p (Err cause) = (certificate : Certificate) → IsNo p certificate (no_of cause)
 
 -- the entries of the nodes, where the lines name each once and nothing else
-abbrev pub GivesEntries : Loaded → Certificate → Result (List Entry) No → Type 0
+abbrev pub GivesEntries : Loaded → Certificate → Result (List Entry) Cause → Type 0
 GivesEntries p certificate (Ok entries) = NamesNodes p certificate entries
-GivesEntries p certificate (Err reason) = IsReady p → IsNo p certificate reason
+GivesEntries p certificate (Err cause) = IsReady p → IsNo p certificate (no_of cause)

@@ -5,6 +5,7 @@ pub mod Entries
 pub mod ByNumbers
 pub use Rattle.meta_model.specs.LookUps
 pub use Rattle.effect_scan.specs.Destroying
+pub use Rattle.effect_scan.specs.code.Relations
 pub use Rattle.effect_scan.specs.Nodes
 pub use Rattle.effect_scan.specs.Rows
 pub use Rattle.effect_scan.specs.Scans

@@ -88,6 +88,8 @@ impl Checked {
 pub fn check(alloc: Global, meta: Meta, certificate: Certificate) -> Result<Checked, No>
     ensures { Checks meta certificate result }
 {
-    judge(alloc, &meta, &certificate)?;
-    Ok(Checked { meta, certificate })
+    match judge(alloc, &meta, &certificate) {
+        Ok(()) => Ok(Checked { meta, certificate }),
+        Err(cause) => Err(cause.no()),
+    }
 }

@@ -1,65 +1,83 @@
-//! Whether destroy sets hold what they have to.
+//! Destroy sets that lack a class, or hold that of their slot.
 
-ghost use Rattle.std.specs.Prelude.{ℕ, ◌≡◌, ◌↔◌, ◌<◌, length, IsTrue, MatchBool};
+ghost use Rattle.std.specs.Prelude.{ℕ, ◌≡◌, ◌↔◌, ◌<◌, length, IsTrue, MatchOption};
 ghost use Rattle.std.specs.List.{Contains};
 ghost use Rattle.effect_scan.specs.Rows.{row, Edge};
-ghost use Rattle.effect_scan.specs.Destroying.{IsMarked};
+ghost use Rattle.effect_scan.specs.code.Relations.{IsMarked};
 ghost use Rattle.effect_scan.specs.Scans.{IsScan};
 ghost use Rattle.rank_check.specs.Valid.{RunsBody};
 ghost use Rattle.rank_check.specs.ByNumbers.{AreWithin, HoldsOwn, Hold};
 
+use crate::causes::{Mistake, Place};
 use crate::entries::Entry;
-use crate::sets::{is_marked, is_within};
+use crate::sets::{first_lost, is_marked};
 use effect_scan::{Member, Node, Scan};
 use meta_model::Work;
 use meta_objects::Meta;
 use sqlite_items::at;
 
-/// Whether each node's set holds what it has to: the set of each node that it may lead to; for the destruction of a class
-/// its closure; for a slot or native not its own class.
-pub fn sets_hold(meta: &Meta, scan: &Scan, entries: &[Entry]) -> bool
+/// What is wrong with the first set that doesn't hold what it has to, in the order of nodes: the set of each node that it
+/// may lead to; for the destruction of a class its closure; for a slot or native not its own class.
+pub fn first_mistake(meta: &Meta, scan: &Scan, entries: &[Entry]) -> Option<Mistake>
     requires scan { IsScan meta.now scan.now }
     requires inside { (a b : ℕ) → Edge scan.now.rows a b → b < length entries.now }
     requires count { length entries.now ≡ length scan.now.nodes }
     ensures { let AllHold = Hold meta.now scan.now.nodes scan.now.rows entries.now in
-        MatchBool result AllHold (AllHold → ⊥) }
+        MatchOption result AllHold (λ _. AllHold → ⊥) }
 {
     for (number, node) in scan.nodes().iter().enumerate() {
-        let set = entries[number].destroys.as_slice();
-        if !holds_own(meta, scan, *node, set) {
-            return false;
+        let entry = &entries[number];
+        let place = Place {
+            node: number,
+            line: entry.line,
+        };
+        let set = entry.destroys.as_slice();
+        if let Some(mistake) = own_mistake(meta, scan, *node, set, place) {
+            return Some(mistake);
         }
-        if !are_within(scan.targets(number), entries, set) {
-            return false;
+        if let Some(mistake) = lost_class(scan.targets(number), entries, set, place) {
+            return Some(mistake);
         }
     }
-    true
+    None
 }
 
-/// Whether the sets of these nodes are within this one.
-fn are_within(targets: &[usize], entries: &[Entry], set: &[bool]) -> bool
+/// The first class of the sets of these nodes that isn't in this one, which is that of a node at this place.
+fn lost_class(targets: &[usize], entries: &[Entry], set: &[bool], place: Place) -> Option<Mistake>
     requires { (b : ℕ) → Contains targets.now b → b < length entries.now }
-    ensures { let Within = AreWithin targets.now entries.now set.now in MatchBool result Within (Within → ⊥) }
+    ensures { let Within = AreWithin targets.now entries.now set.now in MatchOption result Within (λ _. Within → ⊥) }
 {
     for target in targets {
-        if !is_within(entries[*target].destroys.as_slice(), set) {
-            return false;
+        let entry = &entries[*target];
+        if let Some(class) = first_lost(entry.destroys.as_slice(), set) {
+            let to = Place {
+                node: *target,
+                line: entry.line,
+            };
+            return Some(Mistake::Lost(place, to, class));
         }
     }
-    true
+    None
 }
 
-/// Whether the set holds what that of the node has to, whatever the node may lead to.
-fn holds_own(meta: &Meta, scan: &Scan, node: Node, set: &[bool]) -> bool
+/// What is wrong with the set of the node at this place, whatever the node may lead to.
+fn own_mistake(meta: &Meta, scan: &Scan, node: Node, set: &[bool], place: Place) -> Option<Mistake>
     requires { IsScan meta.now scan.now }
-    ensures { let Holds = HoldsOwn meta.now node set.now in MatchBool result Holds (Holds → ⊥) }
+    ensures { let Holds = HoldsOwn meta.now node set.now in MatchOption result Holds (λ _. Holds → ⊥) }
 {
     match node.member {
-        Member::Destruction => are_marked(closure_of(scan, node.class), set),
+        Member::Destruction => match first_unmarked(closure_of(scan, node.class), set) {
+            Some(class) => Some(Mistake::Unclosed(place, class)),
+            None => None,
+        },
         Member::Method(method) => {
-            !(runs_body(meta, node.class, method) && is_marked(set, node.class))
+            if runs_body(meta, node.class, method) && is_marked(set, node.class) {
+                Some(Mistake::Own(place))
+            } else {
+                None
+            }
         }
-        Member::Property(_) => true,
+        Member::Property(_) => None,
     }
 }
 
@@ -73,16 +91,16 @@ fn closure_of(scan: &Scan, class: usize) -> &[usize]
     }
 }
 
-/// Whether each of the classes is in the set.
-fn are_marked(classes: &[usize], set: &[bool]) -> bool
-    ensures { let All = (d : ℕ) → Contains classes.now d → IsMarked set.now d in MatchBool result All (All → ⊥) }
+/// The first of the classes that isn't in the set.
+fn first_unmarked(classes: &[usize], set: &[bool]) -> Option<usize>
+    ensures { let All = (d : ℕ) → Contains classes.now d → IsMarked set.now d in MatchOption result All (λ _. All → ⊥) }
 {
     for class in classes {
         if !is_marked(set, *class) {
-            return false;
+            return Some(*class);
         }
     }
-    true
+    None
 }
 
 /// Whether the method has a body, which may be that of a native.

@@ -5,9 +5,9 @@ ghost use Rattle.effect_scan.specs.Scans.{IsScan};
 ghost use Rattle.rank_check.specs.Entries.{AreNumbers, ArePlaces, FindsEntry, FindsEntries, GivesEntries};
 ghost use Rattle.effect_scan.specs.Nodes.{nodes_of};
 
+use crate::causes::{Cause, Extra};
 use crate::naming::line_numbers;
-use crate::no::No;
-use crate::places::{are_once, line_places};
+use crate::places::{first_extra, line_places};
 use crate::sets::set_of;
 use certificate_lang::{Certificate, Line};
 use effect_scan::Scan;
@@ -18,6 +18,8 @@ use std::alloc::{AllocError, Global};
 /// What the certificate says of a node.
 #[derive(Drop)]
 pub struct Entry {
+    /// The place of its line among the certificate's.
+    pub line: usize,
     /// Its rank.
     pub rank: u32,
     /// For each class, by its number, whether it is in the node's destroy set.
@@ -31,21 +33,21 @@ pub fn entries(
     meta: &Meta,
     scan: &Scan,
     certificate: &Certificate,
-) -> Result<Items<Entry>, No>
+) -> Result<Items<Entry>, Cause>
     requires { IsScan meta.now scan.now }
     ensures { GivesEntries meta.now certificate.now result }
 {
     let lines = certificate.lines.as_slice();
     let numbers = line_numbers(alloc, meta, scan, lines)?;
     match line_places(alloc, scan.nodes().len(), numbers.as_slice())? {
-        Some(places) => placed_entries(
+        Ok(places) => placed_entries(
             alloc,
             meta,
             certificate,
             numbers.as_slice(),
             places.as_slice(),
         ),
-        None => Err(No::Missing),
+        Err(node) => Err(Cause::Missing(node)),
     }
 }
 
@@ -56,49 +58,55 @@ fn placed_entries(
     certificate: &Certificate,
     numbers: &[Option<usize>],
     places: &[usize],
-) -> Result<Items<Entry>, No>
+) -> Result<Items<Entry>, Cause>
     requires numbers { AreNumbers meta.now certificate.now.lines numbers.now }
     requires places { ArePlaces (length (nodes_of meta.now)) numbers.now places.now }
     ensures { GivesEntries meta.now certificate.now result }
 {
-    if !are_once(numbers, places) {
-        return Err(No::Extra);
+    if let Some(extra) = first_extra(numbers, places) {
+        return Err(Cause::Extra(extra));
     }
     match entries_at(alloc, meta, certificate.lines.as_slice(), places)? {
-        Some(entries) => Ok(entries),
-        None => Err(No::Extra),
+        Ok(entries) => Ok(entries),
+        Err(extra) => Err(Cause::Extra(extra)),
     }
 }
 
-/// The entries of the lines at these places, or `None` where a class in a set isn't there.
+/// The entries of the lines at these places, or the first class in a set that isn't there.
 fn entries_at(
     alloc: Global,
     meta: &Meta,
     lines: &[Line],
     places: &[usize],
-) -> Result<Option<Items<Entry>>, AllocError>
+) -> Result<Result<Items<Entry>, Extra>, AllocError>
     requires { (n k : ℕ) → slice_get places.now n ≡ Some k → k < length lines.now }
     ensures { IfOk result (FindsEntries meta.now lines.now places.now) }
 {
     let mut entries = Items::new(alloc);
     for place in places {
-        match entry_of(alloc, meta, &lines[*place])? {
-            Some(entry) => entries.push(entry)?,
-            None => return Ok(None),
+        match entry_of(alloc, meta, *place, &lines[*place])? {
+            Ok(entry) => entries.push(entry)?,
+            Err(extra) => return Ok(Err(extra)),
         }
     }
-    Ok(Some(entries))
+    Ok(Ok(entries))
 }
 
-/// The line's entry, or `None` where a class in its set isn't there.
-fn entry_of(alloc: Global, meta: &Meta, line: &Line) -> Result<Option<Entry>, AllocError>
+/// The entry of the line at this place, or the first class in its set that isn't there.
+fn entry_of(
+    alloc: Global,
+    meta: &Meta,
+    place: usize,
+    line: &Line,
+) -> Result<Result<Entry, Extra>, AllocError>
     ensures { IfOk result (FindsEntry meta.now line.now) }
 {
     match set_of(alloc, meta, line.destroys.as_slice())? {
-        Some(destroys) => Ok(Some(Entry {
+        Ok(destroys) => Ok(Ok(Entry {
+            line: place,
             rank: line.rank,
             destroys,
         })),
-        None => Ok(None),
+        Err(item) => Ok(Err(Extra::Class(place, item))),
     }
 }

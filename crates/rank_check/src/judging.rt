@@ -1,21 +1,22 @@
-//! Why a certificate isn't valid for a program.
+//! What makes a certificate invalid for a program.
 
 ghost use Rattle.effect_scan.specs.Scans.{IsScan};
 ghost use Rattle.rank_check.specs.Checks.{Judges};
 ghost use Rattle.rank_check.specs.Entries.{IsReady, NamesNodes, JudgesProgram};
 
-use crate::destroys::sets_hold;
+use crate::causes::Cause;
+use crate::destroys::first_mistake;
 use crate::entries::{Entry, entries};
-use crate::no::No;
-use crate::ranks::{is_bounded, ranks_fall};
+use crate::ranks::{first_rise, loose_bound};
 use certificate_lang::Certificate;
 use effect_scan::{Scan, edges_join_nodes};
 use meta_objects::Meta;
 use std::alloc::Global;
 use typing::{unfit_wire, untyped};
 
-/// The first condition of a valid certificate that doesn't hold, as the error.
-pub fn judge(alloc: Global, meta: &Meta, certificate: &Certificate) -> Result<(), No>
+/// What breaks the first condition of a valid certificate that doesn't hold, as the error. `check` answers by this very
+/// judgement, and keeps the condition alone. `Memory` comes only where a growth of memory was refused.
+pub fn judge(alloc: Global, meta: &Meta, certificate: &Certificate) -> Result<(), Cause>
     ensures { Judges meta.now certificate.now result }
 {
     judge_program(alloc, meta)?;
@@ -25,14 +26,14 @@ pub fn judge(alloc: Global, meta: &Meta, certificate: &Certificate) -> Result<()
 }
 
 /// The first of the conditions on the program alone: its wires fit, its literals, bodies and bindings are typed.
-fn judge_program(alloc: Global, meta: &Meta) -> Result<(), No>
+fn judge_program(alloc: Global, meta: &Meta) -> Result<(), Cause>
     ensures { JudgesProgram meta.now result }
 {
-    if unfit_wire(meta).is_some() {
-        return Err(No::Wire);
+    if let Some(wire) = unfit_wire(meta) {
+        return Err(Cause::Wire(wire));
     }
     match untyped(alloc, meta)? {
-        Some(_) => Err(No::BodyType),
+        Some(spot) => Err(Cause::BodyType(spot)),
         None => Ok(()),
     }
 }
@@ -43,7 +44,7 @@ fn judge_entries(
     scan: &Scan,
     entries: &[Entry],
     certificate: &Certificate,
-) -> Result<(), No>
+) -> Result<(), Cause>
     requires scan { IsScan meta.now scan.now }
     requires ready { IsReady meta.now }
     requires names { NamesNodes meta.now certificate.now entries.now }
@@ -51,14 +52,14 @@ fn judge_entries(
 {
     // All edges are between nodes, so they are all looked at.
     edges_join_nodes(meta);
-    if !ranks_fall(scan, entries) {
-        return Err(No::Edge);
+    if let Some(rise) = first_rise(scan, entries) {
+        return Err(Cause::Edge(rise));
     }
-    if !sets_hold(meta, scan, entries) {
-        return Err(No::Destroys);
+    if let Some(mistake) = first_mistake(meta, scan, entries) {
+        return Err(Cause::Destroys(mistake));
     }
-    if !is_bounded(certificate) {
-        return Err(No::Bound);
+    match loose_bound(certificate) {
+        Some(loose) => Err(Cause::Bound(loose)),
+        None => Ok(()),
     }
-    Ok(())
 }

@@ -1,17 +1,18 @@
 //! The lines of nodes, by their places in the certificate.
 
-ghost use Rattle.std.specs.Prelude.{◌≡◌, length, replicate, IfOk, MatchBool, None};
+ghost use Rattle.std.specs.Prelude.{◌≡◌, length, replicate, IfOk, MatchOption, None};
 ghost use Rattle.rank_check.specs.Entries.{AreBelow, PlacesEach, FindsPlaces, FindsAll, AreOnce};
 
+use crate::causes::Extra;
 use sqlite_items::Items;
 use std::alloc::{AllocError, Global};
 
-/// The place of a line for each of so many nodes, or `None` where a node has no line. Its error is that memory was refused.
+/// The place of a line for each of so many nodes, or the first node that has no line. Its error is that memory was refused.
 pub fn line_places(
     alloc: Global,
     count: usize,
     numbers: &[Option<usize>],
-) -> Result<Option<Items<usize>>, AllocError>
+) -> Result<Result<Items<usize>, usize>, AllocError>
     requires { AreBelow count numbers.now }
     ensures { IfOk result (FindsPlaces count numbers.now) }
 {
@@ -48,34 +49,38 @@ fn no_places(alloc: Global, count: usize) -> Result<Items<Option<usize>>, AllocE
     Ok(places)
 }
 
-/// The places, where each node has one.
-fn all_places(alloc: Global, places: &[Option<usize>]) -> Result<Option<Items<usize>>, AllocError>
+/// The places, or the first node that has none.
+fn all_places(
+    alloc: Global,
+    places: &[Option<usize>],
+) -> Result<Result<Items<usize>, usize>, AllocError>
     ensures { IfOk result (FindsAll places.now) }
 {
     let mut all = Items::new(alloc);
-    for place in places {
+    for (node, place) in places.iter().enumerate() {
         match place {
             Some(line) => all.push(*line)?,
-            None => return Ok(None),
+            None => return Ok(Err(node)),
         }
     }
-    Ok(Some(all))
+    Ok(Ok(all))
 }
 
-/// Whether each line is for a node, and for no other line's.
-pub fn are_once(numbers: &[Option<usize>], places: &[usize]) -> bool
+/// The first line that is for no node, or for the node of another one.
+pub fn first_extra(numbers: &[Option<usize>], places: &[usize]) -> Option<Extra>
     requires { AreBelow (length places.now) numbers.now }
-    ensures { MatchBool result (AreOnce numbers.now places.now) (AreOnce numbers.now places.now → ⊥) }
+    ensures { MatchOption result (AreOnce numbers.now places.now) (λ _. AreOnce numbers.now places.now → ⊥) }
 {
     for (place, number) in numbers.iter().enumerate() {
         match number {
             Some(node) => {
-                if places[*node] != place {
-                    return false;
+                let last = places[*node];
+                if last != place {
+                    return Some(Extra::Twice(place, last));
                 }
             }
-            None => return false,
+            None => return Some(Extra::Unknown(place)),
         }
     }
-    true
+    None
 }

@@ -1,11 +1,12 @@
-//! Whether ranks fall along edges, and are below the bound.
+//! Ranks that don't fall along edges, or aren't below the bound.
 
-ghost use Rattle.std.specs.Prelude.{ℕ, ◌<◌, length, MatchBool};
+ghost use Rattle.std.specs.Prelude.{ℕ, ◌<◌, length, MatchOption};
 ghost use Rattle.std.specs.List.{Contains};
 ghost use Rattle.effect_scan.specs.Rows.{Edge};
 ghost use Rattle.rank_check.specs.Valid.{IsBounded};
 ghost use Rattle.rank_check.specs.ByNumbers.{AreLower, Fall};
 
+use crate::causes::{Loose, Place, Rise};
 use crate::entries::Entry;
 use certificate_lang::Certificate;
 use effect_scan::Scan;
@@ -13,43 +14,51 @@ use effect_scan::Scan;
 /// The greatest bound of a valid certificate.
 pub const MOST_BOUND: u32 = 256;
 
-/// Whether the rank falls along each edge.
-pub fn ranks_fall(scan: &Scan, entries: &[Entry]) -> bool
+/// The first edge along which the rank doesn't fall, in the order of nodes.
+pub fn first_rise(scan: &Scan, entries: &[Entry]) -> Option<Rise>
     requires { (a b : ℕ) → Edge scan.now.rows a b → b < length entries.now }
-    ensures { MatchBool result (Fall scan.now.rows entries.now) (Fall scan.now.rows entries.now → ⊥) }
+    ensures { MatchOption result (Fall scan.now.rows entries.now) (λ _. Fall scan.now.rows entries.now → ⊥) }
 {
     for (node, entry) in entries.iter().enumerate() {
-        if !are_lower(scan.targets(node), entries, entry.rank) {
-            return false;
+        if let Some(to) = first_as_high(scan.targets(node), entries, entry.rank) {
+            let from = Place {
+                node,
+                line: entry.line,
+            };
+            return Some(Rise { from, to });
         }
     }
-    true
+    None
 }
 
-/// Whether each of these nodes has a rank below this one.
-fn are_lower(targets: &[usize], entries: &[Entry], rank: u32) -> bool
+/// The first of these nodes that hasn't a rank below this one.
+fn first_as_high(targets: &[usize], entries: &[Entry], rank: u32) -> Option<Place>
     requires { (b : ℕ) → Contains targets.now b → b < length entries.now }
-    ensures { MatchBool result (AreLower targets.now entries.now rank) (AreLower targets.now entries.now rank → ⊥) }
+    ensures { MatchOption result (AreLower targets.now entries.now rank) (λ _. AreLower targets.now entries.now rank → ⊥) }
 {
     for target in targets {
-        if entries[*target].rank >= rank {
-            return false;
+        let entry = &entries[*target];
+        if entry.rank >= rank {
+            return Some(Place {
+                node: *target,
+                line: entry.line,
+            });
         }
     }
-    true
+    None
 }
 
-/// Whether each rank is below the bound, which is at most 256.
-pub fn is_bounded(certificate: &Certificate) -> bool
-    ensures { MatchBool result (IsBounded certificate.now) (IsBounded certificate.now → ⊥) }
+/// What is wrong with the bound, which has to be above each rank and at most 256.
+pub fn loose_bound(certificate: &Certificate) -> Option<Loose>
+    ensures { MatchOption result (IsBounded certificate.now) (λ _. IsBounded certificate.now → ⊥) }
 {
     if certificate.bound > MOST_BOUND {
-        return false;
+        return Some(Loose::TooGreat);
     }
-    for line in certificate.lines.as_slice() {
+    for (place, line) in certificate.lines.as_slice().iter().enumerate() {
         if line.rank >= certificate.bound {
-            return false;
+            return Some(Loose::NotAbove(place));
         }
     }
-    true
+    None
 }

@@ -1,8 +1,8 @@
 //! Sets of classes, by their numbers.
 
-ghost use Rattle.std.specs.Prelude.{◌≡◌, ◌↔◌, length, replicate, false, IsTrue, IfOk, MatchBool};
+ghost use Rattle.std.specs.Prelude.{◌≡◌, ◌↔◌, length, replicate, false, IsTrue, IfOk, MatchOption};
 ghost use Rattle.meta_model.specs.LookUps.{LooksUp, FindsOnly};
-ghost use Rattle.effect_scan.specs.Destroying.{IsMarked};
+ghost use Rattle.effect_scan.specs.code.Relations.{IsMarked};
 ghost use Rattle.rank_check.specs.Valid.{StandsFor};
 ghost use Rattle.rank_check.specs.Entries.{FindsSet};
 ghost use Rattle.rank_check.specs.ByNumbers.{IsWithin};
@@ -12,22 +12,23 @@ use meta_objects::Meta;
 use sqlite_items::Items;
 use std::alloc::{AllocError, Global};
 
-/// The set of the classes that these items stand for, or `None` where one isn't there. Its error is that memory was refused.
+/// The set of the classes that these items stand for, or the place of the first one that isn't there. Its error is that
+/// memory was refused.
 pub fn set_of(
     alloc: Global,
     meta: &Meta,
     items: &[SetItem],
-) -> Result<Option<Items<bool>>, AllocError>
+) -> Result<Result<Items<bool>, usize>, AllocError>
     ensures { IfOk result (FindsSet meta.now items.now) }
 {
     let mut set = empty_set(alloc, meta.classes().len())?;
-    for item in items {
+    for (place, item) in items.iter().enumerate() {
         match class_of(meta, item) {
             Some(class) => set.set(class, true),
-            None => return Ok(None),
+            None => return Ok(Err(place)),
         }
     }
-    Ok(Some(set))
+    Ok(Ok(set))
 }
 
 /// The class that the item stands for, or `None` where it isn't there.
@@ -58,14 +59,14 @@ pub fn is_marked(set: &[bool], class: usize) -> bool
     class < set.len() && set[class]
 }
 
-/// Whether each class of the set is in the other one.
-pub fn is_within(set: &[bool], other: &[bool]) -> bool
-    ensures { MatchBool result (IsWithin set.now other.now) (IsWithin set.now other.now → ⊥) }
+/// The first class of the set that isn't in the other one.
+pub fn first_lost(set: &[bool], other: &[bool]) -> Option<usize>
+    ensures { MatchOption result (IsWithin set.now other.now) (λ _. IsWithin set.now other.now → ⊥) }
 {
     for (class, holds) in set.iter().enumerate() {
         if *holds && !is_marked(other, class) {
-            return false;
+            return Some(class);
         }
     }
-    true
+    None
 }

@@ -1,8 +1,8 @@
 -- Walks along edges.
 use Rattle.std.proofs.Common.{◌≡◌, ℕ, suc, ◌-◌, ◌≤◌, ◌<◌, eqb, Bool, true, false, inl, inr, List, [], ◌∷◌, ◌++◌, length, get_or, slice_get, unwrap_or, Option, None, Some, refl, sym, ap, ◌∙◌, subst, arith}
 use Rattle.std.specs.List.{Contains, list_any}
-use Rattle.std.proofs.lemmas.Bool.{eqb-true, eq-eqb, false≢true}
-use Rattle.std.proofs.lemmas.List.Folds.{list_any_at, Any-from_list_any}
+use Rattle.std.proofs.lemmas.Bool.{eq-eqb, false≢true}
+use Rattle.std.proofs.lemmas.List.Folds.{list_any_at}
 use Rattle.std.proofs.lemmas.Option.{get_or_from_slice_get, unwrap_or-slice_get}
 use Rattle.effect_scan.specs.Rows.{row, Edge}
 use Rattle.rank_graph.specs.declared.path.Entry.{Entry}
@@ -35,9 +35,6 @@ row_has rows a b r e h = subst (λ (x : List ℕ). Contains x b) (sym e) h
 
 pub any_has : (q : ℕ) (xs : List ℕ) → Contains xs q → list_any (λ y. eqb y q) xs ≡ true
 any_has q xs h = list_any_at (λ (y : ℕ). eqb y q) xs h.0 q h.1 (eq-eqb (get_or xs h.0 q) q h.2)
-
-pub has_any : (q : ℕ) (xs : List ℕ) → list_any (λ y. eqb y q) xs ≡ true → Contains xs q
-has_any q xs h = let a = Any-from_list_any (λ (y : ℕ). eqb y q) xs h in subst (λ (y : ℕ). Contains xs y) (eqb-true a.1 q a.4) (a.0, a.2, a.3)
 
 -- ---- walks
 -- one more node of a walk

@@ -10,7 +10,7 @@ use Rattle.effect_scan.specs.declared.node.Member.{Member}
 use Rattle.effect_scan.specs.declared.node.Member.TheVariants.{Method, Property, Destruction}
 use Rattle.effect_scan.specs.Nodes.{nodes_of, IsAt}
 use Rattle.effect_scan.specs.Rows.{row}
-use Rattle.effect_scan.specs.Places.{Lists}
+use Rattle.effect_scan.specs.code.Places.{Lists}
 use Rattle.effect_scan.specs.Scans.{Scanned}
 use Rattle.certificate_lang.specs.declared.certificate.SetItem.{SetItem}
 use Rattle.certificate_lang.specs.declared.certificate.Line.{Line}

@@ -1,7 +1,7 @@
 -- Typed bodies, one statement after another.
-use Rattle.std.proofs.Common.{◌≡◌, ◌↔◌, inl, inr, ℕ, zero, suc, ◌+◌, ◌<◌, ◌≤◌, Bool, IsTrue, List, [], ◌∷◌, ◌++◌, length, get_or, take, slice_get, Some, refl, sym, ap, ◌∙◌, subst}
+use Rattle.std.proofs.Common.{◌≡◌, inl, inr, ℕ, ◌+◌, ◌<◌, ◌≤◌, List, [], ◌∷◌, ◌++◌, length, get_or, take, Option, None, Some, MatchOption, refl, sym, ap, ◌∙◌, subst}
 use Rattle.std.proofs.lemmas.List.{take_more, take_all}
-use Rattle.std.proofs.lemmas.Option.{none-some, same_Some, slice_get_read}
+use Rattle.std.proofs.lemmas.Option.{slice_get_read}
 use Rattle.texts.specs.declared.syntax.Expr.{Expr}
 use Rattle.meta_model.specs.declared.object.ValueType.{ValueType}
 use Rattle.meta_model.specs.declared.object.MetaPath.{MetaPath}
@@ -11,13 +11,8 @@ use Rattle.meta_model.specs.declared.object.Statement.TheViews.{out-Statement, r
 use Rattle.meta_model.specs.declared.object.Statement.TheVariants as whole
 use Rattle.meta_model.specs.Loaded.{Loaded}
 use Rattle.effect_scan.specs.Effects.{Occurs, here, after, chosen, otherwise}
-use Rattle.effect_scan.proofs.Occurring.{occurs_left, occurs_either}
+use Rattle.effect_scan.proofs.Occurring.{occurs_at, occurs_either}
 use Rattle.typing.specs.Bodies.{IsTypedStatement, IsTypedBody}
-
-occurs_at : (body : List Statement) (i : ℕ) (t s : Statement) → slice_get body i ≡ Some t → Occurs s (t ∷ []) → Occurs s body
-occurs_at [] i t s e o = absurd (none-some t e)
-occurs_at (x ∷ xs) zero t s e o = occurs_left s (x ∷ []) xs (subst (λ (y : Statement). Occurs s (y ∷ [])) (sym (same_Some _ _ e)) o)
-occurs_at (x ∷ xs) (suc i) t s e o = after (occurs_at xs i t s e o)
 
 module _ (p : Loaded) (me : ℕ) (kinds : List ValueType) where
   -- one statement more
@@ -76,14 +71,14 @@ module _ (p : Loaded) (me : ℕ) (kinds : List ValueType) where
         same_second y b c e = cc
 
   -- what the code tells of an `if`
-  pub if_told : (t : Statement) (x : Expr MetaPath) (block other left right : List Statement) (r : Bool) → t ≡ whole.If x block other → left ≡ block → right ≡ other
-      → IsTypedStatement p me kinds (out-Statement t) → IsTypedBody p me kinds left → (IsTrue r ↔ IsTypedBody p me kinds right) → IsTrue r ↔ IsTypedBody p me kinds (t ∷ [])
-  if_told t x block other left right r is l e typed first second = (
-    λ h.
-        both_blocks t x block other is typed (subst (λ (b : List Statement). IsTypedBody p me kinds b) l first)
-        (subst (λ (b : List Statement). IsTypedBody p me kinds b) e (second.0 h)),
-    λ h. second.1 (subst (λ (b : List Statement). IsTypedBody p me kinds b) (sym e) (second_block t x block other is h)),
-  )
+  pub if_told : {F : Type 0} (t : Statement) (x : Expr MetaPath) (block other left right : List Statement) (r : Option F) → t ≡ whole.If x block other → left ≡ block → right ≡ other
+      → IsTypedStatement p me kinds (out-Statement t) → IsTypedBody p me kinds left → MatchOption r (IsTypedBody p me kinds right) (λ _. IsTypedBody p me kinds right → ⊥)
+      → MatchOption r (IsTypedBody p me kinds (t ∷ [])) (λ _. IsTypedBody p me kinds (t ∷ []) → ⊥)
+  if_told t x block other left right None is l e typed first second =
+      both_blocks t x block other is typed (subst (λ (b : List Statement). IsTypedBody p me kinds b) l first)
+      (subst (λ (b : List Statement). IsTypedBody p me kinds b) e second)
+  if_told t x block other left right (Some f) is l e typed first second = λ h.
+      second (subst (λ (b : List Statement). IsTypedBody p me kinds b) (sym e) (second_block t x block other is h))
 
   pub if_first : (t : Statement) (x : Expr MetaPath) (block other left : List Statement) → t ≡ whole.If x block other → left ≡ block → IsTypedBody p me kinds (t ∷ []) → IsTypedBody p me kinds left
   if_first t x block other left is l h = subst (λ (b : List Statement). IsTypedBody p me kinds b) (sym l) (first_block t x block other is h)

@@ -1,5 +1,5 @@
 -- Properties of classes by their numbers, and whether their values at first are of their types.
-use Rattle.std.proofs.Common.{◌≡◌, ◌↔◌, ◌+◌, ◌<◌, ◌≤◌, arith, below_more, ℕ, suc, Bool, IsTrue, List, [], ◌∷◌, length, slice_get, Option, None, Some, Result, Ok, Err, IfOk, refl, sym, ap, ◌∙◌, subst}
+use Rattle.std.proofs.Common.{◌≡◌, ◌↔◌, ◌+◌, ◌<◌, ◌≤◌, arith, below_more, ℕ, suc, Bool, IsTrue, List, [], ◌∷◌, length, slice_get, Option, None, Some, refl, sym, ap, ◌∙◌, subst}
 use Rattle.std.specs.List.{AllZip}
 use Rattle.std.specs.Option.{option_and_then, option_map}
 use Rattle.std.proofs.lemmas.Option.{none-some, same_Some, slice_get_within}
@@ -71,11 +71,10 @@ site_given p site kind is =
           subst (λ (T : ValueType). IsGiven p (kind_of_source p site.formals) T site.formula) same typed.given,
     )
 
-pub site_told : {E : Type 0} (p : Loaded) (site : MetaSite) (kind : ValueType) (formals : List ℕ) (e : Expr SourceProperty) (r : Result Bool E)
+pub site_told : (p : Loaded) (site : MetaSite) (kind : ValueType) (formals : List ℕ) (e : Expr SourceProperty) (a : Bool)
     → kind_in p site.class site.property ≡ Some kind → formals ≡ site.formals → e ≡ site.formula
-    → IfOk r (λ a. IsTrue a ↔ IsGiven p (kind_of_source p formals) kind e) → IfOk r (λ a. IsTrue a ↔ IsTypedSite p site)
-site_told p site kind formals e (Err f) is are at told = tt
-site_told p site kind formals e (Ok a) is are at told =
+    → (IsTrue a ↔ IsGiven p (kind_of_source p formals) kind e) → IsTrue a ↔ IsTypedSite p site
+site_told p site kind formals e a is are at told =
     let given = site_given p site kind is in
     let here : IsTrue a ↔ IsGiven p (kind_of_source p site.formals) kind site.formula =
     subst (λ (x : Expr SourceProperty). IsTrue a ↔ IsGiven p (kind_of_source p site.formals) kind x) at

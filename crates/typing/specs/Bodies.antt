@@ -1,12 +1,11 @@
 -- Typed bodies (docs/certificate.md, "Typing"). `me` is the class that declares a body's slot, `kinds` are the types of the
 -- slot's parameters.
-use Rattle.std.specs.Prelude.{◌≡◌, ℕ, ◌-◌, false, List, length, Option, None, Some, slice_get}
+use Rattle.std.specs.Prelude.{◌≡◌, ℕ, false, List, Option, Some}
 use Rattle.std.specs.List.{AllZip}
 use Rattle.texts.specs.declared.syntax.Expr.{Expr}
 use Rattle.meta_model.specs.declared.object.ValueType.{ValueType}
 use Rattle.meta_model.specs.declared.object.ValueType.TheVariants as type
 use Rattle.meta_model.specs.declared.object.MetaRoot.{MetaRoot}
-use Rattle.meta_model.specs.declared.object.MetaRoot.TheVariants.{This, Parameter}
 use Rattle.meta_model.specs.declared.object.Step.{Step}
 use Rattle.meta_model.specs.declared.object.MetaPath.{MetaPath}
 use Rattle.meta_model.specs.declared.object.MetaMethod.{MetaMethod}
@@ -17,21 +16,19 @@ use Rattle.meta_model.specs.declared.object.Statement.TheViews.{out-Statement}
 use Rattle.meta_model.specs.Loaded.{Loaded}
 use Rattle.meta_model.specs.Members.{IsMethod, IsProperty}
 use Rattle.effect_scan.specs.Effects.{Occurs}
+use Rattle.effect_scan.specs.Paths.{of_root, of_last, of_path}
 use Rattle.typing.specs.Accepting.{IsGiven}
 
 -- ---- paths
--- `this` is of the declaring class, a parameter of its declared type
+-- `this` is of the declaring class, anything else of its declared type
 abbrev pub kind_of_root : ℕ → List ValueType → MetaRoot → Option ValueType
-kind_of_root me kinds This = Some (type.Reference me false)
-kind_of_root me kinds (Parameter k) = slice_get kinds k
+kind_of_root me kinds root = of_root (Some (type.Reference me false)) (λ kind. kind) kinds root
 
 abbrev pub kind_after : ℕ → List ValueType → MetaRoot → Option Step → Option ValueType
-kind_after me kinds root None = kind_of_root me kinds root
-kind_after me kinds root (Some step) = Some step.kind
+kind_after me kinds root last = of_last (Some (type.Reference me false)) (λ kind. kind) kinds root last
 
--- a path is of the declared type of its last property, and without properties of the type of what it begins with
 abbrev pub kind_of_path : ℕ → List ValueType → MetaPath → Option ValueType
-kind_of_path me kinds path = kind_after me kinds path.root (slice_get path.steps (length path.steps - 1))
+kind_of_path me kinds path = of_path (Some (type.Reference me false)) (λ kind. kind) kinds path
 
 -- it leads to objects of class c, and isn't const
 abbrev pub LeadsToMutable : ℕ → List ValueType → MetaPath → ℕ → Type 0

@@ -1,5 +1,5 @@
 -- Typed programs (docs/certificate.md, "Typing").
-use Rattle.std.specs.Prelude.{ℕ, List, Option, None, Some, slice_get}
+use Rattle.std.specs.Prelude.{◌≡◌, ℕ, List, Option, None, Some, slice_get}
 use Rattle.std.specs.Option.{option_and_then, option_map}
 use Rattle.meta_model.specs.declared.object.ValueType.{ValueType}
 use Rattle.meta_model.specs.declared.object.Work.{Work}
@@ -101,3 +101,8 @@ IsTypedMemberHere p c Destruction = Unit {0}
 
 abbrev pub IsTypedHere : Loaded → Node → Type 0
 IsTypedHere p x = IsTypedMemberHere p x.class x.member
+
+-- .. of a part of the program; what isn't there is taken to be typed
+abbrev pub IsTypedSpot : Loaded → Spot → Type 0
+IsTypedSpot p (spot.Node x) = IsTypedHere p x
+IsTypedSpot p (spot.Binding k) = (site : MetaSite) → slice_get p.sites k ≡ Some site → IsTypedSite p site

@@ -1,39 +1,55 @@
 //! Typed bodies.
 
-ghost use Rattle.std.specs.Prelude.{◌↔◌, [], ◌∷◌, IsTrue, IfOk};
+ghost use Rattle.std.specs.Prelude.{[], ◌∷◌, IfOk, MatchOption};
 ghost use Rattle.typing.specs.Bodies.{IsTypedBody};
 
+use crate::flaws::Flaw;
 use crate::scope::Scope;
 use meta_model::Statement;
 use std::alloc::AllocError;
 
-/// Whether each statement of the body is typed, in its blocks too. Its error is that memory was refused.
+/// What isn't typed in the first statement of the body that isn't, in its blocks too; `passed` counts the statements before
+/// it. Its error is that memory was refused.
 #[cycle(bodies)]
-pub fn is_typed_body(scope: &Scope, body: &[Statement]) -> Result<bool, AllocError>
-    ensures { IfOk result (λ answer. IsTrue answer
-        ↔ IsTypedBody scope.now.meta.now scope.now.class scope.now.kinds.now body.now) }
+pub fn body_flaw(
+    scope: &Scope,
+    body: &[Statement],
+    passed: &mut usize,
+) -> Result<Option<Flaw>, AllocError>
+    ensures { IfOk result (λ found.
+        let Typed = IsTypedBody scope.now.meta.now scope.now.class scope.now.kinds.now body.now in
+        MatchOption found Typed (λ _. Typed → ⊥)) }
 {
     for statement in body {
-        if !is_typed_whole(scope, statement)? {
-            return Ok(false);
+        if let Some(flaw) = whole_flaw(scope, statement, passed)? {
+            return Ok(Some(flaw));
         }
     }
-    Ok(true)
+    Ok(None)
 }
 
-/// Whether the statement is typed, and those in its blocks.
+/// What isn't typed in the statement, or in its blocks.
 #[cycle(bodies)]
-fn is_typed_whole(scope: &Scope, statement: &Statement) -> Result<bool, AllocError>
-    ensures { IfOk result (λ answer. IsTrue answer
-        ↔ IsTypedBody scope.now.meta.now scope.now.class scope.now.kinds.now (statement.now ∷ [])) }
+fn whole_flaw(
+    scope: &Scope,
+    statement: &Statement,
+    passed: &mut usize,
+) -> Result<Option<Flaw>, AllocError>
+    ensures { IfOk result (λ found.
+        let Typed = IsTypedBody scope.now.meta.now scope.now.class scope.now.kinds.now (statement.now ∷ []) in
+        MatchOption found Typed (λ _. Typed → ⊥)) }
 {
     if !scope.is_typed(statement)? {
-        return Ok(false);
+        let fault = scope.fault(statement)?;
+        let statement = Some(*passed);
+        return Ok(Some(Flaw { statement, fault }));
     }
+    *passed = passed.saturating_add(1);
     match statement {
-        Statement::If(_, chosen, other) => {
-            Ok(is_typed_body(scope, chosen.as_slice())? && is_typed_body(scope, other.as_slice())?)
-        }
-        _ => Ok(true),
+        Statement::If(_, chosen, other) => match body_flaw(scope, chosen.as_slice(), passed)? {
+            Some(flaw) => Ok(Some(flaw)),
+            None => body_flaw(scope, other.as_slice(), passed),
+        },
+        _ => Ok(None),
     }
 }

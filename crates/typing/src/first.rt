@@ -1,10 +1,11 @@
 //! The first part of a program that isn't typed.
 
-ghost use Rattle.std.specs.Prelude.{IfOk};
-ghost use Rattle.typing.specs.Typed.{FindsNode, FindsUntyped};
+ghost use Rattle.std.specs.Prelude.{IfOk, MatchOption};
+ghost use Rattle.typing.specs.Typed.{FindsNode, FindsUntyped, IsTypedSpot};
 
-use crate::members::is_typed_node;
-use crate::sites::untyped_site;
+use crate::flaws::Flaw;
+use crate::members::node_flaw;
+use crate::sites::{site_flaw, untyped_site};
 use crate::spot::Spot;
 use effect_scan::{Node, Numbering};
 use meta_objects::Meta;
@@ -24,14 +25,34 @@ pub fn untyped(alloc: Global, meta: &Meta) -> Result<Option<Spot>, AllocError>
     Ok(site.map(Spot::Binding))
 }
 
+/// What isn't typed in this part of a program, and why: just what `untyped` judges by; `None` where the part is typed, or
+/// isn't there. Its error is that memory was refused.
+pub fn flaw_at(alloc: Global, meta: &Meta, spot: Spot) -> Result<Option<Flaw>, AllocError>
+    ensures { IfOk result (λ found.
+        let Typed = IsTypedSpot meta.now spot in MatchOption found Typed (λ _. Typed → ⊥)) }
+{
+    match spot {
+        Spot::Node(node) => {
+            // The contract of `classes` says what a program that loads is.
+            let _classes = meta.classes();
+            node_flaw(alloc, meta, node)
+        }
+        Spot::Binding(number) => match meta.sites().get(number) {
+            Some(site) => site_flaw(alloc, meta, site),
+            None => Ok(None),
+        },
+    }
+}
+
 /// The first node that isn't typed.
 fn untyped_node(alloc: Global, meta: &Meta) -> Result<Option<Node>, AllocError>
     ensures { IfOk result (FindsNode meta.now) }
 {
     let numbering = Numbering::of(alloc, meta.classes())?;
     for node in numbering.nodes() {
-        if !is_typed_node(alloc, meta, *node)? {
-            return Ok(Some(*node));
+        match node_flaw(alloc, meta, *node)? {
+            Some(_) => return Ok(Some(*node)),
+            None => {}
         }
     }
     Ok(None)

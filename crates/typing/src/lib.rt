@@ -5,6 +5,7 @@
 mod accepting;
 mod bodies;
 mod first;
+mod flaws;
 mod laws;
 mod members;
 mod naming;
@@ -13,7 +14,8 @@ mod sites;
 mod spot;
 mod wires;
 
-pub use first::untyped;
+pub use first::{flaw_at, untyped};
+pub use flaws::{Fault, Flaw, Given};
 pub use laws::typed_have_values;
 pub use spot::Spot;
 pub use wires::unfit_wire;

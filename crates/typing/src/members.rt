@@ -1,34 +1,36 @@
 //! Typed members of classes.
 
-ghost use Rattle.std.specs.Prelude.{◌↔◌, ◌≤◌, IsTrue, IfOk};
+ghost use Rattle.std.specs.Prelude.{◌≤◌, IfOk, MatchOption};
 ghost use Rattle.effect_scan.specs.declared.node.Member.TheVariants.{Method};
 ghost use Rattle.meta_model.specs.Members.{method_offset};
 ghost use Rattle.meta_model.specs.Sound.{IsSound};
 ghost use Rattle.typing.specs.Typed.{IsTypedProperty, IsTypedMemberHere, IsTypedHere};
 
-use crate::bodies::is_typed_body;
+use crate::bodies::body_flaw;
+use crate::flaws::{Fault, Flaw, given_by};
 use crate::scope::Scope;
 use effect_scan::{Member, Node};
 use meta_model::Work;
 use meta_objects::Meta;
 use std::alloc::{AllocError, Global};
 
-/// Whether the method is typed, where the class of this number doesn't inherit it. Its error is that memory was refused.
-fn is_typed_method(
+/// What isn't typed in the method, where the class of this number doesn't inherit it. Its error is that memory was refused.
+fn method_flaw(
     alloc: Global,
     meta: &Meta,
     class: usize,
     method: usize,
-) -> Result<bool, AllocError>
+) -> Result<Option<Flaw>, AllocError>
     requires sound { IsSound meta.now }
     requires own { method_offset meta.now class ≤ method }
-    ensures { IfOk result (λ answer. IsTrue answer ↔ IsTypedMemberHere meta.now class (Method method)) }
+    ensures { IfOk result (λ found.
+        let Typed = IsTypedMemberHere meta.now class (Method method) in MatchOption found Typed (λ _. Typed → ⊥)) }
 {
     let Some(method) = meta.method_at(class, method) else {
-        return Ok(true);
+        return Ok(None);
     };
     let Work::Slot(body) = &method.work else {
-        return Ok(true);
+        return Ok(None);
     };
     let scope = Scope {
         alloc,
@@ -36,31 +38,39 @@ fn is_typed_method(
         class,
         kinds: method.kinds.as_slice(),
     };
-    is_typed_body(&scope, body.as_slice())
+    let mut passed = 0;
+    body_flaw(&scope, body.as_slice(), &mut passed)
 }
 
-/// Whether the property's value at first is of its type.
-fn is_typed_property(meta: &Meta, class: usize, property: usize) -> bool
-    ensures { IsTrue result ↔ IsTypedProperty meta.now class property }
+/// Why the property's value at first isn't of its type, if it isn't.
+fn property_flaw(meta: &Meta, class: usize, property: usize) -> Option<Flaw>
+    ensures { let Typed = IsTypedProperty meta.now class property in MatchOption result Typed (λ _. Typed → ⊥) }
 {
     let Some(object) = meta.object(class) else {
-        return true;
+        return None;
     };
-    match object.properties.get(property) {
-        Some(property) => meta.has_type(&property.initial, None, property.kind),
-        None => true,
+    let Some(property) = object.properties.get(property) else {
+        return None;
+    };
+    if meta.has_type(&property.initial, None, property.kind) {
+        return None;
     }
+    Some(Flaw {
+        statement: None,
+        fault: Fault::Mismatch(0, given_by(&property.initial), property.kind),
+    })
 }
 
-/// Whether the node is typed; an inherited method is judged where it is declared, and here it is taken to be.
-pub fn is_typed_node(alloc: Global, meta: &Meta, node: Node) -> Result<bool, AllocError>
+/// What isn't typed in the node; an inherited method is judged where it is declared, and here it is taken to be typed.
+pub fn node_flaw(alloc: Global, meta: &Meta, node: Node) -> Result<Option<Flaw>, AllocError>
     requires { IsSound meta.now }
-    ensures { IfOk result (λ answer. IsTrue answer ↔ IsTypedHere meta.now node) }
+    ensures { IfOk result (λ found.
+        let Typed = IsTypedHere meta.now node in MatchOption found Typed (λ _. Typed → ⊥)) }
 {
     match node.member {
-        Member::Method(method) if method < meta.method_offset(node.class) => Ok(true),
-        Member::Method(method) => is_typed_method(alloc, meta, node.class, method),
-        Member::Property(property) => Ok(is_typed_property(meta, node.class, property)),
-        Member::Destruction => Ok(true),
+        Member::Method(method) if method < meta.method_offset(node.class) => Ok(None),
+        Member::Method(method) => method_flaw(alloc, meta, node.class, method),
+        Member::Property(property) => Ok(property_flaw(meta, node.class, property)),
+        Member::Destruction => Ok(None),
     }
 }

@@ -8,6 +8,7 @@ ghost use Rattle.typing.specs.Bodies.{kind_of_root, kind_of_path, LeadsToMutable
 ghost use Rattle.typing.specs.Bodies.{IsTypedSet, IsTypedCall, IsTypedDeletion, IsTypedStatement};
 
 use crate::accepting::is_given;
+use crate::flaws::{Fault, fault_in};
 use crate::naming::spelled;
 use expressions::Names;
 use meta_model::{MetaPath, MetaRoot, Statement, ValueType};
@@ -54,6 +55,63 @@ impl<'m> Scope<'m> {
             Statement::Delete(path) => Ok(self.is_mutable(path)),
             Statement::Later(path) => Ok(self.is_mutable(path)),
         }
+    }
+
+    /// Why the statement isn't typed, which it isn't; of an `if`, why its condition isn't.
+    pub fn fault(&self, statement: &Statement) -> Result<Fault, AllocError> {
+        match statement {
+            Statement::Set(path, property, value) => match self.kind_set(path, *property) {
+                Some(kind) => self.fault_in(0, kind, value),
+                None => Ok(Fault::Constant),
+            },
+            Statement::Emit(signal, given) => {
+                self.argument_fault(self.class, *signal, given.as_slice())
+            }
+            Statement::Call(path, method, given) => match self.mutable(path) {
+                Some(class) => self.argument_fault(class, *method, given.as_slice()),
+                None => Ok(Fault::Constant),
+            },
+            Statement::If(condition, _, _) => self.fault_in(0, ValueType::Bool, condition),
+            _ => Ok(Fault::Constant),
+        }
+    }
+
+    /// The declared type of the property of what the path leads to, where that isn't const.
+    fn kind_set(&self, path: &MetaPath, property: usize) -> Option<ValueType> {
+        let class = self.mutable(path)?;
+        let object = self.meta.object(class)?;
+        let property = object.properties.get(property)?;
+        Some(property.kind)
+    }
+
+    /// Why the method, of the class of this number, doesn't accept the arguments, of which it takes as many.
+    fn argument_fault(
+        &self,
+        class: usize,
+        method: usize,
+        given: &[Expr<MetaPath>],
+    ) -> Result<Fault, AllocError> {
+        let Some(method) = self.meta.method_at(class, method) else {
+            return Ok(Fault::Unknown(0));
+        };
+        for (place, expression) in given.iter().enumerate() {
+            if let Some(kind) = method.kinds.get(place) {
+                if !self.is_given(*kind, expression)? {
+                    return self.fault_in(place, *kind, expression);
+                }
+            }
+        }
+        Ok(Fault::Unknown(0))
+    }
+
+    /// Why something of this type may not be given the expression at this place.
+    fn fault_in(
+        &self,
+        place: usize,
+        wanted: ValueType,
+        expression: &Expr<MetaPath>,
+    ) -> Result<Fault, AllocError> {
+        fault_in(self.alloc, self.meta, place, wanted, expression, self)
     }
 
     /// Whether the path isn't const and its property accepts the expression.

@@ -1,10 +1,11 @@
 //! Typed binding sites.
 
-ghost use Rattle.std.specs.Prelude.{◌≡◌, ◌↔◌, IsTrue, IfOk};
+ghost use Rattle.std.specs.Prelude.{◌≡◌, IfOk, MatchOption};
 ghost use Rattle.typing.specs.Firsts.{FindsWithout};
 ghost use Rattle.typing.specs.Typed.{kind_in, IsTypedSite};
 
 use crate::accepting::is_given;
+use crate::flaws::{Fault, Flaw, fault_in};
 use crate::naming::spelled;
 use expressions::Names;
 use meta_model::{MetaSite, SourceProperty, ValueType};
@@ -46,19 +47,33 @@ fn kind_in(meta: &Meta, class: usize, property: usize) -> Option<ValueType>
     Some(property.kind)
 }
 
-/// Whether the expression of the site is of its target's type. Its error is that memory was refused.
-fn is_typed_site(alloc: Global, meta: &Meta, site: &MetaSite) -> Result<bool, AllocError>
-    ensures { IfOk result (λ answer. IsTrue answer ↔ IsTypedSite meta.now site.now) }
+/// Why the expression of the site isn't of its target's type, if it isn't. Its error is that memory was refused.
+pub fn site_flaw(alloc: Global, meta: &Meta, site: &MetaSite) -> Result<Option<Flaw>, AllocError>
+    ensures { IfOk result (λ found.
+        let Typed = IsTypedSite meta.now site.now in MatchOption found Typed (λ _. Typed → ⊥)) }
 {
     let Some(kind) = kind_in(meta, site.class, site.property) else {
-        return Ok(false);
+        return Ok(Some(flaw(Fault::Unknown(0))));
     };
     let formals = Formals {
         alloc,
         meta,
         classes: site.formals.as_slice(),
     };
-    is_given(alloc, meta, kind, site.formula.expression(), &formals)
+    let expression = site.formula.expression();
+    if is_given(alloc, meta, kind, expression, &formals)? {
+        return Ok(None);
+    }
+    let fault = fault_in(alloc, meta, 0, kind, expression, &formals)?;
+    Ok(Some(flaw(fault)))
+}
+
+/// What isn't typed in a binding.
+fn flaw(fault: Fault) -> Flaw {
+    Flaw {
+        statement: None,
+        fault,
+    }
 }
 
 /// The number of the first binding site whose expression isn't of its target's type. Its error is that memory was refused.
@@ -66,8 +81,9 @@ pub fn untyped_site(alloc: Global, meta: &Meta) -> Result<Option<usize>, AllocEr
     ensures { IfOk result (FindsWithout (IsTypedSite meta.now) meta.now.sites) }
 {
     for (number, site) in meta.sites().iter().enumerate() {
-        if !is_typed_site(alloc, meta, site)? {
-            return Ok(Some(number));
+        match site_flaw(alloc, meta, site)? {
+            Some(_) => return Ok(Some(number)),
+            None => {}
         }
     }
     Ok(None)

@@ -1,4 +1,4 @@
-use Rattle.effect_scan.specs.Destroying.{Closing}
+use Rattle.effect_scan.specs.code.Relations.{Closing}
 use Rattle.effect_scan.proofs.closure.close.Given as goal
 
 abbrev pub invariant-loop-class : goal.invariant-loop-class

@@ -1,5 +1,5 @@
-use Rattle.effect_scan.specs.Destroying.{IsMarked}
-use Rattle.effect_scan.specs.Places.{Lists}
+use Rattle.effect_scan.specs.code.Relations.{IsMarked}
+use Rattle.effect_scan.specs.code.Places.{Lists}
 use Rattle.effect_scan.proofs.closure.marked.Given as goal
 
 abbrev pub invariant-loop-number : goal.invariant-loop-number

@@ -1,5 +1,5 @@
 use Rattle.std.proofs.Common.{◌<◌}
-use Rattle.effect_scan.specs.Destroying.{Extends, Passes}
+use Rattle.effect_scan.specs.code.Relations.{Extends, Passes}
 use Rattle.effect_scan.proofs.closure.pass.Given as goal
 
 abbrev pub invariant-loop-first : goal.invariant-loop-first

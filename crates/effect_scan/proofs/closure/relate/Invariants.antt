@@ -1,6 +1,6 @@
 use Rattle.std.proofs.Common.{take}
-use Rattle.effect_scan.specs.Rows.{Joins}
-use Rattle.effect_scan.specs.Destroying.{Extends}
+use Rattle.effect_scan.specs.code.Adding.{Joins}
+use Rattle.effect_scan.specs.code.Relations.{Extends}
 use Rattle.effect_scan.proofs.closure.relate.Given as goal
 
 abbrev pub invariant-loop-first : goal.invariant-loop-first

@@ -1,5 +1,5 @@
-use Rattle.effect_scan.specs.Rows.{AmongFirst}
-use Rattle.effect_scan.specs.Destroying.{Extends, OwnsRows}
+use Rattle.effect_scan.specs.code.Adding.{AmongFirst}
+use Rattle.effect_scan.specs.code.Relations.{Extends, OwnsRows}
 use Rattle.effect_scan.proofs.closure.relate_owned.Given as goal
 
 abbrev pub invariant-loop-owns : goal.invariant-loop-owns

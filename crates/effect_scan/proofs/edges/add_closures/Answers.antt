@@ -1,6 +1,6 @@
 use Rattle.std.proofs.Common.{refl, sym, ap, ◌∙◌, Some, List, ℕ}
 use Rattle.std.proofs.lemmas.Option.{slice_get_read}
-use Rattle.effect_scan.specs.Leading.{ClosureLeads}
+use Rattle.effect_scan.specs.code.Leading.{ClosureLeads}
 use Rattle.effect_scan.proofs.Adding.{adds_more, adds_all}
 use Rattle.effect_scan.proofs.edges.add_closures.Goals as goal
 

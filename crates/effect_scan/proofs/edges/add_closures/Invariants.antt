@@ -1,6 +1,6 @@
-use Rattle.effect_scan.specs.Rows.{Adds}
-use Rattle.effect_scan.specs.Rows.{AmongFirst}
-use Rattle.effect_scan.specs.Leading.{ClosureLeads}
+use Rattle.effect_scan.specs.code.Adding.{Adds}
+use Rattle.effect_scan.specs.code.Adding.{AmongFirst}
+use Rattle.effect_scan.specs.code.Leading.{ClosureLeads}
 use Rattle.effect_scan.proofs.edges.add_closures.Given as goal
 
 abbrev pub invariant-loop-class : goal.invariant-loop-class

@@ -1,6 +1,6 @@
 use Rattle.std.proofs.Common.{refl, length, ap, arith, ◌≤◌}
 use Rattle.std.proofs.lemmas.Option.{slice_get_read}
-use Rattle.effect_scan.specs.Leading.{MethodLeads}
+use Rattle.effect_scan.specs.code.Leading.{MethodLeads}
 use Rattle.effect_scan.proofs.Adding.{adds_more, adds_all}
 use Rattle.effect_scan.proofs.edges.add_methods.Goals as goal
 

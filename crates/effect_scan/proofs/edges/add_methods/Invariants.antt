@@ -1,6 +1,6 @@
-use Rattle.effect_scan.specs.Rows.{Adds}
-use Rattle.effect_scan.specs.Rows.{AmongFirst}
-use Rattle.effect_scan.specs.Leading.{MethodLeads}
+use Rattle.effect_scan.specs.code.Adding.{Adds}
+use Rattle.effect_scan.specs.code.Adding.{AmongFirst}
+use Rattle.effect_scan.specs.code.Leading.{MethodLeads}
 use Rattle.effect_scan.proofs.edges.add_methods.Given as goal
 
 abbrev pub invariant-loop-place : goal.invariant-loop-place

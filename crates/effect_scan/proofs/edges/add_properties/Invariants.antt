@@ -1,6 +1,6 @@
-use Rattle.effect_scan.specs.Rows.{Adds}
-use Rattle.effect_scan.specs.Rows.{AmongFirst}
-use Rattle.effect_scan.specs.Leading.{PropertyLeads}
+use Rattle.effect_scan.specs.code.Adding.{Adds}
+use Rattle.effect_scan.specs.code.Adding.{AmongFirst}
+use Rattle.effect_scan.specs.code.Leading.{PropertyLeads}
 use Rattle.effect_scan.proofs.edges.add_properties.Given as goal
 
 abbrev pub invariant-loop-place : goal.invariant-loop-place

@@ -1,6 +1,6 @@
 use Rattle.std.proofs.Common.{ℕ}
-use Rattle.effect_scan.specs.Rows.{Adds, AmongFirst}
-use Rattle.effect_scan.specs.Leading.{SiteLeads}
+use Rattle.effect_scan.specs.code.Adding.{Adds, AmongFirst}
+use Rattle.effect_scan.specs.code.Leading.{SiteLeads}
 use Rattle.effect_scan.proofs.edges.add_sites.Given as goal
 
 abbrev pub invariant-loop-site : goal.invariant-loop-site

@@ -1,6 +1,6 @@
 use Rattle.std.proofs.Common.{ℕ}
 use Rattle.std.proofs.lemmas.Option.{slice_get-get_or}
-use Rattle.effect_scan.specs.Leading.{WireLeads}
+use Rattle.effect_scan.specs.code.Leading.{WireLeads}
 use Rattle.effect_scan.proofs.Adding.{adds_more, adds_all}
 use Rattle.effect_scan.proofs.edges.add_wires.Goals as goal
 

@@ -1,6 +1,6 @@
-use Rattle.effect_scan.specs.Rows.{Adds}
-use Rattle.effect_scan.specs.Rows.{AmongFirst}
-use Rattle.effect_scan.specs.Leading.{WireLeads}
+use Rattle.effect_scan.specs.code.Adding.{Adds}
+use Rattle.effect_scan.specs.code.Adding.{AmongFirst}
+use Rattle.effect_scan.specs.code.Leading.{WireLeads}
 use Rattle.effect_scan.proofs.edges.add_wires.Given as goal
 
 abbrev pub invariant-loop-wire : goal.invariant-loop-wire

@@ -1,5 +1,5 @@
 use Rattle.std.proofs.Common.{take}
-use Rattle.effect_scan.specs.Places.{AreJust, IsReached, OfSome}
+use Rattle.effect_scan.specs.code.Places.{AreJust, IsReached, OfSome}
 use Rattle.effect_scan.proofs.edges.reached.Given as goal
 
 abbrev pub invariant-loop-effect : goal.invariant-loop-effect

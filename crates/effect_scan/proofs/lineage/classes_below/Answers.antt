@@ -1,6 +1,6 @@
 use Rattle.std.proofs.Common.{◌∙◌, ◌≡◌, ℕ, length, ap, subst, arith}
 use Rattle.meta_model.specs.Members.{Below}
-use Rattle.effect_scan.specs.Places.{Lists}
+use Rattle.effect_scan.specs.code.Places.{Lists}
 use Rattle.effect_scan.proofs.Listing.{lists_yes, lists_no}
 use Rattle.effect_scan.proofs.lineage.classes_below.Goals.{then-inherits+in_ok-push, else-inherits}
 use Rattle.effect_scan.proofs.lineage.classes_below.Goals as goal

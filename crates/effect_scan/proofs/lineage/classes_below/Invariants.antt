@@ -1,5 +1,5 @@
 use Rattle.meta_model.specs.Members.{Below}
-use Rattle.effect_scan.specs.Places.{Lists}
+use Rattle.effect_scan.specs.code.Places.{Lists}
 use Rattle.effect_scan.proofs.lineage.classes_below.Given as goal
 
 abbrev pub invariant-loop-other : goal.invariant-loop-other

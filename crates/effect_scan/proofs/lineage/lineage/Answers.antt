@@ -1,6 +1,6 @@
 use Rattle.std.proofs.Common.{◌≡◌, length, ap, arith}
 use Rattle.meta_model.specs.Members.{Below}
-use Rattle.effect_scan.specs.Places.{Lists}
+use Rattle.effect_scan.specs.code.Places.{Lists}
 use Rattle.effect_scan.proofs.Listing.{rows_push}
 use Rattle.effect_scan.proofs.Relating.{lineage_is}
 use Rattle.effect_scan.proofs.lineage.lineage.Goals as goal

@@ -1,5 +1,5 @@
 use Rattle.std.proofs.Common.{take}
-use Rattle.effect_scan.specs.Rows.{Adds, Joins}
+use Rattle.effect_scan.specs.code.Adding.{Adds, Joins}
 use Rattle.effect_scan.proofs.rows.join.Given as goal
 
 abbrev pub invariant-loop-source : goal.invariant-loop-source

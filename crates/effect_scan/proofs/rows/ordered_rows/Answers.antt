@@ -1,6 +1,6 @@
 use Rattle.std.proofs.Common.{subst, List, ℕ}
 use Rattle.meta_model.proofs.Zips.{zip_push}
-use Rattle.effect_scan.specs.Rows.{IsOrdered}
+use Rattle.effect_scan.specs.code.Adding.{IsOrdered}
 use Rattle.effect_scan.proofs.rows.ordered_rows.Goals as goal
 
 pub loop-row-preserved : goal.loop-row-preserved

@@ -17,5 +17,5 @@ returns c = λ ready.
     let numbers = subst (λ (ns : List (Option ℕ)). AreNumbers c.args.meta.now c.args.certificate.now.lines ns) (sym c.as_slice.ensures) lines in (
       ready.wires,
       ready.typed,
-      node_missing c.args.meta.now c.args.certificate.now c.as_slice.result.now numbers _ (ap (λ (ns : List Node). length ns) (c.nodes.ensures ∙ c.requires.nodes)) (rw c.in-None.is at c.in_ok-places.ensures),
+      node_missing c.args.meta.now c.args.certificate.now c.as_slice.result.now numbers _ _ (ap (λ (ns : List Node). length ns) (c.nodes.ensures ∙ c.requires.nodes)) (rw c.in-Err.is at c.in_ok-places.ensures),
     )

@@ -1,49 +1,49 @@
 use Rattle.rank_check.proofs.Conditions.{edges_inside, fall_by_number, fall_of_nodes, hold_by_number, hold_of_nodes}
 use Rattle.rank_check.proofs.judging.judge_entries.Goals as goal
 
-pub ranks_fall-requires : goal.ranks_fall-requires
-ranks_fall-requires c = edges_inside c.args.meta.now c.args.scan.now c.requires.scan _ c.requires.names.are.count
+pub first_rise-requires : goal.first_rise-requires
+first_rise-requires c = edges_inside c.args.meta.now c.args.scan.now c.requires.scan _ c.requires.names.are.count
 
-pub returns-then-not-ranks_fall : goal.returns-then-not-ranks_fall
-returns-then-not-ranks_fall c = (
+pub returns-in-Some : goal.returns-in-Some
+returns-in-Some c = (
   c.requires.ready.wires,
   c.requires.ready.typed,
   c.requires.names.each_node,
   c.requires.names.nothing_else,
-  λ fall. c.if-not-ranks_fall.ensures (fall_by_number c.args.meta.now c.args.certificate.now c.args.scan.now c.requires.scan c.args.entries.now c.requires.names fall),
+  λ fall. c.in-Some.ensures (fall_by_number c.args.meta.now c.args.certificate.now c.args.scan.now c.requires.scan c.args.entries.now c.requires.names fall),
 )
 
-pub sets_hold-requires-clause-inside : goal.sets_hold-requires-clause-inside
-sets_hold-requires-clause-inside c = edges_inside c.args.meta.now c.args.scan.now c.requires.scan _ c.requires.names.are.count
+pub first_mistake-requires-clause-inside : goal.first_mistake-requires-clause-inside
+first_mistake-requires-clause-inside c = edges_inside c.args.meta.now c.args.scan.now c.requires.scan _ c.requires.names.are.count
 
-pub returns-then-not-sets_hold : goal.returns-then-not-sets_hold
-returns-then-not-sets_hold c = (
+pub returns-in-Some-first_mistake : goal.returns-in-Some-first_mistake
+returns-in-Some-first_mistake c = (
   c.requires.ready.wires,
   c.requires.ready.typed,
   c.requires.names.each_node,
   c.requires.names.nothing_else,
-  fall_of_nodes c.args.meta.now c.args.certificate.now c.args.scan.now c.requires.scan c.args.entries.now c.requires.names c.edges_join_nodes.ensures c.if-not-ranks_fall.ensures,
-  λ hold. c.if-not-sets_hold.ensures (hold_by_number c.args.meta.now c.args.certificate.now c.args.scan.now c.requires.scan c.args.entries.now c.requires.names hold),
+  fall_of_nodes c.args.meta.now c.args.certificate.now c.args.scan.now c.requires.scan c.args.entries.now c.requires.names c.edges_join_nodes.ensures c.in_default.ensures,
+  λ hold. c.in-Some-first_mistake.ensures (hold_by_number c.args.meta.now c.args.certificate.now c.args.scan.now c.requires.scan c.args.entries.now c.requires.names hold),
 )
 
-pub returns-then-not-is_bounded : goal.returns-then-not-is_bounded
-returns-then-not-is_bounded c = (
+pub returns-in-Some-loose_bound : goal.returns-in-Some-loose_bound
+returns-in-Some-loose_bound c = (
   c.requires.ready.wires,
   c.requires.ready.typed,
   c.requires.names.each_node,
   c.requires.names.nothing_else,
-  fall_of_nodes c.args.meta.now c.args.certificate.now c.args.scan.now c.requires.scan c.args.entries.now c.requires.names c.edges_join_nodes.ensures c.if-not-ranks_fall.ensures,
-  hold_of_nodes c.args.meta.now c.args.certificate.now c.args.scan.now c.requires.scan c.args.entries.now c.requires.names c.edges_join_nodes.ensures c.if-not-sets_hold.ensures,
-  c.if-not-is_bounded.ensures,
+  fall_of_nodes c.args.meta.now c.args.certificate.now c.args.scan.now c.requires.scan c.args.entries.now c.requires.names c.edges_join_nodes.ensures c.in_default.ensures,
+  hold_of_nodes c.args.meta.now c.args.certificate.now c.args.scan.now c.requires.scan c.args.entries.now c.requires.names c.edges_join_nodes.ensures c.in_default-first_mistake.ensures,
+  c.in-Some-loose_bound.ensures,
 )
 
-pub returns : goal.returns
-returns c = record {
+pub returns-in-None : goal.returns-in-None
+returns-in-None c = record {
   wires = c.requires.ready.wires;
   typed = c.requires.ready.typed;
   each_node = c.requires.names.each_node;
   nothing_else = c.requires.names.nothing_else;
-  ranks = fall_of_nodes c.args.meta.now c.args.certificate.now c.args.scan.now c.requires.scan c.args.entries.now c.requires.names c.edges_join_nodes.ensures c.if-not-ranks_fall.ensures;
-  sets = hold_of_nodes c.args.meta.now c.args.certificate.now c.args.scan.now c.requires.scan c.args.entries.now c.requires.names c.edges_join_nodes.ensures c.if-not-sets_hold.ensures;
-  bounded = c.if-not-is_bounded.ensures;
+  ranks = fall_of_nodes c.args.meta.now c.args.certificate.now c.args.scan.now c.requires.scan c.args.entries.now c.requires.names c.edges_join_nodes.ensures c.in_default.ensures;
+  sets = hold_of_nodes c.args.meta.now c.args.certificate.now c.args.scan.now c.requires.scan c.args.entries.now c.requires.names c.edges_join_nodes.ensures c.in_default-first_mistake.ensures;
+  bounded = c.in-None.ensures;
 }

@@ -2,5 +2,5 @@ use Rattle.std.proofs.Common.{take}
 use Rattle.rank_check.proofs.Listing.{SetsFirst}
 use Rattle.rank_check.proofs.sets.set_of.Given as goal
 
-abbrev pub invariant-loop-item : goal.invariant-loop-item
-invariant-loop-item l = SetsFirst l.meta (take l.item-index l.items) l.set
+abbrev pub invariant-loop-place : goal.invariant-loop-place
+invariant-loop-place l = SetsFirst l.meta (take l.place l.items) l.set

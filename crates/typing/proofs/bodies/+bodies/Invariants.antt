@@ -3,5 +3,5 @@ use Rattle.typing.specs.Bodies.{IsTypedBody}
 use Rattle.typing.proofs.bodies.+bodies.Given as goal
 
 -- the statements so far are typed
-abbrev pub invariant-is_typed_body-loop-statement : goal.invariant-is_typed_body-loop-statement
-invariant-is_typed_body-loop-statement l = IsTypedBody l.scope.meta.now l.scope.class l.scope.kinds.now (take l.statement-index l.body)
+abbrev pub invariant-body_flaw-loop-statement : goal.invariant-body_flaw-loop-statement
+invariant-body_flaw-loop-statement l = IsTypedBody l.scope.meta.now l.scope.class l.scope.kinds.now (take l.statement-index l.body)

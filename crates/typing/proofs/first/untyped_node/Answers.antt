@@ -6,13 +6,13 @@ use Rattle.typing.proofs.Firsts.{have_more}
 use Rattle.typing.proofs.Ordered.{all_nodes, first_node}
 use Rattle.typing.proofs.first.untyped_node.Goals as goal
 
-pub returns-then-not-branch : goal.returns-then-not-branch
-returns-then-not-branch c =
+pub returns-in-Some : goal.returns-in-Some
+returns-in-Some c =
     let are = c.nodes-node-items.ensures ∙ c.in_ok-numbering.ensures ∙ ap (λ (cs : List MetaObject). nodes_from 0 (map shape_of cs)) c.classes.ensures.value in
-    first_node c.args.meta.now c.classes.ensures.sound _ are _ _ c.loop-node.invariant c.loop-node-test.true (read_at _ _ _ c.loop-node-test.true) (λ h. let t = c.in_ok-is_typed_node.ensures.1 h in cc)
+    first_node c.args.meta.now c.classes.ensures.sound _ are _ _ c.loop-node.invariant c.loop-node-test.true (read_at _ _ _ c.loop-node-test.true) (rw c.in-Some.is at c.in_ok-node_flaw.ensures)
 
 pub loop-node-preserved : goal.loop-node-preserved
-loop-node-preserved c = have_more _ _ _ _ c.loop-node.invariant c.loop-node-test.true (read_at _ _ _ c.loop-node-test.true) (c.in_ok-is_typed_node.ensures.0 (cc))
+loop-node-preserved c = have_more _ _ _ _ c.loop-node.invariant c.loop-node-test.true (read_at _ _ _ c.loop-node-test.true) (rw c.in-None.is at c.in_ok-node_flaw.ensures)
 
 pub returns : goal.returns
 returns c =

@@ -5,13 +5,13 @@ use Rattle.typing.specs.Typed.{IsTypedSite}
 use Rattle.typing.proofs.Firsts.{have_more, have_all, first_at}
 use Rattle.typing.proofs.sites.untyped_site.Goals as goal
 
-pub returns-then-not-branch : goal.returns-then-not-branch
-returns-then-not-branch c =
+pub returns-in-Some : goal.returns-in-Some
+returns-in-Some c =
     subst (λ (xs : List MetaSite). IsFirstWithout (IsTypedSite c.args.meta.now) xs c.loop-number.number) c.sites-site-items.ensures.value
-    (first_at _ _ _ _ c.loop-number.invariant c.loop-number-test.true c.site-item.is (λ h. let t = c.in_ok-is_typed_site.ensures.1 h in cc))
+    (first_at _ _ _ _ c.loop-number.invariant c.loop-number-test.true c.site-item.is (rw c.in-Some.is at c.in_ok-site_flaw.ensures))
 
 pub loop-number-preserved : goal.loop-number-preserved
-loop-number-preserved c = have_more _ _ _ _ c.loop-number.invariant c.loop-number-test.true c.site-item.is (c.in_ok-is_typed_site.ensures.0 (cc))
+loop-number-preserved c = have_more _ _ _ _ c.loop-number.invariant c.loop-number-test.true c.site-item.is (rw c.in-None.is at c.in_ok-site_flaw.ensures)
 
 pub returns : goal.returns
 returns c =

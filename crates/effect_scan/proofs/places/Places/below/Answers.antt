@@ -1,5 +1,5 @@
 use Rattle.std.proofs.Common.{subst, sym, ◌∙◌, List, ℕ, IfOk}
-use Rattle.effect_scan.specs.Places.{AreJust, InEach, InBelow}
+use Rattle.effect_scan.specs.code.Places.{AreJust, InEach, InBelow}
 use Rattle.effect_scan.proofs.Adding.{row_found, row_absent, no_members}
 use Rattle.effect_scan.proofs.Listing.{just_none}
 use Rattle.effect_scan.proofs.places.Places.below.Goals as goal

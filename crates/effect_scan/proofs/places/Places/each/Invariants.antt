@@ -1,5 +1,5 @@
 use Rattle.std.proofs.Common.{take}
-use Rattle.effect_scan.specs.Places.{AreJust, InEach}
+use Rattle.effect_scan.specs.code.Places.{AreJust, InEach}
 use Rattle.effect_scan.proofs.places.Places.each.Given as goal
 
 abbrev pub invariant-loop-class : goal.invariant-loop-class

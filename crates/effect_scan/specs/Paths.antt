@@ -1,0 +1,20 @@
+-- What the declared types tell of a path's end (docs/certificate.md, "Edges", "Typing").
+use Rattle.std.specs.Prelude.{ℕ, ◌-◌, List, length, Option, None, Some, slice_get}
+use Rattle.meta_model.specs.declared.object.ValueType.{ValueType}
+use Rattle.meta_model.specs.declared.object.MetaRoot.{MetaRoot}
+use Rattle.meta_model.specs.declared.object.MetaRoot.TheVariants.{This, Parameter}
+use Rattle.meta_model.specs.declared.object.Step.{Step}
+use Rattle.meta_model.specs.declared.object.MetaPath.{MetaPath}
+
+-- of what it begins with: `own` for `this`, for a parameter what its declared type gives
+abbrev pub of_root : {A : Type 0} → A → (Option ValueType → A) → List ValueType → MetaRoot → A
+of_root own of kinds This = own
+of_root own of kinds (Parameter k) = of (slice_get kinds k)
+
+abbrev pub of_last : {A : Type 0} → A → (Option ValueType → A) → List ValueType → MetaRoot → Option Step → A
+of_last own of kinds root None = of_root own of kinds root
+of_last own of kinds root (Some step) = of (Some step.kind)
+
+-- .. of its last property, what the declared type gives, and without properties of what it begins with
+abbrev pub of_path : {A : Type 0} → A → (Option ValueType → A) → List ValueType → MetaPath → A
+of_path own of kinds path = of_last own of kinds path.root (slice_get path.steps (length path.steps - 1))

@@ -1,0 +1,5 @@
+-- What the contracts of this crate's functions need besides.
+pub mod Adding
+pub mod Places
+pub mod Relations
+pub mod Leading

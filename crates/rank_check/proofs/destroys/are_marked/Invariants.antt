@@ -1,6 +1,0 @@
-use Rattle.std.proofs.Common.{◌<◌, ℕ, get_or}
-use Rattle.effect_scan.specs.Destroying.{IsMarked}
-use Rattle.rank_check.proofs.destroys.are_marked.Given as goal
-
-abbrev pub invariant-loop-class : goal.invariant-loop-class
-invariant-loop-class l = (k : ℕ) → k < l.class-index → IsMarked l.set (get_or l.classes k 0)

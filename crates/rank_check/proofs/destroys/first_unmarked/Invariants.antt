@@ -1,0 +1,6 @@
+use Rattle.std.proofs.Common.{◌<◌, ℕ, get_or}
+use Rattle.effect_scan.specs.code.Relations.{IsMarked}
+use Rattle.rank_check.proofs.destroys.first_unmarked.Given as goal
+
+abbrev pub invariant-loop-class : goal.invariant-loop-class
+invariant-loop-class l = (k : ℕ) → k < l.class-index → IsMarked l.set (get_or l.classes k 0)

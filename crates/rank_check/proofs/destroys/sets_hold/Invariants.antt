@@ -1,5 +1,0 @@
-use Rattle.rank_check.proofs.Conditions.{HoldFirst}
-use Rattle.rank_check.proofs.destroys.sets_hold.Given as goal
-
-abbrev pub invariant-loop-number : goal.invariant-loop-number
-invariant-loop-number l = HoldFirst l.meta l.scan.nodes l.scan.rows l.entries l.number

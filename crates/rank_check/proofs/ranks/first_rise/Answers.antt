@@ -1,0 +1,29 @@
+use Rattle.std.proofs.Common.{ℕ, List, subst, below_more, arith}
+use Rattle.std.specs.List.{Contains}
+use Rattle.std.proofs.lemmas.Option.{slice_get_within}
+use Rattle.effect_scan.specs.Rows.{row}
+use Rattle.rank_check.specs.declared.entries.Entry.{Entry}
+use Rattle.rank_check.specs.ByNumbers.{AreLower}
+use Rattle.rank_check.proofs.Elements.{at_index, same_index}
+use Rattle.rank_check.proofs.ranks.first_rise.Goals as goal
+
+pub first_as_high-requires : goal.first_as_high-requires
+first_as_high-requires c = λ b h. c.requires c.loop-node.node b (subst (λ (ts : List ℕ). Contains ts b) c.targets.ensures h)
+
+pub returns-in-Some : goal.returns-in-Some
+returns-in-Some c = λ all.
+    let here = at_index c.args.entries.now c.loop-node.node c.index-entries-node.result c.loop-node-test.true c.index-entries-node.is in
+    c.in-Some.ensures (λ b y held at. all c.loop-node.node b c.index-entries-node.result y here (subst (λ (ts : List ℕ). Contains ts b) c.targets.ensures held) at)
+
+pub loop-node-preserved : goal.loop-node-preserved
+loop-node-preserved c =
+    below_more _ _ c.loop-node.invariant
+    (λ x at.
+    subst (λ (z : Entry). AreLower (row c.args.scan.now.rows c.loop-node.node) c.args.entries.now z.rank)
+    (same_index c.args.entries.now c.loop-node.node c.index-entries-node.result x c.loop-node-test.true c.index-entries-node.is at)
+    (subst (λ (ts : List ℕ). AreLower ts c.args.entries.now c.index-entries-node.result.rank) c.targets.ensures c.in_default.ensures))
+
+pub returns : goal.returns
+returns c = λ a b x y at_x edge at_y.
+    let low = slice_get_within c.args.entries.now a x at_x in
+    c.loop-node.invariant a (omega (arith, low, c.loop-node-test.false)) x at_x b y edge at_y
