@@ -1,6 +1,6 @@
 //! The text of certificates.
 
-ghost use Rattle.std.specs.Prelude.{◌++◌, codes};
+ghost use Rattle.std.specs.Prelude.{◌++◌, codes, decimal};
 ghost use Rattle.std.specs.List.{flat_map};
 ghost use Rattle.signatures.specs.Spelling.{text_of_sig};
 ghost use Rattle.certificate_texts.specs.Texts.{node_text, item_text, listed_text, node_line, certificate_text};
@@ -36,10 +36,17 @@ impl<W: Write> Output<'_, W> {
         ensures { Puts W.contents self.old self.new (node_line line.now) }
     {
         self.node(&line.node);
-        self.put(b" ");
-        self.number(line.rank);
+        self.rank(line.rank);
         self.destroyed(line.destroys.as_slice());
         self.put(b"\n");
+    }
+
+    /// Adds a rank, a blank in front of it.
+    fn rank(&mut self, rank: u32)
+        ensures { Puts W.contents self.old self.new (codes " " ++ decimal rank) }
+    {
+        self.put(b" ");
+        self.number(rank);
     }
 
     /// Adds a node.

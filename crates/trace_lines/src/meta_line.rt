@@ -1,6 +1,6 @@
 //! The lines of the command `meta`.
 
-ghost use Rattle.std.specs.Prelude.{◌≡◌, ◌++◌, drop, length, option_copied};
+ghost use Rattle.std.specs.Prelude.{◌≡◌, drop, option_copied};
 ghost use Rattle.std.specs.List.{flat_map};
 ghost use Rattle.signatures.specs.Spelling.{const_text, star_text, text_of_sig, text_of_type, text_of_types, text_of_others};
 ghost use Rattle.meta_model.specs.Members.{base_class, methods_in, properties_in};
@@ -9,7 +9,7 @@ ghost use Rattle.trace_lines.specs.Sent.{Puts};
 
 use crate::output::Output;
 use meta_objects::{Meta, MetaMethod, MetaObject, MetaProperty, Work};
-use signatures::{Name, QType, Sig};
+use signatures::{QType, Sig};
 use std::io::Write;
 
 impl<W: Write> Output<'_, W> {

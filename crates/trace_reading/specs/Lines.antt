@@ -1,6 +1,6 @@
 -- The lines of a trace, as far as they are told apart (docs/commands.md, "The trace").
 use Rattle.std.specs.Prelude.{ℕ, ◌≡◌, List, ◌∷◌, ◌++◌, codes, ◌⊎◌}
-use Rattle.trace_reading.specs.Words.{IsNumeral}
+use Rattle.texts.specs.Numerals.{IsNumeral}
 use Rattle.trace_reading.specs.declared.line.EntryKind.{EntryKind}
 use Rattle.trace_reading.specs.declared.line.EntryKind.TheVariants as kind
 use Rattle.trace_reading.specs.declared.line.TraceLine.{TraceLine}

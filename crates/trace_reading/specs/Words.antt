@@ -1,8 +1,7 @@
--- Words and numbers in a line of a trace (docs/commands.md, "The trace").
+-- Words in a line of a trace (docs/commands.md, "The trace").
 use Rattle.std.specs.Borrow.{Bor}
-use Rattle.std.specs.Prelude.{ℕ, ◌≡◌, ◌≢◌, ◌≤◌, List, [], ◌∷◌, ◌++◌, Option, Some, None, All}
+use Rattle.std.specs.Prelude.{ℕ, ◌≡◌, ◌≢◌, List, ◌∷◌, ◌++◌, Option, Some, None}
 use Rattle.std.specs.List.{AllByRecursion}
-use Rattle.texts.specs.Numerals.{value_of}
 
 -- what follows a word: nothing, or a blank and then the rest
 abbrev pub IsFollowed : List ℕ → List ℕ → Option (Bor (List ℕ)) → Type 0
@@ -13,13 +12,3 @@ IsFollowed text word (Some rest) = text ≡ word ++ 32 ∷ rest.now
 pub record CutsWord (text word : List ℕ) (rest : Option (Bor (List ℕ))) : Type 0 where
   pub unbroken : AllByRecursion (λ b. b ≢ 32) word
   pub followed : IsFollowed text word rest
-
--- a decimal digit
-abbrev pub IsDigit : ℕ → Type 0
-IsDigit b = (48 ≤ b) × (b ≤ 57)
-
--- the digits write the number
-pub record IsNumeral (digits : List ℕ) (n : ℕ) : Type 0 where
-  pub some : digits ≢ []
-  pub are_digits : All IsDigit digits
-  pub value : n ≡ value_of digits

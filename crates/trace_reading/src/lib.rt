@@ -2,7 +2,6 @@
 #![tactic(auto)]
 
 mod line;
-mod numeral;
 mod words;
 
 pub use line::{EntryKind, TraceLine};

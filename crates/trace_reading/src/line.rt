@@ -1,10 +1,17 @@
 //! The lines of a trace.
 
 ghost use Rattle.std.specs.Prelude.{◌≡◌, IfSome};
+ghost use Rattle.texts.specs.Numerals.{IsNumeral};
 ghost use Rattle.trace_reading.specs.Lines.{IsTraceLine, BeginsAsKind, kind_word, IsPlain, EndsEvent};
 
-use crate::numeral::{number, short_number};
 use crate::words::cut_word;
+use texts::number;
+
+/// The largest number of an event, and the greatest depth, that a trace can have.
+const LARGEST: u64 = u64::MAX;
+
+/// The largest number of a reason or of a fault.
+const LARGEST_REASON: u64 = 255;
 
 /// A line of a trace, or the fault that ends one.
 #[derive(Clone, Copy, Debug, PartialEq, Eq)]
@@ -59,11 +66,11 @@ impl TraceLine {
         match first {
             b"event" => event_line(rest),
             b"fault" => {
-                let fault = short_number(rest)?;
+                let fault = reason(rest)?;
                 Some(TraceLine::Fault(fault))
             }
             _ => {
-                let depth = number(first)?;
+                let depth = number(first, LARGEST)?;
                 let kind = EntryKind::of(rest)?;
                 Some(TraceLine::At(depth, kind))
             }
@@ -76,7 +83,7 @@ fn event_line(text: &[u8]) -> Option<TraceLine>
     ensures { IfSome result (EndsEvent text.now) }
 {
     let (digits, rest) = cut_word(text);
-    let event = number(digits)?;
+    let event = number(digits, LARGEST)?;
     let Some(rest) = rest else {
         return Some(TraceLine::Accepted(event));
     };
@@ -94,6 +101,14 @@ fn refusal(text: &[u8]) -> Option<u8>
     }
 }
 
+/// The number of a reason or of a fault.
+fn reason(digits: &[u8]) -> Option<u8>
+    ensures { IfSome result (IsNumeral digits.now) }
+{
+    let number = number(digits, LARGEST_REASON)?;
+    Some(number as u8)
+}
+
 impl EntryKind {
     /// What happens by this text, which begins with the word for it.
     pub fn of(text: &[u8]) -> Option<EntryKind>
@@ -108,7 +123,7 @@ impl EntryKind {
             };
         };
         if word == b"refused".as_slice() {
-            let reason = short_number(rest)?;
+            let reason = reason(rest)?;
             return Some(EntryKind::Refused(reason));
         }
         of_word(word)
