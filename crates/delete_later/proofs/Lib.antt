@@ -1,3 +1,4 @@
 pub mod Scheduled
 pub mod Forgotten
 pub mod Agreeing
+pub mod Moving

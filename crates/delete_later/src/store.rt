@@ -1,10 +1,13 @@
-ghost use Rattle.std.specs.Prelude.{◌≡◌, ◌<◌, ◌-◌, ◌^◌, length, IfOk, OnOk, OnErr, MatchOption};
+ghost use Rattle.std.specs.Prelude.{◌≡◌, ◌↔◌, ◌<◌, ◌-◌, ◌^◌, length, IfOk, OnOk, OnErr, IsSome, Some, IsTrue, MatchOption};
+ghost use Rattle.object_tree.specs.Objects.{life_of, home_of};
 ghost use Rattle.object_tree.specs.Typed.{StayTyped};
 ghost use Rattle.event_loops.specs.Queues.{posted_to};
 ghost use Rattle.event_loops.specs.declared.item.Item.TheVariants.{Deletion};
 ghost use Rattle.delete_later.specs.Scheduling.{empty, IsHoused, scheduled_in};
+ghost use Rattle.delete_later.specs.Moving.{MovesOrNot, StayAgreeing};
 ghost use Rattle.delete_later.specs.Ending.{died_in, ended_in, next_in, IsNext, NoneIsNext};
 
+use crate::fault::MoveFault;
 use crate::live_connections::LiveConnections;
 use event_loops::{Item, Loops, PostFault};
 use object_tree::Tree;
@@ -86,6 +89,39 @@ impl Store {
         self.loops.drop_object(object);
     }
 
+    /// Moves a living object with its living descendants, reached through living objects, to another event loop: they live
+    /// there from now on, and the calls and deletions that wait for them move to the end of the loop and keep their numbers.
+    /// Bindings and connections stay, and so does what waits for dead objects. Where the object lives in the loop already,
+    /// nothing changes.
+    ///
+    /// Refused, where the first of these holds, with `NoLoop` (there is no such loop), `HasParent` (the object has a parent,
+    /// which may be dead), `Bound` (a binding would join objects of two loops); `Memory` comes only where a growth was
+    /// refused. Then nothing changes.
+    pub fn move_tree(&mut self, object: ObjectId, home: LoopId) -> Result<(), MoveFault>
+        requires { IsSome (life_of self.old.tree object) }
+        ensures value { MovesOrNot object home self.old result self.new }
+        ensures typed { StayTyped self.old.tree self.new.tree }
+        ensures agree { StayAgreeing self.old self.new }
+    {
+        if !is_there(&self.loops, home) {
+            return Err(MoveFault::NoLoop);
+        }
+        if self.tree.has_parent(object) {
+            return Err(MoveFault::HasParent);
+        }
+        if lives_in(&self.tree, object, home) {
+            return Ok(());
+        }
+        let below = self.tree.below(object)?;
+        let objects = below.as_slice();
+        if self.bindings.joins(objects) {
+            return Err(MoveFault::Bound);
+        }
+        self.loops.rehome(objects, home)?;
+        self.tree.set_home(objects, home);
+        Ok(())
+    }
+
     /// Gives back what removed connections still take up, which no rule can tell. It is for moments at which no emission
     /// goes on, since one may stand on a connection that was removed.
     pub fn sweep(&mut self)
@@ -120,5 +156,22 @@ fn post_deletion(loops: &mut Loops, home: LoopId, object: ObjectId) -> Result<()
         Ok(()) => Ok(()),
         Err(PostFault::Memory) => Err(AllocError),
         Err(PostFault::NoLoop) => unreachable!(),
+    }
+}
+
+/// Whether there is such a loop.
+fn is_there(loops: &Loops, home: LoopId) -> bool
+    ensures { IsTrue result ↔ (home < length loops.now.loops) }
+{
+    loops.name(home).is_some()
+}
+
+/// Whether an object lives in this loop.
+fn lives_in(tree: &Tree, object: ObjectId, home: LoopId) -> bool
+    ensures { IsTrue result ↔ (home_of tree.now object ≡ Some home) }
+{
+    match tree.home(object) {
+        Some(own) => own == home,
+        None => false,
     }
 }

@@ -1,5 +1,5 @@
 -- A write of one ring changes the loop at its place.
-use Rattle.std.proofs.Common.{◌≡◌, ℕ, zero, suc, List, [], ◌∷◌, ◌++◌, None, Some, refl, arith, ap, sym, ◌∙◌, slice_get, Result, Ok, Err, OnErr}
+use Rattle.std.proofs.Common.{◌≡◌, ℕ, zero, suc, List, [], ◌∷◌, ◌++◌, length, None, Some, refl, arith, ap, sym, ◌∙◌, slice_get, Result, Ok, Err, OnErr}
 use Rattle.std.specs.declared.collections.VecDeque.{VecDeque}
 use Rattle.std.specs.Map.{values_of}
 use Rattle.std.proofs.lemmas.Option.{same_Some}
@@ -53,6 +53,22 @@ module _ {A : Type 0} where
   pub loops_of-append : (es fs : List (List ℕ × VecDeque Posted A)) → loops_of (es ++ fs) ≡ loops_of es ++ loops_of fs
   loops_of-append [] fs = refl
   loops_of-append (e ∷ es) fs = ap (λ loops. loop_of e ∷ loops) (loops_of-append es fs)
+
+-- ---- a loop whose items are put in its place
+pub length-ring : {A : Type 0} (es : List (List ℕ × VecDeque Posted A)) (home : ℕ) (ring : VecDeque Posted A) → length (set_value_at es home ring) ≡ length es
+length-ring [] home ring = refl
+length-ring (e ∷ es) zero ring = refl
+length-ring (e ∷ es) (suc home) ring = ap suc (length-ring es home ring)
+
+pub put-twice : (first last : List Posted) (home : ℕ) (loops : List Loop) → change home (with_items (λ _. last)) (change home (with_items (λ _. first)) loops) ≡ change home (with_items (λ _. last)) loops
+put-twice first last home [] = refl
+put-twice first last zero (l ∷ loops) = refl
+put-twice first last (suc home) (l ∷ loops) = ap (λ ls. l ∷ ls) (put-twice first last home loops)
+
+pub put-same : (home : ℕ) (loops : List Loop) → change home (with_items (λ _. items_at loops home)) loops ≡ loops
+put-same home [] = refl
+put-same zero (l ∷ loops) = refl
+put-same (suc home) (l ∷ loops) = ap (λ ls. l ∷ ls) (put-same home loops)
 
 -- what holds at any rate holds after an error
 pub OnErr-always : {T E P : Type 0} (r : Result T E) → P → OnErr r P

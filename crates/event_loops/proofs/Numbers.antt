@@ -11,10 +11,10 @@ use Rattle.event_loops.specs.Numbers.{has_number, count_under, IsNumbered}
 use Rattle.event_loops.proofs.Places.{without_first-nowhere, without_first-place, place_of-within}
 
 -- how many of a loop's items have the number
-abbrev count_in : ℕ → List Posted → ℕ
+abbrev pub count_in : ℕ → List Posted → ℕ
 count_in number items = count_by (has_number number) items
 
-count_under-cons : (number : ℕ) (l : Loop) (loops : List Loop) → count_under number (l ∷ loops) ≡ count_in number l.items + count_under number loops
+pub count_under-cons : (number : ℕ) (l : Loop) (loops : List Loop) → count_under number (l ∷ loops) ≡ count_in number l.items + count_under number loops
 count_under-cons number l loops = sum_by-cons (λ (m : Loop). count_in number m.items) l loops
 
 -- ---- items are left out
@@ -51,7 +51,7 @@ count-map {f} t number (l ∷ loops) =
     omega (arith, t.fewer number l.items, count-map t number loops, count_under-cons number l loops, count_under-cons number (with_items f l) (map (with_items f) loops))
 
 -- with fewer items, each of which has its number
-fewer_numbered : (s : Queues) (loops : List Loop) → ((number : ℕ) → count_under number loops ≤ count_under number s.loops) → IsNumbered s → IsNumbered (record s { loops = loops })
+pub fewer_numbered : (s : Queues) (loops : List Loop) → ((number : ℕ) → count_under number loops ≤ count_under number s.loops) → IsNumbered s → IsNumbered (record s { loops = loops })
 fewer_numbered s loops fewer n = record {
   within = n.within;
   distinct = λ number. omega (arith, fewer number, n.distinct number);

@@ -9,7 +9,7 @@ use Rattle.event_loops.specs.declared.item.Posted.{Posted}
 use Rattle.event_loops.specs.Queues.{Loop, receiver_of, is_for, is_before, none_for, name_at, items_at, with_items, with_item, without_first, without_first_before, without_object, change}
 use Rattle.event_loops.specs.Marks.{waits, is_above, is_due, waiting, visible, trimmed, taken_due, Notes, Forgets, is_upto, AreUpto, MarkedUpto}
 
-same_cons : {A : Type 0} (xs ys : List A) {x y : A} → x ≡ y → xs ≡ ys → x ∷ xs ≡ y ∷ ys
+pub same_cons : {A : Type 0} (xs ys : List A) {x y : A} → x ≡ y → xs ≡ ys → x ∷ xs ≡ y ∷ ys
 same_cons {A} xs ys {x} {y} head rest = ap (λ (z : A). z ∷ xs) head ∙ ap (λ zs. y ∷ zs) rest
 
 -- ---- the items of one ring
@@ -120,7 +120,7 @@ module _ (old new : ℕ → Option ℕ) where
 
 module _ (since : ℕ → Option ℕ) where
   -- a change of one ring is seen as a change of what waits in it
-  visible-change : (f g : List Posted → List Posted) → ((items : List Posted) → waiting since (f items) ≡ g (waiting since items)) → (home : ℕ) (loops : List Loop) → visible since (change home (with_items f) loops) ≡ change home (with_items g) (visible since loops)
+  pub visible-change : (f g : List Posted → List Posted) → ((items : List Posted) → waiting since (f items) ≡ g (waiting since items)) → (home : ℕ) (loops : List Loop) → visible since (change home (with_items f) loops) ≡ change home (with_items g) (visible since loops)
   visible-change f g is home [] = refl
   visible-change f g is zero (l ∷ loops) = ap (λ items. record l { items = items } ∷ visible since loops) (is l.items)
   visible-change f g is (suc home) (l ∷ loops) = ap (λ ls. with_items (waiting since) l ∷ ls) (visible-change f g is home loops)

@@ -1,12 +1,13 @@
 -- The event loops with the items that wait in them, as plain lists (Qt 6, "Threads and QObjects": each thread has an event
 -- loop of its own, in which the objects live that are served by it).
 use Rattle.std.specs.Prelude.{◌≡◌, ℕ, zero, suc, ◌+◌, ◌≤◌, not, nat_lt, eqb, Bool, List, [], ◌∷◌, ◌++◌, map, filter, Option, Some, slice_get, codes, if◌then◌else◌}
+use Rattle.std.specs.List.{list_any}
 use Rattle.std.specs.Option.{option_map}
 use Rattle.event_loops.specs.declared.item.Item.{Item}
 use Rattle.event_loops.specs.declared.item.Item.TheVariants.{Call, Deletion}
 use Rattle.event_loops.specs.declared.item.Posted.{Posted}
 
--- a loop with its items, in the order in which they were posted
+-- a loop with its items, in the order in which they are delivered
 pub record Loop : Type 0 where
   pub name : List ℕ
   pub items : List Posted
@@ -105,3 +106,29 @@ dropped object s = record s { loops = map (without_object object) s.loops }
 -- a loop more, with no items, which comes last
 abbrev pub with_loop : List ℕ → Queues → Queues
 with_loop name s = record s { loops = s.loops ++ record { name = name; items = [] } ∷ [] }
+
+-- ---- objects that move to another loop
+-- the item is for one of these objects
+abbrev pub is_for_any : List ℕ → Posted → Bool
+is_for_any objects p = list_any (λ o. is_for o p.item) objects
+
+-- the items of all loops, loop by loop as these were added
+abbrev pub all_items : List Loop → List Posted
+all_items [] = []
+all_items (l ∷ loops) = l.items ++ all_items loops
+
+-- .. of those but the one at a place
+abbrev pub items_elsewhere : ℕ → List Loop → List Posted
+items_elsewhere home loops = all_items (change home (with_items (λ items. [])) loops)
+
+-- a loop without the items for these objects
+abbrev pub without_objects : List ℕ → Loop → Loop
+without_objects objects l = with_items (λ items. filter (λ p. not (is_for_any objects p)) items) l
+
+-- the items for these objects leave all loops but the one at a place, whose own stay where they are; there they come last, in
+-- the order in which they stood, loop by loop
+abbrev pub rehomed : List ℕ → ℕ → Queues → Queues
+rehomed objects home s = record s {
+  loops = change home (with_items (λ items. items_at s.loops home ++ filter (is_for_any objects) (items_elsewhere home s.loops)))
+      (map (without_objects objects) s.loops);
+}

@@ -1,4 +1,4 @@
-//! Why no loop is added and nothing is posted.
+//! Why no loop is added, and nothing is posted to a loop or moved to it.
 
 ghost use Rattle.std.specs.Prelude.{◌≡◌};
 ghost use Rattle.event_loops.specs.FaultNumbers.{add_number, post_number};
@@ -40,7 +40,7 @@ impl AddFault {
     }
 }
 
-/// Why nothing is posted.
+/// Why nothing is posted to a loop, or moved to it.
 #[derive(Clone, Copy, Debug, Error, PartialEq, Eq)]
 pub enum PostFault {
     /// There is no such loop.

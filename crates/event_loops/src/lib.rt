@@ -5,6 +5,7 @@ mod fault;
 mod item;
 mod loops;
 mod marks;
+mod moving;
 mod queue;
 mod rings;
 

@@ -1,7 +1,7 @@
 ghost use Rattle.std.specs.Prelude.{◌≡◌, ◌↔◌, ◌+◌, ◌-◌, ◌^◌, ◌<◌, ◌≤◌, Err, length, IfOk, IfSome, OnOk, OnErr, MatchOption};
 ghost use Rattle.std.specs.List.{find};
 ghost use Rattle.std.specs.Option.{option_copied};
-ghost use Rattle.event_loops.specs.Queues.{start, name_at, items_at, HasName, IsNamed, IsTaken, is_before, posted_to, taken_before, dropped, with_loop};
+ghost use Rattle.event_loops.specs.Queues.{start, name_at, items_at, HasName, IsNamed, IsTaken, is_before, posted_to, taken_before, dropped, rehomed, with_loop};
 ghost use Rattle.event_loops.specs.Numbers.{AreDistinct, AreGiven};
 ghost use Rattle.event_loops.specs.declared.fault.AddFault.TheVariants.{Exists};
 ghost use Rattle.event_loops.specs.declared.fault.PostFault.TheVariants.{NoLoop};
@@ -9,6 +9,7 @@ ghost use Rattle.event_loops.specs.declared.fault.PostFault.TheVariants.{NoLoop}
 use crate::fault::{AddFault, PostFault};
 use crate::item::{Item, Posted};
 use crate::marks::Marks;
+use crate::moving::{numbers_of, rehome_at};
 use crate::rings::{forget, peek_at, post_at, take_at};
 use indexmap::IndexMap;
 use signatures::{LoopId, Name, ObjectId};
@@ -156,6 +157,26 @@ impl Loops {
         ensures rest { self.new ≡ taken_before home number self.old }
     {
         take_at(&mut self.queues, &self.marks, home.number(), number)
+    }
+
+    /// Moves the items that wait for these objects to the end of a loop, where they keep their numbers and their order; those
+    /// of several loops come loop by loop as these were added, and those that wait there already stay where they are.
+    /// `NoLoop` where there is no such loop, `Memory` where a growth was refused; then nothing changes.
+    pub fn rehome(&mut self, objects: &[ObjectId], home: LoopId) -> Result<(), PostFault>
+        ensures rehomed { OnOk result (self.new ≡ rehomed objects.now home self.old) }
+        ensures no_loop { (result ≡ Err NoLoop) ↔ (length self.old.loops ≤ home) }
+        ensures err { OnErr result (self.new ≡ self.old) }
+    {
+        if home.number() >= self.queues.len() {
+            return Err(PostFault::NoLoop);
+        }
+        if !self.marks.awaits_any(objects) {
+            return Ok(());
+        }
+        let going = numbers_of(self.alloc, objects)?;
+        rehome_at(&mut self.queues, &going, home.number(), self.alloc)?;
+        self.marks.rehome(objects, home);
+        Ok(())
     }
 
     /// Removes the items for an object from all loops.

@@ -1,6 +1,7 @@
 //! For which objects items wait, so that they all go at once.
 
-ghost use Rattle.std.specs.Prelude.{◌≡◌, [], OnOk, OnErr};
+ghost use Rattle.std.specs.Prelude.{◌≡◌, [], is_some, OnOk, OnErr};
+ghost use Rattle.std.specs.List.{list_any};
 ghost use Rattle.event_loops.specs.Marks.{since_of, waits, Agree, Notes, Forgets};
 
 use crate::item::Posted;
@@ -13,7 +14,7 @@ use std::alloc::{AllocError, Global};
 pub struct Mark {
     /// How many items had been posted before the first that may wait.
     pub since: u64,
-    /// The loop to which the last one was posted.
+    /// The loop to which the last one was posted, or moved with its object.
     pub home: usize,
 }
 
@@ -60,6 +61,36 @@ impl Marks {
         };
         self.by_object.insert(object.number(), mark)?;
         Ok(())
+    }
+
+    /// Whether items may wait for one of these objects.
+    pub fn awaits_any(&self, objects: &[ObjectId]) -> bool
+        ensures { result ≡ list_any (λ o. is_some (since_of self.now o)) objects.now }
+    {
+        for object in objects {
+            if self.by_object.contains_key(&object.number()) {
+                return true;
+            }
+        }
+        false
+    }
+
+    /// The items that wait for these objects do so in this loop.
+    pub fn rehome(&mut self, objects: &[ObjectId], home: LoopId)
+        ensures { Agree (since_of self.old) (since_of self.new) }
+    {
+        for object in objects {
+            self.set_home(*object, home);
+        }
+    }
+
+    /// The last item for an object waits in this loop, if one does.
+    fn set_home(&mut self, object: ObjectId, home: LoopId)
+        ensures { Agree (since_of self.old) (since_of self.new) }
+    {
+        if let Some(mark) = self.by_object.get_mut(&object.number()) {
+            mark.home = home.number();
+        }
     }
 
     /// Takes an object's mark off, so that no item waits for it, and gives the loop to which the last one was posted.

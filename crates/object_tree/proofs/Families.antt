@@ -67,7 +67,7 @@ home-with_life : (f : Life → Life) → ((l : Life) → (f l).home ≡ l.home) 
 home-with_life f same x = life-part (λ (there : Option Life). option_map (λ (l : Life). l.home) there) f (λ l. ap Some (same l)) x.life
 
 -- the parent that shows in an object whose life is changed
-parent-with_life : (f : Life → Life) → ((l : Life) → (f l).parent ≡ l.parent) → (x : Object) → parent_in (Some (with_life f x)) ≡ parent_in (Some x)
+pub parent-with_life : (f : Life → Life) → ((l : Life) → (f l).parent ≡ l.parent) → (x : Object) → parent_in (Some (with_life f x)) ≡ parent_in (Some x)
 parent-with_life f same x = life-part (λ (there : Option Life). option_and_then (λ (l : Life). l.parent) there) f same x.life
 
 -- a change of other parts of one life

@@ -41,7 +41,7 @@ unused-free objects name (Some o) kept e t = absurd (cc t)
 
 -- ---- changes
 
-names-same : (names : List (List ℕ × ℕ)) (old new : List Object) → ((o : ℕ) → name_of new o ≡ name_of old o) → Forest new → Kept names old → Kept names new
+pub names-same : (names : List (List ℕ × ℕ)) (old new : List Object) → ((o : ℕ) → name_of new o ≡ name_of old o) → Forest new → Kept names old → Kept names new
 names-same names old new same forest kept = record {
   named = λ name o. (λ e. same o ∙ (kept.named name o).0 e, λ e. (kept.named name o).1 (sym (same o) ∙ e));
   forest = forest;
@@ -71,7 +71,7 @@ first-among : (o : ℕ) (ks : List ℕ) → slice_get ks 0 ≡ Some o → is_amo
 first-among o [] e = absurd (cc e)
 first-among o (k ∷ ks) e = rw (eq-eqb k o (same_Some _ _ e)) refl
 
-the-is : (a : ℕ) (found : Option ℕ) → is_the a found ≡ true → found ≡ Some a
+pub the-is : (a : ℕ) (found : Option ℕ) → is_the a found ≡ true → found ≡ Some a
 the-is a None e = absurd (cc e)
 the-is a (Some b) e = ap Some (eqb-true b a e)
 

@@ -7,6 +7,8 @@ pub mod Families
 pub mod TypedObjects
 pub mod Keeping
 mod Types
+pub mod Moving
+pub mod Descents
 pub mod Slots
 pub mod GivenUp
 pub mod Housed

@@ -24,7 +24,7 @@ abbrev pub depth : List Object → ℕ → ℕ
 depth objects o = length (path (parent_of objects) (suc (length objects)) o)
 
 -- distinct numbers below n are at most n
-few : (n : ℕ) (ks : List ℕ) → are_distinct ks ≡ true → ((k : ℕ) → is_among k ks ≡ true → k < n) → length ks ≤ n
+pub few : (n : ℕ) (ks : List ℕ) → are_distinct ks ≡ true → ((k : ℕ) → is_among k ks ≡ true → k < n) → length ks ≤ n
 few zero [] d h = omega arith
 few zero (k ∷ ks) d h =
     let none : k < 0 = h k (rw (eq-eqb k k refl) refl) in

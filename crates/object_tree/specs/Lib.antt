@@ -8,6 +8,7 @@ pub mod Typed
 pub mod Creating
 pub mod Adopting
 pub mod Forest
+pub mod Moving
 pub mod Kept
 pub mod Slots
 pub use Rattle.meta_model.specs.NamePlaces

@@ -1,5 +1,6 @@
 ghost use Rattle.std.specs.Prelude.{◌≡◌, ◌<◌, [], ◌∷◌, ◌++◌, OnOk, OnErr, MatchOption, slice_get, true, not, length, ◌==◌, position};
 ghost use Rattle.std.specs.List.{remove};
+ghost use Rattle.object_tree.specs.Adoptions.{adopted};
 ghost use Rattle.object_tree.specs.Children.{without, is_child, are_distinct};
 ghost use Rattle.object_tree.specs.Held.{are_any};
 
@@ -82,6 +83,13 @@ impl Children {
         }
     }
 
+    /// Appends the children to a list.
+    pub fn push_into(&self, list: &mut Vec<ObjectId>) -> Result<(), AllocError>
+        ensures { OnOk result (list.new.items ≡ list.old.items ++ self.now) }
+    {
+        push_adopted(&self.items, list)
+    }
+
     /// How many children stand before this one.
     fn place(&self, child: ObjectId, number: u64) -> Option<usize>
         requires { are_distinct self.now ≡ true }
@@ -114,4 +122,14 @@ fn first_of(items: &VecDeque<Adoption>, child: ObjectId) -> Option<usize>
     ensures { result ≡ position (λ a. a.child == child) items.now.items }
 {
     items.iter().position(|adoption| adoption.child == child)
+}
+
+/// Appends the children that were adopted to a list.
+fn push_adopted(items: &VecDeque<Adoption>, list: &mut Vec<ObjectId>) -> Result<(), AllocError>
+    ensures { OnOk result (list.new.items ≡ list.old.items ++ adopted items.now.items) }
+{
+    for place in 0..items.len() {
+        list.push(items[place].child)?;
+    }
+    Ok(())
 }

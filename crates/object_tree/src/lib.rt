@@ -2,6 +2,7 @@
 #![tactic(auto)]
 
 mod ancestors;
+mod below;
 mod children;
 mod creation;
 mod fault;

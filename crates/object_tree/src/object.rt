@@ -2,10 +2,11 @@ ghost use Rattle.std.specs.Prelude.{◌≡◌};
 ghost use Rattle.object_tree.specs.Objects.{with_life, blocked, scheduled, written};
 ghost use Rattle.object_tree.specs.Held.{is_held};
 ghost use Rattle.object_tree.specs.Family.{put_under, dead};
+ghost use Rattle.object_tree.specs.Moving.{in_loop};
 
 use crate::children::Children;
 use crate::life::Life;
-use signatures::{Name, ObjectId, Value};
+use signatures::{LoopId, Name, ObjectId, Value};
 
 /// An object that was created.
 #[derive(Drop)]
@@ -42,6 +43,16 @@ impl Object {
     {
         match &mut self.life {
             Some(life) => life.scheduled = true,
+            None => {}
+        }
+    }
+
+    /// The object lives in this loop, if it lives.
+    pub fn set_home(&mut self, home: LoopId)
+        ensures { self.new ≡ with_life (in_loop home) self.old }
+    {
+        match &mut self.life {
+            Some(life) => life.home = home,
             None => {}
         }
     }

@@ -6,16 +6,17 @@ ghost use Rattle.meta_model.specs.NamePlaces.{Adds};
 ghost use Rattle.object_tree.specs.Objects.{name_of, life_of, class_of, class_with, change, change_life, blocked, scheduled, written};
 ghost use Rattle.object_tree.specs.Held.{is_held, held_in, is_dead};
 ghost use Rattle.object_tree.specs.Forest.{Forest, HasDistinct};
+ghost use Rattle.object_tree.specs.Moving.{in_loop, all_in_loop};
 ghost use Rattle.object_tree.specs.Family.{parent_of, children_of, joined_by, left_by, leaves, put_under, moved, dead, without_life};
 
 use crate::life::Life;
 use crate::object::Object;
 use crate::slot::{
-    Entry, Slot, adoption_in, block_in, end_in, give_up, join_in, key_of, lose_in, name_in,
-    object_in, put, put_under_in, schedule_in, write_in,
+    Entry, Slot, adoption_in, block_in, end_in, give_up, house_in, join_in, key_of, lose_in,
+    name_in, object_in, put, put_under_in, schedule_in, write_in,
 };
 use meta_model::NameIndex;
-use signatures::{Name, ObjectId, Value};
+use signatures::{LoopId, Name, ObjectId, Value};
 use slab::Slab;
 use std::alloc::{AllocError, Global};
 use std::marker::Model;
@@ -175,6 +176,24 @@ impl Objects {
     {
         if let Some(key) = key_of(&self.entries, object) {
             schedule_in(&mut self.slots, key, object);
+        }
+    }
+
+    /// Each of these objects that lives does so in this loop.
+    pub fn set_homes(&mut self, objects: &[ObjectId], home: LoopId)
+        ensures { self.new ≡ all_in_loop objects.now home self.old }
+    {
+        for object in objects {
+            self.set_home(*object, home);
+        }
+    }
+
+    /// A living object lives in this loop.
+    fn set_home(&mut self, object: ObjectId, home: LoopId)
+        ensures { self.new ≡ change_life object (in_loop home) self.old }
+    {
+        if let Some(key) = key_of(&self.entries, object) {
+            house_in(&mut self.slots, key, object, home);
         }
     }
 

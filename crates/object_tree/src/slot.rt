@@ -6,10 +6,11 @@ ghost use Rattle.std.specs.Option.{option_copied};
 ghost use Rattle.slab.specs.Slab.{get, slab_len, Updates, HasRoomFor};
 ghost use Rattle.object_tree.specs.Objects.{with_life, blocked, scheduled, written};
 ghost use Rattle.object_tree.specs.Family.{joined_by, left_by, put_under, dead};
+ghost use Rattle.object_tree.specs.Moving.{in_loop};
 ghost use Rattle.object_tree.specs.Slots.{new_slot, key_at, name_at, object_in, adoption_in, is_idle, AreDistinctIn, Changes, Writes, KeepsSlots, GivesUp};
 
 use crate::object::Object;
-use signatures::{Name, ObjectId, Value};
+use signatures::{LoopId, Name, ObjectId, Value};
 use slab::Slab;
 use std::alloc::AllocError;
 
@@ -99,6 +100,17 @@ pub fn schedule_in(slots: &mut Slab<Slot>, key: usize, object: ObjectId)
     if let Some(slot) = slots.get_mut(key) {
         if slot.serial == object.number() {
             slot.object.schedule();
+        }
+    }
+}
+
+/// A living object lives in another loop.
+pub fn house_in(slots: &mut Slab<Slot>, key: usize, object: ObjectId, home: LoopId)
+    ensures { Writes key object (with_life (in_loop home)) slots.old slots.new }
+{
+    if let Some(slot) = slots.get_mut(key) {
+        if slot.serial == object.number() {
+            slot.object.set_home(home);
         }
     }
 }

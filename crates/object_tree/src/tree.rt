@@ -1,16 +1,18 @@
-ghost use Rattle.std.specs.Prelude.{◌≡◌, [], ◌↔◌, length, slice_get, count_by, IsTrue, Err, OnErr, MatchOption};
+ghost use Rattle.std.specs.Prelude.{◌≡◌, [], ◌↔◌, length, slice_get, count_by, is_some, IsTrue, IsSome, IfOk, Err, OnErr, MatchOption};
 ghost use Rattle.std.specs.Option.{option_copied};
 ghost use Rattle.object_tree.specs.Adopting.{AdoptsLiving};
 ghost use Rattle.object_tree.specs.Creating.{Creates};
-ghost use Rattle.object_tree.specs.Family.{IsChild, IsChildless, children_of, without_life};
+ghost use Rattle.object_tree.specs.Family.{IsChild, IsChildless, parent_of, children_of, without_life};
 ghost use Rattle.object_tree.specs.Forest.{Forest};
 ghost use Rattle.object_tree.specs.Held.{is_held};
+ghost use Rattle.object_tree.specs.Moving.{AreWhole, AreBelow, all_in_loop};
 ghost use Rattle.object_tree.specs.Objects.{Lives, IsGone, IsNamed, IsFree, name_of, life_of, home_of, stored, change_life, blocked, scheduled, written};
 ghost use Rattle.object_tree.specs.Seen.{seen, seen_reference};
 ghost use Rattle.object_tree.specs.Typed.{AreTyped, StayTyped, StayTypedIf, FitsProperty, ReadsAs, ReadAs};
 ghost use Rattle.object_tree.specs.declared.fault.AdoptFault.TheVariants.{NotOwned};
 
 use crate::ancestors::may_adopt;
+use crate::below::below;
 use crate::creation::{may_create, new_object};
 use crate::fault::{AdoptFault, CreateFault};
 use crate::life::Life;
@@ -21,7 +23,7 @@ use crate::typing::{has_type, have_types};
 use meta_model::NameIndex;
 use meta_objects::{Meta, ValueType};
 use signatures::{LoopId, Name, ObjectId, Value};
-use std::alloc::Global;
+use std::alloc::{AllocError, Global};
 use std::marker::Model;
 
 /// The objects of a run, by number and name, and who is whose parent. Names and numbers are never used again.
@@ -172,6 +174,31 @@ impl Tree {
         ensures lives { MatchOption result (IsChildless self.now parent) (IsChild self.now parent) }
     {
         self.objects.first_child(parent)
+    }
+
+    /// Whether a living object has a parent, which may be dead. It takes no memory.
+    pub fn has_parent(&self, object: ObjectId) -> bool
+        ensures { result ≡ is_some (parent_of self.now object) }
+    {
+        self.objects.parent(object).is_some()
+    }
+
+    /// A living object and its living descendants, reached through living objects. The error is that memory was refused.
+    pub fn below(&self, object: ObjectId) -> Result<Vec<ObjectId>, AllocError>
+        requires { IsSome (life_of self.now object) }
+        ensures { IfOk result (λ found. AreBelow self.now object found.items) }
+    {
+        below(self.alloc, &self.objects, object)
+    }
+
+    /// Each of these objects that lives does so in this loop from now on. A child and its parent are both among them, or
+    /// neither is. It takes no memory.
+    pub fn set_home(&mut self, objects: &[ObjectId], home: LoopId)
+        requires { AreWhole objects.now self.old }
+        ensures value { self.new ≡ all_in_loop objects.now home self.old }
+        ensures typed { StayTyped self.old self.new }
+    {
+        self.objects.set_homes(objects, home);
     }
 
     /// Blocks a living object, or lets it emit again; any other number changes nothing.

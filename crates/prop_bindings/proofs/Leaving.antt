@@ -71,15 +71,15 @@ touches-target b = or-left (eqb b.target.object b.target.object) (is_among b.tar
 touches-source : (b : Binding) (k o : ℕ) → slice_get b.sources k ≡ Some o → touches o b ≡ true
 touches-source b k o is = or-right (eqb b.target.object o) (is_among o b.sources) (among-source b.sources k o is)
 
--- ---- objects that live on in their class and their event loop, with their values
-abbrev pub Stays : List Object → List Object → ℕ → Type 0
-Stays old new o = (l : Life) → life_of old o ≡ Some l → (m : Life) × (life_of new o ≡ Some m) × (m.class ≡ l.class) × (m.values ≡ l.values) × (m.home ≡ l.home)
+-- ---- objects that live on in their class, with their values
+abbrev pub LivesOn : List Object → List Object → ℕ → Type 0
+LivesOn old new o = (l : Life) → life_of old o ≡ Some l → (m : Life) × (life_of new o ≡ Some m) × (m.class ≡ l.class) × (m.values ≡ l.values)
 
 -- .. all that the binding touches
-abbrev pub StayFor : List Object → List Object → Binding → Type 0
-StayFor old new b = (o : ℕ) → touches o b ≡ true → Stays old new o
+abbrev pub LiveOnFor : List Object → List Object → Binding → Type 0
+LiveOnFor old new b = (o : ℕ) → touches o b ≡ true → LivesOn old new o
 
-stays-value : (old new : List Object) (q : Place) → Stays old new q.object → (v : Value) → values_in old q ≡ Some v → values_in new q ≡ Some v
+stays-value : (old new : List Object) (q : Place) → LivesOn old new q.object → (v : Value) → values_in old q ≡ Some v → values_in new q ≡ Some v
 stays-value old new q stays v is = by-life (life_of old q.object) refl is
   where
     by-life : (there : Option Life) → life_of old q.object ≡ there → option_and_then (λ (l : Life). slice_get l.values q.property) there ≡ Some v → values_in new q ≡ Some v
@@ -88,7 +88,7 @@ stays-value old new q stays v is = by-life (life_of old q.object) refl is
         let on = stays l at in
         ap (λ (there : Option Life). option_and_then (λ (m : Life). slice_get m.values q.property) there) on.1 ∙ ap (λ (vs : List Value). slice_get vs q.property) on.3 ∙ e
 
-module _ (old new : List Object) (b : Binding) (stays : StayFor old new b) where
+module _ (old new : List Object) (b : Binding) (stays : LiveOnFor old new b) where
   source-still : (s : SourceProperty) (v : Value) → option_and_then (values_in old) (place_of b.sources s) ≡ Some v → option_and_then (values_in new) (place_of b.sources s) ≡ Some v
   source-still s v is = by-source (slice_get b.sources s.source) refl is
     where
@@ -131,6 +131,35 @@ home-there objects o home is = by-life (life_of objects o) refl is
     by-life None at e = absurd (cc e)
     by-life (Some l) at e = (l, at, same_Some l.home home e)
 
+all-still : (p : Loaded) (old new : List Object) (bs : List Binding) → All (LiveOnFor old new) bs → All (IsFit p old) bs → All (IsFit p new) bs
+all-still p old new bs stay fit k d within = fit-still old new (get_or bs k d) (stay k d within) p (fit k d within)
+
+-- what agrees goes on to where the objects of each binding still live in one loop
+pub agree-still : (p : Loaded) (old new : List Object) (bs : List Binding) → AreTyped p new → All (LiveOnFor old new) bs → All (IsInOneLoop new) bs → Agree p old bs → Agree p new bs
+agree-still p old new bs typed stay one_loop a = record {
+  typed = typed;
+  fit = all-still p old new bs stay a.fit;
+  one_loop = one_loop;
+  apart = a.apart;
+  acyclic = a.acyclic;
+  settled = λ q b some.
+      let f = bound-has (IsFit p old) bs a.fit q b some in
+      let s = bound-has (LiveOnFor old new) bs stay q b some in
+      let touched : touches q.object b ≡ true = subst (λ (r : Place). touches r.object b ≡ true) f.1 (touches-target b) in
+      stays-value old new q (s.0 q.object touched) f.0.value (a.settled q b some ∙ f.0.is) ∙ sym (value-still old new b s.0 f.0.value f.0.is);
+}
+
+-- ---- .. and in their event loop
+abbrev pub Stays : List Object → List Object → ℕ → Type 0
+Stays old new o = (l : Life) → life_of old o ≡ Some l → (m : Life) × (life_of new o ≡ Some m) × (m.class ≡ l.class) × (m.values ≡ l.values) × (m.home ≡ l.home)
+
+-- .. all that the binding touches
+abbrev pub StayFor : List Object → List Object → Binding → Type 0
+StayFor old new b = (o : ℕ) → touches o b ≡ true → Stays old new o
+
+lives-on : (old new : List Object) (o : ℕ) → Stays old new o → LivesOn old new o
+lives-on old new o stays l is = let on = stays l is in (on.0, on.1, on.2, on.3)
+
 home-still : (old new : List Object) (o home : ℕ) → Stays old new o → home_of old o ≡ Some home → home_of new o ≡ Some home
 home-still old new o home stays is =
     let was = home-there old o home is in
@@ -144,22 +173,12 @@ joined-still p old new b stays f h k d within =
     home-still old new o f.typed.life.home (stays o (touches-source b k o (got b.sources k d within))) (h k d within ∙ at)
     ∙ sym (home-still old new b.target.object f.typed.life.home (stays b.target.object (touches-target b)) at)
 
-all-still : (p : Loaded) (old new : List Object) (bs : List Binding) → All (StayFor old new) bs → All (IsFit p old) bs → All (IsFit p new) bs
-all-still p old new bs stay fit k d within = fit-still old new (get_or bs k d) (stay k d within) p (fit k d within)
-
 pub agree-kept : (p : Loaded) (old new : List Object) (bs : List Binding) → AreTyped p new → All (StayFor old new) bs → Agree p old bs → Agree p new bs
-agree-kept p old new bs typed stay a = record {
-  typed = typed;
-  fit = all-still p old new bs stay a.fit;
-  one_loop = λ k d within. joined-still p old new (get_or bs k d) (stay k d within) (a.fit k d within) (a.one_loop k d within);
-  apart = a.apart;
-  acyclic = a.acyclic;
-  settled = λ q b some.
-      let f = bound-has (IsFit p old) bs a.fit q b some in
-      let s = bound-has (StayFor old new) bs stay q b some in
-      let touched : touches q.object b ≡ true = subst (λ (r : Place). touches r.object b ≡ true) f.1 (touches-target b) in
-      stays-value old new q (s.0 q.object touched) f.0.value (a.settled q b some ∙ f.0.is) ∙ sym (value-still old new b s.0 f.0.value f.0.is);
-}
+agree-kept p old new bs typed stay a =
+    agree-still p old new bs typed
+    (All-weaker (StayFor old new) (LiveOnFor old new) (λ b h o touched. lives-on old new o (h o touched)) bs stay)
+    (λ k d within. joined-still p old new (get_or bs k d) (stay k d within) (a.fit k d within) (a.one_loop k d within))
+    a
 
 -- .. where every object that lives does so
 pub agree-living : (p : Loaded) (old new : List Object) (bs : List Binding) → AreTyped p new → ((o : ℕ) → Stays old new o) → Agree p old bs → Agree p new bs

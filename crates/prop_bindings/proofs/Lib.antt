@@ -34,4 +34,5 @@ pub mod Ranked
 pub mod Ranking
 pub mod Compacting
 pub mod Dropping
+pub mod Joining
 pub mod Touching

@@ -1,6 +1,6 @@
 -- Bindings, what their expressions read, and settled values (Qt 6, "Qt Bindable Properties"; docs/machine.md,
 -- "Bindings"). Nothing here says in which order values are computed.
-use Rattle.std.specs.Prelude.{◌≡◌, ℕ, eqb, ◌||◌, not, Bool, List, [], ◌∷◌, ◌++◌, filter, filter_map, cond, Option, Some, None, slice_get}
+use Rattle.std.specs.Prelude.{◌≡◌, ℕ, eqb, ◌||◌, ◌&&◌, not, Bool, List, [], ◌∷◌, ◌++◌, filter, filter_map, cond, Option, Some, None, slice_get}
 use Rattle.std.specs.List.{list_any}
 use Rattle.std.specs.Option.{option_and_then, option_map}
 use Rattle.signatures.specs.declared.value.Value.{Value}
@@ -75,6 +75,18 @@ touches o b = eqb b.target.object o || is_among o b.sources
 -- what is left once an object is dead
 abbrev pub dropped : ℕ → List Binding → List Binding
 dropped o bs = filter (λ b. not (touches o b)) bs
+
+-- the objects that the binding joins: that of its target, and its sources
+abbrev pub joined_by : Binding → List ℕ
+joined_by b = b.target.object ∷ b.sources
+
+-- one of them is among these objects, and another isn't
+abbrev pub leads_out : List ℕ → Binding → Bool
+leads_out os b = list_any (λ o. is_among o os) (joined_by b) && list_any (λ o. not (is_among o os)) (joined_by b)
+
+-- .. of some binding
+abbrev pub lead_out : List ℕ → List Binding → Bool
+lead_out os bs = list_any (leads_out os) bs
 
 -- ---- settled values, where F gives the binding of each bound property
 -- each bound property has its expression's value

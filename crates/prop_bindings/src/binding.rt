@@ -1,8 +1,9 @@
 //! Bindings, and what their expressions read.
 
-ghost use Rattle.std.specs.Prelude.{◌≡◌, ◌∷◌, [], ◌++◌, filter_map, IfOk, OnOk};
+ghost use Rattle.std.specs.Prelude.{◌≡◌, ◌∷◌, [], ◌++◌, filter_map, not, IfOk, OnOk};
+ghost use Rattle.std.specs.List.{list_any};
 ghost use Rattle.object_tree.specs.Children.{is_among};
-ghost use Rattle.prop_bindings.specs.Bindings.{named_in, place_of, read_by, touches};
+ghost use Rattle.prop_bindings.specs.Bindings.{leads_out, named_in, place_of, read_by, touches};
 
 use crate::place::Place;
 use meta_objects::{Formula, SourceProperty};
@@ -42,16 +43,52 @@ impl Binding {
     pub fn touches(&self, object: ObjectId) -> bool
         ensures { result ≡ touches object self.now }
     {
-        self.target.object == object || is_source(self.sources.as_slice(), object)
+        self.target.object == object || is_among(self.sources.as_slice(), object)
+    }
+
+    /// Whether one of its objects, its target's and its sources, is among these, and another isn't.
+    pub fn leads_out(&self, objects: &[ObjectId]) -> bool
+        ensures { result ≡ leads_out objects.now self.now }
+    {
+        let sources = self.sources.as_slice();
+        if is_among(objects, self.target.object) {
+            is_one_outside(sources, objects)
+        } else {
+            is_one_inside(sources, objects)
+        }
     }
 }
 
 /// Whether the object is one of these.
-fn is_source(sources: &[ObjectId], object: ObjectId) -> bool
-    ensures { result ≡ is_among object sources.now }
+fn is_among(objects: &[ObjectId], object: ObjectId) -> bool
+    ensures { result ≡ is_among object objects.now }
+{
+    for other in objects {
+        if *other == object {
+            return true;
+        }
+    }
+    false
+}
+
+/// Whether one of the sources is among these objects.
+fn is_one_inside(sources: &[ObjectId], objects: &[ObjectId]) -> bool
+    ensures { result ≡ list_any (λ o. is_among o objects.now) sources.now }
 {
     for source in sources {
-        if *source == object {
+        if is_among(objects, *source) {
+            return true;
+        }
+    }
+    false
+}
+
+/// Whether one of the sources isn't among these objects.
+fn is_one_outside(sources: &[ObjectId], objects: &[ObjectId]) -> bool
+    ensures { result ≡ list_any (λ o. not (is_among o objects.now)) sources.now }
+{
+    for source in sources {
+        if !is_among(objects, *source) {
             return true;
         }
     }

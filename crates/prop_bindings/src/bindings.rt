@@ -2,7 +2,7 @@
 
 ghost use Rattle.std.specs.Prelude.{◌≡◌, ◌∷◌, slice_get, IfOk, OnOk, OnErr};
 ghost use Rattle.std.specs.Option.{option_copied};
-ghost use Rattle.prop_bindings.specs.Bindings.{binding_at, dropped, replaced, without};
+ghost use Rattle.prop_bindings.specs.Bindings.{binding_at, dropped, lead_out, replaced, without};
 ghost use Rattle.prop_bindings.specs.Calls.{Binds, Writes};
 ghost use Rattle.prop_bindings.specs.Changes.{IsWritten, one};
 ghost use Rattle.prop_bindings.specs.Counts.{CountsBound, CountsFrom, CountsWritten, Kept, nothing_kept};
@@ -288,6 +288,14 @@ impl Bindings {
         let planned = self.plan_bind(meta, tree, site, target, sources)?;
         let changed = self.carry_out_bind(tree, planned)?;
         Ok(changed)
+    }
+
+    /// Whether a binding has one of its objects, its target's or a source, among these, and another that isn't. It takes no
+    /// memory.
+    pub fn joins(&self, objects: &[ObjectId]) -> bool
+        ensures { result ≡ lead_out objects.now self.now.installed }
+    {
+        self.graph.joins(objects)
     }
 
     /// Removes the bindings whose target is of the object, or of which it is a source; values stay. It takes no memory.

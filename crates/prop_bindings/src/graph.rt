@@ -1,7 +1,9 @@
 //! The installed bindings with what finds what follows from a property.
 
-ghost use Rattle.std.specs.Prelude.{◌≡◌, ◌<◌, ◌^◌, [], length, OnOk};
-ghost use Rattle.prop_bindings.specs.Bindings.{binding_at, dropped, replaced, without};
+ghost use Rattle.std.specs.Prelude.{◌≡◌, ◌<◌, ◌^◌, [], length, eqb, OnOk};
+ghost use Rattle.std.specs.List.{list_any};
+ghost use Rattle.indexmap.specs.IndexSet.{contains};
+ghost use Rattle.prop_bindings.specs.Bindings.{binding_at, dropped, lead_out, replaced, without};
 ghost use Rattle.prop_bindings.specs.code.Graph.{AreKeyed, AreNamed, AreTouched, HasRoom, IsGraph, KeepTouched, LosesReader, RankOfReader, bindings_of};
 ghost use Rattle.prop_bindings.specs.code.Orders.{IsLater};
 ghost use Rattle.prop_bindings.specs.code.Ranks.{HasNumbers};
@@ -112,6 +114,18 @@ impl Graph {
         self.ranks.forget(place);
     }
 
+    /// Whether a binding has one of its objects among these and another that isn't. It looks at the bindings only where they
+    /// may touch one of these.
+    pub fn joins(&self, objects: &[ObjectId]) -> bool
+        requires { IsGraph self.now }
+        ensures { result ≡ lead_out objects.now (bindings_of self.now) }
+    {
+        if !touches_any(&self.touched, objects) {
+            return false;
+        }
+        self.installed.lead_out(objects)
+    }
+
     /// Removes the bindings whose target is of the object, or of which it is a source. It looks at them only where there may
     /// be such a one.
     pub fn drop_object(&mut self, object: ObjectId)
@@ -157,6 +171,18 @@ fn unlist(installed: &Installed, readers: &mut Readers, place: &Place, kept: &[P
         Some(old) => readers.unlist(old, kept),
         None => {}
     }
+}
+
+/// Whether bindings may touch one of these objects.
+fn touches_any(touched: &IndexSet<usize>, objects: &[ObjectId]) -> bool
+    ensures { result ≡ list_any (contains eqb touched.now) objects.now }
+{
+    for object in objects {
+        if touched.contains(&object.number()) {
+            return true;
+        }
+    }
+    false
 }
 
 /// Adds the objects of a binding to those that bindings touch. Its error is that memory was refused; then some are added.

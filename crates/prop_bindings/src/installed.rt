@@ -1,15 +1,16 @@
 //! The installed bindings, by the properties that they bind.
 
-ghost use Rattle.std.specs.Prelude.{◌≡◌, [], ◌∷◌, ◌++◌, length, slice_get, None, IfOk, OnOk};
+ghost use Rattle.std.specs.Prelude.{◌≡◌, [], ◌∷◌, ◌++◌, false, length, slice_get, None, IfOk, MatchOption, OnOk};
 ghost use Rattle.std.specs.List.{list_any};
 ghost use Rattle.std.specs.Option.{is_some, option_copied};
 ghost use Rattle.prop_bindings.specs.Places.{is_in};
-ghost use Rattle.prop_bindings.specs.Bindings.{AreApart, binding_at, read_by, reads_any, without};
+ghost use Rattle.prop_bindings.specs.Bindings.{AreApart, binding_at, lead_out, leads_out, read_by, reads_any, without};
 ghost use Rattle.prop_bindings.specs.code.Graph.{AreKeyed, HasRoom, bindings_in, position_of};
 
 use crate::binding::Binding;
 use crate::place::{Place, contains};
 use indexmap::IndexMap;
+use signatures::ObjectId;
 use std::alloc::{AllocError, Global};
 use std::marker::Model;
 
@@ -109,6 +110,29 @@ impl Installed {
         match self.by_target.get_index(position) {
             Some((_, reader)) => Some(reader),
             None => None,
+        }
+    }
+
+    /// Whether one of them has one of its objects among these and another that isn't.
+    pub fn lead_out(&self, objects: &[ObjectId]) -> bool
+        ensures { result ≡ lead_out objects.now (bindings_in self.now) }
+    {
+        for place in 0..self.len() {
+            if self.leads_out_at(place, objects) {
+                return true;
+            }
+        }
+        false
+    }
+
+    /// Whether the one at this place in the order does, if it is there.
+    fn leads_out_at(&self, position: usize, objects: &[ObjectId]) -> bool
+        ensures { MatchOption (slice_get (bindings_in self.now) position) (result ≡ false)
+            (λ b. result ≡ leads_out objects.now b) }
+    {
+        match self.at(position) {
+            Some(reader) => reader.binding().leads_out(objects),
+            None => false,
         }
     }
 

@@ -1,7 +1,7 @@
 //! The installed bindings, without the count of evaluations.
 
 ghost use Rattle.std.specs.Prelude.{◌≡◌, [], IfOk, OnOk, OnErr};
-ghost use Rattle.prop_bindings.specs.Bindings.{dropped, replaced, without};
+ghost use Rattle.prop_bindings.specs.Bindings.{dropped, lead_out, replaced, without};
 ghost use Rattle.prop_bindings.specs.Changes.{one};
 ghost use Rattle.prop_bindings.specs.Fits.{Agree};
 ghost use Rattle.prop_bindings.specs.Plans.{PlansBind, PlansWrite, after};
@@ -113,6 +113,13 @@ impl UncountedBindings {
         ensures err { OnErr result ((self.new ≡ self.old) × (tree.new ≡ tree.old)) }
     {
         self.bindings.carry_out_bind(tree, planned)
+    }
+
+    /// Whether a binding joins these objects with another, as `Bindings::joins` says. It takes no memory.
+    pub fn joins(&self, objects: &[ObjectId]) -> bool
+        ensures { result ≡ lead_out objects.now self.now }
+    {
+        self.bindings.joins(objects)
     }
 
     /// Removes the bindings of an object, as `Bindings::drop_object` does. It takes no memory.

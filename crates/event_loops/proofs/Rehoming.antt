@@ -1,0 +1,223 @@
+-- Items that move to another loop: what waits then, and under which numbers.
+use Rattle.std.proofs.Common.{◌≡◌, ℕ, zero, suc, ◌+◌, ◌≤◌, Bool, true, false, not, ◌||◌, ◌&&◌, List, [], ◌∷◌, ◌++◌, map, filter, Option, None, Some, is_some, append-nil, inl, inr, refl, arith, ap, sym, ◌∙◌, if◌then◌else◌, eqb, cond}
+use Rattle.std.specs.List.{list_all, list_any}
+use Rattle.std.proofs.Math.Path.{fun_ext}
+use Rattle.std.proofs.lemmas.Bool.{and_from, and_parts, cases_Bool, ne_eqb, false≢true}
+use Rattle.std.proofs.lemmas.List.Elements.{filter-append}
+use Rattle.std.proofs.lemmas.List.Folds.{list_all-append}
+use Rattle.std.proofs.lemmas.List.Sums.{sum_by-append}
+use Rattle.std.proofs.lemmas.List.Filters.{sum_by-filter_both}
+use Rattle.event_loops.specs.declared.item.Posted.{Posted}
+use Rattle.event_loops.specs.Queues.{Loop, Queues, receiver_of, items_at, all_items, items_elsewhere, with_items, change, rehomed}
+use Rattle.event_loops.specs.Rings.{goes, those_going, those_staying, without_going, gathered}
+use Rattle.event_loops.specs.Marks.{waits, is_above, waiting, visible, is_upto, AreUpto}
+use Rattle.event_loops.specs.Numbers.{has_number, count_under, IsNumbered}
+use Rattle.event_loops.proofs.Entries.{put-same}
+use Rattle.event_loops.proofs.Waiting.{same_cons, visible-change, items_at-visible}
+use Rattle.event_loops.proofs.Numbers.{count_in, count_under-cons, fewer_numbered}
+
+-- the same items pass two tests, in whatever order they are asked
+filters-swap : (p q : Posted → Bool) (xs : List Posted) → filter p (filter q xs) ≡ filter q (filter p xs)
+filters-swap p q [] = refl
+filters-swap p q (x ∷ xs) = by_tests (p x) refl (q x) refl (filters-swap p q xs)
+  where
+    by_tests : (a : Bool) → p x ≡ a → (b : Bool) → q x ≡ b → filter p (filter q xs) ≡ filter q (filter p xs)
+        → filter p (if b then x ∷ filter q xs else filter q xs) ≡ filter q (if a then x ∷ filter p xs else filter p xs)
+    by_tests true is true also rest = rw is (rw also (ap (λ ys. x ∷ ys) rest))
+    by_tests true is false also rest = rw also rest
+    by_tests false is true also rest = rw is rest
+    by_tests false is false also rest = rest
+
+abbrev emptied : List Posted → List Posted
+emptied items = []
+
+-- ---- what waits
+
+module _ (since : ℕ → Option ℕ) where
+  all_items-visible : (loops : List Loop) → waiting since (all_items loops) ≡ all_items (visible since loops)
+  all_items-visible [] = refl
+  all_items-visible (l ∷ loops) =
+      filter-append (waits since) l.items (all_items loops) ∙ ap (λ items. waiting since l.items ++ items) (all_items-visible loops)
+
+  visible-emptied : (home : ℕ) (loops : List Loop) → visible since (change home (with_items emptied) loops) ≡ change home (with_items emptied) (visible since loops)
+  visible-emptied home loops = visible-change since emptied emptied (λ items. refl) home loops
+
+  pub elsewhere-visible : (home : ℕ) (loops : List Loop) → waiting since (items_elsewhere home loops) ≡ items_elsewhere home (visible since loops)
+  elsewhere-visible home loops = all_items-visible (change home (with_items emptied) loops) ∙ ap all_items (visible-emptied home loops)
+
+  module _ (going : ℕ → Bool) where
+    visible-staying : (loops : List Loop) → visible since (map (without_going going) loops) ≡ map (without_going going) (visible since loops)
+    visible-staying [] = refl
+    visible-staying (l ∷ loops) =
+        same_cons _ _ (ap (λ items. record l { items = items }) (filters-swap (waits since) (λ p. not (goes going p)) l.items)) (visible-staying loops)
+
+    -- what waits is gathered where all is
+    pub visible-gathered : (home : ℕ) (loops : List Loop) → visible since (gathered going home loops) ≡ gathered going home (visible since loops)
+    visible-gathered home loops =
+        let moved : waiting since (those_going going (items_elsewhere home loops)) ≡ those_going going (items_elsewhere home (visible since loops)) =
+        filters-swap (waits since) (goes going) (items_elsewhere home loops) ∙ ap (those_going going) (elsewhere-visible home loops) in
+        let own : waiting since (items_at loops home) ≡ items_at (visible since loops) home = sym (items_at-visible since loops home) in
+        let all : waiting since (items_at loops home ++ those_going going (items_elsewhere home loops)) ≡ items_at (visible since loops) home ++ those_going going (items_elsewhere home (visible since loops)) =
+        filter-append (waits since) (items_at loops home) (those_going going (items_elsewhere home loops))
+        ∙ ap (λ items. items ++ waiting since (those_going going (items_elsewhere home loops))) own
+        ∙ ap (λ items. items_at (visible since loops) home ++ items) moved in
+        let rest : visible since (map (without_going going) (change home (with_items emptied) loops)) ≡ map (without_going going) (change home (with_items emptied) (visible since loops)) =
+        visible-staying (change home (with_items emptied) loops) ∙ ap (map (without_going going)) (visible-emptied home loops) in
+        visible-change since
+        (λ items. items_at loops home ++ those_going going (items_elsewhere home loops))
+        (λ items. items_at (visible since loops) home ++ those_going going (items_elsewhere home (visible since loops)))
+        (λ items. all) home (map (without_going going) (change home (with_items emptied) loops))
+        ∙ ap (change home (with_items (λ items. items_at (visible since loops) home ++ those_going going (items_elsewhere home (visible since loops))))) rest
+
+-- ---- which items go
+
+module _ (going : ℕ → Bool) where
+  -- a list that is put in is there, whatever was
+  put-over : (items : List Posted) (home : ℕ) (loops : List Loop) → change home (with_items (λ _. items)) (map (without_going going) (change home (with_items emptied) loops)) ≡ change home (with_items (λ _. items)) (map (without_going going) loops)
+  put-over items home [] = refl
+  put-over items zero (l ∷ loops) = refl
+  put-over items (suc home) (l ∷ loops) = ap (λ ls. without_going going l ∷ ls) (put-over items home loops)
+
+  pub gathered-over : (home : ℕ) (loops : List Loop) → gathered going home loops ≡ change home (with_items (λ _. items_at loops home ++ those_going going (items_elsewhere home loops))) (map (without_going going) loops)
+  gathered-over home loops = put-over (items_at loops home ++ those_going going (items_elsewhere home loops)) home loops
+
+-- those for these objects go
+pub gathered-rehomed : (objects : List ℕ) (going : ℕ → Bool) → ((o : ℕ) → going o ≡ list_any (λ k. eqb o k) objects) → (home : ℕ) (s : Queues) → gathered going home s.loops ≡ (rehomed objects home s).loops
+gathered-rehomed objects going is home s =
+    let alike : going ≡ (λ o. list_any (λ k. eqb o k) objects) = fun_ext is in
+    ap (λ (g : ℕ → Bool). gathered g home s.loops) alike ∙ gathered-over (λ o. list_any (λ k. eqb o k) objects) home s.loops
+
+-- ---- where nothing waits for an object that moves
+module _ (since : ℕ → Option ℕ) (objects : List ℕ) (none : list_any (λ o. is_some (since o)) objects ≡ false) where
+  abbrev moves : ℕ → Bool
+  moves o = list_any (λ k. eqb o k) objects
+
+  -- what waits is for none of them
+  not-for : (o : ℕ) (os : List ℕ) → list_any (λ k. is_some (since k)) os ≡ false → is_some (since o) ≡ true → list_any (λ k. eqb o k) os ≡ false
+  not-for o [] away there = refl
+  not-for o (k ∷ os) away there = elim (cases_Bool (is_some (since k))) [
+    | inl t ↦ absurd (false≢true (sym away ∙ ap (λ (b : Bool). b || list_any (λ j. is_some (since j)) os) t))
+    | inr f ↦
+        let other : eqb o k ≡ false = ne_eqb o k (λ e. false≢true (sym f ∙ ap (λ (j : ℕ). is_some (since j)) (sym e) ∙ there)) in
+        let rest : list_any (λ j. is_some (since j)) os ≡ false = sym (ap (λ (b : Bool). b || list_any (λ j. is_some (since j)) os) f) ∙ away in
+        ap (λ (b : Bool). b || list_any (λ j. eqb o j) os) other ∙ not-for o os rest there
+  ]
+
+  marked : (there : Option ℕ) (number : ℕ) → is_above there number ≡ true → is_some there ≡ true
+  marked None number h = h
+  marked (Some n) number h = refl
+
+  stays : (p : Posted) → waits since p ≡ true → goes moves p ≡ false
+  stays p h = not-for (receiver_of p.item) objects none (marked (since (receiver_of p.item)) p.number h)
+
+  none-go : (items : List Posted) → those_going moves (waiting since items) ≡ []
+  none-go [] = refl
+  none-go (p ∷ items) = by_test (waits since p) refl (none-go items)
+    where
+      by_test : (b : Bool) → waits since p ≡ b → those_going moves (waiting since items) ≡ [] → those_going moves (if b then p ∷ waiting since items else waiting since items) ≡ []
+      by_test true told rest = ap (λ (b : Bool). if b then p ∷ those_going moves (waiting since items) else those_going moves (waiting since items)) (stays p told) ∙ rest
+      by_test false told rest = rest
+
+  all-stay : (items : List Posted) → those_staying moves (waiting since items) ≡ waiting since items
+  all-stay [] = refl
+  all-stay (p ∷ items) = by_test (waits since p) refl (all-stay items)
+    where
+      by_test : (b : Bool) → waits since p ≡ b → those_staying moves (waiting since items) ≡ waiting since items → those_staying moves (if b then p ∷ waiting since items else waiting since items) ≡ (if b then p ∷ waiting since items else waiting since items)
+      by_test true told rest = ap (λ (b : Bool). if not b then p ∷ those_staying moves (waiting since items) else those_staying moves (waiting since items)) (stays p told) ∙ ap (λ ps. p ∷ ps) rest
+      by_test false told rest = rest
+
+  loops-stay : (loops : List Loop) → map (without_going moves) (visible since loops) ≡ visible since loops
+  loops-stay [] = refl
+  loops-stay (l ∷ loops) = same_cons _ _ (ap (λ items. record l { items = items }) (all-stay l.items)) (loops-stay loops)
+
+  pub nothing-moves : (home posted : ℕ) (loops : List Loop) → (rehomed objects home (record { loops = visible since loops; posted = posted })).loops ≡ visible since loops
+  nothing-moves home posted loops =
+      let shown : List Loop = visible since loops in
+      let elsewhere : those_going moves (items_elsewhere home shown) ≡ [] =
+      ap (those_going moves) (sym (elsewhere-visible since home loops)) ∙ none-go (items_elsewhere home loops) in
+      ap (λ items. change home (with_items (λ _. items_at shown home ++ items)) (map (without_going moves) shown)) elsewhere
+      ∙ ap (λ items. change home (with_items (λ _. items)) (map (without_going moves) shown)) (append-nil (items_at shown home))
+      ∙ ap (change home (with_items (λ _. items_at shown home))) (loops-stay loops)
+      ∙ put-same home shown
+
+-- ---- the numbers of all items
+
+all-filter : (q test : Posted → Bool) (items : List Posted) → list_all q items ≡ true → list_all q (filter test items) ≡ true
+all-filter q test [] h = h
+all-filter q test (p ∷ items) h =
+    let parts = and_parts (q p) (list_all q items) h in by_test (test p) (all-filter q test items parts.1) (and_from (q p) (list_all q (filter test items)) parts.0 (all-filter q test items parts.1))
+  where
+    by_test : (b : Bool) → list_all q (filter test items) ≡ true → (q p && list_all q (filter test items)) ≡ true → list_all q (if b then p ∷ filter test items else filter test items) ≡ true
+    by_test true rest kept = kept
+    by_test false rest kept = rest
+
+module _ (last : ℕ) where
+  upto-put : (items : List Posted) → list_all (is_upto last) items ≡ true → (home : ℕ) (loops : List Loop) → AreUpto last loops → AreUpto last (change home (with_items (λ _. items)) loops)
+  upto-put items all home [] h k = h k
+  upto-put items all zero (l ∷ loops) h zero = all
+  upto-put items all zero (l ∷ loops) h (suc k) = h (suc k)
+  upto-put items all (suc home) (l ∷ loops) h zero = h zero
+  upto-put items all (suc home) (l ∷ loops) h (suc k) = upto-put items all home loops (λ j. h (suc j)) k
+
+  upto-staying : (going : ℕ → Bool) (loops : List Loop) → AreUpto last loops → AreUpto last (map (without_going going) loops)
+  upto-staying going [] h k = h k
+  upto-staying going (l ∷ loops) h zero = all-filter (is_upto last) (λ p. not (goes going p)) l.items (h zero)
+  upto-staying going (l ∷ loops) h (suc k) = upto-staying going loops (λ j. h (suc j)) k
+
+  upto-all : (loops : List Loop) → AreUpto last loops → list_all (is_upto last) (all_items loops) ≡ true
+  upto-all [] h = refl
+  upto-all (l ∷ loops) h = list_all-append (is_upto last) l.items (all_items loops) ∙ and_from _ _ (h zero) (upto-all loops (λ j. h (suc j)))
+
+  pub upto-gathered : (going : ℕ → Bool) (home : ℕ) (loops : List Loop) → AreUpto last loops → AreUpto last (gathered going home loops)
+  upto-gathered going home loops h =
+      let rest : AreUpto last (change home (with_items emptied) loops) = upto-put [] refl home loops h in
+      let moved : list_all (is_upto last) (those_going going (items_elsewhere home loops)) ≡ true = all-filter (is_upto last) (goes going) (items_elsewhere home loops) (upto-all (change home (with_items emptied) loops) rest) in
+      let all : list_all (is_upto last) (items_at loops home ++ those_going going (items_elsewhere home loops)) ≡ true =
+      list_all-append (is_upto last) (items_at loops home) (those_going going (items_elsewhere home loops)) ∙ and_from _ _ (h home) moved in
+      upto-put (items_at loops home ++ those_going going (items_elsewhere home loops)) all home (map (without_going going) (change home (with_items emptied) loops)) (upto-staying going (change home (with_items emptied) loops) rest)
+
+-- ---- how many wait under a number
+
+module _ (number : ℕ) where
+  count-append : (xs ys : List Posted) → count_in number (xs ++ ys) ≡ count_in number xs + count_in number ys
+  count-append xs ys = sum_by-append (λ p. cond (has_number number p) 1 0) xs ys
+
+  count-put : (items : List Posted) (home : ℕ) (loops : List Loop) → count_under number (change home (with_items (λ _. items)) loops) ≤ count_under number loops + count_in number items
+  count-put items home [] = omega arith
+  count-put items zero (l ∷ loops) =
+      omega (arith, count_under-cons number l loops, count_under-cons number (with_items (λ _. items) l) loops)
+  count-put items (suc home) (l ∷ loops) =
+      omega (arith, count-put items home loops, count_under-cons number l loops, count_under-cons number l (change home (with_items (λ _. items)) loops))
+
+  -- the items of one loop, and the others
+  count-apart : (home : ℕ) (loops : List Loop) → count_under number (change home (with_items emptied) loops) + count_in number (items_at loops home) ≡ count_under number loops
+  count-apart home [] = omega arith
+  count-apart zero (l ∷ loops) =
+      omega (arith, count_under-cons number l loops, count_under-cons number (with_items emptied l) loops)
+  count-apart (suc home) (l ∷ loops) =
+      omega (arith, count-apart home loops, count_under-cons number l loops, count_under-cons number l (change home (with_items emptied) loops))
+
+  -- those that go, and those that stay
+  count-parted : (going : ℕ → Bool) (loops : List Loop) → count_under number (map (without_going going) loops) + count_in number (those_going going (all_items loops)) ≡ count_under number loops
+  count-parted going [] = omega arith
+  count-parted going (l ∷ loops) =
+      let here : count_in number (those_going going l.items) + count_in number (those_staying going l.items) ≡ count_in number l.items =
+      sum_by-filter_both (goes going) (λ p. not (goes going p)) (λ _. refl) (λ p. cond (has_number number p) 1 0) l.items in
+      let all : count_in number (those_going going (l.items ++ all_items loops)) ≡ count_in number (those_going going l.items) + count_in number (those_going going (all_items loops)) =
+      ap (count_in number) (filter-append (goes going) l.items (all_items loops)) ∙ count-append (those_going going l.items) (those_going going (all_items loops)) in
+      omega (arith, here, all, count-parted going loops, count_under-cons number l loops, count_under-cons number (without_going going l) (map (without_going going) loops))
+
+  count-gathered : (going : ℕ → Bool) (home : ℕ) (loops : List Loop) → count_under number (gathered going home loops) ≤ count_under number loops
+  count-gathered going home loops =
+      let own = items_at loops home in
+      let moved = those_going going (items_elsewhere home loops) in
+      omega (
+        arith,
+        count-put (own ++ moved) home (map (without_going going) (change home (with_items emptied) loops)),
+        count-append own moved,
+        count-parted going (change home (with_items emptied) loops),
+        count-apart home loops,
+      )
+
+pub IsNumbered-gathered : (going : ℕ → Bool) (home : ℕ) (s : Queues) → IsNumbered s → IsNumbered (record s { loops = gathered going home s.loops })
+IsNumbered-gathered going home s n = fewer_numbered s _ (λ k. count-gathered k going home s.loops) n

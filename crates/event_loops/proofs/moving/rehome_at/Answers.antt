@@ -1,0 +1,22 @@
+use Rattle.std.proofs.Common.{List, ap, ◌∙◌}
+use Rattle.std.proofs.lemmas.Result.{on_err_weaker}
+use Rattle.event_loops.specs.declared.item.Posted.{Posted}
+use Rattle.event_loops.specs.Queues.{Loop, change, with_items}
+use Rattle.event_loops.specs.Rings.{shown}
+use Rattle.event_loops.proofs.Entries.{put-twice, put-same}
+use Rattle.event_loops.proofs.moving.rehome_at.Goals as goal
+
+-- the ring is put back
+pub returns-clause-err : goal.returns-clause-err
+returns-clause-err c =
+    let home = c.args.home in
+    let loops = shown c.args.queues.now in
+    let ring = c.gather-gathered.new.ring.items in
+    on_err_weaker c.gather-gathered.result
+    (λ still.
+    c.replace_at.ensures.put
+    ∙ ap (λ (ls : List Loop). change home (with_items (λ items. ring)) ls) (still.0 ∙ c.replace_at-ring.ensures.put)
+    ∙ put-twice c.new.result.items ring home loops
+    ∙ ap (λ (items : List Posted). change home (with_items (λ _. items)) loops) (still.1 ∙ c.replace_at-ring.ensures.old)
+    ∙ put-same home loops)
+    c.gather-gathered.ensures.err
