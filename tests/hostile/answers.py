@@ -35,7 +35,7 @@ NO_CERTIFICATE = re.compile(
     rb"no (?:wire [0-9]+|type (?:" + NODE + rb"|binding " + NAME + rb")|(?:cycle|destroy|high) " + NODES + rb")\n"
 )
 ENTRIES = lines(
-    rb"event [0-9]+(?: refused (?:3[0-7]|38|39|4[0-6]))?",
+    rb"event [0-9]+(?: refused (?:3[0-9]|4[0-689]))?",
     rb"[0-9]+ emit " + MEMBER + ARGUMENTS + rb"(?: blocked)?",
     rb"[0-9]+ call " + MEMBER + ARGUMENTS,
     rb"[0-9]+ native(?: " + ACTION + rb"(?:, " + ACTION + rb")*)?",

@@ -406,7 +406,7 @@ class Reading:
         word = self.take()
         if word in (b"loop", b"turn", b"block", b"unblock", b"delete", b"later"):
             self.name()
-        elif word == b"adopt":
+        elif word in (b"adopt", b"move"):
             self.formal()
         elif word == b"new":
             self.formal()

@@ -7,7 +7,7 @@ MEBIBYTE = 1 << 20
 TOKEN = re.compile(rb'[A-Za-z_][A-Za-z0-9_]*|[0-9]+|"[^"\n]*"|[^\sA-Za-z0-9_]')
 LINE = re.compile(rb"[^\n]*\n|[^\n]+")
 WORDS = sorted(grammar.RESERVED) + (
-    b"new loop turn adopt bind block unblock main certificate bound move group int bool QString QObject"
+    b"new loop turn adopt move bind block unblock main certificate bound move group int bool QString QObject"
 ).split()
 NAMES = (
     b"a b c s t x y A B C f g p q value destroyed objectName objectNameChanged deleteLater Doubler twice out done"

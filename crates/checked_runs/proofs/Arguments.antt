@@ -3,7 +3,7 @@ use Rattle.std.proofs.Common.{◌≡◌, ℕ, suc, ◌<◌, ◌≤◌, Bool, tru
 use Rattle.std.specs.List.{AllByRecursion, find}
 use Rattle.signatures.specs.declared.value.Value.{Value}
 use Rattle.script_lang.specs.declared.event.Event.{Event}
-use Rattle.script_lang.specs.declared.event.Event.TheVariants.{Loop, Turn as TurnEvent, New, Adopt, Connect as ConnectEvent, Disconnect as DisconnectEvent, Set, Bind, Emit as EmitEvent, Call as CallEvent, Block, Unblock, Delete as DeleteEvent, Later as LaterEvent}
+use Rattle.script_lang.specs.declared.event.Event.TheVariants.{Loop, Turn as TurnEvent, New, Adopt, Move, Connect as ConnectEvent, Disconnect as DisconnectEvent, Set, Bind, Emit as EmitEvent, Call as CallEvent, Block, Unblock, Delete as DeleteEvent, Later as LaterEvent}
 use Rattle.script_lang.specs.declared.event.Input.{Input}
 use Rattle.texts.specs.declared.connection.ConnectionType.{ConnectionType}
 use Rattle.texts.specs.declared.connection.Endpoints.{Endpoints as Named}
@@ -63,7 +63,8 @@ use Rattle.machine_events.proofs.Standing.{Invariant}
 use Rattle.checked_runs.proofs.Invariant.{Level, BodyStands, Stacked, Holds}
 use Rattle.checked_runs.proofs.Promised.{StepIsPromised, AllIsPromised}
 use Rattle.checked_runs.proofs.Giving.{does-give, answer-promised}
-use Rattle.checked_runs.proofs.Given.{given-is, living-is, living-object}
+use Rattle.machine_events.proofs.Judged.{given-is}
+use Rattle.machine_events.proofs.Judging.Naming.{living-is, living-object}
 use Rattle.checked_runs.proofs.Leading.{does-led}
 use Rattle.machine_rules.proofs.Scheduling.{schedule-cases}
 use Rattle.machine_rules.proofs.Hearing.{AllHeard, nobody, may-be-heard}
@@ -267,6 +268,7 @@ module _ (p : Loaded) (s : State) (idle : IsIdle s) (classes : ℕ → Option �
   pushes-judged t (TurnEvent name) (goes_on home is given) = quiet (given-is given) refl
   pushes-judged t (New name class loop) (goes_on _ free (goes_on c is (goes_on home lives (goes_on _ room given)))) = quiet (given-is given) refl
   pushes-judged t (Adopt parent child) (goes_on a is_parent (goes_on c is_child (goes_on _ owns (goes_on _ over (goes_on _ home (becomes x)))))) = quiet x.gives refl
+  pushes-judged t (Move name loop) (goes_on o lives (goes_on home is (goes_on _ root (goes_on _ alone (becomes x))))) = quiet x.gives refl
   pushes-judged t (ConnectEvent e how) (goes_on f both (goes_on _ may given)) = quiet (given-is given) refl
   pushes-judged t (DisconnectEvent e) (goes_on f both (goes_on _ is given)) = quiet (given-is given) refl
   pushes-judged t (Set name property i) (goes_on o lives (goes_on q _ (goes_on v _ (goes_on _ fits (becomes w))))) = pushes-as (w.settles).gives (record { arguments = λ more. tt; promised = (tt, none-promised) })

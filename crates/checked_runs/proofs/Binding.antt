@@ -41,7 +41,7 @@ use Rattle.machine_rules.proofs.Keeps.{lives-of-class}
 use Rattle.machine_events.specs.Causes.{BindsNext}
 use Rattle.machine_events.specs.Events.{may_bind}
 use Rattle.machine_events.proofs.Inherited.{property-below}
-use Rattle.checked_runs.proofs.Given.{given-is}
+use Rattle.machine_events.proofs.Judged.{given-is}
 
 -- a value as it reads is of the sort that it is of
 seen-sort : (objects : List Object) (v : Value) → sort_of (seen objects v) ≡ sort_of v

@@ -8,7 +8,7 @@ use Rattle.signatures.specs.declared.sig.Sig.{Sig}
 use Rattle.texts.specs.declared.connection.ConnectionType.{ConnectionType}
 use Rattle.texts.specs.declared.connection.Endpoints.{Endpoints as Named}
 use Rattle.script_lang.specs.declared.event.Event.{Event}
-use Rattle.script_lang.specs.declared.event.Event.TheVariants.{Loop, Turn, New, Adopt, Connect, Disconnect, Set, Bind, Emit as EmitEvent, Call as CallEvent, Block, Unblock, Delete as DeleteEvent, Later as LaterEvent}
+use Rattle.script_lang.specs.declared.event.Event.TheVariants.{Loop, Turn, New, Adopt, Move, Connect, Disconnect, Set, Bind, Emit as EmitEvent, Call as CallEvent, Block, Unblock, Delete as DeleteEvent, Later as LaterEvent}
 use Rattle.script_lang.specs.declared.event.Input.{Input}
 use Rattle.meta_model.specs.Loaded.{Loaded}
 use Rattle.meta_model.specs.Members.{Covers}
@@ -18,9 +18,12 @@ use Rattle.object_tree.specs.declared.life.Life.{Life}
 use Rattle.object_tree.specs.declared.object.Object.{Object}
 use Rattle.object_tree.specs.Creating.{begun as begun_life, fresh, initial_values}
 use Rattle.object_tree.specs.Family.{children_in, parent_of, leaves, joined_by, put_under, moved}
+use Rattle.object_tree.specs.Moving.{in_loop, all_in_loop}
 use Rattle.object_tree.specs.Objects.{change, change_life, with_life, blocked}
 use Rattle.object_tree.proofs.Changing.{part-change, life-part, length-change, get-change_other}
 use Rattle.object_tree.proofs.TypedObjects.{get-appended, class-same, shape-moved}
+use Rattle.event_loops.specs.Queues.{Queues, rehomed}
+use Rattle.delete_later.specs.declared.store.Store.{Store}
 use Rattle.prop_bindings.specs.declared.binding.Binding.{Binding}
 use Rattle.prop_bindings.specs.declared.place.Place.{Place}
 use Rattle.prop_bindings.specs.Bindings.{binding_at, without, replaced}
@@ -37,6 +40,7 @@ use Rattle.rank_check.specs.Valid.{IsValid}
 use Rattle.machine_state.specs.Accepting.{accepted}
 use Rattle.machine_state.specs.Connections.{joins_these}
 use Rattle.machine_state.specs.State.{State, IsIdle, Activation}
+use Rattle.machine_state.specs.Worlds.{with_store}
 use Rattle.machine_state.proofs.Due.{all-removed}
 use Rattle.machine_rules.specs.declared.ends.FoundEnds.{FoundEnds}
 use Rattle.machine_rules.specs.Good.{IsWell}
@@ -53,7 +57,10 @@ use Rattle.machine_events.specs.code.Judgement.{IsLiving}
 use Rattle.checked_runs.proofs.Invariant.{Stacked, AreClasses, AreOwned, IsOwned, IsWired, IsOf, IsSited, IsCovered, Holds}
 use Rattle.checked_runs.proofs.Nodes.{named-node, property-node, end-node}
 use Rattle.checked_runs.proofs.Ladder.{level-at}
-use Rattle.checked_runs.proofs.Given.{given-is, living-is, living-object, adopted-by, length-moved}
+use Rattle.machine_events.proofs.Changes.{adopted-by, length-moved}
+use Rattle.machine_events.proofs.Judged.{given-is}
+use Rattle.machine_events.proofs.Judging.Naming.{living-is, living-object}
+use Rattle.machine_events.proofs.Moving.{moved-by}
 use Rattle.checked_runs.proofs.Worlds.{Leaves, classes-left, all-changed, all-left}
 use Rattle.checked_runs.proofs.Rules.{writes-held, settles-held, begun-held, wired-by, deletes-held, schedules-held}
 
@@ -67,6 +74,14 @@ life-leaves {p} {classes} objects x f same = record {
   count = length-change x (with_life f) objects;
   children = λ owned o. subst (λ (l : List ℕ). AllByRecursion (IsOwned p classes o) l) (sym (part-change children_in x o (with_life f) objects (λ y. refl))) (owned o);
 }
+
+-- some move to another event loop
+in-loop-leaves : {p : Loaded} {classes : ℕ → Option ℕ} (home : ℕ) (os : List ℕ) (objects : List Object) → Leaves p classes objects (all_in_loop os home objects)
+in-loop-leaves home [] objects = record { living = λ o class is. is; count = refl; children = λ owned. owned }
+in-loop-leaves home (o ∷ os) objects =
+    let one = life-leaves objects o (in_loop home) (λ l. refl) in
+    let more = in-loop-leaves home os (change_life o (in_loop home) objects) in
+    record { living = λ k class is. one.living k class (more.living k class is); count = more.count ∙ one.count; children = λ owned. more.children (one.children owned) }
 
 -- one moves under a parent that may own it
 moved-leaves : {p : Loaded} {classes : ℕ → Option ℕ} (objects : List Object) (a c : ℕ) → IsOwned p classes a c → Leaves p classes objects (moved a c objects)
@@ -180,9 +195,9 @@ module _ {p : Loaded} {certificate : Certificate} (valid : IsValid p certificate
     stands : Stacked {p = p} {certificate = certificate} classes s.objects s.stack []
     stands = idle-stacked classes s.objects s.stack idle.empty
 
-    -- objects change, and no class or child is new
-    objects-held : (objects : List Object) → Leaves p classes s.objects objects → Holds p certificate classes (record (accepted s) { objects = objects })
-    objects-held objects left = record {
+    -- objects change, and no class or child is new; nor does it matter what waits
+    objects-held : (objects : List Object) (queues : Queues) → Leaves p classes s.objects objects → Holds p certificate classes (record (accepted s) { objects = objects; queues = queues })
+    objects-held objects queues left = record {
       covered = record { known = classes-left left covered.known; owned = left.children covered.owned; wired = covered.wired; sited = covered.sited };
       levels = [];
       stacked = idle-stacked classes objects s.stack idle.empty;
@@ -198,7 +213,7 @@ module _ {p : Loaded} {certificate : Certificate} (valid : IsValid p certificate
         begun-held valid sound classes (accepted s) t (length s.stack) s.stack o.number b.object m.number b.method vs (b.method).work [] r.0 covered b.is refl r.1 tt stands (omega arith) well.arguments b.gives
 
     blocked-held : {t : State} (name : List ℕ) (on : Bool) → block s name on (Ok t) → Holds p certificate classes t
-    blocked-held name on (goes_on o lives given) = let Family : State → Type 0 = λ u. Holds p certificate classes u in subst Family (sym (given-is given)) (objects-held (change_life o.number (blocked on) s.objects) (life-leaves s.objects o.number (blocked on) (λ l. refl)))
+    blocked-held name on (goes_on o lives given) = let Family : State → Type 0 = λ u. Holds p certificate classes u in subst Family (sym (given-is given)) (objects-held (change_life o.number (blocked on) s.objects) s.queues (life-leaves s.objects o.number (blocked on) (λ l. refl)))
 
     -- a connection is covered
     connection-wired : (e : Named (List ℕ)) (how : ConnectionType) (n : ℕ) (f : FoundEnds) → find_ends p s.objects e (Ok f) → Covers p f.from e.signal f.to e.method how.kind →
@@ -268,7 +283,13 @@ module _ {p : Loaded} {certificate : Certificate} (valid : IsValid p certificate
     event-held (Adopt parent child) well (goes_on a is_parent (goes_on c is_child (goes_on _ (so owns) (goes_on _ over (goes_on _ home (becomes x)))))) =
         let owned : IsOwned p classes a.number c.number = record { above = (a.it).class; is_above = known-living a (living-is is_parent); below = (c.it).class; is_below = known-living c (living-is is_child); owns = owns } in
         let Family : State → Type 0 = λ u. Holds p certificate classes u in
-        (classes, subst Family (sym x.gives) (adopted-by (λ (l : List Object). Holds p certificate classes (record (accepted s) { objects = l })) (record { covered = covered; levels = []; stacked = stands }) (objects-held (moved a.number c.number s.objects) (moved-leaves s.objects a.number c.number owned)) x.is))
+        (classes, subst Family (sym x.gives) (adopted-by (λ (l : List Object). Holds p certificate classes (record (accepted s) { objects = l })) (record { covered = covered; levels = []; stacked = stands }) (objects-held (moved a.number c.number s.objects) s.queues (moved-leaves s.objects a.number c.number owned)) x.is))
+    event-held (Move name loop) well (goes_on o lives (goes_on home is (goes_on _ root (goes_on _ alone (becomes x))))) =
+        let Family : State → Type 0 = λ u. Holds p certificate classes u in (
+          classes,
+          subst Family (sym x.gives) (moved-by (λ (stores : Store). Holds p certificate classes (with_store (accepted s) stores)) (record { covered = covered; levels = []; stacked = stands })
+              (λ os alone. objects-held (all_in_loop os home s.objects) (rehomed os home s.queues) (in-loop-leaves home os s.objects)) x.is),
+        )
     event-held (Connect e how) well (goes_on f both (goes_on _ (goes_on _ (so covers) rest) given)) =
         let Family : State → Type 0 = λ u. Holds p certificate classes u in (
           classes,

@@ -7,7 +7,6 @@ pub mod Worlds
 pub mod Followers
 pub mod Leading
 pub mod Rules
-pub mod Given
 pub mod Events
 pub mod Lacking
 pub mod Giving

@@ -8,7 +8,7 @@ use Rattle.signatures.specs.declared.value.Value.TheVariants as variant
 use Rattle.texts.specs.declared.connection.ConnectionType.{ConnectionType}
 use Rattle.texts.specs.declared.connection.Endpoints.{Endpoints as Named}
 use Rattle.script_lang.specs.declared.event.Event.{Event}
-use Rattle.script_lang.specs.declared.event.Event.TheVariants.{Loop, Turn as TurnEvent, New, Adopt, Connect as ConnectEvent, Disconnect as DisconnectEvent, Set, Bind, Emit as EmitEvent, Call as CallEvent, Block, Unblock, Delete as DeleteEvent, Later as LaterEvent}
+use Rattle.script_lang.specs.declared.event.Event.TheVariants.{Loop, Turn as TurnEvent, New, Adopt, Move, Connect as ConnectEvent, Disconnect as DisconnectEvent, Set, Bind, Emit as EmitEvent, Call as CallEvent, Block, Unblock, Delete as DeleteEvent, Later as LaterEvent}
 use Rattle.script_lang.specs.declared.event.Input.{Input}
 use Rattle.meta_model.specs.declared.object.MetaMethod.{MetaMethod}
 use Rattle.meta_model.specs.declared.object.MetaObject.{MetaObject}
@@ -70,7 +70,10 @@ use Rattle.machine_events.proofs.Settling.{bound-within}
 use Rattle.checked_runs.proofs.Invariant.{IsSited, IsCovered}
 use Rattle.checked_runs.proofs.Binding.{may-fit}
 use Rattle.checked_runs.proofs.Events.{HoldsSome, binding-sited}
-use Rattle.checked_runs.proofs.Given.{given-is, living-is, living-object, adopted-by}
+use Rattle.machine_events.proofs.Changes.{adopted-by}
+use Rattle.machine_events.proofs.Judged.{given-is}
+use Rattle.machine_events.proofs.Moving.{stores-agree}
+use Rattle.machine_events.proofs.Judging.Naming.{living-is, living-object}
 use Rattle.checked_runs.proofs.Nodes.{property-node}
 use Rattle.checked_runs.proofs.Rules.{bound-by}
 use Rattle.checked_runs.proofs.Settled.{agree-at, writes-agree, installs-agree}
@@ -243,6 +246,8 @@ module _ {p : Loaded} {certificate : Certificate} (valid : IsValid p certificate
       agree-at _ (given-is given) (created-agrees name c.number home c.it is.is)
   event-agrees t (Adopt parent child) held idle (goes_on a is_parent (goes_on c is_child (goes_on _ owns (goes_on _ over (goes_on _ home (becomes x)))))) =
       agree-at _ x.gives (adopted-by (λ (l : List Object). Agree p l s.bindings) agree (moved-agrees a.number c.number) x.is)
+  event-agrees t (Move name loop) held idle (goes_on o lives (goes_on home is (goes_on _ root (goes_on _ alone (becomes x))))) =
+      agree-at _ x.gives (stores-agree x.is agree)
   event-agrees t (ConnectEvent e how) held idle (goes_on f both (goes_on _ may given)) = agree-at _ (given-is given) agree
   event-agrees t (DisconnectEvent e) held idle (goes_on f both (goes_on _ may given)) = agree-at _ (given-is given) agree
   event-agrees t (Set name property i) held idle (goes_on o lives (goes_on q (finds asked) (goes_on v _ (goes_on _ (so fits) (becomes w))))) =

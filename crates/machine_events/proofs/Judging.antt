@@ -4,6 +4,7 @@ pub mod Reading
 pub mod Looping
 pub mod Creating
 pub mod Adopting
+pub mod Moving
 pub mod Ends
 pub mod Connecting
 pub mod Assigning

@@ -4,7 +4,7 @@ use Rattle.std.specs.Prelude.{IfOk}
 use Rattle.std.proofs.lemmas.List.Elements.{All-from_recursion}
 use Rattle.std.specs.Result.{is_err}
 use Rattle.script_lang.specs.declared.event.Event.{Event}
-use Rattle.script_lang.specs.declared.event.Event.TheVariants.{Loop, Turn, New, Adopt, Connect, Disconnect, Set, Bind, Emit, Call, Block, Unblock, Delete, Later}
+use Rattle.script_lang.specs.declared.event.Event.TheVariants.{Loop, Turn, New, Adopt, Move, Connect, Disconnect, Set, Bind, Emit, Call, Block, Unblock, Delete, Later}
 use Rattle.script_lang.specs.declared.event.Input.{Input}
 use Rattle.meta_model.specs.Loaded.{Loaded}
 use Rattle.meta_model.specs.Sound.{IsSound}
@@ -17,7 +17,8 @@ use Rattle.machine_state.specs.declared.fault.Fault.{Fault}
 use Rattle.machine_state.specs.declared.world.World.{World}
 use Rattle.machine_state.specs.Accepting.{accepted}
 use Rattle.machine_state.specs.State.{State, Activation}
-use Rattle.machine_state.specs.Worlds.{at, untouched}
+use Rattle.machine_state.specs.Worlds.{at, untouched, with_store}
+use Rattle.delete_later.specs.declared.store.Store.{Store}
 use Rattle.machine_rules.specs.Natives.{NativeAnswers}
 use Rattle.machine_rules.specs.code.Sound.{IsSoundWorld}
 use Rattle.machine_rules.specs.code.Keeps.{Grows, Keeps}
@@ -28,6 +29,7 @@ use Rattle.machine_events.specs.declared.events.invoke.Invocation.{Invocation}
 use Rattle.machine_events.specs.declared.events.invoke.Invocation.TheVariants.{Emit as EmitIt, Call as CallIt}
 use Rattle.machine_rules.specs.Judgement.{becomes, gives, goes_on}
 use Rattle.machine_events.proofs.Judged.{given-is}
+use Rattle.machine_events.proofs.Moving.{moved-by}
 use Rattle.machine_events.specs.Laws.{AlwaysSettled}
 use Rattle.machine_events.specs.Runs.{Run, done, goes, takes, Each, GoodRun}
 use Rattle.machine_events.specs.Takes.{judged, Takes, accepts, refuses}
@@ -65,6 +67,10 @@ counts-judged p (Adopt parent child) (goes_on _ a (goes_on _ c (goes_on _ owns (
     let connected = ap (λ (u : State). u.connected.last) x.gives in
     let posted = ap (λ (u : State). u.queues.posted) x.gives in
     record { events = events; connected = omega (arith, connected); posted = omega (arith, posted); grows = record { more = _; is = ap (λ (u : State). u.trace) x.gives } }
+counts-judged p {s = s} (Move name loop) (goes_on o lives (goes_on home is (goes_on _ root (goes_on _ alone (becomes x))))) =
+    let Family : State → Type 0 = λ u. Counts s u in
+    let same : Counts s (accepted s) = record { events = refl; connected = omega arith; posted = omega arith; grows = grows-by _ } in
+    subst Family (sym x.gives) (moved-by (λ (stores : Store). Counts s (with_store (accepted s) stores)) same (λ os alone. record { events = refl; connected = omega arith; posted = omega arith; grows = grows-by _ }) x.is)
 counts-judged p {s = s} (Disconnect e) (goes_on f named (goes_on _ is given)) =
     let Family : State → Type 0 = λ u. Counts s u in
     subst Family (sym (given-is given)) (record { events = refl; connected = omega arith; posted = omega arith; grows = grows-by _ })

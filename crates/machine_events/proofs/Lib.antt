@@ -1,9 +1,9 @@
-mod Changes
+pub mod Changes
 pub mod Running
-mod Judged
+pub mod Judged
 mod Taken
 mod Pushed
-mod Judging
+pub mod Judging
 pub mod Keeping
 pub mod Settling
 mod OneAnswer
@@ -14,6 +14,7 @@ pub mod TypedPaths
 pub mod Standing
 pub mod Possible
 mod Homes
+pub mod Moving
 pub mod Preservation
 pub mod Progress
 mod Stopping

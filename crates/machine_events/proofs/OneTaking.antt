@@ -21,6 +21,8 @@ use Rattle.machine_state.specs.declared.refusal.Refusal.{Refusal}
 use Rattle.machine_state.specs.Refusals.{refusal_number}
 use Rattle.machine_state.specs.Accepting.{accepted, refused}
 use Rattle.machine_state.specs.State.{State}
+use Rattle.machine_state.specs.Worlds.{store_of, with_store}
+use Rattle.delete_later.specs.declared.store.Store.{Store}
 use Rattle.machine_rules.proofs.OneRule.{begins-one, writes-one, installs-one, schedules-one}
 use Rattle.machine_events.specs.declared.events.invoke.Invocation.{Invocation}
 use Rattle.machine_events.specs.declared.events.invoke.Invocation.TheVariants.{Emit, Call}
@@ -31,11 +33,12 @@ use Rattle.machine_rules.specs.Settling.{Installs}
 use Rattle.machine_rules.specs.Good.{IsAcyclic}
 use Rattle.machine_events.specs.Laws.{IsAcyclicIn, OneJudgement, OneTaking}
 use Rattle.machine_events.specs.Takes.{judged, Takes, accepts, refuses}
-use Rattle.machine_events.specs.Events.{adopt, Adopts, assign, IsSiteOf, may_bind, bind, block, delete, later, connect, disconnect, find_ends, IsMethodOf, add_loop, turn, create, IsClassOf, IsHome, invoke}
+use Rattle.machine_events.specs.Events.{adopt, Adopts, move, MovesTo, assign, IsSiteOf, may_bind, bind, block, delete, later, connect, disconnect, find_ends, IsMethodOf, add_loop, turn, create, IsClassOf, IsHome, invoke}
 use Rattle.event_loops.specs.Queues.{Loop, IsNamed}
 use Rattle.machine_rules.proofs.OneAnswer.{one-find, one-check, one-gives, one-becomes, one-then, numbered-is}
 use Rattle.machine_rules.proofs.OneRule.{may-connect-one}
 use Rattle.machine_events.proofs.OneAnswer.{one-living, one-all-living, one-value, one-values, one-method, one-property, one-adopted}
+use Rattle.delete_later.proofs.Moving.{moved-once}
 
 one-class : {p : Loaded} {name : List ℕ} → IsSound p → (a b : Numbered MetaObject) → IsClassOf p name a → IsClassOf p name b → a ≡ b
 one-class {p} sound a b f g =
@@ -72,6 +75,14 @@ one-adopt : (p : Loaded) (s : State) (parent child : List ℕ) → HasOneAnswer 
 one-adopt p s parent child =
     one-then (one-living s.objects parent) (λ a. one-then (one-living s.objects child) (λ c.
     one-then one-check (λ owns. one-then one-check (λ over. one-then one-check (λ home. one-becomes (one-adopts (accepted s) a c))))))
+
+one-moves : (s : State) (o home : ℕ) (t u : State) → MovesTo s o home t → MovesTo s o home u → t ≡ u
+one-moves s o home t u f g = f.gives ∙ ap (λ (x : Store). with_store s x) (moved-once o home (store_of s) f.store g.store f.is g.is) ∙ sym g.gives
+
+one-move : (s : State) (name loop : List ℕ) → HasOneAnswer (move s name loop)
+one-move s name loop =
+    one-then (one-living s.objects name) (λ o. one-then (one-find one-loop) (λ home.
+    one-then one-check (λ root. one-then one-check (λ alone. one-becomes (one-moves (accepted s) o.number home)))))
 
 one-ends : (p : Loaded) (objects : List Object) (e : Named (List ℕ)) → IsSound p → HasOneAnswer (find_ends p objects e)
 one-ends p objects e sound =
@@ -137,6 +148,7 @@ one_judgement p s (event.Loop name) a b sound agree f g acyclic = one-add-loop s
 one_judgement p s (event.Turn name) a b sound agree f g acyclic = one-turn s name a b f g
 one_judgement p s (event.New name class loop) a b sound agree f g acyclic = one-create p s name class loop sound a b f g
 one_judgement p s (event.Adopt parent child) a b sound agree f g acyclic = one-adopt p s parent child a b f g
+one_judgement p s (event.Move name loop) a b sound agree f g acyclic = one-move s name loop a b f g
 one_judgement p s (event.Connect e how) a b sound agree f g acyclic = one-connect p s e how sound a b f g
 one_judgement p s (event.Disconnect e) a b sound agree f g acyclic = one-disconnect p s e sound a b f g
 one_judgement p s (event.Set name property i) a b sound agree f g acyclic = one-assign p s name property i sound agree a b f g

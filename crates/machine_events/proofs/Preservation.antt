@@ -3,7 +3,7 @@ use Rattle.std.proofs.Common.{◌≡◌, ℕ, suc, ◌+◌, ◌<◌, Bool, List,
 use Rattle.std.specs.List.{AllByRecursion, find}
 use Rattle.signatures.specs.declared.value.Value.{Value}
 use Rattle.script_lang.specs.declared.event.Event.{Event}
-use Rattle.script_lang.specs.declared.event.Event.TheVariants.{Loop, Turn, New, Adopt, Connect, Disconnect, Set, Bind, Emit as EmitEvent, Call as CallEvent, Block, Unblock, Delete as DeleteEvent, Later as LaterEvent}
+use Rattle.script_lang.specs.declared.event.Event.TheVariants.{Loop, Turn, New, Adopt, Move, Connect, Disconnect, Set, Bind, Emit as EmitEvent, Call as CallEvent, Block, Unblock, Delete as DeleteEvent, Later as LaterEvent}
 use Rattle.meta_model.specs.declared.object.MetaMethod.{MetaMethod}
 use Rattle.meta_model.specs.declared.object.Statement.{Statement}
 use Rattle.meta_model.specs.declared.effects.MetaEffects.{MetaEffects}
@@ -24,6 +24,8 @@ use Rattle.object_tree.specs.Family.{moved}
 use Rattle.object_tree.specs.Family.{without_life}
 use Rattle.object_tree.specs.Objects.{Lives, life_of, change_life, with_life, blocked}
 use Rattle.object_tree.proofs.Changing.{length-change}
+use Rattle.object_tree.specs.Moving.{all_in_loop}
+use Rattle.object_tree.proofs.Moving.{length-in_loop}
 use Rattle.object_tree.specs.Typed.{AreTyped, ReadAs}
 use Rattle.prop_bindings.specs.declared.binding.Binding.{Binding}
 use Rattle.prop_bindings.specs.declared.place.Place.{Place}
@@ -48,9 +50,12 @@ use Rattle.object_tree.specs.Objects.{home_of}
 use Rattle.event_loops.specs.declared.item.Item.{Item}
 use Rattle.event_loops.specs.declared.item.Item.TheVariants.{Call, Deletion}
 use Rattle.event_loops.specs.declared.item.Posted.{Posted}
-use Rattle.event_loops.specs.Queues.{Loop as ALoop, Queues, items_at, is_before, taken_before, with_loop}
+use Rattle.event_loops.specs.Queues.{Loop as ALoop, Queues, items_at, is_before, taken_before, with_loop, rehomed}
+use Rattle.delete_later.specs.declared.store.Store.{Store}
+use Rattle.delete_later.specs.Moving.{IsMoved}
 use Rattle.machine_state.specs.declared.turn.Turn.{Turn as ATurn}
 use Rattle.machine_state.specs.Turns.{running, reaches_at_once}
+use Rattle.machine_state.specs.Worlds.{store_of, with_store}
 use Rattle.machine_state.specs.Connections.{is_living, next_used}
 use Rattle.signatures.specs.declared.sig.Sig.{Sig}
 use Rattle.signatures.specs.Types.{Fits}
@@ -81,8 +86,9 @@ use Rattle.machine_rules.proofs.Fields.{life-unique, member-method}
 use Rattle.machine_rules.proofs.Differing.{differ-stay, differ-spared}
 use Rattle.machine_rules.proofs.Notifying.{all-notified}
 use Rattle.machine_events.proofs.Changes.{adopted-by, length-moved}
-use Rattle.machine_rules.proofs.Lists.{all-snoc}
+use Rattle.machine_rules.proofs.Lists.{all-append, all-snoc}
 use Rattle.machine_rules.proofs.Keeps.{all-stay, all-joined-still, rule-kept, begins-kept, writes-kept, installs-kept, schedules-kept, joined-by}
+use Rattle.machine_events.proofs.Moving.{moved-by, shape-in_loop, housed-in_loop, all-rehomed, length-rehomed}
 use Rattle.machine_events.proofs.Homes.{housed-more, housed-loop, waiting-loop, home-there, home-moved}
 use Rattle.machine_rules.proofs.Soundness.{AllFit, Fair, rule-fair, begins-fair, writes-fair, installs-fair, schedules-fair, all-wait-still}
 use Rattle.machine_rules.proofs.Waiting.{housed-same, home-change}
@@ -95,10 +101,6 @@ use Rattle.machine_rules.proofs.Hearing.{AllHeard, nobody, Heard, rule-heard, be
 run-steps : (p : Loaded) (c me : ℕ) (kinds : List ValueType) (statements : List Statement) → AreSound p me kinds statements → AllByRecursion (StepStands p c me kinds) (map Run statements)
 run-steps p c me kinds [] none_sound = tt
 run-steps p c me kinds (x ∷ rest) (next_sound one more) = (one, run-steps p c me kinds rest more)
-
-steps-append : (P : Step → Type 0) (first rest : List Step) → AllByRecursion P first → AllByRecursion P rest → AllByRecursion P (first ++ rest)
-steps-append P [] rest a b = b
-steps-append P (x ∷ first) rest a b = (a.0, steps-append P first rest a.1 b)
 
 -- an action that is written down names what the object's class has
 action-stands : {p : Loaded} {objects : List Object} {o : ℕ} {x : Object} {l : Life} {effects : MetaEffects} {it : Action} {line : ShownAction} → Lives objects o x l → IsShownAs p objects o effects it line → ActionStands p l.class effects it
@@ -198,7 +200,7 @@ module _ {p : Loaded} {s t : State} (sound : IsSound p) (well : IsWell p s t) wh
   does-stands natives typed o m arguments x rest below (Choose block) body is lower high does =
       let Stood : Step → Type 0 = StepStands p body.life.class body.declaring body.kinds in
       let chosen = run-steps p body.life.class body.declaring body.kinds block (possible sound typed body (Choose block) is) in
-      as-is does (body-with body (map Run block ++ rest) (steps-append Stood (map Run block) rest chosen body.steps.1), lower)
+      as-is does (body-with body (map Run block ++ rest) (all-append Stood (map Run block) rest chosen body.steps.1), lower)
   does-stands natives typed o m arguments x rest below (Link ends how) body is lower high does =
       as-is does.gives (linked-stands (Body o m arguments rest ∷ below) (kept_ends ends) how (names_of does.kept) does.answer (body-rest body, lower))
   does-stands natives typed o m arguments x rest below (Unlink ends) body is lower high does =
@@ -208,7 +210,7 @@ module _ {p : Loaded} {s t : State} (sound : IsSound p) (well : IsWell p s t) wh
   does-stands natives typed o m arguments x rest below (TakeAnswer effects) body is lower high does =
       let Stood : Step → Type 0 = StepStands p body.life.class body.declaring body.kinds in
       let answered = answer-steps p body.declaring body.kinds effects does.actions does.lines body.lives does.are_shown in
-      as-is does.gives (body-with body (map (Act effects) does.actions ++ rest) (steps-append Stood (map (Act effects) does.actions) rest answered body.steps.1), lower)
+      as-is does.gives (body-with body (map (Act effects) does.actions ++ rest) (all-append Stood (map (Act effects) does.actions) rest answered body.steps.1), lower)
   does-stands natives typed o m arguments x rest below Nothing body is lower high does = as-is does (body-rest body, lower)
 
   body-stands : (natives : NativeAnswers) → AreTyped p s.objects → (o m : ℕ) (arguments : List Value) (below : List Activation) (left : List Step) → BodyStands p s.objects o arguments left → AllByRecursion (Stands p s.objects) below → length s.stack ≡ suc (length below) → BodyRule p natives s o m arguments below t left → AllStand p t
@@ -342,6 +344,29 @@ adopted-stay {a} {c} {old = old} is = adopted-by (λ (l : List Object). StayTher
 adopted-housed : {a c : ℕ} {y : Life} {old new : List Object} (loops : List ALoop) → IsAdopted a c y old new → AreHoused old loops → AreHoused new loops
 adopted-housed {a} {c} {old = old} loops is housed = housed-same old _ loops loops (adopted-by (λ (l : List Object). (o : ℕ) → home_of l o ≡ home_of old o) (λ o. refl) (home-moved a c old) is) refl housed
 
+-- objects move, with what waits for them
+moved-invariant : {p : Loaded} {s : State} {o home : ℕ} {stores : Store} → IsIdle s → Invariant p s → IsMoved o home (store_of s) stores → Agree p stores.tree stores.bindings → Invariant p (with_store (accepted s) stores)
+moved-invariant {p} {s} {o} {home} idle up is =
+    let Family : Store → Type 0 = λ stores. Agree p stores.tree stores.bindings → Invariant p (with_store (accepted s) stores) in
+    moved-by Family
+    (λ agree. record { sound = record { agree = agree; joined = up.sound.joined; housed = up.sound.housed; waiting = up.sound.waiting }; stands = up.stands; emitted = up.emitted; heard = up.heard })
+    (λ os alone agree.
+    let objects : List Object = all_in_loop os home s.objects in
+    let stay : StayThere s.objects objects = same-stay s.objects objects (length-in_loop home os s.objects) (shape-in_loop home os s.objects) in
+    let queues : Queues = rehomed os home s.queues in
+    record {
+      sound = record {
+        agree = agree;
+        joined = all-joined-still p s.objects objects s.connected.connections stay up.sound.joined;
+        housed = housed-in_loop home os s.objects s.queues.loops queues.loops (length-rehomed os home s.queues) is.there up.sound.housed;
+        waiting = all-wait-still p s.objects objects queues.loops stay (all-rehomed p s.objects os home s.queues up.sound.waiting);
+      };
+      stands = none-stand p objects idle;
+      emitted = none-fit p objects idle;
+      heard = none-heard nobody objects s.connected.connections idle;
+    })
+    is
+
 -- a connection joins what it names
 connection-joined : {p : Loaded} {objects : List Object} (e : Named (List ℕ)) (how : ConnectionType) (n : ℕ) (f : FoundEnds) → IsSound p → find_ends p objects e (Ok f) → Fits e.signal e.method →
     Joined p objects (record { number = n; sender = f.ends.sender; signal = f.ends.signal; receiver = f.ends.receiver; method = f.ends.method; kind = how.kind; single = how.single })
@@ -390,6 +415,10 @@ judged-invariant {p} {s} (Adopt parent child) sound idle up (goes_on _ a (goes_o
     let Family : State → Type 0 = λ u. Invariant p u in
     let Agrees : State → Type 0 = λ u. Agree p u.objects u.bindings in
     subst Family (sym x.gives) (changed-invariant x.objects idle up (subst Agrees x.gives agree) (adopted-stay x.is) (adopted-housed s.queues.loops x.is up.sound.housed))
+judged-invariant {p} {s} (Move name loop) sound idle up (goes_on _ o (goes_on _ is (goes_on _ root (goes_on _ alone (becomes x))))) well agree =
+    let Family : State → Type 0 = λ u. Invariant p u in
+    let Agrees : State → Type 0 = λ u. Agree p u.objects u.bindings in
+    subst Family (sym x.gives) (moved-invariant idle up x.is (subst Agrees x.gives agree))
 judged-invariant {p} {s} (Connect e how) sound idle up (goes_on f named (goes_on _ (goes_on _ covers (goes_on _ (so fits) new)) given)) well agree =
     let Family : State → Type 0 = λ u. Invariant p u in
     subst Family (sym (given-is given)) (record {

@@ -12,7 +12,7 @@ use Rattle.prop_bindings.specs.Calls.{binding_of}
 use Rattle.prop_bindings.specs.Fits.{Agree, IsInOneLoop}
 use Rattle.delete_later.proofs.Agreeing.{agree-on, live-created}
 use Rattle.script_lang.specs.declared.event.Event.{Event}
-use Rattle.script_lang.specs.declared.event.Event.TheVariants.{Loop, Turn, New, Adopt, Connect, Disconnect, Set, Bind, Emit, Call, Block, Unblock, Delete, Later}
+use Rattle.script_lang.specs.declared.event.Event.TheVariants.{Loop, Turn, New, Adopt, Move, Connect, Disconnect, Set, Bind, Emit, Call, Block, Unblock, Delete, Later}
 use Rattle.script_lang.specs.declared.event.Input.{Input}
 use Rattle.machine_state.specs.declared.fault.Answer.{Answer}
 use Rattle.machine_state.specs.Accepting.{accepted}
@@ -32,6 +32,7 @@ use Rattle.machine_events.specs.Events.{may_bind, block, invoke}
 use Rattle.machine_events.proofs.Inherited.{property-below}
 use Rattle.machine_events.proofs.Judged.{given-is}
 use Rattle.machine_events.proofs.Judging.Adopting.{agree-adopted}
+use Rattle.machine_events.proofs.Moving.{stores-agree}
 use Rattle.machine_events.proofs.Judging.Blocking.{agree-blocked}
 
 -- a binding that may be installed binds a property of a value type
@@ -76,6 +77,8 @@ module _ {p : Loaded} {s t : State} (sound : IsSound p) (agree : Agree p s.objec
       settled-at _ (given-is given) (agree-on p s.objects (s.objects ++ z ∷ []) (live-created s.objects z) s.bindings typed agree)
   judged-agrees (Adopt parent child) acyclic (goes_on a above (goes_on c below (goes_on _ owns (goes_on _ over (goes_on _ home (becomes x)))))) =
       settled-at _ x.gives (agree-adopted agree x.is)
+  judged-agrees (Move name loop) acyclic (goes_on o lives (goes_on home is (goes_on _ root (goes_on _ alone (becomes x))))) =
+      settled-at _ x.gives (stores-agree x.is agree)
   judged-agrees (Connect e how) acyclic (goes_on f both (goes_on _ may given)) = settled-at _ (given-is given) agree
   judged-agrees (Disconnect e) acyclic (goes_on f both (goes_on _ may given)) = settled-at _ (given-is given) agree
   judged-agrees (Set name property i) acyclic (goes_on o lives (goes_on q asked (goes_on v given (goes_on _ fits (becomes x))))) =

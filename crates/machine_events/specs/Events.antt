@@ -25,13 +25,15 @@ use Rattle.event_loops.specs.Queues.{IsTaken, with_loop, IsNamed as IsLoop, Loop
 use Rattle.prop_bindings.specs.declared.binding.Binding.{Binding}
 use Rattle.prop_bindings.specs.Calls.{CoversBinding, binding_of}
 use Rattle.prop_bindings.specs.Fits.{InOneLoop}
+use Rattle.delete_later.specs.declared.store.Store.{Store}
+use Rattle.delete_later.specs.Moving.{IsMoved, IsBoundOut}
 use Rattle.script_lang.specs.declared.event.Input.{Input}
 use Rattle.script_lang.specs.declared.event.Input.TheVariants as input
 use Rattle.machine_state.specs.declared.refusal.Refusal.{Refusal}
-use Rattle.machine_state.specs.declared.refusal.Refusal.TheVariants.{NoObject, Dead, NoMember, LoopExists, NoLoop, NameUsed, NoClass, TooManyObjects, NotOwned, Cycle, OtherLoop, BadArgs, BadSource}
+use Rattle.machine_state.specs.declared.refusal.Refusal.TheVariants.{NoObject, Dead, NoMember, LoopExists, NoLoop, NameUsed, NoClass, TooManyObjects, NotOwned, Cycle, OtherLoop, BadArgs, BadSource, HasParent, Bound}
 use Rattle.machine_state.specs.Accepting.{accepted}
 use Rattle.machine_state.specs.State.{State}
-use Rattle.machine_state.specs.Worlds.{begun_turn, with_connection, without_connections}
+use Rattle.machine_state.specs.Worlds.{store_of, with_store, begun_turn, with_connection, without_connections}
 use Rattle.machine_state.specs.Turns.{main}
 use Rattle.machine_rules.specs.Judgement.{Numbered, numbered, Find, Gives, ◌>>=◌, Check, Becomes}
 use Rattle.machine_rules.specs.declared.ends.FoundEnds.{FoundEnds}
@@ -145,6 +147,27 @@ adopt p s parent child =
     Check Cycle (¬ Above s.objects c.number a.number) >>= λ _.
     Check OtherLoop (a.it.home ≡ c.it.home) >>= λ _.
     Becomes (Adopts (accepted s) a c)
+
+-- ---- `move O L` (Qt 6, `QObject::moveToThread`)
+
+-- The object and its living descendants live in the loop, and what waits for them does so there. No emission is under way,
+-- as an event is taken where nothing is going on: what `auto` does later goes by the loop in which the receiver lives then.
+pub record MovesTo (s : State) (o home : ℕ) (t : State) : Type 0 where
+  pub store : Store
+  pub is : IsMoved o home (store_of s) store
+  pub gives : t ≡ with_store s store
+
+-- a binding would join objects of two loops
+abbrev pub WouldPart : State → Numbered Life → ℕ → Type 0
+WouldPart s o home = (o.it.home ≢ home) × IsBoundOut o.number (store_of s)
+
+abbrev pub move : State → List ℕ → List ℕ → Result State Refusal → Type 0
+move s name loop =
+    living s.objects name >>= λ o.
+    Find NoLoop (IsLoop s.queues.loops loop) >>= λ home.
+    Check HasParent (o.it.parent ≡ None) >>= λ _.
+    Check Bound (¬ WouldPart s o home) >>= λ _.
+    Becomes (MovesTo (accepted s) o.number home)
 
 -- ---- `connect A S B M kind [unique] [single]` (Qt 6, "Signals & Slots")
 

@@ -12,7 +12,7 @@ use Rattle.machine_state.specs.State.{State, IsIdle}
 use Rattle.machine_state.specs.Worlds.{at, after}
 use Rattle.machine_state.specs.declared.world.World.{World}
 use Rattle.machine_events.specs.declared.events.invoke.Invocation.TheVariants.{Emit, Call}
-use Rattle.machine_events.specs.Events.{add_loop, turn, create, adopt, connect, disconnect, assign, bind, invoke, block, delete, later}
+use Rattle.machine_events.specs.Events.{add_loop, turn, create, adopt, move, connect, disconnect, assign, bind, invoke, block, delete, later}
 
 -- what becomes of an event: a state, or a refusal
 abbrev pub judged : Loaded → State → Event → Result State Refusal → Type 0
@@ -20,6 +20,7 @@ judged p s (event.Loop name) = add_loop s name
 judged p s (event.Turn name) = turn s name
 judged p s (event.New name class loop) = create p s name class loop
 judged p s (event.Adopt parent child) = adopt p s parent child
+judged p s (event.Move name loop) = move s name loop
 judged p s (event.Connect ends how) = connect p s ends how
 judged p s (event.Disconnect ends) = disconnect p s ends
 judged p s (event.Set name property i) = assign p s name property i

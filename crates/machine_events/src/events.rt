@@ -12,6 +12,7 @@ pub mod disconnect;
 pub mod ends;
 pub mod invoke;
 pub mod later;
+pub mod move_object;
 pub mod named;
 pub mod turn;
 pub mod values;

@@ -15,6 +15,7 @@ use crate::events::delete::delete;
 use crate::events::disconnect::disconnect;
 use crate::events::invoke::{Invocation, invoke};
 use crate::events::later::later;
+use crate::events::move_object::move_object;
 use crate::events::turn::turn;
 use machine_rules::Interpreter;
 use machine_state::{Answer, Fault, World};
@@ -59,6 +60,7 @@ fn run_event<N: Answering>(
         Event::Turn(name) => turn(interpreter, world, name),
         Event::New(name, class, home) => create(interpreter, world, name, class, home),
         Event::Adopt(parent, child) => adopt(interpreter, world, parent, child),
+        Event::Move(name, home) => move_object(interpreter, world, name, home),
         Event::Connect(named, how) => connect(interpreter, world, named, *how),
         Event::Disconnect(named) => disconnect(interpreter, world, named),
         Event::Set(name, property, input) => assign(interpreter, world, name, property, input),

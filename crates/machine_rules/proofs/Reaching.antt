@@ -6,7 +6,7 @@ use Rattle.meta_model.specs.Loaded.{Loaded}
 use Rattle.expressions.specs.declared.evaluation.EvalFault.{EvalFault}
 use Rattle.expressions.specs.declared.evaluation.EvalFault.TheVariants as eval
 use Rattle.machine_state.specs.declared.fault.Fault.{Fault}
-use Rattle.machine_state.specs.declared.fault.Fault.TheVariants.{BadType, TooDeep, BindingLoop, InUse, Steps, Memory, Stopped}
+use Rattle.machine_state.specs.declared.fault.Fault.TheVariants.{BadType, TooDeep, InUse, Steps, Memory}
 use Rattle.machine_state.specs.declared.world.World.{World}
 use Rattle.machine_state.specs.State.{State, Activation, IsIdle}
 use Rattle.machine_rules.specs.Rules.{Rule}

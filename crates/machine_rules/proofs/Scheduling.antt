@@ -1,6 +1,5 @@
 -- What the scheduling of a deletion comes to: nothing, or an item more.
 use Rattle.std.proofs.Common.{◌≡◌, ◌⊎◌, inl, inr, ℕ, Bool, true, false, List, [], ◌∷◌, ◌++◌, length, Option, Some, None, if◌then◌else◌, refl, sym, ap, ◌∙◌, append-nil}
-use Rattle.event_loops.specs.Queues.{HasName}
 use Rattle.object_tree.specs.declared.life.Life.{Life}
 use Rattle.object_tree.specs.Objects.{name_of}
 use Rattle.delete_later.specs.Scheduling.{deferred_to, scheduled_with}

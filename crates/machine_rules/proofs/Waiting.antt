@@ -76,7 +76,8 @@ pub all-dropped : (p : Loaded) (objects : List Object) (x : ℕ) (loops : List L
 all-dropped p objects x [] all = tt
 all-dropped p objects x (l ∷ loops) all = (all-filtered (λ (q : Posted). Waits p objects q.item) (λ q. not (is_for x q.item)) l.items all.0, all-dropped p objects x loops all.1)
 
-items-wait : (p : Loaded) (objects : List Object) (loops : List Loop) (home : ℕ) → AllWait p objects loops → AllByRecursion (λ (q : Posted). Waits p objects q.item) (items_at loops home)
+-- what waits in one loop
+pub items-wait : (p : Loaded) (objects : List Object) (loops : List Loop) (home : ℕ) → AllWait p objects loops → AllByRecursion (λ (q : Posted). Waits p objects q.item) (items_at loops home)
 items-wait p objects [] home all = tt
 items-wait p objects (l ∷ loops) zero all = all.0
 items-wait p objects (l ∷ loops) (suc home) all = items-wait p objects loops home all.1

@@ -1,6 +1,7 @@
 //! What is active below.
 
 ghost use Rattle.std.specs.Prelude.{◌≡◌, ◌<◌, [], ◌∷◌, length};
+ghost use Rattle.texts.specs.Limits.{most_depth};
 ghost use Rattle.machine_rules.specs.code.Active.{shows_body, frame_shows};
 
 use signatures::ObjectId;
@@ -60,7 +61,7 @@ impl<'b> Active<'b> {
 
     /// One activation over these: the body of this object, or no body.
     pub fn over(&'b self, body: Option<ObjectId>) -> Active<'b>
-        requires { length self.now < 256 }
+        requires { length self.now < most_depth }
         ensures { result ≡ body ∷ self.now }
     {
         Active {

@@ -2,6 +2,7 @@
 
 ghost use Rattle.std.specs.Prelude.{◌≡◌, ◌≤◌, IfOk, IfErr, MatchOption};
 ghost use Rattle.machine_rules.specs.code.Reaches.{CallFits, entry_of_call, MayNest, IsActivated, IsBarred};
+ghost use Rattle.texts.specs.Limits.{most_depth};
 ghost use Rattle.machine_rules.specs.There.{IsMember, IsField, LacksMember, LacksField};
 
 use crate::active::Active;
@@ -24,7 +25,7 @@ pub struct Interpreter<N> {
     pub natives: N,
     /// How many activations may nest, up to 256.
     pub depth: usize,
-    ghost bounded: { depth ≤ 256 },
+    ghost bounded: { depth ≤ most_depth },
 }
 
 /// What is found of a method that may begin.
@@ -39,7 +40,7 @@ pub struct Callee<'s> {
 impl<N: Answering> Interpreter<N> {
     /// A program with its natives; at most `depth` activations nest, up to 256.
     pub fn new(alloc: Global, meta: Meta, natives: N, depth: usize) -> Interpreter<N>
-        requires { depth ≤ 256 }
+        requires { depth ≤ most_depth }
         ensures meta { result.meta ≡ meta }
         ensures natives { result.natives ≡ natives }
         ensures depth { result.depth ≡ depth }

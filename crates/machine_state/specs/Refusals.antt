@@ -1,7 +1,7 @@
 -- The numbers of refused events (docs/commands.md, "Refusals").
 use Rattle.std.specs.Prelude.{ℕ}
 use Rattle.machine_state.specs.declared.refusal.Refusal.{Refusal}
-use Rattle.machine_state.specs.declared.refusal.Refusal.TheVariants.{NameUsed, NoObject, Dead, NoClass, NotOwned, Cycle, OtherLoop, TooManyObjects, NotWired, Incompatible, Exists, NoConnection, NoLoop, LoopExists, BadSource, BadArgs, NoMember}
+use Rattle.machine_state.specs.declared.refusal.Refusal.TheVariants.{NameUsed, NoObject, Dead, NoClass, NotOwned, Cycle, OtherLoop, TooManyObjects, NotWired, Incompatible, Exists, NoConnection, NoLoop, LoopExists, BadSource, BadArgs, NoMember, HasParent, Bound}
 
 abbrev pub refusal_number : Refusal → ℕ
 refusal_number NameUsed = 30
@@ -21,3 +21,5 @@ refusal_number LoopExists = 43
 refusal_number BadSource = 44
 refusal_number BadArgs = 45
 refusal_number NoMember = 46
+refusal_number HasParent = 48
+refusal_number Bound = 49

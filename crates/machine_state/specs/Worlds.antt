@@ -189,6 +189,10 @@ accepting w = after w (accepted (at w []))
 abbrev pub accepting_objects : World → List Object → World
 accepting_objects w objects = after w (record (accepted (at w [])) { objects = objects })
 
+-- .. its stores are these afterwards
+abbrev pub accepting_store : World → Store → World
+accepting_store w store = after w (with_store (accepted (at w [])) store)
+
 -- .. an object is blocked or may emit again, if it lives
 abbrev pub accepting_block : World → ℕ → Bool → World
 accepting_block w o on = accepting_objects w (change_life o (blocked on) w.store.tree)

@@ -1,13 +1,14 @@
 //! What the world becomes where an event is refused or accepted.
 
-ghost use Rattle.std.specs.Prelude.{◌≡◌, ◌∷◌, [], ◌<◌, ◌^◌, ◌-◌, OnOk, OnErr, IsErrAnd, IsTrue};
+ghost use Rattle.std.specs.Prelude.{◌≡◌, ◌∷◌, [], ◌<◌, ◌^◌, ◌-◌, OnOk, OnErr, IsErrAnd, IsSome, IsTrue};
+ghost use Rattle.delete_later.specs.Moving.{MovesOrNot, StayAgreeing};
 ghost use Rattle.delete_later.specs.Scheduling.{IsHoused};
 ghost use Rattle.event_loops.specs.Queues.{IsTaken};
 ghost use Rattle.object_tree.specs.Adopting.{AdoptsLiving, MayBeGone};
 ghost use Rattle.object_tree.specs.Creating.{Creates};
-ghost use Rattle.object_tree.specs.Objects.{IsGone};
+ghost use Rattle.object_tree.specs.Objects.{IsGone, life_of};
 ghost use Rattle.machine_state.specs.Connections.{are_joined};
-ghost use Rattle.machine_state.specs.Worlds.{IsUnscheduled, counted, accepting, accepting_objects, accepting_block, accepting_entries, accepting_connection, accepting_disconnection, accepting_loop, accepting_schedule, accepting_turn, GoesTo, Rejects};
+ghost use Rattle.machine_state.specs.Worlds.{IsUnscheduled, counted, accepting, accepting_store, accepting_objects, accepting_block, accepting_entries, accepting_connection, accepting_disconnection, accepting_loop, accepting_schedule, accepting_turn, GoesTo, Rejects};
 
 use crate::connecting::{join, part};
 use crate::endpoints::Endpoints;
@@ -16,6 +17,7 @@ use crate::fault::{Answer, Fault};
 use crate::refusal::Refusal;
 use crate::turn::Turn;
 use crate::world::World;
+use delete_later::MoveFault;
 use meta_objects::Meta;
 use object_tree::{AdoptFault, CreateFault};
 use signatures::{LoopId, Name, ObjectId};
@@ -98,6 +100,32 @@ impl World {
             return Err(AdoptFault::Memory);
         };
         match self.store.tree.adopt(meta, parent, child) {
+            Ok(()) => {
+                self.count_event();
+                Ok(())
+            }
+            Err(fault) => {
+                self.trace.pop();
+                Err(fault)
+            }
+        }
+    }
+
+    /// Moves a living object and its living descendants to another event loop for an accepted event, or answers the first of
+    /// `NoLoop`, `HasParent` and `Bound` that holds, or `Memory`; then nothing changes.
+    pub fn move_tree(&mut self, object: ObjectId, home: LoopId) -> Result<(), MoveFault>
+        requires left { 0 < self.old.left }
+        requires few { self.old.events < 2 ^ 63 }
+        requires lives { IsSome (life_of self.old.store.tree object) }
+        ensures stores { MovesOrNot object home self.old.store result self.new.store }
+        ensures agree { StayAgreeing self.old.store self.new.store }
+        ensures ok { OnOk result (self.new ≡ accepting_store self.old self.new.store) }
+        ensures err { OnErr result (self.new ≡ self.old) }
+    {
+        let Ok(()) = self.trace.accept(self.events + 1, []) else {
+            return Err(MoveFault::Memory);
+        };
+        match self.store.move_tree(object, home) {
             Ok(()) => {
                 self.count_event();
                 Ok(())

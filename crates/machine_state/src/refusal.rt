@@ -40,6 +40,10 @@ pub enum Refusal {
     BadArgs,
     /// The object's class has no such signal, slot or property.
     NoMember,
+    /// The object has a parent, with which it lives in one event loop.
+    HasParent,
+    /// A binding joins an object that would move to one that would not.
+    Bound,
 }
 
 impl Refusal {
@@ -65,6 +69,8 @@ impl Refusal {
             Refusal::BadSource => 44,
             Refusal::BadArgs => 45,
             Refusal::NoMember => 46,
+            Refusal::HasParent => 48,
+            Refusal::Bound => 49,
         }
     }
 }

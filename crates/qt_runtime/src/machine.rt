@@ -1,5 +1,6 @@
 ghost use Rattle.std.specs.Prelude.{◌≡◌, ◌↔◌, ◌<◌, ◌≤◌, ◌^◌, ◌∷◌, [], length, Err, IfOk, IfErr, true, false, None};
 ghost use Rattle.machine_state.specs.declared.fault.Fault.TheVariants.{Steps};
+ghost use Rattle.texts.specs.Limits.{most_depth};
 ghost use Rattle.machine_rules.specs.Natives.{KeepPromises};
 ghost use Rattle.qt_runtime.specs.Checked.{Claims, IsChecked, StopsAtLimit};
 ghost use Rattle.qt_runtime.specs.Seen.{AreKept, Completes, RefusesExactly, IsSettled, Stops, RunsAll, begun};
@@ -68,7 +69,7 @@ impl<N: Answering + Drop> Machine<N> {
         depth: usize,
         steps: u64,
     ) -> Result<Machine<N>, AllocError>
-        requires depth { (1 ≤ depth) × (depth ≤ 256) }
+        requires depth { (1 ≤ depth) × (depth ≤ most_depth) }
         requires steps { (1 ≤ steps) × (steps < 2 ^ 63) }
         requires promises { KeepPromises N.takes N.gives meta natives }
         ensures { IfOk result (λ machine. machine ≡ begun meta natives depth steps) }

@@ -29,7 +29,7 @@ impl Nature {
             Event::Emit(_, _, _) | Event::Call(_, _, _) => Nature::Lasting,
             Event::Loop(_) | Event::Adopt(_, _) | Event::Later(_) => Nature::Quiet,
             Event::Connect(_, _) | Event::Disconnect(_) => Nature::Quiet,
-            Event::Block(_) | Event::Unblock(_) => Nature::Quiet,
+            Event::Block(_) | Event::Unblock(_) | Event::Move(_, _) => Nature::Quiet,
         }
     }
 

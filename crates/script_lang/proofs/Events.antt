@@ -21,7 +21,7 @@ use Rattle.script_lang.specs.declared.event.Event.TheVariants as tree
 use Rattle.script_lang.specs.declared.event.Input.{Input}
 use Rattle.script_lang.specs.declared.event.Input.TheVariants as input
 use Rattle.script_lang.specs.declared.verb.Verb.{Verb}
-use Rattle.script_lang.specs.Grammar.{InputReading, literal, named, spell_input, tree_of_input, spell_verb, Member, spell_member, spell_invocation, spell_new, tree_of_new, spell_adopt, tree_of_adopt, spell_name_ends, tree_of_name_ends, spell_connect, tree_of_connect, spell_assignment, tree_of_assignment, spell_bind, tree_of_bind, Follow, spell_follow, Reading, spell_event}
+use Rattle.script_lang.specs.Grammar.{InputReading, literal, named, spell_input, tree_of_input, spell_verb, Member, spell_member, spell_invocation, spell_new, tree_of_new, spell_adopt, tree_of_adopt, spell_move, tree_of_move, spell_name_ends, tree_of_name_ends, spell_connect, tree_of_connect, spell_assignment, tree_of_assignment, spell_bind, tree_of_bind, Follow, spell_follow, Reading, spell_event}
 use Rattle.script_lang.specs.code.Grammar.{tree_of_invocation, ReadsFollow, ReadsEvent}
 use Rattle.script_lang.proofs.OneTree.{literal_unnamed, no_name_at_end, how_at_end, one_verb}
 
@@ -84,6 +84,12 @@ adopt_found {parent = parent} {child = child} n m =
     let p = n.spelled in let q = m.spelled in
     let x = n.tree_is in let y = m.tree_is in
     record { reading = record { parent = parent; child = child }; spelled = cc; tree_is = refl; only = λ e rest ends g. cc }
+
+pub move_found : {before between after : List Token} {object home : List ℕ} → Found spell_name (λ name. name) EndsAnywhere before object between → Found spell_name (λ name. name) EndsAnywhere between home after → Found spell_move tree_of_move IsAtEnd before (tree.Move object home) after
+move_found {object = object} {home = home} n m =
+    let p = n.spelled in let q = m.spelled in
+    let x = n.tree_is in let y = m.tree_is in
+    record { reading = record { object = object; home = home }; spelled = cc; tree_is = refl; only = λ e rest ends g. cc }
 
 pub connect_found : {before between after : List Token} {ends : Endpoints (List ℕ)} {how : ConnectionType} → Found spell_name_ends tree_of_name_ends EndsAnywhere before ends between → ReadsConnectionType no_separator between (Ok how) after → Found spell_connect tree_of_connect IsAtEnd before (tree.Connect ends how) after
 connect_found f h =

@@ -78,7 +78,7 @@ letters_of _ = []
 
 abbrev verbs : List Verb
 verbs =
-    verb.Loop ∷ verb.Turn ∷ verb.New ∷ verb.Adopt ∷ verb.Connect ∷ verb.Disconnect ∷ verb.Set ∷ verb.Emit ∷ verb.Call ∷ verb.Bind ∷ verb.Block ∷ verb.Unblock ∷ verb.Delete ∷ verb.Later ∷ []
+    verb.Loop ∷ verb.Turn ∷ verb.New ∷ verb.Adopt ∷ verb.Move ∷ verb.Connect ∷ verb.Disconnect ∷ verb.Set ∷ verb.Emit ∷ verb.Call ∷ verb.Bind ∷ verb.Block ∷ verb.Unblock ∷ verb.Delete ∷ verb.Later ∷ []
 
 -- the verb whose letters have this sum
 abbrev verb_with : ℕ → List Verb → Option Verb
@@ -146,6 +146,7 @@ one_tree_of_follow verb.Loop a b r s er es e = (cc, cc)
 one_tree_of_follow verb.Turn a b r s er es e = (cc, cc)
 one_tree_of_follow verb.New a b r s er es e = one_tree_of_new a b r s er es e
 one_tree_of_follow verb.Adopt a b r s er es e = (cc, cc)
+one_tree_of_follow verb.Move a b r s er es e = (cc, cc)
 one_tree_of_follow verb.Connect a b r s er es e = one_tree_of_connect a b r s er es e
 one_tree_of_follow verb.Disconnect a b r s er es e = one_tree_of_disconnect a b r s er es e
 one_tree_of_follow verb.Set a b r s er es e = one_tree_of_assignment a b r s er es e

@@ -5,6 +5,7 @@
 --         | "turn" Name
 --         | "new" Name Name [Name]
 --         | "adopt" Name Name
+--         | "move" Name Name
 --         | "connect" ends how
 --         | "disconnect" ends
 --         | "set" Name "." Name value
@@ -64,6 +65,7 @@ verb_token verb.Loop = token.Name (codes "loop")
 verb_token verb.Turn = token.Name (codes "turn")
 verb_token verb.New = token.Name (codes "new")
 verb_token verb.Adopt = token.Name (codes "adopt")
+verb_token verb.Move = token.Name (codes "move")
 verb_token verb.Connect = token.Word word.Connect
 verb_token verb.Disconnect = token.Word word.Disconnect
 verb_token verb.Set = token.Word word.Set
@@ -125,6 +127,17 @@ spell_adopt e after = token.Name e.parent ∷ token.Name e.child ∷ after
 
 abbrev pub tree_of_adopt : Adopt → Event
 tree_of_adopt e = tree.Adopt e.parent e.child
+
+-- `O L`, after `move`
+pub record Move : Type 0 where
+  pub object : List ℕ
+  pub home : List ℕ
+
+abbrev pub spell_move : Move → List Token → List Token
+spell_move e after = token.Name e.object ∷ token.Name e.home ∷ after
+
+abbrev pub tree_of_move : Move → Event
+tree_of_move e = tree.Move e.object e.home
 
 -- `A S B M`
 abbrev pub NameEnds : Type 0
@@ -205,6 +218,7 @@ Follow verb.Loop = List ℕ
 Follow verb.Turn = List ℕ
 Follow verb.New = New
 Follow verb.Adopt = Adopt
+Follow verb.Move = Move
 Follow verb.Connect = Connect
 Follow verb.Disconnect = NameEnds
 Follow verb.Set = Assignment
@@ -221,6 +235,7 @@ spell_follow verb.Loop = spell_name
 spell_follow verb.Turn = spell_name
 spell_follow verb.New = spell_new
 spell_follow verb.Adopt = spell_adopt
+spell_follow verb.Move = spell_move
 spell_follow verb.Connect = spell_connect
 spell_follow verb.Disconnect = spell_name_ends
 spell_follow verb.Set = spell_assignment
@@ -237,6 +252,7 @@ tree_of_follow verb.Loop = tree_of_loop
 tree_of_follow verb.Turn = tree_of_turn
 tree_of_follow verb.New = tree_of_new
 tree_of_follow verb.Adopt = tree_of_adopt
+tree_of_follow verb.Move = tree_of_move
 tree_of_follow verb.Connect = tree_of_connect
 tree_of_follow verb.Disconnect = tree_of_disconnect
 tree_of_follow verb.Set = tree_of_assignment
@@ -266,6 +282,7 @@ signatures_in (tree.Loop l) = []
 signatures_in (tree.Turn l) = []
 signatures_in (tree.New object class l) = []
 signatures_in (tree.Adopt parent child) = []
+signatures_in (tree.Move object l) = []
 signatures_in (tree.Connect ends how) = signatures_at ends
 signatures_in (tree.Disconnect ends) = signatures_at ends
 signatures_in (tree.Set object property value) = []

@@ -25,6 +25,8 @@ pub enum Event {
     New(Name, Name, Option<Name>),
     /// `adopt P O`: the parent's name, and the child's.
     Adopt(Name, Name),
+    /// `move O L`: the object, and the event loop that it is to live in.
+    Move(Name, Name),
     /// `connect A S B M kind unique single`: what is connected, and how.
     Connect(Endpoints<Name>, ConnectionType),
     /// `disconnect A S B M`: what is no longer connected.

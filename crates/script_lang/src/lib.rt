@@ -10,5 +10,5 @@ mod verb;
 
 pub use event::{Event, Input};
 pub use fault::ScriptFault;
-pub use reader::{one_answer, one_reading, read_script};
+pub use reader::{event_trail, one_answer, one_reading, read_script};
 pub use texts::{ConnectionType, Endpoints, Literal};

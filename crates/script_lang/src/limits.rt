@@ -14,7 +14,7 @@ pub fn event_has_few_types(event: &Event) -> bool
         Event::Connect(ends, _) => ends.have_few_types(),
         Event::Disconnect(ends) => ends.have_few_types(),
         Event::Loop(_) | Event::Turn(_) => true,
-        Event::New(_, _, _) | Event::Adopt(_, _) => true,
+        Event::New(_, _, _) | Event::Adopt(_, _) | Event::Move(_, _) => true,
         Event::Set(_, _, _) | Event::Emit(_, _, _) | Event::Call(_, _, _) => true,
         Event::Bind(_, _, _) => true,
         Event::Block(_) | Event::Unblock(_) => true,

@@ -10,7 +10,7 @@ use crate::limits::event_has_few_types;
 use crate::syntax::event;
 use sqlite_items::Items;
 use std::alloc::Global;
-use texts::{Cursor, MOST_BYTES, has_plain_reference, split_line, tokens};
+use texts::{Cursor, MOST_BYTES, Token, Trail, has_plain_reference, split_line, tokens};
 
 /// Reads the events of a script, in their order.
 ///
@@ -74,4 +74,13 @@ fn read_line(alloc: Global, line: &[u8]) -> Result<Option<Event>, LineFault>
     } else {
         Err(LineFault::NoEvent)
     }
+}
+
+/// The way of the reader of events through the tokens of a line: what was looked for where it came farthest.
+pub fn event_trail(alloc: Global, tokens: &[Token]) -> Option<Trail> {
+    let mut cursor = Cursor::recording(alloc, tokens);
+    if event(&mut cursor).is_ok() {
+        cursor.want_end();
+    }
+    cursor.into_trail()
 }

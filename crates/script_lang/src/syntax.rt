@@ -3,7 +3,7 @@
 ghost use Rattle.std.specs.Prelude.{ℕ, List, ◌<◌, length, OnOk};
 ghost use Rattle.script_lang.specs.Grammar.{InputReading, spell_input, tree_of_input, spell_verb, spell_member, spell_invocation};
 ghost use Rattle.script_lang.specs.code.Grammar.{tree_of_invocation, ReadsNames, ReadsFollow, ReadsEvent};
-ghost use Rattle.script_lang.specs.declared.verb.Verb.TheVariants.{Loop, Turn, New, Adopt, Connect, Disconnect, Set, Emit, Call, Bind, Block, Unblock, Delete, Later};
+ghost use Rattle.script_lang.specs.declared.verb.Verb.TheVariants.{Loop, Turn, New, Adopt, Move, Connect, Disconnect, Set, Emit, Call, Bind, Block, Unblock, Delete, Later};
 ghost use Rattle.texts.specs.code.Reading.{Reads, EndsAnywhere};
 ghost use Rattle.texts.specs.Reading.{spell_name};
 
@@ -11,7 +11,7 @@ use crate::event::{Event, Input};
 use crate::verb::Verb;
 use signatures::Name;
 use sqlite_items::Items;
-use texts::{Cursor, ParseFault, Part, Symbol, Token, both_ends, list};
+use texts::{Cursor, ParseFault, Part, Symbol, Token, Wanted, both_ends, list};
 
 /// Takes the event that the tokens are to be: what is left behind it has to be judged by the caller.
 pub fn event(cursor: &mut Cursor) -> Result<Event, ParseFault>
@@ -25,7 +25,7 @@ pub fn event(cursor: &mut Cursor) -> Result<Event, ParseFault>
 fn verb(cursor: &mut Cursor) -> Result<Verb, ParseFault>
     ensures { Reads spell_verb (λ verb. verb) EndsAnywhere cursor.old result cursor.new }
 {
-    let token = cursor.next()?;
+    let token = cursor.next_of(&[Wanted::Verb])?;
     match Verb::of(token) {
         Some(verb) => Ok(verb),
         None => Err(ParseFault::Syntax),
@@ -41,6 +41,7 @@ fn follow(cursor: &mut Cursor, verb: Verb) -> Result<Event, ParseFault>
         Verb::Turn => turn(cursor),
         Verb::New => new(cursor),
         Verb::Adopt => adopt(cursor),
+        Verb::Move => move_object(cursor),
         Verb::Connect => connect(cursor),
         Verb::Disconnect => disconnect(cursor),
         Verb::Set => set(cursor),
@@ -87,6 +88,15 @@ fn adopt(cursor: &mut Cursor) -> Result<Event, ParseFault>
     let parent = cursor.name()?;
     let child = cursor.name()?;
     Ok(Event::Adopt(parent, child))
+}
+
+/// `O L`, after `move`.
+fn move_object(cursor: &mut Cursor) -> Result<Event, ParseFault>
+    ensures { ReadsFollow Move cursor.old result cursor.new }
+{
+    let object = cursor.name()?;
+    let home = cursor.name()?;
+    Ok(Event::Move(object, home))
 }
 
 /// `A S B M kind [unique] [single]`, after `connect`.
@@ -209,7 +219,7 @@ fn input(cursor: &mut Cursor) -> Result<Input, ParseFault>
     ensures reads { Reads spell_input tree_of_input EndsAnywhere cursor.old result cursor.new }
     ensures shorter { OnOk result (length cursor.new < length cursor.old) }
 {
-    if let Some(Token::Name(_)) = cursor.rest().first() {
+    if let Some(Token::Name(_)) = cursor.ahead(&[Wanted::Name]).first() {
         Ok(Input::Object(cursor.name()?))
     } else {
         Ok(Input::Literal(cursor.literal()?))

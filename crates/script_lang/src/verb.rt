@@ -17,6 +17,8 @@ pub enum Verb {
     New,
     /// `adopt`
     Adopt,
+    /// `move`
+    Move,
     /// `connect`
     Connect,
     /// `disconnect`
@@ -80,6 +82,8 @@ impl Verb {
             Some(Verb::New)
         } else if letters == b"adopt".as_slice() {
             Some(Verb::Adopt)
+        } else if letters == b"move".as_slice() {
+            Some(Verb::Move)
         } else if letters == b"bind".as_slice() {
             Some(Verb::Bind)
         } else if letters == b"block".as_slice() {

@@ -86,7 +86,7 @@ fn event_flaw(alloc: Global, line: &[u8]) -> Result<Option<Flaw>, AllocError> {
         None => {
             let sentence = String::from_str(alloc, "this word begins no event")?;
             let advice = Some(
-                "an event begins with `loop`, `turn`, `new`, `adopt`, `connect`, `disconnect`, `set`, `emit`, `call`, `bind`, `block`, `unblock`, `delete` or `later`",
+                "an event begins with `loop`, `turn`, `new`, `adopt`, `connect`, `disconnect`, `set`, `emit`, `call`, `bind`, `block`, `unblock`, `move`, `delete` or `later`",
             );
             Ok(Some(Flaw {
                 at: place_of(line, marks.as_slice(), 0),

@@ -113,7 +113,7 @@ pub fn event(first: &Token) -> Option<&'static [Part]> {
         Token::Name(name) => match name.bytes() {
             b"loop" | b"turn" | b"block" | b"unblock" => Some(&[NAME]),
             b"new" => Some(&[NAME, NAME, OPTIONAL_NAME]),
-            b"adopt" => Some(&[NAME, NAME]),
+            b"adopt" | b"move" => Some(&[NAME, NAME]),
             b"bind" => Some(&[NAME, NAME, NAMES]),
             _ => None,
         },

@@ -9,8 +9,8 @@ pub fn meaning(number: u8) -> Option<&'static str>
 {
     match number {
         0..=18 => meaning_of_refusal(number),
-        19..=46 => meaning_of_event(number),
-        47..=66 => meaning_of_fault(number),
+        19..=49 => meaning_of_event(number),
+        50..=66 => meaning_of_fault(number),
         _ => meaning_of_no(number),
     }
 }
@@ -75,6 +75,10 @@ fn meaning_of_event(number: u8) -> Option<&'static str>
         44 => Some("the binding isn't declared, or asks other sources"),
         45 => Some("a value isn't of the declared type"),
         46 => Some("the object has no such property, signal or method, with as many parameters"),
+        48 => Some(
+            "the object has a parent, and only an object without one changes its event loop",
+        ),
+        49 => Some("a binding would join objects of two event loops"),
         _ => None,
     }
 }

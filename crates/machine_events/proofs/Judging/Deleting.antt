@@ -1,5 +1,5 @@
 -- `delete` and `later`.
-use Rattle.std.proofs.Common.{◌≡◌, ℕ, ◌<◌, Bool, true, false, List, [], ◌∷◌, Some, Result, Ok, MatchResult, refl, sym, ap, ◌∙◌, subst, arith, Option}
+use Rattle.std.proofs.Common.{◌≡◌, ℕ, ◌<◌, true, false, List, [], ◌∷◌, Some, Result, Ok, MatchResult, refl, sym, ap, ◌∙◌, subst, arith, Option}
 use Rattle.meta_model.specs.Loaded.{Loaded}
 use Rattle.delete_later.specs.declared.store.Store.{Store}
 use Rattle.delete_later.specs.Scheduling.{deferred_to, scheduled_in, scheduled_with}

@@ -8,6 +8,8 @@ use Rattle.object_tree.specs.declared.fault.AdoptFault.TheVariants as adopt
 use Rattle.object_tree.specs.declared.fault.CreateFault.{CreateFault}
 use Rattle.object_tree.specs.declared.fault.CreateFault.TheVariants as create
 use Rattle.object_tree.specs.declared.life.Life.{Life}
+use Rattle.delete_later.specs.declared.fault.MoveFault.{MoveFault}
+use Rattle.delete_later.specs.declared.fault.MoveFault.TheVariants as move
 use Rattle.prop_bindings.specs.declared.fault.BindFault.{BindFault}
 use Rattle.prop_bindings.specs.declared.fault.BindFault.TheVariants as bind
 use Rattle.texts.specs.declared.connection.ConnectionType.{ConnectionType}
@@ -21,7 +23,7 @@ use Rattle.machine_state.specs.declared.fault.Answer.TheVariants as answer
 use Rattle.machine_state.specs.declared.fault.Fault.{Fault}
 use Rattle.machine_state.specs.declared.fault.Fault.TheVariants.{BadType, BindingLoop, Memory}
 use Rattle.machine_state.specs.declared.refusal.Refusal.{Refusal}
-use Rattle.machine_state.specs.declared.refusal.Refusal.TheVariants.{NameUsed, NoClass, TooManyObjects, NotOwned, Cycle, OtherLoop, BadSource}
+use Rattle.machine_state.specs.declared.refusal.Refusal.TheVariants.{NameUsed, NoClass, TooManyObjects, NotOwned, Cycle, OtherLoop, BadSource, NoLoop, HasParent, Bound}
 use Rattle.machine_state.specs.declared.world.World.{World}
 use Rattle.machine_state.specs.Accepting.{accepted}
 use Rattle.machine_state.specs.State.{State}
@@ -82,6 +84,13 @@ adoption_reason adopt.NotOwned = Ok NotOwned
 adoption_reason adopt.Cycle = Ok Cycle
 adoption_reason adopt.OtherLoop = Ok OtherLoop
 adoption_reason adopt.Memory = Err Memory
+
+-- .. where no object moves
+abbrev pub moving_reason : MoveFault → Result Refusal Fault
+moving_reason move.NoLoop = Ok NoLoop
+moving_reason move.HasParent = Ok HasParent
+moving_reason move.Bound = Ok Bound
+moving_reason move.Memory = Err Memory
 
 -- .. where no binding is installed
 abbrev pub binding_reason : BindFault → Result Refusal Fault

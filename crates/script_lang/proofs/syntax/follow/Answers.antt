@@ -12,6 +12,9 @@ returns-in-New c = rw c.in-New.is c.new.ensures
 pub returns-in-Adopt : goal.returns-in-Adopt
 returns-in-Adopt c = rw c.in-Adopt.is c.adopt.ensures
 
+pub returns-in-Move : goal.returns-in-Move
+returns-in-Move c = rw c.in-Move.is c.move_object.ensures
+
 pub returns-in-Connect : goal.returns-in-Connect
 returns-in-Connect c = rw c.in-Connect.is c.connect.ensures
 

@@ -1,0 +1,55 @@
+//! `move`: an object moves to another event loop, with what is below it.
+
+ghost use Rattle.std.specs.Prelude.{◌≡◌, ◌<◌, None};
+ghost use Rattle.script_lang.specs.declared.event.Event.TheVariants.{Move};
+ghost use Rattle.machine_events.specs.code.Taking.{WorldInvariant, Answers};
+ghost use Rattle.machine_events.specs.code.Taking.{moving_reason};
+
+use crate::events::named::find_living;
+use crate::judgement::refuse;
+use delete_later::MoveFault;
+use machine_rules::Interpreter;
+use machine_state::{Answer, Fault, Refusal, World};
+use native_slots::Answering;
+use signatures::{Name, ObjectId};
+
+/// Moves an object and all that is below it to another event loop, with what waits for them.
+pub fn move_object<N: Answering>(
+    interpreter: &Interpreter<N>,
+    world: &mut World,
+    name: &Name,
+    event_loop: &Name,
+) -> Result<Answer, Fault>
+    requires left { 0 < world.old.left }
+    requires idle { world.old.turn ≡ None }
+    requires keeps { WorldInvariant interpreter.now.meta world.old }
+    ensures { Answers N.gives interpreter.now (Move name.now event_loop.now)
+        world.old world.new result }
+{
+    let object = match find_living(world, name) {
+        Ok((number, _)) => ObjectId::new(number),
+        Err(reason) => return refuse(world, reason),
+    };
+    let Some(home) = world.store.loops.find(event_loop) else {
+        return world.refuse(Refusal::NoLoop);
+    };
+    match world.move_tree(object, home) {
+        Ok(()) => Ok(Answer::Done),
+        Err(fault) => {
+            let refusal = reason(fault)?;
+            world.refuse(refusal)
+        }
+    }
+}
+
+/// Why the event is refused, or the run stops, where an object doesn't move.
+fn reason(fault: MoveFault) -> Result<Refusal, Fault>
+    ensures { result ≡ moving_reason fault }
+{
+    match fault {
+        MoveFault::NoLoop => Ok(Refusal::NoLoop),
+        MoveFault::HasParent => Ok(Refusal::HasParent),
+        MoveFault::Bound => Ok(Refusal::Bound),
+        MoveFault::Memory => Err(Fault::Memory),
+    }
+}
