@@ -1,9 +1,13 @@
 //! What is done with natives of one's own.
 
+ghost use Rattle.std.specs.Prelude.{IsTrue, IfOk};
+ghost use Rattle.native_slots.specs.Effects.{are_within};
+ghost use Rattle.worked_examples_calls.specs.Thermostat.{thermostat_effects};
+
 use crate::thermostat::{DeclaredNative, declared, judged};
 use anyhow::Result;
 use doubler::{class, twice};
-use native_slots::{NativeSlot, Natives};
+use native_slots::{Action, NativeSlot, Natives};
 use signatures::Value;
 use std::alloc::{AllocError, Global};
 
@@ -23,6 +27,23 @@ pub enum Reply {
     NoMemory,
 }
 
+/// The answer of the thermostat's closure.
+fn answer(
+    alloc: Global,
+    reply: Reply,
+    arguments: &[Value],
+    reads: &[Value],
+) -> Result<Vec<Action>, AllocError>
+    ensures { IfOk result (λ actions. IsTrue (are_within thermostat_effects actions.items)) }
+{
+    match (reply, arguments, reads) {
+        (Reply::NoMemory, _, _) => Err(AllocError),
+        (Reply::Judged, [Value::Int(degrees)], [Value::Int(wanted), Value::Bool(heating)]) =>
+            judged(alloc, *degrees, *wanted, *heating),
+        _ => Ok(Vec::new(alloc)),
+    }
+}
+
 /// Performs a task with the native of a thermostat.
 pub fn with_thermostat(alloc: Global, reply: Reply, task: &mut impl Task) -> Result<()> {
     let DeclaredNative {
@@ -31,12 +52,7 @@ pub fn with_thermostat(alloc: Global, reply: Reply, task: &mut impl Task) -> Res
         effects,
     } = declared(alloc)?;
     let work = Box::new(alloc, move |arguments: &[Value], reads: &[Value]| {
-        match (reply, arguments, reads) {
-            (Reply::NoMemory, _, _) => Err(AllocError),
-            (Reply::Judged, [Value::Int(degrees)], [Value::Int(wanted), Value::Bool(heating)]) =>
-                judged(alloc, *degrees, *wanted, *heating),
-            _ => Ok(Vec::new(alloc)),
-        }
+        answer(alloc, reply, arguments, reads)
     })?;
     let mut slots = Vec::new(alloc);
     slots.push(NativeSlot::new(class, sig, effects, work))?;
