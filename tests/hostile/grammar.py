@@ -16,7 +16,7 @@ RESERVED = set(
 KINDS = {b"auto", b"direct", b"queued"}
 # A declaration, and the most of it: in a class, or in a program.
 MOST_IN_CLASS = {b"property": 32, b"method": 64}
-MOST = {b"class": 64, b"native": 64, b"wire": 1000, b"owns": 1000, b"binding": 1000}
+MOST = {b"class": 256, b"native": 64, b"wire": 1000, b"owns": 1000, b"binding": 1000}
 
 
 class Refused(Exception):

@@ -14,7 +14,7 @@ use Rattle.texts.specs.declared.program.Program.{Program}
 
 -- classes of a program
 abbrev pub most_classes : ℕ
-most_classes = 64
+most_classes = 256
 
 -- signals, slots and natives of a class, counted together
 abbrev pub most_methods : ℕ

@@ -9,7 +9,7 @@ use slot_lang::body_has_few_parameters;
 use texts::{Class, Program, Property, Slot, SlotWork, Wire, has_few_types};
 
 /// Classes of a program.
-const MOST_CLASSES: usize = 64;
+const MOST_CLASSES: usize = 256;
 /// Signals, slots and natives of a class, counted together.
 const MOST_METHODS: usize = 64;
 /// Properties of a class.
@@ -148,7 +148,7 @@ pub fn has_few_parameters(program: &Program) -> bool
             .all(|site| site.formals.len() <= MOST_PARAMETERS)
 }
 
-/// Whether the program has at most 64 classes, 64 methods and 32 properties in each, 64 natives in all of them, 1,000
+/// Whether the program has at most 256 classes, 64 methods and 32 properties in each, 64 natives in all of them, 1,000
 /// wires, 1,000 owns and 1,000 bindings.
 pub fn is_within_limits(program: &Program) -> bool
     ensures { IsTrue result ↔ IsWithinLimits program.now }

@@ -25,7 +25,7 @@ use texts::{
 /// - `BadType`: a reference isn't const, as `T &`.
 /// - `TooMany`: a signal, a slot, a native, a signature of a wire, in a body, or after `notify` or `emits` has more than
 ///   8 parameters, or a binding more than 8 formal sources.
-/// - `TooLarge`: there are more than 64 classes, 64 natives, 1,000 wires, 1,000 owns or 1,000 bindings, or a class has
+/// - `TooLarge`: there are more than 256 classes, 64 natives, 1,000 wires, 1,000 owns or 1,000 bindings, or a class has
 ///   more than 64 signals, slots and natives or more than 32 properties.
 ///
 /// `Memory`, that a growth of memory was refused, can come at any point.

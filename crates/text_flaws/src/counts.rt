@@ -20,7 +20,8 @@ impl Counted {
     /// How many there may be: of methods and properties in a class, of the others in a program.
     fn most(self) -> u32 {
         match self {
-            Counted::Class | Counted::Method | Counted::Native => 64,
+            Counted::Class => 256,
+            Counted::Method | Counted::Native => 64,
             Counted::Property => 32,
             Counted::Wire | Counted::Owns | Counted::Binding => 1000,
         }
@@ -29,7 +30,7 @@ impl Counted {
     /// That this declaration is one too many.
     pub fn sentence(self) -> &'static str {
         match self {
-            Counted::Class => "this is the 65th class: a program has at most 64",
+            Counted::Class => "this is the 257th class: a program has at most 256",
             Counted::Method => {
                 "this is the 65th method of its class: signals, slots and natives are at most 64"
             }

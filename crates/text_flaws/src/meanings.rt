@@ -27,7 +27,7 @@ fn meaning_of_refusal(number: u8) -> Option<&'static str>
             "at most 32 brackets are open at once, and at most 200 tokens stand together without `;`, `{` or `}`",
         ),
         7 => Some(
-            "a text has at most 1048576 bytes, a program at most 64 classes, 64 natives, 1000 wires, 1000 owns and 1000 bindings, and a class at most 64 methods and 32 properties",
+            "a text has at most 1048576 bytes, a program at most 256 classes, 64 natives, 1000 wires, 1000 owns and 1000 bindings, and a class at most 64 methods and 32 properties",
         ),
         10 => Some(
             "two classes have one name, or a class is named `QObject`, `int`, `bool` or `QString`",
