@@ -3,6 +3,7 @@
 
 - each prefix of a worked program, its certificate and its script;
 - random bytes, random tokens, and worked rows with changes: what is certified is checked and run, too;
+- runs of random events with many moves between event loops, whose whole trace a model gives (moves.py);
 - random words;
 - the worst texts of each form, of a MiB, and what nests deep, each within a bound of time;
 - inputs of 64 MiB and more, and one without end;
@@ -23,13 +24,14 @@ sys.path.insert(0, os.path.dirname(os.path.dirname(os.path.abspath(__file__))))
 import answers
 import built
 import case_files
+import moves
 import streams
 import texts
 
 SEED = 20260101
 BOUND = float(os.environ.get("BOUND") or 10)
 # How many inputs of each kind are tried, and so many are one piece of work for a processor.
-SIZES = {"random_bytes": 1500, "random_tokens": 3000, "changed": 6000, "certified": 1500, "words": 1000}
+SIZES = {"random_bytes": 1500, "random_tokens": 3000, "changed": 6000, "certified": 1500, "moves": 400, "words": 1000}
 PIECE = 50
 # A changed row of more bytes tells no more.
 LARGEST_ROW = 20000
@@ -140,6 +142,20 @@ class Attack:
             other = self.try_one(["run", "--unchecked", bound] + STEPS, case_files.joined([program, script]), count)
             given = f"program {built.shown(program)}, script {built.shown(script)}"
             count.check(ran == other, lambda: f"{given}: {ran}, unchecked {other}")
+
+    # ---- moves
+
+    def moves(self, number, rng, count):
+        """The trace is the model's, without a certificate and with the one that `certify` gives."""
+        certificate = self.bench.run(self.programs[0], ["certify"], moves.PROGRAM).output
+        for _ in range(PIECE):
+            script, trace = moves.script(rng)
+            for program in self.programs:
+                for words, texts in (["run", "--unchecked", "256"], []), (["run"], [certificate]):
+                    text = case_files.joined([moves.PROGRAM, *texts, script])
+                    found = self.bench.run(program, words, text)
+                    holds = (found.status, found.output) == (0, trace)
+                    count.check(holds, lambda: f"{words}, script {script}: {found}, and the model: {trace}")
 
     # ---- words
 
