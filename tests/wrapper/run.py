@@ -1,0 +1,174 @@
+#!/usr/bin/env python3
+"""Runs `./gammonfig` as a person does, with files, on standard input and on a terminal, over the programs that `rt ci` built:
+what reaches the program, what comes back, and what the wrapper says of its own (docs/commands.md, "Files").
+
+Usage: tests/wrapper/run.py. The last line is `N passed, M failed`."""
+import os
+import pty
+import shutil
+import subprocess
+import sys
+import tempfile
+
+sys.dont_write_bytecode = True
+sys.path.insert(0, os.path.dirname(os.path.dirname(os.path.abspath(__file__))))
+import built
+
+PROGRAMS = ["gammonfig", "qt_tools"]
+LAMP = """class Lamp {
+    property int level notify changed(int);
+    signal changed(int);
+    slot dim(int v) { set this.level = v; }
+}
+"""
+LOOSE = LAMP.replace("(int v)", "(int v").replace("}\n", "}")
+CYCLE = LAMP + "wire Lamp changed(int) -> Lamp dim(int) direct;\n"
+SCRIPT = "new a Lamp\ncall a.dim(3)\n"
+TRACE = "event 1\nevent 2\n1 call a.dim(3)\n2 set a.level 3\n3 emit a.changed(3)\n"
+USAGE = "usage\n"
+
+
+class Place:
+    """A folder with files, and a cache in which the programs stand as if they had been built for these very sources."""
+
+    def __init__(self):
+        self.folder = tempfile.mkdtemp(prefix="gammonfig-wrapper-")
+        cache = f"{self.folder}/cache/gammonfig"
+        os.makedirs(cache)
+        for name in PROGRAMS:
+            shutil.copy(f"{built.ROOT}/crates/{name}/out/{name}", f"{cache}/{name}")
+            script = f'program={name}; . "{built.ROOT}/bin/build.sh"; sources'
+            with open(f"{cache}/{name}.sum", "wb") as file:
+                file.write(subprocess.run(["bash", "-c", script], capture_output=True, check=True).stdout)
+        # No toolchain is found: what isn't built can't be built.
+        self.environment = {"PATH": "/usr/local/bin:/usr/bin:/bin", "XDG_CACHE_HOME": f"{self.folder}/cache"}
+        self.environment["PATH"] = without_toolchain(self.environment["PATH"], self.folder)
+
+    def write(self, files):
+        for name, text in files.items():
+            with open(f"{self.folder}/{name}", "w") as file:
+                file.write(text)
+
+    def run(self, words, text=None, program=None):
+        """The status, standard output and standard error of the wrapper with these words, or of a program."""
+        command = [program] if program else ["bash", f"{built.ROOT}/gammonfig"]
+        given = {"input": text.encode()} if isinstance(text, str) else {"stdin": text or subprocess.DEVNULL}
+        found = subprocess.run(
+            command + words, cwd=self.folder, env=self.environment, capture_output=True, timeout=built.PATIENCE, **given
+        )
+        return found.returncode, found.stdout.decode(), found.stderr.decode()
+
+
+def without_toolchain(path, folder):
+    """The same commands by links, but for `rt`."""
+    tools = f"{folder}/tools"
+    os.makedirs(tools)
+    for place in path.split(":"):
+        for name in os.listdir(place) if os.path.isdir(place) else ():
+            if name != "rt" and not os.path.lexists(f"{tools}/{name}"):
+                os.symlink(f"{place}/{name}", f"{tools}/{name}")
+    return tools
+
+
+class Tests:
+    def __init__(self):
+        self.place, self.count = Place(), built.Count()
+        certificate = self.program(["certify"], LAMP)
+        self.place.write(
+            {
+                "app.gf": LAMP,
+                "app.gfc": certificate,
+                "session.gfs": SCRIPT,
+                "open.gfs": SCRIPT[:-1],
+                "cycle.gf": CYCLE,
+                "loose.gf": LOOSE,
+                "wrong.gfs": SCRIPT + "cal a.dim(4)\n",
+                "flat.gfc": certificate.replace("bound 3", "bound 2"),
+                "parted.gf": LAMP + "%%\n" + SCRIPT,
+                "blanks.txt": LAMP + "%% \n" + SCRIPT,
+                "a b.gf": LOOSE,
+            }
+        )
+
+    def program(self, words, text, name="gammonfig"):
+        """What the program itself writes on standard output."""
+        return self.place.run(words, text, f"{built.ROOT}/crates/{name}/out/{name}")[1]
+
+    def check(self, words, status, output, *errors, text=None):
+        """The words come to this status and output; each of these texts is on standard error, and nothing where there is none."""
+        found = self.place.run(words, text)
+        holds = found[:2] == (status, output) and all(it in found[2] for it in errors) and bool(errors) == bool(found[2])
+        self.count.check(holds, lambda: f"{words}: {found}, wanted {(status, output, errors)}")
+
+    def files(self):
+        certificate = self.program(["certify"], LAMP)
+        self.check(["certify", "app.gf"], 0, certificate)
+        self.check(["meta", "app.gf"], 0, self.program(["meta"], LAMP))
+        self.check(["check", "app.gf", "app.gfc"], 0, "yes\n")
+        self.check(["run", "app.gf", "app.gfc", "session.gfs"], 0, TRACE)
+        self.check(["run", "--unchecked", "9", "app.gf", "session.gfs"], 0, TRACE)
+        self.check(["run", "--unchecked", "9", "app.gf", "open.gfs"], 0, TRACE)
+        self.check(["run", "--unchecked", "2", "app.gf", "session.gfs"], 4, TRACE[:48] + "fault 61\n", "fault 61")
+        self.check(["run", "--steps", "1", "app.gf", "app.gfc", "session.gfs"], 4, TRACE[:8] + "fault 64\n", " at session.gfs:2:1\n")
+        self.check(["certify", "cycle.gf"], 3, self.program(["certify"], CYCLE), "no certificate")
+
+    def places(self):
+        """What is said of a text names its file and its own line."""
+        self.check(["meta", "loose.gf"], 2, "refused 5\n", " at loose.gf:4:")
+        self.check(["meta", "a b.gf"], 2, "refused 5\n", " at a b.gf:4:")
+        words = ["run", "app.gf", "app.gfc", "wrong.gfs"]
+        self.check(words, 2, "refused 16 line 3\n", " at wrong.gfs:3:1\n")
+        self.check(["check", "app.gf", "flat.gfc"], 3, "no 76\n", "flat.gfc:12 gives `Lamp.dim(int)` the rank 2")
+
+    def refused(self):
+        """What is no file, no text or no command line is refused before anything runs."""
+        self.check(["certify", "none.gf"], 2, "", "none.gf: this file can't be read")
+        self.check(["certify", "."], 2, "", ".: this file can't be read")
+        self.check(["certify", "parted.gf"], 2, "", "parted.gf:6: a line `%%`")
+        for words in (["certify", "app.gf", "app.gfc"], ["run", "app.gf", "session.gfs"], ["run", "--unchecked", "257", "app.gf"]):
+            self.check(words, 1, USAGE, "this is no command")
+        for words in (["run", "--steps", "0"], ["certify", "--fast"], ["draw", "app.gf"], ["graph", "--json", "app.gf", "app.gf"]):
+            self.check(words, 1, USAGE, "this is no command")
+        self.check([], 1, USAGE, "a runtime of signals and slots")
+
+    def input(self):
+        """Standard input reaches the program as it is."""
+        self.check(["run", "--unchecked", "9"], 0, TRACE, text=LAMP + "%%\n" + SCRIPT)
+        with open(f"{self.place.folder}/blanks.txt") as file:
+            self.check(["run", "--unchecked", "9"], 1, USAGE, "line 6 of the input: a line `%%` with blanks", text=file)
+        for _, words, text, output, status in built.examples():
+            self.check(words, status, output.decode(), *([""] if status else []), text=text.decode())
+
+    def terminal(self):
+        """On a terminal the wrapper says what it waits for."""
+        ours, theirs = pty.openpty()
+        os.write(ours, LAMP.encode() + b"\x04")
+        self.check(["certify"], 0, self.program(["certify"], LAMP), "waiting for a program", text=theirs)
+        os.close(ours)
+        os.close(theirs)
+
+    def graph(self):
+        """The words of `graph` go to its own program."""
+        self.check(["graph", "app.gf"], 0, self.program(["graph"], LAMP, "qt_tools"))
+        words = ["graph", "--json", "--class", "Lamp", "--from", "Lamp.dim"]
+        self.check(words + ["app.gf"], 0, self.program(words, LAMP, "qt_tools"))
+        self.check(["graph", "--from", "Lamp.none", "app.gf"], 1, "", "no class or member")
+        self.check(["graph", "loose.gf"], 2, "", "refused with 5")
+
+    def built(self):
+        """Where a program isn't built and there is no toolchain, a sentence says so."""
+        os.remove(f"{self.place.folder}/cache/gammonfig/gammonfig")
+        self.check(["certify", "app.gf"], 1, "", "isn't built here yet")
+        self.check(["--help"], 0, self.place.run(["-h"])[1])
+
+
+def main():
+    tests = Tests()
+    for part in ("files", "places", "refused", "input", "terminal", "graph", "built"):
+        getattr(tests, part)()
+    shutil.rmtree(tests.place.folder, ignore_errors=True)
+    tests.count.end()
+
+
+if __name__ == "__main__":
+    main()
