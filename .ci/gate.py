@@ -1,13 +1,14 @@
 #!/usr/bin/env python3
-"""The merge gate: `rt ci`, and then what is tried on the programs that it built, tests/memory and tests/hostile. The last line
-is `N passed, M failed` over all three. Where `rt ci` fails nothing is tried, and the last line has its numbers."""
+"""The merge gate: `rt ci`, and then what is tried on the programs that it built: the second program's cases, the wrapper, want
+of memory and hostile input. The last line is `N passed, M failed` over all of these. Where `rt ci` fails
+nothing is tried, and the last line has its numbers."""
 import os
 import re
 import subprocess
 import sys
 
 ROOT = os.path.dirname(os.path.dirname(os.path.abspath(__file__)))
-DRIVERS = ["tests/memory/sweep.py", "tests/hostile/attack.py"]
+DRIVERS = ["tests/tools/run.py", "tests/wrapper/run.py", "tests/memory/sweep.py", "tests/hostile/attack.py"]
 NUMBERS = re.compile(r"(\d+) passed, (\d+) failed")
 
 

@@ -1,0 +1,172 @@
+//! What is drawn: nodes with their ranks, edges, and those on the way of the reason why there is no certificate.
+
+use crate::edge::{Edge, Edges};
+use crate::fault::GraphFault;
+use crate::part::{Part, drawn, is_marked};
+use effect_scan::{Node, Scan};
+use meta_objects::Meta;
+use rank_make::{Why, make};
+use sqlite_items::Items;
+use std::alloc::{AllocError, Global};
+
+/// Whether a program has a certificate.
+#[derive(Clone, Copy, Debug, PartialEq, Eq)]
+pub enum Verdict {
+    /// It has one, with this bound.
+    Bound(u32),
+    /// It has none, for this reason, as `certify` names it.
+    No(&'static str),
+}
+
+/// A node that is drawn.
+#[derive(Clone, Copy, Debug, PartialEq, Eq)]
+pub struct DrawnNode {
+    /// Its number among all nodes.
+    pub number: usize,
+    /// The member that it is.
+    pub node: Node,
+    /// Its rank, where the program has a certificate.
+    pub rank: Option<u32>,
+    /// Whether it is one of those that the reason names.
+    pub is_marked: bool,
+}
+
+/// An edge that is drawn.
+#[derive(Clone, Copy, Debug, PartialEq, Eq)]
+pub struct DrawnEdge {
+    pub edge: Edge,
+    /// Whether it is on the way that the reason names.
+    pub is_marked: bool,
+}
+
+/// A graph, or a part of one.
+#[derive(Drop)]
+pub struct Drawing<'m> {
+    pub meta: &'m Meta,
+    pub verdict: Verdict,
+    /// In the order of nodes: class by class.
+    pub nodes: Vec<DrawnNode>,
+    /// Those between the nodes, in the order of the nodes that they lead from.
+    pub edges: Vec<DrawnEdge>,
+}
+
+/// What a maker of certificates finds of a program.
+#[derive(Drop)]
+struct Finding {
+    verdict: Verdict,
+    /// The ranks of all nodes, by number, where there is a certificate.
+    ranks: Vec<u32>,
+    /// The nodes that lead from one to the next, where these are why there is none.
+    chain: Items<Node>,
+}
+
+impl<'m> Drawing<'m> {
+    /// What is drawn of a program that loads.
+    pub fn of(alloc: Global, meta: &'m Meta, part: Part<'_>) -> Result<Drawing<'m>, GraphFault> {
+        let scan = Scan::of(alloc, meta)?;
+        let edges = Edges::of(alloc, meta, &scan)?;
+        let is_drawn = drawn(alloc, meta, &scan, &edges, part)?;
+        let finding = Finding::of(alloc, meta)?;
+        let mut drawing = Drawing {
+            meta,
+            verdict: finding.verdict,
+            nodes: Vec::new(alloc),
+            edges: Vec::new(alloc),
+        };
+        drawing.push_nodes(&scan, &finding, is_drawn.as_slice())?;
+        drawing.push_edges(&scan, &edges, &finding, is_drawn.as_slice())?;
+        Ok(drawing)
+    }
+
+    /// Adds the nodes that are drawn.
+    fn push_nodes(
+        &mut self,
+        scan: &Scan,
+        finding: &Finding,
+        is_drawn: &[bool],
+    ) -> Result<(), AllocError> {
+        for (number, node) in scan.nodes().iter().enumerate() {
+            if is_marked(is_drawn, number) {
+                self.nodes.push(DrawnNode {
+                    number,
+                    node: *node,
+                    rank: finding.ranks.get(number).copied(),
+                    is_marked: finding.chain.as_slice().contains(node),
+                })?;
+            }
+        }
+        Ok(())
+    }
+
+    /// Adds the edges between nodes that are drawn.
+    fn push_edges(
+        &mut self,
+        scan: &Scan,
+        edges: &Edges,
+        finding: &Finding,
+        is_drawn: &[bool],
+    ) -> Result<(), AllocError> {
+        let nodes = scan.nodes();
+        for edge in edges.all() {
+            if !is_marked(is_drawn, edge.from) || !is_marked(is_drawn, edge.to) {
+                continue;
+            }
+            if let (Some(from), Some(to)) = (nodes.get(edge.from), nodes.get(edge.to)) {
+                self.edges.push(DrawnEdge {
+                    edge: *edge,
+                    is_marked: !edge.is_queued() && finding.follows(*from, *to),
+                })?;
+            }
+        }
+        Ok(())
+    }
+}
+
+impl Finding {
+    /// The least certificate's ranks, or the reason why there is no certificate.
+    fn of(alloc: Global, meta: &Meta) -> Result<Finding, AllocError> {
+        match make(alloc, meta) {
+            Ok(certificate) => {
+                let mut ranks = Vec::new(alloc);
+                for line in certificate.lines.as_slice() {
+                    ranks.push(line.rank)?;
+                }
+                Ok(Finding {
+                    verdict: Verdict::Bound(certificate.bound),
+                    ranks,
+                    chain: Items::new(alloc),
+                })
+            }
+            Err(why) => Finding::without(alloc, why),
+        }
+    }
+
+    /// There is no certificate.
+    fn without(alloc: Global, why: Why) -> Result<Finding, AllocError> {
+        let (word, chain) = match why {
+            Why::Wire(_) => ("wire", Items::new(alloc)),
+            Why::BodyType(_) => ("type", Items::new(alloc)),
+            Why::Cycle(nodes) => ("cycle", nodes),
+            Why::DestroyPath(nodes) => ("destroy", nodes),
+            Why::TooHigh(nodes) => ("high", nodes),
+            Why::Memory => return Err(AllocError),
+        };
+        Ok(Finding {
+            verdict: Verdict::No(word),
+            ranks: Vec::new(alloc),
+            chain,
+        })
+    }
+
+    /// Whether the one node stands behind the other in the chain.
+    fn follows(&self, from: Node, to: Node) -> bool {
+        let mut before: Option<Node> = None;
+        for node in self.chain.as_slice() {
+            if before == Some(from) && *node == to {
+                return true;
+            }
+            before = Some(*node);
+        }
+        false
+    }
+}

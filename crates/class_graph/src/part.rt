@@ -1,0 +1,208 @@
+//! The part of a graph that is drawn.
+
+use crate::edge::Edges;
+use crate::fault::GraphFault;
+use crate::label::member_text;
+use effect_scan::{Member, Node, Scan};
+use meta_model::{DELETE_LATER, OBJECT_NAME};
+use meta_objects::{Meta, MetaObject};
+use std::alloc::{AllocError, Global};
+
+/// The part of a graph that is asked for.
+#[derive(Clone, Copy, Debug)]
+pub struct Part<'p> {
+    /// The members of these classes alone; of all classes where none is named.
+    pub classes: &'p [&'p str],
+    /// What this member may lead to alone, at once or by queued wires: `C.m(T,..)`, `C.m`, `C.p` or `~C`.
+    pub from: Option<&'p str>,
+}
+
+/// Whether each node is drawn, by its number. What every object has of `QObject` is left out where nothing else leads to
+/// it or from it.
+pub fn drawn(
+    alloc: Global,
+    meta: &Meta,
+    scan: &Scan,
+    edges: &Edges,
+    part: Part<'_>,
+) -> Result<Vec<bool>, GraphFault> {
+    for class in part.classes {
+        if !names_one(meta, class) {
+            return Err(GraphFault::Unknown);
+        }
+    }
+    let reached = match part.from {
+        Some(name) => Some(reached(alloc, meta, scan, edges, name)?),
+        None => None,
+    };
+    let mut drawn = used(alloc, scan, edges)?;
+    for (number, node) in scan.nodes().iter().enumerate() {
+        let is_reached = match &reached {
+            Some(marks) => is_marked(marks.as_slice(), number),
+            None => true,
+        };
+        if !is_reached || !is_in(meta, *node, part) {
+            unmark(&mut drawn, number);
+        }
+    }
+    Ok(drawn)
+}
+
+/// Whether the number is among those that are marked.
+pub fn is_marked(marks: &[bool], number: usize) -> bool {
+    match marks.get(number) {
+        Some(is_marked) => *is_marked,
+        None => false,
+    }
+}
+
+/// Whether a class has this name.
+fn names_one(meta: &Meta, name: &str) -> bool {
+    meta.classes()
+        .iter()
+        .any(|class: &MetaObject| class.name.bytes() == name.as_bytes())
+}
+
+/// Whether the node is one of the classes that are asked for.
+fn is_in(meta: &Meta, node: Node, part: Part<'_>) -> bool {
+    let Some(class) = meta.object(node.class) else {
+        return false;
+    };
+    part.classes.is_empty()
+        || part
+            .classes
+            .iter()
+            .any(|name: &&str| class.name.bytes() == name.as_bytes())
+}
+
+/// Whether the node is one that every object has.
+fn is_common(node: Node) -> bool {
+    match node.member {
+        Member::Method(method) => method <= DELETE_LATER,
+        Member::Property(property) => property == OBJECT_NAME,
+        Member::Destruction => true,
+    }
+}
+
+/// Which nodes are declared by the program, or have an edge besides those that every object has.
+fn used(alloc: Global, scan: &Scan, edges: &Edges) -> Result<Vec<bool>, AllocError> {
+    let nodes = scan.nodes();
+    let mut used = Vec::new(alloc);
+    for node in nodes {
+        used.push(!is_common(*node))?;
+    }
+    for edge in edges.all() {
+        if let (Some(from), Some(to)) = (nodes.get(edge.from), nodes.get(edge.to)) {
+            let is_every_objects = is_common(*from) && is_common(*to) && from.class == to.class;
+            if !is_every_objects {
+                mark(&mut used, edge.from);
+                mark(&mut used, edge.to);
+            }
+        }
+    }
+    Ok(used)
+}
+
+/// Marks the number, if it is one of these, and answers whether it wasn't marked.
+fn mark(marks: &mut Vec<bool>, number: usize) -> bool {
+    match marks.get_mut(number) {
+        Some(is_marked) => {
+            let is_new = !*is_marked;
+            *is_marked = true;
+            is_new
+        }
+        None => false,
+    }
+}
+
+/// Takes the mark from the number.
+fn unmark(marks: &mut Vec<bool>, number: usize) {
+    if let Some(is_marked) = marks.get_mut(number) {
+        *is_marked = false;
+    }
+}
+
+/// Which nodes are reached from the ones of this name, themselves among them.
+fn reached(
+    alloc: Global,
+    meta: &Meta,
+    scan: &Scan,
+    edges: &Edges,
+    name: &str,
+) -> Result<Vec<bool>, GraphFault> {
+    let first = named(alloc, meta, scan, name)?;
+    if first.is_empty() {
+        return Err(GraphFault::Unknown);
+    }
+    Ok(reach(alloc, scan.nodes().len(), edges, first)?)
+}
+
+/// The numbers of the nodes of this name.
+fn named(alloc: Global, meta: &Meta, scan: &Scan, name: &str) -> Result<Vec<usize>, AllocError> {
+    let mut found = Vec::new(alloc);
+    for (number, node) in scan.nodes().iter().enumerate() {
+        if is_named(alloc, meta, *node, name)? {
+            found.push(number)?;
+        }
+    }
+    Ok(found)
+}
+
+/// Which of so many nodes are reached from these.
+fn reach(
+    alloc: Global,
+    count: usize,
+    edges: &Edges,
+    first: Vec<usize>,
+) -> Result<Vec<bool>, AllocError> {
+    let mut marks = Vec::new(alloc);
+    for _ in 0..count {
+        marks.push(false)?;
+    }
+    for number in first.as_slice() {
+        mark(&mut marks, *number);
+    }
+    let mut waiting = first;
+    // Each node waits once at most.
+    for _ in 0..count {
+        let Some(number) = waiting.pop() else {
+            break;
+        };
+        for edge in edges.from(number) {
+            if mark(&mut marks, edge.to) {
+                waiting.push(edge.to)?;
+            }
+        }
+    }
+    Ok(marks)
+}
+
+/// Whether the node has this name, with its types or without them.
+fn is_named(alloc: Global, meta: &Meta, node: Node, name: &str) -> Result<bool, AllocError> {
+    let mut whole = String::new(alloc);
+    if node.member == Member::Destruction {
+        whole.push_str("~")?;
+    }
+    if let Some(class) = meta.object(node.class) {
+        push_name(&mut whole, class.name.bytes())?;
+    }
+    if node.member != Member::Destruction {
+        let member = member_text(alloc, meta, node)?;
+        write!(whole, ".{member}")?;
+    }
+    let text = whole.as_str();
+    Ok(
+        text == name
+            || text
+                .strip_prefix(name)
+                .is_some_and(|rest: &str| rest.starts_with("(")),
+    )
+}
+
+/// Adds a name.
+fn push_name(text: &mut String, name: &[u8]) -> Result<(), AllocError> {
+    for byte in name {
+        text.push(char::from(*byte))?;
+    }
+    Ok(())
+}

@@ -1,0 +1,52 @@
+//! The second program: words for authors of Qt code, beside the five commands of `gammonfig`. What goes wrong is said on
+//! standard error.
+#![tactic(auto)]
+
+mod fault;
+mod graph;
+
+use crate::fault::ToolFault;
+use crate::graph::graph;
+use std::alloc::{AllocError, Global};
+use std::env;
+use std::process::ExitCode;
+
+fn main(rt: HostRuntime) -> ExitCode {
+    match start(&rt) {
+        Ok(()) => ExitCode::SUCCESS,
+        Err(fault) => {
+            eprintln!(rt; "qt_tools: {fault}").ok();
+            ExitCode::from(fault.status())
+        }
+    }
+}
+
+/// Takes the process's words, and does what they say.
+fn start(rt: &HostRuntime) -> Result<(), ToolFault> {
+    let words = words(rt)?;
+    let words = borrowed(rt.alloc(), words.as_slice())?;
+    match words.as_slice() {
+        [word, options @ ..] if *word == "graph" => graph(rt, options),
+        _ => Err(ToolFault::Usage),
+    }
+}
+
+/// The process's words but the first one, which is the program's name. Words that aren't text are no command.
+fn words(rt: &HostRuntime) -> Result<Vec<String>, ToolFault> {
+    let Ok(words) = env::args(rt) else {
+        return Err(ToolFault::Usage);
+    };
+    match words.skip(1).collect::<Vec<String>>(rt.alloc()) {
+        Ok(words) => Ok(words),
+        Err(_) => Err(ToolFault::Memory),
+    }
+}
+
+/// The same words as slices.
+fn borrowed<'a>(alloc: Global, words: &'a [String]) -> Result<Vec<&'a str>, AllocError> {
+    let mut borrowed = Vec::new(alloc);
+    for word in words {
+        borrowed.push(word.as_str())?;
+    }
+    Ok(borrowed)
+}
