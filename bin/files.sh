@@ -58,6 +58,14 @@ name_files() {
             say(file["certificate"] ":" $2 rest)
             next
         }
+        /^qt_tools: text [0-9]+, line [0-9]+, column [0-9]+:/ {
+            split($0, part, /[ ,:]+/)
+            if (("text " part[3]) in file) {
+                rest = $0; sub(/^[^:]*:[^:]*:/, "", rest)
+                say(file["text " part[3]] ":" part[5] ":" part[7] ":" rest)
+                next
+            }
+        }
         { say($0) }'
 }
 

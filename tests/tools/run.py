@@ -1,9 +1,12 @@
 #!/usr/bin/env python3
 """Runs the cases of tests/tools/*.cases on both builds of the program `qt_tools`. They have the form of docs/cases.md, and
-`--- errors` is compared where it is there.
+`--- errors` is compared where it is there. Then `import` is given changed texts of JSON: of each it makes declarations that
+`gammonfig meta` takes, or it is refused with status 2 and nothing is written.
 
 Usage: tests/tools/run.py. The last line is `N passed, M failed`."""
 import os
+import random
+import re
 import sys
 
 sys.dont_write_bytecode = True
@@ -13,6 +16,33 @@ import case_files
 
 FOLDER = os.path.dirname(os.path.abspath(__file__))
 BUILDS = [it.replace("gammonfig", "qt_tools") for it in ("gammonfig/out/gammonfig", "gammonfig/out/gammonfig.by-rattle")]
+
+
+SEED, CHANGED = 20260101, 1500
+TOKEN = re.compile(rb'"[^"]*"|[0-9a-z]+|[][{}:,]')
+ODD = [b"", b"\n", b'""', b'"int"', b'"class"', b'"QObject"', b'"a::b"', b'"x\\ny"', b"3", b"null", b"true", b"[]", b"{}", b"[", b"}", b"\xff"]
+
+
+def changed(rng, text):
+    """The text with a few tokens changed, exchanged or left out, or cut off."""
+    tokens = TOKEN.findall(text)
+    for _ in range(rng.randrange(1, 5)):
+        at = rng.randrange(len(tokens))
+        tokens[at] = rng.choice([rng.choice(tokens), rng.choice(tokens), rng.choice(ODD)])
+    return b" ".join(tokens[: rng.randrange(len(tokens))] if rng.random() < 0.1 else tokens)
+
+
+def change(bench, count, program, text):
+    rng = random.Random(SEED)
+    for _ in range(CHANGED):
+        given = changed(rng, text)
+        found = bench.run(program, ["import", "--lean"] if rng.random() < 0.3 else ["import"], given)
+        if found.status == 0:
+            taken = bench.run(built.BUILDS[0], ["meta"], found.output)
+            count.check(taken.status == 0, lambda: f"{given}: {found.output} is refused: {taken}")
+        else:
+            holds = found.status == 2 and not found.output and found.errors
+            count.check(holds, lambda: f"{given}: {found}")
 
 
 def main():
@@ -29,6 +59,9 @@ def main():
                     told = f"{name}, {case.title} {words}, {os.path.basename(program)}"
                     holds = (found.status, found.output, found.errors) == wanted
                     count.check(holds, lambda: f"{told}: {found}, wanted {wanted}")
+    text = next(it for it in case_files.cases_of(f"{FOLDER}/import.cases") if "moc" in it.title).text("input")
+    for program in filter(os.path.isfile, programs):
+        change(bench, count, program, text)
     count.end()
 
 

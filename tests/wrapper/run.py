@@ -155,6 +155,15 @@ class Tests:
         self.check(["graph", "--from", "Lamp.none", "app.gf"], 1, "", "no class or member")
         self.check(["graph", "loose.gf"], 2, "", "refused with 5")
 
+    def import_classes(self):
+        """So do those of `import`, which takes any number of files."""
+        self.place.write({"a.json": '{"classes": [{"className": "A", "object": true}]}', "b.json": '{"classes": [\n{"className": 3}]}'})
+        self.check(["import", "a.json"], 0, "class A {\n}\n", "imported 1 classes")
+        self.check(["import", "--lean", "a.json", "a.json"], 0, "class A {\n}\n", "imported 1 classes")
+        self.check(["import", "a.json", "b.json"], 2, "", "b.json:2:")
+        self.check(["import"], 0, "class A {\n}\n", "imported 1 classes", text='{"classes": [{"className": "A", "object": true}]}')
+        self.check(["import", "--only"], 1, USAGE, "this is no command")
+
     def built(self):
         """Where a program isn't built and there is no toolchain, a sentence says so."""
         os.remove(f"{self.place.folder}/cache/gammonfig/gammonfig")
@@ -164,7 +173,7 @@ class Tests:
 
 def main():
     tests = Tests()
-    for part in ("files", "places", "refused", "input", "terminal", "graph", "built"):
+    for part in ("files", "places", "refused", "input", "terminal", "graph", "import_classes", "built"):
         getattr(tests, part)()
     shutil.rmtree(tests.place.folder, ignore_errors=True)
     tests.count.end()

@@ -1,15 +1,17 @@
 //! Why a word doesn't do what it is asked.
 
 use class_graph::GraphFault;
+use moc_import::ImportFault;
 use std::alloc::AllocError;
 use std::io;
 use thiserror::Error;
 
-/// Why a word doesn't do what it is asked. Nothing is written on standard output then, but where a write failed.
+/// Why a word doesn't do what it is asked. Nothing is written on standard output then, but where a write failed or members
+/// were left out.
 #[derive(Clone, Copy, Debug, Error)]
 pub enum ToolFault {
     /// The words are none that there are.
-    #[error("usage: qt_tools graph [--json] [--class CLASS,..] [--from MEMBER] < PROGRAM")]
+    #[error("usage: qt_tools graph [--json] [--class CLASS,..] [--from MEMBER] < PROGRAM, or qt_tools import [--only CLASS,..] [--lean] [--strict] < JSON")]
     Usage,
     /// The program is refused, with the number that `gammonfig` gives.
     #[error("the program is refused with {0}: `gammonfig meta` says where")]
@@ -17,6 +19,15 @@ pub enum ToolFault {
     /// The words name a class or a member that the program doesn't have.
     #[error("the program has no class or member of this name")]
     Unknown,
+    /// What is imported isn't what moc writes, or a class that is asked for isn't there.
+    #[error("{0}")]
+    Unimported(ImportFault),
+    /// The input isn't text.
+    #[error("the input isn't text in UTF-8")]
+    NoText,
+    /// Members were left out, and that is asked to be told by the exit status.
+    #[error("members were left out")]
+    LeftOut,
     /// The input can't be read.
     #[error("the input can't be read: {0}")]
     Unread(io::Error),
@@ -29,10 +40,11 @@ pub enum ToolFault {
 }
 
 impl ToolFault {
-    /// The process's exit status: 2 for a refused program, else 1.
+    /// The process's exit status: 2 for an input that is refused, 3 for one of which a part is left out, else 1.
     pub fn status(self) -> u8 {
         match self {
-            ToolFault::Refused(_) => 2,
+            ToolFault::Refused(_) | ToolFault::Unimported(_) | ToolFault::NoText => 2,
+            ToolFault::LeftOut => 3,
             _ => 1,
         }
     }
@@ -41,6 +53,15 @@ impl ToolFault {
 impl From<AllocError> for ToolFault {
     fn from(_: AllocError) -> ToolFault {
         ToolFault::Memory
+    }
+}
+
+impl From<ImportFault> for ToolFault {
+    fn from(fault: ImportFault) -> ToolFault {
+        match fault {
+            ImportFault::Memory => ToolFault::Memory,
+            refused => ToolFault::Unimported(refused),
+        }
     }
 }
 

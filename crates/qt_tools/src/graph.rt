@@ -1,10 +1,9 @@
 //! The word `graph`: what the members of a program's classes may lead to, as a picture.
 
 use crate::fault::ToolFault;
+use crate::streams::{input, write};
 use class_graph::{Form, Part, class_graph};
 use std::alloc::{AllocError, Global};
-use std::io;
-use std::io::{Read, Write};
 
 /// A program has at most so many bytes; what is read of a longer one is refused for its length.
 const MOST_BYTES: u64 = 1048577;
@@ -65,7 +64,7 @@ pub fn graph(rt: &HostRuntime, words: &[&str]) -> Result<(), ToolFault> {
     let Some(options) = Options::of(alloc, words)? else {
         return Err(ToolFault::Usage);
     };
-    let program = match program(rt) {
+    let program = match input(rt, MOST_BYTES) {
         Ok(program) => program,
         Err(reason) => return Err(ToolFault::Unread(reason)),
     };
@@ -78,18 +77,4 @@ pub fn graph(rt: &HostRuntime, words: &[&str]) -> Result<(), ToolFault> {
         Ok(()) => Ok(()),
         Err(reason) => Err(ToolFault::Unwritten(reason)),
     }
-}
-
-/// What standard input has, at most a byte more than a program may have.
-fn program(rt: &HostRuntime) -> io::Result<Vec<u8>> {
-    let mut program = Vec::new(rt.alloc());
-    rt.reader().take(MOST_BYTES).read_to_end(&mut program)?;
-    Ok(program)
-}
-
-/// Writes a text on standard output.
-fn write(rt: &HostRuntime, text: &str) -> io::Result<()> {
-    let mut writer = io::writer(rt);
-    writer.write_all(text.as_bytes())?;
-    writer.flush()
 }

@@ -4,9 +4,12 @@
 
 mod fault;
 mod graph;
+mod import;
+mod streams;
 
 use crate::fault::ToolFault;
 use crate::graph::graph;
+use crate::import::import_classes;
 use std::alloc::{AllocError, Global};
 use std::env;
 use std::process::ExitCode;
@@ -27,6 +30,7 @@ fn start(rt: &HostRuntime) -> Result<(), ToolFault> {
     let words = borrowed(rt.alloc(), words.as_slice())?;
     match words.as_slice() {
         [word, options @ ..] if *word == "graph" => graph(rt, options),
+        [word, options @ ..] if *word == "import" => import_classes(rt, options),
         _ => Err(ToolFault::Usage),
     }
 }

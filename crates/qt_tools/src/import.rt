@@ -1,0 +1,98 @@
+//! The word `import`: class declarations from what Qt's meta-object compiler writes of C++ headers.
+
+use crate::fault::ToolFault;
+use crate::streams::{input, write};
+use moc_import::{Summary, Wanted, import};
+use std::alloc::{AllocError, Global};
+
+/// What is read has at most so many bytes.
+const MOST_BYTES: u64 = 67108864;
+
+/// What the options of `import` ask for.
+#[derive(Drop)]
+struct Options<'w> {
+    only: Vec<&'w str>,
+    is_lean: bool,
+    is_strict: bool,
+}
+
+impl<'w> Options<'w> {
+    /// The options that the words are; `None` where they are none.
+    fn of(alloc: Global, words: &[&'w str]) -> Result<Option<Options<'w>>, AllocError> {
+        let mut options = Options {
+            only: Vec::new(alloc),
+            is_lean: false,
+            is_strict: false,
+        };
+        let mut awaits_classes = false;
+        for word in words {
+            if awaits_classes {
+                for class in word.split(',') {
+                    options.only.push(class)?;
+                }
+                awaits_classes = false;
+            } else if *word == "--only" {
+                awaits_classes = true;
+            } else if *word == "--lean" {
+                options.is_lean = true;
+            } else if *word == "--strict" {
+                options.is_strict = true;
+            } else {
+                return Ok(None);
+            }
+        }
+        Ok(if awaits_classes { None } else { Some(options) })
+    }
+}
+
+/// Writes class declarations for what standard input has, and a summary on standard error.
+pub fn import_classes(rt: &HostRuntime, words: &[&str]) -> Result<(), ToolFault> {
+    let alloc = rt.alloc();
+    let Some(options) = Options::of(alloc, words)? else {
+        return Err(ToolFault::Usage);
+    };
+    let bytes = match input(rt, MOST_BYTES) {
+        Ok(bytes) => bytes,
+        Err(reason) => return Err(ToolFault::Unread(reason)),
+    };
+    let Ok(text) = std::str::from_utf8(bytes.as_slice()) else {
+        return Err(ToolFault::NoText);
+    };
+    let wanted = Wanted {
+        only: options.only.as_slice(),
+        is_lean: options.is_lean,
+    };
+    let imported = import(alloc, text, wanted)?;
+    if let Err(reason) = write(rt, imported.program.as_str()) {
+        return Err(ToolFault::Unwritten(reason));
+    }
+    tell(rt, &imported.summary);
+    if options.is_strict && !imported.summary.is_whole() {
+        return Err(ToolFault::LeftOut);
+    }
+    Ok(())
+}
+
+/// Writes the summary on standard error.
+fn tell(rt: &HostRuntime, summary: &Summary) {
+    let Summary {
+        classes,
+        properties,
+        signals,
+        slots,
+        unknown,
+        narrowed,
+        untyped,
+        others,
+    } = *summary;
+    eprintln!(rt;
+        "imported {classes} classes: {properties} properties, {signals} signals, {slots} slots"
+    ).ok();
+    eprintln!(rt; "{narrowed} types of other numbers and of enums are `int`").ok();
+    eprintln!(rt;
+        "left out: {untyped} members for their types, {others} for other reasons; comments name them"
+    ).ok();
+    eprintln!(rt;
+        "{unknown} slots have bodies that aren't known: a verdict says nothing of what these do"
+    ).ok();
+}

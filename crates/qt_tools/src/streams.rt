@@ -1,0 +1,18 @@
+//! Standard input and output.
+
+use std::io;
+use std::io::{Read, Write};
+
+/// What standard input has, but no more than so many bytes.
+pub fn input(rt: &HostRuntime, most: u64) -> io::Result<Vec<u8>> {
+    let mut input = Vec::new(rt.alloc());
+    rt.reader().take(most).read_to_end(&mut input)?;
+    Ok(input)
+}
+
+/// Writes a text on standard output.
+pub fn write(rt: &HostRuntime, text: &str) -> io::Result<()> {
+    let mut writer = io::writer(rt);
+    writer.write_all(text.as_bytes())?;
+    writer.flush()
+}
