@@ -1,6 +1,6 @@
 #!/usr/bin/env python3
-"""The merge gate: `rt ci`, and then what is tried on the programs that it built: the second program's cases, the wrapper, want
-of memory and hostile input. The last line is `N passed, M failed` over all of these. Where `rt ci` fails
+"""The merge gate: `rt ci`, and then what is tried on the programs that it built: the second program's cases, the wrapper, the
+tutorial, want of memory and hostile input. The last line is `N passed, M failed` over all of these. Where `rt ci` fails
 nothing is tried, and the last line has its numbers."""
 import os
 import re
@@ -8,7 +8,7 @@ import subprocess
 import sys
 
 ROOT = os.path.dirname(os.path.dirname(os.path.abspath(__file__)))
-DRIVERS = ["tests/tools/run.py", "tests/wrapper/run.py", "tests/memory/sweep.py", "tests/hostile/attack.py"]
+DRIVERS = [f"tests/{it}" for it in ("editors/run.py", "tools/run.py", "wrapper/run.py", "pages/run.py", "memory/sweep.py", "hostile/attack.py")]
 NUMBERS = re.compile(r"(\d+) passed, (\d+) failed")
 
 

@@ -95,7 +95,7 @@ class Bench:
         actions = [(os.POSIX_SPAWN_DUP2, file, at) for at, file in given.items() if file is not None]
         actions += [(os.POSIX_SPAWN_CLOSE, at) for at, file in given.items() if file is None]
         self.hung = False
-        limits = {resource.RLIMIT_STACK: OWN_STACK if program == BUILDS[1] else STACK}
+        limits = {resource.RLIMIT_STACK: OWN_STACK if program.endswith(".by-rattle") else STACK}
         if most_output is not None:
             limits[resource.RLIMIT_FSIZE] = most_output
         with limited(limits):
