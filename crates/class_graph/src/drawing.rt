@@ -1,7 +1,7 @@
 //! What is drawn: nodes with their ranks, edges, and those on the way of the reason why there is no certificate.
 
 use crate::edge::{Edge, Edges};
-use crate::fault::GraphFault;
+use crate::fault::PartFault;
 use crate::part::{Part, drawn, is_marked};
 use effect_scan::{Node, Scan};
 use meta_objects::Meta;
@@ -62,7 +62,7 @@ struct Finding {
 
 impl<'m> Drawing<'m> {
     /// What is drawn of a program that loads.
-    pub fn of(alloc: Global, meta: &'m Meta, part: Part<'_>) -> Result<Drawing<'m>, GraphFault> {
+    pub fn of(alloc: Global, meta: &'m Meta, part: Part<'_>) -> Result<Drawing<'m>, PartFault> {
         let scan = Scan::of(alloc, meta)?;
         let edges = Edges::of(alloc, meta, &scan)?;
         let is_drawn = drawn(alloc, meta, &scan, &edges, part)?;

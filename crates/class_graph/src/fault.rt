@@ -1,7 +1,10 @@
 //! Why a graph can't be drawn.
 
-use class_lang::TextFault;
-use meta_model::MetaFault;
+ghost use Rattle.std.specs.Prelude.{◌≡◌, MatchOption};
+ghost use Rattle.program_commands.specs.Refusals.{refusal_number};
+ghost use Rattle.class_graph.specs.declared.fault.GraphFault.TheVariants.{Refused, Memory};
+
+use program_commands::Refusal;
 use std::alloc::AllocError;
 use thiserror::Error;
 
@@ -20,26 +23,38 @@ pub enum GraphFault {
 }
 
 impl From<AllocError> for GraphFault {
+    ghost use Rattle.std.specs.Prelude.{◌≡◌};
+    ghost use Rattle.class_graph.specs.declared.fault.GraphFault.TheVariants.{Memory};
+
+    ghost from_gives = { λ _ fault. fault ≡ Memory };
+
     fn from(_: AllocError) -> GraphFault {
         GraphFault::Memory
     }
 }
 
-impl From<TextFault> for GraphFault {
-    fn from(fault: TextFault) -> GraphFault {
-        refused(fault.number())
+/// Why a part of a graph can't be drawn.
+#[derive(Clone, Copy, Debug, PartialEq, Eq, Error)]
+pub enum PartFault {
+    /// It names a class, or a member of a class, that isn't there.
+    #[error("the program has no such class or member")]
+    Unknown,
+    /// A growth of memory was refused.
+    #[error("out of memory")]
+    Memory,
+}
+
+impl From<AllocError> for PartFault {
+    fn from(_: AllocError) -> PartFault {
+        PartFault::Memory
     }
 }
 
-impl From<MetaFault> for GraphFault {
-    fn from(fault: MetaFault) -> GraphFault {
-        refused(fault.number())
-    }
-}
-
-/// Only want of memory has no number.
-fn refused(number: Option<u8>) -> GraphFault {
-    match number {
+/// What refuses a program, by its number; only want of memory has none.
+pub fn refused(refusal: &Refusal) -> GraphFault
+    ensures { MatchOption (refusal_number refusal.now) (result ≡ Memory) (λ number. result ≡ Refused number) }
+{
+    match refusal.number() {
         Some(number) => GraphFault::Refused(number),
         None => GraphFault::Memory,
     }

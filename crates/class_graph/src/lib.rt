@@ -1,6 +1,9 @@
 //! What the members of a program's classes may lead to, as a picture: as a graph in the language of Graphviz, or as JSON.
 #![tactic(auto)]
 
+ghost use Rattle.std.specs.Prelude.{IfOk, IfErr};
+ghost use Rattle.class_graph.specs.Graphs.{Loads, Lacks};
+
 mod dot;
 mod drawing;
 mod edge;
@@ -11,11 +14,11 @@ mod part;
 
 use crate::dot::dot_text;
 use crate::drawing::Drawing;
+use crate::fault::{PartFault, refused};
 use crate::json::json_text;
-use class_lang::read_program;
 pub use fault::GraphFault;
-use meta_objects::Meta;
 pub use part::Part;
+use program_commands::load_program;
 use std::alloc::Global;
 
 /// How a graph is written.
@@ -34,10 +37,19 @@ pub fn class_graph(
     program: &[u8],
     part: Part<'_>,
     form: Form,
-) -> Result<String, GraphFault> {
-    let tree = read_program(alloc, program)?;
-    let meta = Meta::build(alloc, &tree)?;
-    let drawing = Drawing::of(alloc, &meta, part)?;
+) -> Result<String, GraphFault>
+    ensures drawn { IfOk result (λ text. Loads program.now) }
+    ensures lacks { IfErr result (Lacks program.now) }
+{
+    let meta = match load_program(alloc, program) {
+        Ok(meta) => meta,
+        Err(refusal) => return Err(refused(&refusal)),
+    };
+    let drawing = match Drawing::of(alloc, &meta, part) {
+        Ok(drawing) => drawing,
+        Err(PartFault::Unknown) => return Err(GraphFault::Unknown),
+        Err(PartFault::Memory) => return Err(GraphFault::Memory),
+    };
     let text = match form {
         Form::Dot => dot_text(alloc, &drawing)?,
         Form::Json => json_text(alloc, &drawing)?,

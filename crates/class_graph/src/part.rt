@@ -1,7 +1,7 @@
 //! The part of a graph that is drawn.
 
 use crate::edge::Edges;
-use crate::fault::GraphFault;
+use crate::fault::PartFault;
 use crate::label::member_text;
 use effect_scan::{Member, Node, Scan};
 use meta_model::{DELETE_LATER, OBJECT_NAME};
@@ -25,10 +25,10 @@ pub fn drawn(
     scan: &Scan,
     edges: &Edges,
     part: Part<'_>,
-) -> Result<Vec<bool>, GraphFault> {
+) -> Result<Vec<bool>, PartFault> {
     for class in part.classes {
         if !names_one(meta, class) {
-            return Err(GraphFault::Unknown);
+            return Err(PartFault::Unknown);
         }
     }
     let reached = match part.from {
@@ -129,10 +129,10 @@ fn reached(
     scan: &Scan,
     edges: &Edges,
     name: &str,
-) -> Result<Vec<bool>, GraphFault> {
+) -> Result<Vec<bool>, PartFault> {
     let first = named(alloc, meta, scan, name)?;
     if first.is_empty() {
-        return Err(GraphFault::Unknown);
+        return Err(PartFault::Unknown);
     }
     Ok(reach(alloc, scan.nodes().len(), edges, first)?)
 }

@@ -1,0 +1,26 @@
+-- What is answered of a program's text (docs/graph.md): a graph where the program loads, and else what refuses it, which is
+-- what refuses it to the command `meta` (docs/commands.md, "Refusals").
+use Rattle.std.specs.Prelude.{◌≡◌, ℕ, List, Result, Ok, Err, Some, ⊤}
+use Rattle.meta_model.specs.Loaded.{Loaded}
+use Rattle.program_commands.specs.Loading.{LoadsProgram}
+use Rattle.program_commands.specs.Refusals.{refusal_number}
+use Rattle.program_commands.specs.declared.refusal.Refusal.{Refusal}
+use Rattle.class_graph.specs.declared.fault.GraphFault.{GraphFault}
+use Rattle.class_graph.specs.declared.fault.GraphFault.TheVariants.{Refused, Unknown, Memory}
+
+-- the text is a program that loads
+pub record Loads (text : List ℕ) : Type 0 where
+  pub loaded : Loaded
+  pub loads : LoadsProgram text (Ok loaded)
+
+-- the text is refused, or the program that it is, with this number
+pub record IsRefused (text : List ℕ) (number : ℕ) : Type 0 where
+  pub refusal : Refusal
+  pub refused : LoadsProgram text (Err refusal)
+  pub numbered : refusal_number refusal ≡ Some number
+
+-- why there is no graph: a part that isn't there is asked of a program that loads
+abbrev pub Lacks : List ℕ → GraphFault → Type 0
+Lacks text (Refused number) = IsRefused text number
+Lacks text Unknown = Loads text
+Lacks text Memory = ⊤

@@ -1,0 +1,3 @@
+pub mod Graphs
+pub use Rattle.program_commands.specs.Loading
+pub use Rattle.program_commands.specs.Refusals
