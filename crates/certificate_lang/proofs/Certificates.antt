@@ -15,7 +15,7 @@ use Rattle.certificate_lang.specs.declared.certificate.Certificate.{Certificate}
 use Rattle.certificate_lang.specs.declared.fault.CertificateFault.{CertificateFault}
 use Rattle.certificate_lang.specs.declared.fault.CertificateFault.TheVariants.{Format, Memory}
 use Rattle.certificate_lang.specs.declared.version.Version.{Version}
-use Rattle.certificate_lang.specs.declared.version.Version.TheVariants.{One}
+use Rattle.certificate_lang.specs.declared.version.Version.TheVariants.{One, Two}
 use Rattle.certificate_lang.specs.Grammar.{IsSetting, IsNodeLine}
 use Rattle.certificate_lang.specs.Reads.{HasRows, version_number, IsCertificate, fault_of_cutting, fault_of_parsing, TakesRow, SplitsRow, TakesSetting, SplitsSetting, AreNodeLines, ReadsNodeLines, ReadsWholeSetting, ReadsLine, ReadsCertificate}
 use Rattle.certificate_lang.proofs.OneTree.{one_line, one_setting}
@@ -130,6 +130,9 @@ module _ {v : Version} {text rest : List ℕ} {lines : List Line} (so_far : Line
 -- a number is that of one version
 one_version : (v w : Version) → version_number v ≡ version_number w → v ≡ w
 one_version One One e = refl
+one_version One Two e = cc
+one_version Two One e = cc
+one_version Two Two e = refl
 
 pub no_header : {text : List ℕ} → ((first : List Token) (later : List (List Token)) (n : ℕ) → HasRows text (first ∷ later) → ¬ IsSetting (codes "certificate") first n) → (certificate : Certificate) → ¬ IsCertificate text certificate
 no_header none certificate h = none h.first (h.second ∷ h.others) (version_number h.version) h.has_rows h.header

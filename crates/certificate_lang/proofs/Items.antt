@@ -1,29 +1,53 @@
 -- Items of destroy sets, one after another up to the end of a line.
-use Rattle.std.proofs.Common.{◌≡◌, ℕ, List, [], ◌∷◌, ◌++◌, map, refl, sym, ◌∙◌, ap, append_assoc}
+use Rattle.std.proofs.Common.{◌≡◌, ℕ, Result, Ok, Err, List, [], ◌∷◌, ◌++◌, map, refl, sym, ◌∙◌, ap, append_assoc}
 use Rattle.std.proofs.lemmas.List.{append-nil}
 use Rattle.texts.specs.Lists.{spell_each}
-use Rattle.texts.specs.code.Reading.{Found, EndsAnywhere, IsAtEnd}
+use Rattle.texts.specs.code.Cursor.{NotAt}
+use Rattle.texts.specs.code.Reading.{Found, Reads, EndsAnywhere, IsAtEnd}
 use Rattle.texts.specs.Reading.{spell_name}
+use Rattle.texts.specs.declared.fault.ParseFault.{ParseFault}
+use Rattle.texts.specs.declared.symbol.Symbol.TheVariants.{Tilde}
 use Rattle.texts.specs.declared.token.Token.{Token}
+use Rattle.texts.specs.declared.token.Token.TheVariants as token
 use Rattle.texts.proofs.Underway.{None, Underway}
 use Rattle.certificate_lang.specs.declared.certificate.SetItem.{SetItem}
-use Rattle.certificate_lang.specs.declared.certificate.SetItem.TheVariants.{Class}
+use Rattle.certificate_lang.specs.declared.certificate.SetItem.TheVariants.{Class, Closure}
 use Rattle.certificate_lang.specs.declared.version.Version.{Version}
-use Rattle.certificate_lang.specs.Grammar.{ItemReading, class, spell_item, tree_of_item}
+use Rattle.certificate_lang.specs.declared.version.Version.TheVariants.{Two}
+use Rattle.certificate_lang.specs.Grammar.{ItemReading, class, closure, spell_item, tree_of_item, ReadsItem}
 
 module _ (v : Version) where
   -- ---- one item
-  class_only : {before after : List Token} {name : List ℕ} → Found spell_name (λ n. n) EndsAnywhere before name after → (r : ItemReading v) (rest : List Token) → before ≡ spell_item v r rest → after ≡ rest
+  class_only : {before after : List Token} {item : SetItem} → Found spell_name Class EndsAnywhere before item after → (r : ItemReading v) (rest : List Token) → before ≡ spell_item v r rest → after ≡ rest
   class_only f (class x) rest g = f.only x rest tt g
+  class_only f (closure is x) rest g = let s = f.spelled in cc
 
-  pub class_found : {before after : List Token} {name : List ℕ} → Found spell_name (λ n. n) EndsAnywhere before name after → Found (spell_item v) (tree_of_item v) EndsAnywhere before (Class name) after
-  class_found f = record { reading = class f.reading; spelled = f.spelled; tree_is = ap Class f.tree_is; only = λ r rest ends g. class_only f r rest g }
+  no_item : {before : List Token} → (v ≡ Two → NotAt Tilde before) → None spell_name EndsAnywhere before → None (spell_item v) EndsAnywhere before
+  no_item not none (class x) rest ends g = none x rest ends g
+  no_item not none (closure is x) rest ends g = not is (token.Name x ∷ rest) g
 
-  pub no_class : {now : List Token} → None spell_name EndsAnywhere now → None (spell_item v) EndsAnywhere now
-  no_class none (class x) rest ends g = none x rest ends g
+  -- where no closure comes next, it is a class
+  pub class_reads : (before after : List Token) → (v ≡ Two → NotAt Tilde before) → (result : Result SetItem ParseFault) → Reads spell_name Class EndsAnywhere before result after → ReadsItem v before result after
+  class_reads before after not (Ok item) f = record { reading = class f.reading; spelled = f.spelled; tree_is = f.tree_is; only = λ r rest ends g. class_only f r rest g }
+  class_reads before after not (Err fault) none = λ k. no_item not (none k)
+
+  module _ {before between : List Token} (e : before ≡ token.Symbol Tilde ∷ between) where
+    closure_only : {after : List Token} {name : List ℕ} → Found spell_name (λ n. n) EndsAnywhere between name after → (r : ItemReading v) (rest : List Token) → before ≡ spell_item v r rest → after ≡ rest
+    closure_only f (class x) rest g = cc
+    closure_only f (closure is x) rest g = f.only x rest tt cc
+
+    pub closure_found : v ≡ Two → {after : List Token} {name : List ℕ} → Found spell_name (λ n. n) EndsAnywhere between name after → Found (spell_item v) (tree_of_item v) EndsAnywhere before (Closure name) after
+    closure_found is f =
+        let s = f.spelled in
+        record { reading = closure is f.reading; spelled = cc; tree_is = ap Closure f.tree_is; only = λ r rest ends g. closure_only f r rest g }
+
+    pub no_closure : None spell_name EndsAnywhere between → None (spell_item v) EndsAnywhere before
+    no_closure none (class x) rest ends g = cc
+    no_closure none (closure is x) rest ends g = none x rest tt cc
 
   pub item_some : (r : ItemReading v) (after : List Token) → [] ≡ spell_item v r after → ⊥
   item_some (class x) after e = cc
+  item_some (closure is x) after e = cc
 
   -- ---- items up to the end
   abbrev pub ItemsSoFar : List Token → List SetItem → List Token → Type 0

@@ -10,7 +10,7 @@ use Rattle.texts.proofs.OneTree.{HasOneTree, one_tree_of_sig}
 use Rattle.certificate_lang.specs.declared.certificate.MemberName.TheVariants as member
 use Rattle.certificate_lang.specs.declared.certificate.Line.{Line}
 use Rattle.certificate_lang.specs.declared.version.Version.{Version}
-use Rattle.certificate_lang.specs.Grammar.{IsSetting, method, property, spell_member, tree_of_member, destruction, of_class, spell_node, tree_of_node, EndsNode, class, spell_item, tree_of_item, spell_line, tree_of_line, HasFewParameters, IsNodeLine}
+use Rattle.certificate_lang.specs.Grammar.{IsSetting, method, property, spell_member, tree_of_member, destruction, of_class, spell_node, tree_of_node, EndsNode, class, closure, spell_item, tree_of_item, spell_line, tree_of_line, HasFewParameters, IsNodeLine}
 use Rattle.certificate_lang.proofs.Nodes.{no_list}
 use Rattle.certificate_lang.proofs.Items.{item_some}
 
@@ -36,6 +36,12 @@ one_tree_of_items v [] [] r s er es e = (refl, e)
 one_tree_of_items v [] (y ∷ ys) r s er es e = absurd (item_some v y (spell_each (spell_item v) ys s) (sym er ∙ e))
 one_tree_of_items v (x ∷ xs) [] r s er es e = absurd (item_some v x (spell_each (spell_item v) xs r) (sym es ∙ sym e))
 one_tree_of_items v (class x ∷ xs) (class y ∷ ys) r s er es e =
+    let h : (map (tree_of_item v) xs ≡ map (tree_of_item v) ys) × (r ≡ s) = one_tree_of_items v xs ys r s er es cc in
+    let same = h.0 in
+    (cc, h.1)
+one_tree_of_items v (class x ∷ xs) (closure is y ∷ ys) r s er es e = cc
+one_tree_of_items v (closure is x ∷ xs) (class y ∷ ys) r s er es e = cc
+one_tree_of_items v (closure is x ∷ xs) (closure also y ∷ ys) r s er es e =
     let h : (map (tree_of_item v) xs ≡ map (tree_of_item v) ys) × (r ≡ s) = one_tree_of_items v xs ys r s er es cc in
     let same = h.0 in
     (cc, h.1)

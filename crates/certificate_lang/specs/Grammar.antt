@@ -5,7 +5,7 @@
 --   line    = node number {item}
 --   node    = "~" Name | Name "." member
 --   member  = sig | Name
---   item    = Name                       in version 1
+--   item    = Name | "~" Name            the second only in version 2
 --
 -- A number is at most 2147483647.
 use Rattle.std.specs.Prelude.{◌≡◌, ℕ, List, [], ◌∷◌, map, Result}
@@ -23,9 +23,10 @@ use Rattle.certificate_lang.specs.declared.certificate.MemberName.{MemberName}
 use Rattle.certificate_lang.specs.declared.certificate.MemberName.TheVariants as member
 use Rattle.certificate_lang.specs.declared.certificate.NodeName.{NodeName}
 use Rattle.certificate_lang.specs.declared.certificate.SetItem.{SetItem}
-use Rattle.certificate_lang.specs.declared.certificate.SetItem.TheVariants.{Class}
+use Rattle.certificate_lang.specs.declared.certificate.SetItem.TheVariants as item
 use Rattle.certificate_lang.specs.declared.certificate.Line.{Line}
 use Rattle.certificate_lang.specs.declared.version.Version.{Version}
+use Rattle.certificate_lang.specs.declared.version.Version.TheVariants.{Two}
 
 -- ---- a name with a number
 abbrev pub spell_setting : List ℕ → Numeral greatest → List Token → List Token
@@ -69,12 +70,15 @@ EndsNode after = NotAt Open after
 -- ---- items of destroy sets, which the version tells
 pub data ItemReading (version : Version) : Type 0 where
   class : (name : List ℕ) → ItemReading version
+  closure : version ≡ Two → (name : List ℕ) → ItemReading version
 
 abbrev pub spell_item : (version : Version) → ItemReading version → List Token → List Token
 spell_item version (class name) after = token.Name name ∷ after
+spell_item version (closure is name) after = token.Symbol Tilde ∷ token.Name name ∷ after
 
 abbrev pub tree_of_item : (version : Version) → ItemReading version → SetItem
-tree_of_item version (class name) = Class name
+tree_of_item version (class name) = item.Class name
+tree_of_item version (closure is name) = item.Closure name
 
 -- ---- lines of nodes
 pub record LineReading (version : Version) : Type 0 where

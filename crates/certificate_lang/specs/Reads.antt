@@ -14,7 +14,7 @@ use Rattle.certificate_lang.specs.declared.certificate.Certificate.{Certificate}
 use Rattle.certificate_lang.specs.declared.fault.CertificateFault.{CertificateFault}
 use Rattle.certificate_lang.specs.declared.fault.CertificateFault.TheVariants.{Format, Memory}
 use Rattle.certificate_lang.specs.declared.version.Version.{Version}
-use Rattle.certificate_lang.specs.declared.version.Version.TheVariants.{One}
+use Rattle.certificate_lang.specs.declared.version.Version.TheVariants.{One, Two}
 use Rattle.certificate_lang.specs.Grammar.{IsSetting, IsNodeLine}
 
 -- ---- lines with tokens
@@ -41,6 +41,7 @@ pub record HasRows (text : List ℕ) (rows : List (List Token)) : Type 0 where
 -- the number of a version
 abbrev pub version_number : Version → ℕ
 version_number One = 1
+version_number Two = 2
 
 -- the text is a certificate: `certificate` and the version's number, the bound, and the lines of nodes
 pub record IsCertificate (text : List ℕ) (certificate : Certificate) : Type 0 where

@@ -36,6 +36,8 @@ impl Drop for NodeName {
 pub enum SetItem {
     /// `C`: the class of this name.
     Class(Name),
+    /// `~C`: the closure of the class of this name, that is the classes whose objects may be destroyed with one of it.
+    Closure(Name),
 }
 
 /// What a certificate says of a node: `NODE RANK {CLASS}`.
@@ -44,8 +46,8 @@ pub struct Line {
     pub node: NodeName,
     /// Its rank, which is above the rank of each node that it may lead to at once.
     pub rank: u32,
-    /// Its destroy set: the classes whose objects may be destroyed in a chain of calls that begins at the node. The items
-    /// may stand in any order, and one may stand twice.
+    /// Its destroy set: its items stand for the classes whose objects may be destroyed in a chain of calls that begins at
+    /// the node. They may stand in any order, and one may stand twice.
     pub destroys: Items<SetItem>,
 }
 

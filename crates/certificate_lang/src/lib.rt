@@ -10,3 +10,4 @@ mod version;
 pub use certificate::{Certificate, Line, MemberName, NodeName, SetItem};
 pub use fault::CertificateFault;
 pub use reader::{Row, one_reading, read_certificate, row_trail};
+pub use version::Version;

@@ -11,10 +11,10 @@ use sqlite_items::Items;
 use std::alloc::Global;
 use texts::{Cursor, Token, Trail, has_plain_reference, split_line, tokens};
 
-/// Reads a certificate: `certificate 1`, `bound N`, and a line `NODE RANK {CLASS}` for each node, where a node is
-/// `C.m(T, ..)`, `C.p` or `~C`. A line ends at a newline or at the end of the text; lines that are empty, that is blank or
-/// a comment, are passed over. Numbers are at most 2147483647, and signatures are read in their normal form. Time and
-/// memory are linear in the text.
+/// Reads a certificate: `certificate 1` or `certificate 2`, `bound N`, and a line `NODE RANK {ITEM}` for each node, where a
+/// node is `C.m(T, ..)`, `C.p` or `~C`, and an item of its set `C`, or in version 2 also `~C`. A line ends at a newline or
+/// at the end of the text; lines that are empty, that is blank or a comment, are passed over. Numbers are at most
+/// 2147483647, and signatures are read in their normal form. Time and memory are linear in the text.
 ///
 /// - `Format`: the text isn't such.
 /// - `Memory`: a growth of memory was refused.
@@ -125,12 +125,12 @@ fn node_line(alloc: Global, version: Version, tokens: &[Token]) -> Result<Line, 
 /// What a line of a certificate that isn't empty is to be.
 #[derive(Clone, Copy, Debug, PartialEq, Eq)]
 pub enum Row {
-    /// The first one, `certificate 1`.
+    /// The first one, `certificate N`.
     Version,
     /// The second one, `bound N`.
     Bound,
-    /// A later one, `NODE RANK {CLASS}`.
-    Node,
+    /// A later one, `NODE RANK {ITEM}`, in this version.
+    Node(Version),
 }
 
 /// The way of the reader of such lines through the tokens of one: what was looked for where it came farthest.
@@ -139,7 +139,7 @@ pub fn row_trail(alloc: Global, tokens: &[Token], row: Row) -> Option<Trail> {
     let is_read = match row {
         Row::Version => setting(&mut cursor, b"certificate").is_ok(),
         Row::Bound => setting(&mut cursor, b"bound").is_ok(),
-        Row::Node => line(&mut cursor, Version::One).is_ok(),
+        Row::Node(version) => line(&mut cursor, version).is_ok(),
     };
     if is_read {
         cursor.want_end();

@@ -3,7 +3,9 @@
 ghost use Rattle.std.specs.Prelude.{◌↔◌, ◌<◌, length, map, IsTrue, OnOk};
 ghost use Rattle.certificate_lang.specs.Grammar.{ReadsSetting, IsAtOpen, ReadsMember, ReadsNode, ReadsItem, ReadsNodeLine, spell_item, tree_of_item, HasFewParameters};
 ghost use Rattle.texts.specs.Lists.{spell_each};
-ghost use Rattle.texts.specs.code.Reading.{Reads, IsAtEnd};
+ghost use Rattle.certificate_lang.specs.declared.certificate.SetItem.TheVariants.{Class};
+ghost use Rattle.texts.specs.Reading.{spell_name};
+ghost use Rattle.texts.specs.code.Reading.{Reads, EndsAnywhere, IsAtEnd};
 
 use crate::certificate::{Line, MemberName, NodeName, SetItem};
 use crate::version::Version;
@@ -24,7 +26,7 @@ pub fn setting(cursor: &mut Cursor, name: &'static [u8]) -> Result<u32, ParseFau
     }
 }
 
-/// `NODE RANK {CLASS}`, in this version: what is left behind it has to be judged by the caller.
+/// `NODE RANK {ITEM}`, in this version: what is left behind it has to be judged by the caller.
 pub fn line(cursor: &mut Cursor, version: Version) -> Result<Line, ParseFault>
     ensures { ReadsNodeLine version cursor.old result cursor.new }
 {
@@ -89,17 +91,30 @@ fn items(cursor: &mut Cursor, version: Version) -> Result<Items<SetItem>, ParseF
     Ok(items)
 }
 
-/// An item of a destroy set.
+/// An item of a destroy set: `C`, or in version 2 also `~C`.
 fn item(cursor: &mut Cursor, version: Version) -> Result<SetItem, ParseFault>
     ensures reads { ReadsItem version cursor.old result cursor.new }
     ensures shorter { OnOk result (length cursor.new < length cursor.old) }
 {
     match version {
-        Version::One => {
+        Version::One => class_item(cursor),
+        Version::Two => {
+            if !cursor.eat(Symbol::Tilde) {
+                return class_item(cursor);
+            }
             let class = cursor.name()?;
-            Ok(SetItem::Class(class))
+            Ok(SetItem::Closure(class))
         }
     }
+}
+
+/// `C`.
+fn class_item(cursor: &mut Cursor) -> Result<SetItem, ParseFault>
+    ensures reads { Reads spell_name Class EndsAnywhere cursor.old result cursor.new }
+    ensures shorter { OnOk result (length cursor.new < length cursor.old) }
+{
+    let class = cursor.name()?;
+    Ok(SetItem::Class(class))
 }
 
 /// Whether the member has at most 8 parameters.

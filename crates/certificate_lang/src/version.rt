@@ -3,10 +3,12 @@
 ghost use Rattle.certificate_lang.specs.Reads.{FindsVersion};
 
 /// A version of the format, which says what an item of a destroy set may be.
-#[derive(Clone, Copy)]
+#[derive(Clone, Copy, Debug, PartialEq, Eq)]
 pub enum Version {
-    /// `certificate 1`: an item is a class.
+    /// `certificate 1`: an item is a class, `C`.
     One,
+    /// `certificate 2`: an item is a class or the closure of one, `C` or `~C`.
+    Two,
 }
 
 impl Version {
@@ -16,6 +18,7 @@ impl Version {
     {
         match number {
             1 => Some(Version::One),
+            2 => Some(Version::Two),
             _ => None,
         }
     }
