@@ -17,16 +17,16 @@ use Rattle.texts.specs.Numerals.{value_of}
 use Rattle.texts.specs.Pieces.{AreTokens}
 use Rattle.texts.specs.declared.token.Token.{Token}
 use Rattle.texts.specs.declared.token.Token.TheVariants as token
-use Rattle.certificate_lang.specs.Grammar.{NodeReading, method, property, destruction, of_class, spell_node, tree_of_node, ItemReading, class as item_class, spell_item, tree_of_item, HasFewParameters, IsNodeLine}
+use Rattle.certificate_lang.specs.Grammar.{NodeReading, method, property, destruction, of_class, spell_node, tree_of_node, ItemReading, class as item_class, closure as item_closure, spell_item, tree_of_item, HasFewParameters, IsNodeLine}
 use Rattle.certificate_lang.specs.Reads.{before, AreRows, IsCertificate}
 use Rattle.certificate_lang.specs.declared.certificate.MemberName.{MemberName}
 use Rattle.certificate_lang.specs.declared.certificate.MemberName.TheVariants as member
 use Rattle.certificate_lang.specs.declared.certificate.NodeName.{NodeName}
 use Rattle.certificate_lang.specs.declared.certificate.SetItem.{SetItem}
-use Rattle.certificate_lang.specs.declared.certificate.SetItem.TheVariants.{Class}
+use Rattle.certificate_lang.specs.declared.certificate.SetItem.TheVariants.{Class, Closure}
 use Rattle.certificate_lang.specs.declared.certificate.Line.{Line}
 use Rattle.certificate_lang.specs.declared.certificate.Certificate.{Certificate}
-use Rattle.certificate_lang.specs.declared.version.Version.TheVariants.{One}
+use Rattle.certificate_lang.specs.declared.version.Version.TheVariants.{Two}
 use Rattle.certificate_texts.specs.Texts.{node_text_of, node_text, listed_text, node_line, certificate_text}
 use Rattle.certificate_texts.specs.Written.{IsWritableMember, IsWritableItem, IsWritableLine, IsWritable, NodesAreRead}
 use Rattle.certificate_texts.proofs.Pieces.{IsWritten, ampersand, nothing, blank_then, name_then, dot_then, tilde_then, digits_then, are_digits}
@@ -68,15 +68,17 @@ node_is_read node h =
     }
 
 -- ---- the items of a set
-abbrev reading_of_item : SetItem → ItemReading One
+abbrev reading_of_item : SetItem → ItemReading Two
 reading_of_item (Class name) = item_class name
+reading_of_item (Closure name) = item_closure refl name
 
 abbrev set_tokens : List SetItem → List Token
-set_tokens items = spell_each (spell_item One) (map reading_of_item items) []
+set_tokens items = spell_each (spell_item Two) (map reading_of_item items) []
 
-set_tree : (items : List SetItem) → map (tree_of_item One) (map reading_of_item items) ≡ items
+set_tree : (items : List SetItem) → map (tree_of_item Two) (map reading_of_item items) ≡ items
 set_tree [] = refl
 set_tree (Class name ∷ items) = ap (λ (more : List SetItem). Class name ∷ more) (set_tree items)
+set_tree (Closure name ∷ items) = ap (λ (more : List SetItem). Closure name ∷ more) (set_tree items)
 
 stops_at_set : (items : List SetItem) → StopsBy is_digit (flat_map listed_text items)
 stops_at_set [] = tt
@@ -88,6 +90,9 @@ stops_at_items (item ∷ items) = refl
 
 set_written : (items : List SetItem) → AllByRecursion IsWritableItem items → IsWritten (flat_map listed_text items) (set_tokens items)
 set_written [] free = nothing
+set_written (Closure name ∷ items) free =
+    blank_then (126 ∷ (name ++ flat_map listed_text items)) _
+    (tilde_then (name ++ flat_map listed_text items) _ (name_then name (flat_map listed_text items) (set_tokens items) free.0 (stops_at_items items) (set_written items free.1)))
 set_written (Class name ∷ items) free = blank_then (name ++ flat_map listed_text items) _ (name_then name (flat_map listed_text items) (set_tokens items) free.0 (stops_at_items items) (set_written items free.1))
 
 -- ---- lines
@@ -116,7 +121,7 @@ few (member.Method x) h = h.few
 few (member.Property name) h = tt
 few member.Destruction h = tt
 
-line_is_read : (line : Line) (h : IsWritableLine line) → IsNodeLine One (spell_node (reading_of_node line.node) (token.Number (decimal line.rank) ∷ set_tokens line.destroys)) line
+line_is_read : (line : Line) (h : IsWritableLine line) → IsNodeLine Two (spell_node (reading_of_node line.node) (token.Number (decimal line.rank) ∷ set_tokens line.destroys)) line
 line_is_read line h =
     let written = line_written line h in
     let digits = are_digits line.rank (below line.rank h.rank) in
@@ -126,8 +131,8 @@ line_is_read line h =
       reading = record { node = reading_of_node line.node; rank = record { digits = decimal line.rank; fits = let most = h.rank in omega arith }; destroys = map reading_of_item line.destroys };
       spelled = refl;
       tree =
-          ap (λ n. let x : Line = record { node = n; rank = value_of (decimal line.rank); destroys = map (tree_of_item One) (map reading_of_item line.destroys) } in x) node
-          ∙ ap (λ (k : ℕ). let x : Line = record { node = line.node; rank = k; destroys = map (tree_of_item One) (map reading_of_item line.destroys) } in x) value
+          ap (λ n. let x : Line = record { node = n; rank = value_of (decimal line.rank); destroys = map (tree_of_item Two) (map reading_of_item line.destroys) } in x) node
+          ∙ ap (λ (k : ℕ). let x : Line = record { node = line.node; rank = k; destroys = map (tree_of_item Two) (map reading_of_item line.destroys) } in x) value
           ∙ ap (λ (items : List SetItem). let x : Line = record { node = line.node; rank = line.rank; destroys = items } in x) (set_tree line.destroys);
       few = few line.node.member h.node.member;
       normal = λ plain. plain_front plain.front (token.Name plain.name) plain.after _ plain.is written.plain;
@@ -157,7 +162,7 @@ line_bytes line rest =
 pub record AreRead (lines : List Line) : Type 0 where
   pub cut : AreFrontLines (flat_map node_line lines) (map line_text lines) []
   pub rows : AreRows (map line_text lines) (map line_tokens lines)
-  pub each : AllZip (IsNodeLine One) (map line_tokens lines) lines
+  pub each : AllZip (IsNodeLine Two) (map line_tokens lines) lines
 
 lines_are_read : (lines : List Line) → AllByRecursion IsWritableLine lines → AreRead lines
 lines_are_read [] h = record { cut = refl; rows = refl; each = tt }
@@ -198,9 +203,9 @@ certificate_is_name = record { name = (refl, All-from_recursion (λ b. is_name_b
 bound_is_name : IsFreeName (codes "bound")
 bound_is_name = record { name = (refl, All-from_recursion (λ b. is_name_byte b ≡ true) (codes "ound") (refl, (refl, (refl, (refl, tt))))); free = bound_is_free }
 
-header_written : IsWritten (codes "certificate 1") (token.Name (codes "certificate") ∷ token.Number (codes "1") ∷ [])
+header_written : IsWritten (codes "certificate 2") (token.Name (codes "certificate") ∷ token.Number (codes "2") ∷ [])
 header_written =
-    name_then (codes "certificate") (codes " 1") _ certificate_is_name refl (blank_then (codes "1") _ (digits_then (codes "1") [] [] tt (refl, tt) tt nothing))
+    name_then (codes "certificate") (codes " 2") _ certificate_is_name refl (blank_then (codes "2") _ (digits_then (codes "2") [] [] tt (refl, tt) tt nothing))
 
 bound_written : (n : ℕ) → n ≤ greatest → IsWritten (codes "bound " ++ decimal n) (token.Name (codes "bound") ∷ token.Number (decimal n) ∷ [])
 bound_written n h =
@@ -215,14 +220,14 @@ text_is_read certificate h =
     let bound = decimal certificate.bound in
     let header = header_written in
     let second = bound_written certificate.bound h.bound in
-    let bytes : certificate_text certificate ≡ codes "certificate 1\nbound " ++ (bound ++ (10 ∷ others)) = ap (λ (rest : List ℕ). codes "certificate 1\nbound " ++ rest) (append_assoc bound (codes "\n") others) in
+    let bytes : certificate_text certificate ≡ codes "certificate 2\nbound " ++ (bound ++ (10 ∷ others)) = ap (λ (rest : List ℕ). codes "certificate 2\nbound " ++ rest) (append_assoc bound (codes "\n") others) in
     record {
-      version = One;
-      first = token.Name (codes "certificate") ∷ token.Number (codes "1") ∷ [];
+      version = Two;
+      first = token.Name (codes "certificate") ∷ token.Number (codes "2") ∷ [];
       second = token.Name (codes "bound") ∷ token.Number bound ∷ [];
       others = map line_tokens certificate.lines;
       has_rows = record {
-        lines = codes "certificate 1" ∷ (codes "bound " ++ bound) ∷ map line_text certificate.lines;
+        lines = codes "certificate 2" ∷ (codes "bound " ++ bound) ∷ map line_text certificate.lines;
         cut = (
           codes "bound " ++ (bound ++ (10 ∷ others)),
           record { unbroken = header.unbroken; ends = inl bytes },
@@ -230,7 +235,7 @@ text_is_read certificate h =
         );
         are_rows = (_, _, header.cut, (_, _, second.cut, nodes.rows, refl), refl);
       };
-      header = record { numeral = record { digits = codes "1"; fits = omega arith }; spelled = refl; value = refl };
+      header = record { numeral = record { digits = codes "2"; fits = omega arith }; spelled = refl; value = refl };
       bound = record { numeral = record { digits = bound; fits = let value = (are_digits certificate.bound (below certificate.bound h.bound)).value in let most = h.bound in omega arith }; spelled = refl; value = (are_digits certificate.bound (below certificate.bound h.bound)).value };
       nodes = nodes.each;
     }

@@ -6,7 +6,7 @@ use Rattle.certificate_lang.specs.declared.certificate.MemberName.{MemberName}
 use Rattle.certificate_lang.specs.declared.certificate.MemberName.TheVariants.{Method, Property, Destruction}
 use Rattle.certificate_lang.specs.declared.certificate.NodeName.{NodeName}
 use Rattle.certificate_lang.specs.declared.certificate.SetItem.{SetItem}
-use Rattle.certificate_lang.specs.declared.certificate.SetItem.TheVariants.{Class}
+use Rattle.certificate_lang.specs.declared.certificate.SetItem.TheVariants.{Class, Closure}
 use Rattle.certificate_lang.specs.declared.certificate.Line.{Line}
 use Rattle.certificate_lang.specs.declared.certificate.Certificate.{Certificate}
 
@@ -19,20 +19,21 @@ node_text_of class Destruction = codes "~" ++ class
 abbrev pub node_text : NodeName → List ℕ
 node_text node = node_text_of node.class node.member
 
--- `C`
+-- `C` or `~C`
 abbrev pub item_text : SetItem → List ℕ
 item_text (Class name) = name
+item_text (Closure name) = codes "~" ++ name
 
--- ` C`
+-- .. with a blank in front
 abbrev pub listed_text : SetItem → List ℕ
 listed_text item = codes " " ++ item_text item
 
--- `NODE RANK {CLASS}`
+-- `NODE RANK {ITEM}`
 abbrev pub node_line : Line → List ℕ
 node_line line =
     node_text line.node ++ (codes " " ++ (decimal line.rank ++ (flat_map listed_text line.destroys ++ codes "\n")))
 
--- version 1, the bound, and the lines of the nodes
+-- version 2, the bound, and the lines of the nodes
 abbrev pub certificate_text : Certificate → List ℕ
 certificate_text certificate =
-    codes "certificate 1\n" ++ (codes "bound " ++ decimal certificate.bound ++ codes "\n") ++ flat_map node_line certificate.lines
+    codes "certificate 2\n" ++ (codes "bound " ++ decimal certificate.bound ++ codes "\n") ++ flat_map node_line certificate.lines

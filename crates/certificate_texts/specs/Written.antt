@@ -11,7 +11,7 @@ use Rattle.certificate_lang.specs.declared.certificate.MemberName.{MemberName}
 use Rattle.certificate_lang.specs.declared.certificate.MemberName.TheVariants.{Method, Property, Destruction}
 use Rattle.certificate_lang.specs.declared.certificate.NodeName.{NodeName}
 use Rattle.certificate_lang.specs.declared.certificate.SetItem.{SetItem}
-use Rattle.certificate_lang.specs.declared.certificate.SetItem.TheVariants.{Class}
+use Rattle.certificate_lang.specs.declared.certificate.SetItem.TheVariants.{Class, Closure}
 use Rattle.certificate_lang.specs.declared.certificate.Line.{Line}
 use Rattle.certificate_lang.specs.declared.certificate.Certificate.{Certificate}
 use Rattle.certificate_texts.specs.Texts.{node_text, certificate_text}
@@ -29,6 +29,7 @@ pub record IsWritableNode (node : NodeName) : Type 0 where
 -- a class's name isn't a reserved word either
 abbrev pub IsWritableItem : SetItem → Type 0
 IsWritableItem (Class name) = IsFreeName name
+IsWritableItem (Closure name) = IsFreeName name
 
 -- no number is larger than one may be
 pub record IsWritableLine (line : Line) : Type 0 where
