@@ -1,16 +1,20 @@
 -- Sets of classes from items.
-use Rattle.std.proofs.Common.{◌≡◌, ◌⊎◌, inl, inr, ℕ, ◌+◌, ◌<◌, ◌≤◌, Bool, true, false, List, length, get_or, set, take, replicate, refl, sym, ◌∙◌, subst, arith, get_or-set_same, get_or-set_other}
+use Rattle.std.proofs.Common.{◌≡◌, ◌↔◌, ◌⊎◌, inl, inr, ℕ, ◌+◌, ◌<◌, ◌≤◌, Bool, true, false, List, length, get_or, set, take, replicate, refl, sym, ◌∙◌, subst, arith}
 use Rattle.std.specs.List.{Contains}
-use Rattle.std.proofs.lemmas.Bool.{cases_eq, cases_lt}
-use Rattle.std.proofs.lemmas.List.{length-set, length-replicate, get_or-replicate, get_or_past, take_all}
+use Rattle.std.proofs.lemmas.Bool.{cases_lt}
+use Rattle.std.proofs.lemmas.List.{length-replicate, get_or-replicate, get_or_past, take_all}
 use Rattle.std.proofs.lemmas.Option.{slice_get_within}
 use Rattle.meta_model.specs.Loaded.{Loaded}
-use Rattle.effect_scan.specs.code.Relations.{IsMarked}
+use Rattle.meta_model.specs.Members.{IsClassNamed}
+use Rattle.effect_scan.specs.Rows.{row}
+use Rattle.effect_scan.specs.Destroying.{Closure, itself, child, AreClosures}
+use Rattle.effect_scan.specs.code.Relations.{IsMarked, Marks}
 use Rattle.effect_scan.proofs.Adding.{no_members, first_more}
+use Rattle.effect_scan.proofs.Relating.{below_first, mark_one}
 use Rattle.certificate_lang.specs.declared.certificate.SetItem.{SetItem}
-use Rattle.certificate_lang.specs.declared.certificate.SetItem.TheVariants.{Class}
+use Rattle.certificate_lang.specs.declared.certificate.SetItem.TheVariants as item
 use Rattle.rank_check.specs.Valid.{StandsFor, IsListed, AreClassesThere}
-use Rattle.rank_check.specs.Entries.{IsSet, StandsForNone}
+use Rattle.rank_check.specs.Entries.{IsSet, StandsForNoClass, AddsItem, StandsForNone}
 use Rattle.rank_check.proofs.Elements.{at_index, element_at}
 
 -- the set of the first items, with a mark for each class
@@ -18,7 +22,7 @@ pub record SetsFirst (p : Loaded) (items : List SetItem) (set : List Bool) : Typ
   pub count : length set ≡ length p.classes
   pub is : IsSet p items set
 
-unmarked : (count d : ℕ) → ¬ IsMarked (replicate count false) d
+pub unmarked : (count d : ℕ) → ¬ IsMarked (replicate count false) d
 unmarked count d h =
     elim (cases_lt d count) [
       | inl l ↦ let off = get_or-replicate count d false false l in let bad : false ≡ true = sym off ∙ h in cc
@@ -34,15 +38,58 @@ none_set p items count e = record {
   };
 }
 
-class_inside : (p : Loaded) (item : SetItem) (c : ℕ) → StandsFor p item c → c < length p.classes
-class_inside p (Class name) c h = slice_get_within p.classes c h.class h.is.is
+-- ---- the classes of one item
+
+-- a closure is of classes
+pub closure_low : (p : Loaded) (c d : ℕ) → Closure p c d → d < length p.classes
+closure_low p c d (itself is) = slice_get_within p.classes c _ is.is
+closure_low p c d (child closure owns) = below_first p d owns.owns.child owns.by.child
+
+pub row_low : (p : Loaded) (closures : List (List ℕ)) → AreClosures p closures → (c d count : ℕ) → count ≡ length p.classes → Contains (row closures c) d → d < count
+row_low p closures are c d count e held = let low = closure_low p c d ((are.members c d).0 held) in omega arith
+
+marks_same : {P Q : ℕ → Type 0} {before after : List Bool} → ((j : ℕ) → P j ↔ Q j) → Marks P before after → Marks Q before after
+marks_same same m = record {
+  count = m.count;
+  marks = λ j. (
+    λ h. elim ((m.marks j).0 h) [ inl old ↦ inl old | inr new ↦ inr ((same j).0 new) ],
+    λ h. (m.marks j).1 (elim h [ inl old ↦ inl old | inr new ↦ inr ((same j).1 new) ]),
+  );
+}
+
+module _ (p : Loaded) (name : List ℕ) where
+  pub none_named : ((c : ℕ) → ¬ IsClassNamed p name c) → StandsForNoClass p (item.Closure name)
+  none_named none d h = none h.0 h.1
+
+  module _ (c : ℕ) (named : IsClassNamed p name c) where
+    pub class_low : (count : ℕ) → count ≡ length p.classes → c < count
+    class_low count e = let low = slice_get_within p.classes c named.class named.is.is in omega arith
+
+    module _ (only : (d : ℕ) → IsClassNamed p name d → d ≡ c) (before : List Bool) where
+      pub class_added : length before ≡ length p.classes → AddsItem p (item.Class name) before true (set before c true)
+      class_added count = (
+        (c, named),
+        marks_same (λ j. (λ e. subst (λ (d : ℕ). IsClassNamed p name d) (sym e) named, λ h. only j h)) (mark_one before c (class_low (length before) count)),
+      )
+
+      pub closure_added : (closures : List (List ℕ)) (after : List Bool) → AreClosures p closures → Marks (Contains (row closures c)) before after → AddsItem p (item.Closure name) before true after
+      closure_added closures after are marks = (
+        (c, (c, named, itself named.is)),
+        marks_same
+            (λ j. (
+              λ held. (c, named, (are.members c j).0 held),
+              λ h. (are.members c j).1 (subst (λ (d : ℕ). Closure p d j) (only h.0 h.1) h.2),
+            ))
+            marks,
+      )
 
 pub none_there : (p : Loaded) (items : List SetItem) (i : ℕ) → StandsForNone p items i → ¬ AreClassesThere p items
 none_there p items i h all = let c = all h.item (element_at items i h.item h.stands) in h.none c.0 c.1
 
+-- ---- items
 module _ (p : Loaded) (items : List SetItem) (i : ℕ) (item : SetItem) (inside : i < length items) (is : item ≡ get_or items i item) where
-  pub class_lacks : ((c : ℕ) → ¬ StandsFor p item c) → StandsForNone p items i
-  class_lacks none = record { item = item; stands = at_index items i item inside is; none = none }
+  pub item_lacks : StandsForNoClass p item → StandsForNone p items i
+  item_lacks none = record { item = item; stands = at_index items i item inside is; none = none }
 
   newest : (x : SetItem) → Contains (take (i + 1) items) x → Contains (take i items) x ⊎ (x ≡ item)
   newest x h = elim ((first_more items i item inside x).0 h) [ inl old ↦ inl old | inr e ↦ inr (e ∙ sym is) ]
@@ -50,35 +97,27 @@ module _ (p : Loaded) (items : List SetItem) (i : ℕ) (item : SetItem) (inside 
   older : (x : SetItem) → Contains (take i items) x ⊎ (x ≡ item) → Contains (take (i + 1) items) x
   older x h = (first_more items i item inside x).1 (elim h [ inl old ↦ inl old | inr e ↦ inr (e ∙ is) ])
 
-  module _ (c : ℕ) (class : StandsFor p item c) (only : (d : ℕ) → StandsFor p item d → d ≡ c) (before : List Bool) (h : SetsFirst p (take i items) before) where
-    low : c < length before
-    low = let in_program = class_inside p item c class in omega (arith, h.count)
-
-    marked_now : (d : ℕ) → IsMarked (set before c true) d → IsListed p (take (i + 1) items) d
+  module _ (before after : List Bool) (adds : AddsItem p item before true after) (h : SetsFirst p (take i items) before) where
+    marked_now : (d : ℕ) → IsMarked after d → IsListed p (take (i + 1) items) d
     marked_now d m =
-        elim (cases_eq d c) [
-          | inl e ↦ record { item = item; listed = older item (inr refl); stands_for = subst (λ (x : ℕ). StandsFor p item x) (sym e) class }
-          | inr ne ↦
-              let old = (h.is.marks d).0 (sym (get_or-set_other before c d true false ne) ∙ m) in
-              record { item = old.item; listed = older old.item (inl old.listed); stands_for = old.stands_for }
+        elim ((adds.1.marks d).0 m) [
+          | inl marked ↦ let old = (h.is.marks d).0 marked in record { item = old.item; listed = older old.item (inl old.listed); stands_for = old.stands_for }
+          | inr stands ↦ record { item = item; listed = older item (inr refl); stands_for = stands }
         ]
 
-    listed_now : (d : ℕ) → IsListed p (take (i + 1) items) d → IsMarked (set before c true) d
+    listed_now : (d : ℕ) → IsListed p (take (i + 1) items) d → IsMarked after d
     listed_now d l =
-        elim (cases_eq d c) [
-          | inl e ↦ subst (λ (x : ℕ). IsMarked (set before c true) x) (sym e) (get_or-set_same before c true false low)
-          | inr ne ↦
-              elim (newest l.item l.listed) [
-                | inl old ↦ get_or-set_other before c d true false ne ∙ (h.is.marks d).1 (record { item = l.item; listed = old; stands_for = l.stands_for })
-                | inr e ↦ absurd (ne (only d (subst (λ (x : SetItem). StandsFor p x d) e l.stands_for)))
-              ]
-        ]
+        (adds.1.marks d).1
+        (elim (newest l.item l.listed) [
+          | inl old ↦ inl ((h.is.marks d).1 (record { item = l.item; listed = old; stands_for = l.stands_for }))
+          | inr e ↦ inr (subst (λ (x : SetItem). StandsFor p x d) e l.stands_for)
+        ])
 
-    pub set_more : SetsFirst p (take (i + 1) items) (set before c true)
+    pub set_more : SetsFirst p (take (i + 1) items) after
     set_more = record {
-      count = length-set before c true ∙ h.count;
+      count = adds.1.count ∙ h.count;
       is = record {
-        there = λ x l. elim (newest x l) [ inl old ↦ h.is.there x old | inr e ↦ (c, subst (λ (y : SetItem). StandsFor p y c) (sym e) class) ];
+        there = λ x l. elim (newest x l) [ inl old ↦ h.is.there x old | inr e ↦ subst (λ (y : SetItem). (d : ℕ) × StandsFor p y d) (sym e) adds.0 ];
         marks = λ d. (marked_now d, listed_now d);
       };
     }

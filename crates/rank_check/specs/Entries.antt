@@ -1,11 +1,11 @@
 -- What a check keeps of a certificate, by the numbers of lines, nodes and classes.
-use Rattle.std.specs.Prelude.{◌≡◌, ◌↔◌, ◌<◌, ℕ, Bool, List, length, Option, Some, None, Result, Ok, Err, MatchResult, slice_get, slice_index_or}
+use Rattle.std.specs.Prelude.{◌≡◌, ◌↔◌, ◌<◌, ℕ, Bool, true, false, List, length, Option, Some, None, Result, Ok, Err, MatchResult, slice_get, slice_index_or}
 use Rattle.std.specs.List.{Contains, AllZip}
 use Rattle.meta_model.specs.Loaded.{Loaded}
 use Rattle.meta_model.specs.LookUps.{LooksUp, FindsOnly}
 use Rattle.effect_scan.specs.declared.node.Node.{Node}
 use Rattle.effect_scan.specs.Nodes.{nodes_of, IsAt}
-use Rattle.effect_scan.specs.code.Relations.{IsMarked}
+use Rattle.effect_scan.specs.code.Relations.{IsMarked, Marks}
 use Rattle.typing.specs.Wires.{AreFitWires}
 use Rattle.typing.specs.Typed.{IsTypedProgram}
 use Rattle.certificate_lang.specs.declared.certificate.NodeName.{NodeName}
@@ -96,11 +96,20 @@ pub record IsSet (p : Loaded) (items : List SetItem) (set : List Bool) : Type 0 
   pub there : AreClassesThere p items
   pub marks : (d : ℕ) → IsMarked set d ↔ IsListed p items d
 
--- the item at this place stands for no class
+-- the item stands for no class
+abbrev pub StandsForNoClass : Loaded → SetItem → Type 0
+StandsForNoClass p item = (d : ℕ) → ¬ StandsFor p item d
+
+-- the item stands for some classes, and just these are added to the set; or it stands for none
+abbrev pub AddsItem : Loaded → SetItem → List Bool → Bool → List Bool → Type 0
+AddsItem p item before true after = ((d : ℕ) × StandsFor p item d) × Marks (StandsFor p item) before after
+AddsItem p item before false after = StandsForNoClass p item
+
+-- .. the item at this place
 pub record StandsForNone (p : Loaded) (items : List SetItem) (place : ℕ) : Type 0 where
   pub item : SetItem
   pub stands : slice_get items place ≡ Some item
-  pub none : (d : ℕ) → ¬ StandsFor p item d
+  pub none : StandsForNoClass p item
 
 -- the set, or the place of a class that isn't there
 abbrev pub FindsSet : Loaded → List SetItem → Result (List Bool) ℕ → Type 0

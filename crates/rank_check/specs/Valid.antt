@@ -13,7 +13,7 @@ use Rattle.effect_scan.specs.Destroying.{Closure}
 use Rattle.typing.specs.Wires.{AreFitWires}
 use Rattle.typing.specs.Typed.{IsTypedProgram}
 use Rattle.certificate_lang.specs.declared.certificate.SetItem.{SetItem}
-use Rattle.certificate_lang.specs.declared.certificate.SetItem.TheVariants.{Class}
+use Rattle.certificate_lang.specs.declared.certificate.SetItem.TheVariants as item
 use Rattle.certificate_lang.specs.declared.certificate.Line.{Line}
 use Rattle.certificate_lang.specs.declared.certificate.Certificate.{Certificate}
 use Rattle.rank_check.specs.declared.ranks.TheConstants.{MOST_BOUND}
@@ -24,9 +24,10 @@ pub record IsLineOf (p : Loaded) (certificate : Certificate) (x : Node) (line : 
   pub stands : Contains certificate.lines line
   pub named : IsNodeNamed p line.node x
 
--- class d is one of those that the item stands for
+-- class d is one of those that the item stands for: the class of its name, or with `~` those of the closure of that class
 abbrev pub StandsFor : Loaded → SetItem → ℕ → Type 0
-StandsFor p (Class name) d = IsClassNamed p name d
+StandsFor p (item.Class name) d = IsClassNamed p name d
+StandsFor p (item.Closure name) d = (c : ℕ) × IsClassNamed p name c × Closure p c d
 
 -- .. that one of the items stands for
 pub record IsListed (p : Loaded) (items : List SetItem) (d : ℕ) : Type 0 where
@@ -38,7 +39,7 @@ pub record IsListed (p : Loaded) (items : List SetItem) (d : ℕ) : Type 0 where
 abbrev pub Destroys : Loaded → Line → ℕ → Type 0
 Destroys p line d = IsListed p line.destroys d
 
--- each of the items stands for a class that is there
+-- each of the items stands for some class, so that the class of its name is there
 abbrev pub AreClassesThere : Loaded → List SetItem → Type 0
 AreClassesThere p items = (item : SetItem) → Contains items item → (d : ℕ) × StandsFor p item d
 

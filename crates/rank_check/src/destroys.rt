@@ -2,7 +2,7 @@
 
 ghost use Rattle.std.specs.Prelude.{ℕ, ◌≡◌, ◌↔◌, ◌<◌, length, IsTrue, MatchOption};
 ghost use Rattle.std.specs.List.{Contains};
-ghost use Rattle.effect_scan.specs.Rows.{row, Edge};
+ghost use Rattle.effect_scan.specs.Rows.{Edge};
 ghost use Rattle.effect_scan.specs.code.Relations.{IsMarked};
 ghost use Rattle.effect_scan.specs.Scans.{IsScan};
 ghost use Rattle.rank_check.specs.Valid.{RunsBody};
@@ -11,10 +11,9 @@ ghost use Rattle.rank_check.specs.ByNumbers.{AreWithin, HoldsOwn, Hold};
 use crate::causes::{Mistake, Place};
 use crate::entries::Entry;
 use crate::sets::{first_lost, is_marked};
-use effect_scan::{Member, Node, Scan};
+use effect_scan::{Member, Node, Scan, row_at};
 use meta_model::Work;
 use meta_objects::Meta;
-use sqlite_items::at;
 
 /// What is wrong with the first set that doesn't hold what it has to, in the order of nodes: the set of each node that it
 /// may lead to; for the destruction of a class its closure; for a slot or native not its own class.
@@ -66,7 +65,7 @@ fn own_mistake(meta: &Meta, scan: &Scan, node: Node, set: &[bool], place: Place)
     ensures { let Holds = HoldsOwn meta.now node set.now in MatchOption result Holds (λ _. Holds → ⊥) }
 {
     match node.member {
-        Member::Destruction => match first_unmarked(closure_of(scan, node.class), set) {
+        Member::Destruction => match first_unmarked(row_at(scan.destroys(), node.class), set) {
             Some(class) => Some(Mistake::Unclosed(place, class)),
             None => None,
         },
@@ -78,16 +77,6 @@ fn own_mistake(meta: &Meta, scan: &Scan, node: Node, set: &[bool], place: Place)
             }
         }
         Member::Property(_) => None,
-    }
-}
-
-/// The classes whose objects are destroyed with one of this class.
-fn closure_of(scan: &Scan, class: usize) -> &[usize]
-    ensures { result.now ≡ row scan.now.closures class }
-{
-    match at(scan.destroys(), class) {
-        Some(closure) => closure.as_slice(),
-        None => &[],
     }
 }
 

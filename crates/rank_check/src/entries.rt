@@ -43,6 +43,7 @@ pub fn entries(
         Ok(places) => placed_entries(
             alloc,
             meta,
+            scan,
             certificate,
             numbers.as_slice(),
             places.as_slice(),
@@ -55,10 +56,12 @@ pub fn entries(
 fn placed_entries(
     alloc: Global,
     meta: &Meta,
+    scan: &Scan,
     certificate: &Certificate,
     numbers: &[Option<usize>],
     places: &[usize],
 ) -> Result<Items<Entry>, Cause>
+    requires scan { IsScan meta.now scan.now }
     requires numbers { AreNumbers meta.now certificate.now.lines numbers.now }
     requires places { ArePlaces (length (nodes_of meta.now)) numbers.now places.now }
     ensures { GivesEntries meta.now certificate.now result }
@@ -66,7 +69,7 @@ fn placed_entries(
     if let Some(extra) = first_extra(numbers, places) {
         return Err(Cause::Extra(extra));
     }
-    match entries_at(alloc, meta, certificate.lines.as_slice(), places)? {
+    match entries_at(alloc, meta, scan, certificate.lines.as_slice(), places)? {
         Ok(entries) => Ok(entries),
         Err(extra) => Err(Cause::Extra(extra)),
     }
@@ -76,15 +79,17 @@ fn placed_entries(
 fn entries_at(
     alloc: Global,
     meta: &Meta,
+    scan: &Scan,
     lines: &[Line],
     places: &[usize],
 ) -> Result<Result<Items<Entry>, Extra>, AllocError>
-    requires { (n k : ℕ) → slice_get places.now n ≡ Some k → k < length lines.now }
+    requires scan { IsScan meta.now scan.now }
+    requires inside { (n k : ℕ) → slice_get places.now n ≡ Some k → k < length lines.now }
     ensures { IfOk result (FindsEntries meta.now lines.now places.now) }
 {
     let mut entries = Items::new(alloc);
     for place in places {
-        match entry_of(alloc, meta, *place, &lines[*place])? {
+        match entry_of(alloc, meta, scan, *place, &lines[*place])? {
             Ok(entry) => entries.push(entry)?,
             Err(extra) => return Ok(Err(extra)),
         }
@@ -96,12 +101,14 @@ fn entries_at(
 fn entry_of(
     alloc: Global,
     meta: &Meta,
+    scan: &Scan,
     place: usize,
     line: &Line,
 ) -> Result<Result<Entry, Extra>, AllocError>
+    requires { IsScan meta.now scan.now }
     ensures { IfOk result (FindsEntry meta.now line.now) }
 {
-    match set_of(alloc, meta, line.destroys.as_slice())? {
+    match set_of(alloc, meta, scan, line.destroys.as_slice())? {
         Ok(destroys) => Ok(Ok(Entry {
             line: place,
             rank: line.rank,

@@ -20,4 +20,5 @@ pub use checked::{Checked, check};
 pub use judging::judge;
 pub use no::No;
 pub use ranks::MOST_BOUND;
+pub use sets::{empty_set, is_marked, mark_all};
 pub use typing::{Spot, unfit_wire, untyped};

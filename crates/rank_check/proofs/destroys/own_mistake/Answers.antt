@@ -2,7 +2,9 @@ use Rattle.rank_check.proofs.Conditions.{own_closed, own_open}
 use Rattle.rank_check.proofs.destroys.own_mistake.Goals as goal
 
 pub returns-in-Some : goal.returns-in-Some
-returns-in-Some c = own_open c.args.meta.now c.args.node c.args.set.now c.args.scan.now.closures c.closure_of.result.now c.requires.closures c.in-Destruction.is c.closure_of.ensures c.in-Some.ensures
+returns-in-Some c =
+    own_open c.args.meta.now c.args.node c.args.set.now c.args.scan.now.closures c.row_at.result.now c.requires.closures c.in-Destruction.is (rw c.destroys.ensures at c.row_at.ensures) c.in-Some.ensures
 
 pub returns-in-None : goal.returns-in-None
-returns-in-None c = own_closed c.args.meta.now c.args.node c.args.set.now c.args.scan.now.closures c.closure_of.result.now c.requires.closures c.in-Destruction.is c.closure_of.ensures c.in-None.ensures
+returns-in-None c =
+    own_closed c.args.meta.now c.args.node c.args.set.now c.args.scan.now.closures c.row_at.result.now c.requires.closures c.in-Destruction.is (rw c.destroys.ensures at c.row_at.ensures) c.in-None.ensures

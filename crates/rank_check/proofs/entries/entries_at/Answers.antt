@@ -9,7 +9,7 @@ use Rattle.rank_check.proofs.entries.entries_at.Goals as goal
 pub loop-place-preserved : goal.loop-place-preserved
 loop-place-preserved c =
     let place = slice_get-get_or c.args.places.now c.loop-place.place-index 0 c.loop-place-test.true in
-    let inside : get_or c.args.places.now c.loop-place.place-index 0 < length c.args.lines.now = c.requires c.loop-place.place-index _ place in
+    let inside : get_or c.args.places.now c.loop-place.place-index 0 < length c.args.lines.now = c.requires.inside c.loop-place.place-index _ place in
     let here = at_index c.args.lines.now _ c.index-lines-place.result inside c.index-lines-place.is in
     let found = rw c.in-Ok.is at c.in_ok-entry.ensures in
     zip_push (IsEntryAt c.args.meta.now c.args.lines.now) c.args.places.now _ _ c.loop-place.place-index _ c.in-Ok.entry c.loop-place-test.true (read_at c.args.places.now c.loop-place.place-index 0 c.loop-place-test.true)

@@ -15,8 +15,8 @@ returns-in-Some c = λ ready. (
   λ all. c.in-Some.ensures (once_where_nothing_else c.args.meta.now c.args.certificate.now c.args.numbers.now c.requires.numbers c.args.places.now c.requires.places all),
 )
 
-pub entries_at-requires : goal.entries_at-requires
-entries_at-requires c = λ n k at.
+pub entries_at-requires-clause-inside : goal.entries_at-requires-clause-inside
+entries_at-requires-clause-inside c = λ n k at.
     let low = place_inside c.args.meta.now c.args.certificate.now c.args.numbers.now c.requires.numbers k n (c.requires.places.is_for n k at) in
     let count = ap (λ (ls : List Line). length ls) c.as_slice.ensures in
     omega arith
