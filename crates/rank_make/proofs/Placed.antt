@@ -2,7 +2,7 @@
 use Rattle.std.proofs.Common.{◌≡◌, inl, inr, ℕ, zero, suc, ◌+◌, ◌<◌, List, [], ◌∷◌, length, map, take, slice_get, Option, Some, None, refl, sym, ap, ◌∙◌, subst, arith}
 use Rattle.std.specs.Option.{option_map}
 use Rattle.std.proofs.lemmas.List.{length-append}
-use Rattle.std.proofs.lemmas.Option.{slice_get-map, slice_get_within, same_Some, none-some}
+use Rattle.std.proofs.lemmas.Option.{slice_get-map, same_Some, none-some}
 use Rattle.signatures.specs.declared.sig.Sig.{Sig}
 use Rattle.meta_model.specs.declared.object.MetaMethod.{MetaMethod}
 use Rattle.meta_model.specs.declared.object.MetaObject.{MetaObject}
@@ -18,9 +18,7 @@ use Rattle.effect_scan.specs.declared.numbering.Shape.{Shape}
 use Rattle.effect_scan.specs.Nodes.{node, shape_of, nodes_from, nodes_of, IsAt}
 use Rattle.effect_scan.specs.Numbering.{IsPlaceIn}
 use Rattle.effect_scan.specs.Laws.{IsNode}
-use Rattle.effect_scan.specs.Destroying.{Closure, itself, child}
 use Rattle.effect_scan.proofs.Numbered.{stands_among, stands_only, one_place}
-use Rattle.effect_scan.proofs.Relating.{below_first}
 use Rattle.effect_scan.proofs.Whole.{made}
 use Rattle.certificate_lang.specs.declared.certificate.NodeName.{NodeName}
 use Rattle.certificate_lang.specs.declared.certificate.MemberName.{MemberName}
@@ -127,8 +125,3 @@ module _ (p : Loaded) where
         let here = subst (λ (c : ℕ). IsMemberNamed p c name.member y.member) class g.member in
         let member : x.member ≡ y.member = one_member x.class name.member x.member y.member h.member here in
         sym (made x x.class x.member refl refl) ∙ ap (λ (m : Member). node x.class m) member ∙ made y x.class y.member class refl
-
-  -- a closure is of classes
-  pub closure_low : (c d : ℕ) → Closure p c d → d < length p.classes
-  closure_low c d (itself is) = slice_get_within p.classes c _ is.is
-  closure_low c d (child closure owns) = below_first p d owns.owns.child owns.by.child

@@ -1,17 +1,23 @@
 -- Rows, names and lines that are made element by element.
-use Rattle.std.proofs.Common.{◌≡◌, inl, inr, Bool, ℕ, zero, suc, ◌+◌, ◌<◌, List, [], ◌∷◌, ◌++◌, length, map, get_or, take, slice_get, Some, refl, sym, ap, ◌∙◌, subst, arith}
-use Rattle.std.specs.List.{AllZip}
-use Rattle.std.proofs.lemmas.List.{length-append, take_more, map-append, get_or_default}
+use Rattle.std.proofs.Common.{◌≡◌, ◌↔◌, ◌⊎◌, inl, inr, Bool, false, ℕ, zero, suc, ◌+◌, ◌<◌, List, [], ◌∷◌, ◌++◌, length, map, get_or, take, slice_get, Some, replicate, refl, sym, ap, ◌∙◌, subst, arith}
+use Rattle.std.specs.List.{AllZip, Contains}
+use Rattle.std.proofs.lemmas.Bool.{cases_eq}
+use Rattle.std.proofs.lemmas.List.{length-append, length-replicate, take_more, map-append, get_or_default}
+use Rattle.std.proofs.lemmas.List.Elements.{Contains-append_left, Contains-push, Contains-push_cases}
 use Rattle.std.proofs.lemmas.Option.{slice_get-get_or, same_Some, none-some}
 use Rattle.meta_model.specs.Loaded.{Loaded}
 use Rattle.meta_model.proofs.Zips.{zip_append, zip_push}
 use Rattle.effect_scan.specs.declared.node.Node.{Node}
 use Rattle.effect_scan.specs.Nodes.{nodes_of, IsAt}
-use Rattle.effect_scan.proofs.Listing.{lists_none, lists_yes, lists_no}
+use Rattle.effect_scan.specs.Destroying.{Closure}
+use Rattle.effect_scan.specs.code.Relations.{IsMarked, Marks}
+use Rattle.effect_scan.proofs.Adding.{no_members}
+use Rattle.effect_scan.proofs.Listing.{increasing_none, increasing_more}
 use Rattle.effect_scan.proofs.Numbered.{get_either}
 use Rattle.certificate_lang.specs.declared.certificate.SetItem.{SetItem}
 use Rattle.certificate_lang.specs.declared.certificate.Line.{Line}
-use Rattle.rank_check.specs.Valid.{StandsFor}
+use Rattle.rank_check.proofs.Listing.{unmarked}
+use Rattle.rank_make.specs.Least.{IsImplied, IsClosureOf}
 use Rattle.rank_make.specs.Solved.{own_of, AreItems, IsLineFor, AreLinesTo}
 use Rattle.rank_make.proofs.Placed.{one_at}
 
@@ -31,19 +37,109 @@ nodes_more nodes all items more numbers i d inside same low before e =
     (subst (λ (ns : List Node). slice_get ns (get_or numbers i 0) ≡ Some (get_or all (get_or numbers i 0) d)) same (slice_get-get_or all (get_or numbers i 0) d low)) before e
 
 -- ---- items of sets
-module _ (p : Loaded) (P : ℕ → Type 0) where
-  pub items_none : AreItems p P 0 []
-  items_none = record { classes = []; lists = lists_none P; each = tt }
 
-  pub items_yes : (n : ℕ) (item : SetItem) (items more : List SetItem) → AreItems p P n items → P n → StandsFor p item n → more ≡ items ++ item ∷ [] → AreItems p P (n + 1) more
-  items_yes n item items more h has stands e = record {
-    classes = h.classes ++ n ∷ [];
-    lists = lists_yes P n h.classes (h.classes ++ n ∷ []) h.lists has refl;
-    each = subst (λ (l : List SetItem). AllZip (StandsFor p) l (h.classes ++ n ∷ [])) (sym e) (zip_append (StandsFor p) items (item ∷ []) h.classes (n ∷ []) h.each (stands, tt));
+-- the items of the classes with P below the end, and which classes are in the closures of those
+pub record WrittenSoFar (p : Loaded) (P : ℕ → Type 0) (end : ℕ) (items : List SetItem) (implied : List Bool) : Type 0 where
+  pub are : AreItems p P end items
+  pub count : length implied ≡ length p.classes
+  pub marks : (d : ℕ) → IsMarked implied d ↔ ((w : ℕ) × Contains are.classes w × Closure p w d)
+
+module _ (p : Loaded) (P : ℕ → Type 0) where
+  pub items_none : (count : ℕ) → count ≡ length p.classes → WrittenSoFar p P 0 [] (replicate count false)
+  items_none count e = record {
+    are = record {
+      classes = [];
+      closures = tt;
+      written = record { each = λ d held. absurd (no_members d held); all = λ d h. absurd (omega (arith, h.0)); increasing = increasing_none };
+    };
+    count = length-replicate count false ∙ e;
+    marks = λ d. (λ h. absurd (unmarked count d h), λ h. absurd (no_members h.0 h.1));
   }
 
-  pub items_no : (n : ℕ) (items : List SetItem) → AreItems p P n items → ¬ P n → AreItems p P (n + 1) items
-  items_no n items h lacks = record { classes = h.classes; lists = lists_no P n h.classes h.lists lacks; each = h.each }
+  module _ (n : ℕ) (items : List SetItem) (implied : List Bool) (h : WrittenSoFar p P n items implied) where
+    low : (e : ℕ) → Contains h.are.classes e → e < n
+    low e held = ((h.are.written.each e held).0).0
+
+    -- a class that isn't in the set, or is in the closure of one that is written, is passed over
+    pub items_no : (P n → IsMarked implied n) → WrittenSoFar p P (n + 1) items implied
+    items_no skipped = record {
+      are = record {
+        classes = h.are.classes;
+        closures = h.are.closures;
+        written = record {
+          each = λ e held. let old = h.are.written.each e held in ((omega (arith, old.0.0), old.0.1), old.1);
+          all = λ e is.
+              elim (cases_eq e n) [
+                | inl here ↦
+                    let in_closure = (h.marks n).0 (skipped (subst P here is.1)) in
+                    inr (record { before = in_closure.0; among = in_closure.1; lower = subst (λ (x : ℕ). in_closure.0 < x) (sym here) (low in_closure.0 in_closure.1); closure = subst (λ (x : ℕ). Closure p in_closure.0 x) (sym here) in_closure.2 })
+                | inr other ↦ h.are.written.all e (omega (arith, is.0, other), is.1)
+              ];
+          increasing = h.are.written.increasing;
+        };
+      };
+      count = h.count;
+      marks = h.marks;
+    }
+
+    module _ (item : SetItem) (more : List SetItem) (after : List Bool) (has : P n) (unmarked_yet : ¬ IsMarked implied n) (closure : IsClosureOf p item n) (pushed : more ≡ items ++ item ∷ []) (row : List ℕ) (is_row : (d : ℕ) → Contains row d ↔ Closure p n d) (marks : Marks (Contains row) implied after) where
+      abbrev classes : List ℕ
+      classes = h.are.classes ++ n ∷ []
+
+      -- what covers a class implied it before, where that is no later than the newest
+      before_newest : (e : ℕ) → e < n + 1 → IsImplied p classes e → IsImplied p h.are.classes e
+      before_newest e within c =
+          elim (Contains-push_cases h.are.classes n c.before c.among) [
+            | inl old ↦ record { before = c.before; among = old; lower = c.lower; closure = c.closure }
+            | inr new ↦ let lower = c.lower in absurd (omega arith)
+          ]
+
+      each_now : (e : ℕ) → Contains classes e → ((e < n + 1) × P e) × ¬ IsImplied p classes e
+      each_now e held =
+          elim (Contains-push_cases h.are.classes n e held) [
+            | inl old ↦
+                let was = h.are.written.each e old in
+                let within : e < n + 1 = omega (arith, was.0.0) in
+                ((within, was.0.1), λ c. was.1 (before_newest e within c))
+            | inr new ↦
+                let within : e < n + 1 = omega arith in (
+                  (within, subst P new has),
+                  λ c. let old = before_newest e within c in unmarked_yet ((h.marks n).1 (old.before, old.among, subst (λ (x : ℕ). Closure p old.before x) (sym new) old.closure)),
+                )
+          ]
+
+      all_now : (e : ℕ) → (e < n + 1) × P e → Contains classes e ⊎ IsImplied p classes e
+      all_now e is =
+          elim (cases_eq e n) [
+            | inl here ↦ inl (subst (λ (x : ℕ). Contains classes x) (sym here) (Contains-push h.are.classes n))
+            | inr other ↦ elim (h.are.written.all e (omega (arith, is.0, other), is.1)) [
+              | inl old ↦ inl (Contains-append_left h.are.classes (n ∷ []) e old)
+              | inr c ↦ inr (record { before = c.before; among = Contains-append_left h.are.classes (n ∷ []) c.before c.among; lower = c.lower; closure = c.closure })
+            ]
+          ]
+
+      -- any other is written
+      pub items_yes : WrittenSoFar p P (n + 1) more after
+      items_yes = record {
+        are = record {
+          classes = classes;
+          closures = subst (λ (l : List SetItem). AllZip (IsClosureOf p) l classes) (sym pushed) (zip_append (IsClosureOf p) items (item ∷ []) h.are.classes (n ∷ []) h.are.closures (closure, tt));
+          written = record { each = each_now; all = all_now; increasing = increasing_more h.are.classes n h.are.written.increasing low };
+        };
+        count = marks.count ∙ h.count;
+        marks = λ d. (
+          λ marked.
+              elim ((marks.marks d).0 marked) [
+                | inl old ↦ let w = (h.marks d).0 old in (w.0, Contains-append_left h.are.classes (n ∷ []) w.0 w.1, w.2)
+                | inr new ↦ (n, Contains-push h.are.classes n, (is_row d).0 new)
+              ],
+          λ w. (marks.marks d).1
+              (elim (Contains-push_cases h.are.classes n w.0 w.1) [
+                | inl old ↦ inl ((h.marks d).1 (w.0, old, w.2))
+                | inr new ↦ inr ((is_row d).1 (subst (λ (x : ℕ). Closure p x d) (sym new) w.2))
+              ]),
+        );
+      }
 
 -- ---- lines
 module _ (p : Loaded) (rank : ℕ → ℕ) (leads : ℕ → ℕ → Bool) where

@@ -10,13 +10,13 @@ use Rattle.effect_scan.specs.declared.node.Member.{Member}
 use Rattle.effect_scan.specs.declared.node.Member.TheVariants.{Method, Property, Destruction}
 use Rattle.effect_scan.specs.Nodes.{nodes_of, IsAt}
 use Rattle.effect_scan.specs.Rows.{row}
-use Rattle.effect_scan.specs.code.Places.{Lists}
 use Rattle.effect_scan.specs.Scans.{Scanned}
 use Rattle.certificate_lang.specs.declared.certificate.SetItem.{SetItem}
 use Rattle.certificate_lang.specs.declared.certificate.Line.{Line}
 use Rattle.rank_check.specs.Names.{IsNodeNamed}
-use Rattle.rank_check.specs.Valid.{HasBody, StandsFor, most_bound}
+use Rattle.rank_check.specs.Valid.{HasBody, most_bound}
 use Rattle.rank_graph.specs.Solutions.{AreRanks, AreClasses}
+use Rattle.rank_make.specs.Least.{AreWritten, IsClosureOf}
 
 -- ---- what a node destroys itself: with `~C` those of the closure of C, anything else nothing
 abbrev pub own_by : List (List ℕ) → ℕ → Member → List ℕ
@@ -56,11 +56,11 @@ abbrev pub AreLow : ℕ → (ℕ → ℕ) → Type 0
 AreLow count rank = (n : ℕ) → n < count → rank n < most_bound
 
 -- ---- items of sets
--- items for the classes with P, in the order of classes
+-- what is written of the classes with P that are below the end
 pub record AreItems (p : Loaded) (P : ℕ → Type 0) (end : ℕ) (items : List SetItem) : Type 0 where
   pub classes : List ℕ
-  pub lists : Lists P end classes
-  pub each : AllZip (StandsFor p) items classes
+  pub closures : AllZip (IsClosureOf p) items classes
+  pub written : AreWritten p (λ e. (e < end) × P e) classes
 
 -- the class has the member
 abbrev pub HasMember : MetaObject → Member → Type 0

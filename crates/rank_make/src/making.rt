@@ -21,13 +21,15 @@ use std::alloc::Global;
 use typing::{unfit_wire, untyped};
 
 /// The least valid certificate of the program: its lines are those of the nodes in their order, each with the number of
-/// edges of the longest chain from the node and the classes of those objects that may be destroyed from there, in their
-/// order; its bound is just above all ranks. No valid certificate has a smaller bound, a smaller rank of a node, or a set
-/// of a node without one of these classes. Where no certificate is valid, the error is the first reason that holds:
+/// edges of the longest chain from the node and the set of the classes of those objects that may be destroyed from there;
+/// its bound is just above all ranks. Of a set is written, in the order of classes, `~E` for each class E in it that isn't
+/// in the closure of one written before. No valid certificate has a smaller bound, a smaller rank of a node, or a set of a
+/// node without one of these classes. Where no certificate is valid, the error is the first reason that holds:
 /// `Wire`, where a wire's method doesn't fit its signal; `BodyType`, where a literal, a body or a binding isn't typed;
 /// `Cycle`, where edges lead back to a node; `DestroyPath`, where they lead from a slot or native of a class C to a `~X`
 /// whose closure holds C; `TooHigh`, where a chain has 257 nodes. `Memory` comes only where a growth of memory was
-/// refused. Beside the scan, time is linear in the nodes and edges for each 64 classes, and in nodes times classes.
+/// refused. Beside the scan, time is linear in the nodes and edges for each 64 classes, in nodes times classes, and in the
+/// closures of the classes that are written.
 pub fn make(alloc: Global, meta: &Meta) -> Result<Certificate, Why>
     ensures { Makes meta.now result }
 {

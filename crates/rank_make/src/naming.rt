@@ -10,10 +10,10 @@ ghost use Rattle.rank_check.specs.Valid.{most_bound};
 ghost use Rattle.rank_graph.specs.Solutions.{rank_of, leads_of};
 ghost use Rattle.rank_make.specs.Solved.{AreLow, AreItems, IsLineFor, AreLinesFor, HasMember};
 
-use effect_scan::{Member, Node, Scan};
+use effect_scan::{Member, Node, Scan, row_at};
 use meta_model::MetaObject;
 use meta_objects::Meta;
-use rank_check::{Line, MemberName, NodeName, SetItem};
+use rank_check::{Line, MemberName, NodeName, SetItem, empty_set, is_marked, mark_all};
 use rank_graph::Solution;
 use sqlite_items::Items;
 use std::alloc::{AllocError, Global};
@@ -31,7 +31,7 @@ pub fn lines(
 {
     let mut lines = Items::new(alloc);
     for (number, node) in scan.nodes().iter().enumerate() {
-        let line = line_of(alloc, meta, solution, number, *node)?;
+        let line = line_of(alloc, meta, scan, solution, number, *node)?;
         lines.push(line)?;
     }
     Ok(lines)
@@ -41,16 +41,18 @@ pub fn lines(
 fn line_of(
     alloc: Global,
     meta: &Meta,
+    scan: &Scan,
     solution: &Solution,
     number: usize,
     node: Node,
 ) -> Result<Line, AllocError>
+    requires scan { IsScan meta.now scan.now }
     requires node { IsNode meta.now node }
     requires low { rank_of solution.now number < most_bound }
     ensures { IfOk result (IsLineFor meta.now (rank_of solution.now) (leads_of solution.now) number node) }
 {
     let name = node_name(alloc, meta, node)?;
-    let destroys = set_items(alloc, meta, solution, number)?;
+    let destroys = set_items(alloc, meta, scan, solution, number)?;
     Ok(Line {
         node: name,
         rank: solution.rank(number) as u32,
@@ -58,20 +60,27 @@ fn line_of(
     })
 }
 
-/// The classes that the node of this number leads to, in the order of classes. Its error is that memory was refused.
+/// The items of the set of the node of this number: in the order of classes, `~E` for each class E that it leads to and
+/// that isn't in the closure of one written before it. Its error is that memory was refused.
 fn set_items(
     alloc: Global,
     meta: &Meta,
+    scan: &Scan,
     solution: &Solution,
     node: usize,
 ) -> Result<Items<SetItem>, AllocError>
+    requires { IsScan meta.now scan.now }
     ensures { IfOk result (AreItems meta.now (λ d. leads_of solution.now node d ≡ true) (length meta.now.classes)) }
 {
+    let classes = meta.classes();
     let mut items = Items::new(alloc);
-    for (class, object) in meta.classes().iter().enumerate() {
-        if solution.leads_to(node, class) {
+    // The classes in the closures of those that are written.
+    let mut implied = empty_set(alloc, classes.len())?;
+    for (class, object) in classes.iter().enumerate() {
+        if solution.leads_to(node, class) && !is_marked(implied.as_slice(), class) {
             let name = object.name.copy()?;
-            items.push(SetItem::Class(name))?;
+            items.push(SetItem::Closure(name))?;
+            mark_all(&mut implied, row_at(scan.destroys(), class));
         }
     }
     Ok(items)

@@ -1,6 +1,6 @@
 use Rattle.rank_check.proofs.Conditions.{edges_inside}
+use Rattle.rank_check.proofs.Listing.{closure_low}
 use Rattle.rank_make.proofs.Barred.{cycle_bars}
-use Rattle.rank_make.proofs.Placed.{closure_low}
 use Rattle.rank_make.proofs.Numbers.{own_is}
 use Rattle.rank_make.proofs.Told.{cycle_inside, cycle_told}
 use Rattle.std.proofs.Common.{length}
