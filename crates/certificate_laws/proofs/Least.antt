@@ -1,5 +1,5 @@
 -- Least certificates are equal.
-use Rattle.std.proofs.Common.{◌≡◌, ℕ, List, [], ◌∷◌, slice_get, Some, Ok, refl, sym, ap, ◌∙◌, subst, arith}
+use Rattle.std.proofs.Common.{◌≡◌, inl, inr, ℕ, zero, suc, ◌<◌, List, [], ◌∷◌, slice_get, Some, Ok, refl, sym, ap, ◌∙◌, subst, arith}
 use Rattle.std.specs.List.{Contains, AllZip}
 use Rattle.std.proofs.lemmas.Option.{same_Some}
 use Rattle.signatures.specs.declared.sig.Sig.{Sig}
@@ -9,8 +9,6 @@ use Rattle.meta_model.specs.declared.object.MetaObject.{MetaObject}
 use Rattle.meta_model.specs.Loaded.{Loaded}
 use Rattle.meta_model.specs.Members.{IsClassNamed, HasSig, IsPropertyNamed}
 use Rattle.meta_model.specs.Sound.{IsSound}
-use Rattle.meta_model.proofs.OneAnswer.{one_class}
-use Rattle.meta_model.proofs.Zips.{zip_left, zip_right}
 use Rattle.meta_objects.specs.Builds.{Builds}
 use Rattle.meta_objects.proofs.FoundClasses.{one_loading, form_sound}
 use Rattle.class_lang.proofs.OneAnswer.{one_program_text}
@@ -22,14 +20,13 @@ use Rattle.certificate_lang.specs.declared.certificate.MemberName.{MemberName}
 use Rattle.certificate_lang.specs.declared.certificate.MemberName.TheVariants as member
 use Rattle.certificate_lang.specs.declared.certificate.NodeName.{NodeName}
 use Rattle.certificate_lang.specs.declared.certificate.SetItem.{SetItem}
-use Rattle.certificate_lang.specs.declared.certificate.SetItem.TheVariants.{Class}
+use Rattle.certificate_lang.specs.declared.certificate.SetItem.TheVariants as item
 use Rattle.certificate_lang.specs.declared.certificate.Line.{Line}
 use Rattle.certificate_lang.specs.declared.certificate.Certificate.{Certificate}
 use Rattle.rank_check.specs.Names.{IsMemberNamed, IsNodeNamed}
-use Rattle.rank_check.specs.Valid.{IsLineOf, StandsFor, IsListed}
-use Rattle.rank_check.proofs.Elements.{place_of, element_at}
+use Rattle.rank_check.specs.Valid.{IsLineOf}
 use Rattle.rank_graph.proofs.Distinct.{in_first, in_rest}
-use Rattle.rank_make.specs.Least.{AreInOrder, IsLeastValid}
+use Rattle.rank_make.specs.Least.{AreWritten, IsClosureOf, IsLeastValid}
 use Rattle.certificate_laws.specs.Laws.{OneLeast, OneMade}
 use Rattle.certificate_laws.proofs.Increasing.{one_list}
 
@@ -78,33 +75,45 @@ module _ (p : Loaded) where
       ap (λ (c : List ℕ). let n : NodeName = record { class = c; member = a.member } in n) class
       ∙ ap (λ (m : MemberName). let n : NodeName = record { class = b.class; member = m } in n) named
 
-  set_items : (cs : List ℕ) (ms ns : List SetItem) → AllZip (StandsFor p) ms cs → AllZip (StandsFor p) ns cs → ms ≡ ns
+  set_items : (cs : List ℕ) (ms ns : List SetItem) → AllZip (IsClosureOf p) ms cs → AllZip (IsClosureOf p) ns cs → ms ≡ ns
   set_items [] [] [] h g = refl
   set_items [] (m ∷ ms) ns h g = absurd h
   set_items [] [] (n ∷ ns) h g = absurd g
   set_items (c ∷ cs) [] ns h g = absurd h
   set_items (c ∷ cs) (m ∷ ms) [] h g = absurd g
-  set_items (c ∷ cs) (Class m ∷ ms) (Class n ∷ ns) h g =
-      ap (λ (x : List ℕ). Class x ∷ ms) (class_name c m n h.0 g.0) ∙ ap (λ (xs : List SetItem). Class n ∷ xs) (set_items cs ms ns h.1 g.1)
+  set_items (c ∷ cs) (item.Class m ∷ ms) (n ∷ ns) h g = absurd h.0
+  set_items (c ∷ cs) (item.Closure m ∷ ms) (item.Class n ∷ ns) h g = absurd g.0
+  set_items (c ∷ cs) (item.Closure m ∷ ms) (item.Closure n ∷ ns) h g =
+      ap (λ (x : List ℕ). item.Closure x ∷ ms) (class_name c m n h.0 g.0) ∙ ap (λ (xs : List SetItem). item.Closure n ∷ xs) (set_items cs ms ns h.1 g.1)
+
+  -- ---- sets
+  -- what is written of a set is written of any set with the same classes
+  module _ {P Q : ℕ → Type 0} (cs ds : List ℕ) (h : AreWritten p P cs) (g : AreWritten p Q ds) (to : (e : ℕ) → P e → Q e) (back : (e : ℕ) → Q e → P e) where
+    abbrev IsSameAt : ℕ → Type 0
+    IsSameAt e = (Contains cs e → Contains ds e) × (Contains ds e → Contains cs e)
+
+    -- .. class by class, since those before decide what is implied
+    same_below : (n e : ℕ) → e < n → IsSameAt e
+    same_below zero e low = absurd (omega (arith, low))
+    same_below (suc n) e low = (
+      λ held.
+          let here = h.each e held in
+          elim (g.all e (to e here.0)) [
+            | inl there ↦ there
+            | inr c ↦ absurd (here.1 (record { before = c.before; among = (same_below n c.before (omega (arith, c.lower, low))).1 c.among; lower = c.lower; closure = c.closure }))
+          ],
+      λ held.
+          let here = g.each e held in
+          elim (h.all e (back e here.0)) [
+            | inl there ↦ there
+            | inr c ↦ absurd (here.1 (record { before = c.before; among = (same_below n c.before (omega (arith, c.lower, low))).0 c.among; lower = c.lower; closure = c.closure }))
+          ],
+    )
+
+    written_same : cs ≡ ds
+    written_same = one_list cs ds h.increasing g.increasing (λ e held. (same_below (suc e) e (omega arith)).0 held) (λ e held. (same_below (suc e) e (omega arith)).1 held)
 
   module _ (is : IsSound p) where
-    -- ---- sets
-    listed : (items : List SetItem) (order : AreInOrder p items) (d : ℕ) → Contains order.classes d → IsListed p items d
-    listed items order d held =
-        let at = place_of order.classes d held in
-        let pair = zip_right (StandsFor p) items order.classes order.each at.0 d at.1 in
-        record { item = pair.0; listed = element_at items at.0 pair.0 pair.1; stands_for = pair.2 }
-
-    one_item : (item : SetItem) (d e : ℕ) → StandsFor p item d → StandsFor p item e → e ≡ d
-    one_item (Class name) d e h g = one_class p is name d e h g
-
-    stands : (items : List SetItem) (order : AreInOrder p items) (d : ℕ) → IsListed p items d → Contains order.classes d
-    stands items order d h =
-        let at = place_of items h.item h.listed in
-        let pair = zip_left (StandsFor p) items order.classes order.each at.0 h.item at.1 in
-        let same : pair.0 ≡ d = one_item h.item d pair.0 h.stands_for pair.2 in
-        subst (λ (c : ℕ). Contains order.classes c) same (element_at order.classes at.0 pair.0 pair.1)
-
     module _ (a b : Certificate) (h : IsLeastValid p a) (g : IsLeastValid p b) where
       line_same : (x : Node) (l m : Line) → IsLineOf p a x l → IsLineOf p b x m → l ≡ m
       line_same x l m la lb =
@@ -114,11 +123,10 @@ module _ (p : Loaded) where
           let rank : l.rank ≡ m.rank = omega arith in
           let first = h.order.sets l la.stands in
           let second = g.order.sets m lb.stands in
-          let classes : first.classes ≡ second.classes = one_list first.classes second.classes first.increasing second.increasing
-          (λ d held. stands m.destroys second d (h.least.sets b g.valid x l m d la lb (listed l.destroys first d held)))
-          (λ d held. stands l.destroys first d (g.least.sets a h.valid x m l d lb la (listed m.destroys second d held)))
+          let classes : first.classes ≡ second.classes =
+          written_same first.classes second.classes first.written second.written (λ d listed. h.least.sets b g.valid x l m d la lb listed) (λ d listed. g.least.sets a h.valid x m l d lb la listed)
           in
-          let destroys : l.destroys ≡ m.destroys = set_items second.classes l.destroys m.destroys (subst (λ (cs : List ℕ). AllZip (StandsFor p) l.destroys cs) classes first.each) second.each in
+          let destroys : l.destroys ≡ m.destroys = set_items second.classes l.destroys m.destroys (subst (λ (cs : List ℕ). AllZip (IsClosureOf p) l.destroys cs) classes first.closures) second.closures in
           ap (λ (n : NodeName). let y : Line = record { node = n; rank = l.rank; destroys = l.destroys } in y) node
           ∙ (ap (λ (k : ℕ). let y : Line = record { node = m.node; rank = k; destroys = l.destroys } in y) rank
           ∙ ap (λ (ds : List SetItem). let y : Line = record { node = m.node; rank = m.rank; destroys = ds } in y) destroys)

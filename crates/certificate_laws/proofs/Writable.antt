@@ -11,7 +11,7 @@ use Rattle.effect_scan.specs.declared.node.Member.{Member}
 use Rattle.certificate_lang.specs.declared.certificate.MemberName.{MemberName}
 use Rattle.certificate_lang.specs.declared.certificate.MemberName.TheVariants as member
 use Rattle.certificate_lang.specs.declared.certificate.SetItem.{SetItem}
-use Rattle.certificate_lang.specs.declared.certificate.SetItem.TheVariants.{Class}
+use Rattle.certificate_lang.specs.declared.certificate.SetItem.TheVariants.{Class, Closure}
 use Rattle.certificate_lang.specs.declared.certificate.Line.{Line}
 use Rattle.certificate_lang.specs.declared.certificate.Certificate.{Certificate}
 use Rattle.certificate_texts.specs.Written.{IsWritableMember, IsWritableItem, IsWritableLine, IsWritable}
@@ -30,6 +30,7 @@ module _ (p : Loaded) (named : IsNamedLoaded p) where
 
   item_writable : (item : SetItem) (c : ℕ) → StandsFor p item c → IsWritableItem item
   item_writable (Class name) c h = class_free name c h
+  item_writable (Closure name) c h = class_free name h.0 h.1
 
   member_writable : (c : ℕ) (m : MemberName) (x : Member) → IsMemberNamed p c m x → IsWritableMember m
   member_writable c (member.Method sig) x h =
