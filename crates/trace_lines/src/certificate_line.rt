@@ -17,7 +17,7 @@ impl<W: Write> Output<'_, W> {
     pub fn certificate(&mut self, certificate: &Certificate)
         ensures { Puts W.contents self.old self.new (certificate_text certificate.now) }
     {
-        self.put(b"certificate 1\n");
+        self.put(b"certificate 2\n");
         self.numbered(b"bound ", certificate.bound);
         self.node_lines(certificate.lines.as_slice());
     }
@@ -56,11 +56,16 @@ impl<W: Write> Output<'_, W> {
         match &node.member {
             MemberName::Method(sig) => self.method_of(&node.class, sig),
             MemberName::Property(name) => self.member(&node.class, name),
-            MemberName::Destruction => {
-                self.put(b"~");
-                self.name(&node.class);
-            }
+            MemberName::Destruction => self.tilde_name(&node.class),
         }
+    }
+
+    /// Adds `~C`.
+    fn tilde_name(&mut self, class: &Name)
+        ensures { Puts W.contents self.old self.new (codes "~" ++ class.now) }
+    {
+        self.put(b"~");
+        self.name(class);
     }
 
     /// Adds `C.m(types)`.
@@ -88,6 +93,7 @@ impl<W: Write> Output<'_, W> {
     {
         match item {
             SetItem::Class(name) => self.name(name),
+            SetItem::Closure(name) => self.tilde_name(name),
         }
     }
 }
